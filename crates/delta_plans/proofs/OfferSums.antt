@@ -1,22 +1,18 @@
 -- What one table offers another, told by numbers.
 -- Serves `Columns`, `DeltaMarks` and `Lifts`.
-use Rattle.std.proofs.Common.{◌≡◌, ℕ, zero, suc, ◌<◌, ◌≤◌, cond, ltb, List, [], ◌∷◌, length, get_or, Some, None, inl, inr, refl, sym, ap, ◌∙◌, subst, arith}
+use Rattle.std.proofs.Common.{◌≡◌, ℕ, ◌<◌, cond, ltb, List, Some, None, inl, inr, refl, sym, ap, ◌∙◌, arith}
 use Rattle.std.specs.Prelude.{Contains}
 use Rattle.std.specs.List.{sum_by}
 use Rattle.std.proofs.lemmas.Bool.{cases_lt, lt-ltb, le-ltb}
-use Rattle.std.proofs.lemmas.Option.{same_Some}
 use Rattle.bench_types.specs.declared.entries.Entry.{Entry}
 use Rattle.bench_types.specs.declared.entries.Item.{Item}
 use Rattle.bench_types.specs.declared.exchanges.Mode.{Mode}
-use Rattle.bench_types.specs.Mark.{mark_of, IsBefore}
 use Rattle.model.specs.Table.{Table, entry_at, items_of, IsProper}
 use Rattle.model.proofs.Items.{Contains-items_of}
 use Rattle.model.proofs.Members.{Contains-filter}
 use Rattle.model.specs.Candidates.{candidates}
 use Rattle.delta_plans.specs.Grids.{number_here, number_there}
 use Rattle.delta_plans.specs.Offers.{Offers, is_lacked, offered_sum}
-use Rattle.owner_writes.specs.Numbered.{IsHistory}
-use Rattle.model.specs.calls.Numbers.{write_from, write_numbered}
 use Rattle.planes.specs.Planes.{Cells}
 use Rattle.delta_plans.proofs.Grids.{candidates_sum}
 use Rattle.bench_types.proofs.Sums.{sum_below-same}

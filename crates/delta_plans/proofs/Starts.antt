@@ -1,5 +1,5 @@
 -- Where generations start in an owner's list.
--- Serves `put_each_start`, `put_earlier_starts`, `put_starts`, `told` and `version_tables`.
+-- Serves `put_starts`, `start_of`, `told` and `version_tables`.
 use Rattle.std.proofs.Common.{◌≡◌, ℕ, zero, suc, ◌+◌, ◌-◌, ◌*◌, ◌<◌, ◌≤◌, min, Bool, true, false, cond, List, [], ◌∷◌, ◌++◌, length, get_or, set, Some, None, inl, inr, refl, sym, ap, ◌∙◌, arith}
 use Rattle.std.specs.Prelude.{nat_lt, nat_le, ◌&&◌}
 use Rattle.std.proofs.lemmas.Bool.{cases_lt, cases_eq, lt-ltb, le-leb, eq-eqb, ne_eqb}
@@ -7,18 +7,21 @@ use Rattle.std.proofs.lemmas.List.{get_or_default, get_or-set_same, get_or-set_o
 use Rattle.bench_types.specs.declared.entries.Entry.{Entry}
 use Rattle.bench_types.specs.declared.exchanges.DigestKind.{DigestKind}
 use Rattle.model.specs.calls.Numbers.{write_from, write_numbered}
-use Rattle.model.specs.calls.OwnerListView.{OwnerListView, all_writes, entries_of, no_writes, AreWrites}
+use Rattle.model.specs.calls.OwnerListView.{OwnerListView, all_writes, entries_of, list_of_owner, no_writes, AreWrites}
 use Rattle.planes.specs.Planes.{cell, total_of}
 use Rattle.bench_types.specs.Sums.{sum_below}
 use Rattle.planes.specs.Elementwise.{AreChanged}
 use Rattle.owner_writes.specs.Numbered.{start_before, start_of}
 use Rattle.delta_plans.specs.Offers.{told_by, told_number}
-use Rattle.delta_plans.specs.Told.{IsEarlierStart}
+use Rattle.delta_plans.specs.Told.{IsKnown}
 use Rattle.owner_writes.proofs.Numbers.{numbered-some, write_from-at}
 
 -- an owner's writes are those of its list
+pub list-here : (lists : List OwnerListView) (owner : ℕ) (x : OwnerListView) → owner < length lists → x ≡ get_or lists owner x → list_of_owner lists owner ≡ x
+list-here lists owner x lt is = get_or_default lists owner no_writes x lt ∙ sym is
+
 pub all_writes-here : (lists : List OwnerListView) (owner : ℕ) (x : OwnerListView) → owner < length lists → x ≡ get_or lists owner x → all_writes lists owner ≡ entries_of x
-all_writes-here lists owner x lt is = ap entries_of (get_or_default lists owner no_writes x lt ∙ sym is)
+all_writes-here lists owner x lt is = ap entries_of (list-here lists owner x lt is)
 
 pub start-upto : (writes : List Entry) (number : ℕ) → start_of writes number ≤ number
 start-upto writes number = elim (write_numbered writes number) as (λ o. start_before number o ≤ number) [
@@ -46,15 +49,13 @@ start-own v (suc place) are lt le =
     ap (λ (e : Entry). e.version) (sym at.1) ∙ (are.current (place - length v.earlier) there.0 within).1 ∙ omega arith in
     ap (start_before (suc place)) there.1 ∙ omega (arith, version, lt)
 
--- lowered to the base, the start of an earlier generation, or else the number, is the start
-pub start-lowered : (writes : List Entry) (base x y z : ℕ) → IsEarlierStart writes base x y → (base < x → start_of writes x ≡ base) → z ≡ min y base → z ≡ start_of writes x
-start-lowered writes base x y z is own lowered = elim (cases_lt base x) [
-  | inl behind ↦ omega (arith, lowered, is.own behind, behind, own behind)
+-- so the lower of number and base is the start of a write that is of no earlier generation
+pub start-lower : (most : ℕ) (v : OwnerListView) (x base y : ℕ) → IsKnown most v x base → (0 < x → x ≤ base → ⊥) → y ≡ min x base → y ≡ start_of (entries_of v) x
+start-lower most v x base y known own lower = elim (cases_lt base x) [
+  | inl behind ↦ omega (arith, lower, behind, known.based, start-own v x known.writes (omega (arith, behind, known.based)) known.within)
   | inr upto ↦ elim (cases_lt 0 x) [
-    | inl some ↦ omega (arith, lowered, is.earlier some (omega (arith, upto)), start-upto writes x, upto)
-    | inr not_some ↦
-        let none : x ≡ 0 = omega (arith, not_some) in
-        omega (arith, lowered, is.none none, none, start-upto writes x)
+    | inl some ↦ absurd (own some (omega (arith, upto)))
+    | inr not_some ↦ omega (arith, lower, not_some, start-upto (entries_of v) x)
   ]
 ]
 

@@ -1,5 +1,5 @@
 -- An owner's numbers gone over one after another.
--- Serves `Offer::nearest` and `Offer::stop_from`.
+-- Serves `Part::nearest` and `Part::stop_from`.
 use Rattle.std.proofs.Common.{◌≡◌, ◌≢◌, ℕ, Bool, zero, suc, ◌+◌, ◌-◌, ◌<◌, ◌≤◌, ◌⊎◌, cond, min, max, inl, inr, refl, sym, ap, ◌∙◌, subst, arith}
 use Rattle.std.proofs.lemmas.Bool.{cases_lt, lt-ltb, le-ltb, lt-leb, le-leb}
 use Rattle.bench_types.specs.declared.exchanges.First.{First}

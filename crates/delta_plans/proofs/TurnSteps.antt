@@ -1,5 +1,5 @@
 -- The owners' turns in a level.
--- Serves `Offer::pass_turns`, `Offer::share_into`, `Offer::weight_of_part` and `RoundMarks`.
+-- Serves `Turns::pass_turns`, `Turns::share_into`, `Turns::weight_of_part` and `RoundMarks`.
 use Rattle.std.proofs.Common.{◌≡◌, ◌≢◌, ℕ, zero, suc, ◌+◌, ◌-◌, ◌*◌, ◌<◌, ◌≤◌, true, false, List, length, get_or, set, map, inl, inr, refl, sym, ap, ◌∙◌, subst, arith}
 use Rattle.std.proofs.lemmas.List.{get_or-set_same, get_or-set_other, length-map, map-set}
 use Rattle.bench_types.specs.declared.exchanges.Budget.TheVariants.{Entries}

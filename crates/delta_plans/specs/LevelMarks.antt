@@ -1,6 +1,6 @@
 -- A delta as marks, one for each owner: whole levels, and of the level that doesn't fit what comes before the first
 -- candidate that doesn't. Source: this project.
-use Rattle.std.specs.Prelude.{◌≡◌, ℕ, ◌+◌, ◌<◌, ◌≤◌, List, Contains, nat_lt, nat_le, Bool, if◌then◌else◌, Some}
+use Rattle.std.specs.Prelude.{◌≡◌, ℕ, ◌+◌, ◌<◌, ◌≤◌, List, Contains, nat_lt, nat_le, Bool, if◌then◌else◌}
 use Rattle.std.specs.declared.cmp.Ordering.{Ordering}
 use Rattle.std.specs.declared.cmp.Ordering.TheVariants.{Less}
 use Rattle.std.specs.Ordering.{ordering_then, is_lt}

@@ -3,9 +3,9 @@ use Rattle.std.specs.Prelude.{◌≡◌, ℕ, ◌+◌, ◌<◌, ◌≤◌, max, 
 use Rattle.bench_types.specs.declared.exchanges.First.{First}
 use Rattle.bench_types.specs.declared.exchanges.First.TheVariants.{Oldest, Newest}
 use Rattle.planes.specs.Planes.{Cells}
-use Rattle.delta_plans.specs.declared.offers.Offer.{Offer}
+use Rattle.delta_plans.specs.declared.stops.Part.{Part}
 use Rattle.delta_plans.specs.Firsts.{by_first}
-use Rattle.delta_plans.specs.OfferInMemory.{cells_in}
+use Rattle.delta_plans.specs.OfferInMemory.{cells_in, IsOffer}
 use Rattle.delta_plans.specs.Weights.{weight_from}
 
 -- a key's number is above one mark and up to another
@@ -49,12 +49,17 @@ abbrev pub HasNext : First → Cells → ℕ → ℕ → ℕ → ℕ → Type 0
 HasNext first cells keys owner near far =
     HasBetween cells keys owner (by_first first near far) (by_first first far near)
 
--- a number is the next one for whichever direction and near mark the answers fit
-abbrev pub IsNearest : {N : Type 0} → (N → ℕ) → Offer N → ℕ → N → (N → N → N → Type 0) → N → Type 0
-IsNearest number offer owner far answers found =
+-- a part of one of the owners of an offer
+pub record IsPart {N : Type 0} (number : N → ℕ) (most : ℕ) (part : Part N) : Type 0 where
+  pub offer : IsOffer number most part.offer.now
+  pub owner : part.owner < part.offer.now.nodes
+
+-- a number is the next one of a part for whichever direction and near mark the answers fit
+abbrev pub IsNearest : {N : Type 0} → (N → ℕ) → Part N → (N → N → N → Type 0) → N → Type 0
+IsNearest number part answers found =
     (first : First) (near : ℕ) → AnswersNearer number answers first near
-    → HasNext first (cells_in number offer) offer.keys owner near (number far)
-    → IsNext first (cells_in number offer) offer.keys owner near (number far) (number found)
+    → HasNext first (cells_in number part.offer.now) part.offer.now.keys part.owner near (number part.far)
+    → IsNext first (cells_in number part.offer.now) part.offer.now.keys part.owner near (number part.far) (number found)
 
 -- the nearest mark that is past a number
 abbrev pub IsPast : First → ℕ → ℕ → Type 0

@@ -5,11 +5,11 @@ use Rattle.bench_types.specs.Budget.{amount_of}
 use Rattle.planes.specs.Planes.{Cells, HasEach}
 use Rattle.model.specs.Order.{rotated}
 use Rattle.delta_plans.specs.declared.sharing.Passed.{Passed}
-use Rattle.delta_plans.specs.declared.sharing.SharedLevel.{SharedLevel}
+use Rattle.delta_plans.specs.declared.sharing.Turns.{Turns}
 use Rattle.delta_plans.specs.declared.offers.Level.{Level}
 use Rattle.delta_plans.specs.declared.offers.Offer.{Offer}
 use Rattle.delta_plans.specs.Firsts.{comes_first}
-use Rattle.delta_plans.specs.OfferInMemory.{cells_in, marks}
+use Rattle.delta_plans.specs.OfferInMemory.{cells_in, marks, IsOffer}
 use Rattle.delta_plans.specs.Plans.{weight_on, count_on, IsLevel}
 use Rattle.delta_plans.specs.LevelMarks.{lets_through}
 use Rattle.delta_plans.specs.Sharing.{AreShared}
@@ -22,26 +22,27 @@ AreKnownCounts first number most offer level counts =
     HasEach offer.nodes (λ r n. (n ≡ most) ⊎ (n ≡ weight_from first (λ _. 1) (cells_in number offer) offer.keys r
     (marks number level.near.items r) (marks number level.far.items r))) counts
 
--- a level that is shared out in turn from a rotation on
-pub record AreTurnsOf {N : Type 0} (number : N → ℕ) (offer : Offer N) (turns : SharedLevel N) : Type 0 where
-  pub rotation : turns.rotation < offer.nodes
-  pub level : IsLevel turns.first number offer turns.level.now
+-- a level that doesn't fit, of an offer, that is shared out in turn from a rotation on
+pub record AreTurns {N : Type 0} (number : N → ℕ) (most : ℕ) (turns : Turns N) : Type 0 where
+  pub offer : IsOffer number most turns.offer.now
+  pub rotation : turns.rotation < turns.offer.now.nodes
+  pub level : IsLevel turns.first number turns.offer.now turns.level.now
 
 -- what is known of the parts of such a level
-abbrev pub AreKnownFor : {N : Type 0} → (N → ℕ) → ℕ → Offer N → SharedLevel N → List N → Type 0
-AreKnownFor number most offer turns counts =
-    AreKnownCounts turns.first number most offer turns.level.now (map number counts)
+abbrev pub AreKnownFor : {N : Type 0} → (N → ℕ) → ℕ → Turns N → List N → Type 0
+AreKnownFor number most turns counts =
+    AreKnownCounts turns.first number most turns.offer.now turns.level.now (map number counts)
 
 -- what an owner's part of it weighs
-abbrev pub part_weight : {N : Type 0} → (N → ℕ) → (ℕ → ℕ) → Offer N → SharedLevel N → ℕ → ℕ
-part_weight number weight offer turns owner =
-    weight_from turns.first weight (cells_in number offer) offer.keys owner
+abbrev pub part_weight : {N : Type 0} → (N → ℕ) → (ℕ → ℕ) → Turns N → ℕ → ℕ
+part_weight number weight turns owner =
+    weight_from turns.first weight (cells_in number turns.offer.now) turns.offer.now.keys owner
     (marks number turns.level.now.near.items owner) (marks number turns.level.now.far.items owner)
 
 -- marks that share it out
-abbrev pub AreSharedBy : {N : Type 0} → (N → ℕ) → Offer N → SharedLevel N → List N → ℕ → Type 0
-AreSharedBy number offer turns mark sent =
-    AreShared turns.first turns.rotation number offer (marks number turns.level.now.near.items)
+abbrev pub AreSharedBy : {N : Type 0} → (N → ℕ) → Turns N → List N → ℕ → Type 0
+AreSharedBy number turns mark sent =
+    AreShared turns.first turns.rotation number turns.offer.now (marks number turns.level.now.near.items)
     (marks number turns.level.now.far.items) (marks number mark) sent
 
 -- owners whose turn has come have the far mark, and the others the near one
@@ -53,11 +54,11 @@ pub record AreTurnsPassed {N : Type 0} (first : First) (number : N → ℕ) (off
   pub count : sent ≡ count_on first number offer mark
 
 -- and so they have up to the one whose part doesn't fit
-abbrev pub ArePassedBy : {N : Type 0} → (N → ℕ) → Offer N → SharedLevel N → List N → Passed → Type 0
-ArePassedBy number offer turns mark passed =
-    AreTurnsPassed turns.first number offer turns.rotation (marks number turns.level.now.near.items)
-    (marks number turns.level.now.far.items) (marks number mark) (rotated offer.nodes turns.rotation passed.owner)
-    passed.left passed.sent
+abbrev pub ArePassedBy : {N : Type 0} → (N → ℕ) → Turns N → List N → Passed → Type 0
+ArePassedBy number turns mark passed =
+    AreTurnsPassed turns.first number turns.offer.now turns.rotation (marks number turns.level.now.near.items)
+    (marks number turns.level.now.far.items) (marks number mark)
+    (rotated turns.offer.now.nodes turns.rotation passed.owner) passed.left passed.sent
 
 -- an owner's mark that stops at the first number of its part that doesn't fit into some room
 pub record IsStop (first : First) (weight : ℕ → ℕ) (cells : Cells)

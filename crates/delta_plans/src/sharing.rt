@@ -6,13 +6,13 @@ ghost use Rattle.bench_types.specs.Budget.{amount_of};
 ghost use Rattle.bench_types.specs.declared.faults.Fault.TheVariants.{OutOfMemory};
 ghost use Rattle.model.specs.Order.{rotated};
 ghost use Rattle.delta_plans.specs.Firsts.{by_first};
-ghost use Rattle.delta_plans.specs.OfferInMemory.{cells_in, marks, weights_in, IsOffer};
+ghost use Rattle.delta_plans.specs.OfferInMemory.{marks, weights_in, IsOffer};
 ghost use Rattle.delta_plans.specs.Plans.{weight_on, IsLevel};
 ghost use Rattle.delta_plans.specs.Sharing.{AreShared};
-ghost use Rattle.delta_plans.specs.Turns.{part_weight, AreKnownFor, ArePassedBy, AreSharedBy, AreTurnsOf};
-ghost use Rattle.delta_plans.specs.Weights.{weight_from};
+ghost use Rattle.delta_plans.specs.Turns.{part_weight, AreKnownFor, ArePassedBy, AreSharedBy, AreTurns};
 
 use crate::offers::{Level, Offer, Share, number_at};
+use crate::stops::Part;
 use bench_types::{Budget, Fault, First};
 use planes::{Number, all_of, count_some_between};
 use std::alloc::Global;
@@ -28,12 +28,13 @@ struct Passed {
 /// The parts of so many owners are counted at a time: mostly the first part that doesn't fit is one of them.
 const MANY: usize = 64;
 
-// A level that the owners share out in turn from the rotation on.
+// A level of an offer that the owners share out in turn from the rotation on.
 #[derive(Drop)]
-struct SharedLevel<'a, N: Number> {
+struct Turns<'a, 'b, N: Number> {
+    offer: &'a Offer<'b, N>,
+    level: &'a Level<N>,
     first: First,
     rotation: usize,
-    level: &'a Level<N>,
 }
 
 // The owner whose turn it is.
@@ -61,110 +62,101 @@ fn by_first<'a, N: Number>(first: First, oldest: &'a [N], newest: &'a [N]) -> &'
     }
 }
 
-impl<'a, N: Number> Offer<'a, N> {
-    // What an owner's part of a level takes, which has so many numbers.
-    fn weight_of_part(&self, first: First, owner: usize, near: N, far: N, count: u32) -> u32
-        requires offer { IsOffer N.number N.most self.now }
-        requires owner { owner < self.now.nodes }
-        requires count { count ≡ weight_from first (λ _. 1)
-            (cells_in N.number self.now) self.now.keys owner
-            (N.number near) (N.number far) }
-        ensures { result ≡ weight_from first (weights_in self.now owner)
-            (cells_in N.number self.now) self.now.keys
-            owner (N.number near) (N.number far) }
+impl<'a, 'b, N: Number> Turns<'a, 'b, N> {
+    // What an owner's part takes, which has so many numbers.
+    fn weight_of_part(&self, owner: usize, count: u32) -> u32
+        requires turns { AreTurns N.number N.most self.now }
+        requires owner { owner < self.now.offer.now.nodes }
+        requires count { count ≡ part_weight N.number (λ _. 1) self.now owner }
+        ensures { result ≡ part_weight N.number (weights_in self.now.offer.now owner) self.now owner }
     {
-        match self.budget {
+        match self.offer.budget {
             Budget::Entries(_) => count,
             Budget::Bytes(_) if count == 0 => 0,
-            Budget::Bytes(_) => match first {
-                First::Oldest => self.weight_of(owner, near, far),
-                First::Newest => self.weight_of(owner, far, near),
-            },
+            Budget::Bytes(_) => {
+                let near = number_at(&self.level.near, owner);
+                let far = number_at(&self.level.far, owner);
+                match self.first {
+                    First::Oldest => self.offer.weight_of(owner, near, far),
+                    First::Newest => self.offer.weight_of(owner, far, near),
+                }
+            }
         }
     }
 
     // What is sent whole takes so much.
-    fn weight_of_whole(&self, first: First, level: &Level<N>) -> u32
-        requires offer { IsOffer N.number N.most self.now }
-        requires level { IsLevel first N.number self.now level.now }
-        ensures { result ≡ weight_on first N.number self.now (marks N.number level.now.near.items) }
+    fn weight_of_whole(&self) -> u32
+        requires { AreTurns N.number N.most self.now }
+        ensures { result ≡ weight_on self.now.first N.number self.now.offer.now
+            (marks N.number self.now.level.now.near.items) }
     {
-        match first {
-            First::Oldest => self.weight(level.whole, self.low, &level.near),
-            First::Newest => self.weight(level.whole, &level.near, self.high),
+        let offer = self.offer;
+        match self.first {
+            First::Oldest => offer.weight(self.level.whole, offer.low, &self.level.near),
+            First::Newest => offer.weight(self.level.whole, &self.level.near, offer.high),
         }
     }
 
     // Counts the numbers of some owners' parts, from an owner on. It stands outside the loop over turns, which seldom
     // needs it.
     #[inline(never)]
-    fn count_parts(&self, turns: &SharedLevel<N>, counts: &mut [N], owner: usize)
-        requires offer { IsOffer N.number N.most self.now }
-        requires turns { AreTurnsOf N.number self.now turns.now }
-        requires owner { owner < self.now.nodes }
-        requires counts { AreKnownFor N.number N.most self.now turns.now counts.old }
-        ensures count { marks N.number counts.new owner
-            ≡ part_weight N.number (λ _. 1) self.now turns.now owner }
-        ensures counts { AreKnownFor N.number N.most self.now turns.now counts.new }
+    fn count_parts(&self, counts: &mut [N], owner: usize)
+        requires turns { AreTurns N.number N.most self.now }
+        requires owner { owner < self.now.offer.now.nodes }
+        requires counts { AreKnownFor N.number N.most self.now counts.old }
+        ensures count { marks N.number counts.new owner ≡ part_weight N.number (λ _. 1) self.now owner }
+        ensures counts { AreKnownFor N.number N.most self.now counts.new }
     {
-        let end = (owner + MANY).min(self.nodes);
+        let offer = self.offer;
+        let end = (owner + MANY).min(offer.nodes);
         let some = &mut counts[owner..end];
-        let near = &turns.level.near;
-        let far = &turns.level.far;
-        let low = by_first(turns.first, near, far);
-        let high = by_first(turns.first, far, near);
-        count_some_between(some, self.cells, self.nodes, self.keys, owner, low, high);
+        let near = &self.level.near;
+        let far = &self.level.far;
+        let low = by_first(self.first, near, far);
+        let high = by_first(self.first, far, near);
+        count_some_between(some, offer.cells, offer.nodes, offer.keys, owner, low, high);
     }
 
     // How many numbers an owner's part has. Where that isn't known, parts are counted from this owner on.
-    fn count_of_part(&self, turns: &SharedLevel<N>, counts: &mut [N], owner: usize) -> u32
-        requires offer { IsOffer N.number N.most self.now }
-        requires turns { AreTurnsOf N.number self.now turns.now }
-        requires owner { owner < self.now.nodes }
-        requires counts { AreKnownFor N.number N.most self.now turns.now counts.old }
-        ensures count { result ≡ part_weight N.number (λ _. 1) self.now turns.now owner }
-        ensures counts { AreKnownFor N.number N.most self.now turns.now counts.new }
+    fn count_of_part(&self, counts: &mut [N], owner: usize) -> u32
+        requires turns { AreTurns N.number N.most self.now }
+        requires owner { owner < self.now.offer.now.nodes }
+        requires counts { AreKnownFor N.number N.most self.now counts.old }
+        ensures count { result ≡ part_weight N.number (λ _. 1) self.now owner }
+        ensures counts { AreKnownFor N.number N.most self.now counts.new }
     {
         let known = number_at(counts, owner);
         if N::greatest().is_above(known) {
             return known.widen();
         }
-        self.count_parts(turns, counts, owner);
+        self.count_parts(counts, owner);
         number_at(counts, owner).widen()
     }
 
     // Gives the owners in turn the far mark as long as their parts fit. Answers whose part doesn't.
-    fn pass_turns(
-        &self,
-        turns: &SharedLevel<N>,
-        counts: &mut [N],
-        mark: &mut [N],
-        room: u32,
-    ) -> Passed
-        requires offer { IsOffer N.number N.most self.now }
-        requires turns { AreTurnsOf N.number self.now turns.now }
-        requires counts { AreKnownFor N.number N.most self.now turns.now counts.old }
-        requires mark { mark.old ≡ turns.now.level.now.near.items }
-        requires room { weight_on turns.now.first N.number self.now
-            (marks N.number turns.now.level.now.near.items) + room ≡ amount_of self.now.budget }
-        ensures owner { result.owner < self.now.nodes }
-        ensures size { length mark.new ≡ self.now.nodes }
-        ensures passed { ArePassedBy N.number self.now turns.now mark.new result }
+    fn pass_turns(&self, counts: &mut [N], mark: &mut [N], room: u32) -> Passed
+        requires turns { AreTurns N.number N.most self.now }
+        requires counts { AreKnownFor N.number N.most self.now counts.old }
+        requires mark { mark.old ≡ self.now.level.now.near.items }
+        requires room { weight_on self.now.first N.number self.now.offer.now
+            (marks N.number self.now.level.now.near.items) + room ≡ amount_of self.now.offer.now.budget }
+        ensures owner { result.owner < self.now.offer.now.nodes }
+        ensures size { length mark.new ≡ self.now.offer.now.nodes }
+        ensures passed { ArePassedBy N.number self.now mark.new result }
         ensures beyond { result.left
-            < part_weight N.number
-            (weights_in self.now result.owner) self.now turns.now result.owner }
+            < part_weight N.number (weights_in self.now.offer.now result.owner) self.now result.owner }
     {
+        let nodes = self.offer.nodes;
         let mut left = room;
-        let mut sent = turns.level.whole;
-        for turn in 0..self.nodes {
-            let owner = owner_of_turn(turn, self.nodes, turns.rotation);
-            let near = number_at(&turns.level.near, owner);
-            let far = number_at(&turns.level.far, owner);
-            let count = self.count_of_part(turns, counts, owner);
-            let weight = self.weight_of_part(turns.first, owner, near, far, count);
+        let mut sent = self.level.whole;
+        for turn in 0..nodes {
+            let owner = owner_of_turn(turn, nodes, self.rotation);
+            let count = self.count_of_part(counts, owner);
+            let weight = self.weight_of_part(owner, count);
             if left < weight {
                 return Passed { owner, left, sent };
             }
+            let far = number_at(&self.level.far, owner);
             mark[owner] = far;
             left -= weight;
             sent += count;
@@ -173,20 +165,25 @@ impl<'a, N: Number> Offer<'a, N> {
     }
 
     // Puts the marks that stop at the first number that doesn't fit. Answers how many numbers they let through.
-    fn share_into(&self, turns: &SharedLevel<N>, counts: &mut [N], mark: &mut [N]) -> u32
-        requires offer { IsOffer N.number N.most self.now }
-        requires turns { AreTurnsOf N.number self.now turns.now }
-        requires counts { AreKnownFor N.number N.most self.now turns.now counts.old }
-        requires mark { mark.old ≡ turns.now.level.now.near.items }
-        ensures size { length mark.new ≡ self.now.nodes }
-        ensures shared { AreSharedBy N.number self.now turns.now mark.new result }
+    fn share_into(&self, counts: &mut [N], mark: &mut [N]) -> u32
+        requires turns { AreTurns N.number N.most self.now }
+        requires counts { AreKnownFor N.number N.most self.now counts.old }
+        requires mark { mark.old ≡ self.now.level.now.near.items }
+        ensures size { length mark.new ≡ self.now.offer.now.nodes }
+        ensures shared { AreSharedBy N.number self.now mark.new result }
     {
-        let room = self.budget.amount() - self.weight_of_whole(turns.first, turns.level);
-        let passed = self.pass_turns(turns, counts, mark, room);
+        let room = self.offer.budget.amount() - self.weight_of_whole();
+        let passed = self.pass_turns(counts, mark, room);
         let owner = passed.owner;
-        let near = number_at(&turns.level.near, owner);
-        let far = number_at(&turns.level.far, owner);
-        let stop = self.stop_from(turns.first, owner, near, far, passed.left);
+        let near = number_at(&self.level.near, owner);
+        let far = number_at(&self.level.far, owner);
+        let part = Part {
+            offer: self.offer,
+            first: self.first,
+            owner,
+            far,
+        };
+        let stop = part.stop_from(near, passed.left);
         mark[owner] = stop.mark;
         passed.sent + stop.sent
     }
@@ -211,11 +208,12 @@ pub(crate) fn share<N: Number>(
 {
     let mut counts = all_of(alloc, offer.nodes, N::greatest())?;
     let mut mark = Vec::from_slice(alloc, &level.near)?;
-    let turns = SharedLevel {
+    let turns = Turns {
+        offer,
+        level,
         first,
         rotation,
-        level,
     };
-    let sent = offer.share_into(&turns, &mut counts, &mut mark);
+    let sent = turns.share_into(&mut counts, &mut mark);
     Ok(Share { mark, sent })
 }

@@ -1,8 +1,8 @@
 //! An owner's part of a level, candidate by candidate up to the first that doesn't fit.
 
 ghost use Rattle.std.specs.Prelude.{◌≡◌, ℕ, ◌+◌, ◌-◌, ◌*◌, ◌<◌, ◌≤◌, length};
-ghost use Rattle.delta_plans.specs.OfferInMemory.{cells_in, weights_in, IsOffer};
-ghost use Rattle.delta_plans.specs.Stops.{HasNext, IsNearest, IsNext, IsPast, IsStopFrom};
+ghost use Rattle.delta_plans.specs.OfferInMemory.{cells_in, weights_in};
+ghost use Rattle.delta_plans.specs.Stops.{HasNext, IsNearest, IsNext, IsPart, IsPast, IsStopFrom};
 ghost use Rattle.delta_plans.specs.Weights.{weight_from};
 
 use crate::offers::{Offer, pick};
@@ -16,69 +16,68 @@ pub(crate) struct Stop<N: Number> {
     pub(crate) sent: u32,
 }
 
-impl<'a, N: Number> Offer<'a, N> {
-    // The nearest of an owner's numbers, or a far mark where none is nearer. A closure tells the nearer of two.
-    fn nearest<F: Fn(N, N) -> N>(&self, owner: usize, far: N, nearer: F) -> N
-        requires offer { IsOffer N.number N.most self.now }
-        requires owner { owner < self.now.nodes }
+// An owner's part of a level, up to a far mark.
+#[derive(Clone, Copy)]
+pub(crate) struct Part<'a, 'b, N: Number> {
+    pub(crate) offer: &'a Offer<'b, N>,
+    pub(crate) first: First,
+    pub(crate) owner: usize,
+    pub(crate) far: N,
+}
+
+impl<'a, 'b, N: Number> Part<'a, 'b, N> {
+    // The nearest of the owner's numbers, or the far mark where none is nearer. A closure tells the nearer of two.
+    fn nearest<F: Fn(N, N) -> N>(&self, nearer: F) -> N
+        requires part { IsPart N.number N.most self.now }
         requires nearer { (next number : N) → F.pre nearer next number }
-        ensures { IsNearest N.number self.now owner far (F.post nearer) result }
+        ensures { IsNearest N.number self.now (F.post nearer) result }
     {
-        let mut next = far;
-        for key in 0..self.keys {
-            next = nearer(next, self.cell_of(owner, key));
+        let mut next = self.far;
+        for key in 0..self.offer.keys {
+            next = nearer(next, self.offer.cell_of(self.owner, key));
         }
         next
     }
 
-    // Of those between a near and a far mark the least, or from the newest on the greatest.
-    fn next(&self, first: First, owner: usize, near: N, far: N) -> N
-        requires offer { IsOffer N.number N.most self.now }
-        requires owner { owner < self.now.nodes }
-        requires some { HasNext first (cells_in N.number self.now) self.now.keys owner
-            (N.number near) (N.number far) }
-        ensures { IsNext first (cells_in N.number self.now) self.now.keys owner
-            (N.number near) (N.number far) (N.number result) }
+    // Of those between a near mark and the far one the least, or from the newest on the greatest.
+    fn next(&self, near: N) -> N
+        requires part { IsPart N.number N.most self.now }
+        requires some { HasNext self.now.first (cells_in N.number self.now.offer.now) self.now.offer.now.keys
+            self.now.owner (N.number near) (N.number self.now.far) }
+        ensures { IsNext self.now.first (cells_in N.number self.now.offer.now) self.now.offer.now.keys
+            self.now.owner (N.number near) (N.number self.now.far) (N.number result) }
     {
-        match first {
-            First::Oldest => self.nearest(owner, far, |next, number| {
+        match self.first {
+            First::Oldest => self.nearest(|next, number| {
                 next.min_with(pick(number.is_above(near), number, next))
             }),
-            First::Newest => self.nearest(owner, far, |next, number| {
+            First::Newest => self.nearest(|next, number| {
                 next.max_with(pick(number.is_upto(near), number, next))
             }),
         }
     }
 
-    /// One after another from the near mark on, as long as they fit.
-    pub(crate) fn stop_from(
-        &self,
-        first: First,
-        owner: usize,
-        near: N,
-        far: N,
-        room: u32,
-    ) -> Stop<N>
-        requires offer { IsOffer N.number N.most self.now }
-        requires owner { owner < self.now.nodes }
-        requires beyond { room < weight_from first (weights_in self.now owner)
-            (cells_in N.number self.now)
-            self.now.keys owner (N.number near) (N.number far) }
-        ensures { IsStopFrom first (weights_in self.now owner) (cells_in N.number self.now)
-            self.now.keys owner (N.number near) (N.number far) room
-            (N.number result.mark) result.sent }
+    /// One after another from a near mark on, as long as they fit.
+    pub(crate) fn stop_from(&self, near: N, room: u32) -> Stop<N>
+        requires part { IsPart N.number N.most self.now }
+        requires beyond { room < weight_from self.now.first (weights_in self.now.offer.now self.now.owner)
+            (cells_in N.number self.now.offer.now) self.now.offer.now.keys self.now.owner
+            (N.number near) (N.number self.now.far) }
+        ensures { IsStopFrom self.now.first (weights_in self.now.offer.now self.now.owner)
+            (cells_in N.number self.now.offer.now) self.now.offer.now.keys self.now.owner
+            (N.number near) (N.number self.now.far) room (N.number result.mark) result.sent }
     {
         let mut mark = near;
         let mut sent = 0;
         let mut left = room;
-        let mut next = self.next(first, owner, mark, far);
-        let mut weight = self.weight_of_number(owner, next);
+        let mut next = self.next(mark);
+        let mut weight = self.offer.weight_of_number(self.owner, next);
         while weight <= left {
             left -= weight;
             sent += 1;
-            mark = mark_past(first, next);
-            next = self.next(first, owner, mark, far);
-            weight = self.weight_of_number(owner, next);
+            mark = mark_past(self.first, next);
+            next = self.next(mark);
+            weight = self.offer.weight_of_number(self.owner, next);
         }
         Stop { mark, sent }
     }

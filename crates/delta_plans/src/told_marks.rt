@@ -1,6 +1,6 @@
 //! What is offered to a receiver, by marks for each owner.
 
-ghost use Rattle.std.specs.Prelude.{◌≡◌, ℕ, ◌<◌, ◌≤◌, length, map, slice_index, IfOk, IsOkUnless};
+ghost use Rattle.std.specs.Prelude.{◌≡◌, ◌<◌, length, map, slice_index, IfOk, IsOkUnless};
 ghost use Rattle.bench_types.specs.declared.faults.Fault.TheVariants.{OutOfMemory};
 ghost use Rattle.bench_types.specs.declared.exchanges.DigestKind.TheVariants.{Precise};
 ghost use Rattle.model.specs.calls.OwnerListView.{all_writes, entries_of};
@@ -8,7 +8,7 @@ ghost use Rattle.planes.specs.Planes.{HasEach};
 ghost use Rattle.planes.specs.Elementwise.{AreChanged};
 ghost use Rattle.owner_writes.specs.Numbered.{start_of, IsNumberedHistory};
 ghost use Rattle.delta_plans.specs.Offers.{told_by, told_number};
-ghost use Rattle.delta_plans.specs.Told.{AreEarlierStarts, AreKnownOf, AreStarts, IsEarlierStart};
+ghost use Rattle.delta_plans.specs.Told.{AreKnownOf, AreStarts, IsKnown};
 
 use bench_types::{DigestKind, Fault};
 use owner_writes::OwnerWrites;
@@ -58,44 +58,30 @@ fn put_marks<N: Number>(numbers: &mut [N], kind: DigestKind, owners: Owners<N>)
     }
 }
 
-// Puts in place of each number where the generation of that write starts.
+// Puts in place of each number where the generation of that write starts. Most often none is of an earlier generation,
+// which one fast loop tells.
 fn put_starts<N: Number>(numbers: &mut [N], owners: Owners<N>)
     requires { AreKnownOf N.number N.most owners numbers.old }
     ensures { AreStarts N.number owners.entry numbers.old numbers.new }
 {
-    put_earlier_starts(numbers, owners);
-    planes::lower(numbers, owners.bases);
-}
-
-// Puts the starts of earlier generations. Most often there are none, which one fast loop tells.
-fn put_earlier_starts<N: Number>(numbers: &mut [N], owners: Owners<N>)
-    requires { AreKnownOf N.number N.most owners numbers.old }
-    ensures { AreEarlierStarts N.number owners.entry numbers.old numbers.new }
-{
-    if planes::total_upto(numbers, numbers.len(), 1, owners.bases) > 0 {
-        put_each_start(numbers, owners);
-    }
-}
-
-fn put_each_start<N: Number>(numbers: &mut [N], owners: Owners<N>)
-    requires { AreKnownOf N.number N.most owners numbers.old }
-    ensures { AreEarlierStarts N.number owners.entry numbers.old numbers.new }
-{
     let Owners { lists, bases } = owners;
+    if planes::total_upto(numbers, numbers.len(), 1, bases) == 0 {
+        planes::lower(numbers, bases);
+        return;
+    }
     for r in 0..numbers.len() {
-        numbers[r] = earlier_start(&lists[r], numbers[r], bases[r]);
+        numbers[r] = start_of(&lists[r], numbers[r], bases[r]);
     }
 }
 
-fn earlier_start<N: Number>(list: &OwnerWrites, number: N, base: N) -> N
-    requires numbered { IsNumberedHistory (entries_of list.now) }
-    requires fits { N.number number ≤ N.most }
-    ensures { IsEarlierStart (entries_of list.now) (N.number base) (N.number number)
-        (N.number result) }
+// Where the generation of a number's write starts. That of the owner's own generation is given.
+fn start_of<N: Number>(list: &OwnerWrites, number: N, base: N) -> N
+    requires { IsKnown N.most list.now (N.number number) (N.number base) }
+    ensures { N.number result ≡ start_of (entries_of list.now) (N.number number) }
 {
-    if number.is_above(N::zero()) && number.is_upto(base) {
-        N::narrow(list.start_of(number.widen()))
+    if number.is_above(base) {
+        base
     } else {
-        number
+        N::narrow(list.start_of(number.widen()))
     }
 }

@@ -1,7 +1,7 @@
 -- Laws of the begin of a round, for the crates above: own writes and restarts leave copies that hold nothing but their
 -- owners' writes, and none with a gap. Only the owner writes its own state, and each write gets a mark above all
 -- earlier ones; a restart may drop what the node holds of another owner, and of itself where it forgets.
--- Serves `no_copy_is_ahead`, `Fresh`, `fixtures` and `simulation`.
+-- Serves `no_copy_is_ahead`, `Fresh`, `StateFigures`, `fixtures` and `simulation`.
 use Rattle.std.proofs.Common.{◌≡◌, ◌≢◌, ℕ, suc, ◌+◌, ◌<◌, ◌≤◌, List, [], ◌∷◌, ◌++◌, length, Some, None, ◌⊎◌, inl, inr, All, refl, sym, ap, ◌∙◌, subst, arith, append_assoc}
 use Rattle.std.specs.Prelude.{Contains}
 use Rattle.std.proofs.lemmas.Bool.{cases_eq, cases_lt}

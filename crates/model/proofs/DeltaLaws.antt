@@ -1,6 +1,5 @@
 -- Laws of the sending orders, and of what a budget lets through in them.
--- Serves the functions of `laws`, `ExchangeLaws`, `Levels`, `Received`, `delta_plans`, `reconcile`, `simulation` and
--- `version_tables`.
+-- Serves most of the crate, `delta_plans`, `reconcile`, `simulation` and `version_tables`.
 use Rattle.std.proofs.Common.{◌≡◌, ℕ, ◌<◌, ◌≤◌, Bool, not, ◌&&◌, eqb, ltb, List, length, get_or, inl, inr, sym, ap, ◌∙◌, arith}
 use Rattle.std.specs.Prelude.{count_by, Contains}
 use Rattle.std.specs.declared.cmp.Ordering.TheVariants.{Less, Equal}

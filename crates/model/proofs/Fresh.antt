@@ -1,5 +1,5 @@
 -- A copy that has all of its owner's own part: what one exchange makes of it, and what leaves it.
--- Serves `simulation`.
+-- Serves `Spreads` and `simulation`.
 use Rattle.std.proofs.Common.{◌≡◌, ◌≢◌, ℕ, ◌<◌, ◌≤◌, not, ◌&&◌, eqb, List, set, Some, None, ◌⊎◌, inl, inr, refl, sym, ap, ◌∙◌, subst, arith}
 use Rattle.std.specs.Prelude.{Contains}
 use Rattle.std.proofs.lemmas.Bool.{ne_eqb}

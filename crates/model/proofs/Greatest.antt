@@ -1,6 +1,5 @@
 -- The greatest mark of an owner, by look-ups.
--- Serves `BeginLaws`, `Fresh`, `MarkLaws`, `Proper`, `Received`, `node_table`, `reconcile`, `simulation` and
--- `version_tables`.
+-- Serves most of the crate, `node_table`, `reconcile`, `simulation` and `version_tables`.
 use Rattle.std.proofs.Common.{◌≡◌, ℕ, zero, suc, ◌<◌, None, ◌⊎◌, inl, inr, refl, sym, ap, ◌∙◌, subst, arith}
 use Rattle.std.specs.declared.cmp.Ordering.TheVariants.{Less, Equal, Greater}
 use Rattle.std.specs.Ordering.{nat_cmp, ordering_then}

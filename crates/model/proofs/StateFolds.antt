@@ -1,5 +1,5 @@
 -- Copies that are states through the exchanges of a list that cut nothing, beside those of another mode and budget.
--- Serves `simulation`.
+-- Serves `Spreads`, `StateFigures` and `simulation`.
 use Rattle.std.proofs.Common.{◌≡◌, ◌≢◌, ℕ, ◌<◌, List, [], ◌∷◌, set, fold, All, Some, None, inl, inr, refl, sym, ap, ◌∙◌, subst, arith}
 use Rattle.std.specs.Prelude.{Contains}
 use Rattle.std.proofs.lemmas.Bool.{cases_eq}

@@ -1,6 +1,6 @@
 -- Copies that are states of their owners, and tables that hold as much as others: what an exchange that cuts nothing makes
 -- of them.
--- Serves `simulation`.
+-- Serves `Spreads`, `StateFolds` and `simulation`.
 use Rattle.std.proofs.Common.{◌≡◌, ◌≢◌, ℕ, ◌<◌, ◌≤◌, List, Some, None, ◌⊎◌, inl, inr, refl, sym, ap, subst, arith}
 use Rattle.std.specs.Prelude.{Contains}
 use Rattle.std.proofs.lemmas.Bool.{cases_lt}

@@ -1,6 +1,6 @@
 -- Beside a run that has cut nothing: none of another mode or budget holds more, and where that has cut nothing either both
 -- hold the same.
--- Serves `uncut_runs_are_best` and `uncut_modes_are_alike`.
+-- Serves `uncut_runs_are_best`, `Alike` and `Bounds`.
 use Rattle.std.proofs.Common.{◌≡◌, ◌≢◌, ℕ, zero, suc, ◌-◌, ◌<◌, ◌≤◌, true, false, if◌then◌else◌, List, [], length, AllPairs, Some, None, inl, inr, refl, sym, ap, ◌∙◌, subst, arith}
 use Rattle.std.proofs.lemmas.Bool.{cases_eq, cases_lt}
 use Rattle.std.proofs.lemmas.List.{get_or_past}

@@ -1,5 +1,5 @@
 -- In a run that has cut nothing a path of exchanges brings all that its owner had written when it began.
--- Serves `uncut_paths_catch_up`.
+-- Serves `uncut_paths_catch_up` and `Bounds`.
 use Rattle.std.proofs.Common.{◌≡◌, ◌≢◌, ℕ, zero, suc, ◌+◌, ◌-◌, ◌<◌, ◌≤◌, Bool, true, false, List, length, Some, inl, inr, sym, ap, ◌∙◌, subst, arith}
 use Rattle.std.specs.Prelude.{slice_get}
 use Rattle.std.proofs.lemmas.List.{take_all}

@@ -1,6 +1,6 @@
 -- Runs that have cut nothing: their copies are states of their owners, and hold as much as those of any other mode and
 -- budget.
--- Serves `uncut_copies_are_states`, `uncut_runs_are_best` and `uncut_modes_are_alike`.
+-- Serves `uncut_copies_are_states`, `Alike`, `Best`, `Bounds` and `CatchingUp`.
 use Rattle.std.proofs.Common.{◌≡◌, ◌≢◌, ℕ, zero, suc, ◌+◌, ◌-◌, ◌<◌, ◌≤◌, true, false, if◌then◌else◌, List, [], ◌∷◌, length, take, drop, fold, All, Some, None, inl, inr, refl, sym, ap, ◌∙◌, subst, arith}
 use Rattle.std.specs.Prelude.{Contains}
 use Rattle.std.proofs.lemmas.Bool.{cases_eq}

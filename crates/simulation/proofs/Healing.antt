@@ -1,5 +1,5 @@
 -- Which copies of a run are fresh, and how long.
--- Serves `exchanges_make_fresh`, `fresh_copies_stay` and `Rings`.
+-- Serves the functions of `laws`, `Bounds`, `CatchingUp`, `Paths` and `Rings`.
 use Rattle.std.proofs.Common.{◌≡◌, ℕ, Bool, set, zero, suc, ◌+◌, ◌-◌, ◌<◌, ◌≤◌, true, false, if◌then◌else◌, List, [], ◌∷◌, length, take, drop, fold, get_or, All, Some, inl, inr, refl, sym, ap, ◌∙◌, subst, arith}
 use Rattle.std.specs.Prelude.{slice_get, Contains}
 use Rattle.std.proofs.lemmas.List.{take-append-drop, take_all}

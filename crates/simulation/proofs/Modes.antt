@@ -1,5 +1,5 @@
 -- What owners write, who restarts and who meets whom is the same in each format, under each mode and with each budget.
--- Serves `Best`, `Floors`, `Formats` and `runs`.
+-- Serves `Alike`, `Best`, `Formats` and `runs`.
 use Rattle.std.proofs.Common.{◌≡◌, ℕ, zero, suc, ◌+◌, ◌++◌, [], map, if◌then◌else◌, refl}
 use Rattle.std.specs.List.{range_with_len}
 use Rattle.bench_types.specs.declared.exchanges.Mode.{Mode}

@@ -1,5 +1,5 @@
 -- A path of exchanges makes fresh what its last holder has.
--- Serves `paths_make_fresh` and `uncut_exchanges_hand_on`.
+-- Serves `paths_make_fresh`, `uncut_exchanges_hand_on` and `CatchingUp`.
 use Rattle.std.proofs.Common.{◌≡◌, ℕ, ◌+◌, ◌-◌, ◌<◌, ◌≤◌, false, List, [], length, take, get_or, Some, inl, inr, refl, sym, ap, ◌∙◌, subst, arith, Bool, true, if◌then◌else◌}
 use Rattle.std.specs.Prelude.{slice_get}
 use Rattle.std.proofs.lemmas.Bool.{cases_eq}

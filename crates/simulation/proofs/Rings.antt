@@ -1,5 +1,5 @@
 -- On a ring quiet rounds, as many as a node has others, make all copies fresh.
--- Serves `quiet_rings_heal`.
+-- Serves `quiet_rings_heal`, `Floors`, `Formats` and `Paths`.
 use Rattle.std.proofs.Common.{◌≡◌, ◌≢◌, ℕ, zero, suc, ◌+◌, ◌-◌, ◌*◌, ◌/◌, ◌%◌, ◌<◌, ◌≤◌, Bool, true, false, not, ◌&&◌, cond, eqb, if◌then◌else◌, List, [], ◌∷◌, map, length, get_or, All, Some, None, ◌⊎◌, inl, inr, refl, sym, ap, ◌∙◌, subst, arith}
 use Rattle.std.specs.Prelude.{slice_get, Contains}
 use Rattle.std.specs.List.{range_with_len, filter, sum_by}

@@ -1,5 +1,5 @@
--- How far copies lag while owners write, in a run that has cut nothing: a path of exchanges brings all that its owner had
--- written when it began. Source: this project.
+-- How far copies lag while owners write, in a run that has cut nothing: a path of exchanges brings all that its owner
+-- had written when it began. Source: this project.
 use Rattle.std.specs.Prelude.{◌≡◌, ◌≢◌, ℕ, ◌-◌, ◌<◌, ◌≤◌, false, length, slice_get, Some}
 use Rattle.bench_types.specs.declared.exchanges.Exchange.{Exchange}
 use Rattle.bench_types.specs.Mark.{IsUpTo}
@@ -13,8 +13,9 @@ use Rattle.simulation.specs.Healing.{Moment, IsUpToMoment, table_at_moment}
 use Rattle.simulation.specs.Outcomes.{figures_in}
 use Rattle.simulation.specs.Paths.{next_moment}
 
--- what an owner held of itself at a start has come to a node by a moment: a node keeps it while it doesn't restart, and an
--- exchange passes it on, to its initiator where the first two messages come, to its responder where all three do
+-- what an owner held of itself at a start has come to a node by a moment: a node keeps it while it doesn't restart,
+-- and an exchange passes it on, to its initiator where the first two messages come, to its responder where all three
+-- do
 pub data IsPassedOn (s : Settings) (owner : ℕ) (start : Moment) : Moment → ℕ → Type 0 where
   begins : IsPassedOn s owner start start owner
   keeps : (m n : Moment) (holder : ℕ) → IsPassedOn s owner start m holder → IsUpToMoment m n

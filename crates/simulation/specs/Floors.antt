@@ -1,5 +1,6 @@
--- How good a run can be. As long as a run has cut nothing, each copy is a state of its owner, and no mode and no budget do
--- better with the same nodes, peers, losses and writes: so those that cut nothing come to the same. Source: this project.
+-- How good a run can be. As long as a run has cut nothing, each copy is a state of its owner, and no mode and no
+-- budget do better with the same nodes, peers, losses and writes: so those that cut nothing come to the same. Source:
+-- this project.
 use Rattle.std.specs.Prelude.{◌≡◌, ℕ, ◌≤◌}
 use Rattle.bench_types.specs.declared.exchanges.Rules.{Rules}
 use Rattle.scenario.specs.Settings.{Settings}
@@ -19,7 +20,8 @@ CutsNothingUpTo s last = (round : ℕ) → 1 ≤ round → round ≤ last → (r
 -- then each copy is a state of its owner, once the round has begun and after each of its exchanges
 abbrev pub UncutCopiesAreStates : Settings → Type 0
 UncutCopiesAreStates s =
-    (round i : ℕ) → 1 ≤ round → CutsNothingUpTo s round → HoldStates s.nodes (writes_by s round) (tables_within s round i)
+    (round i : ℕ) → 1 ≤ round → CutsNothingUpTo s round
+    → HoldStates s.nodes (writes_by s round) (tables_within s round i)
 
 -- after a round nodes hold as much as in another run, no more copies are stale, and none for longer
 pub record IsAsGood (s other : Settings) (round : ℕ) : Type 0 where

@@ -1,5 +1,5 @@
--- What the formats have in common: but for their budgets, and restarts that forget, which format 2 alone may have, they say
--- the same. Source: this project.
+-- What the formats have in common: but for their budgets, and restarts that forget, which format 2 alone may have,
+-- they say the same. Source: this project.
 use Rattle.std.specs.Prelude.{◌≡◌, ℕ}
 use Rattle.scenario.specs.Settings.{Settings}
 use Rattle.simulation.specs.Rounds.{tables_after}

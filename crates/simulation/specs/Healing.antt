@@ -75,8 +75,8 @@ pub record AnswersWhole (r : Record) : Type 0 where
   pub second : r.fate ≢ fate.Lost2
   pub cut : r.back_cut ≡ 0
 
--- a round in which no node is down, restarts or is apart from another, nothing is written, and each exchange's initiator
--- was answered in whole
+-- a round in which no node is down, restarts or is apart from another, nothing is written, and each exchange's
+-- initiator was answered in whole
 pub record IsQuiet (s : Settings) (round : ℕ) : Type 0 where
   pub up : (n : ℕ) → n < s.nodes → is_up s n round ≡ true
   pub kept : (n : ℕ) → n < s.nodes → restarts_now s n round ≡ false

@@ -1,6 +1,6 @@
--- How freshness spreads. An exchange hands on what its sender holds of any owner: where that is fresh, so is the receiver's
--- copy afterwards, if nothing of the owner was cut. So a path of exchanges, one after another, makes fresh what its last
--- holder has, whatever is lost or cut elsewhere. Source: this project.
+-- How freshness spreads. An exchange hands on what its sender holds of any owner: where that is fresh, so is the
+-- receiver's copy afterwards, if nothing of the owner was cut. So a path of exchanges, one after another, makes fresh
+-- what its last holder has, whatever is lost or cut elsewhere. Source: this project.
 use Rattle.std.specs.Prelude.{◌≡◌, ℕ, ◌+◌, ◌<◌, ◌≤◌, false, slice_get, Some}
 use Rattle.bench_types.specs.declared.exchanges.Exchange.{Exchange}
 use Rattle.bench_types.specs.declared.exchanges.Fate.TheVariants as fate

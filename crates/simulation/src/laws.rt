@@ -31,16 +31,16 @@ pub fn fresh_copies_stay()
     ensures { (s : Settings) → IsLawfulScenario s → FreshCopiesStay s }
 {}
 
-/// Freshness spreads. An exchange hands on a fresh copy of any owner, if what it carries of that owner comes and isn't
-/// cut, and the copy stays fresh while its owner doesn't write and its holder doesn't restart: so at the end of a path of
-/// such exchanges the last holder has a fresh copy, whatever is lost, cut or separated elsewhere.
+/// Freshness spreads. An exchange hands on a fresh copy of any owner, if what it carries of that owner comes and
+/// isn't cut, and the copy stays fresh while its owner doesn't write and its holder doesn't restart: so at the end of
+/// a path of such exchanges the last holder has a fresh copy, whatever is lost, cut or separated elsewhere.
 pub fn paths_make_fresh()
     ensures { (s : Settings) → IsLawfulScenario s → PathsMakeFresh s }
 {}
 
-/// What an exchange's record says is enough for a path: one that wasn't lost before its answer came and cut nothing of it
-/// hands on each copy to its initiator, and one that lost nothing and cut nothing of its third message each to its
-/// responder.
+/// What an exchange's record says is enough for a path: one that wasn't lost before its answer came and cut nothing
+/// of it hands on each copy to its initiator, and one that lost nothing and cut nothing of its third message each to
+/// its responder.
 pub fn uncut_exchanges_hand_on()
     ensures { (s : Settings) → IsLawfulScenario s → UncutExchangesHandOn s }
 {}

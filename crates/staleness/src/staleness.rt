@@ -18,6 +18,14 @@ use rayon::prelude::*;
 use std::alloc::{AllocError, Global};
 use std::thread::Threads;
 
+// One key of a node's copy of an owner.
+#[derive(Clone, Copy)]
+pub(crate) struct Triple {
+    pub(crate) node: usize,
+    pub(crate) owner: u32,
+    pub(crate) key: u32,
+}
+
 const NOTHING: Figures = Figures {
     stale: 0,
     greatest: 0,
@@ -133,28 +141,26 @@ fn figures_of_copy(
 {
     let mut total = NOTHING;
     for key in 0..tables[node].keys() {
-        total = joined(
-            total,
-            figures_of_triple(tables, lists, node, owner, key, round),
-        );
+        let triple = Triple { node, owner, key };
+        total = joined(total, figures_of_triple(tables, lists, triple, round));
     }
     total
 }
 
-// Those of one key of it.
+// Those of one triple.
 fn figures_of_triple(
     tables: &[NodeTable],
     lists: &[OwnerList],
-    node: usize,
-    owner: u32,
-    key: u32,
+    triple: Triple,
     round: u32,
 ) -> Figures
     requires countable { AreCountable round (tables_in tables.now) (lists_in lists.now) }
-    requires node { node < length tables.now }
-    requires owner { owner < length tables.now }
-    ensures { result ≡ triple_figures round (tables_in tables.now) (lists_in lists.now) node owner key }
+    requires node { triple.node < length tables.now }
+    requires owner { triple.owner < length tables.now }
+    ensures { result
+        ≡ triple_figures round (tables_in tables.now) (lists_in lists.now) triple.node triple.owner triple.key }
 {
+    let Triple { node, owner, key } = triple;
     if owner as usize == node {
         return NOTHING;
     }
@@ -185,8 +191,7 @@ fn staleness_of(
     Some(round - missed.born + 1)
 }
 
-// The version that what is held counts for in a generation: none, so 0, where it is of an older one, and all where it is
-// of a newer one.
+// The version that what is held counts for in a generation: 0 where it is of an older one, all where of a newer one.
 fn version_known(held: Option<Entry>, generation: u32) -> u32
     ensures { result ≡ version_known generation held }
 {

@@ -1,21 +1,18 @@
 -- Pieces of tables as code counts them, table by table and part by part.
 -- Serves `+rest`, `Numbers::piece_of` and `figures`.
-use Rattle.std.proofs.Common.{◌≡◌, ℕ, ◌+◌, ◌*◌, ◌<◌, ◌≤◌, min, Bool, cond, ◌&&◌, List, [], ◌∷◌, ◌++◌, length, get_or, map, inl, inr, refl, sym, ap, ◌∙◌, subst, arith}
+use Rattle.std.proofs.Common.{◌≡◌, ℕ, ◌+◌, ◌*◌, ◌<◌, ◌≤◌, min, Bool, cond, ◌&&◌, List, [], length, get_or, map, refl, sym, ap, ◌∙◌, subst, arith}
 use Rattle.std.specs.Prelude.{slice_index, nat_lt, nat_le}
-use Rattle.std.proofs.lemmas.Bool.{cases_lt}
 use Rattle.std.specs.Borrow.{Bor}
-use Rattle.std.proofs.lemmas.List.{get_or-map, get_or_default, get_or_append_left, get_or_at, length-append, map-append, length-map}
-use Rattle.bench_types.specs.declared.entries.Entry.{Entry}
+use Rattle.std.proofs.lemmas.List.{get_or-map, length-map}
 use Rattle.bench_types.specs.declared.limits.TheConstants.{MOST_NODES, MOST_KEYS}
 use Rattle.model.specs.Table.{Table}
-use Rattle.model.specs.Tables.{table_of_node}
 use Rattle.model.specs.calls.OwnerListView.{OwnerListView, list_of_owner}
 use Rattle.bench_types.specs.Sums.{sum_below}
-use Rattle.planes.specs.Planes.{cell, total_of, HasEach, HasEachPlace, ArePlanesChanged}
+use Rattle.planes.specs.Planes.{cell, total_of, ArePlanesChanged}
 use Rattle.bench_types.proofs.Sums.{sum_below-same, sum_below-most}
 use Rattle.planes.proofs.Counts.{count_le}
-use Rattle.version_lags.specs.Missed.{base_of, IsNumberAt}
-use Rattle.version_lags.specs.Pieces.{keys_in, IsPieceOf, numbers_at, numbers_in, AreGrids, AreLastNumbers, AreNumbersAt, AreNumbersOf, CountsPiece}
+use Rattle.version_lags.specs.Missed.{base_of}
+use Rattle.version_lags.specs.Pieces.{keys_in, StandTogether, numbers_at, numbers_in, AreGrids, AreNumbersAt, AreNumbersOf, CountsPiece}
 use Rattle.version_lags.proofs.Pieces.{piece-none, piece-more, piece-joined}
 
 pub total_le : (nodes keys : ℕ) (test : ℕ → ℕ → Bool) → nodes ≤ MOST_NODES → keys ≤ MOST_KEYS → total_of nodes keys test ≤ MOST_NODES * MOST_KEYS
@@ -23,12 +20,12 @@ total_le nodes keys test few_nodes few_keys =
     omega (arith, few_nodes, sum_below-most (λ r. sum_below keys (λ k. cond (test r k) 1 0)) nodes MOST_KEYS (λ r lt. omega (arith, few_keys, count_le keys (test r))))
 
 -- the numbers of tables make grids
-pub grids-of : (tables : List Table) (lists : List OwnerListView) (nodes keys : ℕ) (cells : List (List ℕ)) (bases last : List ℕ) → AreNumbersOf tables lists nodes keys cells bases last → AreGrids nodes keys cells bases last
-grids-of tables lists nodes keys cells bases last are = record {
+pub grids-of : (tables : List Table) (lists : List OwnerListView) → StandTogether tables lists → (nodes keys : ℕ) (cells : List (List ℕ)) (bases last : List ℕ) → AreNumbersOf tables lists nodes keys cells bases last → AreGrids nodes keys cells bases last
+grids-of tables lists together nodes keys cells bases last are = record {
   grid = record {
     whole = are.lasts.size ∙ (λ i. sym are.keys_are i * sym are.nodes_are i);
-    few_nodes = omega (arith, are.together.few_nodes, are.nodes_are);
-    few_keys = omega (arith, are.together.few_keys, are.keys_are);
+    few_nodes = omega (arith, together.few_nodes, are.nodes_are);
+    few_keys = omega (arith, together.few_keys, are.keys_are);
   };
   count = are.count;
   based = are.based.size;
@@ -42,12 +39,7 @@ module _ (nodes keys : ℕ) (cells : List (List ℕ)) (bases last : List ℕ) wh
     few_stale = omega arith;
     few_leftover = omega arith;
     size = refl;
-    pieces = λ tables lists are. record {
-      few_stale = omega arith;
-      few_leftover = omega arith;
-      size = are.lasts.size;
-      counted = λ round may. piece-none round tables lists may from last are.lasts;
-    };
+    pieces = λ round tables lists may are. piece-none round tables lists may from last are.lasts;
   }
 
   -- the sizes of all tables
@@ -59,31 +51,18 @@ module _ (nodes keys : ℕ) (cells : List (List ℕ)) (bases last : List ℕ) wh
       → ArePlanesChanged (λ r k a b. b ≡ min a (cell here nodes r k)) nodes keys old new
       → CountsPiece nodes keys cells bases last from count stale leftover old → CountsPiece nodes keys cells bases last from (count + 1) (stale + x) (leftover + y) new
   counts-more from count stale leftover x y old new here grids in_nodes is x_is y_is changed before = record {
-    few_stale = few_stale before.few_stale;
-    few_leftover = few_leftover before.few_leftover;
+    few_stale = omega (arith, before.few_stale, x_is, total_le nodes keys (λ r k. nat_lt (cell here nodes r k) (cell last nodes r k)) grids.grid.few_nodes grids.grid.few_keys);
+    few_leftover = omega (arith, before.few_leftover, y_is, total_le nodes keys (λ r k. nat_lt 0 (cell here nodes r k) && nat_le (cell here nodes r k) (slice_index bases r)) grids.grid.few_nodes grids.grid.few_keys);
     size = changed.size ∙ before.size;
-    pieces = λ tables lists are.
-        let earlier = before.pieces tables lists are in
-        record {
-          few_stale = few_stale earlier.few_stale;
-          few_leftover = few_leftover earlier.few_leftover;
-          size = changed.size ∙ earlier.size;
-          counted = λ round may.
-              piece-more round tables lists may from count stale leftover x y old new here last (omega (arith, in_nodes, are.nodes_are)) are.lasts
-              (subst (AreNumbersAt tables lists (from + count)) (sym is) (are.cells_are (from + count) in_nodes))
-              (whole tables lists are (λ m ks. x ≡ total_of m ks (λ r k. nat_lt (cell here m r k) (cell last m r k))) x_is)
-              (whole tables lists are (λ m ks. y ≡ total_of m ks (λ r k. nat_lt 0 (cell here m r k) && nat_le (cell here m r k) (base_of (list_of_owner lists r))))
-              (y_is ∙ sum_below-same nodes _ _ (λ r in_r. sum_below-same keys _ _ (λ k in_k i. cond (nat_lt 0 (cell here nodes r k) && nat_le (cell here nodes r k) (are.based.each r in_r i)) 1 0))))
-              (whole tables lists are (λ m ks. ArePlanesChanged (λ r k a b. b ≡ min a (cell here m r k)) m ks old new) changed)
-              (earlier.counted round may);
-        };
+    pieces = λ round tables lists may are.
+        piece-more round tables lists may from count stale leftover x y old new here last (omega (arith, in_nodes, are.nodes_are)) are.lasts
+        (subst (AreNumbersAt tables lists (from + count)) (sym is) (are.cells_are (from + count) in_nodes))
+        (whole tables lists are (λ m ks. x ≡ total_of m ks (λ r k. nat_lt (cell here m r k) (cell last m r k))) x_is)
+        (whole tables lists are (λ m ks. y ≡ total_of m ks (λ r k. nat_lt 0 (cell here m r k) && nat_le (cell here m r k) (base_of (list_of_owner lists r))))
+        (y_is ∙ sum_below-same nodes _ _ (λ r in_r. sum_below-same keys _ _ (λ k in_k i. cond (nat_lt 0 (cell here nodes r k) && nat_le (cell here nodes r k) (are.based.each r in_r i)) 1 0))))
+        (whole tables lists are (λ m ks. ArePlanesChanged (λ r k a b. b ≡ min a (cell here m r k)) m ks old new) changed)
+        (before.pieces round tables lists may are);
   }
-    where
-      few_stale : stale ≤ count * (MOST_NODES * MOST_KEYS) → stale + x ≤ (count + 1) * (MOST_NODES * MOST_KEYS)
-      few_stale few = omega (arith, few, x_is, total_le nodes keys (λ r k. nat_lt (cell here nodes r k) (cell last nodes r k)) grids.grid.few_nodes grids.grid.few_keys)
-
-      few_leftover : leftover ≤ count * (MOST_NODES * MOST_KEYS) → leftover + y ≤ (count + 1) * (MOST_NODES * MOST_KEYS)
-      few_leftover few = omega (arith, few, y_is, total_le nodes keys (λ r k. nat_lt 0 (cell here nodes r k) && nat_le (cell here nodes r k) (slice_index bases r)) grids.grid.few_nodes grids.grid.few_keys)
 
   -- two pieces, one behind the other
   pub counts-joined : (from a b stale leftover x y : ℕ) (old new other : List ℕ) → CountsPiece nodes keys cells bases last from a stale leftover old → CountsPiece nodes keys cells bases last (from + a) b x y other
@@ -92,17 +71,9 @@ module _ (nodes keys : ℕ) (cells : List (List ℕ)) (bases last : List ℕ) wh
     few_stale = omega (arith, one.few_stale, two.few_stale);
     few_leftover = omega (arith, one.few_leftover, two.few_leftover);
     size = changed.size ∙ one.size;
-    pieces = λ tables lists are.
-        let first = one.pieces tables lists are in
-        let second = two.pieces tables lists are in
-        record {
-          few_stale = omega (arith, first.few_stale, second.few_stale);
-          few_leftover = omega (arith, first.few_leftover, second.few_leftover);
-          size = changed.size ∙ first.size;
-          counted = λ round may.
-              piece-joined round tables lists may from a b stale leftover x y old new other (first.counted round may) (second.counted round may)
-              (whole tables lists are (λ m ks. ArePlanesChanged (λ r k c d. d ≡ min c (cell other m r k)) m ks old new) changed);
-        };
+    pieces = λ round tables lists may are.
+        piece-joined round tables lists may from a b stale leftover x y old new other (one.pieces round tables lists may are) (two.pieces round tables lists may are)
+        (whole tables lists are (λ m ks. ArePlanesChanged (λ r k c d. d ≡ min c (cell other m r k)) m ks old new) changed);
   }
 
 -- a table's numbers as code reads them

@@ -11,7 +11,7 @@ use Rattle.model.specs.calls.OwnerListView.{OwnerListView, entries_of, list_of_o
 use Rattle.model.specs.calls.Numbers.{write_numbered}
 use Rattle.model.proofs.Owners.{list_read}
 use Rattle.bench_types.specs.Sums.{sum_below, most_below}
-use Rattle.planes.specs.Planes.{cell, total_of, HasEachPlace, ArePlanesChanged}
+use Rattle.planes.specs.Planes.{cell, total_of, ArePlanesChanged}
 use Rattle.bench_types.proofs.Sums.{sum_below-same}
 use Rattle.round_tables.specs.Histories.{BirthsRise, StandsBeside}
 use Rattle.model.specs.Figures.{writes_of_owner, generation_at, staleness_of, staleness_at, is_left_over, leftover_at, stale_count, rounds_behind, node_figures}

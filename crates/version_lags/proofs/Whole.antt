@@ -1,40 +1,34 @@
 -- What is counted of all tables comes to the figures of a round.
 -- Serves `figures`.
-use Rattle.std.proofs.Common.{◌≡◌, ℕ, ◌+◌, ◌<◌, ◌≤◌, List, [], ◌∷◌, length, sym, ap, ◌∙◌, subst, arith}
-use Rattle.bench_types.specs.declared.entries.Entry.{Entry}
+use Rattle.std.proofs.Common.{◌≡◌, ℕ, ◌+◌, ◌<◌, List, length, sym, ap, ◌∙◌, subst, arith}
 use Rattle.bench_types.specs.declared.rows.Figures.{Figures}
-use Rattle.bench_types.specs.declared.limits.TheConstants.{MOST_NODES, MOST_KEYS, MOST_ROUNDS}
 use Rattle.model.specs.Table.{Table}
-use Rattle.model.specs.Tables.{HoldsOfEach}
-use Rattle.model.specs.calls.Tables.{IsCluster}
-use Rattle.model.specs.calls.OwnerListView.{OwnerListView, all_writes, list_of_owner, lists_in, AreWrites}
+use Rattle.model.specs.calls.OwnerListView.{OwnerListView, all_writes, list_of_owner, lists_in}
 use Rattle.bench_types.specs.Sums.{sum_below, most_below}
 use Rattle.planes.specs.Planes.{HasEachPlace}
 use Rattle.bench_types.proofs.Sums.{sum_below-same, most_below-same}
-use Rattle.round_tables.specs.Histories.{AreWrittenBy, StandsAmong}
 use Rattle.model.specs.Figures.{staleness_at, rounds_behind, node_figures, figures_of}
 use Rattle.model.proofs.Figures.{most_by_owner}
-use Rattle.version_lags.specs.Missed.{IsLastNumber}
-use Rattle.version_lags.specs.Pieces.{keys_in, StandTogether, IsPiece, IsPieceOf, IsLeastHeld, MayWalk, most_lag}
+use Rattle.version_lags.specs.Pieces.{keys_in, StandTogether, MayBeCounted, IsPiece, IsLeastHeld, MayWalk, most_lag}
 use Rattle.version_lags.proofs.Pieces.{key_within}
 
-module _ (tables : List Table) (lists : List OwnerListView) (together : StandTogether tables lists) (round stale leftover : ℕ) (least : List ℕ) (round_limit : round ≤ MOST_ROUNDS) (by : AreWrittenBy round lists) (piece : IsPieceOf tables lists 0 (length tables) stale leftover least) (keys : ℕ) (keys_are : keys ≡ keys_in tables) where
-  whole : IsPiece round tables lists 0 (length tables) stale leftover least
-  whole = piece.counted round (record { together = together; round_limit = round_limit; written = by })
+module _ (tables : List Table) (lists : List OwnerListView) (round stale leftover : ℕ) (least : List ℕ) (may : MayBeCounted round tables lists) (whole : IsPiece round tables lists 0 (length lists) stale leftover least) (keys : ℕ) (keys_are : keys ≡ keys_in tables) where
+  abbrev together : StandTogether tables lists
+  together = may.together
 
-  held : HasEachPlace (length lists) (keys_in tables) (IsLeastHeld round tables lists 0 (length tables)) least
-  held = subst (λ m. HasEachPlace m (keys_in tables) (IsLeastHeld round tables lists 0 (length tables)) least) (sym together.one_list_each) whole.least_is
+  held : HasEachPlace (length lists) (keys_in tables) (IsLeastHeld round tables lists 0 (length lists)) least
+  held = subst (λ m. HasEachPlace m (keys_in tables) (IsLeastHeld round tables lists 0 (length lists)) least) (sym together.one_list_each) whole.least_is
 
   pub may-walk : (most : ℕ) → ((r : ℕ) → length (all_writes lists r) < most) → (r : ℕ) → r < length lists → MayWalk round most (length lists) keys r (list_of_owner lists r) least
   may-walk most few r lt = subst (λ ks. MayWalk round most (length lists) ks r (list_of_owner lists r) least) (sym keys_are) (record {
     among = lt;
     few_nodes = omega (arith, together.few_nodes, together.one_list_each);
     few_keys = together.few_keys;
-    round_limit = round_limit;
+    round_limit = may.round_limit;
     writes = together.writes r;
     few_writes = few r;
-    born = by.born r;
-    in_order = by.in_order r;
+    born = may.written.born r;
+    in_order = may.written.in_order r;
     keyed = λ m e is current. key_within tables lists together r m e (omega (arith, lt, together.one_list_each)) is current;
     size = held.size;
     written = λ k in_k. (held.each r k lt in_k).written;
@@ -43,11 +37,11 @@ module _ (tables : List Table) (lists : List OwnerListView) (together : StandTog
   behind : ℕ → ℕ → ℕ → ℕ
   behind r k p = rounds_behind (staleness_at round tables (lists_in lists) p r k)
 
-  summed : (f : ℕ → ℕ) → sum_below (length tables) (λ i. f (0 + i)) ≡ sum_below (length tables) f
-  summed f = sum_below-same (length tables) (λ i. f (0 + i)) f (λ i lt. ap f {x = 0 + i} {y = i} (omega arith))
+  summed : (f : ℕ → ℕ) → sum_below (length lists) (λ i. f (0 + i)) ≡ sum_below (length tables) f
+  summed f = sum_below-same (length lists) (λ i. f (0 + i)) f (λ i lt. ap f {x = 0 + i} {y = i} (omega arith)) ∙ ap (λ m. sum_below m f) together.one_list_each
 
-  most-of : (f : ℕ → ℕ) → most_below (length tables) (λ i. f (0 + i)) ≡ most_below (length tables) f
-  most-of f = most_below-same (λ i. f (0 + i)) f (length tables) (λ i lt. ap f {x = 0 + i} {y = i} (omega arith))
+  most-of : (f : ℕ → ℕ) → most_below (length lists) (λ i. f (0 + i)) ≡ most_below (length tables) f
+  most-of f = most_below-same (λ i. f (0 + i)) f (length lists) (λ i lt. ap f {x = 0 + i} {y = i} (omega arith)) ∙ ap (λ m. most_below m f) together.one_list_each
 
   pub figures-are : (greatest : ℕ) → greatest ≡ most_below (length lists) (λ r. most_lag round (length lists) keys r (list_of_owner lists r) least)
       → ◌≡◌ {A = Figures} (record { stale = stale; greatest = greatest; leftover = leftover }) (figures_of round tables (lists_in lists))

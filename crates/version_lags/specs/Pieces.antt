@@ -53,13 +53,6 @@ pub record IsPiece (round : ℕ) (tables : List Table) (lists : List OwnerListVi
   pub leftover_is : leftover ≡ sum_below count (λ at. (node_figures round tables (lists_in lists) (from + at)).leftover)
   pub least_is : HasEachPlace (length tables) (keys_in tables) (IsLeastHeld round tables lists from count) least
 
--- and so in any round
-pub record IsPieceOf (tables : List Table) (lists : List OwnerListView) (from count stale leftover : ℕ) (least : List ℕ) : Type 0 where
-  pub few_stale : stale ≤ count * (MOST_NODES * MOST_KEYS)
-  pub few_leftover : leftover ≤ count * (MOST_NODES * MOST_KEYS)
-  pub size : length least ≡ keys_in tables * length tables
-  pub counted : (round : ℕ) → MayBeCounted round tables lists → IsPiece round tables lists from count stale leftover least
-
 -- the numbers of tables, as code has them
 abbrev pub numbers_in : {N : Type 0} → (N → ℕ) → List (Bor (List N)) → List (List ℕ)
 numbers_in number cells = map (λ x. map number x.now) cells
@@ -80,7 +73,6 @@ AreNumbersAt tables lists node cells = HasEachPlace (length tables) (keys_in tab
 
 -- the numbers of all tables, and beside them the last numbers, and how many writes are of earlier generations
 pub record AreNumbersOf (tables : List Table) (lists : List OwnerListView) (nodes keys : ℕ) (cells : List (List ℕ)) (bases last : List ℕ) : Type 0 where
-  pub together : StandTogether tables lists
   pub nodes_are : nodes ≡ length tables
   pub keys_are : keys ≡ keys_in tables
   pub count : length cells ≡ nodes
@@ -93,8 +85,8 @@ pub record CountsPiece (nodes keys : ℕ) (cells : List (List ℕ)) (bases last 
   pub few_stale : stale ≤ count * (MOST_NODES * MOST_KEYS)
   pub few_leftover : leftover ≤ count * (MOST_NODES * MOST_KEYS)
   pub size : length least ≡ length last
-  pub pieces : (tables : List Table) (lists : List OwnerListView)
-      → AreNumbersOf tables lists nodes keys cells bases last → IsPieceOf tables lists from count stale leftover least
+  pub pieces : (round : ℕ) (tables : List Table) (lists : List OwnerListView) → MayBeCounted round tables lists
+      → AreNumbersOf tables lists nodes keys cells bases last → IsPiece round tables lists from count stale leftover least
 
 -- no write is of an earlier generation
 abbrev pub AreZero : List ℕ → ℕ → Type 0

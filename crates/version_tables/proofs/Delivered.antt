@@ -29,7 +29,7 @@ use Rattle.version_tables.specs.inner.Histories.{IsWrittenSoFar, FitsHistories}
 use Rattle.version_tables.specs.Laid.{AreNumbers}
 use Rattle.delta_plans.specs.Firsts.{by_first}
 use Rattle.delta_plans.specs.Marked.{LetAll, ShareLevel, KeepsLow, AreMarked}
-use Rattle.version_tables.specs.inner.Offered.{AreOffered}
+use Rattle.version_tables.specs.inner.Offered.{AreLow, AreOffered}
 use Rattle.delta_plans.specs.OfferInMemory.{cells_in, low_in, high_in, count_in, IsOffer}
 use Rattle.owner_writes.specs.Numbered.{IsHistory}
 use Rattle.delta_plans.specs.Offers.{Offers, offered_by, told_by, told_number}
@@ -115,7 +115,7 @@ module _ {N : Type 0} (number : N → ℕ) (most : ℕ) (written : ℕ → List 
     (h : HistoriesView) (so_far : (owner : ℕ) → IsWrittenSoFar (written owner) most h.rounds (all_writes h.lists owner))
     (fits_from : FitsHistories h (table_in written from)) (fits_to : FitsHistories h (table_in written to)) (nodes : from.nodes ≡ to.nodes) (keys : from.keys ≡ to.keys) (mode : Mode)
     (offer : Offer N) (offer_nodes : offer.nodes ≡ from.nodes) (offer_keys : offer.keys ≡ from.keys) (offer_lists : offer.lists.now ≡ h.lists) (offer_high : map number offer.high.now ≡ from.greatest)
-    (low_is : HasEach (length h.lists) (λ r n. n ≡ told_number (digest_kind mode) most to.node (all_writes h.lists) (λ r. get_or to.greatest r 0) r) (map number offer.low.now))
+    (low_is : AreLow (digest_kind mode) h from to (map number offer.low.now))
     (size : length offer.cells.now ≡ from.keys * from.nodes)
     (cells_are : (owner key : ℕ) → owner < from.nodes → key < from.keys
     → cells_in number offer owner key ≡ offered_by (digest_kind mode) (cell from.cells from.nodes) (cell to.cells to.nodes) (low_in number offer) owner key) where
@@ -167,14 +167,14 @@ module _ {N : Type 0} (number : N → ℕ) (most : ℕ) (written : ℕ → List 
     keyed = λ owner key e in_nodes in_keys is. (fits.proper.in_place owner key e (fits-cells written v kept most h so_far fits owner key in_nodes in_keys ∙ is)).keyed;
   }
 
-  low-told : (owner : ℕ) → owner < from.nodes → low owner ≡ told_number kind most to.node lists (λ r. get_or to.greatest r 0) owner
-  low-told owner in_nodes = low_is.each owner (omega (arith, in_nodes, fits_from.nodes))
+  own-sent : (owner key : ℕ) → owner < from.nodes → key < from.keys → owner ≡ to.node → sender owner key ≤ low owner
+  own-sent owner key in_nodes in_keys own = omega (arith, low_is.sent key in_keys, ap (λ o. sender o key) own, ap low own)
 
   offers : Offers mode F T lists cells low
   offers =
       told-offers F T fits_from.proper fits_to.proper nodes keys lists (λ owner. (so_far owner).history) (λ owner. (so_far owner).numbered) sender receiver
       (fits-cells written from kept_from most h so_far fits_from) (fits-cells written to kept_to most h so_far fits_to) (numbers-of from kept_from fits_from) (numbers-of to kept_to fits_to)
-      (λ r. get_or to.greatest r 0) kept_to.most most (λ owner key in_nodes in_keys. omega (arith, sender-below owner key in_nodes in_keys)) mode low low-told cells cells_are
+      (λ r. get_or to.greatest r 0) kept_to.most mode low (λ owner in_nodes other. low_is.others owner (omega (arith, in_nodes, nodes)) other) own-sent cells cells_are
 
   covered : (owner : ℕ) → owner < from.nodes → HasNoneAbove cells from.keys owner (high owner)
   covered owner in_nodes key in_keys = omega (arith, cells-upto owner key in_nodes in_keys, sender-high owner key in_nodes in_keys)
@@ -196,7 +196,7 @@ module _ {N : Type 0} (number : N → ℕ) (most : ℕ) (written : ℕ → List 
       few_nodes = omega (arith, offer_nodes, fits_from.proper.nodes_limit);
       few_keys = omega (arith, offer_keys, fits_from.proper.keys_limit);
     };
-    low = omega (arith, length-map offer.low.now number, low_is.size, fits_from.nodes, offer_nodes);
+    low = omega (arith, length-map offer.low.now number, low_is.count, nodes, offer_nodes);
     high = omega (arith, length-map offer.high.now number, ap length offer_high, kept_from.greatest_count, offer_nodes);
     lists = omega (arith, ap length offer_lists, fits_from.nodes, offer_nodes);
     written = λ owner key in_nodes in_keys.
@@ -266,12 +266,11 @@ module _ {N : Type 0} (number : N → ℕ) (most : ℕ) (written : ℕ → List 
         let in_to : owner < to.nodes = omega (arith, in_nodes', nodes) in
         let to_key : key < to.keys = omega (arith, in_keys, keys) in
         elim (cases_eq owner to.node) [
-          | inl own ↦ omega (arith, low-told owner in_nodes', ap (λ b. cond b most (told_by kind (lists owner) (get_or to.greatest owner 0))) (eq-eqb owner to.node own), fits-below written to kept_to most h so_far fits_to owner key in_to to_key)
+          | inl own ↦ omega (arith, low_is.held key to_key, ap (λ o. receiver o key) own, ap low own)
           | inr other ↦
               omega (
                 arith,
-                low-told owner in_nodes',
-                ap (λ b. cond b most (told_by kind (lists owner) (get_or to.greatest owner 0))) (ne_eqb owner to.node other),
+                low_is.others owner in_to other,
                 ap (λ k. told_by k (lists owner) (get_or to.greatest owner 0)) is_scuttle,
                 (kept_to.most owner in_to).upto key to_key,
               )
@@ -290,7 +289,7 @@ module _ {N : Type 0} (number : N → ℕ) (most : ℕ) (written : ℕ → List 
     pub delta-marks : length mark ≡ from.nodes
         → AreMarksOf (record { mode = mode; budget = budget }) rotation written from to (by_first first (map number offer.low.now) mark) (by_first first mark (map number offer.high.now)) sent cut
     delta-marks mark_size = record {
-      low_count = by_first-size first (map number offer.low.now) mark from.nodes (low_is.size ∙ sym fits_from.nodes) mark_size;
+      low_count = by_first-size first (map number offer.low.now) mark from.nodes (low_is.count ∙ sym nodes) mark_size;
       high_count = by_first-size first mark (map number offer.high.now) from.nodes mark_size (ap length offer_high ∙ kept_from.greatest_count);
       marks = are-sent F T fits_from.proper lists histories cells low high covered mode offers rotation in_nodes budget m keeps has
           (is_taken_at from to (by_first first (map number offer.low.now) mark) (by_first first mark (map number offer.high.now))) taken-is;
@@ -306,6 +305,26 @@ module _ {N : Type 0} (number : N → ℕ) (most : ℕ) (written : ℕ → List 
             marked.count ∙ (λ i. weight_through first one_each cells (offer_nodes i) (offer_keys i) low high m)
             ∙ sym (count-sent F T fits_from.proper lists histories cells low high covered mode offers rotation in_nodes budget m keeps has)
 
+-- what is told makes low marks: of the receiver itself the most, which no number is
+module _ (most : ℕ) (written : ℕ → List Entry) (from to : VersionTableView) (kept_from : IsKept written from) (kept_to : IsKept written to)
+    (h : HistoriesView) (so_far : (owner : ℕ) → IsWrittenSoFar (written owner) most h.rounds (all_writes h.lists owner))
+    (fits_from : FitsHistories h (table_in written from)) (fits_to : FitsHistories h (table_in written to)) (nodes : from.nodes ≡ to.nodes)
+    (kind : DigestKind) (low : List ℕ) (told : HasEach (length h.lists) (λ r n. n ≡ told_number kind most to.node (all_writes h.lists) (λ r. get_or to.greatest r 0) r) low) where
+  own-most : get_or low to.node 0 ≡ most
+  own-most =
+      told.each to.node (omega (arith, fits_to.proper.node_below, fits_to.nodes))
+      ∙ ap (λ b. cond b most (told_by kind (all_writes h.lists to.node) (get_or to.greatest to.node 0))) (eq-eqb to.node to.node refl)
+
+  pub told-low : AreLow kind h from to low
+  told-low = record {
+    count = told.size ∙ sym fits_to.nodes;
+    others = λ owner lt other.
+        told.each owner (omega (arith, lt, fits_to.nodes))
+        ∙ ap (λ b. cond b most (told_by kind (all_writes h.lists owner) (get_or to.greatest owner 0))) (ne_eqb owner to.node other);
+    sent = λ key in_keys. omega (arith, own-most, fits-below written from kept_from most h so_far fits_from to.node key (omega (arith, fits_to.proper.node_below, nodes)) in_keys);
+    held = λ key in_keys. omega (arith, own-most, fits-below written to kept_to most h so_far fits_to to.node key fits_to.proper.node_below in_keys);
+  }
+
 -- a receiver's greatest numbers are known
 pub known : (most : ℕ) (written : ℕ → List Entry) (v : VersionTableView) (kept : IsKept written v) (h : HistoriesView) (so_far : (owner : ℕ) → IsWrittenSoFar (written owner) most h.rounds (all_writes h.lists owner)) (fits : FitsHistories h (table_in written v))
     (lists : List OwnerListView) → lists ≡ h.lists → (greatest : List ℕ) → greatest ≡ v.greatest → (bases : List ℕ) → HasEach (length h.lists) (λ r n. n ≡ length (list_of_owner h.lists r).earlier) bases
@@ -313,17 +332,20 @@ pub known : (most : ℕ) (written : ℕ → List Entry) (v : VersionTableView) (
 known most written v kept h so_far fits lists same greatest same_greatest bases based writes =
     subst (λ l. AreKnown most l greatest bases) (sym same) (subst (λ g. AreKnown most h.lists g bases) (sym same_greatest) (record {
       count = kept.greatest_count ∙ fits.nodes;
+      base_count = based.size;
       few_nodes = omega (arith, fits.nodes, fits.proper.nodes_limit);
-      few = λ owner. (so_far owner).few;
-      within = λ owner lt.
+      each = λ owner lt.
           let in_nodes : owner < v.nodes = omega (arith, lt, fits.nodes) in
-          elim ((kept.most owner in_nodes).held) [
-            | inl none ↦ omega (arith, none)
-            | inr (key, in_keys, is) ↦ omega (arith, is, fits-upto written v kept most h so_far fits owner key in_nodes in_keys)
-          ];
-      based = based;
-      writes = writes;
-      numbered = λ owner. (so_far owner).numbered;
+          record {
+            few = (so_far owner).few;
+            within = elim ((kept.most owner in_nodes).held) [
+              | inl none ↦ omega (arith, none)
+              | inr (key, in_keys, is) ↦ omega (arith, is, fits-upto written v kept most h so_far fits owner key in_nodes in_keys)
+            ];
+            based = based.each owner lt;
+            writes = writes owner;
+            numbered = (so_far owner).numbered;
+          };
     }))
 
 -- all numbers of a sender, or those ahead of the receiver's

@@ -1,5 +1,5 @@
 -- Tables beside the histories: the numbers that they hold are of writes made so far.
--- Serves `Delivered`, `Merged`, `Standing` and `TakenViews`.
+-- Serves `Delivered`, `Standing` and `TakenViews`.
 use Rattle.std.proofs.Common.{◌≡◌, ℕ, zero, suc, ◌<◌, ◌≤◌, List, [], ◌∷◌, length, Some, inl, inr, sym, ap, ◌∙◌, arith}
 use Rattle.std.specs.Prelude.{Contains}
 use Rattle.std.proofs.lemmas.Bool.{cases_lt}

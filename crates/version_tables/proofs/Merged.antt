@@ -1,11 +1,11 @@
 -- Tables that take all that the other has above their own greatest numbers exchange as the model's do.
 -- Serves `exchange_all`.
-use Rattle.std.proofs.Common.{◌≡◌, ℕ, zero, suc, ◌+◌, ◌-◌, ◌*◌, ◌<◌, ◌≤◌, ◌&&◌, true, false, cond, min, max, nat_lt, nat_le, List, length, get_or, set, map, ◌⊎◌, inl, inr, refl, sym, ap, ◌∙◌, subst, arith}
-use Rattle.std.specs.Prelude.{◌≢◌, Some, None}
+use Rattle.std.proofs.Common.{◌≡◌, ℕ, zero, suc, ◌+◌, ◌-◌, ◌*◌, ◌<◌, ◌≤◌, ◌&&◌, true, false, cond, min, max, nat_lt, nat_le, List, length, get_or, map, ◌⊎◌, inl, inr, refl, sym, ap, ◌∙◌, subst, arith}
+use Rattle.std.specs.Prelude.{Some, None}
 use Rattle.std.proofs.Math.Bool.{and-true}
 use Rattle.std.proofs.Math.Nat.{mul-le-mul_right}
-use Rattle.std.proofs.lemmas.Bool.{cases_lt, cases_eq, eq-eqb, ne_eqb, lt-ltb, le-ltb, le-leb, and_left}
-use Rattle.std.proofs.lemmas.List.{get_or-set_same, get_or-set_other, length-set, map-id}
+use Rattle.std.proofs.lemmas.Bool.{cases_lt, lt-ltb, le-leb}
+use Rattle.std.proofs.lemmas.List.{map-id}
 use Rattle.bench_types.specs.declared.entries.Entry.{Entry}
 use Rattle.bench_types.specs.declared.exchanges.Budget.{Budget}
 use Rattle.bench_types.specs.declared.exchanges.Budget.TheVariants.{Entries, Bytes}
@@ -27,26 +27,26 @@ use Rattle.model.specs.calls.Exchanging.{MakesOf}
 use Rattle.model.specs.calls.Numbers.{write_numbered}
 use Rattle.model.specs.calls.OwnerListView.{all_writes, list_of_owner, AreWrites}
 use Rattle.model.specs.Table.{applied}
-use Rattle.planes.specs.Planes.{Cells, cell, count_between, most_ahead, number_raised, number_taken, numbers_taken, total_above, HasEach}
+use Rattle.planes.specs.Planes.{Cells, cell, count_between, most_ahead, number_raised, number_taken, numbers_taken, total_above}
 use Rattle.planes.proofs.Places.{total-same}
 use Rattle.delta_plans.specs.declared.offers.Offer.{Offer}
 use Rattle.version_tables.specs.Laid.{IsVersionTable}
 use Rattle.version_tables.specs.Views.{VersionTableView, HistoriesView, table_in, IsKept}
-use Rattle.version_tables.specs.inner.Deltas.{delta_of_views, is_taken_at, AreMarksOf}
+use Rattle.version_tables.specs.inner.Deltas.{delta_of_views, AreMarksOf}
 use Rattle.version_tables.specs.inner.Histories.{bases_in, IsWrittenSoFar, FitsHistories}
 use Rattle.delta_plans.specs.LevelMarks.{NumbersDiffer}
 use Rattle.delta_plans.specs.Firsts.{by_first}
 use Rattle.delta_plans.specs.Marked.{AreMarked}
+use Rattle.version_tables.specs.inner.Offered.{AreLow}
 use Rattle.version_tables.specs.inner.Merged.{HasMerged, IsMerged, MayMerge, MayTakeAll, StaysMerged}
 use Rattle.delta_plans.specs.OfferInMemory.{cells_in, low_in, high_in, weights_in, weight_in, count_in, IsOffer}
-use Rattle.delta_plans.specs.Offers.{offered_by, told_by, told_number, AreSent}
-use Rattle.version_tables.specs.inner.Taken.{is_taken, number_kept, IsTaken}
+use Rattle.delta_plans.specs.Offers.{offered_by, told_by}
+use Rattle.version_tables.specs.inner.Taken.{number_kept, IsTaken}
 use Rattle.delta_plans.specs.Weights.{share_or_none}
 use Rattle.version_tables.proofs.Clearing.{kept-all, no_start}
 use Rattle.delta_plans.proofs.Columns.{sum_below-none}
 use Rattle.version_tables.proofs.Delivered.{offer-is, delta-marks}
 use Rattle.version_tables.proofs.ExchangedViews.{all_sent_case}
-use Rattle.version_tables.proofs.Fitting.{fits-below}
 use Rattle.delta_plans.proofs.MarkedLaws.{whole-size, whole-marked}
 use Rattle.delta_plans.proofs.RoundMarks.{count-newest}
 use Rattle.version_tables.proofs.TakenViews.{becomes_applied, becomes_one}
@@ -131,10 +131,6 @@ taken-le x s low high = elim (nat_lt low s && nat_le s high) as (λ b. max x (co
 taken-most : (x s low high : ℕ) → x ≤ low → low < s → s ≤ high → number_taken x s low high ≡ s
 taken-most x s low high le above upto = ap (λ b. max x (cond b s 0)) ((λ i. lt-ltb low s above i && le-leb s high upto i)) ∙ omega (arith, le, above)
 
--- not taken, since it isn't above a mark
-not_taken : (x s low high : ℕ) → s ≤ low → is_taken x s low high ≡ false
-not_taken x s low high le = and_left (nat_lt (max x low) s) (nat_le s high) (le-ltb (max x low) s (omega (arith, le)))
-
 module _ (written : ℕ → List Entry) (rules : Rules) (rotation most : ℕ) (h : HistoriesView)
     (so_far : (owner : ℕ) → IsWrittenSoFar (written owner) most h.rounds (all_writes h.lists owner)) (are : (owner : ℕ) → AreWrites (list_of_owner h.lists owner))
     (from to : VersionTableView) (from_kept : IsKept written from) (to_kept : IsKept written to) (from_fits : FitsHistories h (table_in written from)) (to_fits : FitsHistories h (table_in written to))
@@ -148,46 +144,27 @@ module _ (written : ℕ → List Entry) (rules : Rules) (rotation most : ℕ) (h
   abbrev id : ℕ → ℕ
   id n = n
 
-  -- what the receiver tells, in a list
-  abbrev told : List ℕ
-  told = set to.greatest to.node most
-
   abbrev offer : Offer ℕ
   offer = record {
     cells = record { ref_ptr = (0, 0); now = from.cells };
     nodes = from.nodes;
     keys = from.keys;
-    low = record { ref_ptr = (0, 0); now = told };
+    low = record { ref_ptr = (0, 0); now = to.greatest };
     high = record { ref_ptr = (0, 0); now = from.greatest };
     lists = record { ref_ptr = (0, 0); now = h.lists };
     budget = rules.budget;
   }
 
-  own-below : to.node < to.nodes
-  own-below = to_fits.proper.node_below
+  sender-upto : (owner key : ℕ) → owner < from.nodes → key < from.keys → cell from.cells from.nodes owner key ≤ get_or from.greatest owner 0
+  sender-upto owner key in_owners in_keys = (from_kept.most owner in_owners).upto key in_keys
 
-  told-own : get_or told to.node 0 ≡ most
-  told-own = get_or-set_same to.greatest to.node most 0 (omega (arith, own-below, to_kept.greatest_count))
-
-  told-other : (r : ℕ) → r ≢ to.node → get_or told r 0 ≡ get_or to.greatest r 0
-  told-other r other = get_or-set_other to.greatest to.node r most 0 other
-
-  told-number : (r : ℕ) → get_or told r 0 ≡ told_number (digest_kind mode) most to.node lists (λ r. get_or to.greatest r 0) r
-  told-number r = elim (cases_eq r to.node) [
-    | inl own ↦
-        ap (λ k. get_or told k 0) own ∙ told-own
-        ∙ ap (λ b. cond b most (told_by (digest_kind mode) (lists r) (get_or to.greatest r 0))) (sym (eq-eqb r to.node own))
-    | inr other ↦
-        told-other r other
-        ∙ ap (λ k. told_by k (lists r) (get_or to.greatest r 0)) (sym scuttle)
-        ∙ ap (λ b. cond b most (told_by (digest_kind mode) (lists r) (get_or to.greatest r 0))) (sym (ne_eqb r to.node other))
-  ]
-
-  low-is : HasEach (length h.lists) (λ r n. n ≡ told_number (digest_kind mode) most to.node lists (λ r. get_or to.greatest r 0) r) (map id told)
-  low-is = record {
-    size = ap length (map-id told) ∙ length-set to.greatest to.node most ∙ to_kept.greatest_count ∙ to_fits.nodes;
-    each = λ r lt. ap (λ xs. get_or xs r 0) (map-id told) ∙ told-number r;
-  }
+  low-is : AreLow (digest_kind mode) h from to (map id to.greatest)
+  low-is = subst (AreLow (digest_kind mode) h from to) (sym (map-id to.greatest)) (record {
+    count = to_kept.greatest_count;
+    others = λ owner lt other. ap (λ k. told_by k (lists owner) (get_or to.greatest owner 0)) (sym scuttle);
+    sent = λ key in_keys. omega (arith, may.own, sender-upto to.node key (omega (arith, to_fits.proper.node_below, nodes)) in_keys);
+    held = λ key in_keys. (to_kept.most to.node to_fits.proper.node_below).upto key in_keys;
+  })
 
   cells-are : (owner key : ℕ) → owner < from.nodes → key < from.keys
       → cells_in id offer owner key ≡ offered_by (digest_kind mode) (cell from.cells from.nodes) (cell to.cells to.nodes) (low_in id offer) owner key
@@ -198,59 +175,21 @@ module _ (written : ℕ → List Entry) (rules : Rules) (rotation most : ℕ) (h
   is-offer : IsOffer id most offer
   is-offer = offer-is id most written from to from_kept to_kept h so_far from_fits to_fits nodes keys mode offer refl refl refl (map-id from.greatest) low-is from_kept.cell_count cells-are
 
-  low-at : (r : ℕ) → low_in id offer r ≡ get_or told r 0
-  low-at r = ap (λ xs. get_or xs r 0) (map-id told)
+  low-at : (r : ℕ) → low_in id offer r ≡ get_or to.greatest r 0
+  low-at r = ap (λ xs. get_or xs r 0) (map-id to.greatest)
 
   high-at : (r : ℕ) → high_in id offer r ≡ get_or from.greatest r 0
   high-at r = ap (λ xs. get_or xs r 0) (map-id from.greatest)
 
-  sender-upto : (owner key : ℕ) → owner < from.nodes → key < from.keys → cell from.cells from.nodes owner key ≤ get_or from.greatest owner 0
-  sender-upto owner key in_owners in_keys = (from_kept.most owner in_owners).upto key in_keys
-
-  sender-below : (owner key : ℕ) → owner < from.nodes → key < from.keys → cell from.cells from.nodes owner key < most
-  sender-below owner key in_owners in_keys = fits-below written from from_kept most h so_far from_fits owner key in_owners in_keys
-
-  greatest-below : (owner : ℕ) → owner < from.nodes → get_or from.greatest owner 0 ≤ most
-  greatest-below owner in_owners = elim (from_kept.most owner in_owners).held [
-    | inl none ↦ omega (arith, none)
-    | inr (key, lt, is) ↦ omega (arith, is, sender-below owner key in_owners lt)
-  ]
-
-  -- nothing of the receiver's own is above what it has
-  own-upto : (owner key : ℕ) → owner < from.nodes → key < from.keys → owner ≡ to.node → cell from.cells from.nodes owner key ≤ get_or to.greatest owner 0
-  own-upto owner key in_owners in_keys own = omega (arith, sender-upto owner key in_owners in_keys, ap (λ r. get_or from.greatest r 0) own, ap (λ r. get_or to.greatest r 0) own, may.own)
-
   -- no more than the greatest numbers are apart
   count-few : count_in id offer (low_in id offer) (high_in id offer) ≤ most_ahead from.nodes from.keys from.greatest to.greatest
-  count-few = sum_below-le from.nodes _ _ (λ r lt. here r lt)
-    where
-      here : (r : ℕ) → r < from.nodes → count_between (cells_in id offer) from.keys r (low_in id offer r) (high_in id offer r) ≤ min from.keys (get_or from.greatest r 0 - get_or to.greatest r 0)
-      here r lt = elim (cases_eq r to.node) [
-        | inl own ↦
-            omega (
-              arith,
-              weight_of-none (λ _. 1) (cells_in id offer) from.keys r (low_in id offer r) (high_in id offer r)
-                  (omega (arith, high-at r, low-at r, ap (λ k. get_or told k 0) own, told-own, greatest-below r lt)),
-            )
-        | inr other ↦
-            omega (arith, few-between (cells_in id offer) r from.keys (low_in id offer r) (high_in id offer r) (is-offer.differ r lt), high-at r, low-at r, told-other r other)
-      ]
+  count-few = sum_below-le from.nodes _ _ (λ r lt. omega (arith, few-between (cells_in id offer) r from.keys (low_in id offer r) (high_in id offer r) (is-offer.differ r lt), high-at r, low-at r))
 
   -- so many
   same-total : total_above from.nodes from.keys from.cells to.greatest ≡ count_in id offer (low_in id offer) (high_in id offer)
   same-total =
-      total-same from.nodes from.keys _ _ (λ r k lt in_keys. here r k lt in_keys)
+      total-same from.nodes from.keys _ _ (λ r k lt in_keys i. nat_lt (sym (low-at r) i) (cell (sym (map-id from.cells) i) from.nodes r k))
       ∙ count-newest id most offer is-offer (low_in id offer)
-    where
-      here : (r k : ℕ) → r < from.nodes → k < from.keys → nat_lt (get_or to.greatest r 0) (cell from.cells from.nodes r k) ≡ nat_lt (low_in id offer r) (cells_in id offer r k)
-      here r k lt in_keys =
-          elim (cases_eq r to.node) [
-            | inl own ↦
-                le-ltb (get_or to.greatest r 0) (cell from.cells from.nodes r k) (own-upto r k lt in_keys own)
-                ∙ sym (le-ltb (get_or told r 0) (cell from.cells from.nodes r k) (omega (arith, ap (λ j. get_or told j 0) own, told-own, sender-below r k lt in_keys)))
-            | inr other ↦ ap (λ n. nat_lt n (cell from.cells from.nodes r k)) (sym (told-other r other))
-          ]
-          ∙ (λ i. nat_lt (sym (low-at r) i) (cell (sym (map-id from.cells) i) from.nodes r k))
 
   -- so all of it fits
   within : weight_in id offer (low_in id offer) (high_in id offer) ≤ amount_of rules.budget
@@ -268,46 +207,17 @@ module _ (written : ℕ → List Entry) (rules : Rules) (rotation most : ℕ) (h
     first = first_sent mode
 
     abbrev whole : List ℕ
-    whole = by_first first (map id from.greatest) (map id told)
+    whole = by_first first (map id from.greatest) (map id to.greatest)
 
-    marks-told : AreMarksOf rules rotation written from to told from.greatest sent 0
-    marks-told =
-        subst (λ xs. AreMarksOf rules rotation written from to xs from.greatest sent 0) (low-whole first (map id told) (map id from.greatest) ∙ map-id told)
-        (subst (λ xs. AreMarksOf rules rotation written from to (by_first first (map id told) whole) xs sent 0) (high-whole first (map id told) (map id from.greatest) ∙ map-id from.greatest)
+    pub marks-of : AreMarksOf rules rotation written from to to.greatest from.greatest sent 0
+    marks-of =
+        subst (λ xs. AreMarksOf rules rotation written from to xs from.greatest sent 0) (low-whole first (map id to.greatest) (map id from.greatest) ∙ map-id to.greatest)
+        (subst (λ xs. AreMarksOf rules rotation written from to (by_first first (map id to.greatest) whole) xs sent 0) (high-whole first (map id to.greatest) (map id from.greatest) ∙ map-id from.greatest)
         (delta-marks id most written from to from_kept to_kept h so_far from_fits to_fits nodes keys mode offer refl refl refl (map-id from.greatest) low-is from_kept.cell_count cells-are
         rules.budget refl rotation in_nodes whole sent 0
         (subst (λ xs. AreMarked mode rotation id offer (λ r. get_or xs r 0) sent 0) (map-id whole)
         (whole-marked id most offer is-offer rotation sent (sent-is ∙ same-total) within mode whole (map-id whole)))
         (whole-size id most offer is-offer first whole (map-id whole))))
-
-    -- the receiver's own greatest numbers are such marks too
-    same-sent : (owner key : ℕ) → owner < from.nodes → key < from.keys → is_taken_at from to to.greatest from.greatest owner key ≡ is_taken_at from to told from.greatest owner key
-    same-sent owner key in_owners in_keys = elim (cases_eq owner to.node) [
-      | inl own ↦
-          not_taken (cell to.cells to.nodes owner key) (cell from.cells from.nodes owner key) (get_or to.greatest owner 0) (get_or from.greatest owner 0) (own-upto owner key in_owners in_keys own)
-          ∙ sym (not_taken (cell to.cells to.nodes owner key) (cell from.cells from.nodes owner key) (get_or told owner 0) (get_or from.greatest owner 0) (omega (arith, ap (λ j. get_or told j 0) own, told-own, sender-below owner key in_owners in_keys)))
-      | inr other ↦ ap (λ n. is_taken (cell to.cells to.nodes owner key) (cell from.cells from.nodes owner key) n (get_or from.greatest owner 0)) (sym (told-other owner other))
-    ]
-
-    marks : AreSent (table_in written from) (delta_of_views rules rotation written from to).items (is_taken_at from to to.greatest from.greatest)
-    marks = record {
-      held = λ owner key in_owners in_keys yes'. marks-told.marks.held owner key in_owners in_keys (sym (same-sent owner key in_owners in_keys) ∙ yes');
-      members = λ owner key e is.
-          let place = from_fits.proper.in_place owner key e is in
-          let both = marks-told.marks.members owner key e is in (
-            (λ yes'. both.0 (sym (same-sent owner key place.owner_below place.key_below) ∙ yes')),
-            λ there. same-sent owner key place.owner_below place.key_below ∙ both.1 there,
-          );
-    }
-
-    pub marks-of : AreMarksOf rules rotation written from to to.greatest from.greatest sent 0
-    marks-of = record {
-      low_count = to_kept.greatest_count ∙ sym nodes;
-      high_count = from_kept.greatest_count;
-      marks = marks;
-      count = marks-told.count;
-      left = marks-told.left;
-    }
 
     -- what it then has was taken
     module _ (cells greatest : List ℕ) (merged : IsMerged to.nodes to.keys to.cells to.greatest from.cells from.greatest cells greatest) where
@@ -356,10 +266,10 @@ module _ (written : ℕ → List Entry) (rules : Rules) (rotation most : ℕ) (h
       }
 
       pub merged-stays : IsVersionTable written to.node to.nodes to.keys to.generation cells greatest
-      merged-stays = becomes_one rules rotation written most h so_far are from to from_kept to_kept from_fits to_fits nodes keys to.greatest from.greatest marks from.cells cells greatest (λ owner key lt in_keys. refl) taken
+      merged-stays = becomes_one rules rotation written most h so_far are from to from_kept to_kept from_fits to_fits nodes keys to.greatest from.greatest marks-of.marks from.cells cells greatest (λ owner key lt in_keys. refl) taken
 
       pub merged-applied : table_in written (record to { cells = cells; greatest = greatest }) ≡ applied (table_in written to) (delta_of_views rules rotation written from to).items
-      merged-applied = becomes_applied rules rotation written most h so_far are from to from_kept to_kept from_fits to_fits nodes keys to.greatest from.greatest marks from.cells cells greatest (λ owner key lt in_keys. refl) taken
+      merged-applied = becomes_applied rules rotation written most h so_far are from to from_kept to_kept from_fits to_fits nodes keys to.greatest from.greatest marks-of.marks from.cells cells greatest (λ owner key lt in_keys. refl) taken
 
 -- both tables take all
 module _ (written : ℕ → List Entry) (rules : Rules) (e : Exchange) (most : ℕ) (h : HistoriesView)

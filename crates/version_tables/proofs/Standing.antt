@@ -130,7 +130,6 @@ module _ (written : ℕ → List Entry) (views : List VersionTableView) where
     numbers-of number count cells items bases last count_is are of_views based lasts =
         let these = subst (λ xs. AreCellsOf written views (numbers_in number xs)) (sym are) of_views in
         record {
-          together = together;
           nodes_are = together.one_list_each;
           keys_are = count_is;
           count = these.count ∙ sym one-list-each;

@@ -1,7 +1,7 @@
 -- What a digest tells, by numbers: which of the sender's writes the receiver lacks.
 -- Serves `Delivered`.
 use Rattle.std.proofs.Common.{◌≡◌, ℕ, ◌-◌, ◌<◌, ◌≤◌, max, true, false, cond, not, List, length, Option, Some, None, inl, inr, refl, sym, ap, ◌∙◌, subst, arith}
-use Rattle.std.specs.Prelude.{nat_lt, ◌&&◌}
+use Rattle.std.specs.Prelude.{◌≢◌, nat_lt, ◌&&◌}
 use Rattle.std.proofs.lemmas.Bool.{cases_lt, cases_eq, lt-ltb, le-ltb, eq-eqb, ne_eqb}
 use Rattle.bench_types.specs.declared.entries.Entry.{Entry}
 use Rattle.bench_types.specs.declared.entries.Item.{Item}
@@ -18,7 +18,7 @@ use Rattle.model.specs.Candidates.{known_mark}
 use Rattle.model.specs.calls.Numbers.{write_numbered}
 use Rattle.planes.specs.Planes.{Cells, number_ahead}
 use Rattle.owner_writes.specs.Numbered.{IsHistory, IsNumberedHistory, start_before, start_of}
-use Rattle.delta_plans.specs.Offers.{HasCells, Offers, is_lacked, told_by, told_number, offered_by}
+use Rattle.delta_plans.specs.Offers.{HasCells, Offers, is_lacked, told_by, offered_by}
 use Rattle.version_tables.specs.Laid.{AreNumbers, IsGreatest}
 use Rattle.owner_writes.proofs.Numbers.{numbers-before, numbered-none, numbered-some, numbered-within, numbers-up_to, numbers-compare}
 
@@ -159,8 +159,8 @@ module _ (from to : Table) (proper_from : IsProper from) (proper_to : IsProper t
     (sender receiver : Cells) (has_from : HasCells lists sender from) (has_to : HasCells lists receiver to)
     (are_from : AreNumbers lists from.nodes from.keys sender) (are_to : AreNumbers lists to.nodes to.keys receiver)
     (greatest : ℕ → ℕ) (most_to : (owner : ℕ) → owner < to.nodes → IsGreatest receiver to.keys owner (greatest owner))
-    (most : ℕ) (below_most : (owner key : ℕ) → owner < from.nodes → key < from.keys → sender owner key ≤ most)
-    (mode : Mode) (low : ℕ → ℕ) (told : (owner : ℕ) → owner < from.nodes → low owner ≡ told_number (digest_kind mode) most to.node lists greatest owner)
+    (mode : Mode) (low : ℕ → ℕ) (told : (owner : ℕ) → owner < from.nodes → owner ≢ to.node → low owner ≡ told_by (digest_kind mode) (lists owner) (greatest owner))
+    (own_told : (owner key : ℕ) → owner < from.nodes → key < from.keys → owner ≡ to.node → sender owner key ≤ low owner)
     (cells : Cells) (offered : (owner key : ℕ) → owner < from.nodes → key < from.keys → cells owner key ≡ offered_by (digest_kind mode) sender receiver low owner key) where
   abbrev kind : DigestKind
   kind = digest_kind mode
@@ -179,13 +179,11 @@ module _ (from to : Table) (proper_from : IsProper from) (proper_to : IsProper t
   lacked-is : (owner key : ℕ) (e : Entry) → owner < from.nodes → key < from.keys → write_numbered (lists owner) (sender owner key) ≡ Some e → e.key ≡ key → is_lacked mode to (record { owner = owner; entry = e }) ≡ nat_lt (low owner) (cells owner key)
   lacked-is owner key e in_nodes in_keys is keyed = elim (cases_eq owner to.node) [
     | inl own ↦
-        let at_most : low owner ≡ most = told owner in_nodes ∙ ap (λ b. cond b most (told_by kind (lists owner) (greatest owner))) (eq-eqb owner to.node own) in
         ap (λ b. not b && is_before (known_mark kind to (record { owner = owner; entry = e })) (mark_of e)) (eq-eqb owner to.node own)
-        ∙ sym (le-ltb (low owner) (cells owner key) (omega (arith, at_most, below_most owner key in_nodes in_keys, offered owner key in_nodes in_keys, offered-upto kind sender receiver low owner key)))
+        ∙ sym (le-ltb (low owner) (cells owner key) (omega (arith, own_told owner key in_nodes in_keys own, offered owner key in_nodes in_keys, offered-upto kind sender receiver low owner key)))
     | inr other ↦
-        let mark : low owner ≡ told_by kind (lists owner) (greatest owner) = told owner in_nodes ∙ ap (λ b. cond b most (told_by kind (lists owner) (greatest owner))) (ne_eqb owner to.node other) in
         ap (λ b. not b && is_before (known_mark kind to (record { owner = owner; entry = e })) (mark_of e)) (ne_eqb owner to.node other)
-        ∙ lacks kind owner key e in_nodes in_keys is keyed mark
+        ∙ lacks kind owner key e in_nodes in_keys is keyed (told owner in_nodes other)
         ∙ ap (nat_lt (low owner)) (sym (offered owner key in_nodes in_keys))
   ]
 

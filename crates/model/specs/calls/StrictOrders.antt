@@ -1,4 +1,5 @@
--- The sending order of the candidates that one table has for another is strict: no two of them tie. Source: this project.
+-- The sending order of the candidates that one table has for another is strict: no two of them tie. Source: this
+-- project.
 use Rattle.std.specs.Prelude.{◌≡◌, ℕ, ◌<◌, Contains}
 use Rattle.std.specs.declared.cmp.Ordering.TheVariants.{Equal}
 use Rattle.bench_types.specs.declared.entries.Item.{Item}

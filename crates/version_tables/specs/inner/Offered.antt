@@ -1,17 +1,26 @@
 -- What is offered from one table to another, in memory. Source: this project.
-use Rattle.std.specs.Prelude.{◌≡◌, ℕ, ◌*◌, ◌<◌, List, length, map, slice_index}
+use Rattle.std.specs.Prelude.{◌≡◌, ◌≢◌, ℕ, ◌*◌, ◌<◌, ◌≤◌, List, length, map, slice_index}
 use Rattle.bench_types.specs.declared.exchanges.DigestKind.{DigestKind}
 use Rattle.model.specs.calls.OwnerListView.{all_writes}
 use Rattle.planes.specs.Planes.{cell, number_ahead, total_above, HasEach, HasEachPlace}
 use Rattle.planes.specs.declared.grids.Masked.{Masked}
 use Rattle.version_tables.specs.Views.{VersionTableView, HistoriesView}
 use Rattle.version_tables.specs.declared.deltas.Offered.{Offered}
-use Rattle.delta_plans.specs.Offers.{offered_by, told_number}
+use Rattle.delta_plans.specs.Offers.{offered_by, told_by, told_number}
 
 -- the marks that a receiver tells
 abbrev pub AreTold : {N : Type 0} → (N → ℕ) → ℕ → DigestKind → VersionTableView → HistoriesView → List N → Type 0
 AreTold number most kind to h low =
     HasEach (length h.lists) (λ r n. n ≡ told_number kind most to.node (all_writes h.lists) (slice_index to.greatest) r) (map number low)
+
+-- low marks above which a receiver lacks what a sender has: what is told of other owners, and of itself no less than
+-- both have
+pub record AreLow (kind : DigestKind) (h : HistoriesView) (from to : VersionTableView) (low : List ℕ) : Type 0 where
+  pub count : length low ≡ to.nodes
+  pub others : (owner : ℕ) → owner < to.nodes → owner ≢ to.node
+      → slice_index low owner ≡ told_by kind (all_writes h.lists owner) (slice_index to.greatest owner)
+  pub sent : (key : ℕ) → key < from.keys → cell from.cells from.nodes to.node key ≤ slice_index low to.node
+  pub held : (key : ℕ) → key < to.keys → cell to.cells to.nodes to.node key ≤ slice_index low to.node
 
 -- the sender's numbers that are above the receiver's and the marks, and how many these are
 pub record AreAhead {N : Type 0} (number : N → ℕ) (from to : VersionTableView) (low : List N) (ahead : Masked N) : Type 0 where

@@ -1,7 +1,6 @@
 -- The cells of a table that has taken a delta. Source: this project.
-use Rattle.std.specs.Prelude.{◌≡◌, ℕ, ◌<◌, ◌≤◌, ◌↔◌, ◌⊎◌, ◌==◌, ◌&&◌, Bool, true, false, max, nat_lt, nat_le, List, length, map, slice_index, Contains, Some, if◌then◌else◌}
+use Rattle.std.specs.Prelude.{◌≡◌, ℕ, ◌<◌, ◌≤◌, ◌⊎◌, ◌==◌, ◌&&◌, Bool, true, false, max, nat_lt, nat_le, List, length, map, slice_index, Some, if◌then◌else◌}
 use Rattle.bench_types.specs.declared.entries.Entry.{Entry}
-use Rattle.bench_types.specs.declared.entries.Item.{Item}
 use Rattle.model.specs.Table.{Table, entry_at, generation_held}
 use Rattle.planes.specs.Planes.{Cells, cell, numbers_taken, ArePlanesChanged, IsRaised}
 use Rattle.version_tables.specs.Views.{VersionTableView}

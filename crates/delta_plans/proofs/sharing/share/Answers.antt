@@ -7,6 +7,7 @@ use Rattle.delta_plans.proofs.sharing.share.Goals as goal
 
 pub share_into-sent-requires-clause-turns : goal.share_into-sent-requires-clause-turns
 share_into-sent-requires-clause-turns g c = record {
+  offer = c.requires.offer;
   rotation = c.requires.rotation;
   level = c.requires.level;
 }

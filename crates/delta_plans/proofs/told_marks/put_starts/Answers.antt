@@ -1,18 +1,42 @@
-use Rattle.std.proofs.Common.{◌<◌, length, get_or, sym, ◌∙◌, arith, map}
-use Rattle.model.specs.calls.OwnerListView.{list_of_owner}
-use Rattle.delta_plans.proofs.Starts.{start-own, start-lowered}
+use Rattle.std.proofs.Common.{◌<◌, length, get_or, sym, ◌∙◌, subst, arith, map}
+use Rattle.std.proofs.lemmas.List.{length-map}
+use Rattle.model.specs.calls.OwnerListView.{entries_of, list_of_owner}
+use Rattle.owner_writes.specs.Numbered.{start_of}
+use Rattle.planes.proofs.Elementwise.{number-at, written_next}
+use Rattle.delta_plans.specs.Told.{IsKnown}
+use Rattle.delta_plans.proofs.Starts.{list-here, none-upto, start-lower}
 use Rattle.delta_plans.proofs.told_marks.put_starts.Goals as goal
 
-pub returns : goal.returns
-returns g c = record {
-  size = c.lower.ensures.least.size ∙ c.put_earlier_starts.ensures.size;
-  each = λ r lt.
-      let within : r < length c.args.owners.lists.now = omega (arith, lt, c.requires.count) in
-      let base = c.requires.based.each r within in
-      start-lowered _ (get_or (map g.N.Number.number c.args.owners.bases.now) r 0) (get_or (map g.N.Number.number c.args.numbers.now) r 0) (get_or (map g.N.Number.number c.put_earlier_starts.new.numbers) r 0) _
-      (c.put_earlier_starts.ensures.each r lt)
-      (λ behind.
-      start-own (list_of_owner c.args.owners.lists.now r) (get_or (map g.N.Number.number c.args.numbers.now) r 0) (c.requires.writes r) (omega (arith, behind, base)) (c.requires.within r within)
-      ∙ sym base)
-      (c.lower.ensures.least.each r (omega (arith, lt, c.put_earlier_starts.ensures.size)));
-}
+pub returns-then-total_upto-eq0 : goal.returns-then-total_upto-eq0
+returns-then-total_upto-eq0 g c =
+    let number = g.N.Number.number in
+    let lists = c.args.owners.lists.now in
+    let numbers = map number c.args.numbers.now in
+    let bases = map number c.args.owners.bases.now in
+    record {
+      size = c.lower.ensures.least.size;
+      each = λ r lt.
+          start-lower g.N.Number.most (list_of_owner lists r) (get_or numbers r 0) (get_or bases r 0) _ (c.requires.each r (omega (arith, lt, c.requires.count)))
+          (none-upto numbers (length c.args.numbers.now) (λ r. get_or bases r 0) (omega (arith, c.total_upto.ensures, c.if-total_upto-eq0.true)) r (omega (arith, lt, length-map c.args.numbers.now number)))
+          (c.lower.ensures.least.each r lt);
+    }
+
+pub start_of-requires : goal.start_of-requires
+start_of-requires g c =
+    let number = g.N.Number.number in
+    let r = c.loop-r.r in
+    let lt : r < length c.args.owners.lists.now = omega (arith, c.loop-r-test.true, c.requires.count, length-map c.args.numbers.now number) in
+    let here = number-at number c.loop-r.numbers r c.index-numbers-r.result (omega (arith, c.loop-r-test.true, c.loop-r.auto.numbers)) c.index-numbers-r.is ∙ c.loop-r.invariant.from r (omega arith) in
+    let base = number-at number c.args.owners.bases.now r c.index-bases-r.result (omega (arith, lt, c.requires.base_count, length-map c.args.owners.bases.now number)) c.index-bases-r.is in
+    subst (λ n. IsKnown g.N.Number.most c.index-lists-r.result n (number c.index-bases-r.result)) (sym here)
+    (subst (λ b. IsKnown g.N.Number.most c.index-lists-r.result (get_or (map number c.args.numbers.now) r 0) b) (sym base)
+    (subst (λ v. IsKnown g.N.Number.most v (get_or (map number c.args.numbers.now) r 0) (get_or (map number c.args.owners.bases.now) r 0)) (list-here c.args.owners.lists.now r c.index-lists-r.result lt c.index-lists-r.is) (c.requires.each r lt)))
+
+pub loop-r-preserved : goal.loop-r-preserved
+loop-r-preserved g c =
+    let number = g.N.Number.number in
+    let r = c.loop-r.r in
+    let lt : r < length c.args.owners.lists.now = omega (arith, c.loop-r-test.true, c.requires.count, length-map c.args.numbers.now number) in
+    let here = number-at number c.loop-r.numbers r c.index-numbers-r.result (omega (arith, c.loop-r-test.true, c.loop-r.auto.numbers)) c.index-numbers-r.is ∙ c.loop-r.invariant.from r (omega arith) in
+    written_next _ (map number c.args.numbers.now) number c.loop-r.numbers r c.start_of.result c.loop-r.invariant (omega (arith, c.loop-r-test.true, length-map c.args.numbers.now number))
+    (c.start_of.ensures ∙ (λ i. start_of (entries_of (sym (list-here c.args.owners.lists.now r c.index-lists-r.result lt c.index-lists-r.is) i)) (here i)))

@@ -1,12 +1,13 @@
 use Rattle.std.proofs.Common.{refl, sym, ap, ◌∙◌, subst, map}
 use Rattle.std.proofs.lemmas.List.{length-map}
+use Rattle.bench_types.specs.Mode.{digest_kind}
 use Rattle.bench_types.specs.calls.Mode.{first_sent}
 use Rattle.planes.specs.Planes.{cell, total_above}
 use Rattle.version_tables.specs.inner.Deltas.{AreMarksOf}
 use Rattle.delta_plans.specs.Firsts.{by_first}
 use Rattle.delta_plans.specs.OfferInMemory.{marks}
 use Rattle.delta_plans.proofs.RoundMarks.{count-newest}
-use Rattle.version_tables.proofs.Delivered.{offer-is, delta-marks}
+use Rattle.version_tables.proofs.Delivered.{offer-is, delta-marks, told-low}
 use Rattle.version_tables.proofs.deltas.marks_sent.Goals as goal
 
 pub planned-requires-clause-offer : goal.planned-requires-clause-offer
@@ -14,7 +15,10 @@ planned-requires-clause-offer g c =
     offer-is g.N.Number.number g.N.Number.most g.H.Written.lists c.args.sender.now c.args.receiver.now c.nodes.ensures.kept c.requires.kept c.args.histories.now c.lists.ensures.so_far
     c.requires.may.sender c.requires.may.receiver c.requires.may.nodes c.requires.may.keys c.args.rules.now.mode
     (record { cells = c.args.offered.cells; nodes = c.nodes.result; keys = c.keys.result; low = c.args.offered.low; high = c.greatest.result; lists = c.lists.result; budget = c.args.rules.now.budget })
-    c.nodes.ensures.value c.keys.ensures.value c.lists.ensures.value c.greatest.ensures.value c.requires.low (sym (length-map c.args.offered.cells.now g.N.Number.number) ∙ c.requires.offered.cells.size)
+    c.nodes.ensures.value c.keys.ensures.value c.lists.ensures.value c.greatest.ensures.value
+    (told-low g.N.Number.most g.H.Written.lists c.args.sender.now c.args.receiver.now c.nodes.ensures.kept c.requires.kept c.args.histories.now c.lists.ensures.so_far
+    c.requires.may.sender c.requires.may.receiver c.requires.may.nodes (digest_kind c.args.rules.now.mode) (map g.N.Number.number c.args.offered.low.now) c.requires.low)
+    (sym (length-map c.args.offered.cells.now g.N.Number.number) ∙ c.requires.offered.cells.size)
     (λ owner key in_nodes in_keys. ap (λ n. cell (map g.N.Number.number c.args.offered.cells.now) n owner key) c.nodes.ensures.value ∙ c.requires.offered.cells.each owner key in_nodes in_keys)
 
 pub planned-requires-clause-found : goal.planned-requires-clause-found
@@ -34,7 +38,10 @@ returns-clause-marks g c =
     (delta-marks g.N.Number.number g.N.Number.most g.H.Written.lists c.args.sender.now c.args.receiver.now c.nodes.ensures.kept c.requires.kept c.args.histories.now c.lists.ensures.so_far
     c.requires.may.sender c.requires.may.receiver c.requires.may.nodes c.requires.may.keys c.args.rules.now.mode
     (record { cells = c.args.offered.cells; nodes = c.nodes.result; keys = c.keys.result; low = c.args.offered.low; high = c.greatest.result; lists = c.lists.result; budget = c.args.rules.now.budget })
-    c.nodes.ensures.value c.keys.ensures.value c.lists.ensures.value c.greatest.ensures.value c.requires.low (sym (length-map c.args.offered.cells.now g.N.Number.number) ∙ c.requires.offered.cells.size)
+    c.nodes.ensures.value c.keys.ensures.value c.lists.ensures.value c.greatest.ensures.value
+    (told-low g.N.Number.most g.H.Written.lists c.args.sender.now c.args.receiver.now c.nodes.ensures.kept c.requires.kept c.args.histories.now c.lists.ensures.so_far
+    c.requires.may.sender c.requires.may.receiver c.requires.may.nodes (digest_kind c.args.rules.now.mode) (map g.N.Number.number c.args.offered.low.now) c.requires.low)
+    (sym (length-map c.args.offered.cells.now g.N.Number.number) ∙ c.requires.offered.cells.size)
     (λ owner key in_nodes in_keys. ap (λ n. cell (map g.N.Number.number c.args.offered.cells.now) n owner key) c.nodes.ensures.value ∙ c.requires.offered.cells.each owner key in_nodes in_keys)
     c.args.rules.now.budget refl c.args.rotation c.requires.may.rotation (map g.N.Number.number c.in_ok-marked.marked.mark.items) c.in_ok-marked.marked.counts.sent c.in_ok-marked.marked.counts.cut
     c.in_ok-marked.ensures.marked (length-map c.in_ok-marked.marked.mark.items g.N.Number.number ∙ c.in_ok-marked.ensures.size ∙ c.nodes.ensures.value))

@@ -5,7 +5,7 @@ use Rattle.std.proofs.lemmas.Result.{IfOk-weaker}
 use Rattle.bench_types.specs.declared.entries.Entry.{Entry}
 use Rattle.bench_types.specs.declared.limits.TheConstants.{MOST_ROUNDS}
 use Rattle.model.specs.Figures.{figures_of}
-use Rattle.model.specs.calls.OwnerListView.{OwnerListView, all_writes, list_of_owner, lists_in, AreWrites}
+use Rattle.model.specs.calls.OwnerListView.{all_writes, list_of_owner, lists_in, AreWrites}
 use Rattle.model.specs.Table.{Table}
 use Rattle.model.specs.Tables.{HoldsOfEach}
 use Rattle.model.specs.calls.Tables.{IsCluster}

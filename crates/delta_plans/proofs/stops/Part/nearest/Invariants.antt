@@ -3,9 +3,9 @@ use Rattle.bench_types.specs.declared.exchanges.First.{First}
 use Rattle.delta_plans.specs.OfferInMemory.{cells_in}
 use Rattle.delta_plans.specs.Stops.{AnswersNearer}
 use Rattle.delta_plans.proofs.StopSteps.{IsNextSoFar}
-use Rattle.delta_plans.proofs.offers.Offer.nearest.Given as goal
+use Rattle.delta_plans.proofs.stops.Part.nearest.Given as goal
 
 abbrev pub invariant-loop-key : goal.invariant-loop-key
 invariant-loop-key g l =
     (first : First) (near : ℕ) → AnswersNearer g.N.Number.number (goal.F-post g l.nearer) first near
-    → IsNextSoFar first (cells_in g.N.Number.number l.self) l.key l.owner near (g.N.Number.number l.fn.far) (g.N.Number.number l.next)
+    → IsNextSoFar first (cells_in g.N.Number.number l.self.offer.now) l.key l.self.owner near (g.N.Number.number l.self.far) (g.N.Number.number l.next)

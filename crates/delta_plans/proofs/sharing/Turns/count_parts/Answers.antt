@@ -10,7 +10,7 @@ use Rattle.delta_plans.specs.Firsts.{by_first}
 use Rattle.delta_plans.specs.OfferInMemory.{cells_in, marks}
 use Rattle.delta_plans.specs.Turns.{part_weight}
 use Rattle.delta_plans.specs.Weights.{weight_from}
-use Rattle.delta_plans.proofs.offers.Offer.count_parts.Goals as goal
+use Rattle.delta_plans.proofs.sharing.Turns.count_parts.Goals as goal
 
 -- a part has as many numbers as lie between the two marks that go first
 counted : {N : Type 0} (number : N → ℕ) (cells : Cells) (keys size start : ℕ) (first : First) (near far : List N) (xs : List ℕ)
@@ -25,21 +25,21 @@ size-of Newest near far n one other = other
 
 pub count_some_between-requires-clause-low : goal.count_some_between-requires-clause-low
 count_some_between-requires-clause-low g c =
-    let turns = c.args.turns.now in
+    let turns = c.args.self.now in
     ap length (c.by_first-low.ensures ∙ (λ i. by_first turns.first (c.deref.ensures.value i) (c.deref-2.ensures.value i)))
-    ∙ size-of turns.first turns.level.now.near.items turns.level.now.far.items c.args.self.now.nodes c.requires.turns.level.near c.requires.turns.level.far
+    ∙ size-of turns.first turns.level.now.near.items turns.level.now.far.items c.args.self.now.offer.now.nodes c.requires.turns.level.near c.requires.turns.level.far
 
 pub count_some_between-requires-clause-high : goal.count_some_between-requires-clause-high
 count_some_between-requires-clause-high g c =
-    let turns = c.args.turns.now in
+    let turns = c.args.self.now in
     ap length (c.by_first-high.ensures ∙ (λ i. by_first turns.first (c.deref-3.ensures.value i) (c.deref-4.ensures.value i)))
-    ∙ size-of turns.first turns.level.now.far.items turns.level.now.near.items c.args.self.now.nodes c.requires.turns.level.far c.requires.turns.level.near
+    ∙ size-of turns.first turns.level.now.far.items turns.level.now.near.items c.args.self.now.offer.now.nodes c.requires.turns.level.far c.requires.turns.level.near
 
 pub returns : goal.returns
 returns g c =
     let number = g.N.Number.number in
-    let offer = c.args.self.now in
-    let turns = c.args.turns.now in
+    let offer = c.args.self.now.offer.now in
+    let turns = c.args.self.now in
     let owner = c.args.owner in
     let old = c.args.counts.now in
     let new = c.count_some_between.new.counts in
@@ -54,12 +54,12 @@ returns g c =
     (marks number ((c.by_first-high.ensures ∙ (λ j. by_first turns.first (c.deref-3.ensures.value j) (c.deref-4.ensures.value j))) i) (owner + r)))
     (map number new)) c.count_some_between.ensures)
     in
-    let here : (r : ℕ) → r < size → get_or (map number new) r 0 ≡ part_weight number (λ _. 1) offer turns (owner + r) =
+    let here : (r : ℕ) → r < size → get_or (map number new) r 0 ≡ part_weight number (λ _. 1) turns (owner + r) =
     λ r lt. parts.each r (omega (arith, lt, sized, c.count_some_between.auto.counts))
     in
     record {
       count =
-          subst (λ j. get_or (map number (put_mid owner size old new)) j 0 ≡ part_weight number (λ _. 1) offer turns j) {x = owner + 0} {y = owner} (omega arith)
+          subst (λ j. get_or (map number (put_mid owner size old new)) j 0 ≡ part_weight number (λ _. 1) turns j) {x = owner + 0} {y = owner} (omega arith)
           (part-here number owner size old new within sized 0 some ∙ here 0 some);
       counts = part-written number owner size old new within sized offer.nodes _ c.requires.counts (λ r lt. inr (here r lt));
     }

@@ -1,0 +1,20 @@
+use Rattle.std.proofs.Common.{ap, ◌∙◌, arith}
+use Rattle.delta_plans.specs.OfferInMemory.{cells_in}
+use Rattle.delta_plans.specs.Stops.{nearer_beyond}
+use Rattle.delta_plans.proofs.StopSteps.{next-first, next-nearer, next-found}
+use Rattle.delta_plans.proofs.stops.Part.nearest.Goals as goal
+
+pub loop-key-init : goal.loop-key-init
+loop-key-init g c first near answers = next-first first (cells_in g.N.Number.number c.args.self.now.offer.now) c.args.self.now.owner near (g.N.Number.number c.args.self.now.far)
+
+pub loop-key-preserved : goal.loop-key-preserved
+loop-key-preserved g c first near answers =
+    let number = g.N.Number.number in
+    next-nearer first (cells_in number c.args.self.now.offer.now) c.loop-key.key c.args.self.now.owner near (number c.args.self.now.far) (number c.loop-key.next) (number c.nearer-next.result) (c.loop-key.invariant first near answers)
+    (answers c.loop-key.next c.cell_of.result c.nearer-next.result c.nearer-next.ensures ∙ ap (nearer_beyond first near (number c.loop-key.next)) c.cell_of.ensures)
+
+pub returns : goal.returns
+returns g c first near answers some =
+    let number = g.N.Number.number in
+    next-found first (cells_in number c.args.self.now.offer.now) c.loop-key.key c.args.self.now.offer.now.keys c.args.self.now.owner near (number c.args.self.now.far) (number c.loop-key.next) (omega (arith, c.loop-key-test.false, c.loop-key.auto.key-end))
+    (c.loop-key.invariant first near answers) some

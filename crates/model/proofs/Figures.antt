@@ -1,5 +1,5 @@
 -- The figures of a round, counted by owner.
--- Serves `staleness` and `version_tables`.
+-- Serves `version_tables`.
 use Rattle.std.proofs.Common.{◌≡◌, ℕ, ◌≤◌, List, length, sym, ap, ◌∙◌, arith, Some}
 use Rattle.model.specs.Table.{Table}
 use Rattle.model.specs.Tables.{table_of_node, IsCluster}

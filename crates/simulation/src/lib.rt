@@ -16,6 +16,7 @@
 
 mod clusters;
 mod laws;
+mod plans;
 mod rounds;
 mod sims;
 

@@ -128,7 +128,7 @@ class Stages:
     def expect(self, mode, budget, *stages):
         """Reckons with what is still to be run in these stages where this mode takes this budget, for the time left."""
         it, heals = self.study, {(budget, mode), (self.study.most(mode), mode)}
-        many = it.wanted(mode) | it.next_smaller(budget, mode)
+        many = it.wanted(mode) | it.next_smaller(budget, mode) | it.for_floor()
         pairs = {"few": it.wanted(mode), **dict.fromkeys(("many", "longer", "longest"), many),
                  **dict.fromkeys(it.healing_stages(), heals)}
         self.progress.plan({f"{stage}/{name}": it.work(stage, *pair) for stage in stages for pair in pairs[stage]
@@ -202,9 +202,8 @@ class Stages:
         it = self.study
         decision.floor = decision.found.floor(decision.window)
         if not decision.floor:
-            pairs = {(it.ample(), it.usual)}
-            self.plan(decision.stage, pairs, 0)
-            decision.floor = self.carry_out(decision.stage, pairs).floor(decision.window)
+            self.plan(decision.stage, it.for_floor(), 0)
+            decision.floor = self.carry_out(decision.stage, it.for_floor()).floor(decision.window)
 
     def heal(self, decision):
         """What heals, with the budget that is taken and with all that fits."""

@@ -50,6 +50,8 @@ pub fn run_list<R: Threads + Wait + Sync, G: Gate + Sync>(
         list,
         rules,
         gate,
+        workers,
     };
-    run_list_with(rt, alloc, work, tables, workers)
+    let (tables, records, ()) = run_list_with(rt, alloc, work, tables, || ())?;
+    Ok((tables, records))
 }

@@ -29,9 +29,9 @@ pub nothing_written : {W : Type 0} (sink : Sink W) (now : W) → IsReady sink no
 nothing_written sink now ready = record { taken = Appends-nil (sink.taken now); flushed = ready.flushed; sound = ready.sound; was_sound = ready.sound }
 
 -- a round was played, and the line of its row written
-pub row_is_next : {T W : Type 0} (table : T → Table) (sim sim' : SimView T) (sink : Sink W) (old new : W) (mode : Mode) (round : RoundView) → PlaysNext table sim sim' round
-    → (line : List ℕ) → line ≡ compare_line sim'.settings.format mode round.row → IsWritten sink old new line → WritesNextRow table sim sim' sink old new mode
-row_is_next table sim sim' sink old new mode round played line is written = record { round = round; played = played; row = subst (IsWritten sink old new) is written }
+pub row_is_next : {T W : Type 0} (table : T → Table) (sim sim' : SimView T) (sink : Sink W) (old new : W) (round : RoundView) → PlaysNext table sim sim' round
+    → (line : List ℕ) → line ≡ compare_line sim'.settings.format sim'.settings.mode round.row → IsWritten sink old new line → WritesNextRow table sim sim' sink old new
+row_is_next table sim sim' sink old new round played line is written = record { round = round; played = played; row = subst (IsWritten sink old new) is written }
 
 -- the lines of so many rounds of a scenario are written
 pub record AreRoundsWritten {T W : Type 0} (sink : Sink W) (old now : W) (s : Settings) (sim : SimView T) (rounds : ℕ) : Type 0 where
@@ -68,15 +68,15 @@ in_rounds_behind sink old now new text whole s workers fault first stop =
     }
 
 -- the next round was played
-module _ {T W : Type 0} (table : T → Table) (sink : Sink W) (old now after : W) (s : Settings) (sim sim' : SimView T) (rounds : ℕ) (so_far : AreRoundsWritten sink old now s sim rounds) (mode : Mode) (mode_is : mode ≡ s.mode) (round : RoundView) (played : PlaysNext table sim sim' round) where
+module _ {T W : Type 0} (table : T → Table) (sink : Sink W) (old now after : W) (s : Settings) (sim sim' : SimView T) (rounds : ℕ) (so_far : AreRoundsWritten sink old now s sim rounds) (round : RoundView) (played : PlaysNext table sim sim' round) where
   settings_are : sim'.settings ≡ s
   settings_are = played.settings ∙ so_far.settings
 
   row_here : round.row ≡ row_in s (rounds + 1)
   row_here = ap (λ (r : RoundView). r.row) played.played ∙ (λ i. row_in (settings_are i) ((played.done ∙ ap (λ n. n + 1) so_far.done) i))
 
-  line_is : compare_line sim'.settings.format mode round.row ≡ compare_line s.format s.mode (row_in s (rounds + 1))
-  line_is = λ i. compare_line (settings_are i).format (mode_is i) (row_here i)
+  line_is : compare_line sim'.settings.format sim'.settings.mode round.row ≡ compare_line s.format s.mode (row_in s (rounds + 1))
+  line_is = λ i. compare_line (settings_are i).format (settings_are i).mode (row_here i)
 
   lines : lines_upto s (rounds + 1) ≡ lines_upto s rounds ++ compare_line s.format s.mode (row_in s (rounds + 1))
   lines =
@@ -84,14 +84,14 @@ module _ {T W : Type 0} (table : T → Table) (sink : Sink W) (old now after : W
       ∙ flat_map-append (compare_line s.format s.mode) (rows_upto s rounds) (row_in s (rounds + 1) ∷ [])
       ∙ ap (λ l. lines_upto s rounds ++ l) (append-nil (compare_line s.format s.mode (row_in s (rounds + 1))))
 
-  stops_in_line : (workers : ℕ) (fault : Fault) → rounds < s.rounds → IsWriteFault sink now after (compare_line sim'.settings.format mode round.row) fault → IsFaultInRounds sink old after [] s workers fault
+  stops_in_line : (workers : ℕ) (fault : Fault) → rounds < s.rounds → IsWriteFault sink now after (compare_line sim'.settings.format sim'.settings.mode round.row) fault → IsFaultInRounds sink old after [] s workers fault
   stops_in_line workers fault more stop = record {
     rounds = rounds;
     within = more;
     stops = inr (now, so_far.written, subst (λ l. IsWriteFault sink now after l fault) line_is stop);
   }
 
-  pub rounds_more : IsWritten sink now after (compare_line sim'.settings.format mode round.row) → AreRoundsWritten sink old after s sim' (rounds + 1)
+  pub rounds_more : IsWritten sink now after (compare_line sim'.settings.format sim'.settings.mode round.row) → AreRoundsWritten sink old after s sim' (rounds + 1)
   rounds_more line = record {
     settings = settings_are;
     unbroken = played.still;
@@ -100,11 +100,11 @@ module _ {T W : Type 0} (table : T → Table) (sink : Sink W) (old now after : W
   }
 
 -- the next round wasn't played, or its line wasn't written
-pub stops_at_row : {T W : Type 0} (table : T → Table) (sink : Sink W) (old now after : W) (s : Settings) (sim sim' : SimView T) (rounds : ℕ) (mode : Mode) (workers : ℕ) (fault : Fault)
-    → AreRoundsWritten sink old now s sim rounds → mode ≡ s.mode → rounds < s.rounds → IsNextRowFault table sim sim' sink now after mode workers fault → IsFaultInRounds sink old after [] s workers fault
-stops_at_row table sink old now after s sim sim' rounds mode workers fault so_far mode_is more stop = elim stop [
+pub stops_at_row : {T W : Type 0} (table : T → Table) (sink : Sink W) (old now after : W) (s : Settings) (sim sim' : SimView T) (rounds workers : ℕ) (fault : Fault)
+    → AreRoundsWritten sink old now s sim rounds → rounds < s.rounds → IsNextRowFault table sim sim' sink now after workers fault → IsFaultInRounds sink old after [] s workers fault
+stops_at_row table sink old now after s sim sim' rounds workers fault so_far more stop = elim stop [
   | inl lost ↦ subst (λ w. IsFaultInRounds sink old w [] s workers fault) (sym lost.1) (stops_at_step sink old now s sim sim' rounds workers fault so_far more lost.0)
-  | inr cut ↦ stops_in_line table sink old now after s sim sim' rounds so_far mode mode_is cut.0 cut.1 workers fault more cut.2
+  | inr cut ↦ stops_in_line table sink old now after s sim sim' rounds so_far cut.0 cut.1 workers fault more cut.2
 ]
 
 -- the lines of so many modes are written, and the scenario at hand differs in its mode alone

@@ -10,7 +10,9 @@ ghost use Rattle.runs.specs.Runs.{TellsOfFailing, ComesOnceAccepted};
 ghost use Rattle.runs.specs.Comparisons.{lines_of_modes, IsFaultInRounds, IsFaultInModes, IsCompared, IsCompareFault};
 ghost use Rattle.model.specs.Runs.{AreWorkers};
 
-use crate::runs::{Opened, begin, check_input};
+use crate::openings::{Opened, begin};
+use crate::resources::Resources;
+use crate::runs::check_input;
 use bench_types::{Fault, Mode, Sink, Source};
 use model::MemoryTable;
 use report::{compare_header, write_compare_row};
@@ -45,107 +47,92 @@ pub fn compare<H: Threads + Wait + Sync, R: Source, W: Sink>(
 {
     let scenario = check_input(alloc, reader)?;
     compare_header(alloc, writer, scenario.format())?;
-    write_modes::<Brand, H, W>(rt, alloc, scenario, &Mode::ALL, writer, workers)
+    let resources = Resources { rt, alloc, workers };
+    write_modes::<Brand, H, W>(&resources, scenario, &Mode::ALL, writer)
 }
 
 // All rounds of a scenario under each of these modes in turn, by tables that keep versions alone.
 fn write_modes<L: Written + Send + Sync, H: Threads + Wait + Sync, W: Sink>(
-    rt: &H,
-    alloc: Global,
+    resources: &Resources<H>,
     mut scenario: Scenario,
     modes: &[Mode],
     writer: &mut W,
-    workers: u32,
 ) -> Result<(), Fault>
-    requires workers { AreWorkers workers }
     requires written { AreWrittenIn L.lists scenario }
     requires ready { IsReady W.Sink writer.old }
     ensures written { OnOk result
         (IsWritten W.Sink writer.old writer.new (lines_of_modes scenario modes.now)) }
     ensures fault { IfErr result
-        (IsFaultInModes W.Sink writer.old writer.new [] scenario modes.now workers) }
+        (IsFaultInModes W.Sink writer.old writer.new [] scenario modes.now resources.now.workers) }
 {
     for mode in modes {
-        scenario = write_all_rounds::<L, H, W>(
-            rt,
-            alloc,
-            scenario.with_mode(*mode),
-            writer,
-            workers,
-        )?;
+        scenario = write_all_rounds::<L, H, W>(resources, scenario.with_mode(*mode), writer)?;
     }
     Ok(())
 }
 
 // All rounds of a scenario, which is handed back.
 fn write_all_rounds<L: Written + Send + Sync, H: Threads + Wait + Sync, W: Sink>(
-    rt: &H,
-    alloc: Global,
+    resources: &Resources<H>,
     scenario: Scenario,
     writer: &mut W,
-    workers: u32,
 ) -> Result<Scenario, Fault>
-    requires workers { AreWorkers workers }
     requires written { AreWrittenIn L.lists scenario }
     requires ready { IsReady W.Sink writer.old }
     ensures same { IfOk result (λ s. s ≡ scenario) }
     ensures written { OnOk result (IsWritten W.Sink writer.old writer.new (all_lines scenario)) }
     ensures fault { IfErr result
-        (IsFaultInRounds W.Sink writer.old writer.new [] scenario workers) }
+        (IsFaultInRounds W.Sink writer.old writer.new [] scenario resources.now.workers) }
 {
-    let mode = scenario.mode();
-    match begin::<L>(alloc, scenario)? {
-        Opened::Byte(sim) => write_rows(rt, alloc, sim, mode, writer, workers),
-        Opened::Narrow(sim) => write_rows(rt, alloc, sim, mode, writer, workers),
-        Opened::Wide(sim) => write_rows(rt, alloc, sim, mode, writer, workers),
+    match begin::<L>(resources.alloc, scenario)? {
+        Opened::Byte(sim) => write_rows(resources, sim, writer),
+        Opened::Narrow(sim) => write_rows(resources, sim, writer),
+        Opened::Wide(sim) => write_rows(resources, sim, writer),
     }
 }
 
-// The rows of all rounds of a simulation of this mode, which stands before the first. Its scenario is handed back.
+// The rows of all rounds of a simulation that stands before the first. Its scenario is handed back.
 fn write_rows<
     T: MemoryTable + Send + Sync,
     K: RoundHistories<T>,
     H: Threads + Wait + Sync,
     W: Sink,
 >(
-    rt: &H,
-    alloc: Global,
+    resources: &Resources<H>,
     mut sim: Sim<T, K>,
-    mode: Mode,
     writer: &mut W,
-    workers: u32,
 ) -> Result<Scenario, Fault>
-    requires workers { AreWorkers workers }
     requires start { IsAtStart sim }
-    requires mode { mode ≡ sim.settings.mode }
     requires ready { IsReady W.Sink writer.old }
     ensures same { IfOk result (λ s. s ≡ sim.settings) }
     ensures written { OnOk result
         (IsWritten W.Sink writer.old writer.new (all_lines sim.settings)) }
     ensures fault { IfErr result
-        (IsFaultInRounds W.Sink writer.old writer.new [] sim.settings workers) }
+        (IsFaultInRounds W.Sink writer.old writer.new [] sim.settings resources.now.workers) }
 {
     for _ in 0..sim.rounds() {
-        write_row(rt, alloc, &mut sim, mode, writer, workers)?;
+        write_row(resources, &mut sim, writer)?;
     }
     Ok(sim.into_scenario())
 }
 
-// The next round of a simulation, and its row under this mode.
+// The next round of a simulation, and its row.
 fn write_row<T: MemoryTable + Send + Sync, K: RoundHistories<T>, H: Threads + Wait + Sync, W: Sink>(
-    rt: &H,
-    alloc: Global,
+    resources: &Resources<H>,
     sim: &mut Sim<T, K>,
-    mode: Mode,
     writer: &mut W,
-    workers: u32,
 ) -> Result<(), Fault>
-    requires workers { AreWorkers workers }
     ensures written { OnOk result
-        (WritesNextRow T.table sim.old sim.new W.Sink writer.old writer.new mode) }
+        (WritesNextRow T.table sim.old sim.new W.Sink writer.old writer.new) }
     ensures fault { IfErr result
-        (IsNextRowFault T.table sim.old sim.new W.Sink writer.old writer.new mode workers) }
+        (IsNextRowFault T.table sim.old sim.new W.Sink writer.old writer.new resources.now.workers) }
 {
-    let round = sim.step(rt, workers, &FreeGate)?;
-    write_compare_row(alloc, writer, sim.format(), mode, &round.row())
+    let round = sim.step(resources.rt, resources.workers, &FreeGate)?;
+    write_compare_row(
+        resources.alloc,
+        writer,
+        sim.format(),
+        sim.mode(),
+        &round.row(),
+    )
 }

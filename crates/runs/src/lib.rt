@@ -24,6 +24,8 @@
 
 mod comparing;
 mod inputs;
+mod openings;
+mod resources;
 mod runs;
 
 pub use comparing::compare;

@@ -1,18 +1,16 @@
 //! A whole run, from bytes to bytes.
 
-ghost use Rattle.std.specs.Prelude.{◌≡◌, ℕ, ◌+◌, ◌*◌, ◌≤◌, Ok, IfOk, OnOk, IfErr, IsOkUnless};
-ghost use Rattle.bench_types.specs.declared.limits.TheConstants.{MOST_ROUNDS, MOST_WRITES};
-ghost use Rattle.round_plan.specs.Writes.{writes_in};
-ghost use Rattle.simulation.specs.calls.Simulation.{MayWriteAll};
+ghost use Rattle.std.specs.Prelude.{Ok, IfOk, OnOk, IfErr};
 ghost use Rattle.runs.specs.Inputs.{IsRead, IsInputFault};
-ghost use Rattle.scenario.specs.Settings.{IsLawfulScenario};
-ghost use Rattle.runs.specs.inner.Writes.{AreWrittenIn, HasWritesBelow};
-ghost use Rattle.runs.specs.inner.Starts.{IsAtStart, IsOpened};
+ghost use Rattle.runs.specs.inner.Writes.{AreWrittenIn};
+ghost use Rattle.runs.specs.inner.Starts.{IsAtStart};
 ghost use Rattle.runs.specs.inner.Rows.{WritesNextTexts, IsNextTextsFault};
 ghost use Rattle.runs.specs.Runs.{AreWritten, IsWritingFault, IsReported, IsRunFault, TellsOfFailing, ComesOnceAccepted};
 ghost use Rattle.model.specs.Runs.{AreWorkers};
 
 use crate::inputs::read_all;
+use crate::openings::{Opened, begin};
+use crate::resources::Resources;
 use bench_types::{Fault, Sink, Source};
 use model::MemoryTable;
 use report::{report_header, trace_header, write_report_row, write_trace_rows};
@@ -23,7 +21,7 @@ use std::alloc::Global;
 use std::marker::Brand;
 use std::sync::Wait;
 use std::thread::Threads;
-use version_tables::{Histories, Short, VersionTable, Written};
+use version_tables::Written;
 use workers::FreeGate;
 
 /// Reads a scenario, and writes the report of its run to `writer` and its trace to `trace`: the two
@@ -55,7 +53,8 @@ pub fn run<H: Threads + Wait + Sync, R: Source, W: Sink, X: Sink>(
         × TellsOfFailing X.Sink trace.old trace.new fault) }
 {
     let scenario = check_input(alloc, reader)?;
-    write_run::<Brand, H, W, X>(rt, alloc, scenario, writer, trace, workers)
+    let resources = Resources { rt, alloc, workers };
+    write_run::<Brand, H, W, X>(&resources, scenario, writer, trace)
 }
 
 /// Reads a scenario whole and checks it. An error is that of `read_all`, or else the fault of the first check
@@ -69,90 +68,23 @@ pub fn check_input<R: Source>(alloc: Global, reader: &mut R) -> Result<Scenario,
     read(alloc, &bytes)
 }
 
-// No owner makes more writes in a round than this.
-fn most_in_a_round(scenario: &Scenario) -> u32
-    ensures limit { (round : ℕ) → writes_in scenario.now round ≤ result }
-    ensures within { result ≤ MOST_WRITES }
-{
-    let loads = scenario.loads();
-    let mut most = scenario.writes();
-    for place in 0..loads.len() {
-        most = most.max(loads[place].writes);
-    }
-    most
-}
-
-// No owner makes more writes in a run than this.
-fn most_in_a_run(scenario: &Scenario) -> u32
-    ensures below { HasWritesBelow (result + 1) scenario.now }
-    ensures within { result ≤ MOST_WRITES * MOST_ROUNDS }
-{
-    most_in_a_round(scenario) * scenario.rounds()
-}
-
-/// A simulation by tables that keep versions alone, in numbers of 8 bits, of 16 or of 32.
-#[derive(Drop)]
-pub(crate) enum Opened<L: Written + Send + Sync> {
-    Byte(Sim<VersionTable<u8, L>, Histories<u8, L>>),
-    Narrow(Sim<VersionTable<Short, L>, Histories<Short, L>>),
-    Wide(Sim<VersionTable<u32, L>, Histories<u32, L>>),
-}
-
-/// A simulation of the scenario, before its first round, in numbers of as few bits as are enough.
-pub(crate) fn begin<L: Written + Send + Sync>(
-    alloc: Global,
-    scenario: Scenario,
-) -> Result<Opened<L>, Fault>
-    requires { AreWrittenIn L.lists scenario }
-    ensures begun { IfOk result (λ begun. IsOpened begun scenario) }
-    ensures lawful { IsLawfulScenario scenario }
-    ensures only { IsOkUnless result Fault.OutOfMemory }
-{
-    let most = most_in_a_run(&scenario);
-    if most < u8::MAX as u32 {
-        Ok(Opened::Byte(open(alloc, scenario)?))
-    } else if most < i16::MAX as u32 {
-        Ok(Opened::Narrow(open(alloc, scenario)?))
-    } else {
-        Ok(Opened::Wide(open(alloc, scenario)?))
-    }
-}
-
-// A simulation of the scenario by tables of any representation, before its first round.
-fn open<T: MemoryTable + Send + Sync, K: RoundHistories<T>>(
-    alloc: Global,
-    scenario: Scenario,
-) -> Result<Sim<T, K>, Fault>
-    requires may_write { MayWriteAll K.may_write scenario }
-    ensures begun { IfOk result (λ sim. IsAtStart sim × (sim.settings ≡ scenario)) }
-    ensures only { IsOkUnless result Fault.OutOfMemory }
-{
-    match Sim::of(alloc, scenario) {
-        Ok(sim) => Ok(sim),
-        Err((fault, _)) => Err(fault),
-    }
-}
-
 // The texts of a run, by tables that keep versions alone.
 fn write_run<L: Written + Send + Sync, H: Threads + Wait + Sync, W: Sink, X: Sink>(
-    rt: &H,
-    alloc: Global,
+    resources: &Resources<H>,
     scenario: Scenario,
     writer: &mut W,
     trace: &mut X,
-    workers: u32,
 ) -> Result<(), Fault>
-    requires workers { AreWorkers workers }
-    requires written { AreWrittenIn L.lists scenario }
+    requires { AreWrittenIn L.lists scenario }
     ensures written { OnOk result
         (AreWritten W.Sink writer.old writer.new X.Sink trace.old trace.new scenario) }
     ensures fault { IfErr result
-        (IsWritingFault W.Sink writer.old writer.new X.Sink trace.old trace.new scenario workers) }
+        (IsWritingFault W.Sink writer.old writer.new X.Sink trace.old trace.new scenario resources.now.workers) }
 {
-    match begin::<L>(alloc, scenario)? {
-        Opened::Byte(mut sim) => write_texts(rt, alloc, &mut sim, writer, trace, workers),
-        Opened::Narrow(mut sim) => write_texts(rt, alloc, &mut sim, writer, trace, workers),
-        Opened::Wide(mut sim) => write_texts(rt, alloc, &mut sim, writer, trace, workers),
+    match begin::<L>(resources.alloc, scenario)? {
+        Opened::Byte(mut sim) => write_texts(resources, &mut sim, writer, trace),
+        Opened::Narrow(mut sim) => write_texts(resources, &mut sim, writer, trace),
+        Opened::Wide(mut sim) => write_texts(resources, &mut sim, writer, trace),
     }
 }
 
@@ -164,25 +96,22 @@ fn write_texts<
     W: Sink,
     X: Sink,
 >(
-    rt: &H,
-    alloc: Global,
+    resources: &Resources<H>,
     sim: &mut Sim<T, K>,
     writer: &mut W,
     trace: &mut X,
-    workers: u32,
 ) -> Result<(), Fault>
-    requires workers { AreWorkers workers }
-    requires start { IsAtStart sim.old }
+    requires { IsAtStart sim.old }
     ensures written { OnOk result
         (AreWritten W.Sink writer.old writer.new X.Sink trace.old trace.new sim.old.settings) }
     ensures fault { IfErr result
         (IsWritingFault W.Sink writer.old writer.new X.Sink trace.old trace.new sim.old.settings
-        workers) }
+        resources.now.workers) }
 {
-    report_header(alloc, writer, sim.format())?;
-    trace_header(alloc, trace)?;
+    report_header(resources.alloc, writer, sim.format())?;
+    trace_header(resources.alloc, trace)?;
     for _ in 0..sim.rounds() {
-        write_round(rt, alloc, sim, writer, trace, workers)?;
+        write_round(resources, sim, writer, trace)?;
     }
     Ok(())
 }
@@ -195,22 +124,25 @@ fn write_round<
     W: Sink,
     X: Sink,
 >(
-    rt: &H,
-    alloc: Global,
+    resources: &Resources<H>,
     sim: &mut Sim<T, K>,
     writer: &mut W,
     trace: &mut X,
-    workers: u32,
 ) -> Result<(), Fault>
-    requires workers { AreWorkers workers }
     ensures written { OnOk result
         (WritesNextTexts T.table sim.old sim.new W.Sink writer.old writer.new X.Sink trace.old
         trace.new) }
     ensures fault { IfErr result (IsNextTextsFault T.table sim.old sim.new
-        W.Sink writer.old writer.new X.Sink trace.old trace.new workers) }
+        W.Sink writer.old writer.new X.Sink trace.old trace.new resources.now.workers) }
 {
-    let round = sim.step(rt, workers, &FreeGate)?;
+    let round = sim.step(resources.rt, resources.workers, &FreeGate)?;
     let row = round.row();
-    write_trace_rows(alloc, trace, row.round, round.list(), round.records())?;
-    write_report_row(alloc, writer, sim.format(), &row)
+    write_trace_rows(
+        resources.alloc,
+        trace,
+        row.round,
+        round.list(),
+        round.records(),
+    )?;
+    write_report_row(resources.alloc, writer, sim.format(), &row)
 }

@@ -1,6 +1,6 @@
 -- A round, from the tables with which it begins to those that its exchanges leave.
 -- Serves `Cluster::play`.
-use Rattle.std.proofs.Common.{◌≡◌, ℕ, ◌+◌, ◌-◌, ◌≤◌, All, List, [], length, map, sym, ap, ◌∙◌, subst, arith}
+use Rattle.std.proofs.Common.{◌≡◌, ℕ, ◌-◌, ◌≤◌, All, List, [], length, map, sym, ap, ◌∙◌, subst, arith}
 use Rattle.std.proofs.lemmas.List.{length-map}
 use Rattle.bench_types.specs.calls.Budget.{IsLawfulBudget}
 use Rattle.bench_types.specs.calls.Exchange.{IsPlanned}
@@ -19,7 +19,6 @@ use Rattle.model.proofs.Tables.{cluster_of}
 use Rattle.model.specs.RoundLists.{RoundListView}
 use Rattle.model.specs.calls.RoundLists.{IsRoundPlan}
 use Rattle.round_plan.specs.Plan.{round_list_of}
-use Rattle.round_plan.specs.calls.Words.{RunWordsView, run_words_of}
 use Rattle.scenario.specs.Settings.{Settings, IsBudgetOf, IsLawfulScenario}
 use Rattle.model.specs.Figures.{figures_of}
 use Rattle.model.specs.calls.OwnerListView.{OwnerListView, lists_in}
@@ -107,12 +106,6 @@ is_left table s round list rules before old new records lists lawful first plan 
 
     left : map table new ≡ tables_after s round
     left = left_after s round before (map table new) records first after (round_is s round list plan list_is rules old (map table new) records exchanged before begun_is rules_are)
-
--- the words of the round
-pub next_words_of : (s : Settings) (round : ℕ) → 1 ≤ round → (old new : RunWordsView) → new ≡ record old { round = old.round + 1 } → old ≡ run_words_of s (round - 1) → new ≡ run_words_of s round
-next_words_of s round first old new more is =
-    let e : round - 1 + 1 ≡ round = omega (arith, first) in
-    more ∙ ap (λ (v : RunWordsView). record v { round = v.round + 1 }) is ∙ ap (run_words_of s) e
 
 -- all that a round came to
 pub played_is : (s : Settings) (round : ℕ) (old new : List Table) (lists : List OwnerListView) (list : RoundListView) (records : List Record) (lag : Figures) (played : RoundView)

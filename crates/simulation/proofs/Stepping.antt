@@ -21,8 +21,8 @@ use Rattle.model.specs.Folds.{Folded}
 use Rattle.bench_types.specs.declared.entries.Entry.{Entry}
 use Rattle.bench_types.specs.declared.exchanges.Record.{Record}
 use Rattle.simulation.specs.Soundness.{AreSound, OnlyRestartsLowerMarks}
-use Rattle.round_plan.specs.calls.Words.{run_words_of}
 use Rattle.simulation.specs.inner.Insides.{IsInside, IsAfterRound, HasPlayed, simulation_of, tables_held, lists_held}
+use Rattle.simulation.specs.inner.Plans.{IsDrawnAfter}
 use Rattle.simulation.specs.calls.Simulation.{PlaysNext}
 use Rattle.round_plan.specs.Plan.{round_list_of}
 use Rattle.simulation.proofs.Soundness.{sound_run, round_rises}
@@ -81,7 +81,7 @@ module _ {T H : Type 0} (table : T → Table) (lists : H → List OwnerListView)
     standing = subst (λ c. StandAfterRound s done (map table (tables_held c)) (lists_held lists c)) is (so_far.simulation.standing unbroken);
     tables = before;
     ended = subst (λ c. IfSome c (λ d. Ended d.histories done)) is so_far.ended;
-    words = subst (λ c. IfSome c (λ d. d.words ≡ run_words_of s done)) is so_far.words;
+    drawn = subst (λ c. IfSome c (λ d. IsDrawnAfter s done d.drawn)) is so_far.drawn;
   })
 
   module _ (standing : StandAfterRound s (done + 1) (map table new.tables.items) (lists new.histories)) (after : map table new.tables.items ≡ tables_after s (done + 1)) where

@@ -1,3 +1,4 @@
 pub mod Insides
 pub mod Steps
 pub mod InMemory
+pub mod Plans

@@ -10,15 +10,15 @@ ghost use Rattle.round_plan.specs.calls.Words.{run_words_of, AreWordsOf};
 ghost use Rattle.simulation.specs.Rounds.{opening_tables, after_restart, rules_of};
 ghost use Rattle.simulation.specs.inner.InMemory.{IsBeforeRound, IsBegun, AreBegun, LeavesOthers, TablesStand, IsOwnerIn, IsRestartedIn, WritesIn};
 ghost use Rattle.simulation.specs.inner.Insides.{HasPlayed, IsAfterRound};
+ghost use Rattle.simulation.specs.inner.Plans.{IsDrawnAfter, MayDraw};
 ghost use Rattle.simulation.specs.inner.Steps.{IsRoundOf, MayWriteOwn};
 
+use crate::plans::{Drawn, Plan, drawn_after};
 use crate::rounds::Round;
 use bench_types::limits::MOST_ROUNDS;
 use bench_types::{Fault, Rules};
 use model::MemoryTable;
-use round_plan::{
-    OwnWrite, ROUND_WORDS, RunWords, forgets_now, restarts_now, round_list_by, writes_by,
-};
+use round_plan::{OwnWrite, ROUND_WORDS, RunWords, forgets_now, restarts_now, writes_by};
 use round_tables::RoundHistories;
 use scenario::Scenario;
 use std::alloc::Global;
@@ -26,12 +26,12 @@ use std::sync::Wait;
 use std::thread::Threads;
 use workers::{Gate, Work, run_list_with};
 
-/// What all nodes hold, what each has written, and their words of the last round.
+/// What all nodes hold, what each has written, and what is drawn of the rounds.
 #[derive(Drop)]
 pub(crate) struct Cluster<T: MemoryTable, H: RoundHistories<T>> {
     pub(crate) tables: Vec<T>,
     histories: H,
-    words: RunWords,
+    drawn: Drawn,
 }
 
 impl<T: MemoryTable + Send + Sync, H: RoundHistories<T>> Cluster<T, H> {
@@ -42,40 +42,13 @@ impl<T: MemoryTable + Send + Sync, H: RoundHistories<T>> Cluster<T, H> {
         Ok(Cluster {
             tables: empty_tables::<T, H>(alloc, scenario)?,
             histories: H::new(alloc, scenario.nodes())?,
-            words: RunWords::new(alloc, scenario)?,
+            drawn: Drawn::Words(RunWords::new(alloc, scenario)?),
         })
-    }
-
-    // What a round begins with: its restarts and its writes, by node, by the words of the round.
-    fn begin(&mut self, scenario: &Scenario, round: u32) -> Result<(), Fault>
-        requires round { IsRoundOf H.may_write scenario.now round }
-        requires ended { H.has_ended self.old.histories (round - 1) }
-        requires words { self.old.words ≡ run_words_of scenario.now round }
-        requires standing { TablesStand T.table H.lists scenario.now (round - 1)
-            self.old.tables.items self.old.histories }
-        ensures standing { OnOk result
-            (TablesStand T.table H.lists scenario.now round self.new.tables.items self.new.histories) }
-        ensures tables { OnOk result (AreBegun T.table scenario.now round self.old.tables.items self.new.tables.items) }
-        ensures ended { OnOk result (H.has_ended self.new.histories round) }
-        ensures words { self.new.words ≡ run_words_of scenario.now round }
-        ensures only { IsOkUnless result OutOfMemory }
-    {
-        for node in 0..scenario.nodes() {
-            begin_node(
-                scenario,
-                node,
-                &mut self.tables[node as usize],
-                &mut self.histories,
-                self.words.of_node(node),
-                round,
-            )?;
-        }
-        self.histories.end_writes(round)
     }
 
     /// A round. Where it fails, the tables are given up.
     pub(crate) fn play<R: Threads + Wait + Sync, G: Gate + Sync>(
-        mut self,
+        self,
         rt: &R,
         alloc: Global,
         scenario: &Scenario,
@@ -91,14 +64,13 @@ impl<T: MemoryTable + Send + Sync, H: RoundHistories<T>> Cluster<T, H> {
         ensures played { IfOk result (λ p. HasPlayed T.table H.lists scenario.now round self p.0 p.1) }
         ensures fault { IfErr result (IsFaultOfWorkers workers) }
     {
-        self.words.next_round();
-        self.begin(scenario, round)?;
-        let list = round_list_by(alloc, scenario, round, &self.words)?;
         let Cluster {
             tables,
             histories,
-            words,
+            drawn,
         } = self;
+        let Plan { words, list } = drawn.plan(alloc, scenario, round)?;
+        let (begun, histories) = begin(scenario, tables, histories, &words, round)?;
         histories.stand_ready(round);
         let rules = rules_of(scenario);
         let work = Work {
@@ -106,15 +78,22 @@ impl<T: MemoryTable + Send + Sync, H: RoundHistories<T>> Cluster<T, H> {
             list: &list,
             rules: &rules,
             gate,
+            workers,
         };
-        let (tables, records) = run_list_with(rt, alloc, work, tables, workers)?;
+        let draw = move || -> Result<Drawn, Fault>
+            requires { MayDraw scenario.now round words }
+            ensures drawn { IfOk result (IsDrawnAfter scenario.entry.now round) }
+            ensures only { IsOkUnless result OutOfMemory }
+        { drawn_after(words, alloc, scenario, round, workers) };
+        let (tables, records, drawn) = run_list_with(rt, alloc, work, begun, draw)?;
+        let drawn = drawn?;
         let lag = histories.figures(rt, alloc, &tables, round, workers)?;
         let played = Round::of(round, list, records, lag);
         Ok((
             Cluster {
                 tables,
                 histories,
-                words,
+                drawn,
             },
             played,
         ))
@@ -147,6 +126,58 @@ fn empty_tables<T: MemoryTable, H: RoundHistories<T>>(
         tables.push(H::empty_table(alloc, node, nodes, keys)?)?;
     }
     Ok(tables)
+}
+
+// What a round begins with, of all nodes and their histories.
+fn begin<T: MemoryTable, H: RoundHistories<T>>(
+    scenario: &Scenario,
+    mut tables: Vec<T>,
+    mut histories: H,
+    words: &RunWords,
+    round: u32,
+) -> Result<(Vec<T>, H), Fault>
+    requires round { IsRoundOf H.may_write scenario.now round }
+    requires words { words.now ≡ run_words_of scenario.now round }
+    requires ended { H.has_ended histories (round - 1) }
+    requires standing { TablesStand T.table H.lists scenario.now (round - 1) tables.items histories }
+    ensures standing { IfOk result (λ p. TablesStand T.table H.lists scenario.now round p.0.items p.1) }
+    ensures tables { IfOk result (λ p. AreBegun T.table scenario.now round tables.items p.0.items) }
+    ensures ended { IfOk result (λ p. H.has_ended p.1 round) }
+    ensures only { IsOkUnless result OutOfMemory }
+{
+    begin_round(scenario, &mut tables, &mut histories, words, round)?;
+    Ok((tables, histories))
+}
+
+// What a round begins with: its restarts and its writes, by node.
+fn begin_round<T: MemoryTable, H: RoundHistories<T>>(
+    scenario: &Scenario,
+    tables: &mut [T],
+    histories: &mut H,
+    words: &RunWords,
+    round: u32,
+) -> Result<(), Fault>
+    requires round { IsRoundOf H.may_write scenario.now round }
+    requires words { words.now ≡ run_words_of scenario.now round }
+    requires ended { H.has_ended histories.old (round - 1) }
+    requires standing { TablesStand T.table H.lists scenario.now (round - 1) tables.old histories.old }
+    ensures standing { OnOk result (TablesStand T.table H.lists scenario.now round tables.new histories.new) }
+    ensures tables { OnOk result (AreBegun T.table scenario.now round tables.old tables.new) }
+    ensures ended { OnOk result (H.has_ended histories.new round) }
+    ensures only { IsOkUnless result OutOfMemory }
+{
+    for node in 0..scenario.nodes() {
+        let at = node as usize;
+        begin_node(
+            scenario,
+            node,
+            &mut tables[at],
+            histories,
+            words.of_node(node),
+            round,
+        )?;
+    }
+    histories.end_writes(round)
 }
 
 // What a node begins a round with: its restarts, and then its writes. No other node's table or list matters

@@ -17,6 +17,7 @@
 
 mod clusters;
 mod laws;
+mod plans;
 mod rounds;
 mod sims;
 

@@ -20,7 +20,7 @@ use std::thread::Threads;
 ///
 /// With one worker no thread is started, and the list is done in order. With more, each is a thread of its
 /// own, also where the list has fewer exchanges, and all have ended when this returns. It waits for them, so
-/// no contract says that it returns.
+/// no contract says that it returns. Before it waits, it calls `meanwhile`; with one worker it does so first.
 ///
 /// An error is lack of memory (`OutOfMemory`), or with more than one worker that a thread couldn't be
 /// started (`NoThread`), which goes before a worker's lack of memory. The tables are then given up.
@@ -32,24 +32,29 @@ pub fn run_list_with<
     T: MemoryTable + Send + Sync,
     X: Exchanging<T>,
     G: Gate + Sync,
+    F: FnOnce() -> M + Drop,
+    M: Drop,
 >(
     rt: &R,
     alloc: Global,
     work: Work<X, G>,
     mut tables: Vec<T>,
-    workers: u32,
-) -> Result<(Vec<T>, Vec<Record>), Fault>
-    requires workers { AreWorkers workers }
+    meanwhile: F,
+) -> Result<(Vec<T>, Vec<Record>, M), Fault>
+    requires workers { AreWorkers work.workers }
     requires tables { MayCarryOut (X.fits work.shared.now) work.rules.now work.list.now.nodes
         (map T.table tables.items) }
+    requires meanwhile { F.pre meanwhile }
     ensures exchanged { IfOk result (λ p. AreExchanged T.table work.entry.rules.now work.entry.list.now.exchanges
         tables.items p.0.items p.1.items) }
-    ensures fault { IfErr result (IsFaultOfWorkers workers) }
+    ensures made { IfOk result (λ p. F.post meanwhile p.2) }
+    ensures fault { IfErr result (IsFaultOfWorkers work.entry.workers) }
 {
-    if workers == 1 {
+    if work.workers == 1 {
+        let made = meanwhile();
         let records = exchange_all(alloc, work, &mut tables)?;
-        Ok((tables, records))
+        Ok((tables, records, made))
     } else {
-        exchange_in_threads::<Brand, R, T, X, G>(rt, alloc, work, tables, workers)
+        exchange_in_threads::<Brand, R, T, X, G, F, M>(rt, alloc, work, tables, meanwhile)
     }
 }

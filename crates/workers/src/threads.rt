@@ -37,27 +37,32 @@ impl<T: MemoryTable> Promise<Returned<T>> for Back<T> {
 
 type Handle<T> = PromisedHandle<Returned<T>, Back<T>>;
 
-/// Carries out the exchanges of the list by so many workers, each in a thread. A type knows how long the list is.
+/// Carries out the exchanges of the list by several workers, each in a thread, and calls `meanwhile` once they are
+/// started. A type knows how long the list is.
 pub(crate) fn exchange_in_threads<
     L: Limit + Send + Sync,
     R: Threads + Wait + Sync,
     T: MemoryTable + Send + Sync,
     X: Exchanging<T>,
     G: Gate + Sync,
+    F: FnOnce() -> M + Drop,
+    M: Drop,
 >(
     rt: &R,
     alloc: Global,
     work: Work<X, G>,
     tables: Vec<T>,
-    workers: u32,
-) -> Result<(Vec<T>, Vec<Record>), Fault>
+    meanwhile: F,
+) -> Result<(Vec<T>, Vec<Record>, M), Fault>
     requires limit { L.limit ≡ length work.list.now.exchanges }
-    requires several { AreSeveral workers }
+    requires several { AreSeveral work.workers }
     requires tables { MayWorkOn T.table X.fits work tables.items }
+    requires meanwhile { F.pre meanwhile }
     ensures exchanged { IfOk result (λ p. HasWorkedOn T.table work.entry tables.items p.0.items p.1.items) }
-    ensures fault { IfErr result (IsFaultOfWorkers workers) }
+    ensures made { IfOk result (λ p. F.post meanwhile p.2) }
+    ensures fault { IfErr result (IsFaultOfWorkers work.entry.workers) }
 {
-    let (board, seat, tasks) = begin::<L, T>(alloc, work.list, tables, workers, work.rules)?;
+    let (board, seat, tasks) = begin::<L, T>(alloc, work.list, tables, work.workers, work.rules)?;
     let shop = Workshop {
         alloc,
         board: &board,
@@ -66,8 +71,9 @@ pub(crate) fn exchange_in_threads<
         rules: work.rules,
         gate: work.gate,
     };
-    let (seat, stamps) = run_workers(rt, &shop, seat, tasks)?;
-    end(alloc, work.list, board, seat, &stamps)
+    let (seat, stamps, made) = run_workers(rt, &shop, seat, tasks, meanwhile)?;
+    let (tables, records) = end(alloc, work.list, board, seat, &stamps)?;
+    Ok((tables, records, made))
 }
 
 // A board of the list and the tables with its first seat, and the tasks of so many workers.
@@ -112,35 +118,43 @@ fn end<T: MemoryTable>(
     Ok((tables, records))
 }
 
-// Starts a thread for each worker and joins them all. Answers the whole seat, and the records of the workers.
+// Starts a thread for each worker, calls `meanwhile` and joins them all. Answers the whole seat, the records of the
+// workers and what the call gave.
 fn run_workers<
     L: Limit + Send + Sync,
     R: Threads + Wait + Sync,
     T: MemoryTable + Send + Sync,
     X: Exchanging<T>,
     G: Gate + Sync,
+    F: FnOnce() -> M + Drop,
+    M: Drop,
 >(
     rt: &R,
     shop: &Workshop<T, X, G>,
     seat: Seat<T>,
     tasks: Vec<Tasks<L>>,
-) -> Result<(Seat<T>, Vec<Stamped>), Fault>
+    meanwhile: F,
+) -> Result<(Seat<T>, Vec<Stamped>, M), Fault>
     requires shop { IsWorkshop T.table X.fits shop.now }
     requires limit { L.limit ≡ length shop.now.list.now.exchanges }
     requires begin { MaySplit T.table shop.now.board.now seat (vec_len tasks) }
-    ensures made { IfOk result (λ p. HasSeenAll T.table shop.now.board.now p.0 p.1.items) }
+    requires meanwhile { F.pre meanwhile }
+    ensures seen { IfOk result (λ p. HasSeenAll T.table shop.now.board.now p.0 p.1.items) }
+    ensures made { IfOk result (λ p. F.post meanwhile p.2) }
     ensures fault { IfErr result (IsFaultOfWorkers (vec_len tasks)) }
 {
     thread::scope(
         thread::scope_env(),
         rt,
-        |scope| -> Result<(Seat<T>, Vec<Stamped>), Fault>
+        |scope| -> Result<(Seat<T>, Vec<Stamped>, M), Fault>
             requires shop { IsWorkshop T.table X.fits shop.now }
             requires limit { L.limit ≡ length shop.now.list.now.exchanges }
             requires begin { MaySplit T.table shop.now.board.now seat (vec_len tasks) }
-            ensures made { IfOk result (λ p. HasSeenAll T.table shop.entry.now.board.now p.0 p.1.items) }
+            requires meanwhile { F.pre meanwhile }
+            ensures seen { IfOk result (λ p. HasSeenAll T.table shop.entry.now.board.now p.0 p.1.items) }
+            ensures made { IfOk result (λ p. F.post meanwhile p.2) }
             ensures fault { IfErr result (IsFaultOfWorkers (vec_len tasks)) }
-        { run_in_scope(scope, rt, shop, seat, tasks) },
+        { run_in_scope(scope, rt, shop, seat, tasks, meanwhile) },
     )
 }
 
@@ -153,17 +167,22 @@ fn run_in_scope<
     T: MemoryTable + Send + Sync,
     X: Exchanging<T>,
     G: Gate + Sync,
+    F: FnOnce() -> M + Drop,
+    M: Drop,
 >(
     scope: &Scope<'s, &'e ()>,
     rt: &'e R,
     shop: &'e Workshop<'e, T, X, G>,
     mut seat: Seat<T>,
     tasks: Vec<Tasks<L>>,
-) -> Result<(Seat<T>, Vec<Stamped>), Fault>
+    meanwhile: F,
+) -> Result<(Seat<T>, Vec<Stamped>, M), Fault>
     requires shop { IsWorkshop T.table X.fits shop.now }
     requires limit { L.limit ≡ length shop.now.list.now.exchanges }
     requires begin { MaySplit T.table shop.now.board.now seat (vec_len tasks) }
-    ensures made { IfOk result (λ p. HasSeenAll T.table shop.now.board.now p.0 p.1.items) }
+    requires meanwhile { F.pre meanwhile }
+    ensures seen { IfOk result (λ p. HasSeenAll T.table shop.now.board.now p.0 p.1.items) }
+    ensures made { IfOk result (λ p. F.post meanwhile p.2) }
     ensures fault { IfErr result (IsFaultOfWorkers (vec_len tasks)) }
 {
     let mut handles = Vec::with_capacity(shop.alloc, tasks.len())?;
@@ -171,11 +190,12 @@ fn run_in_scope<
     if started.is_err() {
         shop.board.stop(&mut seat);
     }
+    let made = meanwhile();
     let joined = join_all(rt, shop.alloc, shop.board, &mut seat, handles);
     let stamps = outcome_of(started, joined)?;
     // A whole seat, so it learns that all exchanges are put back.
     shop.board.look(&mut seat);
-    Ok((seat, stamps))
+    Ok((seat, stamps, made))
 }
 
 // What both came to. That a thread couldn't be started goes before what the others met.

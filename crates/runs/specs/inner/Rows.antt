@@ -1,7 +1,6 @@
 -- The next round of a simulation and what is written of it: its row in a comparison, or its lines in the trace and
 -- behind them its row in the report. `sim` and `sim'` are the simulation before and after. Source: this project.
 use Rattle.std.specs.Prelude.{◌≡◌, ℕ, ◌⊎◌, List}
-use Rattle.bench_types.specs.declared.exchanges.Mode.{Mode}
 use Rattle.bench_types.specs.declared.faults.Fault.{Fault}
 use Rattle.bench_types.specs.declared.sinks.Sink.{Ghosts as Sink}
 use Rattle.bench_types.specs.Output.{IsWritten, IsWriteFault}
@@ -14,19 +13,19 @@ use Rattle.scenario.specs.Settings.{Settings}
 use Rattle.simulation.specs.calls.RoundView.{RoundView}
 use Rattle.simulation.specs.calls.Simulation.{SimView, PlaysNext, IsStepFault}
 
-module _ {T W : Type 0} (table : T → Table) (sim sim' : SimView T) (sink : Sink W) (old new : W) (mode : Mode) where
+module _ {T W : Type 0} (table : T → Table) (sim sim' : SimView T) (sink : Sink W) (old new : W) where
   -- it was played, and its row in the comparison was written
   pub record WritesNextRow : Type 0 where
     pub round : RoundView
     pub played : PlaysNext table sim sim' round
-    pub row : IsWritten sink old new (compare_line sim'.settings.format mode round.row)
+    pub row : IsWritten sink old new (compare_line sim'.settings.format sim'.settings.mode round.row)
 
   -- it wasn't played, or writing its row came to this fault
   abbrev pub IsNextRowFault : ℕ → Fault → Type 0
   IsNextRowFault workers fault =
       (IsStepFault workers sim sim' fault × (new ≡ old))
       ⊎ ((round : RoundView) × PlaysNext table sim sim' round
-      × IsWriteFault sink old new (compare_line sim'.settings.format mode round.row) fault)
+      × IsWriteFault sink old new (compare_line sim'.settings.format sim'.settings.mode round.row) fault)
 
 -- the lines of all rounds of a scenario in the comparison, under its own mode
 abbrev pub all_lines : Settings → List ℕ

@@ -1,8 +1,8 @@
 -- What stands before the first round: a simulation, and a sink. Source: this project.
 use Rattle.std.specs.Prelude.{◌≡◌, true, false}
 use Rattle.bench_types.specs.declared.sinks.Sink.{Ghosts as Sink}
-use Rattle.runs.specs.declared.runs.Opened.{Opened}
-use Rattle.runs.specs.declared.runs.Opened.TheVariants.{Byte, Narrow, Wide}
+use Rattle.runs.specs.declared.openings.Opened.{Opened}
+use Rattle.runs.specs.declared.openings.Opened.TheVariants.{Byte, Narrow, Wide}
 use Rattle.scenario.specs.Settings.{Settings}
 use Rattle.simulation.specs.calls.Simulation.{SimView}
 

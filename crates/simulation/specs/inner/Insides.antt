@@ -8,9 +8,9 @@ use Rattle.simulation.specs.declared.clusters.Cluster.{Cluster}
 use Rattle.model.specs.Table.{Table}
 use Rattle.scenario.specs.Settings.{Settings}
 use Rattle.model.specs.calls.OwnerListView.{OwnerListView}
-use Rattle.round_plan.specs.calls.Words.{run_words_of}
 use Rattle.simulation.specs.calls.RoundView.{RoundView}
 use Rattle.simulation.specs.Rounds.{tables_after}
+use Rattle.simulation.specs.inner.Plans.{IsDrawnAfter}
 use Rattle.simulation.specs.inner.Steps.{IsPlayedFrom}
 use Rattle.simulation.specs.calls.Standing.{StandAfterRound}
 use Rattle.simulation.specs.calls.Simulation.{AreTablesAfter, MayWriteAll, SimView}
@@ -47,13 +47,13 @@ pub record IsSimulation {T : Type 0} (table : T → Table) (v : SimView T) : Typ
   pub standing : v.broken ≡ false → StandAfterRound v.settings v.rounds_done (map table v.tables) v.lists
   pub tables : AreTablesAfter table v v.tables
 
--- and what lies in it: histories of which so many rounds have ended, and the words of the last of them; the tables may
--- hold what the run writes
+-- and what lies in it: histories of which so many rounds have ended, and what is drawn after the last of them; the
+-- tables may hold what the run writes
 pub record IsInside {T H : Type 0} (table : T → Table) (lists : H → List OwnerListView) (Ended : H → ℕ → Type 0)
     (May : ℕ → ℕ → Entry → Type 0) (s : Settings) (cluster : Option (Cluster T H)) (done : ℕ) : Type 0 where
   pub simulation : IsSimulation table (simulation_of lists s cluster done)
   pub ended : IfSome cluster (λ c. Ended c.histories done)
-  pub words : IfSome cluster (λ c. c.words ≡ run_words_of s done)
+  pub drawn : IfSome cluster (λ c. IsDrawnAfter s done c.drawn)
   pub may_write : MayWriteAll May s
 
 -- what a round of a cluster answers
@@ -63,10 +63,10 @@ HasPlayed table lists s round old new =
     IsPlayedFrom s round (tables_of table old) (tables_of table new) (lists new.histories)
 
 -- a cluster after a round: what its nodes hold and have written is what the definition gives, its histories have ended
--- the round, and its words are those of the round
+-- the round, and what is drawn is that of the round or of the next one
 pub record IsAfterRound {T H : Type 0} (table : T → Table) (lists : H → List OwnerListView) (Ended : H → ℕ → Type 0)
     (s : Settings) (round : ℕ) (c : Cluster T H) : Type 0 where
   pub standing : StandAfterRound s round (tables_of table c) (lists c.histories)
   pub tables : tables_of table c ≡ tables_after s round
   pub ended : Ended c.histories round
-  pub words : c.words ≡ run_words_of s round
+  pub drawn : IsDrawnAfter s round c.drawn

@@ -1,6 +1,6 @@
 use Rattle.std.proofs.Common.{◌+◌, arith}
 use Rattle.runs.proofs.Numbers.{may_write_all, below_more}
-use Rattle.runs.proofs.runs.begin.Goals as goal
+use Rattle.runs.proofs.openings.begin.Goals as goal
 
 pub open-requires-clause-may_write : goal.open-requires-clause-may_write
 open-requires-clause-may_write g c κs within =

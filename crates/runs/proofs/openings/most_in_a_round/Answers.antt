@@ -3,7 +3,7 @@ use Rattle.std.proofs.lemmas.Bool.{cases_lt}
 use Rattle.std.proofs.lemmas.List.{get_or_default}
 use Rattle.scenario.specs.declared.elements.Load.{Load}
 use Rattle.runs.proofs.Numbers.{writes_in_at_most}
-use Rattle.runs.proofs.runs.most_in_a_round.Goals as goal
+use Rattle.runs.proofs.openings.most_in_a_round.Goals as goal
 
 pub loop-place-init : goal.loop-place-init
 loop-place-init c = record {

@@ -1,2 +1,2 @@
 use Rattle.std.proofs.Common.{arith}
-use Rattle.runs.proofs.runs.most_in_a_run.Goals as goal
+use Rattle.runs.proofs.openings.most_in_a_run.Goals as goal

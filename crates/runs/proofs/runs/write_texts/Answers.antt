@@ -6,7 +6,7 @@ use Rattle.runs.proofs.runs.write_texts.Goals as goal
 pub returns-in_err-write_round-clause-fault : goal.returns-in_err-write_round-clause-fault
 returns-in_err-write_round-clause-fault g c =
     at_fault c.from_residual-in_err-write_round.result c.in_err-write_round.field-0.0 _ c.from_residual-in_err-write_round.ensures.1
-    (stops_at_round g.W.Sink _ _ g.X.Sink _ _ _ _ _ c.loop.invariant g.T.MemoryTable.table _ _ _ c.args.workers _ (omega (arith, c.loop-test.true, c.rounds-end.ensures)) c.in_err-write_round.ensures.fault)
+    (stops_at_round g.W.Sink _ _ g.X.Sink _ _ _ _ _ c.loop.invariant g.T.MemoryTable.table _ _ _ c.args.resources.now.workers _ (omega (arith, c.loop-test.true, c.rounds-end.ensures)) c.in_err-write_round.ensures.fault)
 
 pub loop-preserved : goal.loop-preserved
 loop-preserved g c =

@@ -1,4 +1,4 @@
-use Rattle.std.proofs.Common.{sym, ap, subst, IfOk}
+use Rattle.std.proofs.Common.{sym, ap, subst}
 use Rattle.board.specs.Plan.{BoardPlan}
 use Rattle.workers.specs.inner.Joined.{IsEndOf, HasSeenAll}
 use Rattle.workers.proofs.Ordered.{is_workshop}
@@ -12,8 +12,9 @@ pub end-requires-clause-list : goal.end-requires-clause-list
 end-requires-clause-list g c = ap (λ (p : BoardPlan). p.list) c.in_ok-board.ensures.board
 
 pub end-requires-clause-seen : goal.end-requires-clause-seen
-end-requires-clause-seen g c = subst (HasSeenAll g.T.MemoryTable.table c.in_ok-board.board c.in_ok-seat.seat) (sym c.deref.ensures.value) c.in_ok-seat.ensures.made
+end-requires-clause-seen g c = subst (HasSeenAll g.T.MemoryTable.table c.in_ok-board.board c.in_ok-seat.seat) (sym c.deref.ensures.value) c.in_ok-seat.ensures.seen
 
 pub returns-clause-exchanged : goal.returns-clause-exchanged
 returns-clause-exchanged g c =
-    subst (λ plan. IfOk c.end.result (λ p. IsEndOf g.T.MemoryTable.table plan p.0.items p.1.items)) c.in_ok-board.ensures.board c.end.ensures.ended
+    subst (λ plan. IsEndOf g.T.MemoryTable.table plan c.in_ok-tables.tables.items c.in_ok-tables.records.items) c.in_ok-board.ensures.board
+    c.in_ok-tables.ensures.ended

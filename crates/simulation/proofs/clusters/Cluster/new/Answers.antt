@@ -9,5 +9,5 @@ returns-clause-opens g c = record {
   standing = standing_opening c.args.scenario.now (map g.T.MemoryTable.table c.in_ok-empty_tables.field-0.items) (g.H.RoundHistories.lists c.in_ok-new.field-0) c.in_ok-empty_tables.ensures.proper c.in_ok-empty_tables.ensures.tables (c.in_ok-new.ensures.count ∙ c.nodes.ensures.value) c.in_ok-new.ensures.empty;
   tables = c.in_ok-empty_tables.ensures.tables;
   ended = c.in_ok-new.ensures.ended;
-  words = c.in_ok-new-2.ensures.before;
+  drawn = c.in_ok-new-2.ensures.before;
 }

@@ -1,4 +1,4 @@
-use Rattle.std.proofs.Common.{map, subst, sym, ap, ◌∙◌, arith}
+use Rattle.std.proofs.Common.{map, subst, sym, ap, ◌∙◌, IfOk}
 use Rattle.bench_types.specs.calls.Budget.{IsLawfulBudget}
 use Rattle.bench_types.specs.declared.exchanges.Rules.{Rules}
 use Rattle.model.specs.calls.Tables.{IsCluster}
@@ -6,31 +6,31 @@ use Rattle.model.specs.calls.OwnerListView.{lists_in}
 use Rattle.model.specs.Figures.{figures_of}
 use Rattle.model.specs.RoundLists.{RoundListView}
 use Rattle.model.specs.calls.RoundLists.{IsRoundPlan}
-use Rattle.round_plan.specs.calls.Words.{RunWordsView}
-use Rattle.simulation.proofs.Playing.{IsLeft, next_words_of, lawful_budget, is_left, each_begun, nodes_cluster, standing_cluster, one_list_each, one_record_each, round_is, played_is}
+use Rattle.simulation.specs.inner.Plans.{IsDrawnAfter}
+use Rattle.simulation.proofs.Playing.{IsLeft, lawful_budget, is_left, each_begun, nodes_cluster, standing_cluster, one_list_each, one_record_each, round_is, played_is}
 use Rattle.simulation.proofs.Standing.{written_by}
 use Rattle.simulation.proofs.clusters.Cluster.play.Given as given
 use Rattle.simulation.proofs.clusters.Cluster.play.Goals as goal
 
 pub stand_ready-requires-clause-written : goal.stand_ready-requires-clause-written
-stand_ready-requires-clause-written g c = written_by c.args.scenario.now c.args.round _ _ c.in_ok-begin.ensures.standing
+stand_ready-requires-clause-written g c = written_by c.args.scenario.now c.args.round _ _ c.in_ok-begun.ensures.standing
 
 -- each table stands among the lists as the exchanges begin
 pub run_list_with-requires-clause-tables : goal.run_list_with-requires-clause-tables
 run_list_with-requires-clause-tables g c _ _ = record {
   cluster =
-      subst (λ n. IsCluster n (map g.T.MemoryTable.table c.begin.new.self.tables.items)) (sym (ap (λ (l : RoundListView). l.nodes) c.in_ok-list.ensures.plan))
-      (nodes_cluster g.T.MemoryTable.table c.args.scenario.now c.args.round c.begin.new.self.tables.items (g.H.RoundHistories.lists c.begin.new.self.histories) c.in_ok-begin.ensures.standing);
+      subst (λ n. IsCluster n (map g.T.MemoryTable.table c.in_ok-begun.begun.items)) (sym (ap (λ (l : RoundListView). l.nodes) c.in_ok-words.ensures.plan.list))
+      (nodes_cluster g.T.MemoryTable.table c.args.scenario.now c.args.round c.in_ok-begun.begun.items (g.H.RoundHistories.lists c.in_ok-begun.histories) c.in_ok-begun.ensures.standing);
   each_fits = λ n lt.
-      c.stand_ready.ensures _ (each_begun c.args.scenario.now c.args.round _ _ _ c.requires.lawful c.requires.round.first c.requires.before.tables c.in_ok-begin.ensures.tables c.in_ok-begin.ensures.standing n lt);
+      c.stand_ready.ensures _ (each_begun c.args.scenario.now c.args.round _ _ _ c.requires.lawful c.requires.round.first c.requires.before.tables c.in_ok-begun.ensures.tables c.in_ok-begun.ensures.standing n lt);
   budget = subst (λ (r : Rules). IsLawfulBudget r.budget) (sym c.rules_of-rules.ensures) (lawful_budget c.args.scenario.now.format c.args.scenario.now.budget c.requires.lawful.budget);
 }
 
 -- the tables as the figures read them, and the lists
-read : (g : given.Over) (c : goal.After-deref g) → IsLeft g.T.MemoryTable.table c.args.scenario.now c.args.round c.deref.result.now (g.H.RoundHistories.lists c.begin.new.self.histories)
+read : (g : given.Over) (c : goal.After-deref g) → IsLeft g.T.MemoryTable.table c.args.scenario.now c.args.round c.deref.result.now (g.H.RoundHistories.lists c.in_ok-begun.histories)
 read g c =
-    subst (λ ts. IsLeft g.T.MemoryTable.table c.args.scenario.now c.args.round ts (g.H.RoundHistories.lists c.begin.new.self.histories)) (sym c.deref.ensures.value)
-    (is_left g.T.MemoryTable.table c.args.scenario.now c.args.round c.in_ok-list.list _ _ _ c.in_ok-tables.tables.items c.in_ok-tables.records.items _ c.requires.lawful c.requires.round.first (subst IsRoundPlan c.list.view_is c.list.invariant) c.in_ok-list.ensures.plan c.rules_of-rules.ensures c.requires.before.tables c.in_ok-begin.ensures.tables c.in_ok-begin.ensures.standing c.in_ok-tables.ensures.exchanged)
+    subst (λ ts. IsLeft g.T.MemoryTable.table c.args.scenario.now c.args.round ts (g.H.RoundHistories.lists c.in_ok-begun.histories)) (sym c.deref.ensures.value)
+    (is_left g.T.MemoryTable.table c.args.scenario.now c.args.round c.in_ok-words.field-0.list _ _ _ c.in_ok-tables.tables.items c.in_ok-tables.records.items _ c.requires.lawful c.requires.round.first (subst IsRoundPlan c.list.view_is c.list.invariant) c.in_ok-words.ensures.plan.list c.rules_of-rules.ensures c.requires.before.tables c.in_ok-begun.ensures.tables c.in_ok-begun.ensures.standing c.in_ok-tables.ensures.exchanged)
 
 pub figures-requires-clause-cluster : goal.figures-requires-clause-cluster
 figures-requires-clause-cluster g c = standing_cluster g.T.MemoryTable.table c.args.scenario.now c.args.round c.deref.result.now _ (read g c).standing
@@ -39,35 +39,29 @@ pub figures-requires-clause-one_list_each : goal.figures-requires-clause-one_lis
 figures-requires-clause-one_list_each g c = one_list_each g.T.MemoryTable.table c.args.scenario.now c.args.round c.deref.result.now _ (read g c).standing
 
 pub figures-requires-clause-written : goal.figures-requires-clause-written
-figures-requires-clause-written g c = written_by c.args.scenario.now c.args.round _ _ c.in_ok-begin.ensures.standing
+figures-requires-clause-written g c = written_by c.args.scenario.now c.args.round _ _ c.in_ok-begun.ensures.standing
 
 pub figures-requires-clause-standing : goal.figures-requires-clause-standing
 figures-requires-clause-standing g c = (read g c).each
 
 pub of-played-requires : goal.of-played-requires
 of-played-requires g c =
-    one_record_each c.args.scenario.now c.args.round c.in_ok-list.list (subst IsRoundPlan c.list.view_is c.list.invariant) c.in_ok-list.ensures.plan _ _ _ c.in_ok-tables.records.items c.in_ok-tables.ensures.exchanged
+    one_record_each c.args.scenario.now c.args.round c.in_ok-words.field-0.list (subst IsRoundPlan c.list.view_is c.list.invariant) c.in_ok-words.ensures.plan.list _ _ _ c.in_ok-tables.records.items c.in_ok-tables.ensures.exchanged
 
 -- what the round leaves
-left : (g : given.Over) (c : goal.After-of-played g) → IsLeft g.T.MemoryTable.table c.args.scenario.now c.args.round c.in_ok-tables.tables.items (g.H.RoundHistories.lists c.begin.new.self.histories)
+left : (g : given.Over) (c : goal.After-of-played g) → IsLeft g.T.MemoryTable.table c.args.scenario.now c.args.round c.in_ok-tables.tables.items (g.H.RoundHistories.lists c.in_ok-begun.histories)
 left g c =
-    is_left g.T.MemoryTable.table c.args.scenario.now c.args.round c.in_ok-list.list _ _ _ c.in_ok-tables.tables.items c.in_ok-tables.records.items _ c.requires.lawful c.requires.round.first (subst IsRoundPlan c.list.view_is c.list.invariant) c.in_ok-list.ensures.plan c.rules_of-rules.ensures c.requires.before.tables c.in_ok-begin.ensures.tables c.in_ok-begin.ensures.standing c.in_ok-tables.ensures.exchanged
+    is_left g.T.MemoryTable.table c.args.scenario.now c.args.round c.in_ok-words.field-0.list _ _ _ c.in_ok-tables.tables.items c.in_ok-tables.records.items _ c.requires.lawful c.requires.round.first (subst IsRoundPlan c.list.view_is c.list.invariant) c.in_ok-words.ensures.plan.list c.rules_of-rules.ensures c.requires.before.tables c.in_ok-begun.ensures.tables c.in_ok-begun.ensures.standing c.in_ok-tables.ensures.exchanged
 
 pub returns-clause-after : goal.returns-clause-after
 returns-clause-after g c =
     let is = left g c in
-    record { standing = is.standing; tables = is.after; ended = c.in_ok-begin.ensures.ended; words = c.begin.ensures.words }
+    record { standing = is.standing; tables = is.after; ended = c.in_ok-begun.ensures.ended; drawn = subst (λ r. IfOk r (IsDrawnAfter c.args.scenario.now c.args.round)) c.in_ok-drawn.was c.in_ok-tables.ensures.made.0 }
 
 pub returns-clause-played : goal.returns-clause-played
 returns-clause-played g c =
-    let lists = g.H.RoundHistories.lists c.begin.new.self.histories in
-    played_is c.args.scenario.now c.args.round (map g.T.MemoryTable.table c.args.self.tables.items) (map g.T.MemoryTable.table c.in_ok-tables.tables.items) lists c.in_ok-list.list c.in_ok-tables.records.items c.in_ok-lag.lag c.of-played.result c.in_ok-list.ensures.plan
-    (round_is c.args.scenario.now c.args.round c.in_ok-list.list (subst IsRoundPlan c.list.view_is c.list.invariant) c.in_ok-list.ensures.plan _ _ _ c.in_ok-tables.records.items c.in_ok-tables.ensures.exchanged (map g.T.MemoryTable.table c.args.self.tables.items) c.in_ok-begin.ensures.tables c.rules_of-rules.ensures)
+    let lists = g.H.RoundHistories.lists c.in_ok-begun.histories in
+    played_is c.args.scenario.now c.args.round (map g.T.MemoryTable.table c.args.self.tables.items) (map g.T.MemoryTable.table c.in_ok-tables.tables.items) lists c.in_ok-words.field-0.list c.in_ok-tables.records.items c.in_ok-lag.lag c.of-played.result c.in_ok-words.ensures.plan.list
+    (round_is c.args.scenario.now c.args.round c.in_ok-words.field-0.list (subst IsRoundPlan c.list.view_is c.list.invariant) c.in_ok-words.ensures.plan.list _ _ _ c.in_ok-tables.records.items c.in_ok-tables.ensures.exchanged (map g.T.MemoryTable.table c.args.self.tables.items) c.in_ok-begun.ensures.tables c.rules_of-rules.ensures)
     (c.in_ok-lag.ensures.figures ∙ ap (λ ts. figures_of c.args.round (map g.T.MemoryTable.table ts) (lists_in lists)) c.deref.ensures.value)
     c.of-played.ensures
-
-pub next_round-requires : goal.next_round-requires
-next_round-requires g c = omega (arith, ap (λ (v : RunWordsView). v.round) c.requires.before.words, c.requires.round.first, c.requires.round.within, c.requires.lawful.rounds.1)
-
-pub begin-requires-clause-words : goal.begin-requires-clause-words
-begin-requires-clause-words g c = λ κs out. next_words_of c.args.scenario.now c.args.round c.requires.round.first _ _ c.next_round.ensures c.requires.before.words

@@ -7,7 +7,7 @@ invariant_of-result g c =
     record {
       simulation = record { within = omega arith; standing = λ _. opened.standing; tables = λ _. opened.tables };
       ended = opened.ended;
-      words = opened.words;
+      drawn = opened.drawn;
       may_write = c.requires;
     }
 

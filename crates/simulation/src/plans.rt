@@ -1,0 +1,83 @@
+//! What a run draws round by round: the words of its nodes, and by them the list of a round.
+
+ghost use Rattle.std.specs.Prelude.{◌≡◌, ◌-◌, ◌≤◌, IfOk, IsOkUnless};
+ghost use Rattle.bench_types.specs.declared.faults.Fault.TheVariants.{OutOfMemory};
+ghost use Rattle.round_plan.specs.calls.Words.{run_words_of};
+ghost use Rattle.simulation.specs.inner.Plans.{IsPlanOf, IsDrawnAfter, MayDraw};
+
+use bench_types::Fault;
+use bench_types::limits::MOST_ROUNDS;
+use model::RoundList;
+use round_plan::{RunWords, round_list_by};
+use scenario::Scenario;
+use std::alloc::Global;
+
+/// The words of a round and its list.
+#[derive(Drop)]
+pub(crate) struct Plan {
+    pub(crate) words: RunWords,
+    pub(crate) list: RoundList,
+}
+
+/// What is drawn once a round is done.
+#[derive(Drop)]
+pub(crate) enum Drawn {
+    /// The words of that round.
+    Words(RunWords),
+    /// The plan of the next one.
+    Next(Plan),
+}
+
+impl Drawn {
+    /// The plan of a round: the one at hand, or else it is made. An error is lack of memory (`OutOfMemory`).
+    pub(crate) fn plan(self, alloc: Global, scenario: &Scenario, round: u32) -> Result<Plan, Fault>
+        requires first { 1 ≤ round }
+        requires last { round ≤ MOST_ROUNDS }
+        requires before { IsDrawnAfter scenario.now (round - 1) self }
+        ensures plan { IfOk result (IsPlanOf scenario.now round) }
+        ensures only { IsOkUnless result OutOfMemory }
+    {
+        match self {
+            Drawn::Next(plan) => Ok(plan),
+            Drawn::Words(words) => next_plan(words, alloc, scenario, round),
+        }
+    }
+}
+
+/// What is drawn after a round, by its words. Several workers leave the caller's thread idle, which then plans the next
+/// round, if there is one. An error is lack of memory (`OutOfMemory`).
+pub(crate) fn drawn_after(
+    words: RunWords,
+    alloc: Global,
+    scenario: &Scenario,
+    round: u32,
+    workers: u32,
+) -> Result<Drawn, Fault>
+    requires { MayDraw scenario.now round words }
+    ensures drawn { IfOk result (IsDrawnAfter scenario.now round) }
+    ensures only { IsOkUnless result OutOfMemory }
+{
+    if workers == 1 || round == scenario.rounds() {
+        return Ok(Drawn::Words(words));
+    }
+    let next = next_plan(words, alloc, scenario, round + 1)?;
+    Ok(Drawn::Next(next))
+}
+
+// The plan of a round, by the words of the one before it.
+fn next_plan(
+    mut words: RunWords,
+    alloc: Global,
+    scenario: &Scenario,
+    round: u32,
+) -> Result<Plan, Fault>
+    requires first { 1 ≤ round }
+    requires last { round ≤ MOST_ROUNDS }
+    requires words { words ≡ run_words_of scenario.now (round - 1) }
+    ensures plan { IfOk result (IsPlanOf scenario.now round) }
+    ensures only { IsOkUnless result OutOfMemory }
+{
+    words.next_round();
+    let list = round_list_by(alloc, scenario, round, &words)?;
+    Ok(Plan { words, list })
+}

@@ -3,4 +3,3 @@ pub mod Codes
 pub mod Fitting
 pub mod GreatestMarks
 pub mod Items
-pub mod Levels

@@ -17,7 +17,7 @@ use Rattle.bench_types.proofs.Comparing.{nat_cmp-less, nat_cmp-equal, nat_cmp-gr
 use Rattle.model.specs.Candidates.{candidates}
 use Rattle.model.specs.Numbers.{write_numbered}
 use Rattle.model.specs.Order.{rank_among, owner_count}
-use Rattle.model.specs.inner.Levels.{age_cmp, level_cmp}
+use Rattle.model.proofs.Levels.{age_cmp, level_cmp}
 use Rattle.version_tables.specs.inner.Offers.{Offers, IsHistory, rank_above}
 use Rattle.planes.specs.Planes.{Cells, count_above}
 use Rattle.version_tables.specs.inner.Firsts.{item_number}

@@ -14,8 +14,9 @@
 //! | `texts` | texts of which nearly all are refused, with the faults that an independent program has |
 //!
 //! Beside a scenario `NAME.toml` of the first five stand the texts that it must give, byte for byte:
-//! `NAME.report.csv`, and where they are wanted `NAME.trace.csv` and `NAME.comparison.csv`. It must give
-//! them for every number of workers.
+//! `NAME.report.csv`, and where it is wanted `NAME.trace.csv`. Where its comparison is wanted, `NAME.MODE.csv` is its
+//! report under each other mode, and `modes.txt` has the order of the modes. It must give all of these for every number
+//! of workers.
 #![tactic(auto)]
 
 mod changes;

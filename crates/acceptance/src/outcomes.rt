@@ -2,7 +2,7 @@
 
 ghost use Rattle.model.specs.Runs.{AreWorkers};
 
-use crate::stored::compare_part;
+use crate::stored::{compare_part, stored_comparison, stored_text};
 use bench::{check_input, compare, run};
 use bench_types::limits::MOST_WORKERS;
 use bench_types::{Fault, Pull, Push};
@@ -88,10 +88,14 @@ fn line_with<R: Files + Threads + Wait + AllocGlobal + Sync>(
     if let Err(fault) = outcome.answer.and(outcome.compared) {
         return Ok(format!(in rt.alloc(); "{fault}")?);
     }
-    let mut line = String::new(rt.alloc());
-    compare_part(rt, &mut line, case, "report", &outcome.report)?;
-    compare_part(rt, &mut line, case, "trace", &outcome.trace)?;
-    compare_part(rt, &mut line, case, "comparison", &outcome.comparison)?;
+    let alloc = rt.alloc();
+    let mut line = String::new(alloc);
+    let report = stored_text(rt, case, "report")?;
+    compare_part(alloc, &mut line, "report", report, &outcome.report)?;
+    let trace = stored_text(rt, case, "trace")?;
+    compare_part(alloc, &mut line, "trace", trace, &outcome.trace)?;
+    let rows = stored_comparison(rt, case)?;
+    compare_part(alloc, &mut line, "comparison", rows, &outcome.comparison)?;
     Ok(line)
 }
 

@@ -12,7 +12,7 @@ use Rattle.model.specs.Table.{Table, IsProper}
 use Rattle.model.specs.Candidates.{candidates}
 use Rattle.model.specs.Deltas.{delta_between, item_share}
 use Rattle.model.specs.Order.{sending_order}
-use Rattle.model.specs.inner.Levels.{level_cmp}
+use Rattle.model.proofs.Levels.{level_cmp}
 use Rattle.model.proofs.DeltaLaws.{sending_order-total}
 use Rattle.delta_plans.specs.SentSets.{HasSet, size_in}
 use Rattle.delta_plans.specs.Offers.{Offers}

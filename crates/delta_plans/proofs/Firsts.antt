@@ -6,7 +6,7 @@ use Rattle.std.proofs.lemmas.Bool.{cases_lt, lt-ltb, le-ltb, le-leb, lt-leb, leb
 use Rattle.bench_types.specs.declared.exchanges.First.{First}
 use Rattle.bench_types.specs.declared.exchanges.First.TheVariants.{Oldest, Newest}
 use Rattle.bench_types.proofs.Comparing.{nat_cmp-less, nat_cmp-greater}
-use Rattle.model.specs.inner.Levels.{age_cmp}
+use Rattle.model.proofs.Levels.{age_cmp}
 use Rattle.delta_plans.specs.Firsts.{comes_first}
 use Rattle.delta_plans.specs.LevelMarks.{lets_through}
 

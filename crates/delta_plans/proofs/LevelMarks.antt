@@ -17,7 +17,7 @@ use Rattle.bench_types.proofs.Comparing.{nat_cmp-less, nat_cmp-equal, nat_cmp-gr
 use Rattle.model.specs.Candidates.{candidates}
 use Rattle.model.specs.calls.Numbers.{write_numbered}
 use Rattle.model.specs.Order.{rank_among, owner_count}
-use Rattle.model.specs.inner.Levels.{age_cmp, level_cmp}
+use Rattle.model.proofs.Levels.{age_cmp, level_cmp}
 use Rattle.delta_plans.specs.Offers.{Offers, rank_above}
 use Rattle.owner_writes.specs.Numbered.{IsHistory, IsRoundMark}
 use Rattle.planes.specs.Planes.{Cells, count_above}

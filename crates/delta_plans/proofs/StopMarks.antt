@@ -16,10 +16,9 @@ use Rattle.bench_types.proofs.Comparing.{both_equal, nat_cmp-less, nat_cmp-equal
 use Rattle.model.specs.Table.{Table, IsProper}
 use Rattle.model.specs.Candidates.{candidates}
 use Rattle.model.specs.Order.{rotated, sending_order}
-use Rattle.model.specs.inner.Levels.{age_cmp, level_cmp}
 use Rattle.model.proofs.Apart.{rotated-injective}
 use Rattle.model.proofs.DeltaLaws.{sending_order-total}
-use Rattle.model.proofs.Levels.{order-levels}
+use Rattle.model.proofs.Levels.{order-levels, age_cmp, level_cmp}
 use Rattle.delta_plans.specs.Offers.{Offers}
 use Rattle.owner_writes.specs.Numbered.{IsHistory}
 use Rattle.planes.specs.Planes.{Cells}

@@ -1,25 +1,19 @@
--- Candidates stand at different places, so only an item ties with itself in a sending order.
--- Serves `DeltaLaws`, `Levels`, `Sending`, `delta_plans` and `reconcile`.
+-- Candidates stand at different places, and the rotation turns different owners to different turns.
+-- Serves `Levels`, `delta_plans` and `reconcile`.
 use Rattle.std.proofs.Common.{◌≡◌, ℕ, zero, suc, ◌+◌, ◌-◌, ◌%◌, ◌<◌, ◌≤◌, Bool, true, false, cond, ◌&&◌, eqb, List, [], ◌∷◌, length, get_or, All, ◌⊎◌, inl, inr, refl, sym, ap, ◌∙◌, subst, arith}
 use Rattle.std.specs.Prelude.{count_by, filter, IsPermutation}
-use Rattle.std.specs.declared.cmp.Ordering.{Ordering}
 use Rattle.std.specs.declared.cmp.Ordering.TheVariants.{Less, Equal}
-use Rattle.std.specs.Ordering.{nat_cmp, ordering_then}
-use Rattle.std.specs.Cmp.{IsTotalOrder, nat_cmp_total, on_total, then_total, back_total, tied_itself}
-use Rattle.std.specs.FinMap.{nat_cmp-IsAntisymmetric}
+use Rattle.std.specs.Cmp.{tied_itself}
 use Rattle.std.proofs.Math.Nat.{mod-eq_of_lt, add-mod_right}
 use Rattle.std.proofs.lemmas.Bool.{cases_lt, eq-eqb, eqb-true}
-use Rattle.std.proofs.lemmas.List.Sorted.{sum_by-IsPermutation, All-permutation}
+use Rattle.std.proofs.lemmas.List.Sorted.{sum_by-IsPermutation}
 use Rattle.bench_types.specs.declared.entries.Item.{Item}
-use Rattle.bench_types.specs.declared.exchanges.Mode.{Mode}
-use Rattle.bench_types.specs.declared.exchanges.Mode.TheVariants.{ScuttleBreadth, ScuttleDepth, PreciseOldest, PreciseNewest}
 use Rattle.model.specs.Table.{place_cmp}
 use Rattle.model.specs.inner.Items.{no_item, place_of, IsRising}
 use Rattle.model.proofs.Order.{place_total}
 use Rattle.model.proofs.Rising.{rising_at, rising_tail}
-use Rattle.model.specs.Order.{rotated, rank_among, owner_count, sending_order}
+use Rattle.model.specs.Order.{rotated}
 use Rattle.model.proofs.Counts.{count_by-cons_true, count_by-cons_false, count_by-stretch}
-use Rattle.bench_types.proofs.Comparing.{both_equal}
 
 -- whether an item stands at the place
 abbrev stands_at : ℕ → ℕ → Item → Bool
@@ -122,47 +116,3 @@ rotated-injective ns s o p in_s in_o in_p e = elim (rotated-is ns s o in_s in_o)
   | inl a ↦ elim (rotated-is ns s p in_s in_p) [ inl b ↦ omega (arith, a.0, a.1, b.0, b.1, e) | inr b ↦ absurd (omega (arith, a.0, a.1, b.0, b.1, e)) ]
   | inr a ↦ elim (rotated-is ns s p in_s in_p) [ inl b ↦ absurd (omega (arith, a.0, a.1, b.0, b.1, e)) | inr b ↦ omega (arith, a.0, a.1, b.0, b.1, e) ]
 ]
-
-backwards_total : {X : Type 0} (f : X → ℕ) → IsTotalOrder (λ x y. nat_cmp (f y) (f x))
-backwards_total f = back_total (on_total f nat_cmp_total)
-
-module _ (ns s : ℕ) (cs : List Item) where
-  turn_total : IsTotalOrder (λ (c d : Item). nat_cmp (rotated ns s c.owner) (rotated ns s d.owner))
-  turn_total = on_total (λ (i : Item). rotated ns s i.owner) nat_cmp_total
-
-  key_total : IsTotalOrder (λ (c d : Item). nat_cmp c.entry.key d.entry.key)
-  key_total = on_total (λ (i : Item). i.entry.key) nat_cmp_total
-
-  version_total : IsTotalOrder (λ (c d : Item). nat_cmp c.entry.version d.entry.version)
-  version_total = on_total (λ (i : Item). i.entry.version) nat_cmp_total
-
-  four_ties : (c d : Item) (a b : Ordering) → ordering_then a (ordering_then (nat_cmp (rotated ns s c.owner) (rotated ns s d.owner)) (ordering_then b (nat_cmp c.entry.key d.entry.key))) ≡ Equal → (rotated ns s c.owner ≡ rotated ns s d.owner) × (c.entry.key ≡ d.entry.key)
-  four_ties c d a b e =
-      let outer = both_equal a (ordering_then (nat_cmp (rotated ns s c.owner) (rotated ns s d.owner)) (ordering_then b (nat_cmp c.entry.key d.entry.key))) e in
-      let turns = both_equal (nat_cmp (rotated ns s c.owner) (rotated ns s d.owner)) (ordering_then b (nat_cmp c.entry.key d.entry.key)) outer.1 in
-      let last = both_equal b (nat_cmp c.entry.key d.entry.key) turns.1 in
-      (nat_cmp-IsAntisymmetric _ _ turns.0, nat_cmp-IsAntisymmetric _ _ last.1)
-
-  -- each mode's order is total
-  pub sending_total : (mode : Mode) → IsTotalOrder (sending_order mode ns s cs)
-  sending_total ScuttleBreadth = then_total (on_total (rank_among cs) nat_cmp_total) (then_total turn_total key_total)
-  sending_total ScuttleDepth = then_total (backwards_total (owner_count cs)) (then_total turn_total (then_total version_total key_total))
-  sending_total PreciseOldest = then_total (on_total (λ (i : Item). i.entry.born) nat_cmp_total) (then_total turn_total (then_total version_total key_total))
-  sending_total PreciseNewest = then_total (backwards_total (λ (i : Item). i.entry.born)) (then_total turn_total (then_total (backwards_total (λ (i : Item). i.entry.version)) key_total))
-
-  -- what ties has one owner, turned, and one key
-  pub sending_ties : (mode : Mode) (c d : Item) → sending_order mode ns s cs c d ≡ Equal → (rotated ns s c.owner ≡ rotated ns s d.owner) × (c.entry.key ≡ d.entry.key)
-  sending_ties ScuttleBreadth c d e =
-      let outer = both_equal _ (ordering_then (nat_cmp (rotated ns s c.owner) (rotated ns s d.owner)) (nat_cmp c.entry.key d.entry.key)) e in
-      let inner = both_equal (nat_cmp (rotated ns s c.owner) (rotated ns s d.owner)) (nat_cmp c.entry.key d.entry.key) outer.1 in
-      (nat_cmp-IsAntisymmetric _ _ inner.0, nat_cmp-IsAntisymmetric _ _ inner.1)
-  sending_ties ScuttleDepth c d e = four_ties c d (nat_cmp (owner_count cs d) (owner_count cs c)) (nat_cmp c.entry.version d.entry.version) e
-  sending_ties PreciseOldest c d e = four_ties c d (nat_cmp c.entry.born d.entry.born) (nat_cmp c.entry.version d.entry.version) e
-  sending_ties PreciseNewest c d e = four_ties c d (nat_cmp d.entry.born c.entry.born) (nat_cmp d.entry.version c.entry.version) e
-
--- so in an order of candidates of known owners each ties with itself alone
-pub sending_apart : (mode : Mode) (q : Item → Bool) (xs sorted : List Item) (ns s : ℕ) → IsRising xs → All (λ (i : Item). i.owner < ns) (filter q xs) → s < ns → IsPermutation (filter q xs) sorted → (j k : ℕ) → j < length sorted → k < length sorted → sending_order mode ns s (filter q xs) (get_or sorted j no_item) (get_or sorted k no_item) ≡ Equal → j ≡ k
-sending_apart mode q xs sorted ns s rising owners in_s same j k in_j in_k e =
-    let ties = sending_ties ns s (filter q xs) mode (get_or sorted j no_item) (get_or sorted k no_item) e in
-    let below = All-permutation (λ (i : Item). i.owner < ns) (filter q xs) sorted same owners in
-    same_place q xs sorted rising same j k in_j in_k (rotated-injective ns s (get_or sorted j no_item).owner (get_or sorted k no_item).owner in_s (below j no_item in_j) (below k no_item in_k) ties.0) ties.1

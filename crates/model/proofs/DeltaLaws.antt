@@ -1,11 +1,11 @@
 -- Laws of the sending orders, and of what a budget lets through in them.
--- Serves most of the crate, `delta_plans`, `reconcile`, `simulation` and `version_tables`.
+-- Serves the functions of `laws`, `ExchangeLaws`, `Received`, `StateDeltas`, `States`, `delta_plans`, `simulation`
+-- and `version_tables`.
 use Rattle.std.proofs.Common.{◌≡◌, ℕ, ◌<◌, ◌≤◌, Bool, not, ◌&&◌, eqb, ltb, List, length, get_or, inl, inr, sym, ap, ◌∙◌, arith}
 use Rattle.std.specs.Prelude.{count_by, Contains}
-use Rattle.std.specs.declared.cmp.Ordering.TheVariants.{Less, Equal}
-use Rattle.std.specs.Ordering.{nat_cmp, ordering_then}
+use Rattle.std.specs.declared.cmp.Ordering.TheVariants.{Equal}
 use Rattle.std.specs.Cmp.{IsTotalOrder}
-use Rattle.std.proofs.lemmas.Bool.{cases_lt, eq-eqb, eqb-true, lt-ltb, ltb-true, le-ltb, and_parts, and_from, and_right}
+use Rattle.std.proofs.lemmas.Bool.{cases_lt}
 use Rattle.std.proofs.lemmas.List.{get_or_default}
 use Rattle.std.proofs.lemmas.List.Elements.{All-filter}
 use Rattle.std.proofs.lemmas.List.Sorted.{IsPermutation-refl}
@@ -13,20 +13,18 @@ use Rattle.bench_types.specs.declared.exchanges.Budget.{Budget}
 use Rattle.bench_types.specs.Budget.{amount_of}
 use Rattle.bench_types.specs.declared.entries.Item.{Item}
 use Rattle.bench_types.specs.declared.exchanges.Mode.{Mode}
-use Rattle.bench_types.specs.declared.exchanges.Mode.TheVariants.{ScuttleBreadth, ScuttleDepth, PreciseOldest, PreciseNewest}
 use Rattle.bench_types.specs.Mark.{mark_of, is_before}
 use Rattle.bench_types.specs.Mode.{digest_kind}
 use Rattle.model.specs.Table.{Table, items_of, IsProper}
 use Rattle.model.proofs.Proper.{items_sound}
 use Rattle.model.specs.Candidates.{IsScuttleMode, known_mark, candidates}
-use Rattle.model.specs.Order.{rotated, rank_among, owner_count, sending_order}
+use Rattle.model.specs.Order.{sending_order}
 use Rattle.model.specs.Deltas.{item_share, delta_of}
 use Rattle.model.specs.calls.DeltaLaws.{AreWithin}
 use Rattle.model.specs.Picks.{fits}
 use Rattle.model.specs.inner.Items.{no_item}
-use Rattle.model.proofs.Apart.{sending_total, sending_apart}
-use Rattle.bench_types.proofs.Comparing.{nat_cmp-less, nat_cmp-equal}
-use Rattle.model.proofs.Places.{count_by-lt, Contains-first_places, before_count-lt, before_count-places, cut_count-none, uncut-Contains, first_places-before}
+use Rattle.model.proofs.Levels.{sending_total, sending_apart, sending_order-ascending}
+use Rattle.model.proofs.Places.{Contains-first_places, before_count-lt, before_count-places, cut_count-none, uncut-Contains, first_places-before}
 use Rattle.model.proofs.Sending.{owners_below}
 
 -- each mode's order is total
@@ -43,25 +41,6 @@ sending_order-strict mode from to rotation proper in_nodes c d (j, in_j, is_c) (
     let same = sending_apart mode q (items_of from) cs from.nodes rotation (items_sound from proper).rising (All-filter q (λ (i : Item). i.owner < from.nodes) (items_of from) (owners_below from proper)) in_nodes (IsPermutation-refl cs) j k in_j in_k
     ((λ i. sending_order mode from.nodes rotation cs (at_j i) (at_k i)) ∙ e) in
     sym at_j ∙ ap (λ n. get_or cs n no_item) same ∙ at_k
-
--- of one owner's items those of greater versions have more candidates before them, where the others are candidates
-pub rank-more : (cs : List Item) (c d : Item) → Contains cs c → c.owner ≡ d.owner → c.entry.version < d.entry.version → rank_among cs c < rank_among cs d
-rank-more cs c d stands owners older =
-    count_by-lt (λ (x : Item). eqb x.owner c.owner && ltb x.entry.version c.entry.version) (λ (x : Item). eqb x.owner d.owner && ltb x.entry.version d.entry.version) cs
-    (λ x passes. let parts = and_parts (eqb x.owner c.owner) (ltb x.entry.version c.entry.version) passes in
-    and_from _ _ (eq-eqb x.owner d.owner (eqb-true x.owner c.owner parts.0 ∙ owners)) (lt-ltb x.entry.version d.entry.version (omega (arith, older, ltb-true x.entry.version c.entry.version parts.1))))
-    c stands (and_right (eqb c.owner c.owner) _ (le-ltb c.entry.version c.entry.version (omega arith))) (and_from _ _ (eq-eqb c.owner d.owner owners) (lt-ltb c.entry.version d.entry.version older))
-
--- in a scuttle mode a candidate comes before those of its owner with greater versions
-pub sending_order-ascending : (mode : Mode) → IsScuttleMode mode → (nodes rotation : ℕ) (cs : List Item) (c d : Item) → Contains cs c → c.owner ≡ d.owner → c.entry.version < d.entry.version → sending_order mode nodes rotation cs c d ≡ Less
-sending_order-ascending ScuttleBreadth is nodes rotation cs c d stands owners older =
-    ap (λ o. ordering_then o (ordering_then (nat_cmp (rotated nodes rotation c.owner) (rotated nodes rotation d.owner)) (nat_cmp c.entry.key d.entry.key))) (nat_cmp-less (rank_among cs c) (rank_among cs d) (rank-more cs c d stands owners older))
-sending_order-ascending ScuttleDepth is nodes rotation cs c d stands owners older =
-    λ i. ordering_then (nat_cmp-equal (owner_count cs d) (owner_count cs c) (ap (λ o. count_by (λ (x : Item). eqb x.owner o) cs) (sym owners)) i)
-    (ordering_then (nat_cmp-equal (rotated nodes rotation c.owner) (rotated nodes rotation d.owner) (ap (rotated nodes rotation) owners) i)
-    (ordering_then (nat_cmp-less c.entry.version d.entry.version older i) (nat_cmp c.entry.key d.entry.key)))
-sending_order-ascending PreciseOldest is nodes rotation cs c d stands owners older = cc
-sending_order-ascending PreciseNewest is nodes rotation cs c d stands owners older = cc
 
 module _ (mode : Mode) (from to : Table) (rotation : ℕ) (budget : Budget) where
   -- what is sent under the budget

@@ -1,5 +1,5 @@
 -- What a budget lets through of candidates in a strict total order: those with few enough before them.
--- Serves `DeltaLaws`, `StateDeltas` and `delta_plans`.
+-- Serves `DeltaLaws`, `Levels`, `StateDeltas` and `delta_plans`.
 use Rattle.std.proofs.Common.{◌≡◌, ℕ, zero, suc, ◌+◌, ◌<◌, ◌≤◌, Bool, true, false, cond, not, eqb, List, [], ◌∷◌, length, get_or, Option, Some, None, inl, inr, refl, sym, ap, ◌∙◌, subst, arith}
 use Rattle.std.specs.Prelude.{count_by, find, Contains}
 use Rattle.std.specs.List.{filter_map, range_with_len, cons_option, sum_by}

@@ -1,26 +1,25 @@
 -- What fits of the sorted candidates is the delta.
 -- Serves `DeltaLaws` and `reconcile`.
-use Rattle.std.proofs.Common.{◌≡◌, ℕ, ◌+◌, ◌-◌, ◌^◌, ◌<◌, ◌≤◌, Bool, List, length, get_or, All, refl, sym, ap, ◌∙◌, arith}
+use Rattle.std.proofs.Common.{◌≡◌, ℕ, ◌+◌, ◌-◌, ◌^◌, ◌<◌, ◌≤◌, Bool, List, length, get_or, All, sym, ap, ◌∙◌, arith}
 use Rattle.std.specs.Prelude.{filter, IsPermutation}
 use Rattle.std.specs.List.Sorted.{IsSorted}
 use Rattle.std.specs.declared.cmp.Ordering.{Ordering}
 use Rattle.std.specs.declared.cmp.Ordering.TheVariants.{Equal}
-use Rattle.std.specs.Ordering.{nat_cmp, ordering_then, is_lt}
+use Rattle.std.specs.Ordering.{is_lt}
 use Rattle.std.proofs.lemmas.List.Sums.{length-filter, count_by-le-length}
 use Rattle.std.proofs.lemmas.List.Elements.{All-filter}
-use Rattle.std.proofs.lemmas.List.Sorted.{IsPermutation-trans, length_permutation, sum_by-IsPermutation}
+use Rattle.std.proofs.lemmas.List.Sorted.{IsPermutation-trans, length_permutation}
 use Rattle.bench_types.specs.declared.exchanges.Budget.{Budget}
 use Rattle.bench_types.specs.Budget.{amount_of}
 use Rattle.bench_types.specs.declared.entries.Item.{Item}
 use Rattle.bench_types.specs.declared.exchanges.Mode.{Mode}
 use Rattle.model.specs.Table.{Table, items_of, IsProper}
 use Rattle.model.proofs.Proper.{items_sound, length-le-limit}
-use Rattle.bench_types.specs.declared.exchanges.Mode.TheVariants.{ScuttleBreadth, ScuttleDepth, PreciseOldest, PreciseNewest}
-use Rattle.model.specs.Order.{rotated, rank_among, owner_count, sending_order}
+use Rattle.model.specs.Order.{sending_order}
 use Rattle.model.specs.Deltas.{DeltaView, item_share, delta_of}
 use Rattle.model.specs.inner.Fitting.{fitting}
 use Rattle.model.specs.inner.Items.{no_item}
-use Rattle.model.proofs.Apart.{sending_total, sending_apart}
+use Rattle.model.proofs.Levels.{sending_total, sending_apart, sending_order-permuted}
 use Rattle.model.proofs.Picked.{sent-is, cut_count-is}
 
 -- a proper table has at most 262144 items
@@ -48,17 +47,6 @@ sorted_delta mode t q sorted s budget proper in_s same rises = λ i. record {
 
     apart : (j k : ℕ) → j < length sorted → k < length sorted → order (get_or sorted j no_item) (get_or sorted k no_item) ≡ Equal → j ≡ k
     apart = sending_apart mode q (items_of t) sorted t.nodes s (items_sound t proper).rising (All-filter q (λ (i : Item). i.owner < t.nodes) (items_of t) (owners_below t proper)) in_s same
-
--- each mode's order is the same among candidates in another order
-sending_order-permuted : (mode : Mode) (ns s : ℕ) (xs ys : List Item) → IsPermutation xs ys → (c d : Item) → sending_order mode ns s xs c d ≡ sending_order mode ns s ys c d
-sending_order-permuted ScuttleBreadth ns s xs ys same c d =
-    let rank : (i : Item) → rank_among xs i ≡ rank_among ys i = λ i. sym (sum_by-IsPermutation _ xs ys same) in
-    λ n. ordering_then (nat_cmp (rank c n) (rank d n)) (ordering_then (nat_cmp (rotated ns s c.owner) (rotated ns s d.owner)) (nat_cmp c.entry.key d.entry.key))
-sending_order-permuted ScuttleDepth ns s xs ys same c d =
-    let count : (i : Item) → owner_count xs i ≡ owner_count ys i = λ i. sym (sum_by-IsPermutation _ xs ys same) in
-    λ n. ordering_then (nat_cmp (count d n) (count c n)) (ordering_then (nat_cmp (rotated ns s c.owner) (rotated ns s d.owner)) (ordering_then (nat_cmp c.entry.version d.entry.version) (nat_cmp c.entry.key d.entry.key)))
-sending_order-permuted PreciseOldest ns s xs ys same c d = refl
-sending_order-permuted PreciseNewest ns s xs ys same c d = refl
 
 -- what fits of the candidates, found and sorted in whatever way, and how many don't, are the delta
 pub sorted_sent : (mode : Mode) (t : Table) (q : Item → Bool) (found sorted items : List Item) (s : ℕ) (budget : Budget) → IsProper t → s < t.nodes → IsPermutation (filter q (items_of t)) found → IsPermutation found sorted → IsSorted (sending_order mode t.nodes s found) sorted → items ≡ fitting (item_share budget) (amount_of budget) sorted → ◌≡◌ {A = DeltaView} (record { items = items; cut = length found - length items }) (delta_of mode t.nodes s budget (filter q (items_of t)))

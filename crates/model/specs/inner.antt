@@ -3,7 +3,6 @@ pub mod Codes
 pub mod Fitting
 pub mod GreatestMarks
 pub mod Items
-pub mod Levels
 pub mod Owns
 pub mod Copies
 pub mod Held

@@ -22,8 +22,7 @@ use Rattle.model.specs.Candidates.{IsScuttleMode}
 use Rattle.model.specs.Order.{rotated, rank_among, owner_count, sending_order}
 use Rattle.model.specs.inner.Fitting.{fitting, left_after}
 use Rattle.reconcile.specs.inner.Suffixes.{layer_of, layered, reversed, lengths_first}
-use Rattle.model.proofs.Apart.{sending_total}
-use Rattle.model.proofs.DeltaLaws.{sending_order-ascending}
+use Rattle.model.proofs.Levels.{sending_total, sending_order-ascending}
 use Rattle.model.proofs.Fitting.{length-fitting-le, fitting-zero, fitting-append, left_after-append}
 use Rattle.model.proofs.Members.{AllPairs-append}
 

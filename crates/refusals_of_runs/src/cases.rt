@@ -71,7 +71,7 @@ pub(crate) const LISTS: [LoneList; 2] = [
 pub(crate) const MANY_NUMBERS: Rounds = Rounds {
     scenario: "format = 1\nnodes = 33\nkeys = 64\nrounds = 1\nseed = 0\nmode = \"scuttle-breadth\"\n\
         budget = 33\npeers = \"ring\"\nrotation = \"none\"\nchoice = \"cycle\"\nloss_ppm = 0\nwrites = 1\n",
-    rows: &[row!(1, 33, 0, 0, 591, 0, 465, 1, 0)],
+    rows: &[row!(round: 1, exchanges: 33, entries: 591, stale: 465, greatest: 1)],
 };
 
 /// The name of a case by its place: the cases, then the lists alone, then many numbers.
@@ -158,14 +158,14 @@ const EIGHT_PAIRS: FirstRound = FirstRound {
 // A case, by its name, its texts, its rows, and its first round.
 macro_rules! case {
     (
-        $name:literal, $texts:expr, rows [$(($($column:literal),+)),+],
+        $name:literal, $texts:expr, rows [$(($($column:ident: $number:literal),+)),+],
         nodes $nodes:literal, keys $keys:literal, writers $writers:literal, budget $budget:expr,
         pairs $pairs:expr, records [$(($($size:literal),+)),+], held [$($held:expr),+]
     ) => {
         Case {
             name: $name,
             texts: $texts,
-            rows: &[$(row!($($column),+)),+],
+            rows: &[$(row!($($column: $number),+)),+],
             first: FirstRound {
                 writers: Writers {
                     nodes: $nodes,
@@ -183,21 +183,25 @@ macro_rules! case {
 
 // A node is down for two rounds, and apart from the others.
 const DOWN: Case = case!(
-    "a node that is down", A_NODE_DOWN, rows [(1, 1, 1, 0, 2, 0, 2, 1, 0), (2, 1, 1, 0, 0, 0, 2, 2, 0)],
+    "a node that is down", A_NODE_DOWN,
+    rows [
+        (round: 1, exchanges: 1, unreached: 1, entries: 2, stale: 2, greatest: 1),
+        (round: 2, exchanges: 1, unreached: 1, stale: 2, greatest: 2)
+    ],
     nodes 3, keys 1, writers 2, budget Budget::Entries(10),
     pairs [(0, 1)], records [(1, 1, 1, 1, 0, 0)], held [[0, 1], [0, 1], []]
 );
 
 // Two nodes whose budget cuts.
 const CUT: Case = case!(
-    "two nodes with a budget that cuts", TWO_NODES_CUT, rows [(1, 2, 0, 0, 4, 2, 0, 0, 0)],
+    "two nodes with a budget that cuts", TWO_NODES_CUT, rows [(round: 1, exchanges: 2, entries: 4, cut: 2)],
     nodes 2, keys 2, writers 2, budget Budget::Entries(1),
     pairs [(0, 1), (1, 0)], records [(1, 1, 1, 1, 1, 1), (2, 2, 1, 1, 0, 0)], held [[0, 1], [0, 1]]
 );
 
 // Four nodes on a ring, of which each misses one.
 const RING: Case = case!(
-    "a ring of four", RING_OF_FOUR, rows [(1, 4, 0, 0, 8, 2, 4, 1, 0)],
+    "a ring of four", RING_OF_FOUR, rows [(round: 1, exchanges: 4, entries: 8, cut: 2, stale: 4, greatest: 1)],
     nodes 4, keys 1, writers 4, budget Budget::Entries(1), pairs [(0, 1), (1, 2), (2, 3), (3, 0)],
     records [(1, 1, 1, 1, 0, 0), (2, 1, 1, 1, 0, 1), (2, 1, 1, 1, 0, 1), (2, 2, 1, 1, 0, 0)],
     held [[0, 1, 3], [0, 1, 2], [0, 2, 3], [0, 1, 3]]
@@ -206,7 +210,10 @@ const RING: Case = case!(
 // A node forgets, and its copy is left over for a round.
 const FORGETFUL: Case = case!(
     "a node that forgets", A_NODE_FORGETS,
-    rows [(1, 2, 0, 0, 2, 0, 0, 0, 0), (2, 0, 1, 0, 0, 0, 1, 2, 1), (3, 2, 0, 0, 2, 0, 0, 0, 0)],
+    rows [
+        (round: 1, exchanges: 2, entries: 2), (round: 2, unreached: 1, stale: 1, greatest: 2, leftover: 1),
+        (round: 3, exchanges: 2, entries: 2)
+    ],
     nodes 2, keys 1, writers 2, budget Budget::Bytes(1023),
     pairs [(0, 1), (1, 0)], records [(1, 1, 1, 1, 0, 0), (2, 2, 0, 0, 0, 0)], held [[0, 1], [0, 1]]
 );

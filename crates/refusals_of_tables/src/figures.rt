@@ -6,7 +6,7 @@ ghost use Rattle.model.specs.calls.Writes.{AreBornBy};
 
 use crate::tables::{new_table, take, write};
 use bench_types::{Figures, Item};
-use fixtures::item;
+use fixtures::{NO_FIGURES, item};
 use node_table::NodeTable;
 use refusals::{Failure, check, pass, retried};
 use staleness::{OwnerList, figures};
@@ -26,7 +26,7 @@ const WRITTEN: [Item; 6] = [
 const STALE: Figures = Figures {
     stale: 1,
     greatest: 2,
-    leftover: 0,
+    ..NO_FIGURES
 };
 
 // Whether a list has the first so many of them, and no other.

@@ -16,7 +16,7 @@ const HELD: &[u8] = b"held\n";
 const ROOM: usize = 200;
 
 // The row and the records of two nodes that write one key once.
-const ROW: Row = row!(1, 2, 0, 0, 2, 0, 0, 0, 0);
+const ROW: Row = row!(round: 1, exchanges: 2, entries: 2);
 
 const RECORDS: [Record; 2] = [sent!(1, 1, 1, 1, 0, 0), sent!(2, 2, 0, 0, 0, 0)];
 

@@ -18,19 +18,12 @@ pub(crate) const TRACE_HEADER: &[u8] =
     b"round,index,initiator,responder,fate,digest1,digest2,back,forth,back_cut,forth_cut\n";
 
 /// The row of a run of two nodes with one key and one write each.
-pub(crate) const TWO_NODES: Row = row!(1, 2, 0, 0, 2, 0, 0, 0, 7);
+pub(crate) const TWO_NODES: Row = row!(round: 1, exchanges: 2, entries: 2, leftover: 7);
 
 pub(crate) const TWO_NODES_LINE: &[u8] = b"1,2,0,0,2,0,0,0\n";
 
 /// The trace of that run.
 pub(crate) const TWO_NODES_TRACE: &[u8] = b"1,0,0,1,ok,1,1,1,1,0,0\n1,1,1,0,ok,2,2,0,0,0,0\n";
-
-const MODES: &[Mode] = &[
-    Mode::ScuttleBreadth,
-    Mode::ScuttleDepth,
-    Mode::PreciseOldest,
-    Mode::PreciseNewest,
-];
 
 /// What was sent where no entry was cut: the sizes of the digests, and the entries back and forth.
 pub(crate) fn sent(fate: Fate, digests: (u32, u32), entries: (u32, u32)) -> Record {
@@ -143,9 +136,9 @@ fn expect_comparison(rt: &(impl Abort + AllocGlobal), format: u32, text: &[u8]) 
     let mut comparison = Push::new(Vec::new(rt.alloc()));
     let answer = compare_header(rt.alloc(), &mut comparison, format);
     expect(rt, answer, Ok(()));
-    for mode in MODES {
-        let answer = write_compare_row(rt.alloc(), &mut comparison, format, *mode, &TWO_NODES);
-        expect_at(rt, answer, Ok(()), *mode);
+    for mode in Mode::ALL {
+        let answer = write_compare_row(rt.alloc(), &mut comparison, format, mode, &TWO_NODES);
+        expect_at(rt, answer, Ok(()), mode);
     }
     expect(rt, comparison.into_inner().as_slice(), text);
 }

@@ -4,7 +4,7 @@ use crate::tests::comparing::expect;
 use crate::tests::steps::{sim_of, step};
 use bench::Sim;
 use bench_types::{Fault, Figures};
-use fixtures::changed_in_bytes;
+use fixtures::{NO_FIGURES, changed_in_bytes};
 use node_table::NodeTable;
 use std::alloc::Global;
 use std::process::Abort;
@@ -39,16 +39,11 @@ fn expect_step(
 
 const DOWN_FOR_TWO_ROUNDS: &str = "restart = [{ node = 1, round = 2, down = 2, forget = true }]\n";
 
-const NONE_STALE: Figures = Figures {
-    stale: 0,
-    greatest: 0,
-    leftover: 0,
-};
-
 const ONE_STALE: Figures = Figures {
     stale: 1,
     greatest: 2,
     leftover: 1,
+    ..NO_FIGURES
 };
 
 const STILL_STALE: Figures = Figures {
@@ -58,10 +53,10 @@ const STILL_STALE: Figures = Figures {
 
 // By the round the figures, and then the generation of node 1 and how many entries it holds.
 const ROUNDS: [(Figures, (u32, u32)); 4] = [
-    (NONE_STALE, (0, 2)),
+    (NO_FIGURES, (0, 2)),
     (ONE_STALE, (1, 0)),
     (STILL_STALE, (1, 0)),
-    (NONE_STALE, (1, 2)),
+    (NO_FIGURES, (1, 2)),
 ];
 
 fn expect_rounds(rt: &(impl Threads + Wait + Abort + Sync), sim: &mut Sim) -> Result<(), Fault> {

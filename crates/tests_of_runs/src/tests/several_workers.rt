@@ -129,6 +129,6 @@ fn first_row(rt: &(impl Threads + Wait + AllocGlobal + Sync), text: &str) -> Res
 fn all_nodes_down_with_workers(rt: HostRuntime) -> Result<(), Fault> {
     let text = changed(rt.alloc(), &[], BOTH_DOWN)?;
     let row = first_row(&rt, text.as_str())?;
-    expect(&rt, row, row!(1, 0, 0, 0, 0, 0, 0, 0, 0));
+    expect(&rt, row, row!(round: 1));
     expect_same(&rt, text.as_str(), MOST_WORKERS)
 }

@@ -2,8 +2,8 @@
 
 use crate::tests::comparing::expect;
 use bench::{FreeGate, Round, Sim};
-use bench_types::{Fault, Figures, Mark};
-use fixtures::{RING_OF_FOUR, TWO_NODES, between, row, sent};
+use bench_types::{Fault, Mark};
+use fixtures::{NO_FIGURES, RING_OF_FOUR, TWO_NODES, between, row, sent};
 use node_table::NodeTable;
 use scenario::{Scenario, read};
 use std::alloc::Global;
@@ -50,13 +50,8 @@ fn expect_exchanges(rt: &impl Abort, round: &Round) {
 
 fn expect_round(rt: &impl Abort, round: &Round) {
     expect_exchanges(rt, round);
-    expect(rt, round.row(), row!(1, 2, 0, 0, 2, 0, 0, 0, 0));
-    let figures = Figures {
-        stale: 0,
-        greatest: 0,
-        leftover: 0,
-    };
-    expect(rt, round.figures(), figures);
+    expect(rt, round.row(), row!(round: 1, exchanges: 2, entries: 2));
+    expect(rt, round.figures(), NO_FIGURES);
 }
 
 #[test]

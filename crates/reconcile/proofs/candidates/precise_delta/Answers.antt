@@ -8,7 +8,7 @@ use Rattle.bench_types.specs.Budget.{amount_of}
 use Rattle.model.specs.Deltas.{item_share}
 use Rattle.model.specs.calls.DeltaLaws.{AreWithin}
 use Rattle.model.specs.Order.{sending_order}
-use Rattle.model.proofs.Apart.{sending_total}
+use Rattle.model.proofs.Levels.{sending_total}
 use Rattle.model.proofs.Fitting.{length-fitting-le, sum-fitting}
 use Rattle.reconcile.specs.inner.Parcels.{first_within}
 use Rattle.reconcile.proofs.Answering.{few-found, answer-found}

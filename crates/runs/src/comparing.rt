@@ -97,11 +97,7 @@ fn write_rows<
     K: RoundHistories<T>,
     H: Threads + Wait + Sync,
     W: Sink,
->(
-    resources: &Resources<H>,
-    mut sim: Sim<T, K>,
-    writer: &mut W,
-) -> Result<Scenario, Fault>
+>(resources: &Resources<H>, mut sim: Sim<T, K>, writer: &mut W) -> Result<Scenario, Fault>
     requires start { IsAtStart sim }
     requires ready { IsReady W.Sink writer.old }
     ensures same { IfOk result (λ s. s ≡ sim.settings) }

@@ -95,12 +95,7 @@ fn write_texts<
     H: Threads + Wait + Sync,
     W: Sink,
     X: Sink,
->(
-    resources: &Resources<H>,
-    sim: &mut Sim<T, K>,
-    writer: &mut W,
-    trace: &mut X,
-) -> Result<(), Fault>
+>(resources: &Resources<H>, sim: &mut Sim<T, K>, writer: &mut W, trace: &mut X) -> Result<(), Fault>
     requires { IsAtStart sim.old }
     ensures written { OnOk result
         (AreWritten W.Sink writer.old writer.new X.Sink trace.old trace.new sim.old.settings) }
@@ -123,12 +118,7 @@ fn write_round<
     H: Threads + Wait + Sync,
     W: Sink,
     X: Sink,
->(
-    resources: &Resources<H>,
-    sim: &mut Sim<T, K>,
-    writer: &mut W,
-    trace: &mut X,
-) -> Result<(), Fault>
+>(resources: &Resources<H>, sim: &mut Sim<T, K>, writer: &mut W, trace: &mut X) -> Result<(), Fault>
     ensures written { OnOk result
         (WritesNextTexts T.table sim.old sim.new W.Sink writer.old writer.new X.Sink trace.old
         trace.new) }

@@ -19,10 +19,7 @@ pub fn stored_text<R: Files + AllocGlobal>(
 }
 
 /// The comparison that a case gives, if its report is stored under a mode that isn't its own.
-pub fn stored_comparison<R: Files + AllocGlobal>(
-    rt: &R,
-    case: &str,
-) -> io::Result<Option<String>> {
+pub fn stored_comparison<R: Files + AllocGlobal>(rt: &R, case: &str) -> io::Result<Option<String>> {
     let Some(report) = stored_text(rt, case, "report")? else {
         return Ok(None);
     };

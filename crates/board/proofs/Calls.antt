@@ -162,7 +162,7 @@ pub finished_of : {T : Type 0} (table : T → Table) (plan : BoardPlan) (v : Sea
 finished_of {T = T} table plan v i r m n st more e told =
     let t = subst (λ (x : Me (Option T) View). TellsOf table finished st x r n) e told i refl in
     let after : View = view plan (with_made (without_held v i) i (r / 2) (is_odd r)) [] (releases_by i (successor_list plan.list.exchanges i)) in
-    record { seen = r / 2; is_stopped = is_odd r; seat = rests_of table n after t.0; rises = omega (arith, t.1); stays = t.2 }
+    record { seen = r / 2; is_stopped = is_odd r; seat = rests_of table n after t.0; rises = t.1; stays = t.2 }
 
 -- a release
 module _ {T : Type 0} (table : T → Table) (plan : BoardPlan) (m n : Me (Option T) View) (j r : ℕ) (st : Step (Option T)) (owes : OwesTo plan m j) (word : st.word ≡ j + 1) (told : TellsOf table released st m r n) where

@@ -88,7 +88,7 @@ pub record IsPutBack (plan : BoardPlan) (old : SeatView) (i : ℕ) (freed : Free
   pub seen : ℕ
   pub is_stopped : Bool
   pub seat : new ≡ freed_by (freed_by (with_made (without_held old i) i seen is_stopped) freed.first) freed.second
-  pub rises : old.seen ≤ seen + 1
+  pub rises : old.seen ≤ seen
   pub stays : old.is_stopped ≡ true → is_stopped ≡ true
   pub first : Among freed.first (successors plan.list.exchanges i).first
   pub second : Among freed.second (successors plan.list.exchanges i).second

@@ -141,7 +141,7 @@ pub record HasFinished {S : Type 0} (plan : BoardPlan) (v : SeatView) (i : ℕ) 
   pub seen : ℕ
   pub is_stopped : Bool
   pub seat : n ≡ (view plan (with_made (without_held v i) i seen is_stopped) [] (releases_by i (successor_list plan.list.exchanges i)), [])
-  pub rises : v.seen ≤ seen + 1
+  pub rises : v.seen ≤ seen
   pub stays : v.is_stopped ≡ true → is_stopped ≡ true
 
 -- of a successor, if there is one

@@ -1,6 +1,6 @@
 -- Laws of the exchanges of a list, for the crates above: what holds of the tables of all nodes before any of the
 -- exchanges, and after the last.
--- Serves `lists_keep_tables_proper`, `Fresh`, `Spreads`, `StateFolds` and the crates above.
+-- Serves `lists_keep_tables_proper`, `Spreads`, `StateFolds` and the crates above.
 use Rattle.std.proofs.Common.{◌≡◌, ◌≢◌, ℕ, ◌+◌, ◌<◌, ◌≤◌, List, [], ◌∷◌, ◌++◌, length, set, take, drop, fold, All, inl, inr, refl, sym, ap, ◌∙◌, subst, arith}
 use Rattle.std.proofs.lemmas.Bool.{cases_eq}
 use Rattle.std.proofs.lemmas.List.{get_or-set_same, get_or-set_other, length-set, length-append, take-take, take-append-drop}

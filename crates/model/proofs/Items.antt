@@ -1,5 +1,5 @@
 -- Laws of the list of a table's items, and of lists in which no two items share a place.
--- Serves most of the crate, `delta_plans`, `reconcile` and `simulation`.
+-- Serves `Lacking`, `Members`, `Proper`, `Received`, `StateDeltas`, `delta_plans`, `reconcile` and `simulation`.
 use Rattle.std.proofs.Common.{◌≡◌, ℕ, zero, suc, ◌<◌, true, false, cond, List, [], ◌∷◌, length, map, get_or, Some, None, All, refl, sym, ap, ◌∙◌, subst, arith}
 use lib.Dec.{T}
 use Rattle.std.specs.declared.cmp.Ordering.TheVariants.{Less, Equal, Greater}

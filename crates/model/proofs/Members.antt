@@ -1,5 +1,5 @@
 -- Lists in which no two items share a place: two with the same items have them in another order.
--- Serves `Fresh`, `Lacking`, `Received`, `StateDeltas`, `delta_plans`, `reconcile` and `simulation`.
+-- Serves `Lacking`, `Received`, `StateDeltas`, `delta_plans`, `reconcile` and `simulation`.
 use Rattle.std.proofs.Common.{◌≡◌, zero, suc, ◌-◌, ◌<◌, Bool, true, false, cond, not, List, [], ◌∷◌, ◌++◌, length, map, get_or, inl, inr, refl, sym, ap, ◌∙◌, subst, arith}
 use Rattle.std.specs.Prelude.{filter, Contains, IsPermutation}
 use Rattle.std.specs.List.{AllPairs}

@@ -1,5 +1,5 @@
 -- What one delta makes of the table that receives it.
--- Serves `ExchangeLaws`, `Fresh`, `StateFolds`, `States` and `version_tables`.
+-- Serves `ExchangeLaws`, `StateFolds`, `States` and `version_tables`.
 use Rattle.std.proofs.Common.{◌≡◌, ◌≢◌, ℕ, zero, suc, ◌<◌, ◌≤◌, max, not, ◌&&◌, eqb, List, [], ◌∷◌, Some, None, All, ◌⊎◌, inl, inr, if◌then◌else◌, refl, sym, ap, ◌∙◌, subst, arith}
 use Rattle.std.specs.Prelude.{Contains, Option}
 use Rattle.std.proofs.lemmas.Bool.{cases_lt, cases_eq, eq-eqb, ne_eqb}

@@ -12,12 +12,11 @@ use Rattle.model.specs.Candidates.{IsScuttleMode}
 use Rattle.model.specs.Clusters.{AreCopiesOf, HaveNoGap}
 use Rattle.model.specs.Copies.{WritesBy}
 use Rattle.model.specs.Deltas.{delta_between}
-use Rattle.model.specs.Exchanged.{exchanged}
 use Rattle.model.specs.Folds.{Folded, exchange_in}
 use Rattle.model.specs.Spreads.{SendsCopy}
 use Rattle.model.proofs.FoldLaws.{step_copies, step_keeps_own}
 use Rattle.model.proofs.Fresh.{HasAllOf, caught_up, no_newer, own_generation}
-use Rattle.model.proofs.StateFolds.{initiator_is, responder_is, proper_at, same_nodes, same_keys}
+use Rattle.model.proofs.StateFolds.{proper_at, same_nodes, same_keys}
 use Rattle.model.proofs.States.{reaches}
 
 module _ (rules : Rules) (nodes keys : ℕ) (s : Folded) (e : Exchange) (planned : IsPlanned nodes e) (writes : WritesBy) (copies : AreCopiesOf writes nodes keys s.tables) (gapless : IsScuttleMode rules.mode → HaveNoGap s.tables) where
@@ -32,7 +31,7 @@ module _ (rules : Rules) (nodes keys : ℕ) (s : Folded) (e : Exchange) (planned
 
   -- from one of the two to the other, whose table becomes this
   module _ (from to owner : ℕ) (from_in : from < nodes) (to_in : to < nodes) (owner_in : owner < nodes) (other : owner ≢ to) (becomes : table_of_node us to ≡ applied (at to) (delta_between rules.mode e.rotation rules.budget (at from) (at to)).items) (sends : SendsCopy rules e.rotation owner (at from) (at to)) (has : HasAllOf owner (at from) (at owner)) where
-    hands_on : HasAllOf owner (table_of_node us to) (table_of_node us owner)
+    pub hands_on : HasAllOf owner (table_of_node us to) (table_of_node us owner)
     hands_on key x current =
         caught_up writes nodes keys us copies_then to owner to_in owner_in key x current
         (subst (λ (t : Table). IsUpTo (mark_of x) (mark_at t owner key)) (sym becomes)
@@ -55,13 +54,3 @@ module _ (rules : Rules) (nodes keys : ℕ) (s : Folded) (e : Exchange) (planned
           subst (λ (t : Table). generation_held t owner ≤ (table_of_node us owner).generation) becomes (no_newer writes nodes keys us copies_then to owner to_in owner_in),
           own_generation writes nodes keys us copies_then to owner to_in owner_in key x current,
         )
-
-  -- the responder's copy to the initiator, where the answer comes
-  pub to_initiator : (owner : ℕ) → owner < nodes → owner ≢ e.initiator → (exchanged rules e (at e.initiator) (at e.responder)).initiator ≡ applied (at e.initiator) (delta_between rules.mode e.rotation rules.budget (at e.responder) (at e.initiator)).items → SendsCopy rules e.rotation owner (at e.responder) (at e.initiator) → HasAllOf owner (at e.responder) (at owner) → HasAllOf owner (table_of_node us e.initiator) (table_of_node us owner)
-  to_initiator owner owner_in other comes =
-      hands_on e.responder e.initiator owner planned.responder planned.initiator owner_in other (initiator_is rules nodes keys s e planned copies.tables ∙ comes)
-
-  -- and the initiator's to the responder
-  pub to_responder : (owner : ℕ) → owner < nodes → owner ≢ e.responder → (exchanged rules e (at e.initiator) (at e.responder)).responder ≡ applied (at e.responder) (delta_between rules.mode e.rotation rules.budget (at e.initiator) (at e.responder)).items → SendsCopy rules e.rotation owner (at e.initiator) (at e.responder) → HasAllOf owner (at e.initiator) (at owner) → HasAllOf owner (table_of_node us e.responder) (table_of_node us owner)
-  to_responder owner owner_in other comes =
-      hands_on e.initiator e.responder owner planned.initiator planned.responder owner_in other (responder_is rules nodes keys s e planned copies.tables ∙ comes)

@@ -1,5 +1,5 @@
 -- The tables of all nodes, in order: how they are read, written and made, and that they stay so where each keeps its own part.
--- Serves `FoldLaws`, `Fresh`, `StateFolds`, `planner`, `simulation` and `workers`.
+-- Serves `FoldLaws`, `StateFolds`, `planner`, `simulation` and `workers`.
 use Rattle.std.proofs.Common.{◌≡◌, ◌≢◌, ℕ, zero, suc, ◌<◌, List, length, map, set, sym, ◌∙◌, subst, arith}
 use Rattle.std.specs.List.{range_with_len}
 use Rattle.std.proofs.lemmas.List.{ext_get_or, get_or-set_same, get_or-set_other}

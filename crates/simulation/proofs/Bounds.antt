@@ -35,7 +35,7 @@ use Rattle.simulation.specs.Soundness.{writes_by}
 use Rattle.simulation.proofs.Best.{begun_generation}
 use Rattle.simulation.proofs.CatchingUp.{paths_catch_up}
 use Rattle.simulation.proofs.Floors.{copies_after, copies_begun, states_after}
-use Rattle.simulation.proofs.Healing.{sound}
+use Rattle.simulation.proofs.Moments.{sound}
 use Rattle.simulation.proofs.Soundness.{counts_after}
 
 -- what was written by a round stands among the writes up to it

@@ -4,9 +4,10 @@ pub mod Writing
 pub mod Begun
 pub mod Standing
 pub mod Soundness
+pub mod Moments
 pub mod Healing
-pub mod Rings
 pub mod Paths
+pub mod Rings
 pub mod Ample
 pub mod Formats
 pub mod Floors

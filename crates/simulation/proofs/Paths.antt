@@ -1,145 +1,82 @@
 -- A path of exchanges makes fresh what its last holder has.
--- Serves `paths_make_fresh`, `uncut_exchanges_hand_on` and `CatchingUp`.
-use Rattle.std.proofs.Common.{◌≡◌, ℕ, ◌+◌, ◌-◌, ◌<◌, ◌≤◌, false, List, [], length, take, get_or, Some, inl, inr, refl, sym, ap, ◌∙◌, subst, arith, Bool, true, if◌then◌else◌}
+-- Serves `exchanges_make_fresh`, `paths_make_fresh`, `uncut_exchanges_hand_on` and `Rings`.
+use Rattle.std.proofs.Common.{◌≡◌, ℕ, ◌+◌, ◌<◌, ◌≤◌, false, Some, inl, inr, refl, sym, ◌∙◌, subst, arith, Bool, true, if◌then◌else◌}
 use Rattle.std.specs.Prelude.{slice_get}
 use Rattle.std.proofs.lemmas.Bool.{cases_eq}
-use Rattle.std.proofs.lemmas.List.Sums.{fold_more}
-use Rattle.std.proofs.lemmas.Option.{get_or_from_slice_get, slice_get_within}
 use Rattle.bench_types.specs.declared.exchanges.Exchange.{Exchange}
-use Rattle.bench_types.specs.declared.exchanges.Fate.{Fate}
 use Rattle.bench_types.specs.declared.exchanges.Fate.TheVariants as fate
-use Rattle.bench_types.specs.calls.Exchange.{IsPlanned}
+use Rattle.bench_types.specs.declared.exchanges.Record.{Record}
 use Rattle.bench_types.specs.Mode.{digest_kind}
 use Rattle.scenario.specs.Settings.{Settings, IsLawfulScenario}
-use Rattle.model.specs.Table.{Table}
+use Rattle.model.specs.Table.{applied}
 use Rattle.model.specs.Tables.{table_of_node}
-use Rattle.model.specs.Deltas.{DeltaView, delta_between}
-use Rattle.model.specs.ExchangeLaws.{LosesNothing}
+use Rattle.model.specs.Deltas.{DeltaView}
 use Rattle.model.specs.Digests.{digest_size}
-use Rattle.model.specs.Exchanged.{fate_of, last_fate, sent_until, initiator_after, responder_after}
-use Rattle.model.specs.Folds.{Folded, exchange_in, fold_of}
+use Rattle.model.specs.Exchanged.{last_fate, sent_until}
 use Rattle.model.proofs.DeltaLaws.{sent-uncut}
 use Rattle.model.proofs.Fresh.{HasAllOf, fresh_from, has_all}
-use Rattle.model.proofs.Spreads.{to_initiator, to_responder}
+use Rattle.model.proofs.Spreads.{hands_on}
 use Rattle.round_plan.specs.Plan.{round_list_of}
-use Rattle.round_plan.proofs.Planned.{planned_list}
-use Rattle.simulation.specs.Rounds.{begun, rules_of, tables_after}
-use Rattle.simulation.specs.Soundness.{writes_by, AreSound, tables_within}
-use Rattle.simulation.specs.Healing.{Moment, IsUpToMoment, IsFreshAt, AnswersWhole, table_at_moment}
-use Rattle.simulation.specs.Paths.{next_moment, SendsCopyAt, HandsOn, back, forth, record_at, UncutExchangesHandOn, IsReached, own, stays, handed, PathsMakeFresh}
-use Rattle.simulation.proofs.Rings.{answered_whole}
-use Rattle.simulation.proofs.Healing.{sound, fate-answered, reaches-answered, ended-loses_nothing, copies_stay}
+use Rattle.simulation.specs.Rounds.{rules_of}
+use Rattle.simulation.specs.Soundness.{writes_by, tables_within}
+use Rattle.simulation.specs.Healing.{Moment, IsFreshAt, ExchangesMakeFresh, SendsOwnPartAt, AnswersWhole, table_at_moment}
+use Rattle.simulation.specs.Paths.{next_moment, SendsCopyAt, back, forth, UncutExchangesHandOn, IsReached, own, stays, handed, PathsMakeFresh}
+use Rattle.simulation.proofs.Moments.{comes_back, comes_forth, delta, folded, here, next_tables, not_after, planned, sound, us}
+use Rattle.simulation.proofs.Healing.{copies_stay}
 
--- the fate in a record is that of the exchange
-fate-recorded : (f : Fate) (d1 d2 : ℕ) (b h : DeltaView) → (sent_until f d1 d2 b h).fate ≡ f
-fate-recorded fate.Lost1 d1 d2 b h = refl
-fate-recorded fate.Lost2 d1 d2 b h = refl
-fate-recorded fate.Lost3 d1 d2 b h = refl
-fate-recorded fate.Ok d1 d2 b h = refl
+-- what a record tells of the messages that were lost, and of both deltas
+abbrev recorded_of : (a b c : Bool) (d1 d2 : ℕ) (to_p to_q : DeltaView) → Record
+recorded_of a b c = sent_until (if a then fate.Lost1 else (if b then fate.Lost2 else last_fate c))
 
--- where it ended its cuts are those of its deltas
-pub ended_uncut : (f : Fate) (d1 d2 : ℕ) (b h : DeltaView) → f ≡ fate.Ok → (sent_until f d1 d2 b h).forth_cut ≡ 0 → h.cut ≡ 0
-ended_uncut fate.Lost1 d1 d2 b h is none = cc
-ended_uncut fate.Lost2 d1 d2 b h is none = cc
-ended_uncut fate.Lost3 d1 d2 b h is none = none
-ended_uncut fate.Ok d1 d2 b h is none = none
+answered_whole : (a b c : Bool) (d1 d2 : ℕ) (to_p to_q : DeltaView) → AnswersWhole (recorded_of a b c d1 d2 to_p to_q) → (a ≡ false) × (b ≡ false) × (to_p.cut ≡ 0)
+answered_whole true b c d1 d2 to_p to_q is = absurd (is.first refl)
+answered_whole false true c d1 d2 to_p to_q is = absurd (is.second refl)
+answered_whole false false true d1 d2 to_p to_q is = (refl, refl, is.cut)
+answered_whole false false false d1 d2 to_p to_q is = (refl, refl, is.cut)
 
--- and no message of it was lost
-loses_nothing : (e : Exchange) → fate_of e ≡ fate.Ok → LosesNothing e
-loses_nothing e is = of e.lost1 e.lost2 e.lost3 is
-  where
-    of : (a b c : Bool) → (if a then fate.Lost1 else (if b then fate.Lost2 else last_fate c)) ≡ fate.Ok → (a ≡ false) × (b ≡ false) × (c ≡ false)
-    of true b c is = cc
-    of false true c is = cc
-    of false false true is = cc
-    of false false false is = (refl, refl, refl)
+ended_whole : (a b c : Bool) (d1 d2 : ℕ) (to_p to_q : DeltaView) → (recorded_of a b c d1 d2 to_p to_q).fate ≡ fate.Ok → (recorded_of a b c d1 d2 to_p to_q).forth_cut ≡ 0 → ((a ≡ false) × (b ≡ false) × (c ≡ false)) × (to_q.cut ≡ 0)
+ended_whole true b c d1 d2 to_p to_q is none = cc
+ended_whole false true c d1 d2 to_p to_q is none = cc
+ended_whole false false true d1 d2 to_p to_q is none = cc
+ended_whole false false false d1 d2 to_p to_q is none = ((refl, refl, refl), none)
 
 module _ (s : Settings) (lawful : IsLawfulScenario s) where
-  -- one exchange of a round
-  module _ (m : Moment) (first : 1 ≤ m.round) (e : Exchange) (listed : slice_get (round_list_of s m.round).exchanges m.exchanges ≡ Some e) where
-    abbrev exchanges : List Exchange
-    exchanges = (round_list_of s m.round).exchanges
-
-    abbrev pub folded : Folded
-    folded = fold_of (rules_of s) (begun s m.round (tables_after s (m.round - 1))) (take m.exchanges exchanges)
-
-    in_list : m.exchanges < length exchanges
-    in_list = slice_get_within exchanges m.exchanges e listed
-
-    is_at : get_or exchanges m.exchanges e ≡ e
-    is_at = get_or_from_slice_get exchanges m.exchanges e e listed
-
-    pub planned : IsPlanned s.nodes e
-    planned = subst (IsPlanned s.nodes) is_at (planned_list s m.round lawful.nodes.0 m.exchanges e in_list)
-
-    pub next_tables : tables_within s m.round (m.exchanges + 1) ≡ (exchange_in (rules_of s) folded e).tables
-    next_tables =
-        ap (λ (f : Folded). f.tables) (fold_more (exchange_in (rules_of s)) (record { tables = begun s m.round (tables_after s (m.round - 1)); records = [] }) exchanges m.exchanges e in_list ∙ ap (exchange_in (rules_of s) folded) is_at)
-
-    pub here : AreSound s m.round (tables_within s m.round m.exchanges)
-    here = (sound s lawful).within m.round m.exchanges first
-
-    abbrev at : ℕ → Table
-    at n = table_of_node (tables_within s m.round m.exchanges) n
-
-    abbrev to_first : DeltaView
-    to_first = delta_between s.mode e.rotation s.budget (at e.responder) (at e.initiator)
-
-    abbrev to_second : DeltaView
-    to_second = delta_between s.mode e.rotation s.budget (at e.initiator) (at e.responder)
-
-    -- what is fresh with one node makes fresh with the other what it then has all of
-    module _ (owner from to : ℕ) (owner_in : owner < s.nodes) (from_in : from < s.nodes) (to_in : to < s.nodes) (fresh : IsFreshAt s m from owner) where
-      has : HasAllOf owner (at from) (at owner)
-      has = has_all (writes_by s m.round) s.nodes s.keys (tables_within s m.round m.exchanges) here.copies from owner from_in owner_in fresh
-
-      freshened : HasAllOf owner (table_of_node (exchange_in (rules_of s) folded e).tables to) (table_of_node (exchange_in (rules_of s) folded e).tables owner) → IsFreshAt s (next_moment m) to owner
-      freshened all =
+  -- the exchange at a moment
+  module _ (m : Moment) (e : Exchange) (first : 1 ≤ m.round) (listed : slice_get (round_list_of s m.round).exchanges m.exchanges ≡ Some e) where
+    -- between its two nodes a fresh copy is handed on by a delta that comes
+    spreads : (owner from to : ℕ) → owner < s.nodes → from < s.nodes → to < s.nodes
+        → table_of_node (us s lawful m e first listed) to ≡ applied (table_at_moment s m to) (delta s lawful m e first listed from to).items
+        → SendsCopyAt s m e.rotation owner from to → IsFreshAt s m from owner → IsFreshAt s (next_moment m) to owner
+    spreads owner from to owner_in from_in to_in comes sends fresh = elim (cases_eq owner to) [
+      | inl itself ↦ subst (λ n. IsFreshAt s (next_moment m) to n) (sym itself) (λ written key. refl)
+      | inr other ↦
           fresh_from (writes_by s m.round) s.nodes s.keys (tables_within s m.round (m.exchanges + 1)) ((sound s lawful).within m.round (m.exchanges + 1) first).copies to owner to_in owner_in
-          (subst (λ ts. HasAllOf owner (table_of_node ts to) (table_of_node ts owner)) (sym next_tables) all)
-
-    -- a node's copy of itself is
-    of_itself : (n : ℕ) → IsFreshAt s (next_moment m) n n
-    of_itself n written key = refl
-
-    spreads_back : (owner : ℕ) → owner < s.nodes → e.lost1 ≡ false → e.lost2 ≡ false → SendsCopyAt s m e.rotation owner e.responder e.initiator → IsFreshAt s m e.responder owner → IsFreshAt s (next_moment m) e.initiator owner
-    spreads_back owner owner_in came1 came2 sends fresh = elim (cases_eq owner e.initiator) [
-      | inl itself ↦ subst (λ n. IsFreshAt s (next_moment m) e.initiator n) (sym itself) (of_itself e.initiator)
-      | inr other ↦
-          freshened owner e.responder e.initiator owner_in planned.responder planned.initiator fresh
-          (to_initiator (rules_of s) s.nodes s.keys folded e planned (writes_by s m.round) here.copies here.no_gap owner owner_in other
-          (ap (λ f. initiator_after f (at e.initiator) to_first) (fate-answered e came1 came2) ∙ reaches-answered e.lost3 (at e.initiator) to_first) sends
-          (has owner e.responder e.initiator owner_in planned.responder planned.initiator fresh))
+          (subst (λ ts. HasAllOf owner (table_of_node ts to) (table_of_node ts owner)) (sym (next_tables s lawful m e first listed))
+          (hands_on (rules_of s) s.nodes s.keys (folded s lawful m e first listed) e (planned s lawful m e first listed) (writes_by s m.round) (here s lawful m e first listed).copies (here s lawful m e first listed).no_gap
+          from to owner from_in to_in owner_in other comes sends
+          (has_all (writes_by s m.round) s.nodes s.keys (tables_within s m.round m.exchanges) (here s lawful m e first listed).copies from owner from_in owner_in fresh)))
     ]
 
-    spreads_forth : (owner : ℕ) → owner < s.nodes → LosesNothing e → SendsCopyAt s m e.rotation owner e.initiator e.responder → IsFreshAt s m e.initiator owner → IsFreshAt s (next_moment m) e.responder owner
-    spreads_forth owner owner_in came sends fresh = elim (cases_eq owner e.responder) [
-      | inl itself ↦ subst (λ n. IsFreshAt s (next_moment m) e.responder n) (sym itself) (of_itself e.responder)
-      | inr other ↦
-          freshened owner e.initiator e.responder owner_in planned.initiator planned.responder fresh
-          (to_responder (rules_of s) s.nodes s.keys folded e planned (writes_by s m.round) here.copies here.no_gap owner owner_in other
-          (ap (λ f. responder_after f (at e.responder) to_second) (ended-loses_nothing e came)) sends
-          (has owner e.initiator e.responder owner_in planned.initiator planned.responder fresh))
-    ]
+    -- where nothing is cut each copy is sent
+    all_sent : (owner from to : ℕ) → from < s.nodes → (delta s lawful m e first listed from to).cut ≡ 0 → SendsCopyAt s m e.rotation owner from to
+    all_sent owner from to from_in none i own_item there =
+        let tables = (here s lawful m e first listed).copies in
+        sent-uncut s.mode (table_at_moment s m from) (table_at_moment s m to) e.rotation s.budget (tables.proper from (omega (arith, from_in, tables.tables.size)))
+        (omega (arith, (planned s lawful m e first listed).rotation, (tables.tables.tables from from_in).nodes)) none i there
 
-    -- both ends of an exchange are nodes
-    ends : (e.initiator < s.nodes) × (e.responder < s.nodes)
-    ends = (planned.initiator, planned.responder)
+    -- a node's own part is its copy of itself
+    own_sent : (from to : ℕ) → from < s.nodes → SendsOwnPartAt s m e.rotation from to → SendsCopyAt s m e.rotation from from to
+    own_sent from to from_in sends i of_owner = sends i (of_owner ∙ sym ((here s lawful m e first listed).copies.tables.tables from from_in).node)
 
   -- a path runs through nodes alone, in rounds alone
   in_rounds : (owner : ℕ) → owner < s.nodes → (m : Moment) (holder : ℕ) → IsReached s owner m holder → (1 ≤ m.round) × (holder < s.nodes)
   in_rounds owner owner_in _ _ (own m first) = (first, owner_in)
   in_rounds owner owner_in _ _ (stays m n holder reached upto leaves) =
-      let before = in_rounds owner owner_in m holder reached in
-      (later before.0 upto, before.1)
-    where
-      later : 1 ≤ m.round → IsUpToMoment m n → 1 ≤ n.round
-      later first (inl less) = omega (arith, less)
-      later first (inr (same, le)) = omega (arith, same, first)
+      let before = in_rounds owner owner_in m holder reached in (omega (arith, before.0, not_after m n upto), before.1)
   in_rounds owner owner_in _ _ (handed m from to reached (back e listed came1 came2 sends)) =
-      let before = in_rounds owner owner_in m from reached in (before.0, (ends m before.0 e listed).0)
+      let before = in_rounds owner owner_in m from reached in (before.0, (planned s lawful m e before.0 listed).initiator)
   in_rounds owner owner_in _ _ (handed m from to reached (forth e listed came sends)) =
-      let before = in_rounds owner owner_in m from reached in (before.0, (ends m before.0 e listed).1)
+      let before = in_rounds owner owner_in m from reached in (before.0, (planned s lawful m e before.0 listed).responder)
 
   pub paths_fresh : PathsMakeFresh s
   paths_fresh owner owner_in _ _ (own m first) = λ written key. refl
@@ -147,42 +84,33 @@ module _ (s : Settings) (lawful : IsLawfulScenario s) where
       let before = in_rounds owner owner_in m holder reached in
       copies_stay s lawful m n holder owner before.0 before.1 owner_in upto leaves (paths_fresh owner owner_in m holder reached)
   paths_fresh owner owner_in _ _ (handed m from to reached (back e listed came1 came2 sends)) =
-      spreads_back m (in_rounds owner owner_in m from reached).0 e listed owner owner_in came1 came2 sends (paths_fresh owner owner_in m from reached)
+      let first = (in_rounds owner owner_in m from reached).0 in
+      let meet = planned s lawful m e first listed in
+      spreads m e first listed owner e.responder e.initiator owner_in meet.responder meet.initiator (comes_back s lawful m e first listed came1 came2) sends (paths_fresh owner owner_in m from reached)
   paths_fresh owner owner_in _ _ (handed m from to reached (forth e listed came sends)) =
-      spreads_forth m (in_rounds owner owner_in m from reached).0 e listed owner owner_in came sends (paths_fresh owner owner_in m from reached)
+      let first = (in_rounds owner owner_in m from reached).0 in
+      let meet = planned s lawful m e first listed in
+      spreads m e first listed owner e.initiator e.responder owner_in meet.initiator meet.responder (comes_forth s lawful m e first listed came) sends (paths_fresh owner owner_in m from reached)
 
-  -- what an exchange's record says of its messages
-  module _ (m : Moment) (e : Exchange) (owner : ℕ) (first : 1 ≤ m.round) (listed : slice_get (round_list_of s m.round).exchanges m.exchanges ≡ Some e) where
-    abbrev p : Table
-    p = table_at_moment s m e.initiator
-
-    abbrev q : Table
-    q = table_at_moment s m e.responder
-
-    all_sent : (from to : ℕ) → from < s.nodes → (delta_between s.mode e.rotation s.budget (table_at_moment s m from) (table_at_moment s m to)).cut ≡ 0 → SendsCopyAt s m e.rotation owner from to
-    all_sent from to from_in none i own_item there =
-        let tables = (here m first e listed).copies in
-        sent-uncut s.mode (table_at_moment s m from) (table_at_moment s m to) e.rotation s.budget (tables.proper from (omega (arith, from_in, tables.tables.size)))
-        (omega (arith, (planned m first e listed).rotation, (tables.tables.tables from from_in).nodes)) none i there
-
-    -- by its fate
-    said : (came1 came2 came3 : Bool) → e.lost1 ≡ came1 → e.lost2 ≡ came2 → e.lost3 ≡ came3 → fate_of e ≡ (if came1 then fate.Lost1 else (if came2 then fate.Lost2 else last_fate came3))
-    said came1 came2 came3 is1 is2 is3 = λ i. if is1 i then fate.Lost1 else (if is2 i then fate.Lost2 else last_fate (is3 i))
-
-    hands_back : AnswersWhole (record_at s m e) → HandsOn s m owner e.responder e.initiator
-    hands_back whole = elim e.lost1 as (λ b. e.lost1 ≡ b → HandsOn s m owner e.responder e.initiator) [
-      | true ↦ λ lost1. absurd (whole.first (fate-recorded (fate_of e) (digest_size (digest_kind s.mode) p) (digest_size (digest_kind s.mode) q) (delta_between s.mode e.rotation s.budget q p) (delta_between s.mode e.rotation s.budget p q) ∙ ap (λ b. if b then fate.Lost1 else (if e.lost2 then fate.Lost2 else last_fate e.lost3)) lost1))
-      | false ↦ λ came1. elim e.lost2 as (λ b. e.lost2 ≡ b → HandsOn s m owner e.responder e.initiator) [
-        | true ↦ λ lost2. absurd (whole.second (fate-recorded (fate_of e) (digest_size (digest_kind s.mode) p) (digest_size (digest_kind s.mode) q) (delta_between s.mode e.rotation s.budget q p) (delta_between s.mode e.rotation s.budget p q) ∙ said false true e.lost3 came1 lost2 refl))
-        | false ↦ λ came2. back e listed came1 came2 (all_sent e.responder e.initiator (planned m first e listed).responder (answered_whole (fate_of e) (digest_size (digest_kind s.mode) p) (digest_size (digest_kind s.mode) q) p (delta_between s.mode e.rotation s.budget q p) (delta_between s.mode e.rotation s.budget p q) whole).1)
-      ] refl
-    ] refl
-
-    hands_forth : (record_at s m e).fate ≡ fate.Ok → (record_at s m e).forth_cut ≡ 0 → HandsOn s m owner e.initiator e.responder
-    hands_forth ended none =
-        let is_ok : fate_of e ≡ fate.Ok = sym (fate-recorded (fate_of e) (digest_size (digest_kind s.mode) p) (digest_size (digest_kind s.mode) q) (delta_between s.mode e.rotation s.budget q p) (delta_between s.mode e.rotation s.budget p q)) ∙ ended in
-        forth e listed (loses_nothing e is_ok)
-        (all_sent e.initiator e.responder (planned m first e listed).initiator (ended_uncut (fate_of e) (digest_size (digest_kind s.mode) p) (digest_size (digest_kind s.mode) q) (delta_between s.mode e.rotation s.budget q p) (delta_between s.mode e.rotation s.budget p q) is_ok none))
+  -- one exchange is a path from either of its nodes to the other
+  pub exchanges_fresh : ExchangesMakeFresh s
+  exchanges_fresh m e first listed =
+      let meet = planned s lawful m e first listed in
+      record {
+        initiator = λ came1 came2 sends.
+            paths_fresh e.responder meet.responder (next_moment m) e.initiator (handed m e.responder e.initiator (own m first) (back e listed came1 came2 (own_sent m e first listed e.responder e.initiator meet.responder sends)));
+        responder = λ came sends.
+            paths_fresh e.initiator meet.initiator (next_moment m) e.responder (handed m e.initiator e.responder (own m first) (forth e listed came (own_sent m e first listed e.initiator e.responder meet.initiator sends)));
+      }
 
   pub exchanges_hand_on : UncutExchangesHandOn s
-  exchanges_hand_on m e owner first listed = (hands_back m e owner first listed, hands_forth m e owner first listed)
+  exchanges_hand_on m e owner first listed =
+      let meet = planned s lawful m e first listed in
+      let size : ℕ → ℕ = λ n. digest_size (digest_kind s.mode) (table_at_moment s m n) in (
+        λ whole.
+            let said = answered_whole e.lost1 e.lost2 e.lost3 (size e.initiator) (size e.responder) (delta s lawful m e first listed e.responder e.initiator) (delta s lawful m e first listed e.initiator e.responder) whole in
+            back e listed said.0 said.1 (all_sent m e first listed owner e.responder e.initiator meet.responder said.2),
+        λ is_ok none.
+            let said = ended_whole e.lost1 e.lost2 e.lost3 (size e.initiator) (size e.responder) (delta s lawful m e first listed e.responder e.initiator) (delta s lawful m e first listed e.initiator e.responder) is_ok none in
+            forth e listed said.0 (all_sent m e first listed owner e.initiator e.responder meet.initiator said.1),
+      )

@@ -1,35 +1,27 @@
 -- On a ring quiet rounds, as many as a node has others, make all copies fresh.
--- Serves `quiet_rings_heal`, `Floors`, `Formats` and `Paths`.
+-- Serves `quiet_rings_heal`, `Floors` and `Formats`.
 use Rattle.std.proofs.Common.{◌≡◌, ◌≢◌, ℕ, zero, suc, ◌+◌, ◌-◌, ◌*◌, ◌/◌, ◌%◌, ◌<◌, ◌≤◌, Bool, true, false, not, ◌&&◌, cond, eqb, if◌then◌else◌, List, [], ◌∷◌, map, length, get_or, All, Some, None, ◌⊎◌, inl, inr, refl, sym, ap, ◌∙◌, subst, arith}
 use Rattle.std.specs.Prelude.{slice_get, Contains}
 use Rattle.std.specs.List.{range_with_len, filter, sum_by}
 use Rattle.std.specs.Option.{option_map}
 use Rattle.std.proofs.Math.Nat.{mod-lt, mod-eq_of_lt, mod-add-div, add-mul-mod_self_left, add-mod_right}
 use Rattle.std.proofs.lemmas.Bool.{cases_lt, cases_eq, ne_eqb, le-ltb}
-use Rattle.std.proofs.lemmas.Option.{get_or_from_slice_get, slice_get-get_or, slice_get_within}
+use Rattle.std.proofs.lemmas.Option.{slice_get-get_or}
 use Rattle.std.proofs.lemmas.List.Elements.{All-tail}
 use Rattle.std.proofs.lemmas.List.Sums.{sum_by-cons}
 use Rattle.std.proofs.lemmas.List.FromFn.{get_or-map-range_with_len, length-map-range_with_len, get_or-range_with_len, length-range_with_len}
 use Rattle.bench_types.specs.declared.entries.Entry.{Entry}
 use Rattle.bench_types.specs.declared.entries.Mark.{Mark}
-use Rattle.bench_types.specs.declared.exchanges.Exchange.{Exchange}
-use Rattle.bench_types.specs.declared.exchanges.Fate.{Fate}
-use Rattle.bench_types.specs.declared.exchanges.Fate.TheVariants as fate
 use Rattle.bench_types.specs.Mark.{mark_of, is_before, IsUpTo}
-use Rattle.bench_types.specs.Mode.{digest_kind}
 use Rattle.bench_types.specs.Sums.{sum_below, most_below}
 use Rattle.bench_types.proofs.Marks.{before-no}
 use Rattle.scenario.specs.declared.choices.Peers.TheVariants.{Ring}
 use Rattle.scenario.specs.Settings.{Settings, IsLawfulScenario}
-use Rattle.model.specs.Table.{Table, applied, entry_at, mark_at, greatest_version}
+use Rattle.model.specs.Table.{Table, entry_at, mark_at, greatest_version}
 use Rattle.model.specs.Tables.{table_of_node}
-use Rattle.model.specs.Deltas.{DeltaView, delta_between}
-use Rattle.model.specs.Digests.{digest_size}
-use Rattle.model.specs.Exchanged.{fate_of, initiator_after, sent_until}
 use Rattle.model.specs.Figures.{writes_of_owner, generation_at, staleness_of, staleness_at, is_left_over, leftover_at, stale_count, rounds_behind, figures_of}
 use Rattle.model.specs.declared.writes.Write.{Write}
 use Rattle.model.specs.Writes.{write_of_entry, first_above}
-use Rattle.model.proofs.DeltaLaws.{sent-uncut}
 use Rattle.round_plan.specs.Generations.{generation_upto}
 use Rattle.round_plan.specs.Outages.{is_up}
 use Rattle.round_plan.specs.Peer.{ring_peer, peer_by, peer_of}
@@ -37,15 +29,16 @@ use Rattle.round_plan.specs.Plan.{begins, exchange_of, round_list_of}
 use Rattle.round_plan.specs.Words.{word_of}
 use Rattle.round_plan.specs.Writes.{count_before, count_upto, own_write_at, writes_in, writes_upto}
 use Rattle.round_plan.proofs.Growth.{next-writes_upto}
-use Rattle.round_plan.proofs.Planned.{planned_list}
 use Rattle.round_plan.proofs.Written.{written-writes_upto}
 use Rattle.simulation.specs.Lists.{list_after, lists_after}
-use Rattle.simulation.specs.Rounds.{tables_after, records_in}
-use Rattle.simulation.specs.Soundness.{writes_by, AreSound, tables_within}
-use Rattle.model.specs.Fresh.{HasOwnPart}
-use Rattle.simulation.specs.Healing.{LeavesCopy, AnswersWhole, IsQuiet, HaveWrittenSince, IsHealed, QuietRingsHeal}
-use Rattle.model.proofs.Fresh.{HasAllOf, fresh_from, of_generation, not_behind}
-use Rattle.simulation.proofs.Healing.{HasAll, sound, initiator_all, record_of, recorded, stays_to_end, stays_through}
+use Rattle.simulation.specs.Rounds.{tables_after}
+use Rattle.simulation.specs.Soundness.{writes_by, AreSound}
+use Rattle.model.specs.Fresh.{HasOwnPart, IsFresh}
+use Rattle.simulation.specs.Healing.{Moment, IsUpToMoment, LeavesCopy, IsQuiet, HaveWrittenSince, IsHealed, QuietRingsHeal}
+use Rattle.model.proofs.Fresh.{HasAllOf, has_all, of_generation, not_behind}
+use Rattle.simulation.specs.Paths.{next_moment, record_at, HandsOn, own, stays, handed}
+use Rattle.simulation.proofs.Moments.{ended, recorded, sound}
+use Rattle.simulation.proofs.Paths.{exchanges_hand_on, paths_fresh}
 use Rattle.simulation.proofs.Soundness.{counts_after}
 
 -- so many steps from a start there is one with a given rest
@@ -95,13 +88,6 @@ sum_none f [] x none (k, lt, is) = absurd (omega arith)
 sum_none f (y ∷ ys) x none (zero, lt, is) = subst (λ z. f z ≡ 0) is (omega (arith, none, sum_by-cons f y ys))
 sum_none f (y ∷ ys) x none (suc k, lt, is) = sum_none f ys x (omega (arith, none, sum_by-cons f y ys)) (k, omega arith, is)
 
--- an exchange that answers in whole brings the initiator all of a delta that cut nothing
-pub answered_whole : (f : Fate) (d1 d2 : ℕ) (p : Table) (back forth : DeltaView) → AnswersWhole (sent_until f d1 d2 back forth) → (initiator_after f p back ≡ applied p back.items) × (back.cut ≡ 0)
-answered_whole fate.Lost1 d1 d2 p back forth is = absurd (is.first refl)
-answered_whole fate.Lost2 d1 d2 p back forth is = absurd (is.second refl)
-answered_whole fate.Lost3 d1 d2 p back forth is = (refl, is.cut)
-answered_whole fate.Ok d1 d2 p back forth is = (refl, is.cut)
-
 pub sum_below-none : (n : ℕ) (f : ℕ → ℕ) → ((i : ℕ) → i < n → f i ≡ 0) → sum_below n f ≡ 0
 sum_below-none zero f none = refl
 sum_below-none (suc n) f none = omega (arith, sum_below-none n f (λ i lt. none i (omega (arith, lt))), none n (omega arith))
@@ -129,7 +115,7 @@ none_above generation key mark (e ∷ es) behind =
 
 module _ (s : Settings) (lawful : IsLawfulScenario s) where
   -- what a round's figures say where all copies are fresh
-  module _ (round : ℕ) (all : (holder owner : ℕ) → holder < s.nodes → owner < s.nodes → HasAllOf owner (table_of_node (tables_after s round) holder) (table_of_node (tables_after s round) owner)) where
+  module _ (round : ℕ) (fresh : (holder owner : ℕ) → holder < s.nodes → owner < s.nodes → IsFresh (table_of_node (tables_after s round) holder) (table_of_node (tables_after s round) owner)) where
     abbrev ts : List Table
     ts = tables_after s round
 
@@ -138,6 +124,9 @@ module _ (s : Settings) (lawful : IsLawfulScenario s) where
 
     size : length ts ≡ s.nodes
     size = after.copies.tables.size
+
+    all : (holder owner : ℕ) → holder < s.nodes → owner < s.nodes → HasAllOf owner (table_of_node ts holder) (table_of_node ts owner)
+    all holder owner in_nodes owner_in = has_all (writes_by s round) s.nodes s.keys ts after.copies holder owner in_nodes owner_in (fresh holder owner in_nodes owner_in)
 
     counts : (n : ℕ) → n < s.nodes → ((table_of_node ts n).generation ≡ generation_upto s n round) × (greatest_version (table_of_node ts n) n ≡ count_upto s n round)
     counts = counts_after s lawful.nodes.0 lawful.nodes.1 lawful.keys.0 lawful.keys.1 round
@@ -192,7 +181,7 @@ module _ (s : Settings) (lawful : IsLawfulScenario s) where
     healed : IsHealed s round
     unfolding figures_of
     healed = record {
-      fresh = λ holder owner in_nodes owner_in. fresh_from (writes_by s round) s.nodes s.keys ts after.copies holder owner in_nodes owner_in (all holder owner in_nodes owner_in);
+      fresh = fresh;
       stale = triples sum_below sum_below-none (λ p r k. stale_count (staleness_at round ts (lists_after s round) p r k)) (λ p r k p_in r_in. ap stale_count (not_stale p r p_in r_in k));
       greatest = triples most_below most_below-none (λ p r k. rounds_behind (staleness_at round ts (lists_after s round) p r k)) (λ p r k p_in r_in. ap rounds_behind (not_stale p r p_in r_in k));
       leftover = λ since. triples sum_below sum_below-none (leftover_at ts) (λ p r k p_in r_in. not_left_over p r p_in r_in k since);
@@ -227,44 +216,12 @@ module _ (s : Settings) (lawful : IsLawfulScenario s) where
         ∙ slice_get-get_or (map (exchange_of s round) (range_with_len 0 s.nodes)) n (exchange_of s round n) (omega (arith, lt, length-map-range_with_len (exchange_of s round) 0 s.nodes))
         ∙ ap Some (get_or-map-range_with_len (exchange_of s round) 0 s.nodes n n (exchange_of s round n) lt (omega arith))
 
-    -- what it learns of its peer
-    module _ (n : ℕ) (lt : n < s.nodes) where
-      abbrev e : Exchange
-      e = exchange_of s round n
-
-      abbrev p : Table
-      p = table_of_node (tables_within s round n) n
-
-      abbrev q : Table
-      q = table_of_node (tables_within s round n) e.responder
-
-      kept : Contains (records_in s round) (record_of s lawful round n first e (listed n lt))
-      kept = recorded s lawful round n first e (listed n lt)
-
-      abbrev back : DeltaView
-      back = delta_between s.mode e.rotation s.budget q p
-
-      whole : (initiator_after (fate_of e) p back ≡ applied p back.items) × (back.cut ≡ 0)
-      whole =
-          answered_whole (fate_of e) (digest_size (digest_kind s.mode) p) (digest_size (digest_kind s.mode) q) p back (delta_between s.mode e.rotation s.budget p q)
-          (quiet.answered (record_of s lawful round n first e (listed n lt)) kept)
-
-      here : AreSound s round (tables_within s round n)
-      here = (sound s lawful).within round n first
-
-      q_rotation : e.rotation < q.nodes
-      q_rotation = subst (λ m. e.rotation < m) (sym (here.copies.tables.tables e.responder (peer_below n)).nodes) rotation_in
-        where
-          rotation_in : e.rotation < s.nodes
-          rotation_in =
-              let is = get_or_from_slice_get (round_list_of s round).exchanges n e e (listed n lt) in
-              subst (λ (x : Exchange). x.rotation < s.nodes) is (planned_list s round lawful.nodes.0 n e (slice_get_within (round_list_of s round).exchanges n e (listed n lt))).rotation
-
-      learns : HasAll s lawful (tables_after s round) n e.responder
-      learns =
-          stays_to_end s lawful n e.responder lt (peer_below n) round (n + 1) first
-          (initiator_all s lawful round n first e (listed n lt) whole.0
-          (λ i own there. sent-uncut s.mode q p e.rotation s.budget (here.copies.proper e.responder (omega (arith, peer_below n, here.copies.tables.size))) q_rotation whole.1 i there))
+    -- which hands its initiator all that its responder has
+    hands : (n : ℕ) → n < s.nodes → HandsOn s (record { round = round; exchanges = n }) (peer_of s n round) (peer_of s n round) n
+    hands n lt =
+        let m : Moment = record { round = round; exchanges = n } in
+        let e = exchange_of s round n in
+        (exchanges_hand_on s lawful m e e.responder first (listed n lt)).0 (quiet.answered (record_at s m e) (recorded s lawful m e first (listed n lt)))
 
     -- and leaves what copies have
     leaves : (holder owner : ℕ) → holder < s.nodes → LeavesCopy s holder owner round
@@ -278,27 +235,32 @@ module _ (s : Settings) (lawful : IsLawfulScenario s) where
         none false = refl
 
   pub rings_heal : QuietRingsHeal s
-  rings_heal ring round quiet = healed (round + (s.nodes - 1)) all
+  rings_heal ring round quiet = healed last fresh
     where
-      quiet_at : (t : ℕ) → round < t → t ≤ round + (s.nodes - 1) → IsQuiet s t
+      last : ℕ
+      last = round + (s.nodes - 1)
+
+      quiet_at : (t : ℕ) → round < t → t ≤ last → IsQuiet s t
       quiet_at t above upto =
           let is : round + 1 + (t - round - 1) ≡ t = omega (arith, above) in
           subst (IsQuiet s) is (quiet (t - round - 1) (omega (arith, above, upto)))
 
-      all : (holder owner : ℕ) → holder < s.nodes → owner < s.nodes → HasAll s lawful (tables_after s (round + (s.nodes - 1))) holder owner
-      all holder owner in_nodes owner_in = elim (cases_eq holder owner) [
-        | inl same ↦ λ key x held. subst (λ n. entry_at (table_of_node (tables_after s (round + (s.nodes - 1))) n) owner key ≡ Some x) (sym same) held
+      -- the path to a holder: the owner meets it, and it keeps what it got
+      fresh : (holder owner : ℕ) → holder < s.nodes → owner < s.nodes → IsFresh (table_of_node (tables_after s last) holder) (table_of_node (tables_after s last) owner)
+      fresh holder owner in_nodes owner_in = elim (cases_eq holder owner) [
+        | inl same ↦ subst (λ n. IsFresh (table_of_node (tables_after s last) holder) (table_of_node (tables_after s last) n)) same (λ written key. refl)
         | inr apart ↦
             let there = ring_meets s.nodes holder owner round in_nodes owner_in apart in
             let met : ℕ = round + 1 + there.0 in
-            let more : ℕ = s.nodes - 1 - 1 - there.0 in
-            let last : met + more ≡ round + (s.nodes - 1) = omega (arith, there.1) in
             let first : 1 ≤ met = omega arith in
             let at_it : IsQuiet s met = quiet there.0 there.1 in
-            let learnt = learns ring met first at_it holder in_nodes in
-            let peer : (exchange_of s met holder).responder ≡ owner = peer_is ring met first at_it holder ∙ there.2 in
-            subst (λ t. HasAll s lawful (tables_after s t) holder owner) last
-            (stays_through s lawful holder owner in_nodes owner_in more met
-            (λ t above upto. leaves ring t (omega (arith, above)) (quiet_at t (omega (arith, above)) (omega (arith, upto, last))) holder owner in_nodes)
-            (subst (λ o. HasAll s lawful (tables_after s met) holder o) peer learnt))
+            let peer : peer_of s holder met ≡ owner = peer_is ring met first at_it holder ∙ there.2 in
+            let m : Moment = record { round = met; exchanges = holder } in
+            let end : Moment = record { round = last; exchanges = holder + 1 + length (round_list_of s last).exchanges } in
+            let handed_on = subst (λ o. HandsOn s m o o holder) peer (hands ring met first at_it holder in_nodes) in
+            let upto : IsUpToMoment (next_moment m) end = elim (cases_lt met last) [ inl less ↦ inl less | inr not ↦ inr (omega (arith, not, there.1), omega arith) ] in
+            subst (λ ts. IsFresh (table_of_node ts holder) (table_of_node ts owner)) (ended s lawful last (holder + 1) (omega (arith, there.1)))
+            (paths_fresh s lawful owner owner_in end holder
+            (stays (next_moment m) end holder (handed m owner holder (own m first) handed_on) upto
+            (λ t above upto. leaves ring t (omega (arith, above)) (quiet_at t (omega (arith, above)) upto) holder owner in_nodes)))
       ]

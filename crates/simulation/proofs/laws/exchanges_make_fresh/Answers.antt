@@ -1,4 +1,4 @@
-use Rattle.simulation.proofs.Healing.{exchanges_fresh}
+use Rattle.simulation.proofs.Paths.{exchanges_fresh}
 use Rattle.simulation.proofs.laws.exchanges_make_fresh.Goals as goal
 
 pub returns : goal.returns

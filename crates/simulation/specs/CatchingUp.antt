@@ -1,5 +1,8 @@
 -- How far copies lag while owners write, in a run that has cut nothing: a path of exchanges brings all that its owner
--- had written when it began. Source: this project.
+-- had written when it began. In a scuttle mode it doesn't where others cut: an owner writes two keys, and a node gets
+-- both; the owner writes both again, and a delta that is cut behind the first brings that to a third node. This one's
+-- mark is then above all that the second node holds, so it gets nothing from there, and lacks the other key. Source:
+-- this project.
 use Rattle.std.specs.Prelude.{◌≡◌, ◌≢◌, ℕ, ◌-◌, ◌<◌, ◌≤◌, false, length, slice_get, Some}
 use Rattle.bench_types.specs.declared.exchanges.Exchange.{Exchange}
 use Rattle.bench_types.specs.Mark.{IsUpTo}

@@ -18,9 +18,9 @@ pub fn every_run_is_sound()
     ensures { (s : Settings) → IsLawfulScenario s → IsSoundRun s }
 {}
 
-/// A direct exchange makes fresh. In each mode a side that the other's delta reaches, with none of the
-/// other's own entries cut, comes to hold of the other exactly what that holds of itself. Where the other
-/// has written nothing since it forgot, this says nothing: what is left over of it may stay.
+/// A direct exchange makes fresh. In each mode, where a side's delta reaches the other with none of that side's own
+/// entries cut, the copy there equals its owner's state, provided that the owner has written since it last forgot.
+/// Where it hasn't, what is left over of it may stay.
 pub fn exchanges_make_fresh()
     ensures { (s : Settings) → IsLawfulScenario s → ExchangesMakeFresh s }
 {}

@@ -5,3 +5,4 @@ pub mod Turns
 pub mod Collecting
 pub mod Joining
 pub mod Ordered
+pub mod Dealing

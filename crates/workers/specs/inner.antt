@@ -4,5 +4,6 @@ pub mod Joined
 pub mod Starts
 pub mod Returns
 pub mod Deques
+pub mod Pushes
 pub mod Workshops
 pub mod Works

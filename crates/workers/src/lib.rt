@@ -18,6 +18,7 @@ mod deques;
 mod gates;
 mod gathering;
 mod in_order;
+mod pushes;
 mod runs;
 mod threads;
 mod workers;

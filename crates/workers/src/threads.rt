@@ -11,7 +11,7 @@ ghost use Rattle.workers.specs.inner.Works.{MayWorkOn, HasWorkedOn};
 ghost use Rattle.workers.specs.inner.Workshops.{IsWorkshop};
 ghost use Rattle.workers.specs.inner.Joined.{HasTakenIn, HasSeenAll, IsEndOf, IsOfBoard, AreTogether};
 
-use crate::deques::{Limit, Tasks, deal};
+use crate::deques::{Limit, Tasks};
 use crate::gates::Gate;
 use crate::gathering::in_list_order;
 use crate::workers::{Returned, Workshop};
@@ -93,7 +93,7 @@ fn begin<L: Limit, T: MemoryTable>(
     ensures fault { IfErr result (λ f. f ≡ OutOfMemory) }
 {
     let deps = Deps::new(alloc, list)?;
-    let tasks = deal::<L>(alloc, workers, deps.first_ready())?;
+    let tasks = Tasks::<L>::deal(alloc, workers, deps.first_ready())?;
     let (board, seat) = Board::new(alloc, deps, *rules, tables)?;
     Ok((board, seat, tasks))
 }

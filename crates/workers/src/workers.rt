@@ -35,6 +35,7 @@ pub(crate) struct Returned<T> {
 }
 
 impl<'a, T: MemoryTable, X: Exchanging<T>, G: Gate> Workshop<'a, T, X, G> {
+    ghost use Rattle.workers.specs.inner.Pushes.{PushesFreed, pushed};
     ghost use Rattle.workers.specs.inner.Workshops.{IsWorkshop};
     ghost use Rattle.workers.specs.inner.Returns.{HasCarriedOut, HasRecords, IsFreshSeat, IsReturned, SeesTheEnd, StaysAtWork};
 
@@ -72,6 +73,8 @@ impl<'a, T: MemoryTable, X: Exchanging<T>, G: Gate> Workshop<'a, T, X, G> {
         ensures stays { StaysAtWork (seat_view seat.old) (seat_view seat.new) }
         ensures records { IfOk result (λ stamps. HasRecords T.table self.now.board.now seat.new stamps.items) }
         ensures ends { OnOk result (SeesTheEnd (plan_of T.table self.now.board.now) (seat_view seat.new)) }
+        ensures pushes { OnOk result
+            (PushesFreed (seat_view seat.old) (pushed tasks.old) (seat_view seat.new) (pushed tasks.new)) }
         ensures only { IsOkUnless result OutOfMemory }
     {
         let mut stamps = Vec::new(self.alloc);
@@ -109,18 +112,16 @@ impl<'a, T: MemoryTable, X: Exchanging<T>, G: Gate> Workshop<'a, T, X, G> {
         ensures seat { IsSeatOf T.table seat.new self.now.board.now }
         ensures stays { StaysAtWork (seat_view seat.old) (seat_view seat.new) }
         ensures records { OnOk result (HasRecords T.table self.now.board.now seat.new stamps.new.items) }
+        ensures pushes { OnOk result
+            (PushesFreed (seat_view seat.old) (pushed tasks.old) (seat_view seat.new) (pushed tasks.new)) }
         ensures only { IsOkUnless result OutOfMemory }
     {
         let Claim::Held(hold) = self.board.claim(seat, i) else {
             return Ok(());
         };
         let (stamped, freed) = self.carry_out(seat, hold)?;
-        if let Some(next) = freed.first {
-            tasks.push(next)?;
-        }
-        if let Some(next) = freed.second {
-            tasks.push(next)?;
-        }
+        tasks.push_freed(freed.first)?;
+        tasks.push_freed(freed.second)?;
         stamps.push(stamped)?;
         Ok(())
     }

@@ -1,10 +1,12 @@
 use Rattle.std.proofs.Common.{◌≡◌, ℕ, List, [], ◌∷◌, ◌++◌, map, All, sym, ap, ◌∙◌, subst, arith}
-use Rattle.std.proofs.lemmas.List.{map-append}
+use Rattle.std.proofs.lemmas.List.{append_assoc, map-append}
 use Rattle.std.proofs.lemmas.List.Elements.{All-append, All-cons}
 use Rattle.board.specs.SeatView.{SeatView}
 use Rattle.board.specs.Plan.{BoardPlan, exchanged_at}
 use Rattle.board.specs.declared.boards.Freed.{Freed}
 use Rattle.collector.specs.declared.collectors.Stamped.{Stamped}
+use Rattle.dependencies.specs.Neighbours.{as_list}
+use Rattle.workers.specs.inner.Pushes.{pushed}
 use Rattle.workers.specs.inner.Returns.{HasDone, AreRecordsOf}
 use Rattle.board.specs.Boards.{plan_of, seat_view}
 use Rattle.board.proofs.Claimed.{now_held}
@@ -31,5 +33,17 @@ carry_out-requires-clause-held g c = λ _ _. now_held g.T.MemoryTable.table (pla
 
 pub returns-clause-records : goal.returns-clause-records
 returns-clause-records g c =
-    one_more_record (plan_of g.T.MemoryTable.table c.args.self.now.board.now) (seat_view c.args.seat.now) (seat_view c.claim.new.seat) (seat_view c.carry_out.new.seat) c.args.stamps.now.items c.push-2.new.self.items c.in-Held.hold.index c.in_ok-stamped.stamped c.in_ok-stamped.freed
-    (ap (λ (v : SeatView). v.made) c.in-Held.ensures.claim.1) c.in_ok-push-3.ensures.items c.requires.records c.in_ok-stamped.ensures.done
+    one_more_record (plan_of g.T.MemoryTable.table c.args.self.now.board.now) (seat_view c.args.seat.now) (seat_view c.claim.new.seat) (seat_view c.carry_out.new.seat) c.args.stamps.now.items c.push.new.self.items c.in-Held.hold.index c.in_ok-stamped.stamped c.in_ok-stamped.freed
+    (ap (λ (v : SeatView). v.made) c.in-Held.ensures.claim.1) c.in_ok-push.ensures.items c.requires.records c.in_ok-stamped.ensures.done
+
+pub returns-clause-pushes : goal.returns-clause-pushes
+returns-clause-pushes g c =
+    let first : List ℕ = as_list c.in_ok-stamped.freed.first in
+    let second : List ℕ = as_list c.in_ok-stamped.freed.second in record {
+      ready = first ++ second;
+      freed =
+          ap (λ (v : SeatView). v.freed) c.in_ok-stamped.ensures.done.put_back.seat
+          ∙ append_assoc (seat_view c.claim.new.seat).freed first second
+          ∙ ap (λ (v : SeatView). v.freed ++ (first ++ second)) c.in-Held.ensures.claim.1;
+      pushed = c.in_ok-push_freed-2.ensures.pushed ∙ ap (λ l. l ++ second) c.in_ok-push_freed.ensures.pushed ∙ append_assoc (pushed c.args.tasks.now) first second;
+    }

@@ -1,5 +1,6 @@
-use Rattle.std.proofs.Common.{◌≡◌, vec_len}
-use Rattle.workers.proofs.deques.deal.Given as goal
+use Rattle.std.proofs.Common.{◌≡◌, map, vec_len}
+use Rattle.workers.specs.inner.Pushes.{AreDealt, pushed}
+use Rattle.workers.proofs.deques.Tasks.deal.Given as goal
 
 abbrev pub invariant-loop : goal.invariant-loop
 invariant-loop g l = vec_len l.tasks ≡ l.counter
@@ -11,4 +12,7 @@ abbrev pub invariant-loop-worker : goal.invariant-loop-worker
 invariant-loop-worker g l = vec_len l.tasks ≡ l.count
 
 abbrev pub invariant-loop-place : goal.invariant-loop-place
-invariant-loop-place g l = vec_len l.tasks ≡ l.count
+invariant-loop-place g l = record {
+  one_each : vec_len l.tasks ≡ l.count;
+  dealt : AreDealt l.ready (map pushed l.tasks.items) l.place;
+}

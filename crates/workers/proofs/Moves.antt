@@ -3,9 +3,9 @@
 use Rattle.std.proofs.Common.{ℕ, List, [], ◌∷◌, ◌<◌, ◌++◌, length, refl, subst, arith}
 use lib.Seq.{take-append_seam, drop-append_seam}
 use Rattle.std.proofs.lemmas.List.Elements.{All-append, All-cons, All-take, All-drop}
-use Rattle.crossbeam_deque.specs.Tasks.{Pushes as Pushes_, Takes}
+use Rattle.crossbeam_deque.specs.Tasks.{Pushes, Takes}
 use Rattle.workers.specs.inner.Deques.{AllBelow, IsPushed, IsTaken}
-use Rattle.workers.specs.declared.pushes.Pushes.{Pushes}
+use Rattle.workers.specs.declared.push_logs.PushLog.{PushLog}
 
 front_below : (limit : ℕ) (xs ys : List ℕ) → AllBelow limit (xs ++ ys) → AllBelow limit xs
 front_below limit xs ys below = subst (AllBelow limit) (take-append_seam xs ys) (All-take (λ i. i < limit) (length xs) (xs ++ ys) below)
@@ -13,10 +13,10 @@ front_below limit xs ys below = subst (AllBelow limit) (take-append_seam xs ys) 
 rest_below : (limit : ℕ) (xs ys : List ℕ) → AllBelow limit (xs ++ ys) → AllBelow limit ys
 rest_below limit xs ys below = subst (AllBelow limit) (drop-append_seam xs ys) (All-drop (λ i. i < limit) (length xs) (xs ++ ys) below)
 
-pub takes_below : (limit port : ℕ) (v : Pushes) (most : ℕ) → Takes (λ items _. AllBelow limit items) port v most (IsTaken limit v)
+pub takes_below : (limit port : ℕ) (v : PushLog) (most : ℕ) → Takes (λ items _. AllBelow limit items) port v most (IsTaken limit v)
 takes_below limit port v most xs items views _ _ below _ = (v, rest_below limit xs items below, (front_below limit xs items below, refl))
 
-pub pushes_below : (limit port : ℕ) (v : Pushes) (i : ℕ) → i < limit → Pushes_ (λ items _. AllBelow limit items) port v (i ∷ []) (IsPushed v (i ∷ []))
+pub pushes_below : (limit port : ℕ) (v : PushLog) (i : ℕ) → i < limit → Pushes (λ items _. AllBelow limit items) port v (i ∷ []) (IsPushed v (i ∷ []))
 pushes_below limit port v i lt items views below _ =
     let one : AllBelow limit (i ∷ []) = All-cons (λ j. j < limit) i [] lt (λ k d none. absurd (omega arith)) in
     (record { indices = v.indices ++ i ∷ [] }, All-append (λ j. j < limit) items (i ∷ []) below one, refl)

@@ -6,7 +6,7 @@ ghost use Rattle.crossbeam_deque.specs.Handles.{IsPassOf, stealer_deque, worker_
 ghost use Rattle.dependencies.specs.Neighbours.{as_list};
 ghost use Rattle.workers.specs.inner.Deques.{AllBelow, IsPushed, IsTaken, no_pushes};
 
-use crate::pushes::Pushes;
+use crate::push_logs::PushLog;
 use bench_types::Fault;
 use crossbeam_deque::protocol::{Outcome, Protocol};
 use crossbeam_deque::{Pass, Stealer, Worker};
@@ -25,7 +25,7 @@ impl Limit for Brand {
 // The rule of a deque: each index is one of the list. And what a pop and a steal tell.
 pub struct Below<L>(PhantomData<L>);
 
-impl<L: Limit> Protocol<u32, Pushes> for Below<L> {
+impl<L: Limit> Protocol<u32, PushLog> for Below<L> {
     ghost holds = { λ items _. AllBelow L.limit items };
 
     ghost first = { no_pushes };
@@ -33,29 +33,29 @@ impl<L: Limit> Protocol<u32, Pushes> for Below<L> {
     ghost guest = { no_pushes };
 }
 
-impl<L: Limit> Outcome<u32, Pushes> for Below<L> {
+impl<L: Limit> Outcome<u32, PushLog> for Below<L> {
     ghost then = { IsTaken L.limit };
 }
 
 // What a push tells.
-struct Behind;
+struct Push;
 
-impl Outcome<u32, Pushes> for Behind {
+impl Outcome<u32, PushLog> for Push {
     ghost then = { IsPushed };
 }
 
 // The way to another worker's deque.
 #[derive(Drop)]
 struct Way<L: Limit> {
-    from: Stealer<u32, Global, Pushes, Below<L>>,
-    pass: Pass<u32, Pushes>,
+    from: Stealer<u32, Global, PushLog, Below<L>>,
+    pass: Pass<u32, PushLog>,
     ghost fits: { IsPassOf (stealer_deque from) pass },
 }
 
 /// Where a worker finds exchanges to try: its own deque, and those of the others.
 #[derive(Drop)]
 pub(crate) struct Tasks<L: Limit> {
-    own: Worker<u32, Global, Pushes, Below<L>>,
+    own: Worker<u32, Global, PushLog, Below<L>>,
     // In the order in which it steals from them.
     others: Vec<Way<L>>,
     ghost in_order: { worker_flavor own ≡ 0 },
@@ -99,9 +99,7 @@ impl<L: Limit> Tasks<L> {
         ensures pushed { OnOk result (pushed self.new ≡ pushed self.old ++ i ∷ []) }
         ensures only { IsOkUnless result OutOfMemory }
     {
-        self.own
-            .push_as::<Behind>(i)
-            .map_err(|_| Fault::OutOfMemory)
+        self.own.push_as::<Push>(i).map_err(|_| Fault::OutOfMemory)
     }
 
     /// Puts an exchange that was made ready on its own deque, if there is one. An error is lack of memory.

@@ -18,7 +18,7 @@ mod deques;
 mod gates;
 mod gathering;
 mod in_order;
-mod pushes;
+mod push_logs;
 mod runs;
 mod threads;
 mod workers;

@@ -4,7 +4,9 @@ ghost use Rattle.std.specs.Prelude.{◌≡◌, ◌+◌, ◌<◌, ◌≤◌, [], 
 ghost use Rattle.bench_types.specs.declared.faults.Fault.TheVariants.{OutOfMemory, NoThread};
 ghost use Rattle.model.specs.calls.Tables.{IsCluster};
 ghost use Rattle.board.specs.Boards.{plan_of, seat_view, IsMadeOf, IsSeatOf};
+ghost use Rattle.dependencies.specs.Neighbours.{first_ready_of};
 ghost use Rattle.model.specs.Runs.{IsFaultOfWorkers};
+ghost use Rattle.workers.specs.inner.Pushes.{AreDealt, pushed};
 ghost use Rattle.workers.specs.inner.Returns.{IsFreshSeat, IsReturned};
 ghost use Rattle.workers.specs.inner.Starts.{AreSeveral, MaySplit};
 ghost use Rattle.workers.specs.inner.Works.{MayWorkOn, HasWorkedOn};
@@ -90,6 +92,8 @@ fn begin<L: Limit, T: MemoryTable>(
     ensures board { IfOk result (λ begun. IsMadeOf T.table rules.now list.now tables.items begun.0) }
     ensures first { IfOk result (λ begun. MaySplit T.table begun.0 begun.1 (vec_len begun.2)) }
     ensures one_each { IfOk result (λ begun. vec_len begun.2 ≡ workers) }
+    ensures dealt { IfOk result (λ begun. let ready = first_ready_of list.now.exchanges in
+        AreDealt ready (map pushed begun.2.items) (length ready)) }
     ensures fault { IfErr result (λ f. f ≡ OutOfMemory) }
 {
     let deps = Deps::new(alloc, list)?;

@@ -2,6 +2,7 @@ use Rattle.std.proofs.Common.{length, map, sym, ap, subst, ◌∙◌}
 use Rattle.model.specs.calls.Tables.{IsCluster}
 use Rattle.dependencies.specs.Neighbours.{first_ready_of}
 use Rattle.workers.specs.inner.Deques.{AllBelow}
+use Rattle.workers.specs.inner.Pushes.{AreDealt, pushed}
 use Rattle.workers.specs.inner.Starts.{AreSeveral}
 use Rattle.workers.proofs.Ordered.{ready_below}
 use Rattle.workers.proofs.threads.begin.Goals as goal
@@ -27,3 +28,8 @@ returns-clause-first g c = record {
 
 pub returns-clause-one_each : goal.returns-clause-one_each
 returns-clause-one_each g c = c.in_ok-tasks.ensures.one_each
+
+pub returns-clause-dealt : goal.returns-clause-dealt
+returns-clause-dealt g c =
+    let ready = c.first_ready.ensures ∙ ap (λ l. first_ready_of l.exchanges) c.in_ok-deps.ensures.value in
+    subst (λ l. AreDealt l (map pushed c.in_ok-tasks.tasks.items) (length l)) ready c.in_ok-tasks.ensures.dealt

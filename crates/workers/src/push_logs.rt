@@ -5,10 +5,10 @@ ghost use Rattle.std.specs.Borrow.{ftrue};
 use std::marker::Model;
 
 // The indices, in order. No value of it is made.
-pub struct Pushes {
+pub struct PushLog {
     pub ghost indices: { List ℕ },
 }
 
-impl Model for Pushes {
+impl Model for PushLog {
     ghost also_owns = { λ _. ftrue };
 }

@@ -5,7 +5,7 @@ use exchange::exchange;
 use model::Exchanging;
 use node_table::NodeTable;
 use owner_lists::OwnerList;
-use round_tables::{RoundHistories, TakesAll};
+use round_tables::{Hands, RoundHistories, TakesAll};
 use staleness::figures;
 use std::alloc::Global;
 use std::marker::Model;
@@ -100,7 +100,7 @@ impl RoundHistories<NodeTable> for EntryHistories {
         alloc: Global,
         tables: &[NodeTable],
         round: u32,
-        _workers: u32,
+        _hands: Hands,
     ) -> Result<Figures, Fault> {
         figures(rt, alloc, tables, &self.lists, round)
     }

@@ -9,6 +9,8 @@
 //!   `has_ended` says so, and histories that need no such note have a relation that always holds.
 #![tactic(auto)]
 
+mod hands;
 mod round_tables;
 
+pub use hands::{Hands, processors};
 pub use round_tables::{RoundHistories, TakesAll};

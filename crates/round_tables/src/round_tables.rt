@@ -1,5 +1,6 @@
 //! What all owners have written in a run, beside the nodes' tables.
 
+use crate::hands::Hands;
 use bench_types::{Fault, Figures};
 use model::{Exchanging, MemoryTable};
 use std::alloc::Global;
@@ -91,15 +92,14 @@ pub trait RoundHistories<T: MemoryTable>: Exchanging<T> + Drop {
         requires written { AreWrittenBy round (lists self.now) }
         ensures { (t : Table) → StandsAmong (lists self.now) t → Self.fits self.now t };
 
-    /// The figures at the end of a round. How many workers carried out its exchanges may bear on the time that this
-    /// takes, and on nothing else.
+    /// The figures at the end of a round. The hands bear on the time and memory that this takes, and on nothing else.
     fn figures<R: Threads + Sync>(
         &self,
         rt: &R,
         alloc: Global,
         tables: &[T],
         round: u32,
-        workers: u32,
+        hands: Hands,
     ) -> Result<Figures, Fault>
         requires sync { IsSync R.row }
         requires cluster { IsCluster (length tables.now) (map T.table tables.now) }

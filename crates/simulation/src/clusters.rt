@@ -19,19 +19,22 @@ use bench_types::limits::MOST_ROUNDS;
 use bench_types::{Fault, Rules};
 use model::MemoryTable;
 use round_plan::{OwnWrite, ROUND_WORDS, RunWords, forgets_now, restarts_now, writes_by};
-use round_tables::RoundHistories;
+use round_tables::{Hands, RoundHistories, processors};
 use scenario::Scenario;
 use std::alloc::Global;
+use std::num::NonZeroUsize;
 use std::sync::Wait;
 use std::thread::Threads;
 use workers::{Gate, Work, run_list_with};
 
-/// What all nodes hold, what each has written, and what is drawn of the rounds.
+/// What all nodes hold, what each has written, what is drawn of the rounds, and the processors, once a round has asked
+/// for them.
 #[derive(Drop)]
 pub(crate) struct Cluster<T: MemoryTable, H: RoundHistories<T>> {
     pub(crate) tables: Vec<T>,
     histories: H,
     drawn: Drawn,
+    processors: Option<NonZeroUsize>,
 }
 
 impl<T: MemoryTable + Send + Sync, H: RoundHistories<T>> Cluster<T, H> {
@@ -43,6 +46,7 @@ impl<T: MemoryTable + Send + Sync, H: RoundHistories<T>> Cluster<T, H> {
             tables: empty_tables::<T, H>(alloc, scenario)?,
             histories: H::new(alloc, scenario.nodes())?,
             drawn: Drawn::Words(RunWords::new(alloc, scenario)?),
+            processors: None,
         })
     }
 
@@ -68,6 +72,7 @@ impl<T: MemoryTable + Send + Sync, H: RoundHistories<T>> Cluster<T, H> {
             tables,
             histories,
             drawn,
+            processors,
         } = self;
         let Plan { words, list } = drawn.plan(alloc, scenario, round)?;
         let (begun, histories) = begin(scenario, tables, histories, &words, round)?;
@@ -87,16 +92,30 @@ impl<T: MemoryTable + Send + Sync, H: RoundHistories<T>> Cluster<T, H> {
         { drawn_after(words, alloc, scenario, round, workers) };
         let (tables, records, drawn) = run_list_with(rt, alloc, work, begun, draw)?;
         let drawn = drawn?;
-        let lag = histories.figures(rt, alloc, &tables, round, workers)?;
+        let hands = hands_of(rt, workers, processors);
+        let lag = histories.figures(rt, alloc, &tables, round, hands)?;
         let played = Round::of(round, list, records, lag);
         Ok((
             Cluster {
                 tables,
                 histories,
                 drawn,
+                processors: Some(hands.processors),
             },
             played,
         ))
+    }
+}
+
+// So many workers, and the processors. A run asks for these once: that takes longer than a small round.
+fn hands_of(rt: &impl Threads, workers: u32, known: Option<NonZeroUsize>) -> Hands {
+    let processors = match known {
+        Some(processors) => processors,
+        None => processors(rt),
+    };
+    Hands {
+        workers,
+        processors,
     }
 }
 

@@ -7,6 +7,8 @@
 //!   own entries, and a write changes nothing else.
 //! - `every_run_is_sound` speaks of each moment within a round, which no caller of `step` can look at; what holds after
 //!   a round stands in the contract of `step` too.
+//! - How many processors there are is asked once, in the first step, as `new` has no runtime: to ask takes longer than
+//!   a small round's figures. They bear on the threads of the figures alone.
 //! - A quiet round's losses and cuts are those of its records, so the law holds too in a scenario with losses, where by
 //!   chance none came for so many rounds.
 //! - `uncut_runs_are_best` takes any mode and budget beside the uncut run, also a budget that no scenario may have.

@@ -15,8 +15,10 @@ ghost use Rattle.version_lags.specs.Pieces.{AreCountedGrids, AreRoundEnds, AreRo
 use bench_types::{Fault, Figures};
 use owner_writes::OwnerWrites;
 use planes::{Ends, Number, count_behind, least_behind, lower_all, total_upto};
-use rayon::{current_num_threads, join};
+use rayon::join;
+use round_tables::Hands;
 use std::alloc::Global;
+use std::mem::size_of_val;
 use std::thread::Threads;
 
 /// The numbers of all tables at the end of a round, plane by plane, and beside them the owners' lists, how many writes
@@ -244,26 +246,26 @@ fn greatest_lag<N: Number>(
     Ok(greatest)
 }
 
-// So many numbers of all tables are gone over by one thread: starting others would take longer. Where one worker has
-// made the exchanges, the tables are near its thread alone, and others are slower at them.
-const FEW_NUMBERS: usize = 262_144;
+// To start a thread for fewer bytes of numbers takes longer than it saves.
+const LEAST_BYTES_OF_A_THREAD: usize = 524_288;
 
-const FEW_NUMBERS_OF_ONE_WORKER: usize = 2_097_152;
+// So many bytes are gone over by one thread where one worker has made the exchanges: the tables are near its thread
+// alone, and others are slower at them.
+const FEW_BYTES_OF_ONE_WORKER: usize = 2_097_152;
 
-// How many tables a thread gets: all where their numbers are few, else as many as give each processor a thread. It
-// bears on time and memory alone.
-fn tables_of_a_thread(rt: &impl Threads, tables: usize, keys: usize, workers: u32) -> usize
+// How many tables a thread gets: as many as give each processor a thread, if each has enough to do, else more. It bears
+// on time and memory alone.
+fn tables_of_a_thread<N: Number>(numbers: &RoundNumbers<N>, hands: Hands) -> usize
     ensures { 1 ≤ result }
 {
-    let few = if workers == 1 {
-        FEW_NUMBERS_OF_ONE_WORKER
-    } else {
-        FEW_NUMBERS
-    };
-    if tables.saturating_mul(tables).saturating_mul(keys) <= few {
+    let tables = numbers.lists.len();
+    let bytes = size_of_val(numbers.last).saturating_mul(tables);
+    if hands.workers == 1 && bytes <= FEW_BYTES_OF_ONE_WORKER {
         return tables.saturating_add(1);
     }
-    (tables / current_num_threads(rt)).saturating_add(1)
+    let worth = bytes / LEAST_BYTES_OF_A_THREAD;
+    let threads = hands.processors.get().min(worth).max(1);
+    (tables / threads).saturating_add(1)
 }
 
 // What all tables say.
@@ -271,7 +273,7 @@ fn counted<N: Number + Send + Sync>(
     rt: &(impl Threads + Sync),
     alloc: Global,
     numbers: &RoundNumbers<N>,
-    workers: u32,
+    hands: Hands,
 ) -> Result<Piece<N>, Fault>
     requires grids { AreRoundGrids N.number numbers.now }
     ensures piece { IfOk result (CountsWhole N.number numbers.now) }
@@ -286,7 +288,7 @@ fn counted<N: Number + Send + Sync>(
         ..
     } = *numbers;
     let nodes = lists.len();
-    let size = tables_of_a_thread(rt, nodes, keys, workers);
+    let size = tables_of_a_thread(numbers, hands);
     let forgot = has_forgotten(bases);
     let numbers = Numbers {
         cells,
@@ -314,7 +316,7 @@ pub fn figures<N: Number + Send + Sync>(
     alloc: Global,
     numbers: &RoundNumbers<N>,
     round: u32,
-    workers: u32,
+    hands: Hands,
 ) -> Result<Figures, Fault>
     requires are { (tables : List Table) × AreRoundNumbers N.number N.most round numbers.now tables }
     ensures figures { IfOk result (λ f. (tables : List Table)
@@ -322,7 +324,7 @@ pub fn figures<N: Number + Send + Sync>(
         → f ≡ figures_of round tables (lists_in numbers.now.lists.now)) }
     ensures only { IsOkUnless result OutOfMemory }
 {
-    let whole = counted(rt, alloc, numbers, workers)?;
+    let whole = counted(rt, alloc, numbers, hands)?;
     let greatest = greatest_lag(alloc, numbers, &whole.least, round)?;
     Ok(Figures {
         stale: whole.stale,

@@ -12,7 +12,7 @@ use crate::lags::figures;
 use crate::tables::{VersionTable, Written};
 use bench_types::{Fault, Figures};
 use planes::{Number, Short};
-use round_tables::RoundHistories;
+use round_tables::{Hands, RoundHistories};
 use std::alloc::Global;
 use std::marker::Brand;
 use std::thread::Threads;
@@ -70,7 +70,7 @@ pub trait SharedNumber: Number {
         tables: &[VersionTable<Self, H>],
         histories: &Histories<Self, H>,
         round: u32,
-        workers: u32,
+        hands: Hands,
     ) -> Result<Figures, Fault>
         requires sync { IsSync R.row }
         requires cluster { IsCluster (length tables.now) (tables_of_views H.lists tables.now) }
@@ -90,9 +90,9 @@ impl SharedNumber for u8 {
         tables: &[VersionTable<u8, H>],
         histories: &Histories<u8, H>,
         round: u32,
-        workers: u32,
+        hands: Hands,
     ) -> Result<Figures, Fault> {
-        figures(rt, alloc, tables, histories, round, workers)
+        figures(rt, alloc, tables, histories, round, hands)
     }
 }
 
@@ -103,9 +103,9 @@ impl SharedNumber for Short {
         tables: &[VersionTable<Short, H>],
         histories: &Histories<Short, H>,
         round: u32,
-        workers: u32,
+        hands: Hands,
     ) -> Result<Figures, Fault> {
-        figures(rt, alloc, tables, histories, round, workers)
+        figures(rt, alloc, tables, histories, round, hands)
     }
 }
 
@@ -116,9 +116,9 @@ impl SharedNumber for u32 {
         tables: &[VersionTable<u32, H>],
         histories: &Histories<u32, H>,
         round: u32,
-        workers: u32,
+        hands: Hands,
     ) -> Result<Figures, Fault> {
-        figures(rt, alloc, tables, histories, round, workers)
+        figures(rt, alloc, tables, histories, round, hands)
     }
 }
 
@@ -183,8 +183,8 @@ impl<N: SharedNumber + Send + Sync, H: Written + Send + Sync> RoundHistories<Ver
         alloc: Global,
         tables: &[VersionTable<N, H>],
         round: u32,
-        workers: u32,
+        hands: Hands,
     ) -> Result<Figures, Fault> {
-        N::figures(rt, alloc, tables, self, round, workers)
+        N::figures(rt, alloc, tables, self, round, hands)
     }
 }

@@ -15,6 +15,7 @@ use crate::histories::Histories;
 use crate::tables::{VersionTable, Written};
 use bench_types::{Fault, Figures};
 use planes::Number;
+use round_tables::Hands;
 use std::alloc::Global;
 use std::thread::Threads;
 use version_lags::RoundNumbers;
@@ -59,7 +60,7 @@ pub fn figures<N: Number + Send + Sync, H: Written>(
     tables: &[VersionTable<N, H>],
     histories: &Histories<N, H>,
     round: u32,
-    workers: u32,
+    hands: Hands,
 ) -> Result<Figures, Fault>
     requires cluster { IsCluster (length tables.now) (tables_of_views H.lists tables.now) }
     requires one_list_each { length histories.now.lists ≡ length tables.now }
@@ -82,5 +83,5 @@ pub fn figures<N: Number + Send + Sync, H: Written>(
         last: histories.lasts(keys),
         ends: histories.ends(),
     };
-    version_lags::figures(rt, alloc, &numbers, round, workers)
+    version_lags::figures(rt, alloc, &numbers, round, hands)
 }

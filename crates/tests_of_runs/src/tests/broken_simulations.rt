@@ -6,7 +6,7 @@ use bench_types::{Exchange, Fault, Figures, Record, Rules};
 use fixtures::{FOUR_MODES, Team};
 use model::{Exchanging, MemoryTable};
 use node_table::NodeTable;
-use round_tables::{RoundHistories, TakesAll};
+use round_tables::{Hands, RoundHistories, TakesAll};
 use scenario::read;
 use simulation::Sim as SimOf;
 use std::alloc::Global;
@@ -89,9 +89,9 @@ impl<T: MemoryTable, H: RoundHistories<T>> RoundHistories<T> for Refusing<H> {
         alloc: Global,
         tables: &[T],
         round: u32,
-        workers: u32,
+        hands: Hands,
     ) -> Result<Figures, Fault> {
-        self.inner.figures(rt, alloc, tables, round, workers)
+        self.inner.figures(rt, alloc, tables, round, hands)
     }
 }
 

@@ -49,7 +49,7 @@ of-played-requires g c =
     one_record_each c.args.scenario.now c.args.round c.in_ok-words.field-0.list (subst IsRoundPlan c.list.view_is c.list.invariant) c.in_ok-words.ensures.plan.list _ _ _ c.in_ok-tables.records.items c.in_ok-tables.ensures.exchanged
 
 -- what the round leaves
-left : (g : given.Over) (c : goal.After-of-played g) → IsLeft g.T.MemoryTable.table c.args.scenario.now c.args.round c.in_ok-tables.tables.items (g.H.RoundHistories.lists c.in_ok-begun.histories)
+left : (g : given.Over) (c : goal.After-result-1 g) → IsLeft g.T.MemoryTable.table c.args.scenario.now c.args.round c.in_ok-tables.tables.items (g.H.RoundHistories.lists c.in_ok-begun.histories)
 left g c =
     is_left g.T.MemoryTable.table c.args.scenario.now c.args.round c.in_ok-words.field-0.list _ _ _ c.in_ok-tables.tables.items c.in_ok-tables.records.items _ c.requires.lawful c.requires.round.first (subst IsRoundPlan c.list.view_is c.list.invariant) c.in_ok-words.ensures.plan.list c.rules_of-rules.ensures c.requires.before.tables c.in_ok-begun.ensures.tables c.in_ok-begun.ensures.standing c.in_ok-tables.ensures.exchanged
 

@@ -100,7 +100,6 @@ impl<T: MemoryTable + Send + Sync, H: RoundHistories<T>> Cluster<T, H> {
     }
 }
 
-// The rules of all exchanges of the scenario's run.
 fn rules_of(scenario: &Scenario) -> Rules
     ensures { result ≡ rules_of scenario.now }
 {
@@ -110,7 +109,6 @@ fn rules_of(scenario: &Scenario) -> Rules
     }
 }
 
-// The empty tables of all nodes, in order.
 fn empty_tables<T: MemoryTable, H: RoundHistories<T>>(
     alloc: Global,
     scenario: &Scenario,
@@ -128,7 +126,6 @@ fn empty_tables<T: MemoryTable, H: RoundHistories<T>>(
     Ok(tables)
 }
 
-// What a round begins with, of all nodes and their histories.
 fn begin<T: MemoryTable, H: RoundHistories<T>>(
     scenario: &Scenario,
     mut tables: Vec<T>,
@@ -149,7 +146,6 @@ fn begin<T: MemoryTable, H: RoundHistories<T>>(
     Ok((tables, histories))
 }
 
-// What a round begins with: its restarts and its writes, by node.
 fn begin_round<T: MemoryTable, H: RoundHistories<T>>(
     scenario: &Scenario,
     tables: &mut [T],
@@ -223,7 +219,6 @@ fn restart<T: MemoryTable, H: RoundHistories<T>>(
     }
 }
 
-// The writes of one node in a round, in order.
 fn write_own<T: MemoryTable, H: RoundHistories<T>>(
     table: &mut T,
     histories: &mut H,

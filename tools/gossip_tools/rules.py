@@ -171,7 +171,7 @@ def counts_bytes(room):
 
 # When a split and a restart count as healed. What they heal from ends with a last round, the one that counts as 0.
 HEALED = ("the oldest write that some copy lacked was for the first time no older than usual: at most one round older "
-          "than the oldest in rounds {} to {} of the run, when all was well. After a split no round counts before the "
+          "than the oldest in rounds {} to {} of the run, when all was well. After a split, rounds count once the "
           "first writes that it held up would be older than that. Later the oldest may be older again for some rounds. "
           "Healed copies are as stale as usual, not equal.")
 # What counts where nodes forget and a budget is below `nodes * writes`.

@@ -100,6 +100,7 @@ impl<T: MemoryTable + Send + Sync, H: RoundHistories<T>> Cluster<T, H> {
     }
 }
 
+// The rules of all exchanges of the scenario's run.
 fn rules_of(scenario: &Scenario) -> Rules
     ensures { result ≡ rules_of scenario.now }
 {
@@ -126,6 +127,7 @@ fn empty_tables<T: MemoryTable, H: RoundHistories<T>>(
     Ok(tables)
 }
 
+// What a round begins with, of all nodes and their histories.
 fn begin<T: MemoryTable, H: RoundHistories<T>>(
     scenario: &Scenario,
     mut tables: Vec<T>,
@@ -146,6 +148,7 @@ fn begin<T: MemoryTable, H: RoundHistories<T>>(
     Ok((tables, histories))
 }
 
+// What a round begins with: its restarts and its writes, by node.
 fn begin_round<T: MemoryTable, H: RoundHistories<T>>(
     scenario: &Scenario,
     tables: &mut [T],

@@ -55,6 +55,7 @@ pub(crate) fn exchange<N: Number, H: Written>(
     exchange_deltas(alloc, histories, initiator, responder, digest1, plan, rules)
 }
 
+// The exchange of which all comes and surely fits, from the second message on.
 fn exchange_all<N: Number, H: Written>(
     initiator: &mut VersionTable<N, H>,
     responder: &mut VersionTable<N, H>,
@@ -88,6 +89,7 @@ fn exchange_all<N: Number, H: Written>(
     )
 }
 
+// So many are sent, and none is cut.
 fn all_sent(count: u32) -> DeltaCounts
     ensures sent { result.sent ≡ count }
     ensures cut { result.cut ≡ 0 }

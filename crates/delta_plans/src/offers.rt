@@ -122,6 +122,7 @@ impl<'a, N: Number> Offer<'a, N> {
         weight
     }
 
+    // What all owners' numbers above one mark and up to another take of it.
     fn weight_of_all(&self, low: &[N], high: &[N]) -> u32
         requires offer { IsOffer N.number N.most self.now }
         requires low { length low.now ≡ self.now.nodes }

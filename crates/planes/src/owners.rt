@@ -28,6 +28,7 @@ pub(crate) fn are_few<N: Number>(keys: usize, low: &[N], high: &[N], few: usize)
     keys >= MANY_KEYS && planes::how_many_above(high, low) as usize <= high.len() / few
 }
 
+// How many numbers of an owner are above a mark.
 fn owner_above<N: Number>(cells: &[N], nodes: usize, keys: usize, owner: usize, low: N) -> u32
     requires grid { IsGrid nodes keys (length cells.now) }
     requires owner { owner < nodes }

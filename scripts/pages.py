@@ -15,7 +15,7 @@ MARKED = re.compile(r"<!--clone(?::(\w+))?-->(.*?)<!--/clone-->", re.DOTALL)
 INSTEAD = {
     "README.md": {
         "promises": "This is in short what that comes to. (The repository, from which this package is made, has a "
-                    "page more, docs/proofs.md: the ten promises in full, with the contracts that carry each, what "
+                    "page more, docs/proofs.md: all promises in full, with the contracts that carry each, what "
                     "has to be believed, and what is trusted.)",
         "processors": "The package's name has the processors that it is built for; on an older one it prints a line "
                       "and ends with status 127.",

@@ -75,7 +75,7 @@ def try_advice(room):
           [sum_of_program in text, *(f"gossip_sweep -o {it} budget" in text for it in
                                      ("few", "many", "split", "forgotten", "restart"))])
     holds("the page says what is counted and how long to wait", (1, 1),
-          (text.count("the age of the oldest missing write was for the first time at most one round above its highest"),
+          (text.count("the oldest write that some copy lacked was for the first time no older than usual: at most one"),
            text.count("a rolling restart<b>wait ")))
     parts = ("@media screen and (prefers-color-scheme: dark)", "<thead>", "</thead><tbody>")
     holds("the page is dark where the screen is, and its table has a head", [1, 1, 1], [text.count(it) for it in parts])

@@ -437,8 +437,8 @@ class Healing:
 
     def counted(self):
         """What the rounds of a split and of a restart are, in words."""
-        lasts = {"split": "the last round of the split", "restart": "the last with a node down"}
-        after = ", or ".join(lasts[it] for it in self.study.heals() if it in lasts)
+        lasts = {"split": "the last round of the split", "restart": "the last round with a node down"}
+        after = ", or after ".join(lasts[it] for it in self.study.heals() if it in lasts)
         return f"Healed after N rounds: N rounds after {after}, {rules.HEALED.format(*self.study.before)}"
 
     def waited(self, budget):
@@ -450,13 +450,14 @@ class Healing:
     def wait(self, budget):
         """How long to wait between the groups of a rolling restart, in words."""
         restarts, rounds = self.study.told["restarts"], self.waited(budget)
-        longest = "the longer one" if len(self.study.leaves()) > 1 else "the restart took at most"
+        gone = ", and a forgotten state gone" if len(self.study.leaves()) > 1 else ""
         if rounds is None:
             return "no wait is known, as not all of this is over in the rounds that were run: take a larger budget"
         group = self.study.group()
         who = f"a group of {group} nodes" if restarts and group > 1 else "a node"
         return (f"wait {lasting(self.study, [rounds])}, after {who} is up again: {rules.MORE_IN_WORDS} more than "
-                f"{longest}, as a later group may take longer; {rules.NO_GUARANTEE}")
+                f"it took at most until a restart was healed{gone}, as a later group may take longer; "
+                f"{rules.NO_GUARANTEE}")
 
     def has_reserve(self, decision):
         """Whether what heals was run with a reserve."""

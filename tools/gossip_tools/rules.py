@@ -170,10 +170,10 @@ def counts_bytes(room):
 
 
 # When a split and a restart count as healed. What they heal from ends with a last round, the one that counts as 0.
-HEALED = ("the age of the oldest missing write was for the first time at most one round above its highest value in "
-          "rounds {} to {} of the run, when all was well; after a split not before the first writes that it held up "
-          "would be older than that. It may rise above that again for some rounds. Copies are then as stale as usual, "
-          "not equal.")
+HEALED = ("the oldest write that some copy lacked was for the first time no older than usual: at most one round older "
+          "than the oldest in rounds {} to {} of the run, when all was well. After a split, rounds count once the "
+          "first writes that it held up would be older than that. Later the oldest may be older again for some rounds. "
+          "Healed copies are as stale as usual, not equal.")
 # What counts where nodes forget and a budget is below `nodes * writes`.
 FORGETFUL = ("old state goes sooner in `scuttle-breadth`, but a restart heals later there than old state goes in "
              "`scuttle-depth`, and copies are staler. Take `scuttle-breadth` only where old state does more harm than "

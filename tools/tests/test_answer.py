@@ -414,8 +414,8 @@ class Healed(unittest.TestCase):
         self.assertEqual("  a split             of half of the nodes for 30 rounds: healed after 10 to 13 rounds, 5.0 "
                          "to 6.5 s", line)
         self.assertEqual(it.counted(), " ".join(map(str.strip, counted)))
-        self.assertEqual("Healed after N rounds: N rounds after the last round of the split, or the last with a node "
-                         f"down, {rules.HEALED.format(31, 50)}", it.counted())
+        self.assertEqual("Healed after N rounds: N rounds after the last round of the split, or after the last "
+                         f"round with a node down, {rules.HEALED.format(31, 50)}", it.counted())
         self.assertTrue(all(len(it) <= 120 for it in counted))
         self.assertEqual(1, len(healing(split=[10, 13], restart=[6, 7]).lines("restart", 200)))
 
@@ -425,7 +425,7 @@ class Healed(unittest.TestCase):
         line, *counted = it.lines("restart", 200)
         self.assertEqual("  a restart           of one node, down for one round: healed after 6 to 7 rounds, 3.0 to "
                          "3.5 s", line)
-        self.assertEqual("Healed after N rounds: N rounds after the last with a node down, "
+        self.assertEqual("Healed after N rounds: N rounds after the last round with a node down, "
                          f"{rules.HEALED.format(31, 50)}", " ".join(map(str.strip, counted)))
 
     def test_nothing_that_leaves(self):
@@ -491,17 +491,18 @@ class Healed(unittest.TestCase):
         self.assertTrue(line.endswith(": not within 52 rounds under 2 of 3 seeds"), line)
 
     def test_wait(self):
-        """Two rounds more than the longer one of what a restart leaves. A forgotten state is none of it where nodes
+        """Two rounds more than the longest of what a restart leaves. A forgotten state is none of it where nodes
         don't forget."""
         both = {"restart": [6, 7], "forgotten": [8, 7]}
         cases = {
-            "": "wait 9 rounds, 4.5 s, after a node is up again: two rounds more than the restart took at most",
-            "fanout=5": "wait 9 rounds, 1.8 intervals, 0.9 s, after a node is up again: two rounds more than the "
-                        "restart took at most",
-            "restarts=5": "wait 9 rounds, 4.5 s, after a group of 5 nodes is up again: two rounds more than the "
-                          "restart took at most",
+            "": "wait 9 rounds, 4.5 s, after a node is up again: two rounds more than it took at most until a "
+                "restart was healed",
+            "fanout=5": "wait 9 rounds, 1.8 intervals, 0.9 s, after a node is up again: two rounds more than it "
+                        "took at most until a restart was healed",
+            "restarts=5": "wait 9 rounds, 4.5 s, after a group of 5 nodes is up again: two rounds more than it "
+                          "took at most until a restart was healed",
             "restarts=5 forget=yes": "wait 10 rounds, 5 s, after a group of 5 nodes is up again: two rounds more than "
-                                     "the longer one",
+                                     "it took at most until a restart was healed, and a forgotten state gone",
         }
         why = f", as a later group may take longer; {rules.NO_GUARANTEE}"
         cases = {more: said + why for more, said in cases.items()}

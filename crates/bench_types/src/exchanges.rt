@@ -87,7 +87,6 @@ impl Mode {
     }
 }
 
-// The first of these modes that has the name.
 fn named_among(modes: &[Mode], word: &str) -> Option<Mode>
     ensures { result ≡ find (λ mode. bytes_eq word.now (mode_name mode)) modes.now }
 {

@@ -41,9 +41,9 @@ pub record IsApart (es : List Exchange) (v : SeatView) : Type 0 where
   pub once : (i : ℕ) → times i v.made + times i v.held ≤ 1
   pub apart : (i j : ℕ) → i ≢ j → Has v.held i → Has v.held j → share_node es i j ≡ false
 
--- what a whole seat was told, knows and has freed is its own: it was told of nothing but what it has made or holds,
--- knows of nothing but what it has made, and of no stop but one that it has called for, and of what waits for others
--- it has freed what has all of these made
+-- every exchange that a whole seat was told is taken, it has made or holds; it knows of nothing but what it has made,
+-- and of no stop but one that it has called for; and of what waits for others it has freed exactly what has all of
+-- these made
 pub record KnowsItsOwn (es : List Exchange) (v : SeatView) : Type 0 where
   pub told : (i : ℕ) → Has v.told i → Has (v.made ++ v.held) i
   pub known : (i : ℕ) → Has v.known i → Has v.made i

@@ -138,7 +138,6 @@ impl<T: MemoryTable> Board<T> {
         }
     }
 
-    // The tables of a claimed exchange leave its slots.
     fn take_out(&self, raw: &mut Raw<T>, i: u32) -> Hold<T>
         requires within { i < length (exchanges_of self.now) }
         requires id { raw.old.table_id ≡ board_id self.now }
@@ -181,7 +180,6 @@ impl<T: MemoryTable> Board<T> {
         Freed { first, second }
     }
 
-    // The tables of a held exchange go back into its slots, and it counts as finished.
     fn put_in(&self, raw: &mut Raw<T>, hold: Hold<T>)
         requires within { hold.index < length (exchanges_of self.now) }
         requires id { raw.old.table_id ≡ board_id self.now }
@@ -305,7 +303,6 @@ fn first_words(alloc: Global, deps: &Deps) -> Result<Vec<u64>, Fault>
     Ok(words)
 }
 
-// Each table in a slot of its own, and the emptied vector.
 fn into_slots<T: Drop>(alloc: Global, mut tables: Vec<T>) -> Result<(Vec<Option<T>>, Vec<T>), Fault>
     ensures slots { IfOk result (λ p. p.0.items ≡ map in_place tables.items) }
     ensures room { IfOk result (λ p. (p.1.items ≡ []) × (length tables.items ≤ vec_capacity p.1)) }
@@ -321,7 +318,6 @@ fn into_slots<T: Drop>(alloc: Global, mut tables: Vec<T>) -> Result<(Vec<Option<
     Ok((slots, tables))
 }
 
-// The tables of all slots, in a vector that has room for them.
 fn all_out<T: Drop>(mut closed: Closed<Option<T>, Global>, mut room: Vec<T>) -> Vec<T>
     requires full { IsFull closed.slots }
     requires room { (room.items ≡ []) × (slots_len closed.slots ≤ vec_capacity room) }

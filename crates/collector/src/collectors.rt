@@ -98,7 +98,6 @@ impl Collector {
     }
 }
 
-// Puts the records in the room, up to the first that is missing, and answers the place of that.
 fn gather(outcomes: &[Option<Record>], room: &mut Vec<Record>) -> Result<(), u32>
     requires few { length outcomes.now < 2 ^ 32 }
     requires empty { room.old.items ≡ [] }

@@ -36,7 +36,6 @@ pub fn perform<H: Threads + Wait + Sync + Files, R: Source, W: Sink>(
     }
 }
 
-// Runs a scenario, with its trace to a file of this name where there is one.
 fn run_with<H: Threads + Wait + Sync + Files, R: Source, W: Sink>(
     rt: &H,
     alloc: Global,
@@ -60,7 +59,6 @@ fn run_with<H: Threads + Wait + Sync + Files, R: Source, W: Sink>(
     }
 }
 
-// Reads a scenario whole and says that it is one.
 fn check<R: Source, W: Sink>(alloc: Global, reader: &mut R, out: &mut W) -> Result<(), Fault>
     ensures checked { OnOk result (IsChecked R.Source reader.old reader.new W.Sink out.old out.new) }
     ensures fault { IfErr result (IsCheckFault R.Source reader.old reader.new W.Sink out.old out.new) }

@@ -3,7 +3,6 @@
 //! # Choices
 //!
 //! - `perform` says what each command comes to, with the report, the trace and the faults of the library's contracts.
-//! - Help that can't be printed is `WriteFailed`, with status 1, as for everything else that goes to standard output.
 #![tactic(auto)]
 
 mod jobs;

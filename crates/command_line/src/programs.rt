@@ -67,7 +67,6 @@ pub(crate) fn status_of<E: Sink>(done: Result<(), Fault>, err: &mut E) -> u8
     }
 }
 
-// The status where the words ask for help or are refused, or memory ran out.
 fn answer_words<W: Sink, E: Sink>(reason: NoJob, out: &mut W, err: &mut E) -> u8
     ensures status { result ≤ 2 }
     ensures done { result ≡ 0 → IsHelpWritten W.Sink out.old out.new reason × (err.new ≡ err.old) }

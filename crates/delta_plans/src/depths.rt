@@ -12,7 +12,6 @@ use bench_types::Fault;
 use planes::{Number, counts_above};
 use std::alloc::Global;
 
-// The greatest of these numbers.
 fn greatest_of<N: Number>(numbers: &[N]) -> u32
     requires few { (r : ℕ) → r < length numbers.now
         → slice_index (map N.number numbers.now) r ≤ MOST_KEYS }
@@ -27,7 +26,6 @@ fn greatest_of<N: Number>(numbers: &[N]) -> u32
     greatest
 }
 
-// All numbers of the owners that have so many.
 fn next_runs<N: Number>(
     alloc: Global,
     offer: &Offer<N>,

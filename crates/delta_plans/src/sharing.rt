@@ -37,7 +37,6 @@ struct Turns<'a, 'b, N: Number> {
     rotation: usize,
 }
 
-// The owner whose turn it is.
 fn owner_of_turn(turn: usize, nodes: usize, rotation: usize) -> usize
     requires turn { turn < nodes }
     requires rotation { rotation < nodes }
@@ -63,7 +62,6 @@ fn by_first<'a, N: Number>(first: First, oldest: &'a [N], newest: &'a [N]) -> &'
 }
 
 impl<'a, 'b, N: Number> Turns<'a, 'b, N> {
-    // What an owner's part takes, which has so many numbers.
     fn weight_of_part(&self, owner: usize, count: u32) -> u32
         requires turns { AreTurns N.number N.most self.now }
         requires owner { owner < self.now.offer.now.nodes }

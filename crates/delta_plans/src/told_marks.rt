@@ -46,7 +46,6 @@ pub fn told<N: Number>(
     Ok(told)
 }
 
-// Puts what is told in place of each greatest number, but for the receiver itself.
 fn put_marks<N: Number>(numbers: &mut [N], kind: DigestKind, owners: Owners<N>)
     requires { AreKnownOf N.number N.most owners numbers.old }
     ensures { AreChanged (λ r x y. y ≡ told_by kind (all_writes owners.entry.lists.now r) x)

@@ -128,7 +128,7 @@ impl Deps {
     }
 }
 
-// What each exchange waits for. In list order, with the last exchange so far of each node.
+// In list order, with the last exchange so far of each node.
 fn all_before(alloc: Global, nodes: u32, exchanges: &[Exchange]) -> Result<Vec<Before>, Fault>
     requires planned { All (IsPlanned nodes) exchanges.now }
     requires few { length exchanges.now ≤ MOST_EXCHANGES }
@@ -149,7 +149,7 @@ fn all_before(alloc: Global, nodes: u32, exchanges: &[Exchange]) -> Result<Vec<B
     Ok(before)
 }
 
-// What waits for each exchange. From the end of the list, with the first exchange so far of each node.
+// From the end of the list, with the first exchange so far of each node.
 fn all_after(alloc: Global, nodes: u32, exchanges: &[Exchange]) -> Result<Vec<After>, Fault>
     requires planned { All (IsPlanned nodes) exchanges.now }
     requires few { length exchanges.now ≤ MOST_EXCHANGES }
@@ -174,7 +174,6 @@ fn all_after(alloc: Global, nodes: u32, exchanges: &[Exchange]) -> Result<Vec<Af
     Ok(after)
 }
 
-// The places of the exchanges that wait for none.
 fn free_places(alloc: Global, before: &[Before]) -> Result<Vec<u32>, Fault>
     requires few { length before.now ≤ MOST_EXCHANGES }
     ensures value { IfOk result (λ v. AreFirstReady before.now v.items) }

@@ -5,8 +5,6 @@
 //!
 //! - Dependencies are seen as the list alone. What is kept beside it, the neighbours of each exchange, follows from the
 //!   list, so no value has it.
-//! - Each exchange keeps the places that it waits for, not a count that goes down.
-//! - The laws speak of every list, not only of a round's: any exchanges of two different nodes each.
 #![tactic(auto)]
 
 mod deps;

@@ -52,7 +52,7 @@ pub fn exchange(
     exchange_deltas(alloc, initiator, responder, &digest1, &digest2, plan, rules)
 }
 
-// The exchange from the second message on. Both digests are known, and the first came.
+// The exchange from the second message on.
 fn exchange_deltas(
     alloc: Global,
     initiator: &mut NodeTable,
@@ -84,8 +84,6 @@ fn exchange_deltas(
     Ok(sent_both(size1, size2, counts_back, counts_forth, plan.lost3))
 }
 
-// Each side takes the delta that came to it. The third message, which has the second delta, may be
-// lost.
 fn take_deltas(
     initiator: &mut NodeTable,
     responder: &mut NodeTable,
@@ -109,7 +107,6 @@ fn take_deltas(
     Ok(())
 }
 
-// The delta that answers a receiver's digest.
 fn answer(
     alloc: Global,
     sender: &NodeTable,
@@ -140,7 +137,6 @@ fn answer(
     )
 }
 
-// How many items a delta has, and how many candidates it cut.
 fn counts_of(delta: &Delta) -> DeltaCounts
     requires { length delta.now.items < 2 ^ 32 }
     ensures sent { result.sent ≡ length delta.now.items }

@@ -3,8 +3,8 @@
 -- scuttle-depth: how many candidates the owner has, greater first; rot(owner); version.
 -- precise-oldest: born; rot(owner); version.
 -- precise-newest: born, greater first; rot(owner); version, greater first.
--- Smaller comes first where nothing else is said, and all four end with the key. Source: this project; the
--- names breadth and depth are the LADIS 2008 paper's.
+-- Smaller comes first where nothing else is said, and all four end with the key: docs/model.md, The sending order.
+-- Source: this project; the names breadth and depth are the LADIS 2008 paper's.
 use Rattle.std.specs.Prelude.{ℕ, ◌+◌, ◌-◌, ◌%◌, ◌&&◌, ◌==◌, nat_lt, List, count_by}
 use Rattle.std.specs.Ordering.{nat_cmp, ordering_then}
 use Rattle.std.specs.declared.cmp.Ordering.{Ordering}

@@ -4,18 +4,9 @@
 //!
 //! # Choices
 //!
-//! - The sending order is a comparison and the delta a function. `sending_order` says how two candidates compare, and
-//!   to come before is its answer `Less`: one definition serves the sort, the totality and the count of those before. A
-//!   relation that holds of exactly one delta would say no more than `delta_of`, and the exchange needs the value.
 //! - The greatest mark of an owner of whom nothing is held is the absent one, also that of the node itself, after it
 //!   forgot and before it writes again. The node's generation is a field of its own, `generation`, and the next write
 //!   takes it.
-//! - A copy of an older generation has no gap by the definition itself (`HasNoGapOf`): it asks for each entry of the
-//!   owner's own part up to the copy's greatest mark, and the marks of the own part are all above that. So no law has a
-//!   case for what is left over.
-//! - That marks don't fall is said in two parts (`NoMarkFalls`): of the greatest mark of each copy, and of each key as
-//!   long as the copy's generation stays. Of a key alone it would be false, since a newer generation drops keys that it
-//!   doesn't have yet.
 //! - That a node's own part is its last writes is said of every number as a key, not only of those below `keys`. Then
 //!   no further condition on the keys of a list is needed.
 //! - The figures are defined over tables without room, and over the lists that the caller hands in. So all that a run's
@@ -24,10 +15,8 @@
 //!   from the receiver's table. What a digest tells in memory `reconcile` alone sees.
 //! - A round list has at most `MOST_EXCHANGES` exchanges, for every number of nodes: the limit is a constant of its
 //!   own, since a list is lawful or not by itself, without a scenario.
-//! - The list of a round and a write stand here in code too: `round_plan` makes lists, and crates that know no scenario
-//!   carry them out and write them. `round_plan` gives `RoundList` again, and `owner_lists` and `staleness` give
-//!   `Write`. `is_empty` and `exchanges` stand beside `len` and `get`, since a loop over a slice needs no index and no
-//!   `None`.
+//! - `round_plan` gives `RoundList` again, and `owner_lists` and `staleness` give `Write`. `is_empty` and `exchanges`
+//!   stand beside `len` and `get`, since a loop over a slice needs no index and no `None`.
 #![tactic(auto)]
 
 mod exchanging;

@@ -67,7 +67,6 @@ impl Layout {
         &row[rank_above(row, mark.version)..]
     }
 
-    // The generation of an owner's copy, 0 where nothing is held.
     fn generation_of(&self, owner: u32) -> u32
         requires layout { IsLayout self.now }
         requires owner { owner < self.now.nodes }
@@ -138,7 +137,6 @@ impl Layout {
         }
     }
 
-    // Puts an item's entry as the first of its owner, whose row has none yet.
     fn put_first(&mut self, item: Item) -> Result<(), AllocError>
         requires may { MayTakeItem self.old item }
         requires empty { IsEmptyRow self.old.rows.items item.owner }
@@ -171,7 +169,6 @@ impl Layout {
         Ok(())
     }
 
-    // Puts an item's entry, which is newer than that of its place, at its rank in the owner's row.
     fn put(&mut self, item: Item)
         requires may { MayTakeItem self.old item }
         requires some { IsFilledRow self.old.rows.items item.owner }
@@ -187,7 +184,6 @@ impl Layout {
         self.greatest[at] = self.greatest[at].max(item.entry.version);
     }
 
-    // Leaves an item's entry, which is of a newer generation, alone in the owner's row.
     fn renew(&mut self, item: Item)
         requires may { MayTakeItem self.old item }
         requires some { IsFilledRow self.old.rows.items item.owner }
@@ -304,7 +300,6 @@ fn unflag(greatest: &mut [u32], rows: &[Row], added: &[Item])
     }
 }
 
-// Leaves a row's block alone, at the front.
 fn move_to_front(slots: &mut Vec<Entry>, row: Row, keys: u32)
     requires row { IsInSlots keys slots.old.items row }
     ensures row { take row.len slots.new.items ≡ entries_in_row slots.old.items row }
@@ -337,7 +332,6 @@ fn set_generation(generations: &mut Vec<u32>, nodes: u32, owner: u32, generation
     generations[owner as usize] = generation;
 }
 
-// Puts an entry into a row that has some already.
 fn put_among(slots: &mut [Entry], row: Row, keys: u32, entry: Entry) -> Row
     requires row { IsInSlots keys slots.old row }
     requires held { 0 < row.len }

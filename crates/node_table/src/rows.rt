@@ -114,7 +114,6 @@ fn put_at_rank(block: &mut [Entry], len: usize, entry: Entry) -> usize
     }
 }
 
-// Puts an entry into a row that has none of its key.
 fn insert(block: &mut [Entry], len: usize, entry: Entry) -> usize
     requires row { HasRow block.old len }
     requires absent { All (λ e. e.key ≢ entry.key) (take len block.old) }

@@ -245,7 +245,6 @@ impl NodeTable {
             && added.iter().all(|item| self.may_receive(*item))
     }
 
-    // How many owners come in a list of whom nothing is held.
     fn blocks_for(&self, added: &[Item]) -> usize
         ensures { result ≡ blocks_for self.now.table added.now }
     {
@@ -258,7 +257,6 @@ impl NodeTable {
         blocks
     }
 
-    // Whether an item is another node's and in its place.
     fn may_receive(&self, item: Item) -> bool
         ensures { IsTrue result ↔ MayReceive self.now.table item }
     {
@@ -318,7 +316,6 @@ pub fn generation_in(generations: &[u32], owner: u32) -> u32
     generations.get(owner as usize).copied().unwrap_or(0)
 }
 
-// Whether an item of an owner comes in a list.
 fn comes_in(added: &[Item], owner: u32) -> bool
     ensures { result ≡ comes_in added.now owner }
 {

@@ -196,7 +196,6 @@ impl OwnerList {
     }
 }
 
-// The write of a key, if any.
 fn write_in(writes: &[Write], key: u32) -> Option<Write>
     requires { KeysRise writes.now }
     ensures { result ≡ write_of writes.now key }
@@ -207,7 +206,6 @@ fn write_in(writes: &[Write], key: u32) -> Option<Write>
     }
 }
 
-// The first write of a key from a place on.
 fn first_from(entries: &[Entry], key: u32, from: usize) -> Option<Write>
     ensures { result ≡ find (is_write_of key) (drop from (map write_of_entry entries.now)) }
 {
@@ -224,7 +222,6 @@ fn first_from(entries: &[Entry], key: u32, from: usize) -> Option<Write>
     None
 }
 
-// The entry of a number.
 fn entry_numbered(entries: &[Entry], number: u32) -> Option<Entry>
     ensures { result ≡ write_numbered entries.now number }
 {
@@ -234,7 +231,6 @@ fn entry_numbered(entries: &[Entry], number: u32) -> Option<Entry>
     }
 }
 
-// The write with a mark among those of several generations.
 fn searched_entry(entries: &[Entry], mark: Mark) -> Option<Entry>
     requires { MarksRise entries.now }
     ensures { result ≡ find (has_mark mark) entries.now }
@@ -260,7 +256,6 @@ fn search(writes: &[Write], key: u32) -> Result<usize, usize>
     writes.binary_search_by_key(&key, |write| write.key)
 }
 
-// Puts a write in the place of its key's, or where it goes.
 fn put(writes: &mut Vec<Write>, write: Write)
     requires rising { KeysRise writes.old.items }
     requires room { vec_len writes.old < vec_capacity writes.old }

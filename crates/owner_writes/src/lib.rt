@@ -4,8 +4,6 @@
 //!
 //! - The writes lie in one vector, those of earlier generations first. To begin a generation is to move the place at
 //!   which it starts, so it takes no memory.
-//! - The generation of a write is for contracts alone: nothing that a run does reads it. What reads of a write is its
-//!   version, which tells with its number where its generation begins.
 #![tactic(auto)]
 
 mod writes;

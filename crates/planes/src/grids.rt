@@ -221,7 +221,6 @@ fn keep_planes_ahead<N: Number>(
 /// So many numbers are copied at a time, which takes fewer instructions than the C library's way to copy many more.
 const COPIED: usize = 1024;
 
-// The numbers once more.
 fn copied<N: Number>(alloc: Global, cells: &[N]) -> Result<Vec<N>, Fault>
     requires room { length cells.now ≤ MOST_KEYS * MOST_NODES }
     ensures copy { IfOk result (λ v. v.items ≡ cells.now) }
@@ -262,7 +261,6 @@ pub fn ahead<N: Number>(
     Ok(Masked { numbers, count })
 }
 
-// How many numbers pass a test of owner and number.
 fn total<N: Number, F: Fn(usize, N) -> bool>(
     cells: &[N],
     nodes: usize,

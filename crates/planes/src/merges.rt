@@ -26,7 +26,6 @@ pub struct BothMarks<'a, N: Number> {
     pub keys: usize,
 }
 
-// How far a number is ahead of another, but no more than so much.
 fn lead<N: Number>(number: N, other: N, most: u32) -> u32
     ensures { result ≡ min most (N.number number - N.number other) }
 {
@@ -58,7 +57,6 @@ pub fn most_ahead<N: Number>(first: &[N], second: &[N], keys: u32) -> BothCounts
     }
 }
 
-// The planes of one key.
 fn merge_planes<N: Number>(
     first: &mut [N],
     second: &mut [N],
@@ -96,7 +94,6 @@ fn merge_planes<N: Number>(
     }
 }
 
-// So many of their numbers from one on.
 fn merge_some<N: Number>(
     first: &mut [N],
     second: &mut [N],

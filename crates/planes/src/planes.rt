@@ -172,7 +172,6 @@ pub fn how_many<N: Number, F: Fn(usize, N) -> bool>(plane: &[N], passes: F) -> u
     count + how_many_of(plane, from, rest, &passes)
 }
 
-// How many of so many from one on.
 fn how_many_of<N: Number, F: Fn(usize, N) -> bool>(
     plane: &[N],
     from: usize,

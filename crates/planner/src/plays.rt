@@ -67,7 +67,6 @@ pub fn play(
     given_by(alloc, places)
 }
 
-// A schedule of the list of which nothing is started.
 fn unstarted(alloc: Global, list: &RoundList) -> Result<Schedule, Fault>
     ensures value { IfOk result (λ s. s ≡ not_started list.now) }
     ensures only { IsOkUnless result OutOfMemory }
@@ -79,7 +78,6 @@ fn unstarted(alloc: Global, list: &RoundList) -> Result<Schedule, Fault>
     }
 }
 
-// All tables in their places, and nothing taken out.
 fn all_at_home(alloc: Global, list: &RoundList, tables: Vec<NodeTable>) -> Result<Places, Fault>
     ensures homes { IfOk result (λ p. p.homes.items ≡ map in_place tables.items) }
     ensures out { IfOk result (λ p. AreEmpty (length list.now.exchanges) p.out.items) }
@@ -93,7 +91,6 @@ fn all_at_home(alloc: Global, list: &RoundList, tables: Vec<NodeTable>) -> Resul
     })
 }
 
-// Each table in its place.
 fn each_at_home(alloc: Global, tables: Vec<NodeTable>) -> Result<Vec<Option<NodeTable>>, Fault>
     ensures value { IfOk result (λ v. v.items ≡ map in_place tables.items) }
     ensures only { IsOkUnless result OutOfMemory }
@@ -105,7 +102,6 @@ fn each_at_home(alloc: Global, tables: Vec<NodeTable>) -> Result<Vec<Option<Node
     Ok(homes)
 }
 
-// So many places with nothing in them.
 fn empty_places<T: Drop>(alloc: Global, count: u32) -> Result<Vec<Option<T>>, Fault>
     ensures value { IfOk result (λ v. AreEmpty count v.items) }
     ensures only { IsOkUnless result OutOfMemory }
@@ -117,7 +113,6 @@ fn empty_places<T: Drop>(alloc: Global, count: u32) -> Result<Vec<Option<T>>, Fa
     Ok(places)
 }
 
-// Carries out one event, if it is allowed.
 fn follow(
     alloc: Global,
     schedule: &mut Schedule,
@@ -149,7 +144,6 @@ fn follow(
     Ok(())
 }
 
-// The tables of an exchange's nodes leave their places.
 fn take_out(places: &mut Places, list: &RoundList, i: u32)
     requires within { i < length list.now.exchanges }
     requires places { HasPlaces list.now places.old }
@@ -162,7 +156,6 @@ fn take_out(places: &mut Places, list: &RoundList, i: u32)
     places.out[i as usize] = both(initiator, responder);
 }
 
-// Two tables as a pair, where both are there.
 fn both(initiator: Option<NodeTable>, responder: Option<NodeTable>) -> Option<Pair>
     ensures { result ≡ both_or_none initiator responder }
 {
@@ -207,7 +200,6 @@ fn put_back(
     Ok(())
 }
 
-// The tables in their places, and the records.
 fn given_by(alloc: Global, places: Places) -> Result<(Vec<NodeTable>, Vec<Record>), Fault>
     ensures value { IfOk result (λ p. StandIn places p.0.items p.1.items) }
     ensures only { IsOkUnless result OutOfMemory }
@@ -220,7 +212,6 @@ fn given_by(alloc: Global, places: Places) -> Result<(Vec<NodeTable>, Vec<Record
     Ok((all_of(alloc, homes)?, all_of(alloc, records)?))
 }
 
-// What stands in the places, in order, without the empty ones.
 fn all_of<T: Drop>(alloc: Global, places: Vec<Option<T>>) -> Result<Vec<T>, Fault>
     ensures value { IfOk result (λ v. v.items ≡ filter_map itself places.items) }
     ensures only { IsOkUnless result OutOfMemory }

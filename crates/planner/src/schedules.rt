@@ -137,7 +137,6 @@ impl Schedule {
         None
     }
 
-    // How far an exchange is, where it is in the list.
     fn at(&self, i: u32) -> Option<Stage>
         ensures value { result ≡ slice_get self.now.stages i }
         ensures kept { IsSchedule self.now }
@@ -154,7 +153,6 @@ impl Schedule {
         self.is_over(before.first) && self.is_over(before.second)
     }
 
-    // Whether an exchange is done, if there is one.
     fn is_over(&self, i: Option<u32>) -> bool
         ensures { result ≡ none_or_over self.now.stages i }
     {
@@ -165,7 +163,6 @@ impl Schedule {
     }
 }
 
-// So many exchanges that wait.
 fn all_waiting(alloc: Global, count: u32) -> Result<Vec<Stage>, Fault>
     ensures waiting { IfOk result (λ v. v.items ≡ replicate count Stage.Waiting) }
     ensures only { IsOkUnless result OutOfMemory }

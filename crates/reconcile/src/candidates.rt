@@ -56,7 +56,6 @@ fn candidates(
     Ok(found)
 }
 
-// Adds those of an owner's entries that the digest doesn't know.
 fn push_newer(
     found: &mut Vec<Item>,
     digest: &Digest,
@@ -85,7 +84,6 @@ fn push_newer(
     Ok(())
 }
 
-// What the budget lets through of the items as they stand.
 fn first_items(alloc: Global, items: &[Item], budget: Budget) -> Result<Vec<Item>, Fault>
     ensures items { IfOk result (λ v. v.items ≡ first_within budget items.now) }
     ensures only { IsOkUnless result OutOfMemory }

@@ -160,7 +160,6 @@ pub(crate) fn mark_in(generations: &[u32], versions: &[u32], owner: u32) -> Mark
     }
 }
 
-// The mark of a version, where 0 is none's.
 fn mark_with(generation: u32, version: u32) -> Mark
     ensures { result ≡ mark_with generation version }
 {
@@ -174,7 +173,6 @@ fn mark_with(generation: u32, version: u32) -> Mark
     }
 }
 
-// What the scuttle modes ask of a table.
 fn greatest_of_table(alloc: Global, table: &NodeTable) -> Result<Digest, Fault>
     ensures ok { IfOk result (IsDigestOf DigestKind.Scuttle table.now.table) }
     ensures only { IsOkUnless result OutOfMemory }
@@ -190,7 +188,6 @@ fn greatest_of_table(alloc: Global, table: &NodeTable) -> Result<Digest, Fault>
     })
 }
 
-// What the precise modes ask of a table.
 fn each_of_table(alloc: Global, table: &NodeTable) -> Result<Digest, Fault>
     ensures ok { IfOk result (IsDigestOf DigestKind.Precise table.now.table) }
     ensures only { IsOkUnless result OutOfMemory }
@@ -222,7 +219,6 @@ fn each_version(alloc: Global, table: &NodeTable) -> Result<Vec<u32>, Fault>
     Ok(versions)
 }
 
-// Sets the version of each entry of an owner whose first key's version stands at the start.
 fn set_row(versions: &mut [u32], start: usize, row: &[Entry])
     requires { All (λ e. start + e.key < length versions.old) row.now }
     ensures { versions.new ≡ with_row start row.now versions.old }
@@ -232,7 +228,6 @@ fn set_row(versions: &mut [u32], start: usize, row: &[Entry])
     }
 }
 
-// Where the version of an owner's key stands.
 fn version_index(keys: u32, owner: u32, key: u32) -> usize
     ensures { result ≡ version_index keys owner key }
 {

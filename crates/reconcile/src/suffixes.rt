@@ -98,7 +98,6 @@ fn turn_to(suffixes: &mut [Suffix], rotation: u32)
     suffixes.rotate_left(start);
 }
 
-// How many entries the suffixes have.
 fn count_of(suffixes: &[Suffix]) -> usize
     requires { length (items_of_suffixes suffixes.now) < 2 ^ 32 }
     ensures { result ≡ length (items_of_suffixes suffixes.now) }
@@ -110,7 +109,6 @@ fn count_of(suffixes: &[Suffix]) -> usize
     count
 }
 
-// How many entries the longest suffix has.
 fn longest(suffixes: &[Suffix]) -> usize
     ensures all { All (λ r. length r.entries.now ≤ result) suffixes.now }
     ensures within { result ≤ length (items_of_suffixes suffixes.now) }
@@ -148,7 +146,6 @@ fn by_rank(
     Ok(parcel.items)
 }
 
-// Adds what each suffix has of a rank, as long as it fits.
 fn add_ranked(parcel: &mut Parcel, suffixes: &[Suffix], rank: usize) -> Result<(), Fault>
     requires suffixes { AreSuffixes suffixes.now }
     ensures added { OnOk result (AddsLayer (ranked rank) suffixes.now parcel.old parcel.new) }
@@ -179,7 +176,6 @@ fn entries_ranked(entries: &[Entry], rank: usize) -> &[Entry]
     &entries[rank..]
 }
 
-// What the budget lets through of the suffixes, which have so many entries, those of the longest first.
 fn by_length(
     alloc: Global,
     suffixes: &[Suffix],
@@ -205,7 +201,6 @@ fn by_length(
     Ok(parcel.items)
 }
 
-// Adds the suffixes of a length, as long as they fit.
 fn add_long(parcel: &mut Parcel, suffixes: &[Suffix], len: usize) -> Result<(), Fault>
     ensures added { OnOk result (AddsLayer (of_length len) suffixes.now parcel.old parcel.new) }
     ensures only { IsOkUnless result OutOfMemory }

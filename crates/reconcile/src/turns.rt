@@ -39,7 +39,6 @@ impl Turns {
         }
     }
 
-    // Where an owner stands, counted from the rotation on.
     fn turn_of(self, owner: u32) -> u64
         requires { self.rotation < self.nodes }
         ensures { result ≡ rotated self.nodes self.rotation owner }

@@ -58,7 +58,6 @@ impl Column {
         }
     }
 
-    // The first format that has it.
     fn since(self) -> u32
         ensures { result ≡ (rule_of self).since }
     {
@@ -75,7 +74,6 @@ impl Column {
         }
     }
 
-    // What a row has in it.
     fn number(self, row: &Row) -> u64
         ensures { result ≡ (rule_of self).number row.now }
     {
@@ -109,7 +107,6 @@ pub(crate) fn write_names<W: Sink>(
     write_line(alloc, writer, &cells)
 }
 
-// Adds the names of a format's columns to the cells of a line.
 fn push_names(cells: &mut Vec<Cell<'static>>, format: u32) -> Result<(), Fault>
     requires format { IsFormat format }
     requires plain { IsTrue (list_all is_plain_cell cells.old.items) }
@@ -142,7 +139,6 @@ pub(crate) fn write_numbers<W: Sink>(
     write_line(alloc, writer, &cells)
 }
 
-// Adds what a row has in a format's columns to the cells of a line.
 fn push_numbers(cells: &mut Vec<Cell<'static>>, format: u32, row: &Row) -> Result<(), Fault>
     requires format { IsFormat format }
     requires plain { IsTrue (list_all is_plain_cell cells.old.items) }

@@ -5,11 +5,6 @@
 //!
 //! - The columns of the report are an enum: `Column::ALL` has their order, and the headers and the rows of report and
 //!   comparison go over it.
-//! - Every error of `csv` is `OutOfMemory`, as its writer writes into a vector, which fails for no other cause. Each
-//!   line has a writer of its own, so none can differ in its number of fields.
-//! - No trace row is made for a sink that drops all: a sink may say that it takes each byte and keeps none
-//!   (`drops_all`), which `Discard` does, so a trace that nobody reads costs nothing. What such a sink has taken is
-//!   unknown to every contract, so none changes.
 //! - No clause says of a push that the sink isn't flushed any more, since a sink may flush by itself.
 #![tactic(auto)]
 

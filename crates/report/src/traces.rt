@@ -73,7 +73,6 @@ fn make_rows(
     lines.into_inner().map_err(|_| Fault::OutOfMemory)
 }
 
-// Adds one row to the lines so far.
 fn put_row(
     alloc: Global,
     lines: &mut Writer<Vec<u8>>,

@@ -7,15 +7,8 @@
 //! - In `specs` a node's own writes are entries, with value and `born`, not the `OwnWrite` that a round hands out
 //!   (`born_in` gives that its round and generation). So they are what the owner's state is made of, and `writes_of`
 //!   says how a round adds to it (`grows`).
-//! - `writes_upto` has an owner's writes of its current generation: the figures read them, versions are places in them,
-//!   and a restart that forgets empties them. `written_upto` has those of all generations: what a copy holds is among
-//!   them, also where it is left over.
 //! - A generation follows from the scenario, as in how many rounds so far the node forgot (`generation_upto`). So
 //!   `writes_of` doesn't ask for it, and no entry has one that isn't the scenario's.
-//! - A word is drawn by its place: `draw`, `peer`, `round_list` and `writes_of` set the node's stream to the place, so
-//!   a draw that nothing uses can't shift another. A run keeps each node's stream (`RunWords`): each round takes the
-//!   next 16 words of every node, used or not, so the streams stand where `draw` would set them, and `round_list_by`
-//!   and `writes_by` read these. So each word is made once, and no key set up twice, for some 400 bytes a node.
 //! - `round_list` chooses every node's exchange, also that of a node that is down, in several threads from 2048 nodes
 //!   on, and only then leaves out the nodes out of reach. For these threads it takes the runtime before the allocator,
 //!   and never waits: the crate `rayon` joins them.

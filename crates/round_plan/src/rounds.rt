@@ -103,7 +103,6 @@ fn choices(
         .collect(rt, alloc)
 }
 
-// The exchange of a node with its peer, by the node's words of the round.
 fn exchange_by(
     scenario: &Scenario,
     node: u32,
@@ -135,7 +134,6 @@ fn is_lost(scenario: &Scenario, word: u32) -> bool
     word % MOST_LOSS < scenario.loss_ppm()
 }
 
-// Whether the initiator's peer is up and not separated from it.
 fn reaches(scenario: &Scenario, exchange: &Exchange, round: u32) -> bool
     requires first { 1 ≤ round }
     requires last { round ≤ MOST_ROUNDS }

@@ -76,7 +76,6 @@ impl RunWords {
     }
 }
 
-// The parts of all nodes before the first round.
 fn first_parts(alloc: Global, scenario: &Scenario) -> Result<Vec<NodeWords>, Fault>
     ensures count { IfOk result (λ parts. length parts.items ≡ scenario.now.nodes) }
     ensures parts { IfOk result (λ parts. ArePartsOf scenario.now.seed 0 parts.items) }
@@ -93,7 +92,6 @@ fn first_parts(alloc: Global, scenario: &Scenario) -> Result<Vec<NodeWords>, Fau
     Ok(parts)
 }
 
-// The next words of each node.
 fn draw_next(parts: &mut [NodeWords])
     requires fit { All (λ p. p.stream.word_pos + ROUND_WORDS < 2 ^ 68) parts.old }
     ensures { HaveDrawn parts.old parts.new }

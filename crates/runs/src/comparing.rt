@@ -51,7 +51,6 @@ pub fn compare<H: Threads + Wait + Sync, R: Source, W: Sink>(
     write_modes::<Brand, H, W>(&resources, scenario, &Mode::ALL, writer)
 }
 
-// All rounds of a scenario under each of these modes in turn, by tables that keep versions alone.
 fn write_modes<L: Written + Send + Sync, H: Threads + Wait + Sync, W: Sink>(
     resources: &Resources<H>,
     mut scenario: Scenario,
@@ -71,7 +70,6 @@ fn write_modes<L: Written + Send + Sync, H: Threads + Wait + Sync, W: Sink>(
     Ok(())
 }
 
-// All rounds of a scenario, which is handed back.
 fn write_all_rounds<L: Written + Send + Sync, H: Threads + Wait + Sync, W: Sink>(
     resources: &Resources<H>,
     scenario: Scenario,
@@ -91,7 +89,6 @@ fn write_all_rounds<L: Written + Send + Sync, H: Threads + Wait + Sync, W: Sink>
     }
 }
 
-// The rows of all rounds of a simulation that stands before the first. Its scenario is handed back.
 fn write_rows<
     T: MemoryTable + Send + Sync,
     K: RoundHistories<T>,
@@ -112,7 +109,6 @@ fn write_rows<
     Ok(sim.into_scenario())
 }
 
-// The next round of a simulation, and its row.
 fn write_row<T: MemoryTable + Send + Sync, K: RoundHistories<T>, H: Threads + Wait + Sync, W: Sink>(
     resources: &Resources<H>,
     sim: &mut Sim<T, K>,

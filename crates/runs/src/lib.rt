@@ -9,12 +9,6 @@
 //!   so, whatever memory is left.
 //! - Report and trace are functions of the settings. `report_text`, `trace_text` and what they stand on have no table
 //!   in memory and no list in them, so the contract of `run` can be read without the code.
-//! - In each round the lines of the trace are written before the row of the report, so the trace is never behind the
-//!   report, whichever end fails.
-//! - A run says of a fault where it stopped: all that stands before some place of the two texts was written, and
-//!   writing what stands there came to the fault (`StopsAt`). So the contract tells which end failed, and that
-//!   `OutOfMemory` is never answered for an end that failed. A run in which a round fails stops at a place of its own,
-//!   `round_after`, behind all lines of the rounds before; only there can `NoThread` come.
 //! - `run` takes the runtime by reference, as `step` does, for the workers and for the threads of a round's figures.
 //!   They may wait. `run` and `compare` call no gate, so they pass `FreeGate`, where `step` takes any.
 //! - A comparison's text doesn't depend on the scenario's own mode, which the contract of `compare` says (`own_mode` of

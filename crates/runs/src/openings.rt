@@ -16,7 +16,6 @@ use simulation::Sim;
 use std::alloc::Global;
 use version_tables::{Histories, Short, VersionTable, Written};
 
-// No owner makes more writes in a round than this.
 fn most_in_a_round(scenario: &Scenario) -> u32
     ensures limit { (round : ℕ) → writes_in scenario.now round ≤ result }
     ensures within { result ≤ MOST_WRITES }
@@ -29,7 +28,6 @@ fn most_in_a_round(scenario: &Scenario) -> u32
     most
 }
 
-// No owner makes more writes in a run than this.
 fn most_in_a_run(scenario: &Scenario) -> u32
     ensures below { HasWritesBelow (result + 1) scenario.now }
     ensures within { result ≤ MOST_WRITES * MOST_ROUNDS }
@@ -68,7 +66,6 @@ pub(crate) fn begin<L: Written + Send + Sync>(
     }
 }
 
-// A simulation of the scenario by tables of any representation, before its first round.
 fn open<T: MemoryTable + Send + Sync, K: RoundHistories<T>>(
     alloc: Global,
     scenario: Scenario,

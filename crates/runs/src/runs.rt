@@ -68,7 +68,6 @@ pub fn check_input<R: Source>(alloc: Global, reader: &mut R) -> Result<Scenario,
     read(alloc, &bytes)
 }
 
-// The texts of a run, by tables that keep versions alone.
 fn write_run<L: Written + Send + Sync, H: Threads + Wait + Sync, W: Sink, X: Sink>(
     resources: &Resources<H>,
     scenario: Scenario,
@@ -88,7 +87,6 @@ fn write_run<L: Written + Send + Sync, H: Threads + Wait + Sync, W: Sink, X: Sin
     }
 }
 
-// Both headers, and the texts of all rounds of a simulation that stands before its first.
 fn write_texts<
     T: MemoryTable + Send + Sync,
     K: RoundHistories<T>,

@@ -129,7 +129,6 @@ fn rules_of(scenario: &Scenario) -> Rules
     }
 }
 
-// The empty tables of all nodes, in order.
 fn empty_tables<T: MemoryTable, H: RoundHistories<T>>(
     alloc: Global,
     scenario: &Scenario,
@@ -242,7 +241,6 @@ fn restart<T: MemoryTable, H: RoundHistories<T>>(
     }
 }
 
-// The writes of one node in a round, in order.
 fn write_own<T: MemoryTable, H: RoundHistories<T>>(
     table: &mut T,
     histories: &mut H,

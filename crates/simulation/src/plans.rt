@@ -64,7 +64,6 @@ pub(crate) fn drawn_after(
     Ok(Drawn::Next(next))
 }
 
-// The plan of a round, by the words of the one before it.
 fn next_plan(
     mut words: RunWords,
     alloc: Global,

@@ -106,7 +106,6 @@ impl<T: MemoryTable + Send + Sync, H: RoundHistories<T>> Sim<T, H> {
         Ok(round)
     }
 
-    // The fault of a step that has nothing to do.
     fn check_step(&self) -> Result<(), Fault>
         ensures ok { OnOk result (MayStep self.now) }
         ensures lawful { OnOk result (IsLawfulScenario self.now.settings) }

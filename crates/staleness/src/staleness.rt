@@ -62,7 +62,6 @@ pub fn figures(
     Ok(joined_all(&nodes))
 }
 
-// Those of each node's copies, in order.
 fn figures_of_nodes(
     rt: &(impl Threads + Sync),
     alloc: Global,
@@ -86,7 +85,6 @@ fn figures_of_nodes(
         .collect(rt, alloc)
 }
 
-// What all parts come to together.
 fn joined_all(parts: &[Figures]) -> Figures
     requires count { length parts.now ≤ MOST_NODES }
     requires few { All (AreFew (MOST_NODES * MOST_KEYS)) parts.now }
@@ -99,7 +97,6 @@ fn joined_all(parts: &[Figures]) -> Figures
     total
 }
 
-// What two parts come to together.
 fn joined(one: Figures, other: Figures) -> Figures
     requires stale { one.stale + other.stale < 2 ^ 64 }
     requires leftover { one.leftover + other.leftover < 2 ^ 64 }
@@ -112,7 +109,6 @@ fn joined(one: Figures, other: Figures) -> Figures
     }
 }
 
-// Those of a node's copies of all owners.
 fn figures_of_node(tables: &[NodeTable], lists: &[OwnerList], node: usize, round: u32) -> Figures
     requires countable { AreCountable round (tables_in tables.now) (lists_in lists.now) }
     requires node { node < length tables.now }
@@ -125,7 +121,6 @@ fn figures_of_node(tables: &[NodeTable], lists: &[OwnerList], node: usize, round
     total
 }
 
-// Those of its copy of one owner.
 fn figures_of_copy(
     tables: &[NodeTable],
     lists: &[OwnerList],
@@ -147,7 +142,6 @@ fn figures_of_copy(
     total
 }
 
-// Those of one triple.
 fn figures_of_triple(
     tables: &[NodeTable],
     lists: &[OwnerList],
@@ -203,7 +197,6 @@ fn version_known(held: Option<Entry>, generation: u32) -> u32
     }
 }
 
-// Whether what is held is of an older generation.
 fn is_left_over(held: Option<Entry>, generation: u32) -> bool
     ensures { result ≡ is_left_over generation held }
 {

@@ -42,7 +42,6 @@ struct Piece<N: Number> {
     least: Vec<N>,
 }
 
-// Whether a node has forgotten.
 fn has_forgotten<N: Number>(bases: &[N]) -> bool
     ensures { IsFalse result → (r : ℕ) → r < length bases.now
         → slice_index (map N.number bases.now) r ≡ 0 }
@@ -55,7 +54,6 @@ fn has_forgotten<N: Number>(bases: &[N]) -> bool
     false
 }
 
-// How many numbers are of an earlier generation than their owner's. Where no node has forgotten none is.
 fn left_over<N: Number>(cells: &[N], bases: &[N], nodes: usize, keys: usize, forgot: bool) -> u32
     requires grid { IsGrid nodes keys (length cells.now) }
     requires bases { length bases.now ≡ nodes }
@@ -86,7 +84,6 @@ struct Numbers<'a, N: Number> {
 }
 
 impl<'a, N: Number + Send + Sync> Numbers<'a, N> {
-    // What so many tables from one on say.
     fn piece_of(&self, alloc: Global, from: usize, count: usize) -> Result<Piece<N>, Fault>
         requires numbers { AreCountedGrids N.number self.now }
         requires within { from + count ≤ self.now.nodes }
@@ -189,7 +186,6 @@ fn lag_of_owner<N: Number>(
     0
 }
 
-// Whether all that an owner wrote behind a number was written after a round.
 fn is_after<N: Number>(ends: Ends<N>, nodes: usize, owner: usize, number: N, round: u32) -> bool
     requires nodes { nodes ≤ MOST_NODES }
     requires ends { length ends.numbers.now ≡ (ends.rounds + 1) * nodes }
@@ -268,7 +264,6 @@ fn tables_of_a_thread<N: Number>(numbers: &RoundNumbers<N>, hands: Hands) -> usi
     (tables / threads).saturating_add(1)
 }
 
-// What all tables say.
 fn counted<N: Number + Send + Sync>(
     rt: &(impl Threads + Sync),
     alloc: Global,

@@ -58,7 +58,6 @@ pub(crate) fn delta<N: Number, H: Written>(
     Ok(marks)
 }
 
-// What of the numbers offered is sent.
 fn marks_sent<N: Number, H: Written>(
     alloc: Global,
     sender: &VersionTable<N, H>,
@@ -102,7 +101,6 @@ fn marks_sent<N: Number, H: Written>(
     Ok(marked)
 }
 
-// What a receiver tells.
 fn told_to<N: Number, H: Written>(
     alloc: Global,
     receiver: &VersionTable<N, H>,
@@ -186,7 +184,6 @@ fn either<'a, N: Number, H: Written>(
     }
 }
 
-// The two marks of each owner.
 fn marks_of<N: Number>(
     alloc: Global,
     first: First,

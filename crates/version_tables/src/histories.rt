@@ -193,7 +193,6 @@ impl<N: Number, H: Written> Histories<N, H> {
     }
 }
 
-// The lists of so many owners that have written nothing.
 fn no_lists(alloc: Global, nodes: usize) -> Result<Vec<OwnerWrites>, Fault>
     ensures count { IfOk result (λ v. length v.items ≡ nodes) }
     ensures empty { IfOk result (λ v. (owner : ℕ) → list_of_owner v.items owner ≡ no_writes) }

@@ -29,7 +29,6 @@ fn keys_of<N: Number, H: Written>(tables: &[VersionTable<N, H>]) -> usize
     }
 }
 
-// The numbers of each table.
 fn cells_of<'a, N: Number, H: Written>(
     alloc: Global,
     tables: &'a [VersionTable<N, H>],

@@ -15,7 +15,6 @@ use bench_types::limits::MOST_ENTRY_SIZE;
 use bench_types::{Budget, DigestKind, Rules};
 use planes::{BothCounts, BothMarks, Number};
 
-// Whether so many entries surely fit.
 fn surely_fit(budget: Budget, count: u32) -> bool
     requires { count ≤ MOST_NODES * MOST_KEYS }
     ensures { IsTrue result ↔ (count * largest_share budget ≤ amount_of budget) }
@@ -48,7 +47,6 @@ fn all_ahead_fits<N: Number, H: Written>(
     surely_fit(budget, count)
 }
 
-// Whether all that each of two tables has above the other's greatest numbers surely fits.
 fn all_fits<N: Number, H: Written>(
     initiator: &VersionTable<N, H>,
     responder: &VersionTable<N, H>,
@@ -63,7 +61,6 @@ fn all_fits<N: Number, H: Written>(
         && all_ahead_fits(initiator, responder, budget, most.second)
 }
 
-// Whether nothing that a table holds is of an earlier generation than its owner's.
 fn is_current<N: Number, H: Written>(
     table: &VersionTable<N, H>,
     histories: &Histories<N, H>,
@@ -75,7 +72,7 @@ fn is_current<N: Number, H: Written>(
     planes::total_upto(table.greatest(), nodes, 1, histories.bases()) == 0
 }
 
-// Whether that is so of two tables. Most often no owner has forgotten, which one fast loop tells.
+// Most often no owner has forgotten, which one fast loop tells.
 fn are_current<N: Number, H: Written>(
     initiator: &VersionTable<N, H>,
     responder: &VersionTable<N, H>,
@@ -93,7 +90,6 @@ fn are_current<N: Number, H: Written>(
     is_current(initiator, histories) && is_current(responder, histories)
 }
 
-// Whether one table has nothing of the other's node above what that has itself.
 fn has_no_newer<N: Number, H: Written>(
     table: &VersionTable<N, H>,
     other: &VersionTable<N, H>,

@@ -13,7 +13,6 @@ use delta_plans::Owners;
 use owner_writes::OwnerWrites;
 use planes::{Number, Sent};
 
-// Drops what an owner's keys have up to a mark.
 fn clear_column<N: Number>(cells: &mut [N], nodes: usize, keys: usize, owner: usize, start: u32)
     requires grid { IsGrid nodes keys (length cells.old) }
     requires owner { owner < nodes }
@@ -25,7 +24,6 @@ fn clear_column<N: Number>(cells: &mut [N], nodes: usize, keys: usize, owner: us
     }
 }
 
-// A number that is above a mark, else 0.
 fn kept_above<N: Number>(number: N, start: u32) -> N
     ensures { N.number result ≡ number_kept start (N.number number) }
 {
@@ -49,7 +47,6 @@ fn drop_from<N: Number>(list: &OwnerWrites, old: N, base: N, new: N) -> u32
     }
 }
 
-// Drops of one owner what is of older generations than its greatest number.
 fn drop_owner<N: Number>(cells: &mut [N], nodes: usize, keys: usize, owner: usize, start: u32)
     requires grid { IsGrid nodes keys (length cells.old) }
     requires owner { owner < nodes }
@@ -60,7 +57,7 @@ fn drop_owner<N: Number>(cells: &mut [N], nodes: usize, keys: usize, owner: usiz
     }
 }
 
-// And so of each owner, where any owner's old number is of an earlier generation.
+// Drops nothing, after one fast loop, where no owner's old number is of an earlier generation.
 fn drop_older<N: Number>(
     cells: &mut [N],
     nodes: usize,

@@ -33,7 +33,6 @@ pub(crate) fn exchange_all<T: MemoryTable, X: Exchanging<T>, G: Gate>(
     Ok(records)
 }
 
-// One exchange of two of the tables.
 fn exchange_pair<T: MemoryTable, X: Exchanging<T>>(
     alloc: Global,
     shared: &X,

@@ -78,7 +78,6 @@ pub(crate) fn exchange_in_threads<
     Ok((tables, records, made))
 }
 
-// A board of the list and the tables with its first seat, and the tasks of so many workers.
 fn begin<L: Limit, T: MemoryTable>(
     alloc: Global,
     list: &RoundList,
@@ -102,7 +101,6 @@ fn begin<L: Limit, T: MemoryTable>(
     Ok((board, seat, tasks))
 }
 
-// The tables and the records, once all exchanges are put back.
 fn end<T: MemoryTable>(
     alloc: Global,
     list: &RoundList,
@@ -162,7 +160,6 @@ fn run_workers<
     )
 }
 
-// The same, in an open scope.
 fn run_in_scope<
     's,
     'e: 's,
@@ -202,7 +199,6 @@ fn run_in_scope<
     Ok((seat, stamps, made))
 }
 
-// What both came to. That a thread couldn't be started goes before what the others met.
 fn outcome_of(
     started: Result<(), Fault>,
     joined: Result<Vec<Stamped>, Fault>,
@@ -214,7 +210,6 @@ fn outcome_of(
     joined
 }
 
-// Starts a thread for each worker, with a seat of its own.
 fn start_all<
     's,
     'e: 's,
@@ -292,7 +287,6 @@ fn join_all<R: Threads, T: MemoryTable>(
     all
 }
 
-// The records of both, or the first fault.
 fn with_more(
     all: Result<Vec<Stamped>, Fault>,
     more: Result<Vec<Stamped>, Fault>,

@@ -59,7 +59,6 @@ impl<'a, T: MemoryTable, X: Exchanging<T>, G: Gate> Workshop<'a, T, X, G> {
         Returned { seat, outcome }
     }
 
-    // Answers the records of what was put back.
     fn carry_out_all<L: Limit, R: Wait>(
         &self,
         rt: &R,

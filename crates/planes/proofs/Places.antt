@@ -238,6 +238,9 @@ window-at number start count n xs is r lt =
     ∙ get_or-take n (drop start (map number xs)) r 0 (omega (arith, lt, is))
     ∙ get_or-drop start (map number xs) r 0
 
+pub window-in : {N : Type 0} (start count n r : ℕ) (xs : List N) → n ≡ count → start + count ≤ length xs → r < count → r < length (take n (drop start xs))
+window-in start count n r xs is within lt = omega (arith, is, lt, length-take-le n (drop start xs) (omega (arith, is, within, length-drop start xs)))
+
 pub plane-cells : {N : Type 0} (number : N → ℕ) (nodes key n : ℕ) (xs : List N) → n ≡ nodes → key * nodes + nodes ≤ length xs → HasEach nodes (λ r m. m ≡ cell (map number xs) nodes r key) (map number (take n (drop (key * nodes) xs)))
 plane-cells number nodes key n xs is within =
     subst (λ k. HasEach nodes (λ r m. m ≡ cell (map number xs) nodes r key) (map number (take k (drop (key * nodes) xs)))) (sym is) (plane_cells number nodes key xs within)

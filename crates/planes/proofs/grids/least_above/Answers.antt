@@ -1,6 +1,7 @@
 use Rattle.std.proofs.Common.{◌≡◌, ◌≤◌, slice_index, sym, subst, ◌∙◌, map}
 use Rattle.std.proofs.lemmas.List.{with_items_is}
 use Rattle.planes.specs.Planes.{cell, next_above, HasEach, IsNextAbove, IsLowered}
+use Rattle.planes.proofs.Elementwise.{lowered-to}
 use Rattle.planes.proofs.Places.{each-next, each-whole, each-other, each-start, least-next}
 use Rattle.planes.proofs.grids.least_above.Goals as goal
 
@@ -11,9 +12,15 @@ loop-key-init g c = each-start c.args.nodes g.N.Number.most (cell (map g.N.Numbe
 
 pub loop-key-preserved : goal.loop-key-preserved
 loop-key-preserved g c =
-    each-next c.args.nodes _ _ _ (map g.N.Number.number c.loop-key.all) (map g.N.Number.number c.lower_to_next.new.least) c.loop-key.invariant c.lower_to_next.ensures.least
-    (λ r x y lt is now. least-next g.N.Number.most (cell (map g.N.Number.number c.args.cells.now) c.args.nodes) c.loop-key.key r (slice_index (map g.N.Number.number c.args.low.now) r) x y is.0
-    (subst (λ n. IsLowered g.N.Number.most (next_above g.N.Number.most (slice_index (map g.N.Number.number c.args.low.now) r) n) x y) (c.plane_of-plane.ensures.each r lt) now) is.1)
+    let number = g.N.Number.number in
+    let most = g.N.Number.most in
+    let low = slice_index (map number c.args.low.now) in
+    let plane = slice_index (map number c.plane_of-plane.result.now) in
+    each-next c.args.nodes _ _ _ (map number c.loop-key.all) (map number c.change.new.numbers) c.loop-key.invariant c.change.ensures
+    (λ r x y lt is made.
+    let now = lowered-to number most _ r x y _ made (λ n m call. call) in
+    least-next most (cell (map number c.args.cells.now) c.args.nodes) c.loop-key.key r (low r) x y is.0
+    (subst (λ n. IsLowered most (next_above most (low r) n) x y) (c.plane_of-plane.ensures.each r lt) now) is.1)
 
 pub returns-clause-least : goal.returns-clause-least
 returns-clause-least g c =

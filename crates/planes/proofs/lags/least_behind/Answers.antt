@@ -2,6 +2,7 @@ use Rattle.std.proofs.Common.{◌≡◌, ◌≤◌, slice_index, sym, subst, ◌
 use Rattle.std.proofs.lemmas.List.{with_items_is}
 use Rattle.planes.specs.Planes.{cell, HasEach, IsLowered}
 use Rattle.planes.specs.Lags.{next_behind, IsLeastBehind}
+use Rattle.planes.proofs.Elementwise.{lowered-to}
 use Rattle.planes.proofs.Places.{each-next, each-whole, each-other}
 use Rattle.planes.proofs.Behind.{behind-start, behind-next}
 use Rattle.planes.proofs.lags.least_behind.Goals as goal
@@ -13,10 +14,15 @@ loop-key-init g c = behind-start c.args.nodes g.N.Number.most (cell (map g.N.Num
 
 pub loop-key-preserved : goal.loop-key-preserved
 loop-key-preserved g c =
-    each-next c.args.nodes _ _ _ (map g.N.Number.number c.loop-key.all) (map g.N.Number.number c.lower_to_behind.new.least) c.loop-key.invariant c.lower_to_behind.ensures.least
-    (λ r x y lt is now. behind-next g.N.Number.most (cell (map g.N.Number.number c.args.cells.now) c.args.nodes) (cell (map g.N.Number.number c.args.last.now) c.args.nodes) c.loop-key.key r x y is.0
-    (subst (λ n. IsLowered g.N.Number.most (next_behind g.N.Number.most n (cell (map g.N.Number.number c.args.cells.now) c.args.nodes r c.loop-key.key)) x y) (c.plane_of-of_last.ensures.each r lt)
-    (subst (λ n. IsLowered g.N.Number.most (next_behind g.N.Number.most (slice_index (map g.N.Number.number c.plane_of-of_last.result.now) r) n) x y) (c.plane_of-plane.ensures.each r lt) now)) is.1)
+    let number = g.N.Number.number in
+    let most = g.N.Number.most in
+    let plane = slice_index (map number c.plane_of-plane.result.now) in
+    let last = slice_index (map number c.plane_of-of_last.result.now) in
+    each-next c.args.nodes _ _ _ (map number c.loop-key.all) (map number c.change.new.numbers) c.loop-key.invariant c.change.ensures
+    (λ r x y lt is made.
+    let now = lowered-to number most _ r x y _ made (λ n m call. call) in
+    behind-next most (cell (map number c.args.cells.now) c.args.nodes) (cell (map number c.args.last.now) c.args.nodes) c.loop-key.key r x y is.0
+    (subst (λ n. IsLowered most n x y) (λ i. next_behind most (c.plane_of-of_last.ensures.each r lt i) (c.plane_of-plane.ensures.each r lt i)) now) is.1)
 
 pub returns-clause-least : goal.returns-clause-least
 returns-clause-least g c =

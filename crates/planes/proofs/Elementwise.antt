@@ -5,9 +5,9 @@ use Rattle.std.proofs.Common.{◌≡◌, ℕ, ◌+◌, ◌<◌, ◌≤◌, List,
 use Rattle.std.proofs.Math.Seq.{take-nil}
 use Rattle.std.proofs.lemmas.Bool.{cases_eq, cases_lt}
 use Rattle.std.proofs.lemmas.List.{get_or-set_same, get_or-set_other, length-set, get_or-map, get_or-replicate, length-map, length-replicate, map-set}
-use Rattle.planes.specs.Planes.{HasEach, IsLowered}
+use Rattle.planes.specs.Planes.{HasEach}
 use Rattle.planes.specs.Elementwise.{AreChangedUpto, AreChanged}
-use Rattle.planes.specs.inner.Answering.{IsMade}
+use Rattle.planes.specs.inner.Answering.{IsLowered, IsMade}
 
 -- what is read at an index, as a number
 pub number-at : {N : Type 0} (number : N → ℕ) (xs : List N) (r : ℕ) (x : N) → r < length xs → x ≡ get_or xs r x → number x ≡ get_or (map number xs) r 0

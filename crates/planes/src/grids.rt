@@ -5,9 +5,9 @@ ghost use Rattle.std.specs.Prelude.{◌≡◌, ℕ, ◌+◌, ◌*◌, ◌<◌, �
 ghost use Rattle.bench_types.specs.declared.faults.Fault.TheVariants.{OutOfMemory};
 ghost use Rattle.bench_types.specs.declared.limits.TheConstants.{MOST_NODES, MOST_KEYS};
 ghost use Rattle.planes.specs.Elementwise.{AreChanged};
-ghost use Rattle.planes.specs.Planes.{count_above, cell, number_ahead, total_above, total_of, AreCovered, ArePlanesChanged, AreSentTaken, HasEach, HasEachPlace, IsGrid, IsLowered, IsNextAbove, MayTake, next_above, count_between};
+ghost use Rattle.planes.specs.Planes.{count_above, cell, number_ahead, total_above, total_of, AreCovered, ArePlanesChanged, AreSentTaken, HasEach, HasEachPlace, IsGrid, IsNextAbove, MayTake, count_between};
 ghost use Rattle.bench_types.specs.Sums.{sum_below};
-ghost use Rattle.planes.specs.inner.Answering.{AnswersAs};
+ghost use Rattle.planes.specs.inner.Answering.{AnswersAs, IsLowered};
 
 use crate::numbers::Number;
 use crate::owners::{FEW_TO_CHANGE, FEW_TO_COUNT};
@@ -155,8 +155,9 @@ pub fn least_above<N: Number>(
             all,
             |r, number| -> N
                 requires { (r < length plane.now) × (r < length low.now) }
-                ensures { IsLowered N.most (next_above N.most (slice_index (map N.number low.entry.now) r)
-                    (slice_index (map N.number plane.entry.now) r)) (N.number number) (N.number result) }
+                ensures { IsLowered N.most (if nat_lt (slice_index (map N.number low.entry.now) r)
+                    (slice_index (map N.number plane.entry.now) r) then slice_index (map N.number plane.entry.now) r
+                    else N.most) (N.number number) (N.number result) }
             {
                 let now = plane[r];
                 number.min_with(planes::pick(now.is_above(low[r]), now, N::greatest()))

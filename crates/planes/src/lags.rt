@@ -1,12 +1,13 @@
 //! Loops over all planes of a table that compare its numbers with the last ones.
 
-ghost use Rattle.std.specs.Prelude.{◌≡◌, ℕ, ◌+◌, ◌<◌, ◌≤◌, List, length, map, min, nat_lt, slice_index, IfOk, IsOkUnless};
+ghost use Rattle.std.specs.Prelude.{◌≡◌, ℕ, ◌+◌, ◌<◌, ◌≤◌, List, length, map, min, nat_lt, slice_index, IfOk, IsOkUnless, if◌then◌else◌};
 ghost use Rattle.bench_types.specs.declared.faults.Fault.TheVariants.{OutOfMemory};
 ghost use Rattle.bench_types.specs.declared.limits.TheConstants.{MOST_NODES};
 ghost use Rattle.planes.specs.Elementwise.{AreChanged, AreChangedUpto};
-ghost use Rattle.planes.specs.Lags.{next_behind, IsLeastBehind};
+ghost use Rattle.planes.specs.Lags.{IsLeastBehind};
 ghost use Rattle.planes.specs.inner.Counting.{count_less, IsPartDone};
-ghost use Rattle.planes.specs.Planes.{cell, total_of, ArePlanesChanged, HasEach, IsGrid, IsLowered};
+ghost use Rattle.planes.specs.Planes.{cell, total_of, ArePlanesChanged, HasEach, IsGrid};
+ghost use Rattle.planes.specs.inner.Answering.{IsLowered};
 
 use crate::grids::{all_of, plane_of};
 use crate::numbers::Number;
@@ -102,8 +103,9 @@ pub fn least_behind<N: Number>(
             all,
             |r, number| -> N
                 requires { (r < length plane.now) × (r < length of_last.now) }
-                ensures { IsLowered N.most (next_behind N.most (slice_index (map N.number of_last.entry.now) r)
-                    (slice_index (map N.number plane.entry.now) r)) (N.number number) (N.number result) }
+                ensures { IsLowered N.most (if nat_lt (slice_index (map N.number plane.entry.now) r)
+                    (slice_index (map N.number of_last.entry.now) r) then slice_index (map N.number plane.entry.now) r
+                    else N.most) (N.number number) (N.number result) }
             {
                 let now = plane[r];
                 number.min_with(planes::pick(of_last[r].is_above(now), now, N::greatest()))

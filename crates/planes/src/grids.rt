@@ -121,11 +121,12 @@ pub fn count_some_between<N: Number>(
         planes::change(
             counts,
             |r, count| -> N
-                requires { (r < length plane.now) × (r < length lows.now) × (r < length highs.now) × (N.number count < N.most) }
-                ensures { N.number result ≡ N.number count
-                    + (if nat_lt (slice_index (map N.number lows.entry.now) r) (slice_index (map N.number plane.entry.now) r)
-                    && nat_le (slice_index (map N.number plane.entry.now) r) (slice_index (map N.number highs.entry.now) r)
-                    then 1 else 0) }
+                requires { (r < length plane.now) × (r < length lows.now) × (r < length highs.now)
+                    × (N.number count < N.most) }
+                ensures { N.number result ≡ N.number count + (if nat_lt (slice_index (map N.number lows.entry.now) r)
+                    (slice_index (map N.number plane.entry.now) r)
+                    && nat_le (slice_index (map N.number plane.entry.now) r)
+                    (slice_index (map N.number highs.entry.now) r) then 1 else 0) }
             { count.plus(planes::is_between(plane[r], lows[r], highs[r])) },
         );
     }
@@ -193,8 +194,8 @@ fn keep_planes_ahead<N: Number>(
             block,
             |r, number| -> (N, bool)
                 requires { (r < length of_peer.now) × (r < length low.now) }
-                ensures number { N.number result.0 ≡ number_ahead (N.number number) (slice_index (map N.number of_peer.entry.now) r)
-                    (slice_index (map N.number low.entry.now) r) }
+                ensures number { N.number result.0 ≡ number_ahead (N.number number)
+                    (slice_index (map N.number of_peer.entry.now) r) (slice_index (map N.number low.entry.now) r) }
                 ensures is_kept { result.1 ≡ nat_lt (max (slice_index (map N.number of_peer.entry.now) r)
                     (slice_index (map N.number low.entry.now) r)) (N.number number) }
             {

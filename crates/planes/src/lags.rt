@@ -65,7 +65,8 @@ pub fn count_behind<N: Number>(
             block,
             |r, number| -> (N, bool)
                 requires { (r < length plane.now) × (r < length of_last.now) }
-                ensures number { N.number result.0 ≡ min (N.number number) (slice_index (map N.number plane.entry.now) r) }
+                ensures number { N.number result.0 ≡ min (N.number number)
+                    (slice_index (map N.number plane.entry.now) r) }
                 ensures is_behind { result.1 ≡ nat_lt (slice_index (map N.number plane.entry.now) r)
                     (slice_index (map N.number of_last.entry.now) r) }
             {

@@ -17,7 +17,8 @@ pub record IsMade {N : Type 0} (number : N → ℕ) (makes : ℕ → N → N →
 -- each call makes of a number another one, and answers, as a function and a test of owner and number do
 abbrev pub MakesAs : {N : Type 0} → (N → ℕ) → (ℕ → N → N × Bool → Type 0) → ℕ → (ℕ → ℕ → ℕ) → (ℕ → ℕ → Bool) → Type 0
 MakesAs {N} number makes bound made test =
-    (r : ℕ) (n : N) (both : N × Bool) → r < bound → makes r n both → (number both.0 ≡ made r (number n)) × (both.1 ≡ test r (number n))
+    (r : ℕ) (n : N) (both : N × Bool) → r < bound → makes r n both
+    → (number both.0 ≡ made r (number n)) × (both.1 ≡ test r (number n))
 
 -- y is x lowered to another number, which is no more than the most
 pub record IsLowered (most number x y : ℕ) : Type 0 where

@@ -2,7 +2,7 @@
 -- Serves `staleness`.
 use Rattle.std.proofs.Common.{◌≡◌, ℕ, zero, suc, ◌+◌, ◌*◌, ◌/◌, ◌<◌, ◌≤◌, List, [], ◌∷◌, get_or, subst, arith}
 use Rattle.std.specs.List.{AllZip, range_with_len}
-use Rattle.std.proofs.Math.Nat.{lt-div-mul-add, div-mul-le_self, mul-le-mul_right}
+use Rattle.std.proofs.Math.Nat.{lt-div-mul-add}
 use Rattle.bench_types.proofs.Sums.{one_more}
 
 -- what a list has for each number of a range stands at its place
@@ -17,7 +17,3 @@ at_place R from (suc n) (f ∷ fs) each (suc k) d lt =
 -- so many parts of a size are enough
 pub enough : (n size : ℕ) → 1 ≤ size → n ≤ (n / size + 1) * size
 enough n size some = omega (arith, lt-div-mul-add {a = n} {b = size} some, one_more (n / size) size)
-
--- a part's number is one of the parts'
-pub part_within : (n size p : ℕ) → p ≤ n / size → p * size ≤ n
-part_within n size p le = omega (arith, mul-le-mul_right size le, div-mul-le_self n size)

@@ -32,10 +32,6 @@ or_least true true = (omega arith, omega arith)
 or_least true false = (omega arith, omega arith)
 or_least false b = (omega arith, omega arith)
 
-flag_up : (b : Bool) → 0 < flag b → b ≡ true
-flag_up true h = refl
-flag_up false h = absurd (omega arith)
-
 module _ {A : Type 0} (g : A → ℕ) (l : List A) (id : ℕ) (v w u : A) (me : get_elem? l id ≡ some v) where
   -- one element cut in two
   total-split : total g (set l id w ++ u ∷ []) + g v ≡ total g l + g w + g u

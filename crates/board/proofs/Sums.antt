@@ -78,12 +78,6 @@ only_at k x h = elim (cases_eq x k) [
   | inr other ↦ absurd (omega (arith, h, only-other k x other))
 ]
 
-pub only-most : (k x : ℕ) → only k x ≤ 1
-only-most k x = elim (cases_eq x k) [
-  | inl same ↦ omega (arith, ap (only k) same, only-same k)
-  | inr other ↦ omega (arith, only-other k x other)
-]
-
 pub only-swap : (k x : ℕ) → only k x ≡ only x k
 only-swap k x = elim (cases_eq x k) [
   | inl same ↦ ap (λ n. only n x) (sym same) ∙ ap (only x) same

@@ -56,10 +56,6 @@ module _ (es : List Exchange) (events : List Event) (history : IsHistory es even
       | inr from ↦ later_waits j from in_j (running_started events j runs)
     ])
 
--- for whoever plays a schedule: the nodes of an exchange that may start are at home
-pub starts_at_home : (es : List Exchange) (before : List Event) (i node j : ℕ) → IsLawful es before → MayStart es before i → takes_part es node i ≡ true → is_running before j ≡ true → takes_part es node j ≡ false
-starts_at_home es before i node j lawful may part runs = none_running es before (history_of es before lawful) i may node part j runs
-
 -- what stands in its place, is taken out and is recorded after these events
 pub record Follows (rules : Rules) (ts : List Table) (es : List Exchange) (events : List Event) (s : State) : Type 0 where
   pub taken : (i : ℕ) → is_running events i ≡ true → s.out i ≡ Some (taken_before rules ts es i)

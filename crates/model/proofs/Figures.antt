@@ -1,20 +1,13 @@
 -- The figures of a round, counted by owner.
 -- Serves `version_lags`.
-use Rattle.std.proofs.Common.{◌≡◌, ℕ, ◌≤◌, List, length, sym, ap, ◌∙◌, arith, Some}
+use Rattle.std.proofs.Common.{◌≡◌, ℕ, List, length, sym, ap, ◌∙◌}
 use Rattle.model.specs.Table.{Table}
 use Rattle.model.specs.Tables.{table_of_node}
 use Rattle.model.specs.calls.Tables.{IsCluster}
 use Rattle.model.specs.declared.writes.Write.{Write}
 use Rattle.bench_types.specs.Sums.{most_below}
-use Rattle.model.specs.Figures.{staleness_at, stale_count, rounds_behind}
-use Rattle.bench_types.specs.Sums.{sum_below}
-use Rattle.bench_types.proofs.Sums.{IsFoldBelow, sums, greatest, fold_below-same, fold_below-swap}
-use Rattle.std.proofs.Common.{Option, Some, None}
-
--- a triple counts once at most
-pub stale_count-le : (staleness : Option ℕ) → stale_count staleness ≤ 1
-stale_count-le None = omega arith
-stale_count-le (Some n) = omega arith
+use Rattle.model.specs.Figures.{staleness_at, rounds_behind}
+use Rattle.bench_types.proofs.Sums.{IsFoldBelow, greatest, fold_below-same, fold_below-swap}
 
 -- by owner, by key and then by node they are the same
 module _ (round : ℕ) (tables : List Table) (lists : List (List Write)) (cluster : IsCluster (length tables) tables) where
@@ -28,10 +21,6 @@ module _ (round : ℕ) (tables : List Table) (lists : List (List Write)) (cluste
       ∙ fold_below-swap is (λ r p. fold keys (f p r)) (length tables) (length tables)
       ∙ fold_below-same is (λ p. fold (length tables) (λ r. fold keys (f p r))) (λ p. fold (length tables) (λ r. fold (table_of_node tables p).keys (f p r))) (length tables)
       (λ p lt. ap (λ n. fold (length tables) (λ r. fold n (f p r))) (sym (cluster.tables p lt).keys))
-
-  pub stale_by_owner : sum_below (length tables) (λ r. sum_below keys (λ k. sum_below (length tables) (λ p. stale_count (staleness_at round tables lists p r k))))
-      ≡ sum_below (length tables) (λ p. sum_below (length tables) (λ r. sum_below (table_of_node tables p).keys (λ k. stale_count (staleness_at round tables lists p r k))))
-  stale_by_owner = by_owner sums (λ p r k. stale_count (staleness_at round tables lists p r k))
 
   pub most_by_owner : most_below (length tables) (λ r. most_below keys (λ k. most_below (length tables) (λ p. rounds_behind (staleness_at round tables lists p r k))))
       ≡ most_below (length tables) (λ p. most_below (length tables) (λ r. most_below (table_of_node tables p).keys (λ k. rounds_behind (staleness_at round tables lists p r k))))

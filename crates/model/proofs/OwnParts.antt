@@ -1,13 +1,11 @@
 -- A node's own part stays the last writes of its list, through its own writes and what it receives. For callers that
 -- keep tables and lists side by side.
 -- Serves `simulation`.
-use Rattle.std.proofs.Common.{◌≡◌, ◌≢◌, ℕ, ◌+◌, ◌≤◌, Bool, true, false, cond, eqb, List, [], ◌∷◌, ◌++◌, length, Some, All, option_map, if◌then◌else◌, refl, sym, ap, ◌∙◌, arith}
+use Rattle.std.proofs.Common.{◌≡◌, ℕ, ◌+◌, ◌≤◌, Bool, true, false, cond, eqb, List, [], ◌∷◌, ◌++◌, length, Some, option_map, if◌then◌else◌, refl, sym, ap, ◌∙◌, arith}
 use Rattle.std.specs.Ordering.{nat_cmp, ordering_then, is_eq, eq_by_cmp}
 use Rattle.std.specs.FinMap.{get-empty, get-insert}
-use Rattle.bench_types.specs.declared.entries.Item.{Item}
-use Rattle.model.specs.Table.{place_cmp, Table, empty_table, entry_at, greatest_version, applied, own_write, with_own_write, without_others, without_all}
+use Rattle.model.specs.Table.{place_cmp, Table, empty_table, entry_at, greatest_version, own_write, with_own_write}
 use Rattle.model.proofs.Order.{place_total}
-use Rattle.model.proofs.TableLaws.{frame-applied, entry_at-applied_other, entry_at-without_others_own, entry_at-without_all}
 use Rattle.model.specs.declared.writes.Write.{Write}
 use Rattle.model.specs.Writes.{write_of_entry}
 use Rattle.model.specs.inner.Writes.{next_write}
@@ -38,20 +36,6 @@ own_part-written t ws key value born own counted q =
     mapped : (b : Bool) → option_map write_of_entry (cond b (Some (own_write t key value born)) (entry_at t t.node q)) ≡ cond b (Some (next_write ws key born)) (option_map write_of_entry (entry_at t t.node q))
     mapped true = ap Some as_write
     mapped false = refl
-
--- what others wrote has no part in it
-pub own_part-applied : (t : Table) (ws : List Write) (items : List Item) → All (λ i. i.owner ≢ t.node) items → OwnPartIsLastWrites t ws → OwnPartIsLastWrites (applied t items) ws
-own_part-applied t ws items others own key =
-    ap (λ n. option_map write_of_entry (entry_at (applied t items) n key)) (frame-applied t items).node
-    ∙ ap (option_map write_of_entry) (entry_at-applied_other t items t.node key others)
-    ∙ own key
-
--- a restart leaves it, or both begin with nothing
-pub own_part-restarted : (t : Table) (ws : List Write) → OwnPartIsLastWrites t ws → OwnPartIsLastWrites (without_others t) ws
-own_part-restarted t ws own key = ap (option_map write_of_entry) (entry_at-without_others_own t key) ∙ own key
-
-pub own_part-forgotten : (t : Table) → OwnPartIsLastWrites (without_all t) []
-own_part-forgotten t key = ap (option_map write_of_entry) (entry_at-without_all t t.node key)
 
 -- what is born by a round is born by a later one
 pub born-later : (round later : ℕ) (ws : List Write) → round ≤ later → AreBornBy round ws → AreBornBy later ws

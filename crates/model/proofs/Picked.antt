@@ -1,5 +1,5 @@
 -- What the definition picks of candidates, where they stand sorted: the first of them.
--- Serves `Places`, `Sending` and `Sent`.
+-- Serves `Places`, `Sending`, `Sent` and `version_lags`.
 use Rattle.std.proofs.Common.{◌≡◌, ℕ, zero, suc, ◌+◌, ◌-◌, ◌<◌, ◌≤◌, Bool, true, false, cond, eqb, leb, List, [], ◌∷◌, length, get_or, take, drop, Option, Some, None, ◌⊎◌, inl, inr, refl, sym, ap, ◌∙◌, subst, arith}
 use Rattle.std.specs.Prelude.{count_by, find, IsPermutation, Contains}
 use Rattle.std.specs.List.{filter_map, range_with_len, cons_option, sum_by}

@@ -135,10 +135,6 @@ module _ (l : Layout) (sound : IsLayout l) where
     pub above_older : (mark : Mark) → mark.generation < generation_held (table_laid l) owner → AreAbove (table_laid l) owner mark row
     above_older mark older = above_in mark 0 (omega arith) (λ k d lt. absurd (omega arith)) (λ k d le lt. record { generation = omega (arith, generation_in k d lt); version = λ same. absurd (omega (arith, generation_in k d lt)) })
 
-    -- above one of a newer nothing is
-    pub above_newer : (mark : Mark) → generation_held (table_laid l) owner < mark.generation → AreAbove (table_laid l) owner mark (drop (length row) row)
-    above_newer mark newer = above_in mark (length row) (omega arith) (λ k d lt. record { generation = omega (arith, generation_in k d lt); version = λ same. absurd (omega (arith, generation_in k d lt)) }) (λ k d le lt. absurd (omega arith))
-
     -- and above one of the same what stands behind all entries of its version
     pub above_rank : (mark : Mark) (rank : ℕ) → mark.generation ≡ generation_held (table_laid l) owner → IsRankAbove row mark.version rank → AreAbove (table_laid l) owner mark (drop rank row)
     above_rank mark rank same ranked = above_in mark rank ranked.within

@@ -1,8 +1,8 @@
 -- The tables in memory of all nodes, in order: how they are read and written.
 -- Serves `planner` and `staleness`.
-use Rattle.std.proofs.Common.{◌≡◌, ℕ, ◌<◌, List, length, get_or, set, ap, sym, ◌∙◌}
+use Rattle.std.proofs.Common.{◌≡◌, ℕ, ◌<◌, List, length, get_or, ap, sym, ◌∙◌}
 use Rattle.std.proofs.Math.ListN.{get_or-map}
-use Rattle.std.proofs.lemmas.List.{get_or_default, length-map, map-set}
+use Rattle.std.proofs.lemmas.List.{get_or_default, length-map}
 use Rattle.model.specs.Table.{empty_table}
 use Rattle.node_table.specs.NodeTableView.{NodeTableView}
 use Rattle.node_table.specs.NodeTableView.{tables_in}
@@ -14,9 +14,6 @@ no_table = record { table = empty_table 0 0 0; room = 0 }
 pub length-tables_in : (ks : List NodeTableView) → length (tables_in ks) ≡ length ks
 length-tables_in ks = length-map ks (λ (k : NodeTableView). k.table)
 
-pub same_length : (ks js : List NodeTableView) → length ks ≡ length js → length (tables_in ks) ≡ length (tables_in js)
-same_length ks js same = length-tables_in ks ∙ same ∙ sym (length-tables_in js)
-
 pub table_of_node-tables_in : (ks : List NodeTableView) (n : ℕ) → table_of_node (tables_in ks) n ≡ (get_or ks n no_table).table
 table_of_node-tables_in ks n = get_or-map (λ (k : NodeTableView). k.table) ks n no_table
 
@@ -26,7 +23,3 @@ table_read ks n d lt = ap (λ (k : NodeTableView). k.table) (get_or_default ks n
 
 pub table_indexed : (ks : List NodeTableView) (n : ℕ) (k : NodeTableView) → n < length ks → k ≡ get_or ks n k → k.table ≡ table_of_node (tables_in ks) n
 table_indexed ks n k lt is = ap (λ (x : NodeTableView). x.table) is ∙ table_read ks n k lt
-
--- and as code writes it
-pub tables_in-set : (ks : List NodeTableView) (n : ℕ) (k : NodeTableView) → tables_in (set ks n k) ≡ set (tables_in ks) n k.table
-tables_in-set ks n k = map-set (λ (x : NodeTableView). x.table) ks n k

@@ -2,7 +2,7 @@
 -- Serves the functions of `rows`, `InLayout`, `Laid` and `Newest`.
 use Rattle.std.proofs.Common.{◌≡◌, ◌≢◌, ℕ, zero, suc, ◌+◌, ◌-◌, ◌<◌, ◌≤◌, false, cond, eqb, ◌==◌, List, [], ◌∷◌, length, map, get_or, Some, None, All, inl, inr, refl, sym, ap, ◌∙◌, subst, arith}
 use Rattle.std.specs.declared.cmp.Ordering.TheVariants.{Less, Equal, Greater}
-use Rattle.std.specs.Ordering.{is_lt, nat_cmp, ordering_then}
+use Rattle.std.specs.Ordering.{is_lt}
 use Rattle.std.specs.List.{AllPairs, insert, remove}
 use Rattle.std.proofs.lemmas.Bool.{cases_lt, cases_eq, eq-eqb, ne_eqb, eqb-true}
 use Rattle.std.proofs.lemmas.Bool.Decides.{Decides-eqb}
@@ -19,7 +19,6 @@ use Rattle.model.specs.Table.{Place}
 use Rattle.node_table.specs.Entries.{entry_cmp, StandsBefore}
 use Rattle.model.specs.inner.Held.{entry_in, HaveTwoKeys}
 use Rattle.node_table.specs.inner.Layouts.{IsRow, IsIndexOf, IsRankOf, IsPut}
-use Rattle.bench_types.proofs.Comparing.{nat_cmp-less}
 use Rattle.model.proofs.Order.{place_total, place_same, place_turned}
 
 abbrev pub no_entry : Entry
@@ -31,10 +30,6 @@ key_of e = e.key
 -- the rank of an entry, which is compared as a place is
 abbrev pub rank_place : Entry → Place
 rank_place e = (e.version, e.key)
-
--- an entry of a lower version stands before another
-pub before_from : (d e : Entry) → d.version < e.version → StandsBefore d e
-before_from d e lt = ap (λ r. ordering_then r (nat_cmp d.key e.key)) (nat_cmp-less d.version e.version lt)
 
 -- a list whose keys differ and are below a bound is no longer than that
 pub row_fits : (keys : ℕ) (row : List Entry) → AllPairs HaveTwoKeys row → All (λ e. e.key < keys) row → length row ≤ keys

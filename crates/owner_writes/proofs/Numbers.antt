@@ -12,10 +12,7 @@ use Rattle.owner_writes.specs.Numbered.{IsHistory}
 
 -- what stands at a place
 pub write_from-at : (writes : List Entry) (place : ℕ) (e d : Entry) → write_from writes place ≡ Some e → (place < length writes) × (get_or writes place d ≡ e)
-write_from-at [] place e d is = absurd (none is)
-  where
-    none : None ≡ Some e → ⊥
-    none h = cc
+write_from-at [] place e d is = absurd (cc)
 write_from-at (x ∷ xs) zero e d is = (omega arith, same_Some x e is)
 write_from-at (x ∷ xs) (suc place) e d is = let rest = write_from-at xs place e d is in (omega (arith, rest.0), rest.1)
 
@@ -27,10 +24,7 @@ pub record IsPlaced (writes : List Entry) (number : ℕ) (e : Entry) : Type 0 wh
   pub there : (d : Entry) → get_or writes place d ≡ e
 
 pub numbered-placed : (writes : List Entry) (number : ℕ) (e : Entry) → write_numbered writes number ≡ Some e → IsPlaced writes number e
-numbered-placed writes zero e is = absurd (none is)
-  where
-    none : None ≡ Some e → ⊥
-    none h = cc
+numbered-placed writes zero e is = absurd (cc)
 numbered-placed writes (suc place) e is = record {
   place = place;
   is = refl;
@@ -78,17 +72,13 @@ pub numbered-none : (writes : List Entry) (number : ℕ) → number ≤ length w
 numbered-none writes zero le none = refl
 numbered-none [] (suc place) le none = absurd (omega (arith, le))
 numbered-none (e ∷ es) (suc place) le none =
-    let there = write_from-some (e ∷ es) place (omega (arith, le)) in absurd (some there.0 (sym there.1 ∙ none))
-  where
-    some : (d : Entry) → Some d ≡ None → ⊥
-    some d h = cc
+    let there = write_from-some (e ∷ es) place (omega (arith, le)) in
+    let bad = there.1 in
+    absurd (cc)
 
 -- a write has a number from 1 up to the count
 pub numbered-within : (writes : List Entry) (number : ℕ) (e : Entry) → write_numbered writes number ≡ Some e → (0 < number) × (number ≤ length writes)
-numbered-within writes zero e is = absurd (none is)
-  where
-    none : None ≡ Some e → ⊥
-    none h = cc
+numbered-within writes zero e is = absurd (cc)
 numbered-within writes (suc place) e is = let at = write_from-at writes place e e is in (omega arith, omega (arith, at.0))
 
 module _ (writes : List Entry) (history : IsHistory writes) (m n : ℕ) (d e : Entry) (is_d : write_numbered writes m ≡ Some d) (is_e : write_numbered writes n ≡ Some e) where

@@ -1,6 +1,6 @@
 -- Tables whose owners are gone over one by one.
 -- Serves `merge_owners`, `raise_owner`, `take_owner`, `take_owners`, `total_owners_above` and `version_tables`.
-use Rattle.std.proofs.Common.{◌≡◌, ℕ, zero, suc, Fits, w32, ◌+◌, ◌*◌, ◌<◌, ◌≤◌, ◌==◌, ◌&&◌, Bool, true, false, cond, List, length, get_or, set, map, nat_lt, nat_le, max, inl, inr, refl, sym, ap, ◌∙◌, subst, arith}
+use Rattle.std.proofs.Common.{◌≡◌, ◌≢◌, ℕ, zero, suc, Fits, w32, ◌+◌, ◌*◌, ◌<◌, ◌≤◌, ◌==◌, ◌&&◌, Bool, true, false, cond, List, length, get_or, set, map, nat_lt, nat_le, max, inl, inr, refl, sym, ap, ◌∙◌, subst, arith}
 use Rattle.std.proofs.Math.Nat.{mul-le-mul_right}
 use Rattle.std.proofs.lemmas.Bool.{cases_lt, cases_eq, eq-eqb, ne_eqb, lt-ltb, le-ltb, lt-leb}
 use Rattle.std.proofs.lemmas.List.{get_or-set_same, get_or-set_other, length-set, map-set}
@@ -62,55 +62,39 @@ abbrev pub owner_changed : (ℕ → ℕ → ℕ → ℕ) → ℕ → ℕ → ℕ
 owner_changed to owner r k x y = y ≡ cond (r == owner) (to r k x) x
 
 module _ (to : ℕ → ℕ → ℕ → ℕ) (owner nodes : ℕ) (old : List ℕ) (in_nodes : owner < nodes) where
-  -- the number of one key more
-  owner_set : (xs : List ℕ) (key x : ℕ) → ArePlanesChangedUpto (owner_changed to owner) nodes old xs key → key * nodes + nodes ≤ length old → x ≡ to owner key (cell old nodes owner key)
-      → ArePlanesChangedUpto (owner_changed to owner) nodes old (set xs (key * nodes + owner) x) (key + 1)
-  owner_set xs key x before within is = record {
-    size = length-set xs (key * nodes + owner) x ∙ before.size;
+  -- one key more, where no other number changes
+  owner_more : (xs ys : List ℕ) (key : ℕ) → ArePlanesChangedUpto (owner_changed to owner) nodes old xs key → length ys ≡ length xs → get_or ys (key * nodes + owner) 0 ≡ to owner key (cell old nodes owner key)
+      → ((i : ℕ) → i ≢ key * nodes + owner → get_or ys i 0 ≡ get_or xs i 0) → ArePlanesChangedUpto (owner_changed to owner) nodes old ys (key + 1)
+  owner_more xs ys key before size now others = record {
+    size = size ∙ before.size;
     below = λ r k in_node lt. elim (cases_lt k key) [
-      | inl earlier ↦ subst (owner_changed to owner r k (cell old nodes r k))
-          (sym (get_or-set_other xs (key * nodes + owner) (k * nodes + r) x 0 (λ e. omega (arith, e, in_node, mul-le-mul_right {m = k + 1} {n = key} nodes (omega (arith, earlier))))))
-          (before.below r k in_node earlier)
-      | inr not_earlier ↦ subst (λ j. owner_changed to owner r j (cell old nodes r j) (get_or (set xs (key * nodes + owner) x) (j * nodes + r) 0)) {x = key} {y = k} (omega (arith, lt, not_earlier)) (here r in_node)
+      | inl earlier ↦ others (k * nodes + r) (λ e. omega (arith, e, in_node, mul-le-mul_right {m = k + 1} {n = key} nodes (omega (arith, earlier)))) ∙ before.below r k in_node earlier
+      | inr not_earlier ↦ subst (λ j. owner_changed to owner r j (cell old nodes r j) (cell ys nodes r j)) {x = key} {y = k} (omega (arith, lt, not_earlier)) (here r in_node)
     ];
-    from = λ i le. get_or-set_other xs (key * nodes + owner) i x 0 (λ e. omega (arith, e, le, in_nodes)) ∙ before.from i (omega (arith, le));
+    from = λ i le. others i (λ e. omega (arith, e, le, in_nodes)) ∙ before.from i (omega (arith, le));
   }
     where
-      here : (r : ℕ) → r < nodes → owner_changed to owner r key (cell old nodes r key) (get_or (set xs (key * nodes + owner) x) (key * nodes + r) 0)
+      here : (r : ℕ) → r < nodes → owner_changed to owner r key (cell old nodes r key) (cell ys nodes r key)
       here r in_node = elim (cases_eq r owner) [
-        | inl same ↦ subst (λ o. owner_changed to owner o key (cell old nodes o key) (get_or (set xs (key * nodes + owner) x) (key * nodes + o) 0)) (sym same)
-            (get_or-set_same xs (key * nodes + owner) x 0 (omega (arith, before.size, within, in_nodes)) ∙ is ∙ ap (λ b. cond b (to owner key (cell old nodes owner key)) (cell old nodes owner key)) (sym (eq-eqb owner owner refl)))
+        | inl same ↦ subst (λ o. owner_changed to owner o key (cell old nodes o key) (cell ys nodes o key)) (sym same) (now ∙ ap (λ b. cond b (to owner key (cell old nodes owner key)) (cell old nodes owner key)) (sym (eq-eqb owner owner refl)))
         | inr other ↦
-            get_or-set_other xs (key * nodes + owner) (key * nodes + r) x 0 (λ e. other (omega (arith, e)))
-            ∙ before.from (key * nodes + r) (omega arith)
+            others (key * nodes + r) (λ e. other (omega (arith, e))) ∙ before.from (key * nodes + r) (omega arith)
             ∙ ap (λ b. cond b (to r key (cell old nodes r key)) (cell old nodes r key)) (sym (ne_eqb r owner other))
       ]
 
+  -- it is written
   pub owner-next : {N : Type 0} (number : N → ℕ) (xs : List N) (key : ℕ) (x : N) → ArePlanesChangedUpto (owner_changed to owner) nodes old (map number xs) key → key * nodes + nodes ≤ length old
       → number x ≡ to owner key (cell old nodes owner key) → ArePlanesChangedUpto (owner_changed to owner) nodes old (map number (set xs (key * nodes + owner) x)) (key + 1)
   owner-next number xs key x before within is =
       subst (λ ys. ArePlanesChangedUpto (owner_changed to owner) nodes old ys (key + 1)) (sym (map-set number xs (key * nodes + owner) x))
-      (owner_set (map number xs) key (number x) before within is)
+      (owner_more (map number xs) _ key before (length-set (map number xs) (key * nodes + owner) (number x))
+      (get_or-set_same (map number xs) (key * nodes + owner) (number x) 0 (omega (arith, before.size, within, in_nodes)) ∙ is)
+      (λ i other. get_or-set_other (map number xs) (key * nodes + owner) i (number x) 0 other))
 
   -- or it stays
   pub owner-stays : (xs : List ℕ) (key : ℕ) → ArePlanesChangedUpto (owner_changed to owner) nodes old xs key → to owner key (cell old nodes owner key) ≡ cell old nodes owner key
       → ArePlanesChangedUpto (owner_changed to owner) nodes old xs (key + 1)
-  owner-stays xs key before same = record {
-    size = before.size;
-    below = λ r k in_node lt. elim (cases_lt k key) [
-      | inl earlier ↦ before.below r k in_node earlier
-      | inr not_earlier ↦ subst (λ j. owner_changed to owner r j (cell old nodes r j) (cell xs nodes r j)) {x = key} {y = k} (omega (arith, lt, not_earlier)) (here r)
-    ];
-    from = λ i le. before.from i (omega (arith, le));
-  }
-    where
-      here : (r : ℕ) → owner_changed to owner r key (cell old nodes r key) (cell xs nodes r key)
-      here r = before.from (key * nodes + r) (omega arith) ∙ elim (cases_eq r owner) [
-        | inl is ↦
-            sym (ap (λ o. to o key (cell old nodes o key)) is ∙ same ∙ ap (λ o. cell old nodes o key) (sym is))
-            ∙ ap (λ b. cond b (to r key (cell old nodes r key)) (cell old nodes r key)) (sym (eq-eqb r owner is))
-        | inr other ↦ ap (λ b. cond b (to r key (cell old nodes r key)) (cell old nodes r key)) (sym (ne_eqb r owner other))
-      ]
+  owner-stays xs key before same = owner_more xs xs key before refl (before.from (key * nodes + owner) (omega arith) ∙ sym same) (λ i other. refl)
 
 -- of the owners below a bound
 abbrev pub owners_changed : (ℕ → ℕ → ℕ → ℕ) → ℕ → ℕ → ℕ → ℕ → ℕ → Type 0
@@ -135,22 +119,21 @@ module _ (to : ℕ → ℕ → ℕ → ℕ) (nodes keys : ℕ) (old : List ℕ) 
         ])
   ]
 
-  pub owners-next : (bound : ℕ) (now : ℕ → ℕ → ℕ → ℕ) (mid new : List ℕ) → ArePlanesChanged (owners_changed to bound) nodes keys old mid → ArePlanesChanged (owner_changed now bound) nodes keys mid new
-      → ((k x : ℕ) → now bound k x ≡ to bound k x) → ArePlanesChanged (owners_changed to (bound + 1)) nodes keys old new
-  owners-next bound now mid new before after same = record {
+  owners_turned : (bound : ℕ) (now : ℕ → ℕ → ℕ → ℕ) (mid new : List ℕ) → ArePlanesChanged (owners_changed to bound) nodes keys old mid → ArePlanesChanged (owner_changed now bound) nodes keys mid new
+      → ((k x : ℕ) → k < keys → now bound k x ≡ to bound k x) → ArePlanesChanged (owners_changed to (bound + 1)) nodes keys old new
+  owners_turned bound now mid new before after same = record {
     size = after.size ∙ before.size;
     each = λ r k in_node in_key.
         owner_turn bound r (now r k) k (cell old nodes r k) (cell mid nodes r k) (cell new nodes r k) (before.each r k in_node in_key) (after.each r k in_node in_key)
-        (λ here. ap (λ o. now o k (cell old nodes r k)) here ∙ same k (cell old nodes r k) ∙ ap (λ o. to o k (cell old nodes r k)) (sym here));
+        (λ here. ap (λ o. now o k (cell old nodes r k)) here ∙ same k (cell old nodes r k) in_key ∙ ap (λ o. to o k (cell old nodes r k)) (sym here));
   }
 
-  pub owners-stay : (bound : ℕ) (mid : List ℕ) → ArePlanesChanged (owners_changed to bound) nodes keys old mid → ((k x : ℕ) → to bound k x ≡ x) → ArePlanesChanged (owners_changed to (bound + 1)) nodes keys old mid
-  owners-stay bound mid before same = record {
-    size = before.size;
-    each = λ r k in_node in_key.
-        owner_turn bound r (λ y. y) k (cell old nodes r k) (cell mid nodes r k) (cell mid nodes r k) (before.each r k in_node in_key) (either_same (r == bound) (cell mid nodes r k))
-        (λ here. sym (ap (λ o. to o k (cell old nodes r k)) here ∙ same k (cell old nodes r k)));
-  }
+  pub owners-next : (bound : ℕ) (now : ℕ → ℕ → ℕ → ℕ) (mid new : List ℕ) → ArePlanesChanged (owners_changed to bound) nodes keys old mid → ArePlanesChanged (owner_changed now bound) nodes keys mid new
+      → ((k x : ℕ) → now bound k x ≡ to bound k x) → ArePlanesChanged (owners_changed to (bound + 1)) nodes keys old new
+  owners-next bound now mid new before after same = owners_turned bound now mid new before after (λ k x _. same k x)
+
+  pub owners-stay : (bound : ℕ) (mid : List ℕ) → ArePlanesChanged (owners_changed to bound) nodes keys old mid → ((k x : ℕ) → k < keys → to bound k x ≡ x) → ArePlanesChanged (owners_changed to (bound + 1)) nodes keys old mid
+  owners-stay bound mid before same = owners_turned bound (λ r k y. y) mid mid before (record { size = refl; each = λ r k _ _. either_same (r == bound) (cell mid nodes r k) }) (λ k x lt. sym (same k x lt))
     where
       either_same : (b : Bool) (y : ℕ) → y ≡ cond b y y
       either_same true y = refl
@@ -207,14 +190,8 @@ module _ (nodes keys : ℕ) (cells others : List ℕ) (low : ℕ → ℕ) (owner
   pub raise-next : (mid others_mid new : List ℕ) (mark : ℕ) (to_others : ℕ → ℕ → ℕ → ℕ) → ArePlanesChanged (owners_changed raised_in owner) nodes keys cells mid → ArePlanesChanged (owners_changed to_others owner) nodes keys others others_mid → mark ≡ low owner
       → ArePlanesChanged (λ r k x y. y ≡ cond (r == owner) (number_raised x (cell others_mid nodes r k) mark) x) nodes keys mid new
       → ArePlanesChanged (owners_changed raised_in (owner + 1)) nodes keys cells new
-  raise-next mid others_mid new mark to_others before waits same now = record {
-    size = now.size ∙ before.size;
-    each = λ r k in_node in_key.
-        owner_turn raised_in nodes keys cells owner r (λ y. number_raised y (cell others_mid nodes r k) mark) k (cell cells nodes r k) (cell mid nodes r k) (cell new nodes r k) (before.each r k in_node in_key) (now.each r k in_node in_key)
-        (λ here i. number_raised (cell cells nodes r k)
-        ((ap (λ o. cell others_mid nodes o k) here ∙ owner-waits to_others nodes keys others owner others_mid waits k in_nodes in_key ∙ ap (λ o. cell others nodes o k) (sym here)) i)
-        ((same ∙ ap low (sym here)) i));
-  }
+  raise-next mid others_mid new mark to_others before waits same now = owners_turned raised_in nodes keys cells owner (λ r k y. number_raised y (cell others_mid nodes r k) mark) mid new before now
+      (λ k x lt i. number_raised x (owner-waits to_others nodes keys others owner others_mid waits k in_nodes lt i) (same i))
 
   -- so many
   pub raise-count : (others_mid : List ℕ) (mark count : ℕ) (to_others : ℕ → ℕ → ℕ → ℕ) → ArePlanesChanged (owners_changed to_others owner) nodes keys others others_mid → count ≡ count_above (cell others_mid nodes) keys owner mark
@@ -229,13 +206,4 @@ module _ (nodes keys : ℕ) (cells others : List ℕ) (low : ℕ → ℕ) (owner
 
   -- none comes
   pub raise-passed : (mid : List ℕ) (high : ℕ) → ArePlanesChanged (owners_changed raised_in owner) nodes keys cells mid → HasNoneAbove (cell others nodes) keys owner high → high ≤ low owner → ArePlanesChanged (owners_changed raised_in (owner + 1)) nodes keys cells mid
-  raise-passed mid high before covered le = record {
-    size = before.size;
-    each = λ r k in_node in_key.
-        owner_turn raised_in nodes keys cells owner r (λ y. y) k (cell cells nodes r k) (cell mid nodes r k) (cell mid nodes r k) (before.each r k in_node in_key) (either_same (r == owner) (cell mid nodes r k))
-        (λ here. sym (raised-none_above (cell cells nodes r k) (cell others nodes r k) (low r) (omega (arith, ap (λ o. cell others nodes o k) here, ap low here, covered k in_key, le))));
-  }
-    where
-      either_same : (b : Bool) (y : ℕ) → y ≡ cond b y y
-      either_same true y = refl
-      either_same false y = refl
+  raise-passed mid high before covered le = owners-stay raised_in nodes keys cells owner mid before (λ k x lt. raised-none_above x (cell others nodes owner k) (low owner) (omega (arith, covered k lt, le)))

@@ -1,12 +1,13 @@
 -- Lists that are changed element by element.
 -- Serves the functions of `grids`, `lags`, `merges`, `owners` and `planes`, `delta_plans`, `version_lags` and
 -- `version_tables`.
-use Rattle.std.proofs.Common.{◌≡◌, ℕ, ◌+◌, ◌<◌, ◌≤◌, List, length, [], ◌++◌, ◌-◌, get_or, set, map, take, replicate, inl, inr, refl, sym, ap, ◌∙◌, subst, arith}
+use Rattle.std.proofs.Common.{◌≡◌, ℕ, ◌+◌, ◌<◌, ◌≤◌, List, length, [], ◌++◌, ◌-◌, get_or, set, map, min, take, replicate, inl, inr, refl, sym, ap, ◌∙◌, subst, arith}
 use Rattle.std.proofs.Math.Seq.{take-nil}
 use Rattle.std.proofs.lemmas.Bool.{cases_eq, cases_lt}
 use Rattle.std.proofs.lemmas.List.{get_or-set_same, get_or-set_other, length-set, get_or-map, get_or-replicate, length-map, length-replicate, map-set}
 use Rattle.planes.specs.Planes.{HasEach}
 use Rattle.planes.specs.Elementwise.{AreChangedUpto, AreChanged}
+use Rattle.planes.specs.inner.Answering.{IsLowered, IsMade}
 
 -- what is read at an index, as a number
 pub number-at : {N : Type 0} (number : N → ℕ) (xs : List N) (r : ℕ) (x : N) → r < length xs → x ≡ get_or xs r x → number x ≡ get_or (map number xs) r 0
@@ -77,6 +78,14 @@ module _ (changed : ℕ → ℕ → ℕ → Type 0) (old : List ℕ) where
   pub part-whole : (new : List ℕ) (from i size : ℕ) → AreChangedUpto changed old new (from + i) → size ≤ i → i ≤ size → AreChangedUpto changed old new (from + size)
   part-whole new from i size is le ge = subst (AreChangedUpto changed old new) {x = from + i} {y = from + size} (omega (arith, le, ge)) is
 
--- a change that says less
-pub changed-other : (changed other : ℕ → ℕ → ℕ → Type 0) (old new : List ℕ) → ((r x y : ℕ) → changed r x y → other r x y) → AreChanged changed old new → AreChanged other old new
-changed-other changed other old new step is = record { size = is.size; each = λ r lt. step r _ _ (is.each r lt) }
+-- what calls make of numbers, where each makes what a function does
+pub made-as : {N : Type 0} (number : N → ℕ) (makes : ℕ → N → N → Type 0) (r x y : ℕ) (f : ℕ → ℕ) → IsMade number makes r x y → ((n m : N) → makes r n m → number m ≡ f (number n)) → y ≡ f x
+made-as number makes r x y f made step = sym made.is ∙ step made.from made.to made.made ∙ ap f made.was
+
+pub made-more : {N : Type 0} (number : N → ℕ) (makes : ℕ → N → N → Type 0) (r x y more : ℕ) → IsMade number makes r x y → ((n m : N) → makes r n m → number m ≡ number n + more) → y ≡ x + more
+made-more number makes r x y more made step = made-as number makes r x y (λ n. n + more) made step
+
+pub lowered-to : {N : Type 0} (number : N → ℕ) (most : ℕ) (makes : ℕ → N → N → Type 0) (r x y other : ℕ) → IsMade number makes r x y → ((n m : N) → makes r n m → IsLowered most other (number n) (number m)) → IsLowered most other x y
+lowered-to number most makes r x y other made step =
+    let now = step made.from made.to made.made in
+    record { lowered = sym made.is ∙ now.lowered ∙ ap (λ n. min n other) made.was; fits = now.fits }

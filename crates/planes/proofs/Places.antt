@@ -10,16 +10,13 @@ use borrow.Rule.Slice.PartMut.{put_mid, post_of}
 use Rattle.bench_types.specs.declared.limits.TheConstants.{MOST_NODES, MOST_KEYS}
 use Rattle.planes.specs.Elementwise.{AreChanged}
 use Rattle.bench_types.specs.Sums.{sum_below}
-use Rattle.planes.specs.Planes.{Cells, IsLeastAbove, IsRaised, HasNoneAbove, cell, next_above, number_ahead, total_above, total_of, IsLowered, IsGrid, HasEach, IsNextAbove, ArePlanesChangedUpto, ArePlanesChanged}
+use Rattle.planes.specs.Planes.{Cells, IsRaised, cell, number_ahead, total_above, total_of, IsGrid, HasEach, ArePlanesChangedUpto, ArePlanesChanged}
 use Rattle.planes.proofs.Counts.{count_le}
 use Rattle.bench_types.proofs.Sums.{sum_below-same, sum_below-turned}
 
 -- a key's plane lies within the planes
 pub plane-within : (nodes keys size key : ℕ) → IsGrid nodes keys size → key < keys → key * nodes + nodes ≤ size
 plane-within nodes keys size key grid lt = omega (arith, grid.whole, mul-le-mul_right {m = key + 1} {n = keys} nodes (omega (arith, lt)))
-
-pub grid-room : (nodes keys size : ℕ) → IsGrid nodes keys size → size ≤ MOST_KEYS * MOST_NODES
-grid-room nodes keys size grid = omega (arith, grid.whole, mul-le-mul_right {m = keys} {n = MOST_KEYS} nodes grid.few_keys, grid.few_nodes)
 
 -- one more plane is counted
 pub each-next : (nodes : ℕ) (is next : ℕ → ℕ → Type 0) (changed : ℕ → ℕ → ℕ → Type 0) (old new : List ℕ) → HasEach nodes is old → AreChanged changed old new
@@ -28,71 +25,6 @@ each-next nodes is next changed old new before now step = record {
   size = now.size ∙ before.size;
   each = λ r lt. step r (get_or old r 0) (get_or new r 0) lt (before.each r lt) (now.each r (omega (arith, lt, before.size)));
 }
-
--- the least above a mark, of one key more
-pub least-none : (most : ℕ) (cells : Cells) (owner mark : ℕ) → (most ≤ most) × IsNextAbove most cells 0 owner mark most
-least-none most cells owner mark = (omega arith, inl ((λ k lt. absurd (omega (arith, lt))), refl))
-
-module _ (most : ℕ) (cells : Cells) (key owner mark x y : ℕ) (fits : x ≤ most) (now : IsLowered most (next_above most mark (cells owner key)) x y) where
-  -- the key's number is the least
-  here-least : mark < cells owner key → cells owner key ≡ y → ((k : ℕ) → k < key → mark < cells owner k → y ≤ cells owner k) → IsLeastAbove cells (key + 1) owner mark y
-  here-least above same no_less = record {
-    key = key;
-    below = omega arith;
-    is = same;
-    above = omega (arith, above, same);
-    no_less = λ k lt over. elim (cases_lt k key) [
-      | inl before ↦ no_less k before over
-      | inr not_before ↦ subst (λ j. y ≤ cells owner j) {x = key} {y = k} (omega (arith, lt, not_before)) (omega (arith, same))
-    ];
-  }
-
-  -- or an earlier one stays the least
-  same-least : x ≡ y → (mark < cells owner key → y ≤ cells owner key) → IsLeastAbove cells key owner mark x → IsLeastAbove cells (key + 1) owner mark y
-  same-least same no_less some = record {
-    key = some.key;
-    below = omega (arith, some.below);
-    is = some.is ∙ same;
-    above = omega (arith, some.above, same);
-    no_less = λ k lt over. elim (cases_lt k key) [
-      | inl before ↦ omega (arith, same, some.no_less k before over)
-      | inr not_before ↦ subst (λ j. mark < cells owner j → y ≤ cells owner j) {x = key} {y = k} (omega (arith, lt, not_before)) no_less over
-    ];
-  }
-
-  same-none : (upto : cells owner key ≤ mark) → HasNoneAbove cells key owner mark → HasNoneAbove cells (key + 1) owner mark
-  same-none upto none k lt = elim (cases_lt k key) [
-    | inl before ↦ none k before
-    | inr not_before ↦ subst (λ j. cells owner j ≤ mark) {x = key} {y = k} (omega (arith, lt, not_before)) upto
-  ]
-
-  next-least : IsNextAbove most cells key owner mark x → IsNextAbove most cells (key + 1) owner mark y
-  next-least before = elim (cases_lt mark (cells owner key)) [
-    | inl above ↦
-        let found : next_above most mark (cells owner key) ≡ cells owner key = ap (λ b. cond b (cells owner key) most) (lt-ltb mark (cells owner key) above) in
-        elim before [
-          | inl none ↦ inr (here-least above (omega (arith, now.lowered, now.fits, found, none.1)) (λ k earlier over. absurd (omega (arith, over, none.0 k earlier))))
-          | inr some ↦ elim (cases_lt (cells owner key) x) [
-            | inl lower ↦
-                let same : cells owner key ≡ y = omega (arith, now.lowered, found, lower) in
-                inr (here-least above same (λ k earlier over. omega (arith, same, lower, some.no_less k earlier over)))
-            | inr not_lower ↦
-                let same : x ≡ y = omega (arith, now.lowered, found, not_lower) in
-                inr (same-least same (λ _. omega (arith, same, not_lower)) some)
-          ]
-        ]
-    | inr not_above ↦
-        let upto : cells owner key ≤ mark = omega (arith, not_above) in
-        let found : next_above most mark (cells owner key) ≡ most = ap (λ b. cond b (cells owner key) most) (le-ltb mark (cells owner key) upto) in
-        let same : x ≡ y = omega (arith, now.lowered, found, fits) in
-        elim before [
-          | inl none ↦ inl (same-none upto none.0, sym same ∙ none.1)
-          | inr some ↦ inr (same-least same (λ above. absurd (omega (arith, above, upto))) some)
-        ]
-  ]
-
-  pub least-next : IsNextAbove most cells key owner mark x → (y ≤ most) × IsNextAbove most cells (key + 1) owner mark y
-  least-next before = (omega (arith, now.lowered, fits), next-least before)
 
 -- sums of planes
 pub plane_count : (nodes : ℕ) (one other : ℕ → Bool) (n x : ℕ) → n ≡ nodes → x ≡ sum_below n (λ r. cond (one r) 1 0) → ((r : ℕ) → r < nodes → one r ≡ other r) → x ≡ sum_below nodes (λ r. cond (other r) 1 0)
@@ -238,6 +170,9 @@ window-at number start count n xs is r lt =
     ∙ get_or-take n (drop start (map number xs)) r 0 (omega (arith, lt, is))
     ∙ get_or-drop start (map number xs) r 0
 
+pub window-in : {N : Type 0} (start count n r : ℕ) (xs : List N) → n ≡ count → start + count ≤ length xs → r < count → r < length (take n (drop start xs))
+window-in start count n r xs is within lt = omega (arith, is, lt, length-take-le n (drop start xs) (omega (arith, is, within, length-drop start xs)))
+
 pub plane-cells : {N : Type 0} (number : N → ℕ) (nodes key n : ℕ) (xs : List N) → n ≡ nodes → key * nodes + nodes ≤ length xs → HasEach nodes (λ r m. m ≡ cell (map number xs) nodes r key) (map number (take n (drop (key * nodes) xs)))
 plane-cells number nodes key n xs is within =
     subst (λ k. HasEach nodes (λ r m. m ≡ cell (map number xs) nodes r key) (map number (take k (drop (key * nodes) xs)))) (sym is) (plane_cells number nodes key xs within)
@@ -268,12 +203,6 @@ each-whole is nodes key keys xs le ge before = subst (λ k. HasEach nodes (is k)
 
 pub each-other : (nodes : ℕ) (is other : ℕ → ℕ → Type 0) (xs : List ℕ) → ((r n : ℕ) → is r n → other r n) → HasEach nodes is xs → HasEach nodes other xs
 each-other nodes is other xs step before = record { size = before.size; each = λ r lt. step r _ (before.each r lt) }
-
-pub each-start : (nodes most : ℕ) (cells : Cells) (mark : ℕ → ℕ) (xs : List ℕ) → HasEach nodes (λ r n. n ≡ most) xs → HasEach nodes (λ r n. (n ≤ most) × IsNextAbove most cells 0 r (mark r) n) xs
-each-start nodes most cells mark xs start = record {
-  size = start.size;
-  each = λ r lt. subst (λ n. (n ≤ most) × IsNextAbove most cells 0 r (mark r) n) (sym (start.each r lt)) (least-none most cells r (mark r));
-}
 
 -- a mark raised to one number more
 pub raised-none : (cells : Cells) (owner x : ℕ) → IsRaised cells 0 owner x x

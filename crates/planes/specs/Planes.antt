@@ -30,15 +30,6 @@ pub record IsLeastAbove (cells : Cells) (keys owner mark least : ℕ) : Type 0 w
 abbrev pub HasNoneAbove : Cells → ℕ → ℕ → ℕ → Type 0
 HasNoneAbove cells keys owner mark = (k : ℕ) → k < keys → cells owner k ≤ mark
 
--- a number where it is above a mark, else the most
-abbrev pub next_above : ℕ → ℕ → ℕ → ℕ
-next_above most low number = if nat_lt low number then number else most
-
--- y is x lowered to another number, which is no more than the most
-pub record IsLowered (most number x y : ℕ) : Type 0 where
-  pub lowered : y ≡ min x number
-  pub fits : number ≤ most
-
 -- a number that is above both the peer's and a mark
 abbrev pub number_ahead : ℕ → ℕ → ℕ → ℕ
 number_ahead number peer low = if nat_lt (max peer low) number then number else 0

@@ -7,7 +7,7 @@ ghost use Rattle.bench_types.specs.declared.limits.TheConstants.{MOST_NODES, MOS
 ghost use Rattle.planes.specs.Elementwise.{AreChanged};
 ghost use Rattle.planes.specs.Planes.{count_above, cell, number_ahead, total_above, total_of, AreCovered, ArePlanesChanged, AreSentTaken, HasEach, HasEachPlace, IsGrid, IsNextAbove, MayTake, count_between};
 ghost use Rattle.bench_types.specs.Sums.{sum_below};
-ghost use Rattle.planes.specs.inner.Answering.{AnswersAs};
+ghost use Rattle.planes.specs.inner.Answering.{AnswersAs, IsLowered};
 
 use crate::numbers::Number;
 use crate::owners::{FEW_TO_CHANGE, FEW_TO_COUNT};
@@ -61,30 +61,6 @@ pub fn zeros<N: Number>(alloc: Global, count: usize) -> Result<Vec<N>, Fault>
     all_of(alloc, count, N::zero())
 }
 
-// For each owner how many of its numbers pass a test of owner and number.
-fn counts<N: Number, F: Fn(usize, N) -> bool>(
-    alloc: Global,
-    cells: &[N],
-    nodes: usize,
-    keys: usize,
-    passes: F,
-) -> Result<Vec<N>, Fault>
-    requires grid { IsGrid nodes keys (length cells.now) }
-    requires passes { (r : ℕ) (n : N) → r < nodes → F.pre passes r n }
-    ensures counts { IfOk result (λ v. (test : ℕ → ℕ → Bool) → AnswersAs N.number (F.post passes) nodes test
-        → HasEach nodes (λ r n. n ≡ sum_below keys (λ key. if test r (cell (map N.number cells.now) nodes r key)
-        then 1 else 0)) (map N.number v.items)) }
-    ensures only { IsOkUnless result OutOfMemory }
-{
-    let mut counts = zeros(alloc, nodes)?;
-    let all: &mut [N] = &mut counts;
-    for key in 0..keys {
-        let plane = plane_of(cells, nodes, key);
-        planes::count(all, plane, &passes);
-    }
-    Ok(counts)
-}
-
 /// For each owner how many of its numbers are above a mark. An error is lack of memory (`OutOfMemory`).
 pub fn counts_above<N: Number>(
     alloc: Global,
@@ -100,41 +76,20 @@ pub fn counts_above<N: Number>(
         (map N.number v.items)) }
     ensures only { IsOkUnless result OutOfMemory }
 {
-    counts(
-        alloc,
-        cells,
-        nodes,
-        keys,
-        |r, number| number.is_above(low[r]),
-    )
-}
-
-// Counts of a part of a plane which numbers are above one mark and up to another.
-fn count_plane_between<N: Number>(counts: &mut [N], plane: &[N], low: &[N], high: &[N])
-    requires plane { length plane.now ≡ length counts.old }
-    requires low { length low.now ≡ length counts.old }
-    requires high { length high.now ≡ length counts.old }
-    requires room { (r : ℕ) → r < length counts.old → slice_index (map N.number counts.old) r < N.most }
-    ensures { AreChanged (λ r x y. y ≡ x + (if nat_lt (slice_index (map N.number low.now) r)
-        (slice_index (map N.number plane.now) r) && nat_le (slice_index (map N.number plane.now) r)
-        (slice_index (map N.number high.now) r) then 1 else 0)) (map N.number counts.old) (map N.number counts.new) }
-{
-    planes::count(
-        counts,
-        plane,
-        |r, number|
-            requires { (r < length low.now) × (r < length high.now) }
-        { planes::is_between(number, low[r], high[r]) },
-    );
-}
-
-// Puts 0 in place of each count.
-fn clear<N: Number>(counts: &mut [N])
-    ensures { AreChanged (λ r x y. y ≡ 0) (map N.number counts.old) (map N.number counts.new) }
-{
-    for r in 0..counts.len() {
-        counts[r] = N::zero();
+    let mut counts = zeros(alloc, nodes)?;
+    let all: &mut [N] = &mut counts;
+    for key in 0..keys {
+        let plane = plane_of(cells, nodes, key);
+        planes::change(
+            all,
+            |r, count| -> N
+                requires { (r < length plane.now) × (r < length low.now) × (N.number count < N.most) }
+                ensures { N.number result ≡ N.number count + (if nat_lt (slice_index (map N.number low.entry.now) r)
+                    (slice_index (map N.number plane.entry.now) r) then 1 else 0) }
+            { count.plus(plane[r].is_above(low[r])) },
+        );
     }
+    Ok(counts)
 }
 
 /// For each owner of a part of them, from a first one on, how many of its numbers are above one mark and up to another.
@@ -156,13 +111,24 @@ pub fn count_some_between<N: Number>(
         (slice_index (map N.number low.now) (first + r)) (slice_index (map N.number high.now) (first + r)))
         (map N.number counts.new) }
 {
-    clear(counts);
+    planes::change(counts, |_, _| N::zero());
     let size = counts.len();
     let lows = &low[first..first + size];
     let highs = &high[first..first + size];
     for key in 0..keys {
         let start = key * nodes + first;
-        count_plane_between(counts, &cells[start..start + size], lows, highs);
+        let plane = &cells[start..start + size];
+        planes::change(
+            counts,
+            |r, count| -> N
+                requires { (r < length plane.now) × (r < length lows.now) × (r < length highs.now)
+                    × (N.number count < N.most) }
+                ensures { N.number result ≡ N.number count + (if nat_lt (slice_index (map N.number lows.entry.now) r)
+                    (slice_index (map N.number plane.entry.now) r)
+                    && nat_le (slice_index (map N.number plane.entry.now) r)
+                    (slice_index (map N.number highs.entry.now) r) then 1 else 0) }
+            { count.plus(planes::is_between(plane[r], lows[r], highs[r])) },
+        );
     }
 }
 
@@ -186,7 +152,18 @@ pub fn least_above<N: Number>(
     let all: &mut [N] = &mut least;
     for key in 0..keys {
         let plane = plane_of(cells, nodes, key);
-        planes::lower_to_next(all, plane, low);
+        planes::change(
+            all,
+            |r, number| -> N
+                requires { (r < length plane.now) × (r < length low.now) }
+                ensures { IsLowered N.most (if nat_lt (slice_index (map N.number low.entry.now) r)
+                    (slice_index (map N.number plane.entry.now) r) then slice_index (map N.number plane.entry.now) r
+                    else N.most) (N.number number) (N.number result) }
+            {
+                let now = plane[r];
+                number.min_with(planes::pick(now.is_above(low[r]), now, N::greatest()))
+            },
+        );
     }
     Ok(least)
 }
@@ -213,7 +190,19 @@ fn keep_planes_ahead<N: Number>(
         let of_peer = plane_of(peer, nodes, key);
         let start = key * nodes;
         let block = &mut numbers[start..start + nodes];
-        count += planes::keep_ahead(block, of_peer, low);
+        count += planes::change_counting(
+            block,
+            |r, number| -> (N, bool)
+                requires { (r < length of_peer.now) × (r < length low.now) }
+                ensures number { N.number result.0 ≡ number_ahead (N.number number)
+                    (slice_index (map N.number of_peer.entry.now) r) (slice_index (map N.number low.entry.now) r) }
+                ensures is_kept { result.1 ≡ nat_lt (max (slice_index (map N.number of_peer.entry.now) r)
+                    (slice_index (map N.number low.entry.now) r)) (N.number number) }
+            {
+                let is_ahead = number.is_above(of_peer[r].max_with(low[r]));
+                (planes::pick(is_ahead, number, N::zero()), is_ahead)
+            },
+        );
     }
     count
 }

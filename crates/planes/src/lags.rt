@@ -1,12 +1,13 @@
 //! Loops over all planes of a table that compare its numbers with the last ones.
 
-ghost use Rattle.std.specs.Prelude.{◌≡◌, ℕ, ◌+◌, ◌<◌, ◌≤◌, List, length, map, min, nat_lt, slice_index, IfOk, IsOkUnless};
+ghost use Rattle.std.specs.Prelude.{◌≡◌, ℕ, ◌+◌, ◌<◌, ◌≤◌, List, length, map, min, nat_lt, slice_index, IfOk, IsOkUnless, if◌then◌else◌};
 ghost use Rattle.bench_types.specs.declared.faults.Fault.TheVariants.{OutOfMemory};
 ghost use Rattle.bench_types.specs.declared.limits.TheConstants.{MOST_NODES};
 ghost use Rattle.planes.specs.Elementwise.{AreChanged, AreChangedUpto};
-ghost use Rattle.planes.specs.Lags.{next_behind, IsLeastBehind};
+ghost use Rattle.planes.specs.Lags.{IsLeastBehind};
 ghost use Rattle.planes.specs.inner.Counting.{count_less, IsPartDone};
-ghost use Rattle.planes.specs.Planes.{cell, total_of, ArePlanesChanged, HasEach, IsGrid, IsLowered};
+ghost use Rattle.planes.specs.Planes.{cell, total_of, ArePlanesChanged, HasEach, IsGrid};
+ghost use Rattle.planes.specs.inner.Answering.{IsLowered};
 
 use crate::grids::{all_of, plane_of};
 use crate::numbers::Number;
@@ -20,74 +21,7 @@ pub fn lower<N: Number>(least: &mut [N], plane: &[N])
     ensures least { AreChanged (λ r x y. y ≡ min x (slice_index (map N.number plane.now) r))
         (map N.number least.old) (map N.number least.new) }
 {
-    planes::lower_to(least, |r| plane[r]);
-}
-
-// How many numbers of a plane are below the last ones. Lowers each owner's number to the one in the plane.
-fn lower_counting<N: Number>(least: &mut [N], plane: &[N], last: &[N]) -> u32
-    requires plane { length plane.now ≡ length least.old }
-    requires last { length last.now ≡ length least.old }
-    requires room { length least.old ≤ MOST_NODES }
-    ensures count { result ≡ count_less (length least.old)
-        (map N.number plane.now) (map N.number last.now) }
-    ensures least { AreChanged (λ r x y. y ≡ min x (slice_index (map N.number plane.now) r))
-        (map N.number least.old) (map N.number least.new) }
-{
-    let size = N::at_a_time();
-    let mut count = 0;
-    let mut from = 0;
-    while least.len() - from >= size {
-        count += lower_some_counting(least, plane, last, from, size);
-        from += size;
-    }
-    let rest = least.len() - from;
-    count + lower_some_counting(least, plane, last, from, rest)
-}
-
-// So many of them from one on.
-fn lower_some_counting<N: Number>(
-    least: &mut [N],
-    plane: &[N],
-    last: &[N],
-    from: usize,
-    size: usize,
-) -> u32
-    requires plane { length plane.now ≡ length least.old }
-    requires last { length last.now ≡ length least.old }
-    requires within { from + size ≤ length least.old }
-    requires few { size ≤ N.most }
-    ensures upto { result ≤ size }
-    ensures done { (old : List ℕ)
-        → AreChangedUpto (λ r x y. y ≡ min x (slice_index (map N.number plane.now) r)) old
-        (map N.number least.old) from
-        → IsPartDone (λ r x y. y ≡ min x (slice_index (map N.number plane.now) r))
-        (λ r. nat_lt (slice_index (map N.number plane.now) r) (slice_index (map N.number last.now) r)) old
-        (map N.number least.new) from (from + size) result }
-{
-    let mut count = N::zero();
-    for i in 0..size {
-        let r = from + i;
-        let number = plane[r];
-        count = count.plus(last[r].is_above(number));
-        least[r] = least[r].min_with(number);
-    }
-    count.widen()
-}
-
-// Lowers each owner's number to the one in a plane, where that is below the last one.
-fn lower_to_behind<N: Number>(least: &mut [N], plane: &[N], last: &[N])
-    requires plane { length plane.now ≡ length least.old }
-    requires last { length last.now ≡ length least.old }
-    ensures least { AreChanged (λ r x y. IsLowered N.most
-        (next_behind N.most (slice_index (map N.number last.now) r) (slice_index (map N.number plane.now) r)) x y)
-        (map N.number least.old) (map N.number least.new) }
-{
-    planes::lower_to(
-        least,
-        |r|
-            requires { (r < length plane.now) × (r < length last.now) }
-        { planes::pick(last[r].is_above(plane[r]), plane[r], N::greatest()) },
-    );
+    planes::change(least, |r, number| number.min_with(plane[r]));
 }
 
 /// Lowers each number to another one.
@@ -127,7 +61,19 @@ pub fn count_behind<N: Number>(
         let of_last = plane_of(last, nodes, key);
         let start = key * nodes;
         let block = &mut least[start..start + nodes];
-        count += lower_counting(block, plane, of_last);
+        count += planes::change_counting(
+            block,
+            |r, number| -> (N, bool)
+                requires { (r < length plane.now) × (r < length of_last.now) }
+                ensures number { N.number result.0 ≡ min (N.number number)
+                    (slice_index (map N.number plane.entry.now) r) }
+                ensures is_behind { result.1 ≡ nat_lt (slice_index (map N.number plane.entry.now) r)
+                    (slice_index (map N.number of_last.entry.now) r) }
+            {
+                let now = plane[r];
+                (number.min_with(now), of_last[r].is_above(now))
+            },
+        );
     }
     count
 }
@@ -154,7 +100,18 @@ pub fn least_behind<N: Number>(
     for key in 0..keys {
         let plane = plane_of(cells, nodes, key);
         let of_last = plane_of(last, nodes, key);
-        lower_to_behind(all, plane, of_last);
+        planes::change(
+            all,
+            |r, number| -> N
+                requires { (r < length plane.now) × (r < length of_last.now) }
+                ensures { IsLowered N.most (if nat_lt (slice_index (map N.number plane.entry.now) r)
+                    (slice_index (map N.number of_last.entry.now) r) then slice_index (map N.number plane.entry.now) r
+                    else N.most) (N.number number) (N.number result) }
+            {
+                let now = plane[r];
+                number.min_with(planes::pick(of_last[r].is_above(now), now, N::greatest()))
+            },
+        );
     }
     Ok(least)
 }

@@ -3,13 +3,14 @@
 //! # Choices
 //!
 //! - Loops go by index, as `counts[r] = ..` for r below the length. A proved index has no test at run time, each write
-//!   has a clause, and the compiler makes vector code of such a loop as of zipped slices. What differs between sibling
-//!   loops, which numbers count or what one is lowered to, comes as a closure: measured on five scenarios, with one
-//!   worker, that took from 5 % less time to as much.
+//!   has a clause, and the compiler makes vector code of such a loop as of zipped slices. What differs between loops,
+//!   which numbers count or what one becomes, comes as a closure of owner and number, whose own clauses say what that
+//!   is: measured on five scenarios, with one worker, that took from 5 % less time to as much.
 //! - Numbers are copied 1024 at a time, which takes fewer instructions than the C library's way to copy many more at
 //!   once.
-//! - A count over one plane has as many bits as its numbers, which can count more nodes than a scenario may have. A
-//!   wider sum would halve what a vector instruction does.
+//! - What is counted over a plane is counted in its numbers' bits, as a wider sum would halve what a vector instruction
+//!   does: of bytes 64 at a time, each time added into 32 bits, of others all, as they can count more nodes than there
+//!   may be.
 //! - What goes over the same planes goes in one loop: to take numbers and to raise the greatest ones, to count what is
 //!   behind and to lower the least. Where tables are large, each pass waits for memory.
 //! - Where all comes, both ways go in one pass (`merge`). A number of one table that is above the other's greatest one

@@ -3,9 +3,9 @@
 ghost use Rattle.std.specs.Prelude.{◌≡◌, ℕ, ◌+◌, ◌<◌, ◌≤◌, ◌&&◌, Bool, List, length, map, max, nat_le, nat_lt, slice_index, if◌then◌else◌};
 ghost use Rattle.bench_types.specs.declared.limits.TheConstants.{MOST_NODES};
 ghost use Rattle.planes.specs.Elementwise.{AreChanged, AreChangedUpto};
-ghost use Rattle.planes.specs.inner.Answering.{AnswersAs};
+ghost use Rattle.planes.specs.inner.Answering.{AnswersAs, IsMade, MakesAs};
 ghost use Rattle.planes.specs.inner.Counting.{count_less, count_passing, IsPassed, IsPartDone};
-ghost use Rattle.planes.specs.Planes.{next_above, IsLowered, number_ahead, number_taken};
+ghost use Rattle.planes.specs.Planes.{number_taken};
 
 use crate::numbers::Number;
 
@@ -28,100 +28,62 @@ pub(crate) fn raised_to<N: Number>(number: N, other: N, is_above: bool) -> N
     number.max_with(pick(is_above, other, N::zero()))
 }
 
-/// Counts for each owner whether its number in a plane passes a test of owner and number.
-pub fn count<N: Number, F: Fn(usize, N) -> bool>(counts: &mut [N], plane: &[N], passes: F)
-    requires plane { length plane.now ≡ length counts.old }
-    requires passes { (r : ℕ) (n : N) → r < length counts.old → F.pre passes r n }
-    requires room { (r : ℕ) → r < length counts.old → slice_index (map N.number counts.old) r < N.most }
-    ensures upto { AreChanged (λ r x y. y ≤ x + 1) (map N.number counts.old) (map N.number counts.new) }
-    ensures counts { (test : ℕ → ℕ → Bool) → AnswersAs N.number (F.post passes) (length counts.old) test → AreChanged
-        (λ r x y. y ≡ x + (if test r (slice_index (map N.number plane.now) r) then 1 else 0))
-        (map N.number counts.old) (map N.number counts.new) }
+/// Changes each owner's number to what a closure makes of owner and number.
+pub fn change<N: Number, F: Fn(usize, N) -> N>(numbers: &mut [N], to: F)
+    requires to { (r : ℕ) (n : N) → r < length numbers.old → N.number n ≡ slice_index (map N.number numbers.old) r
+        → F.pre to r n }
+    ensures { AreChanged (IsMade N.number (F.post to)) (map N.number numbers.old) (map N.number numbers.new) }
 {
-    for r in 0..counts.len() {
-        counts[r] = counts[r].plus(passes(r, plane[r]));
+    for r in 0..numbers.len() {
+        numbers[r] = to(r, numbers[r]);
     }
 }
 
-/// Lowers each owner's number to another one.
-pub fn lower_to<N: Number, F: Fn(usize) -> N>(least: &mut [N], to: F)
-    requires to { (r : ℕ) → r < length least.old → F.pre to r }
-    ensures least { (numbers : ℕ → ℕ)
-        → ((r : ℕ) (n : N) → r < length least.old → F.post to r n → N.number n ≡ numbers r)
-        → AreChanged (λ r x y. IsLowered N.most (numbers r) x y) (map N.number least.old) (map N.number least.new) }
-{
-    for r in 0..least.len() {
-        least[r] = least[r].min_with(to(r));
-    }
-}
-
-/// Lowers each owner's number to the one in a plane, where that is above a mark.
-pub fn lower_to_next<N: Number>(least: &mut [N], plane: &[N], low: &[N])
-    requires plane { length plane.now ≡ length least.old }
-    requires low { length low.now ≡ length least.old }
-    ensures least { AreChanged (λ r x y. IsLowered N.most
-        (next_above N.most (slice_index (map N.number low.now) r) (slice_index (map N.number plane.now) r)) x y)
-        (map N.number least.old) (map N.number least.new) }
-{
-    lower_to(
-        least,
-        |r|
-            requires { (r < length plane.now) × (r < length low.now) }
-        { pick(plane[r].is_above(low[r]), plane[r], N::greatest()) },
-    );
-}
-
-/// Keeps the numbers that are above both the peer's and a mark, and puts 0 in place of the others. It answers how many
-/// it keeps.
-pub fn keep_ahead<N: Number>(numbers: &mut [N], peer: &[N], low: &[N]) -> u32
-    requires peer { length peer.now ≡ length numbers.old }
-    requires low { length low.now ≡ length numbers.old }
+/// Changes each owner's number to the one that a closure makes of owner and number. It answers how many times the
+/// closure says yes beside.
+pub fn change_counting<N: Number, F: Fn(usize, N) -> (N, bool)>(numbers: &mut [N], to: F) -> u32
     requires room { length numbers.old ≤ MOST_NODES }
-    ensures numbers { AreChanged (λ r x y. y ≡ number_ahead x (slice_index (map N.number peer.now) r)
-        (slice_index (map N.number low.now) r)) (map N.number numbers.old) (map N.number numbers.new) }
-    ensures count { result ≡ count_passing (length numbers.old)
-        (λ r. nat_lt
-        (max (slice_index (map N.number peer.now) r) (slice_index (map N.number low.now) r))
-        (slice_index (map N.number numbers.old) r)) }
+    requires to { (r : ℕ) (n : N) → r < length numbers.old → F.pre to r n }
+    ensures upto { result ≤ length numbers.old }
+    ensures done { (made : ℕ → ℕ → ℕ) (test : ℕ → ℕ → Bool)
+        → MakesAs N.number (F.post to) (length numbers.old) made test
+        → AreChanged (λ r x y. y ≡ made r x) (map N.number numbers.old) (map N.number numbers.new)
+        × (result ≡ count_passing (length numbers.old) (λ r. test r (slice_index (map N.number numbers.old) r))) }
 {
     let size = N::at_a_time();
     let mut count = 0;
     let mut from = 0;
     while numbers.len() - from >= size {
-        count += keep_some_ahead(numbers, peer, low, from, size);
+        count += change_some_counting(numbers, from, size, &to);
         from += size;
     }
     let rest = numbers.len() - from;
-    count + keep_some_ahead(numbers, peer, low, from, rest)
+    count + change_some_counting(numbers, from, rest, &to)
 }
 
 // So many of them from one on.
-fn keep_some_ahead<N: Number>(
+fn change_some_counting<N: Number, F: Fn(usize, N) -> (N, bool)>(
     numbers: &mut [N],
-    peer: &[N],
-    low: &[N],
     from: usize,
     size: usize,
+    to: F,
 ) -> u32
-    requires peer { length peer.now ≡ length numbers.old }
-    requires low { length low.now ≡ length numbers.old }
     requires within { from + size ≤ length numbers.old }
     requires few { size ≤ N.most }
+    requires to { (r : ℕ) (n : N) → r < length numbers.old → F.pre to r n }
     ensures upto { result ≤ size }
-    ensures done { (old : List ℕ)
-        → AreChangedUpto (λ r x y. y ≡ number_ahead x (slice_index (map N.number peer.now) r)
-        (slice_index (map N.number low.now) r)) old (map N.number numbers.old) from
-        → IsPartDone (λ r x y. y ≡ number_ahead x (slice_index (map N.number peer.now) r)
-        (slice_index (map N.number low.now) r))
-        (λ r. nat_lt (max (slice_index (map N.number peer.now) r) (slice_index (map N.number low.now) r))
-        (slice_index old r)) old (map N.number numbers.new) from (from + size) result }
+    ensures done { (made : ℕ → ℕ → ℕ) (test : ℕ → ℕ → Bool)
+        → MakesAs N.number (F.post to) (length numbers.old) made test
+        → (old : List ℕ) → AreChangedUpto (λ r x y. y ≡ made r x) old (map N.number numbers.old) from
+        → IsPartDone (λ r x y. y ≡ made r x) (λ r. test r (slice_index old r)) old
+        (map N.number numbers.new) from (from + size) result }
 {
     let mut count = N::zero();
     for i in 0..size {
         let r = from + i;
-        let is_ahead = numbers[r].is_above(peer[r].max_with(low[r]));
-        numbers[r] = pick(is_ahead, numbers[r], N::zero());
-        count = count.plus(is_ahead);
+        let (number, is_counted) = to(r, numbers[r]);
+        numbers[r] = number;
+        count = count.plus(is_counted);
     }
     count.widen()
 }

@@ -18,12 +18,6 @@ index-lt nodes keys owner key lt fits =
     let step : (owner + 1) * keys ≤ nodes * keys = mul-le-mul_right keys (omega arith) in
     omega (arith, step)
 
--- and a number fits where owner and keys have 32 bits
-pub index-fits : (keys owner : ℕ) → keys < 4294967296 → owner < 4294967296 → owner * keys ≤ 18446744065119617025
-index-fits keys owner in_keys in_owner =
-    let step : owner * keys ≤ 4294967295 * keys = mul-le-mul_right keys (omega arith) in
-    omega (arith, step)
-
 -- so of two owners each has numbers of its own
 index-owner : (keys owner key other_owner other_key : ℕ) → key < keys → other_key < keys → version_index keys owner key ≡ version_index keys other_owner other_key → (owner ≡ other_owner) × (key ≡ other_key)
 index-owner keys owner key other_owner other_key in_key in_other e =
@@ -114,21 +108,6 @@ module _ (t : Table) (proper : IsProper t) where
       ];
       blank = λ other key above below fits. other_version other key (omega arith) fits ∙ so_far.blank other key (omega arith) below fits;
     }
-
-  -- and at last all are there
-  pub filled-all : (vs : List ℕ) (bound : ℕ) → t.nodes ≤ bound → AreFilled t bound vs → AreVersions t vs
-  filled-all vs bound le filled = record {
-    count = filled.count;
-    each = λ owner key lt fits. filled.done owner key (omega arith) fits;
-  }
-
--- at first all are 0
-pub filled-none : (t : Table) (vs : List ℕ) → length vs ≡ t.nodes * t.keys → ((i : ℕ) → i < length vs → get_or vs i 0 ≡ 0) → AreFilled t 0 vs
-filled-none t vs count zeros = record {
-  count = count;
-  done = λ owner key below fits. absurd (omega arith);
-  blank = λ owner key above below fits. zeros (version_index t.keys owner key) (omega (arith, count, index-lt t.nodes t.keys owner key below fits));
-}
 
 -- a table's versions with its generations are its marks
 module _ (t : Table) (proper : IsProper t) (generations versions : List ℕ) (held : AreGenerations t generations) (are : AreVersions t versions) where

@@ -16,7 +16,7 @@ use Rattle.reconcile.specs.inner.Newer.{AreCandidates, item_with}
 use Rattle.reconcile.specs.inner.Suffixes.{suffix_items, items_of_suffixes, OwnersRise, AreSuffixes}
 use Rattle.reconcile.specs.declared.suffixes.Suffix.{Suffix}
 use Rattle.model.proofs.Members.{AllPairs-append}
-use Rattle.reconcile.proofs.Newer.{newer-above, newer_items-above, above-none, candidates-none, candidates-own, candidates-more}
+use Rattle.reconcile.proofs.Newer.{newer-above, newer_items-above, above-none, candidates-own, candidates-more}
 
 -- the suffixes of the owners below a bound
 pub record AreFound (t : Table) (told : DigestView) (receiver bound : ℕ) (suffixes : List Suffix) : Type 0 where
@@ -53,14 +53,6 @@ module _ (owner : ℕ) (mark : Mark) (generations versions : List ℕ) (generati
   }
 
 module _ (t : Table) (told : DigestView) (receiver : ℕ) where
-  pub found-first : AreFound t told receiver 0 []
-  found-first = record {
-    all = candidates-none t told receiver;
-    rise = λ i j d lt in_range. absurd (omega arith);
-    are = record { apart = λ i j d lt in_range. absurd (omega arith); rising = All-nil InOrder };
-    below = All-nil (λ (r : Suffix). r.owner < 0);
-  }
-
   module _ (bound : ℕ) (suffixes : List Suffix) (so_far : AreFound t told receiver bound suffixes) where
     wider : All (λ (r : Suffix). r.owner < bound + 1) suffixes
     wider = All-weaker (λ (r : Suffix). r.owner < bound) (λ (r : Suffix). r.owner < bound + 1) (λ r lt. omega (arith, lt)) suffixes so_far.below

@@ -87,14 +87,6 @@ newer_items-more told owner entries n before d newer lt is =
     ∙ ap (λ es. before ++ newer_items told owner es) (sym (take_more entries n d lt))
 
 module _ (t : Table) (told : DigestView) (receiver : ℕ) where
-  -- before the first owner there are none
-  pub candidates-none : AreCandidates t told receiver 0 []
-  candidates-none = record {
-    rising = λ i j d lt in_range. absurd (omega arith);
-    each = λ i (k, lt, is). absurd (omega arith);
-    all = λ i is lt. absurd (omega arith);
-  }
-
   -- the receiver's own are none
   pub candidates-own : (bound : ℕ) (items : List Item) → bound ≡ receiver → AreCandidates t told receiver bound items → AreCandidates t told receiver (bound + 1) items
   candidates-own bound items own so_far = record {

@@ -1,7 +1,6 @@
 -- The rows of a round, on their way into memory.
 -- Serves `make_rows`.
-use Rattle.std.proofs.Common.{◌≡◌, ℕ, ◌+◌, ◌<◌, ◌≤◌, List, ◌++◌, length, get_or, drop, append-nil, sym, ap, ◌∙◌, append_assoc, add-one, drop-cons}
-use Rattle.std.proofs.lemmas.List.{drop_all}
+use Rattle.std.proofs.Common.{◌≡◌, ℕ, ◌+◌, ◌<◌, List, ◌++◌, length, get_or, drop, sym, ap, ◌∙◌, append_assoc, add-one, drop-cons}
 use Rattle.std.specs.declared.alloc.Global.{Global}
 use Rattle.std.specs.Prelude.{Vec}
 use Rattle.csv.specs.declared.writer.Writer.{Writer}
@@ -31,10 +30,3 @@ rows_more round i es rs e r lines lines' in_list in_records so_far between added
       ∙ ap (λ text. bytes_written lines ++ text) (sym (next_row round i es rs e r in_list in_records))
       ∙ so_far.whole;
 }
-
--- all rows are written
-pub rows_all : (round i : ℕ) (es : List Exchange) (rs : List Record) (lines : Writer (Vec ℕ Global)) → length es ≤ i → RowsSoFar round es rs lines i → bytes_written lines ≡ trace_lines round es rs
-rows_all round i es rs lines end so_far =
-    sym (append-nil (bytes_written lines))
-    ∙ ap (λ rest. bytes_written lines ++ trace_lines_from round i rest (drop i rs)) (sym (drop_all i es end))
-    ∙ so_far.whole

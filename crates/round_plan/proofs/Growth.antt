@@ -71,10 +71,6 @@ length_unless : {X : Type 0} (b : Bool) (xs : List X) → length (if b then [] e
 length_unless true xs = refl
 length_unless false xs = refl
 
-All_unless : {X : Type 0} (P : X → Type 0) (b : Bool) (xs : List X) → All P xs → All P (if b then [] else xs)
-All_unless P true xs all = All-nil P
-All_unless P false xs all = all
-
 pub length-writes_upto : (s : Settings) (owner round : ℕ) → length (writes_upto s owner round) ≡ count_upto s owner round
 length-writes_upto s owner zero = refl
 length-writes_upto s owner (suc round) =
@@ -150,11 +146,6 @@ next-writes_upto s owner (suc round) =
     subst (λ n. AreNextAfter (generation_upto s owner next) n (own_writes s owner next (count_before s owner next))) e
     (next-own_writes s owner next (count_before s owner next)))
 
-pub next-writes_before : (s : Settings) (owner round : ℕ) → AreNextAfter (generation_upto s owner round) 0 (writes_before s owner round)
-next-writes_before s owner zero = λ i d lt. absurd (omega arith)
-next-writes_before s owner (suc round) =
-    next_unless (forgets_now s owner (suc round)) (generation_upto s owner round) (writes_upto s owner round) (next-writes_upto s owner round)
-
 -- no more writes than the most in a round, for each round
 module _ (s : Settings) (owner most : ℕ) (limit : (t : ℕ) → writes_in s t ≤ most) where
   at_most : (b : Bool) (n : ℕ) → n ≤ most → (if b then n else 0) ≤ most
@@ -170,11 +161,6 @@ module _ (s : Settings) (owner most : ℕ) (limit : (t : ℕ) → writes_in s t 
   count_upto_le (suc t) =
       omega (arith, left_at_most (forgets_now s owner (suc t)) (count_upto s owner t) (most * t) (count_upto_le t), at_most (is_up s owner (suc t)) (writes_in s (suc t)) (limit (suc t)))
 
-  pub count_before_le : (round : ℕ) → count_before s owner round ≤ most * round
-  count_before_le zero = omega arith
-  count_before_le (suc t) =
-      omega (arith, left_at_most (forgets_now s owner (suc t)) (count_upto s owner t) (most * t) (count_upto_le t))
-
 -- and in a lawful scenario the most is a constant
 found_at_most : (p : Load → Bool) (usual most : ℕ) (ls : List Load) → usual ≤ most → All (λ l. l.writes ≤ most) ls → unwrap_or (option_map (λ (l : Load). l.writes) (find p ls)) usual ≤ most
 found_at_most p usual most [] low all = low
@@ -189,6 +175,3 @@ writes_in_le s lawful round =
     found_at_most (covers round) s.writes MOST_WRITES (reverse s.loads) lawful.writes (λ k d lt.
     let within : k < length s.loads = omega (arith, lt, length-reverse s.loads) in
     subst (λ (l : Load). l.writes ≤ MOST_WRITES) (sym (get_or-reverse s.loads k d within)) (lawful.loads.each (length s.loads - 1 - k) d (omega (arith, within))).writes)
-
-pub length-writes_upto_le : (s : Settings) (owner round most : ℕ) → ((t : ℕ) → writes_in s t ≤ most) → length (writes_upto s owner round) ≤ most * round
-length-writes_upto_le s owner round most limit = omega (arith, length-writes_upto s owner round, count_upto_le s owner most limit round)

@@ -1,15 +1,11 @@
 -- What is counted where no node has forgotten.
 -- Serves `has_forgotten` and `left_over`.
-use Rattle.std.proofs.Common.{◌≡◌, ℕ, zero, suc, ◌<◌, Bool, true, false, cond, ◌&&◌, refl, sym, ap, ◌∙◌, arith, inl, inr}
+use Rattle.std.proofs.Common.{◌≡◌, ℕ, ◌<◌, Bool, true, false, cond, ◌&&◌, refl, ap, ◌∙◌, arith, inl, inr}
 use Rattle.std.specs.Prelude.{nat_lt, nat_le}
 use Rattle.std.proofs.lemmas.Bool.{cases_lt, lt-ltb, le-ltb, lt-leb, both_ways}
 use Rattle.bench_types.specs.Sums.{sum_below}
 use Rattle.planes.specs.Planes.{Cells, total_of}
-use Rattle.bench_types.proofs.Sums.{sum_below-same}
-
-sum_of-none : (m : ℕ) → sum_below m (λ _. 0) ≡ 0
-sum_of-none zero = refl
-sum_of-none (suc m) = omega (arith, sum_of-none m)
+use Rattle.bench_types.proofs.Sums.{sum_below-most}
 
 -- no number is up to 0 but 0
 none_here : (number base : ℕ) → base ≡ 0 → ◌≡◌ {A = ℕ} (cond (nat_lt 0 number && nat_le number base) 1 0) 0
@@ -24,7 +20,8 @@ none_here number base none = elim (cases_lt 0 number) [
 
 pub none_left : (nodes keys : ℕ) (cells : Cells) (bases : ℕ → ℕ) → ((r : ℕ) → r < nodes → bases r ≡ 0) → 0 ≡ total_of nodes keys (λ r k. nat_lt 0 (cells r k) && nat_le (cells r k) (bases r))
 none_left nodes keys cells bases none =
-    sym (sum_below-same nodes _ _ (λ r in_r. sum_below-same keys _ _ (λ k in_k. none_here (cells r k) (bases r) (none r in_r)) ∙ sum_of-none keys) ∙ sum_of-none nodes)
+    let left = (λ (r k : ℕ). cond {A = ℕ} (nat_lt 0 (cells r k) && nat_le (cells r k) (bases r)) 1 0) in
+    omega (arith, sum_below-most (λ r. sum_below keys (left r)) nodes 0 (λ r in_r. omega (arith, sum_below-most (left r) keys 0 (λ k in_k. omega (arith, none_here (cells r k) (bases r) (none r in_r))))))
 
 pub not_above : (none number : ℕ) → none ≡ 0 → nat_lt none number ≡ false → number ≡ 0
 not_above none number is not = elim (cases_lt none number) [

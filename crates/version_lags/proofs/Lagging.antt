@@ -150,7 +150,7 @@ module _ (round : ℕ) (v : OwnerListView) (are : AreWrites v) where
       | None ↦ λ none.
           let nothing : c ≡ 0 = elim c as (λ n. n ≤ length all → write_numbered all n ≡ None → n ≡ 0) [
             | zero ↦ λ _ _. refl
-            | suc i ↦ λ le is. let d : Entry = record { key = 0; generation = 0; version = 0; value = 0; born = 0 } in absurd (some (get_or all i d) (sym (write_from-here all i d (omega (arith, le))) ∙ is))
+            | suc i ↦ λ le is. let d : Entry = record { key = 0; generation = 0; version = 0; value = 0; born = 0 } in let there = write_from-here all i d (omega (arith, le)) in absurd (cc)
           ] within none in
           record {
             written = within;
@@ -174,11 +174,8 @@ module _ (round : ℕ) (v : OwnerListView) (are : AreWrites v) where
           }
     ] refl
       where
-        some : (x : Entry) → Some x ≡ None → ⊥
-        some x h = cc
-
         newer : (n : ℕ) (e : Entry) → write_numbered all n ≡ Some e → e.generation ≡ v.generation → base_of v < n
-        newer zero e is same = absurd (some e (sym is))
+        newer zero e is same = absurd (cc)
         newer (suc i) e is same = elim (cases_lt i (base_of v)) [
           | inl earlier ↦
               let at = write_from-at all i e e is in

@@ -14,6 +14,7 @@ use Rattle.model.specs.Writes.{write_of_entry}
 use Rattle.model.specs.calls.Writes.{IsNumbered, is_write_of, last_write}
 use Rattle.model.specs.calls.OwnerListView.{OwnerListView, entries_of, written, AreWrites}
 use Rattle.model.specs.calls.Numbers.{write_numbered}
+use Rattle.model.proofs.Picked.{find_none, find_passes}
 use Rattle.version_lags.specs.Missed.{base_of, number_staleness, IsMissed, IsFirstMissed, HasNoneMissed}
 use Rattle.owner_writes.proofs.Numbered.{write_from-here}
 use Rattle.round_tables.specs.Histories.{BirthsRise}
@@ -31,77 +32,51 @@ numbers-born writes rise m n d e is_d is_e le =
       ap (λ (x : Entry). x.born) (second.there d),
     )
 
--- a search that finds nothing, or the first that passes
-pub record IsCountOffered (test : Write → Bool) (ws : List Write) (i : ℕ) (w : Write) : Type 0 where
-  pub within : i < length ws
-  pub there : (d : Write) → get_or ws i d ≡ w
-  pub passes : test w ≡ true
-  pub first : (j : ℕ) (d : Write) → j < i → test (get_or ws j d) ≡ false
+-- where a search finds a write: no earlier one passes
+record IsFoundAt (test : Write → Bool) (ws : List Write) (w : Write) : Type 0 where
+  pub place : ℕ
+  pub within : place < length ws
+  pub there : (d : Write) → get_or ws place d ≡ w
+  pub first : (j : ℕ) (d : Write) → j < place → test (get_or ws j d) ≡ false
 
-NoneFound : (Write → Bool) → List Write → Type 0
-NoneFound test ws = (i : ℕ) (d : Write) → i < length ws → test (get_or ws i d) ≡ false
-
-find_cases : (test : Write → Bool) (ws : List Write) → ((find test ws ≡ None) × NoneFound test ws) ⊎ ((i : ℕ) × ((w : Write) × ((find test ws ≡ Some w) × IsCountOffered test ws i w)))
-unfolding NoneFound
-find_cases test [] = inl (refl, λ i d lt. absurd (omega (arith, lt)))
-find_cases test (w ∷ ws) = elim (cases_Bool (test w)) [
-  | inl passes ↦ inr (
-    0,
-    (
-      w,
-      (
-        ap (λ b. cond b (Some w) (find test ws)) passes,
-        record {
-          within = omega arith;
-          there = λ d. refl;
-          passes = passes;
-          first = λ j d lt. absurd (omega (arith, lt));
-        },
-      ),
-    ),
-  )
+find_at : (test : Write → Bool) (ws : List Write) (w : Write) → find test ws ≡ Some w → IsFoundAt test ws w
+find_at test [] w is = absurd (cc)
+find_at test (x ∷ xs) w is = elim (cases_Bool (test x)) [
+  | inl here ↦ record {
+    place = 0;
+    within = omega arith;
+    there = λ d. same_Some x w (sym (ap (λ b. cond b (Some x) (find test xs)) here) ∙ is);
+    first = λ j d lt. absurd (omega (arith, lt));
+  }
   | inr fails ↦
-      let rest : find test (w ∷ ws) ≡ find test ws = ap (λ b. cond b (Some w) (find test ws)) fails in
-      elim (find_cases test ws) [
-        | inl none ↦ inl (rest ∙ none.0, elim [ zero ↦ λ d lt. fails | suc i ↦ λ d lt. none.1 i d (omega (arith, lt)) ])
-        | inr found ↦ let at = found.1.1.1 in inr (
-          suc found.0,
-          (
-            found.1.0,
-            (
-              rest ∙ found.1.1.0,
-              record {
-                within = omega (arith, at.within);
-                there = λ d. at.there d;
-                passes = at.passes;
-                first = elim [ zero ↦ λ d lt. fails | suc j ↦ λ d lt. at.first j d (omega (arith, lt)) ];
-              },
-            ),
-          ),
-        )
-      ]
+      let rest = find_at test xs w (sym (ap (λ b. cond b (Some x) (find test xs)) fails) ∙ is) in
+      record {
+        place = suc rest.place;
+        within = omega (arith, rest.within);
+        there = λ d. rest.there d;
+        first = elim [ zero ↦ λ d lt. fails | suc j ↦ λ d lt. rest.first j d (omega (arith, lt)) ];
+      }
 ]
 
 -- a key that was written has a last write, which stands no earlier
 pub last_write-after : (ws : List Write) (key i : ℕ) (d : Write) → IsNumbered ws → i < length ws → (get_or ws i d).key ≡ key → (w : Write) × ((last_write ws key ≡ Some w) × (i < w.version))
-unfolding NoneFound
-last_write-after ws key i d numbered lt here = elim (find_cases (is_write_of key) (reverse ws)) [
-  | inl none ↦ absurd (fails (none.1 back d (omega (arith, length-reverse ws))))
-  | inr found ↦
-      let at = found.1.1.1 in
-      let before : found.0 < length ws = omega (arith, at.within, length-reverse ws) in
-      let there : get_or ws (length ws - 1 - found.0) d ≡ found.1.0 = sym (get_or-reverse ws found.0 d before) ∙ at.there d in
-      let version = numbered (length ws - 1 - found.0) d (omega arith) in (
-        found.1.0,
+last_write-after ws key i d numbered lt here = elim (last_write ws key) as (λ o. last_write ws key ≡ o → (w : Write) × ((last_write ws key ≡ Some w) × (i < w.version))) [
+  | None ↦ λ none. absurd (fails (find_none (is_write_of key) (reverse ws) none back d (omega (arith, length-reverse ws))))
+  | Some w ↦ λ is.
+      let at = find_at (is_write_of key) (reverse ws) w is in
+      let before : at.place < length ws = omega (arith, at.within, length-reverse ws) in
+      let there : get_or ws (length ws - 1 - at.place) d ≡ w = sym (get_or-reverse ws at.place d before) ∙ at.there d in
+      let version = numbered (length ws - 1 - at.place) d (omega arith) in (
+        w,
         (
-          found.1.1.0,
-          elim (cases_lt back found.0) [
+          is,
+          elim (cases_lt back at.place) [
             | inl sooner ↦ absurd (fails (at.first back d sooner))
-            | inr later ↦ omega (arith, ap (λ (w : Write). w.version) there, version)
+            | inr later ↦ omega (arith, ap (λ (x : Write). x.version) there, version)
           ],
         ),
       )
-]
+] refl
   where
     back : ℕ
     back = length ws - 1 - i
@@ -116,13 +91,7 @@ last_write-after ws key i d numbered lt here = elim (find_cases (is_write_of key
     fails failed = let bad : true ≡ false = sym passes ∙ failed in cc
 
 pub last_write-keyed : (ws : List Write) (key : ℕ) (w : Write) → last_write ws key ≡ Some w → w.key ≡ key
-last_write-keyed ws key w is = elim (find_cases (is_write_of key) (reverse ws)) [
-  | inl none ↦ let no : None ≡ Some w = sym none.0 ∙ is in absurd (nothing no)
-  | inr found ↦ let same = same_Some found.1.0 w (sym found.1.1.0 ∙ is) in eqb-true w.key key (subst (λ x. is_write_of key x ≡ true) same found.1.1.1.passes)
-]
-  where
-    nothing : None ≡ Some w → ⊥
-    nothing same = cc
+last_write-keyed ws key w is = eqb-true w.key key (find_passes (is_write_of key) (reverse ws) w is)
 
 module _ (v : OwnerListView) (are : AreWrites v) where
   abbrev base : ℕ
@@ -210,41 +179,41 @@ module _ (v : OwnerListView) (are : AreWrites v) where
     -- nothing is missed, or there is a first write that is
     pub missed_cases : (round : ℕ) → (HasNoneMissed v key c × (number_staleness round v key c ≡ None))
         ⊎ ((number : ℕ) × ((e : Entry) × (IsFirstMissed v key c number e × (number_staleness round v key c ≡ Some (round - e.born + 1)))))
-    unfolding test NoneFound
-    missed_cases round = elim (find_cases test (written v)) [
-      | inl none ↦ inl (
-        (λ m d missed.
-            let at = current-numbered m d missed.written missed.current in
-            let w = write_of_entry d in
-            both_ways (test (get_or (written v) at.place w)) (none.1 at.place w (omega (arith, at.within, length-map v.current write_of_entry)))
-            (missed_passes at.place d w at.within (ap (λ (x : Entry). x.key) (at.there d) ∙ missed.keyed) (omega (arith, at.is, missed.over)))),
-        ap (option_map (λ (w : Write). round - w.born + 1)) none.0,
-      )
-      | inr found ↦
-          let j = found.0 in
-          let w = found.1.0 in
-          let is = found.1.1.1 in
-          let within : j < length v.current = omega (arith, is.within, length-map v.current write_of_entry) in
-          let d : Entry = record { key = 0; generation = 0; version = 0; value = 0; born = 0 } in
-          let e = get_or v.current j d in
-          let same : w ≡ write_of_entry e = sym (is.there w) ∙ get_or-map write_of_entry v.current j d w within in
-          inr (
-            suc (base + j),
-            (
-              e,
-              (
-                record {
-                  missed = passes_missed j d w within (ap test (is.there w) ∙ is.passes);
-                  first = λ m x missed.
-                      let at = current-numbered m x missed.written missed.current in
-                      elim (cases_lt at.place j) [
-                        | inl before ↦ absurd (both_ways (test (get_or (written v) at.place w)) (is.first at.place w before)
-                            (missed_passes at.place x w at.within (ap (λ (y : Entry). y.key) (at.there x) ∙ missed.keyed) (omega (arith, at.is, missed.over))))
-                        | inr not_before ↦ omega (arith, at.is, not_before)
-                      ];
-                },
-                ap (option_map (λ (w : Write). round - w.born + 1)) found.1.1.0 ∙ ap (λ (x : Write). Some (round - x.born + 1)) same,
-              ),
-            ),
+    unfolding test
+    missed_cases round = elim (find test (written v)) as (λ o. find test (written v) ≡ o → (HasNoneMissed v key c × (number_staleness round v key c ≡ None))
+        ⊎ ((number : ℕ) × ((e : Entry) × (IsFirstMissed v key c number e × (number_staleness round v key c ≡ Some (round - e.born + 1)))))) [
+          | None ↦ λ none. inl (
+            (λ m d missed.
+                let at = current-numbered m d missed.written missed.current in
+                let w = write_of_entry d in
+                both_ways (test (get_or (written v) at.place w)) (find_none test (written v) none at.place w (omega (arith, at.within, length-map v.current write_of_entry)))
+                (missed_passes at.place d w at.within (ap (λ (x : Entry). x.key) (at.there d) ∙ missed.keyed) (omega (arith, at.is, missed.over)))),
+            ap (option_map (λ (w : Write). round - w.born + 1)) none,
           )
-    ]
+          | Some w ↦ λ is.
+              let found = find_at test (written v) w is in
+              let j = found.place in
+              let within : j < length v.current = omega (arith, found.within, length-map v.current write_of_entry) in
+              let d : Entry = record { key = 0; generation = 0; version = 0; value = 0; born = 0 } in
+              let e = get_or v.current j d in
+              let same : w ≡ write_of_entry e = sym (found.there w) ∙ get_or-map write_of_entry v.current j d w within in
+              inr (
+                suc (base + j),
+                (
+                  e,
+                  (
+                    record {
+                      missed = passes_missed j d w within (ap test (found.there w) ∙ find_passes test (written v) w is);
+                      first = λ m x missed.
+                          let at = current-numbered m x missed.written missed.current in
+                          elim (cases_lt at.place j) [
+                            | inl before ↦ absurd (both_ways (test (get_or (written v) at.place w)) (found.first at.place w before)
+                                (missed_passes at.place x w at.within (ap (λ (y : Entry). y.key) (at.there x) ∙ missed.keyed) (omega (arith, at.is, missed.over))))
+                            | inr not_before ↦ omega (arith, at.is, not_before)
+                          ];
+                    },
+                    ap (option_map (λ (w : Write). round - w.born + 1)) is ∙ ap (λ (x : Write). Some (round - x.born + 1)) same,
+                  ),
+                ),
+              )
+        ] refl

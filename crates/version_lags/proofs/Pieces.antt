@@ -12,7 +12,8 @@ use Rattle.model.specs.calls.Numbers.{write_numbered}
 use Rattle.model.proofs.Owners.{list_read}
 use Rattle.bench_types.specs.Sums.{sum_below, most_below}
 use Rattle.planes.specs.Planes.{cell, total_of, ArePlanesChanged}
-use Rattle.bench_types.proofs.Sums.{sum_below-same}
+use Rattle.planes.proofs.Counts.{sum_next}
+use Rattle.bench_types.proofs.Sums.{most_below-same, sum_below-same}
 use Rattle.round_tables.specs.Histories.{BirthsRise, StandsBeside}
 use Rattle.model.specs.Figures.{writes_of_owner, generation_at, staleness_of, staleness_at, is_left_over, leftover_at, stale_count, rounds_behind, node_figures}
 use Rattle.version_lags.specs.Missed.{base_of, IsNumberAt, number_staleness, IsLastNumber}
@@ -139,10 +140,6 @@ module _ (round : ℕ) (tables : List Table) (lists : List OwnerListView) (are :
   sum_below-joined f a zero = let same : a ≡ a + 0 = omega arith in omega (arith, ap (λ m. sum_below m f) same)
   sum_below-joined f a (suc b) = let same : suc (a + b) ≡ a + suc b = omega arith in omega (arith, sum_below-joined f a b, ap (λ m. sum_below m f) same)
 
-  most_below-alike : (f g : ℕ → ℕ) (m : ℕ) → ((k : ℕ) → f k ≡ g k) → most_below m f ≡ most_below m g
-  most_below-alike f g zero same = refl
-  most_below-alike f g (suc m) same = omega (arith, same m, most_below-alike f g m same)
-
   moved : (f : ℕ → ℕ) (from a : ℕ) (k : ℕ) → f (from + (a + k)) ≡ f (from + a + k)
   moved f from a k = ap f {x = from + (a + k)} {y = from + a + k} (omega arith)
 
@@ -152,7 +149,7 @@ module _ (round : ℕ) (tables : List Table) (lists : List OwnerListView) (are :
     written = omega (arith, one.written);
     most =
         sym (most_below-joined (λ i. behind (from + i) r k) a b)
-        ∙ ap (max (most_below a (λ i. behind (from + i) r k))) (most_below-alike _ _ b (λ i. moved (λ p. behind p r k) from a i))
+        ∙ ap (max (most_below a (λ i. behind (from + i) r k))) (most_below-same _ _ b (λ i lt. moved (λ p. behind p r k) from a i))
         ∙ (λ i. max (one.most i) (other.most i))
         ∙ lag-least round (list r) (writes r) k (births r) x y one.written other.written;
   }
@@ -164,16 +161,13 @@ module _ (round : ℕ) (tables : List Table) (lists : List OwnerListView) (are :
     least_is = record { size = lasts.size; each = λ r k in_r in_k. least-none from r k (cell last n r k) (lasts.each r k in_r in_k) };
   }
 
-  sum_more : (f : ℕ → ℕ) (count x y : ℕ) → x ≡ sum_below count f → y ≡ f count → x + y ≡ sum_below (count + 1) f
-  sum_more f count x y is now = (λ i. is i + now i) ∙ ap (λ m. sum_below m f) {x = suc count} {y = count + 1} (omega arith)
-
   pub piece-more : (from count stale leftover x y : ℕ) (old new cells last : List ℕ) → from + count < n → AreLastNumbers tables lists last → AreNumbersAt tables lists (from + count) cells
       → x ≡ total_of n keys (λ r k. nat_lt (cell cells n r k) (cell last n r k)) → y ≡ total_of n keys (λ r k. nat_lt 0 (cell cells n r k) && nat_le (cell cells n r k) (base_of (list r)))
       → ArePlanesChanged (λ r k a b. b ≡ min a (cell cells n r k)) n keys old new
       → IsPiece round tables lists from count stale leftover old → IsPiece round tables lists from (count + 1) (stale + x) (leftover + y) new
   piece-more from count stale leftover x y old new cells last in_p lasts at x_is y_is changed before = record {
-    stale_is = sum_more (λ i. (node_figures round tables (lists_in lists) (from + i)).stale) count stale x before.stale_is (x_is ∙ sym (node_stale (from + count) in_p cells at last lasts));
-    leftover_is = sum_more (λ i. (node_figures round tables (lists_in lists) (from + i)).leftover) count leftover y before.leftover_is (y_is ∙ sym (node_left (from + count) in_p cells at));
+    stale_is = sum_next (λ i. (node_figures round tables (lists_in lists) (from + i)).stale) count stale x before.stale_is (x_is ∙ sym (node_stale (from + count) in_p cells at last lasts));
+    leftover_is = sum_next (λ i. (node_figures round tables (lists_in lists) (from + i)).leftover) count leftover y before.leftover_is (y_is ∙ sym (node_left (from + count) in_p cells at));
     least_is = record {
       size = changed.size ∙ before.least_is.size;
       each = λ r k in_r in_k.

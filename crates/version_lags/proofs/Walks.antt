@@ -14,7 +14,7 @@ use Rattle.model.specs.Figures.{rounds_behind}
 use Rattle.version_lags.specs.Missed.{base_of, number_staleness, IsMissed, IsLastNumber, NonePassUpto}
 use Rattle.owner_writes.specs.Numbered.{IsRoundMark}
 use Rattle.version_lags.specs.Pieces.{MayWalk, WalksFrom, most_lag}
-use Rattle.owner_writes.proofs.Numbers.{write_from-at, numbered-within}
+use Rattle.owner_writes.proofs.Numbers.{numbered-placed, numbered-within}
 use Rattle.version_lags.proofs.Missed.{numbers-born, missed_cases}
 
 most_below-le : (f : ℕ → ℕ) (m x : ℕ) → ((k : ℕ) → k < m → f k ≤ x) → most_below m f ≤ x
@@ -102,8 +102,14 @@ module _ (v : OwnerListView) (least : ℕ → ℕ) where
               ∙ ap (λ (x : Entry). round - x.born + 1) (same_Some found.1.0 e (sym missed.written ∙ ap (write_numbered all) same ∙ is))
         ]
 
+-- no write is of a later round
+born-upto : {round most nodes keys owner : ℕ} {v : OwnerListView} {least : List ℕ} → MayWalk round most nodes keys owner v least → (m : ℕ) (e : Entry) → write_numbered (entries_of v) m ≡ Some e → e.born ≤ round
+born-upto {round = round} {v = v} may m e is =
+    let at = numbered-placed (entries_of v) m e is in
+    subst (λ (x : Entry). x.born ≤ round) (at.there e) (may.born at.place e at.within)
+
 -- what a walk reads
-module _ (round most nodes keys owner first : ℕ) (v : OwnerListView) (least : List ℕ) (walks : WalksFrom round most nodes keys owner first v least) (place : ℕ) (e : Entry) (current : base_of v ≤ place) (is : write_numbered (entries_of v) (place + 1) ≡ Some e) where
+module _ {round most nodes keys owner first : ℕ} {v : OwnerListView} {least : List ℕ} (walks : WalksFrom round most nodes keys owner first v least) (place : ℕ) (e : Entry) (current : base_of v ≤ place) (is : write_numbered (entries_of v) (place + 1) ≡ Some e) where
   pub walk-keyed : e.key < keys
   walk-keyed = walks.may.keyed (place + 1) e is (omega (arith, current))
 
@@ -111,9 +117,7 @@ module _ (round most nodes keys owner first : ℕ) (v : OwnerListView) (least : 
   walk-index = omega (arith, walks.may.size, walks.may.among, mul-le-mul_right {m = e.key + 1} {n = keys} nodes (omega (arith, walk-keyed)))
 
   pub walk-born : e.born ≤ round
-  walk-born =
-      let at = write_from-at (entries_of v) place e e (ap (write_numbered (entries_of v)) {x = suc place} {y = place + 1} (omega arith) ∙ is) in
-      subst (λ (x : Entry). x.born ≤ round) at.1 (walks.may.born place e at.0)
+  walk-born = born-upto walks.may (place + 1) e is
 
 -- where all behind the number was written after a round, no copy has been behind for longer than since then
 pub lag-since : (round most nodes keys owner first : ℕ) (v : OwnerListView) (least : List ℕ) → WalksFrom round most nodes keys owner first v least
@@ -129,21 +133,12 @@ lag-since round most nodes keys owner first v least walks since mark greatest ma
               arith,
               ap rounds_behind found.1.1.1,
               marked.above found.0 found.1.0 (omega (arith, past)) missed.written (omega (arith, upto_first, past)),
-              born-upto found.0 found.1.0 missed.written,
+              born-upto walks.may found.0 found.1.0 missed.written,
               recent,
             )
             | inr before ↦ absurd (omega (arith, missed.over, walks.start found.0 found.1.0 missed.written missed.current before, ap (cell least nodes owner) missed.keyed))
           ]
     ])
-  where
-    born-upto : (m : ℕ) (e : Entry) → write_numbered (entries_of v) m ≡ Some e → e.born ≤ round
-    born-upto zero e is = absurd (nothing e is)
-      where
-        nothing : (x : Entry) → write_numbered (entries_of v) zero ≡ Some x → ⊥
-        nothing x h = cc
-    born-upto (suc place) e is =
-        let at = write_from-at (entries_of v) place e e is in
-        subst (λ (x : Entry). x.born ≤ round) at.1 (walks.may.born place e at.0)
 
 -- an owner's list among those of all
 pub walks-from : (round most nodes keys r first : ℕ) (lists : List OwnerListView) (v : OwnerListView) (least last : List ℕ) → v ≡ list_of_owner lists r → MayWalk round most nodes keys r (list_of_owner lists r) least

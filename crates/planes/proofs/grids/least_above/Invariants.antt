@@ -1,7 +1,9 @@
-use Rattle.std.proofs.Common.{◌≤◌, slice_index, map}
-use Rattle.planes.specs.Planes.{cell, HasEach, IsNextAbove}
+use Rattle.std.proofs.Common.{nat_lt, slice_index, map}
+use Rattle.planes.specs.Planes.{cell, HasEach}
+use Rattle.planes.proofs.Behind.{IsLeastPassing}
 use Rattle.planes.proofs.grids.least_above.Given as goal
 
 abbrev pub invariant-loop-key : goal.invariant-loop-key
 invariant-loop-key g l =
-    HasEach l.nodes (λ r n. (n ≤ g.N.Number.most) × IsNextAbove g.N.Number.most (cell (map g.N.Number.number l.cells) l.nodes) l.key r (slice_index (map g.N.Number.number l.low) r) n) (map g.N.Number.number l.all)
+    let cells = cell (map g.N.Number.number l.cells) l.nodes in
+    HasEach l.nodes (λ r n. IsLeastPassing g.N.Number.most (cells r) (λ k. nat_lt (slice_index (map g.N.Number.number l.low) r) (cells r k)) l.key n) (map g.N.Number.number l.all)

@@ -1,10 +1,15 @@
-use Rattle.std.proofs.Common.{rules, slice_index, map}
-use Rattle.planes.proofs.Elementwise.{changed-other, number-at}
+use Rattle.std.proofs.Common.{◌<◌, min, slice_index, arith, length, map, rules}
+use Rattle.std.proofs.lemmas.List.{length-map}
+use Rattle.planes.proofs.Elementwise.{made-as, number-at}
 use Rattle.planes.proofs.lags.lower.Goals as goal
 
 pub returns : goal.returns
 returns g c = record {
-  least =
-      changed-other _ _ _ _ (λ r x y is. is.lowered)
-      (c.lower_to.ensures.least (slice_index (map g.N.Number.number c.args.plane.now)) (λ r n lt answer. search (rules, number-at g.N.Number.number c.args.plane.now r)));
+  least = record {
+    size = c.change.ensures.size;
+    each = λ r lt.
+        let number = g.N.Number.number in
+        let within : r < length c.args.plane.now = omega (arith, lt, length-map c.args.least.now number, c.requires.plane) in
+        made-as number _ r _ _ (λ x. min x (slice_index (map number c.args.plane.now) r)) (c.change.ensures.each r lt) (λ n m made. search (rules, number-at number c.args.plane.now r));
+  };
 }

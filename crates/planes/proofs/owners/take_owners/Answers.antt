@@ -2,7 +2,7 @@ use Rattle.std.proofs.Common.{ℕ, ◌+◌, ◌≤◌, slice_index, sym, subst, 
 use Rattle.std.proofs.lemmas.Bool.{ltb-false}
 use Rattle.std.proofs.lemmas.List.{length-map}
 use Rattle.planes.specs.Elementwise.{AreChangedUpto}
-use Rattle.planes.specs.Planes.{cell, number_taken, numbers_taken, ArePlanesChanged, IsGrid, IsRaised}
+use Rattle.planes.specs.Planes.{cell, number_taken, numbers_taken, ArePlanesChanged, IsRaised}
 use Rattle.planes.proofs.Elementwise.{changed_none, number-at, left_next, written_next}
 use Rattle.planes.proofs.ByOwner.{owners_changed, owner-waits, owners-none, owners-next, owners-stay, owners-all, raised-same, raised-stays, taken-passed}
 use Rattle.planes.proofs.owners.take_owners.Goals as goal
@@ -45,7 +45,7 @@ loop-owner-preserved g c =
           record {
             cells =
                 subst (λ xs. ArePlanesChanged (owners_changed to (owner + 1)) c.args.sent.nodes c.args.sent.keys (map number c.args.cells.now) (map number xs)) (sym w.cells-is)
-                (owners-stay to c.args.sent.nodes c.args.sent.keys (map number c.args.cells.now) owner (map number c.loop-owner.cells) c.loop-owner.invariant.cells none);
+                (owners-stay to c.args.sent.nodes c.args.sent.keys (map number c.args.cells.now) owner (map number c.loop-owner.cells) c.loop-owner.invariant.cells (λ k x lt. none k x));
             greatest =
                 subst (λ xs. AreChangedUpto raised (map number c.args.greatest.now) (map number xs) (owner + 1)) (sym w.greatest-is)
                 (left_next raised (map number c.args.greatest.now) (map number c.loop-owner.greatest) owner c.loop-owner.invariant.greatest
@@ -60,15 +60,6 @@ loop-owner-init g c =
       cells = owners-none _ c.args.sent.nodes c.args.sent.keys (map g.N.Number.number c.args.cells.now);
       greatest = changed_none _ (map g.N.Number.number c.args.greatest.now);
     }
-
-pub take_owner-requires-clause-grid : goal.take_owner-requires-clause-grid
-take_owner-requires-clause-grid g c = subst (IsGrid c.args.sent.nodes c.args.sent.keys) (sym c.loop-owner.auto.cells) c.requires.may.grid
-
-pub take_owner-requires-clause-owner : goal.take_owner-requires-clause-owner
-take_owner-requires-clause-owner g c = c.loop-owner-test.true
-
-pub take_owner-requires-clause-sent : goal.take_owner-requires-clause-sent
-take_owner-requires-clause-sent g c = c.requires.may.sent_count ∙ sym c.loop-owner.auto.cells
 
 pub take_owner-requires-clause-covered : goal.take_owner-requires-clause-covered
 take_owner-requires-clause-covered g c k lt =

@@ -24,22 +24,14 @@ returns-then-widen g c keys walks =
 
 pub bounds-least-write : goal.bounds-least-write
 bounds-least-write g c =
-    let w = c.requires in
-    omega (
-      arith,
-      walk-index c.args.round g.N.Number.most c.args.nodes w.0 c.args.owner (g.N.Number.number c.args.first) c.args.list.now (map g.N.Number.number c.args.least.now) w.1 c.loop-place.place (entry_kept c.in-Some.write.now)
-          (omega (arith, c.loop-place.auto.place, c.max-from.ensures, c.earlier_count.ensures)) c.in-Some.ensures,
-      length-map c.args.least.now g.N.Number.number,
-    )
+    let current : base_of c.args.list.now ≤ c.loop-place.place = omega (arith, c.loop-place.auto.place, c.max-from.ensures, c.earlier_count.ensures) in
+    omega (arith, walk-index c.requires.1 c.loop-place.place (entry_kept c.in-Some.write.now) current c.in-Some.ensures, length-map c.args.least.now g.N.Number.number)
 
 pub offset_bounds-least-write : goal.offset_bounds-least-write
 offset_bounds-least-write g c = omega (arith, bounds-least-write g c)
 
 pub overflow_sub-result : goal.overflow_sub-result
-overflow_sub-result g c =
-    let w = c.requires in
-    walk-born c.args.round g.N.Number.most c.args.nodes w.0 c.args.owner (g.N.Number.number c.args.first) c.args.list.now (map g.N.Number.number c.args.least.now) w.1 c.loop-place.place (entry_kept c.in-Some.write.now)
-    (omega (arith, c.loop-place.auto.place, c.max-from.ensures, c.earlier_count.ensures)) c.in-Some.ensures
+overflow_sub-result g c = walk-born c.requires.1 c.loop-place.place (entry_kept c.in-Some.write.now) (omega (arith, c.loop-place.auto.place, c.max-from.ensures, c.earlier_count.ensures)) c.in-Some.ensures
 
 pub returns-then-widen-place : goal.returns-then-widen-place
 returns-then-widen-place g c keys walks =
@@ -49,10 +41,10 @@ returns-then-widen-place g c keys walks =
     let place = c.loop-place.place in
     let is : write_numbered (entries_of v) (place + 1) ≡ Some e = c.in-Some.ensures in
     let current : base_of v ≤ place = omega (arith, c.loop-place.auto.place, c.max-from.ensures, c.earlier_count.ensures) in
-    let index = walk-index c.args.round g.N.Number.most c.args.nodes keys c.args.owner (g.N.Number.number c.args.first) v numbers walks place e current is in
+    let index = walk-index walks place e current is in
     let here = number-at g.N.Number.number c.args.least.now (e.key * c.args.nodes + c.args.owner) c.index-least-write.result (omega (arith, index, length-map c.args.least.now g.N.Number.number)) c.index-least-write.is in
     sym (walk-found v (cell numbers c.args.nodes c.args.owner) c.args.round keys walks.may.writes walks.may.written walks.may.in_order place e c.loop-place.invariant current is
-    (walk-keyed c.args.round g.N.Number.most c.args.nodes keys c.args.owner (g.N.Number.number c.args.first) v numbers walks place e current is)
+    (walk-keyed walks place e current is)
     (omega (arith, c.if-widen-place.true, c.widen-in-Some.ensures, here)))
 
 pub loop-place-preserved : goal.loop-place-preserved
@@ -67,7 +59,7 @@ loop-place-preserved g c =
           let x = entry_kept w.in-Some.write.now in
           let there : write_numbered (entries_of v) (place + 1) ≡ Some x = subst Answers w.in-Some.is c.numbered.ensures in
           let same : x ≡ e = same_Some x e (sym there ∙ is) in
-          let index = walk-index c.args.round g.N.Number.most c.args.nodes c.requires.0 c.args.owner (g.N.Number.number c.args.first) v numbers c.requires.1 place x current there in
+          let index = walk-index c.requires.1 place x current there in
           let here = number-at g.N.Number.number c.args.least.now (x.key * c.args.nodes + c.args.owner) w.index-least-write.result (omega (arith, index, length-map c.args.least.now g.N.Number.number)) w.index-least-write.is in
           omega (arith, w.if-widen-place.false, w.widen-in-Some.ensures, here, ap (λ (y : Entry). cell numbers c.args.nodes c.args.owner y.key) same)
       | in_default w ↦ absurd (elim c.numbered.result as (λ r. ((x : Bor Kept) → r ≡ Some x → ⊥) → Answers r → ⊥) [

@@ -52,17 +52,6 @@ loop-at-preserved g c =
     (counts-more nodes keys cells bases last c.args.from c.loop-at.at c.loop-at.stale c.loop-at.leftover c.from-stale.result c.from-leftover.result (map number items) (map number new) (map number here.now) c.requires.numbers.grids lt read
     (c.from-stale.ensures ∙ c.count_behind-behind.ensures.count) (c.from-leftover.ensures ∙ c.left_over.ensures) changed c.loop-at.invariant)
 
-pub count_behind-behind-requires-clause-grid : goal.count_behind-behind-requires-clause-grid
-count_behind-behind-requires-clause-grid g c =
-    subst (IsGrid c.args.self.now.nodes c.args.self.now.keys) (sym (ap length c.deref_mut.ensures.value ∙ sym (length-map c.loop-at.least.items g.N.Number.number) ∙ c.loop-at.invariant.size)) c.requires.numbers.grids.grid
-
-pub count_behind-behind-requires-clause-last : goal.count_behind-behind-requires-clause-last
-count_behind-behind-requires-clause-last g c =
-    sym (length-map c.args.self.now.last.now g.N.Number.number) ∙ sym (ap length c.deref_mut.ensures.value ∙ sym (length-map c.loop-at.least.items g.N.Number.number) ∙ c.loop-at.invariant.size)
-
-pub left_over-requires-clause-bases : goal.left_over-requires-clause-bases
-left_over-requires-clause-bases g c = sym (length-map c.args.self.now.bases.now g.N.Number.number) ∙ c.requires.numbers.grids.based
-
 pub returns-clause-piece : goal.returns-clause-piece
 returns-clause-piece g c =
     let number = g.N.Number.number in

@@ -1,0 +1,6 @@
+use Rattle.std.proofs.Common.{◌≡◌, slice_index, map}
+use Rattle.planes.specs.Planes.{cell, count_above, HasEach}
+use Rattle.planes.proofs.grids.counts_above.Given as goal
+
+abbrev pub invariant-loop-key : goal.invariant-loop-key
+invariant-loop-key g l = HasEach l.nodes (λ r n. n ≡ count_above (cell (map g.N.Number.number l.cells) l.nodes) l.key r (slice_index (map g.N.Number.number l.low) r)) (map g.N.Number.number l.all)

@@ -4,12 +4,11 @@ use Rattle.std.proofs.Common.{◌≡◌, ◌≢◌, ℕ, zero, suc, ◌<◌, ◌
 use Rattle.std.specs.List.{range_with_len}
 use Rattle.std.proofs.lemmas.Bool.{cases_lt, eq-eqb, ne_eqb}
 use Rattle.std.proofs.lemmas.List.{get_or_past}
+use Rattle.std.proofs.lemmas.Option.{none-some}
 use Rattle.std.proofs.lemmas.List.FromFn.{get_or-map-range_with_len, length-map-range_with_len}
 use Rattle.bench_types.specs.declared.entries.Entry.{Entry}
-use Rattle.bench_types.specs.declared.limits.TheConstants.{MOST_NODES, LEAST_KEYS, MOST_KEYS}
-use Rattle.model.specs.Table.{Table, entry_at, empty_table, IsProper}
-use Rattle.model.proofs.TableLaws.{same_table, entry_at-empty_table}
-use Rattle.model.proofs.ProperLaws.{proper-empty_table}
+use Rattle.model.specs.Table.{Table, entry_at, IsProper}
+use Rattle.model.proofs.TableLaws.{same_table}
 use Rattle.model.specs.inner.Held.{entry_in}
 use Rattle.model.proofs.InLists.{get-held_by_lists}
 use Rattle.delta_plans.specs.Offers.{HasCells}
@@ -29,10 +28,7 @@ entry_in-append_none (x ∷ xs) ys key none = elim (eqb x.key key) as (λ b. con
     some h = cc
 
 entry_in-append_some : (xs ys : List Entry) (key : ℕ) (e : Entry) → entry_in xs key ≡ Some e → entry_in (xs ++ ys) key ≡ Some e
-entry_in-append_some [] ys key e is = absurd (none is)
-  where
-    none : None ≡ Some e → ⊥
-    none h = cc
+entry_in-append_some [] ys key e is = absurd (none-some e is)
 entry_in-append_some (x ∷ xs) ys key e is = elim (eqb x.key key) as (λ b. cond b (Some x) (entry_in xs key) ≡ Some e → cond b (Some x) (entry_in (xs ++ ys) key) ≡ Some e) [
   | true ↦ λ here. here
   | false ↦ λ later. entry_in-append_some xs ys key e later
@@ -121,24 +117,6 @@ cells_table lists cells is proper are has =
         | inl in_keys ↦ has_cells lists is.node is.nodes is.keys is.generation cells are owner key in_nodes in_keys ∙ sym (has owner key in_nodes in_keys)
       ]
     ]
-
--- cells of which all are 0 are those of an empty table
-pub no_cells : (lists : ℕ → List Entry) (node nodes keys : ℕ) (cells : Cells) → node < nodes → nodes ≤ MOST_NODES → LEAST_KEYS ≤ keys → keys ≤ MOST_KEYS → ((owner key : ℕ) → owner < nodes → key < keys → cells owner key ≡ 0)
-    → AreNumbers lists nodes keys cells × (table_of_cells lists node nodes keys 0 cells ≡ empty_table node nodes keys)
-no_cells lists node nodes keys cells in_nodes few some many none = (
-  are,
-  cells_table lists cells (empty_table node nodes keys) (proper-empty_table node nodes keys in_nodes few some many) are
-      (λ owner key below in_keys. entry_at-empty_table node nodes keys owner key ∙ sym (ap (write_numbered (lists owner)) (none owner key below in_keys))),
-)
-  where
-    are : AreNumbers lists nodes keys cells
-    are = record {
-      written = λ owner key below in_keys. omega (arith, none owner key below in_keys);
-      keyed = λ owner key e below in_keys is. absurd (nothing owner e (sym (ap (write_numbered (lists owner)) (none owner key below in_keys)) ∙ is));
-    }
-      where
-        nothing : (owner : ℕ) (e : Entry) → None ≡ Some e → ⊥
-        nothing owner e h = cc
 
 -- what is seen of a table, of which it is known that it is what lies there
 abbrev pub seen : {A : Type 0} {x y : A} → x ≡ y → A

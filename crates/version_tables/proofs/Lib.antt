@@ -4,6 +4,7 @@ pub mod Delivered
 pub mod Laid
 pub mod TakenCells
 pub mod Fitting
+pub mod Generations
 pub mod OwnCalls
 pub mod NextWrites
 pub mod Standing

@@ -1,5 +1,5 @@
 -- Tables that take all that the other has above their own greatest numbers exchange as the model's do.
--- Serves `exchange_all`.
+-- Serves `exchange`.
 use Rattle.std.proofs.Common.{◌≡◌, ℕ, zero, suc, ◌+◌, ◌-◌, ◌*◌, ◌<◌, ◌≤◌, ◌&&◌, true, false, cond, min, max, nat_lt, nat_le, List, length, get_or, map, ◌⊎◌, inl, inr, refl, sym, ap, ◌∙◌, subst, arith}
 use Rattle.std.specs.Prelude.{Some, None}
 use Rattle.std.proofs.Math.Bool.{and-true}

@@ -1,11 +1,10 @@
 -- What an owner writes next stands under the number behind all that it wrote, above what its table holds of it.
 -- Serves `write`.
-use Rattle.std.proofs.Common.{◌≡◌, ℕ, zero, suc, ◌+◌, ◌-◌, ◌<◌, ◌≤◌, List, length, get_or, Some, None, inl, inr, refl, sym, ap, ◌∙◌, subst, arith}
+use Rattle.std.proofs.Common.{◌≡◌, ℕ, zero, suc, ◌+◌, ◌-◌, ◌<◌, ◌≤◌, List, length, Some, inl, inr, sym, ap, ◌∙◌, subst, arith}
 use Rattle.std.specs.Prelude.{slice_index}
 use Rattle.std.proofs.lemmas.Bool.{cases_lt}
-use Rattle.std.proofs.lemmas.List.{length-append, get_or_append_left, get_or-append_right}
-use Rattle.std.proofs.lemmas.List.Elements.{All-get_or}
-use Rattle.std.proofs.lemmas.Option.{same_Some}
+use Rattle.std.proofs.lemmas.List.{length-append}
+use Rattle.std.proofs.lemmas.Option.{none-some, same_Some}
 use Rattle.bench_types.specs.declared.entries.Entry.{Entry}
 use Rattle.bench_types.specs.Mark.{mark_of, mark_held, IsUpTo}
 use Rattle.model.specs.Table.{Table, entry_at, greatest_mark, greatest_version}
@@ -17,25 +16,9 @@ use Rattle.version_tables.specs.Views.{VersionTableView, table_in, IsKept}
 use Rattle.version_tables.specs.Writes.{IsNextWrite}
 use Rattle.version_tables.specs.inner.Histories.{IsBeginning, IsWriteUnder}
 use Rattle.version_tables.specs.Laid.{IsFirst}
+use Rattle.version_tables.proofs.Generations.{current-at, earlier-at}
 use Rattle.version_tables.proofs.Laid.{has_cells}
-use Rattle.owner_writes.proofs.Numbers.{numbered-some, write_from-at}
-
-nothing : (e : Entry) → None ≡ Some e → ⊥
-nothing e h = cc
-
--- a write of an earlier generation, and one of the owner's own
-module _ (list : OwnerListView) (are : AreWrites list) (place : ℕ) (e : Entry) (is : write_from (entries_of list) place ≡ Some e) where
-  earlier-at : place < length list.earlier → e.generation < list.generation
-  earlier-at lt =
-      subst (λ (d : Entry). d.generation < list.generation) (sym (get_or_append_left list.earlier list.current e place lt) ∙ (write_from-at (entries_of list) place e e is).1)
-      (All-get_or (λ (d : Entry). d.generation < list.generation) list.earlier place e lt are.earlier)
-
-  current-at : length list.earlier ≤ place → (e.generation ≡ list.generation) × (e.version ≡ place - length list.earlier + 1)
-  current-at le =
-      let at = write_from-at (entries_of list) place e e is in
-      let here : get_or list.current (place - length list.earlier) e ≡ e = sym (get_or-append_right list.earlier list.current (length list.earlier) place e refl le) ∙ at.1 in
-      let next = are.current (place - length list.earlier) e (omega (arith, at.0, le, length-append list.earlier list.current)) in
-      (sym (ap (λ (d : Entry). d.generation) here) ∙ next.0, sym (ap (λ (d : Entry). d.version) here) ∙ next.1 ∙ omega arith)
+use Rattle.owner_writes.proofs.Numbers.{numbered-some}
 
 module _ (written : ℕ → List Entry) (v : VersionTableView) (kept : IsKept written v) (list : OwnerListView) (are : AreWrites list) (begins : IsBeginning (entries_of list) (written v.node)) (generation : v.generation ≡ list.generation)
     (greatest : greatest_version (table_in written v) v.node ≡ length list.current) (most key value born : ℕ) (under : IsWriteUnder written most v.node (length (entries_of list) + 1) (next_entry list key value born)) where
@@ -78,7 +61,7 @@ module _ (written : ℕ → List Entry) (v : VersionTableView) (kept : IsKept wr
 
     same : before.0 ≡ there.0
     same =
-        let at = current-at list are (length list.earlier + (there.0.version - 1)) before.0 before.1 (omega arith) in
+        let at = current-at list are m before.0 before.1 (omega arith) in
         let one : before.0.generation ≡ there.0.generation = at.0 ∙ sym generation ∙ sym (kept.proper.own k there.0 holds) in
         let two : before.0.version ≡ there.0.version = omega (arith, at.1, some) in
         under.apart m n before.0 there.0 (sym (begins m within) ∙ before.1) there.1 (λ i. record { generation = one i; version = two i })
@@ -101,12 +84,12 @@ module _ (written : ℕ → List Entry) (v : VersionTableView) (kept : IsKept wr
   -- no earlier write is this one
   earlier-other : (place : ℕ) (d : Entry) → write_from (entries_of list) place ≡ Some d → place < length (entries_of list) → d ≡ next_entry list key value born → ⊥
   earlier-other place d is lt same = elim (cases_lt place (length list.earlier)) [
-    | inl in_earlier ↦ omega (arith, earlier-at list are place d is in_earlier, ap (λ (x : Entry). x.generation) same)
-    | inr in_current ↦ omega (arith, (current-at list are place d is (omega (arith, in_current))).1, ap (λ (x : Entry). x.version) same, lt, length-append list.earlier list.current)
+    | inl in_earlier ↦ omega (arith, earlier-at list are (suc place) d is (omega (arith, in_earlier)), ap (λ (x : Entry). x.generation) same)
+    | inr in_current ↦ omega (arith, (current-at list are (suc place) d is (omega (arith, in_current))).1, ap (λ (x : Entry). x.version) same, lt, length-append list.earlier list.current)
   ]
 
   first : IsFirst (written v.node) number
-  first zero lt same = nothing (next_entry list key value born) (same ∙ under.is)
+  first zero lt same = none-some (next_entry list key value born) (same ∙ under.is)
   first (suc place) lt same =
       let at = numbered-some (entries_of list) (suc place) (omega arith) (omega (arith, lt)) in
       earlier-other place at.0 at.1 (omega (arith, lt)) (same_Some at.0 (next_entry list key value born) (sym at.1 ∙ begins (suc place) (omega (arith, lt)) ∙ same ∙ under.is))

@@ -1,15 +1,13 @@
 -- A node's own calls on its table: its numbers lie as those of the table that the model has then.
 -- Serves the functions of `owners` and `tables` and `HistoryCalls`.
-use Rattle.std.proofs.Common.{◌≡◌, ◌≢◌, ℕ, ◌+◌, ◌*◌, ◌<◌, ◌≤◌, ◌==◌, cond, List, length, get_or, set, Some, None, ◌⊎◌, inl, inr, sym, ap, ◌∙◌, subst, arith}
+use Rattle.std.proofs.Common.{◌≡◌, ◌≢◌, ℕ, ◌+◌, ◌*◌, ◌<◌, ◌≤◌, ◌==◌, cond, List, length, get_or, set, Some, ◌⊎◌, inl, inr, sym, ap, ◌∙◌, subst, arith}
 use Rattle.std.specs.Prelude.{slice_index}
 use Rattle.std.proofs.Math.Nat.{mul-le-mul_right}
 use Rattle.std.proofs.lemmas.Bool.{cases_lt, cases_eq, eq-eqb, ne_eqb}
 use Rattle.std.proofs.lemmas.List.{get_or-set_same, get_or-set_other, length-set, get_or_past}
-use Rattle.std.proofs.lemmas.Option.{same_Some}
+use Rattle.std.proofs.lemmas.Option.{none-some, same_Some}
 use Rattle.bench_types.specs.declared.entries.Entry.{Entry}
 use Rattle.bench_types.specs.declared.limits.TheConstants.{MOST_NODES, LEAST_KEYS, MOST_KEYS}
-use Rattle.bench_types.specs.Mark.{mark_of, IsBefore}
-use Rattle.bench_types.proofs.Marks.{not_both, up_to-itself}
 use Rattle.model.specs.Table.{Table, entry_at, empty_table, with_own_write, without_others, without_all, IsProper}
 use Rattle.model.proofs.TableLaws.{entry_at-own_write, entry_at-own_write_other, entry_at-without_others_own, entry_at-without_others_other, entry_at-without_all, entry_at-empty_table}
 use Rattle.model.proofs.ProperLaws.{proper-empty_table, proper-with_own_write, proper-without_others, proper-without_all}
@@ -18,14 +16,9 @@ use Rattle.planes.specs.Planes.{cell, ArePlanesChanged, HasEach}
 use Rattle.planes.specs.Elementwise.{AreChanged}
 use Rattle.version_tables.specs.Views.{VersionTableView, table_in, IsKept}
 use Rattle.version_tables.specs.Writes.{IsNextWrite, HasOwnWrite}
-use Rattle.version_tables.specs.inner.Histories.{IsBeginning}
 use Rattle.version_tables.specs.Laid.{table_of_cells, AreNumbers, IsFirst, IsGreatest, IsVersionTable}
-use Rattle.owner_writes.specs.Numbered.{IsHistory}
 use Rattle.version_tables.proofs.Laid.{has_cells, cells_table}
-use Rattle.owner_writes.proofs.Numbers.{numbered-some, numbered-within, numbers-before}
-
-nothing : (e : Entry) → None ≡ Some e → ⊥
-nothing e h = cc
+use Rattle.owner_writes.proofs.Numbers.{numbered-within}
 
 -- numbers of which all but an owner's are put to 0
 pub kept-one : (old mid : List ℕ) (owner : ℕ) → owner < length old → AreChanged (λ r x y. y ≡ 0) old mid → AreChanged (λ r x y. y ≡ cond (r == owner) x 0) old (set mid owner (get_or old owner 0))
@@ -75,7 +68,7 @@ record IsGood (written : ℕ → List Entry) (owner key number : ℕ) : Type 0 w
 good_zero : (written : ℕ → List Entry) (owner key : ℕ) → IsGood written owner key 0
 good_zero written owner key = record {
   within = omega arith;
-  keyed = λ e is. absurd (nothing e is);
+  keyed = λ e is. absurd (none-some e is);
   first = λ m lt. absurd (omega (arith, lt));
 }
 
@@ -335,16 +328,3 @@ module _ (written : ℕ → List Entry) (v : VersionTableView) (kept : IsKept wr
 
         is_key : key ≡ d.key
         is_key = sym (ap (λ (x : Entry). x.key) write.next) ∙ ap (λ (x : Entry). x.key) same
-
--- a write that was made stands under its number first
-pub first-written : (some all : List Entry) (number : ℕ) → IsBeginning some all → IsHistory some → number ≤ length some → IsFirst all number
-first-written some all number begins history within m lt same = elim (cases_lt 0 m) [
-  | inr none ↦
-      let there = numbered-some some number (omega (arith, lt)) within in
-      absurd (nothing there.0 (ap (write_numbered all) {x = 0} {y = m} (omega (arith, none)) ∙ same ∙ sym (begins number within) ∙ there.1))
-  | inl above ↦
-      let at = numbered-some some m above (omega (arith, lt, within)) in
-      let there = numbered-some some number (omega (arith, lt)) within in
-      let one : at.0 ≡ there.0 = same_Some at.0 there.0 (sym at.1 ∙ begins m (omega (arith, lt, within)) ∙ same ∙ sym (begins number within) ∙ there.1) in
-      absurd (not_both (mark_of there.0) (mark_of there.0) (subst (λ x. IsBefore (mark_of x) (mark_of there.0)) one (numbers-before some history m number at.0 there.0 at.1 there.1 lt)) (up_to-itself (mark_of there.0)))
-]

@@ -1,8 +1,9 @@
 -- A table that took a delta by marks is the model's table that took its items.
 -- Serves `ExchangedViews` and `Merged`.
-use Rattle.std.proofs.Common.{◌≡◌, ℕ, ◌<◌, ◌≤◌, Bool, true, false, max, nat_lt, nat_le, List, length, Some, None, ◌⊎◌, inl, inr, refl, sym, ap, ◌∙◌, subst, arith}
+use Rattle.std.proofs.Common.{◌≡◌, ℕ, ◌<◌, ◌≤◌, Bool, true, false, max, nat_lt, nat_le, List, length, Some, ◌⊎◌, inl, inr, refl, sym, ap, ◌∙◌, subst, arith}
 use Rattle.std.specs.Prelude.{slice_index}
 use Rattle.std.proofs.lemmas.Bool.{le-ltb, ltb-true, and_left, and_parts}
+use Rattle.std.proofs.lemmas.Option.{none-some}
 use Rattle.bench_types.specs.declared.entries.Entry.{Entry}
 use Rattle.bench_types.specs.declared.exchanges.Rules.{Rules}
 use Rattle.model.specs.Table.{Table, applied, IsProper}
@@ -18,23 +19,17 @@ use Rattle.version_tables.specs.Laid.{table_of_cells, AreNumbers, IsFirst, IsGre
 use Rattle.delta_plans.specs.Offers.{HasCells, AreSent}
 use Rattle.version_tables.specs.inner.Taken.{is_taken, drop_start, number_kept, SendsNoNewer, SendsNewer, AreTakenCells, IsTaken}
 use Rattle.version_tables.proofs.Fitting.{fits-upto, fits-cells}
+use Rattle.version_tables.proofs.Generations.{current-at, generation-upto}
 use Rattle.version_tables.proofs.Laid.{cells_table}
 use Rattle.version_tables.proofs.TakenCells.{taken_cells}
 use Rattle.version_tables.proofs.TakenNumbers.{taken-number, stays-number}
 use Rattle.version_tables.proofs.TakenEntries.{came-lacked}
-use Rattle.version_tables.proofs.TakenByOwner.{generation-of, generation-upto, AreNumbersTaken, are_numbers_taken}
-
-nothing : (e : Entry) → None ≡ Some e → ⊥
-nothing e h = cc
+use Rattle.version_tables.proofs.TakenByOwner.{AreNumbersTaken, are_numbers_taken}
 
 -- numbers above those of earlier generations are of the newest one
 newest_in : (lists : List OwnerListView) (owner : ℕ) → AreWrites (list_of_owner lists owner) → (m n : ℕ) (d e : Entry) → write_numbered (all_writes lists owner) m ≡ Some d → write_numbered (all_writes lists owner) n ≡ Some e → bases_in lists owner < n → d.generation ≤ e.generation
 newest_in lists owner are m n d e is_d is_e lt =
-    let upto = generation-upto (list_of_owner lists owner) are m d is_d in
-    elim (generation-of (list_of_owner lists owner) are n e is_e) [
-      | inl before ↦ absurd (omega (arith, before.0, lt))
-      | inr own ↦ omega (arith, upto, own)
-    ]
+    omega (arith, generation-upto (list_of_owner lists owner) are m d is_d, (current-at (list_of_owner lists owner) are n e is_e lt).0)
 
 module _ (rules : Rules) (rotation : ℕ) (written : ℕ → List Entry) (most : ℕ) (h : HistoriesView)
     (so_far : (owner : ℕ) → IsWrittenSoFar (written owner) most h.rounds (all_writes h.lists owner)) (are : (owner : ℕ) → AreWrites (list_of_owner h.lists owner))
@@ -156,7 +151,7 @@ module _ (rules : Rules) (rotation : ℕ) (written : ℕ → List Entry) (most :
     numbers_here = record {
       written = λ owner key in_nodes in_keys. by_number (λ n. n ≤ length (written owner)) owner key in_nodes in_keys (omega arith) (to_kept.numbers.written owner key in_nodes in_keys)
           (from_kept.numbers.written owner key (in_sender owner in_nodes) (in_sender_keys key in_keys));
-      keyed = λ owner key e in_nodes in_keys. by_number (λ n. write_numbered (written owner) n ≡ Some e → e.key ≡ key) owner key in_nodes in_keys (λ is. absurd (nothing e is)) (to_kept.numbers.keyed owner key e in_nodes in_keys)
+      keyed = λ owner key e in_nodes in_keys. by_number (λ n. write_numbered (written owner) n ≡ Some e → e.key ≡ key) owner key in_nodes in_keys (λ is. absurd (none-some e is)) (to_kept.numbers.keyed owner key e in_nodes in_keys)
           (from_kept.numbers.keyed owner key e (in_sender owner in_nodes) (in_sender_keys key in_keys));
     }
 

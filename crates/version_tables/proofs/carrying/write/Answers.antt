@@ -12,9 +12,9 @@ write_own-requires-clause-next g c =
     let list = list_of_owner lists table.node in
     let number = c.in_ok-number.ensures.number
     ∙ ap (λ owner. length (all_writes lists owner) + 1) c.node-node.ensures.value in
-    let begins = (c.lists-lists.ensures.so_far table.node).begins in
+    let begins = (c.in_ok-number.ensures.known.so_far table.node).begins in
     subst (IsNextWrite g.H.Written.lists table c.args.key) (sym number)
-    (next-write g.H.Written.lists table c.node-node.ensures.kept list (c.lists-lists.ensures.writes table.node) begins
+    (next-write g.H.Written.lists table c.node-node.ensures.kept list (c.in_ok-number.ensures.known.writes table.node) begins
     c.requires.may.beside.generation c.requires.may.beside.greatest g.N.Number.most c.args.key c.args.value c.args.born c.requires.may.may)
 
 pub returns-clause-table : goal.returns-clause-table

@@ -2,7 +2,7 @@ use Rattle.std.proofs.Common.{rules, ◌≡◌, ◌+◌, ◌*◌, ◌<◌, lengt
 use Rattle.std.proofs.lemmas.List.{set-get_or}
 use Rattle.model.specs.calls.OwnerListView.{all_writes, list_of_owner, next_entry, with_write, ListBecomes}
 use Rattle.version_tables.specs.Views.{HistoriesView}
-use Rattle.version_tables.specs.inner.Histories.{AreHistories, IsWriteUnder}
+use Rattle.version_tables.specs.inner.Histories.{AreHistories, AreKnown, IsWriteUnder}
 use Rattle.version_tables.proofs.HistoryCalls.{histories-written, list-becomes, number-here, numbers-set}
 use Rattle.version_tables.proofs.histories.Histories.write.Goals as goal
 
@@ -50,6 +50,9 @@ returns-clause-lists g c =
     subst (λ (h : HistoriesView). ListBecomes owner (with_write (list_of_owner h.lists owner) c.args.key c.args.value c.args.born) h.lists (set lists owner c.write.new.self)) c.self.view_is
     (list-becomes lists owner c.index_mut.result.now c.write.new.self (λ v. with_write v c.args.key c.args.value c.args.born) in_range c.index_mut.ensures.value c.in_ok-write.ensures.ok)
 
+pub returns-clause-known : goal.returns-clause-known
+returns-clause-known g c = subst (AreKnown g.H.Written.lists g.N.Number.most) c.self.view_is (record { so_far = c.self.invariant.so_far; writes = c.self.invariant.are })
+
 pub plus-number-requires : goal.plus-number-requires
 plus-number-requires g c =
     let lists = c.self.inside.lists.items in
@@ -57,12 +60,6 @@ plus-number-requires g c =
     subst (λ n. n < g.N.Number.most)
     (sym (number-here g.N.Number.number c.self.inside.counts.items (length lists) c.args.owner c.index.result.now (λ r n. n ≡ length (all_writes lists r)) c.self.invariant.counted in_range c.index.ensures))
     (c.self.invariant.so_far c.args.owner).few
-
-pub returns-clause-rounds : goal.returns-clause-rounds
-returns-clause-rounds g c = ap (λ (h : HistoriesView). h.rounds) c.self.view_is
-
-pub returns-in_err-write-clause-rounds : goal.returns-in_err-write-clause-rounds
-returns-in_err-write-clause-rounds g c = ap (λ (h : HistoriesView). h.rounds) c.self.view_is
 
 pub invariant_of-self : goal.invariant_of-self
 invariant_of-self g c =

@@ -60,6 +60,13 @@ module _ (all : List Entry) (most rounds : ℕ) (v : OwnerListView) (key value :
   abbrev more : List Entry
   more = entries_of v ++ e ∷ []
 
+  -- what holds of each write before, and of the one more
+  each-more : (P : ℕ → Entry → Type 0) → ((number : ℕ) (d : Entry) → write_numbered w number ≡ Some d → P number d) → P (length w + 1) e → (number : ℕ) (d : Entry) → write_numbered more number ≡ Some d → P number d
+  each-more P before last number d is = elim (numbered-more w e number d is) [
+    | inl old ↦ before number d old.1
+    | inr new ↦ subst (λ n. P n d) (sym new.0) (subst (P (length w + 1)) (sym new.1) last)
+  ]
+
   born-upto : (i : ℕ) (d : Entry) → i < length w → (get_or w i d).born ≤ rounds + 1
   born-upto i d lt =
       let there = write_from-some w i lt in
@@ -85,12 +92,7 @@ module _ (all : List Entry) (most rounds : ℕ) (v : OwnerListView) (key value :
 
   numbered_history-more : IsNumberedHistory more
   numbered_history-more = record {
-    counted = λ number d is. elim (numbered-more w e number d is) [
-      | inl old ↦ so_far.numbered.counted number d old.1
-      | inr new ↦
-          let version : d.version ≡ length v.current + 1 = ap (λ (x : Entry). x.version) new.1 in
-          (omega (arith, version), omega (arith, version, new.0, length-append v.earlier v.current))
-    ];
+    counted = each-more (λ number d. (1 ≤ d.version) × (d.version ≤ number)) so_far.numbered.counted (omega arith, omega (arith, length-append v.earlier v.current));
     older = λ m n c d is_c is_d le. elim (numbered-more w e n d is_d) [
       | inl old ↦ so_far.numbered.older m n c d (sym (numbered-before w e m (omega (arith, old.0, le))) ∙ is_c) old.1 le
       | inr new ↦
@@ -113,14 +115,8 @@ module _ (all : List Entry) (most rounds : ℕ) (v : OwnerListView) (key value :
 
   made-more : AreMadeBy (rounds + 1) more
   made-more = record {
-    first = λ number d is. elim (numbered-more w e number d is) [
-      | inl old ↦ so_far.made.first number d old.1
-      | inr new ↦ omega (arith, ap (λ (x : Entry). x.born) new.1)
-    ];
-    last = λ number d is. elim (numbered-more w e number d is) [
-      | inl old ↦ so_far.made.last number d old.1
-      | inr new ↦ omega (arith, ap (λ (x : Entry). x.born) new.1)
-    ];
+    first = each-more (λ _ d. 1 ≤ d.born) so_far.made.first (omega arith);
+    last = each-more (λ _ d. d.born ≤ rounds + 1) so_far.made.last (omega arith);
   }
 
   pub so_far-more : write_numbered all (length w + 1) ≡ Some e → length w + 1 < most → IsWrittenSoFar all most rounds more

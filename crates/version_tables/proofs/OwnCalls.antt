@@ -12,7 +12,7 @@ use Rattle.model.specs.Table.{Table, entry_at, empty_table, with_own_write, with
 use Rattle.model.proofs.TableLaws.{entry_at-own_write, entry_at-own_write_other, entry_at-without_others_own, entry_at-without_others_other, entry_at-without_all, entry_at-empty_table}
 use Rattle.model.proofs.ProperLaws.{proper-empty_table, proper-with_own_write, proper-without_others, proper-without_all}
 use Rattle.model.specs.calls.Numbers.{write_numbered}
-use Rattle.planes.specs.Planes.{cell, ArePlanesChanged, HasEach}
+use Rattle.planes.specs.Planes.{Cells, cell, ArePlanesChanged, HasEach}
 use Rattle.planes.specs.Elementwise.{AreChanged}
 use Rattle.version_tables.specs.Views.{VersionTableView, table_in, IsKept}
 use Rattle.version_tables.specs.Writes.{IsNextWrite, HasOwnWrite}
@@ -108,6 +108,13 @@ module _ (written : ℕ → List Entry) (is : Table) (cells greatest : List ℕ)
     most = lies.most;
   }
 
+-- where its numbers stay, so does an owner's greatest one
+same-most : (old new : Cells) (keys owner before after : ℕ) → ((key : ℕ) → key < keys → new owner key ≡ old owner key) → after ≡ before → IsGreatest old keys owner before → IsGreatest new keys owner after
+same-most old new keys owner before after same is most = record {
+  upto = λ key lt. omega (arith, same key lt, most.upto key lt, is);
+  held = elim most.held [ inl none ↦ inl (is ∙ none) | inr (key, lt, at) ↦ inr (key, lt, same key lt ∙ at ∙ sym is) ];
+}
+
 -- a table that starts
 module _ (written : ℕ → List Entry) (node nodes keys : ℕ) (cells greatest : List ℕ) (in_nodes : node < nodes) (few : nodes ≤ MOST_NODES) (some : LEAST_KEYS ≤ keys) (many : keys ≤ MOST_KEYS)
     (no_cells : HasEach (keys * nodes) (λ r n. n ≡ 0) cells) (no_greatest : HasEach nodes (λ r n. n ≡ 0) greatest) where
@@ -185,16 +192,8 @@ module _ (written : ℕ → List Entry) (v : VersionTableView) (kept : IsKept wr
 
     restart_most : (owner : ℕ) → owner < v.nodes → IsGreatest (cell cells v.nodes) v.keys owner (slice_index greatest owner)
     restart_most owner in_nodes = elim (cases_eq owner v.node) [
-      | inl own ↦
-          let same : slice_index greatest owner ≡ slice_index v.greatest owner =
-          own_greatest.each owner (omega (arith, in_nodes, kept.greatest_count)) ∙ ap (λ b. cond b (slice_index v.greatest owner) 0) (eq-eqb owner v.node own) in
-          record {
-            upto = λ key in_keys. omega (arith, own_cell owner key in_nodes in_keys own, (kept.most owner in_nodes).upto key in_keys, same);
-            held = elim (kept.most owner in_nodes).held [
-              | inl zero' ↦ inl (same ∙ zero')
-              | inr (key, in_keys, is) ↦ inr (key, in_keys, own_cell owner key in_nodes in_keys own ∙ is ∙ sym same)
-            ];
-          }
+      | inl own ↦ same-most (cell v.cells v.nodes) (cell cells v.nodes) v.keys owner (slice_index v.greatest owner) (slice_index greatest owner) (λ key lt. own_cell owner key in_nodes lt own)
+          (own_greatest.each owner (omega (arith, in_nodes, kept.greatest_count)) ∙ ap (λ b. cond b (slice_index v.greatest owner) 0) (eq-eqb owner v.node own)) (kept.most owner in_nodes)
       | inr other ↦ record {
         upto = λ key in_keys. omega (arith, other_cell owner key in_nodes in_keys other);
         held = inl (own_greatest.each owner (omega (arith, in_nodes, kept.greatest_count)) ∙ ap (λ b. cond b (slice_index v.greatest owner) 0) (ne_eqb owner v.node other));
@@ -294,15 +293,8 @@ module _ (written : ℕ → List Entry) (v : VersionTableView) (kept : IsKept wr
     write_most : (owner : ℕ) → owner < v.nodes → IsGreatest (cell cells v.nodes) v.keys owner (slice_index greatest owner)
     write_most owner in_node = elim (cases_eq owner v.node) [
       | inl own ↦ subst (λ o. IsGreatest (cell cells v.nodes) v.keys o (slice_index greatest o)) (sym own) own_most
-      | inr other ↦
-          let same : slice_index greatest owner ≡ slice_index v.greatest owner = get_or-set_other v.greatest v.node owner number 0 other in
-          record {
-            upto = λ k in_key. omega (arith, elsewhere owner k in_node (inl other), (kept.most owner in_node).upto k in_key, same);
-            held = elim (kept.most owner in_node).held [
-              | inl zero' ↦ inl (same ∙ zero')
-              | inr (k, in_key, is) ↦ inr (k, in_key, elsewhere owner k in_node (inl other) ∙ is ∙ sym same)
-            ];
-          }
+      | inr other ↦ same-most (cell v.cells v.nodes) (cell cells v.nodes) v.keys owner (slice_index v.greatest owner) (slice_index greatest owner) (λ k lt. elsewhere owner k in_node (inl other))
+          (get_or-set_other v.greatest v.node owner number 0 other) (kept.most owner in_node)
     ]
 
     writes : LiesAs written after cells greatest

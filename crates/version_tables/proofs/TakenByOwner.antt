@@ -62,19 +62,17 @@ pub record AreNumbersTaken (from to : Table) (sent : ℕ → ℕ → Bool) (owne
 module _ (from to : Table) (from_proper : IsProper from) (to_proper : IsProper to) (keys : from.keys ≡ to.keys) (owner : ℕ)
     (writes : List Entry) (history : IsHistory writes) (numbered : IsNumberedHistory writes) (base : ℕ)
     (newest : (m n : ℕ) (d e : Entry) → write_numbered writes m ≡ Some d → write_numbered writes n ≡ Some e → base < n → d.generation ≤ e.generation)
-    (sent : ℕ → ℕ → Bool) (sender receiver y : ℕ → ℕ)
+    (sent : ℕ → ℕ → Bool) (sender receiver y taken : ℕ → ℕ)
     (has_sender : (key : ℕ) → key < to.keys → entry_at from owner key ≡ write_numbered writes (sender key))
     (has_receiver : (key : ℕ) → key < to.keys → entry_at to owner key ≡ write_numbered writes (receiver key))
     (sender_upto : (key : ℕ) → key < to.keys → sender key ≤ length writes) (receiver_upto : (key : ℕ) → key < to.keys → receiver key ≤ length writes)
     (above : (key : ℕ) → key < to.keys → sent owner key ≡ true → receiver key < sender key)
     (y_sent : (key : ℕ) → key < to.keys → sent owner key ≡ true → y key ≡ sender key) (y_stays : (key : ℕ) → key < to.keys → sent owner key ≡ false → y key ≡ receiver key)
     (old new : ℕ) (old_upto : (key : ℕ) → key < to.keys → receiver key ≤ old) (old_from : (old ≡ 0) ⊎ ((key : ℕ) × (key < to.keys) × (receiver key ≡ old)))
-    (rises : old ≤ new) (new_upto : (key : ℕ) → key < to.keys → y key ≤ new) (new_from : (new ≡ old) ⊎ ((key : ℕ) × (key < to.keys) × (y key ≡ new))) where
+    (rises : old ≤ new) (new_upto : (key : ℕ) → key < to.keys → y key ≤ new) (new_from : (new ≡ old) ⊎ ((key : ℕ) × (key < to.keys) × (y key ≡ new)))
+    (kept_is : (key : ℕ) → key < to.keys → taken key ≡ number_kept (drop_start writes old base new) (y key)) where
   abbrev start : ℕ
   start = drop_start writes old base new
-
-  abbrev taken : ℕ → ℕ
-  taken key = number_kept start (y key)
 
   held_to : (key : ℕ) → key < to.keys → 0 < receiver key → (e : Entry) × (write_numbered writes (receiver key) ≡ Some e) × (e.generation ≡ generation_held to owner)
   held_to key lt some =
@@ -105,7 +103,8 @@ module _ (from to : Table) (from_proper : IsProper from) (to_proper : IsProper t
   -- what is sent comes
   came_number : (key : ℕ) → key < to.keys → sent owner key ≡ true → taken key ≡ sender key
   came_number key lt yes' =
-      ap (number_kept start) (y_sent key lt yes')
+      kept_is key lt
+      ∙ ap (number_kept start) (y_sent key lt yes')
       ∙ kept-above start (sender key) (elim (drop-cases writes old base new) [
         | inl none ↦ omega (arith, none, above key lt yes')
         | inr (some, upto, raised, is) ↦ elim (cases_lt start (sender key)) [
@@ -160,7 +159,8 @@ module _ (from to : Table) (from_proper : IsProper from) (to_proper : IsProper t
   -- where nothing newer comes, other numbers stay
   stays_number : SendsNoNewer from to sent owner → (key : ℕ) → key < to.keys → sent owner key ≡ false → taken key ≡ receiver key
   stays_number no_newer key lt no' =
-      ap (number_kept start) (y_stays key lt no')
+      kept_is key lt
+      ∙ ap (number_kept start) (y_stays key lt no')
       ∙ elim (cases_lt 0 (receiver key)) [
         | inr none ↦ ap (number_kept start) {x = receiver key} {y = 0} (omega (arith, none)) ∙ kept-zero start ∙ omega (arith, none)
         | inl some ↦ kept-above start (receiver key) (elim (drop-cases writes old base new) [
@@ -178,7 +178,8 @@ module _ (from to : Table) (from_proper : IsProper from) (to_proper : IsProper t
   -- and where something does, they are dropped
   drops_number : SendsNewer from to sent owner → (key : ℕ) → key < to.keys → sent owner key ≡ false → taken key ≡ 0
   drops_number newer key lt no' =
-      ap (number_kept start) (y_stays key lt no')
+      kept_is key lt
+      ∙ ap (number_kept start) (y_stays key lt no')
       ∙ elim (cases_lt 0 (receiver key)) [
         | inr none ↦ ap (number_kept start) {x = receiver key} {y = 0} (omega (arith, none)) ∙ kept-zero start
         | inl some ↦ kept-none start (receiver key) (upto_start some)
@@ -222,13 +223,13 @@ module _ (from to : Table) (from_proper : IsProper from) (to_proper : IsProper t
   ]
 
   greatest_upto : (key : ℕ) → key < to.keys → taken key ≤ new
-  greatest_upto key lt = omega (arith, taken_upto (y key), new_upto key lt)
+  greatest_upto key lt = omega (arith, kept_is key lt, taken_upto (y key), new_upto key lt)
 
   greatest_from : (new ≡ 0) ⊎ ((key : ℕ) × (key < to.keys) × (taken key ≡ new))
   greatest_from = elim (cases_lt 0 new) [
     | inr none ↦ inl (omega (arith, none))
     | inl some ↦ elim new_from [
-      | inr (key, lt, is) ↦ inr (key, lt, ap (number_kept start) is ∙ kept-above start new (start_below some))
+      | inr (key, lt, is) ↦ inr (key, lt, kept_is key lt ∙ ap (number_kept start) is ∙ kept-above start new (start_below some))
       | inl same ↦ elim old_from [
         | inl none ↦ absurd (omega (arith, none, same, some))
         | inr (key, lt, is) ↦
@@ -237,7 +238,7 @@ module _ (from to : Table) (from_proper : IsProper from) (to_proper : IsProper t
               | false ↦ λ no'. omega (arith, y_stays key lt no')
             ] refl in
             let here : y key ≡ new = omega (arith, no_less, is, same, new_upto key lt) in
-            inr (key, lt, ap (number_kept start) here ∙ kept-above start new (start_below some))
+            inr (key, lt, kept_is key lt ∙ ap (number_kept start) here ∙ kept-above start new (start_below some))
       ]
     ]
   ]

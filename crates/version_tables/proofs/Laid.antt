@@ -1,9 +1,10 @@
 -- What a table that lies in cells holds.
 -- Serves most of the crate.
-use Rattle.std.proofs.Common.{◌≡◌, ◌≢◌, ℕ, zero, suc, ◌<◌, ◌≤◌, true, false, cond, eqb, List, [], ◌∷◌, ◌++◌, map, Some, None, ◌⊎◌, inl, inr, refl, sym, ap, ◌∙◌, subst, arith}
+use Rattle.std.proofs.Common.{◌≡◌, ◌≢◌, ℕ, zero, suc, ◌<◌, ◌≤◌, true, false, cond, eqb, List, [], ◌∷◌, ◌++◌, length, map, Vec, Some, None, ◌⊎◌, inl, inr, refl, sym, ap, ◌∙◌, subst, arith}
 use Rattle.std.specs.List.{range_with_len}
+use Rattle.std.specs.Vec.{with_items}
 use Rattle.std.proofs.lemmas.Bool.{cases_lt, eq-eqb, ne_eqb}
-use Rattle.std.proofs.lemmas.List.{get_or_past}
+use Rattle.std.proofs.lemmas.List.{get_or_past, with_items_is}
 use Rattle.std.proofs.lemmas.Option.{none-some}
 use Rattle.std.proofs.lemmas.List.FromFn.{get_or-map-range_with_len, length-map-range_with_len}
 use Rattle.bench_types.specs.declared.entries.Entry.{Entry}
@@ -121,3 +122,8 @@ cells_table lists cells is proper are has =
 -- what is seen of a table, of which it is known that it is what lies there
 abbrev pub seen : {A : Type 0} {x y : A} → x ≡ y → A
 seen {x = x} is = x
+
+-- what is known of what a vector's numbers became is known of it
+pub put-back : {N Z : Type 0} (P : List ℕ → List ℕ → Type 0) (number : N → ℕ) (v : Vec N Z) (read new : List N) → length new ≡ v.len → read ≡ v.items → P (map number read) (map number new) → P (map number v.items) (map number (with_items v new).items)
+put-back P number v read new size is changed =
+    subst (λ xs. P (map number v.items) (map number xs)) (sym (with_items_is v new size)) (subst (λ xs. P (map number xs) (map number new)) is changed)

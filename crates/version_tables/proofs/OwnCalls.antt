@@ -60,10 +60,10 @@ all_zero old new cleared i = elim (cases_lt i (length old)) [
 ]
 
 -- a number is that of a write of its key, or 0, and stands first
-record IsGood (written : ℕ → List Entry) (owner key number : ℕ) : Type 0 where
-  within : number ≤ length (written owner)
-  keyed : (e : Entry) → write_numbered (written owner) number ≡ Some e → e.key ≡ key
-  first : IsFirst (written owner) number
+pub record IsGood (written : ℕ → List Entry) (owner key number : ℕ) : Type 0 where
+  pub within : number ≤ length (written owner)
+  pub keyed : (e : Entry) → write_numbered (written owner) number ≡ Some e → e.key ≡ key
+  pub first : IsFirst (written owner) number
 
 good_zero : (written : ℕ → List Entry) (owner key : ℕ) → IsGood written owner key 0
 good_zero written owner key = record {
@@ -80,13 +80,13 @@ good_kept written v kept owner key in_nodes in_keys = record {
 }
 
 -- numbers that lie as a proper table is
-record LiesAs (written : ℕ → List Entry) (is : Table) (cells greatest : List ℕ) : Type 0 where
-  proper : IsProper is
-  cell_count : length cells ≡ is.keys * is.nodes
-  greatest_count : length greatest ≡ is.nodes
-  good : (owner key : ℕ) → owner < is.nodes → key < is.keys → IsGood written owner key (cell cells is.nodes owner key)
-  holds : (owner key : ℕ) → owner < is.nodes → key < is.keys → entry_at is owner key ≡ write_numbered (written owner) (cell cells is.nodes owner key)
-  most : (owner : ℕ) → owner < is.nodes → IsGreatest (cell cells is.nodes) is.keys owner (slice_index greatest owner)
+pub record LiesAs (written : ℕ → List Entry) (is : Table) (cells greatest : List ℕ) : Type 0 where
+  pub proper : IsProper is
+  pub cell_count : length cells ≡ is.keys * is.nodes
+  pub greatest_count : length greatest ≡ is.nodes
+  pub good : (owner key : ℕ) → owner < is.nodes → key < is.keys → IsGood written owner key (cell cells is.nodes owner key)
+  pub holds : (owner key : ℕ) → owner < is.nodes → key < is.keys → entry_at is owner key ≡ write_numbered (written owner) (cell cells is.nodes owner key)
+  pub most : (owner : ℕ) → owner < is.nodes → IsGreatest (cell cells is.nodes) is.keys owner (slice_index greatest owner)
 
 module _ (written : ℕ → List Entry) (is : Table) (cells greatest : List ℕ) (lies : LiesAs written is cells greatest) where
   numbers : AreNumbers written is.nodes is.keys (cell cells is.nodes)
@@ -95,10 +95,10 @@ module _ (written : ℕ → List Entry) (is : Table) (cells greatest : List ℕ)
     keyed = λ owner key e in_nodes in_keys at. (lies.good owner key in_nodes in_keys).keyed e at;
   }
 
-  lies-table : table_of_cells written is.node is.nodes is.keys is.generation (cell cells is.nodes) ≡ is
+  pub lies-table : table_of_cells written is.node is.nodes is.keys is.generation (cell cells is.nodes) ≡ is
   lies-table = cells_table written (cell cells is.nodes) is lies.proper numbers (λ owner key in_nodes in_keys. lies.holds owner key in_nodes in_keys)
 
-  lies-kept : IsVersionTable written is.node is.nodes is.keys is.generation cells greatest
+  pub lies-kept : IsVersionTable written is.node is.nodes is.keys is.generation cells greatest
   lies-kept = record {
     proper = subst IsProper (sym lies-table) lies.proper;
     cell_count = lies.cell_count;
@@ -121,7 +121,7 @@ module _ (written : ℕ → List Entry) (node nodes keys : ℕ) (cells greatest 
   none : (owner key : ℕ) → owner < nodes → key < keys → cell cells nodes owner key ≡ 0
   none owner key in_node in_key = no_cells.each (key * nodes + owner) (place-within nodes keys owner key in_node in_key)
 
-  starts : LiesAs written (empty_table node nodes keys) cells greatest
+  pub starts : LiesAs written (empty_table node nodes keys) cells greatest
   starts = record {
     proper = proper-empty_table node nodes keys in_nodes few some many;
     cell_count = no_cells.size;
@@ -130,12 +130,6 @@ module _ (written : ℕ → List Entry) (node nodes keys : ℕ) (cells greatest 
     holds = λ owner key in_node in_key. entry_at-empty_table node nodes keys owner key ∙ sym (ap (write_numbered (written owner)) (none owner key in_node in_key));
     most = λ owner in_node. record { upto = λ key in_key. omega (arith, none owner key in_node in_key); held = inl (no_greatest.each owner in_node) };
   }
-
-  pub starts-table : table_of_cells written node nodes keys 0 (cell cells nodes) ≡ empty_table node nodes keys
-  starts-table = lies-table written (empty_table node nodes keys) cells greatest starts
-
-  pub starts-kept : IsVersionTable written node nodes keys 0 cells greatest
-  starts-kept = lies-kept written (empty_table node nodes keys) cells greatest starts
 
 module _ (written : ℕ → List Entry) (v : VersionTableView) (kept : IsKept written v) where
   abbrev t : Table
@@ -146,7 +140,7 @@ module _ (written : ℕ → List Entry) (v : VersionTableView) (kept : IsKept wr
 
   -- one that forgets
   module _ (cells greatest : List ℕ) (no_cells : AreChanged (λ r x y. y ≡ 0) v.cells cells) (no_greatest : AreChanged (λ r x y. y ≡ 0) v.greatest greatest) where
-    forgets : LiesAs written (without_all t) cells greatest
+    pub forgets : LiesAs written (without_all t) cells greatest
     forgets = record {
       proper = proper-without_all t kept.proper;
       cell_count = no_cells.size ∙ kept.cell_count;
@@ -158,12 +152,6 @@ module _ (written : ℕ → List Entry) (v : VersionTableView) (kept : IsKept wr
         held = inl (all_zero v.greatest greatest no_greatest owner);
       };
     }
-
-    pub forgets-table : (now : VersionTableView) → v ≡ now → table_of_cells written v.node v.nodes v.keys (v.generation + 1) (cell cells v.nodes) ≡ without_all (table_in written now)
-    forgets-table now is = lies-table written (without_all t) cells greatest forgets ∙ ap (λ (w : VersionTableView). without_all (table_in written w)) is
-
-    pub forgets-kept : IsVersionTable written v.node v.nodes v.keys (v.generation + 1) cells greatest
-    forgets-kept = lies-kept written (without_all t) cells greatest forgets
 
   -- one that restarts
   module _ (cells greatest : List ℕ) (own_cells : ArePlanesChanged (λ r k x y. y ≡ cond (r == v.node) x 0) v.nodes v.keys v.cells cells) (own_greatest : AreChanged (λ r x y. y ≡ cond (r == v.node) x 0) v.greatest greatest) where
@@ -200,7 +188,7 @@ module _ (written : ℕ → List Entry) (v : VersionTableView) (kept : IsKept wr
       }
     ]
 
-    restarts : LiesAs written (without_others t) cells greatest
+    pub restarts : LiesAs written (without_others t) cells greatest
     restarts = record {
       proper = proper-without_others t kept.proper;
       cell_count = own_cells.size ∙ kept.cell_count;
@@ -209,12 +197,6 @@ module _ (written : ℕ → List Entry) (v : VersionTableView) (kept : IsKept wr
       holds = restart_holds;
       most = restart_most;
     }
-
-    pub restarts-table : (now : VersionTableView) → v ≡ now → table_of_cells written v.node v.nodes v.keys v.generation (cell cells v.nodes) ≡ without_others (table_in written now)
-    restarts-table now is = lies-table written (without_others t) cells greatest restarts ∙ ap (λ (w : VersionTableView). without_others (table_in written w)) is
-
-    pub restarts-kept : IsVersionTable written v.node v.nodes v.keys v.generation cells greatest
-    restarts-kept = lies-kept written (without_others t) cells greatest restarts
 
   -- one that writes
   module _ (key number : ℕ) (in_keys : key < v.keys) (write : IsNextWrite written v key number) where
@@ -297,7 +279,7 @@ module _ (written : ℕ → List Entry) (v : VersionTableView) (kept : IsKept wr
           (get_or-set_other v.greatest v.node owner number 0 other) (kept.most owner in_node)
     ]
 
-    writes : LiesAs written after cells greatest
+    pub writes : LiesAs written after cells greatest
     writes = record {
       proper = proper-with_own_write t key e.value e.born kept.proper in_keys;
       cell_count = length-set v.cells index number ∙ kept.cell_count;
@@ -306,9 +288,6 @@ module _ (written : ℕ → List Entry) (v : VersionTableView) (kept : IsKept wr
       holds = write_holds;
       most = write_most;
     }
-
-    pub writes-kept : IsVersionTable written v.node v.nodes v.keys v.generation cells greatest
-    writes-kept = lies-kept written after cells greatest writes
 
     pub writes-table : HasOwnWrite written v number (record v { cells = cells; greatest = greatest })
     writes-table d is =

@@ -154,15 +154,7 @@ impl<N: Number, H: Written> Histories<N, H> {
         self.rounds
     }
 
-    // How many writes each owner has made.
-    pub(crate) fn counts(&self) -> &[N]
-        ensures { HasEach (length self.now.lists) (λ r n. n ≡ length (all_writes self.now.lists r))
-            (map N.number result.now) }
-    {
-        &self.counts
-    }
-
-    // How many of them are of earlier generations.
+    // How many writes of earlier generations each owner has made.
     pub(crate) fn bases(&self) -> &[N]
         ensures value { HasEach (length self.now.lists)
             (λ r n. n ≡ length (list_of_owner self.now.lists r).earlier)

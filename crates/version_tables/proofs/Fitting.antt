@@ -1,5 +1,5 @@
 -- Tables beside the histories: the numbers that they hold are of writes made so far.
--- Serves `Delivered`, `Standing` and `TakenViews`.
+-- Serves `Delivered`, `NextWrites`, `Standing` and `TakenViews`.
 use Rattle.std.proofs.Common.{◌≡◌, ℕ, zero, suc, ◌<◌, ◌≤◌, List, [], ◌∷◌, length, Some, inl, inr, sym, ap, ◌∙◌, arith}
 use Rattle.std.specs.Prelude.{Contains}
 use Rattle.std.proofs.lemmas.Bool.{cases_lt}
@@ -26,17 +26,17 @@ module _ (written : ℕ → List Entry) (v : VersionTableView) (kept : IsKept wr
   abbrev cells : Cells
   cells = cell v.cells v.nodes
 
-  -- the numbers of a table that holds writes so far are up to their count
-  pub so-far-upto : (so_far : ℕ → List Entry) → ((owner : ℕ) → IsBeginning (so_far owner) (written owner)) → ((owner key : ℕ) (e : Entry) → entry_at (table_in written v) owner key ≡ Some e → Contains (so_far owner) e)
-      → (owner key : ℕ) → owner < v.nodes → key < v.keys → cells owner key ≤ length (so_far owner)
-  so-far-upto so_far begins holds owner key in_nodes in_keys = elim (cases_lt 0 (cells owner key)) [
+  -- numbers of writes so far, where the table holds no others of an owner, are up to their count
+  pub so-far-upto : (so_far : List Entry) (owner : ℕ) → IsBeginning so_far (written owner) → ((key : ℕ) (e : Entry) → entry_at (table_in written v) owner key ≡ Some e → Contains so_far e)
+      → (key : ℕ) → owner < v.nodes → key < v.keys → cells owner key ≤ length so_far
+  so-far-upto so_far owner begins holds key in_nodes in_keys = elim (cases_lt 0 (cells owner key)) [
     | inr none ↦ omega (arith, none)
     | inl some ↦
         let there = numbered-some (written owner) (cells owner key) some (kept.numbers.written owner key in_nodes in_keys) in
         let held : entry_at (table_in written v) owner key ≡ Some there.0 = has_cells written v.node v.nodes v.keys v.generation cells kept.numbers owner key in_nodes in_keys ∙ there.1 in
-        let at = write_from-contains (so_far owner) there.0 (holds owner key there.0 held) in
+        let at = write_from-contains so_far there.0 (holds key there.0 held) in
         elim (cases_lt (suc at.0) (cells owner key)) [
-          | inl before ↦ absurd (kept.first owner key in_nodes in_keys (suc at.0) before (sym (begins owner (suc at.0) (omega (arith, at.1))) ∙ at.2 ∙ sym there.1))
+          | inl before ↦ absurd (kept.first owner key in_nodes in_keys (suc at.0) before (sym (begins (suc at.0) (omega (arith, at.1))) ∙ at.2 ∙ sym there.1))
           | inr not_before ↦ omega (arith, not_before, at.1)
         ]
   ]
@@ -44,7 +44,7 @@ module _ (written : ℕ → List Entry) (v : VersionTableView) (kept : IsKept wr
   -- and so of one beside the histories
   module _ (most : ℕ) (h : HistoriesView) (so_far : (owner : ℕ) → IsWrittenSoFar (written owner) most h.rounds (all_writes h.lists owner)) (fits : FitsHistories h (table_in written v)) where
     pub fits-upto : (owner key : ℕ) → owner < v.nodes → key < v.keys → cells owner key ≤ length (all_writes h.lists owner)
-    fits-upto = so-far-upto (all_writes h.lists) (λ owner. (so_far owner).begins) fits.holds
+    fits-upto owner = so-far-upto (all_writes h.lists owner) owner (so_far owner).begins (fits.holds owner)
 
     pub fits-below : (owner key : ℕ) → owner < v.nodes → key < v.keys → cells owner key < most
     fits-below owner key in_nodes in_keys = omega (arith, fits-upto owner key in_nodes in_keys, (so_far owner).few)

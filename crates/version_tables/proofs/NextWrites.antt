@@ -1,7 +1,7 @@
 -- What an owner writes next stands under the number behind all that it wrote, above what its table holds of it.
 -- Serves `write`.
 use Rattle.std.proofs.Common.{◌≡◌, ℕ, zero, suc, ◌+◌, ◌-◌, ◌<◌, ◌≤◌, List, length, Some, inl, inr, sym, ap, ◌∙◌, subst, arith}
-use Rattle.std.specs.Prelude.{slice_index}
+use Rattle.std.specs.Prelude.{slice_index, Contains}
 use Rattle.std.proofs.lemmas.Bool.{cases_lt}
 use Rattle.std.proofs.lemmas.List.{length-append}
 use Rattle.std.proofs.lemmas.Option.{none-some, same_Some}
@@ -16,9 +16,10 @@ use Rattle.version_tables.specs.Views.{VersionTableView, table_in, IsKept}
 use Rattle.version_tables.specs.Writes.{IsNextWrite}
 use Rattle.version_tables.specs.inner.Histories.{IsBeginning, IsWriteUnder}
 use Rattle.version_tables.specs.Laid.{IsFirst}
+use Rattle.version_tables.proofs.Fitting.{so-far-upto}
 use Rattle.version_tables.proofs.Generations.{current-at, earlier-at}
 use Rattle.version_tables.proofs.Laid.{has_cells}
-use Rattle.owner_writes.proofs.Numbers.{numbered-some}
+use Rattle.owner_writes.proofs.Numbers.{numbered-some, write_from-at, write_from-some}
 
 module _ (written : ℕ → List Entry) (v : VersionTableView) (kept : IsKept written v) (list : OwnerListView) (are : AreWrites list) (begins : IsBeginning (entries_of list) (written v.node)) (generation : v.generation ≡ list.generation)
     (greatest : greatest_version (table_in written v) v.node ≡ length list.current) (most key value born : ℕ) (under : IsWriteUnder written most v.node (length (entries_of list) + 1) (next_entry list key value born)) where
@@ -32,48 +33,24 @@ module _ (written : ℕ → List Entry) (v : VersionTableView) (kept : IsKept wr
   in_nodes = kept.proper.node_below
 
   -- what the table holds of the node is a write so far
-  module _ (k : ℕ) (in_keys : k < v.keys) (past : length (entries_of list) < cell v.cells v.nodes v.node k) where
-    abbrev n : ℕ
-    n = cell v.cells v.nodes v.node k
-
-    there : (e : Entry) × (write_numbered (written v.node) n ≡ Some e)
-    there = numbered-some (written v.node) n (omega (arith, past)) (kept.numbers.written v.node k in_nodes in_keys)
-
-    holds : entry_at t v.node k ≡ Some there.0
-    holds = has_cells written v.node v.nodes v.keys v.generation (cell v.cells v.nodes) kept.numbers v.node k in_nodes in_keys ∙ there.1
-
-    low : there.0.version ≤ length list.current
-    low =
-        let most : IsUpTo (mark_of there.0) (greatest_mark t v.node) = subst (λ h. IsUpTo (mark_held h) (greatest_mark t v.node)) holds (mark_at-up_to_greatest t v.node k in_keys) in
-        omega (arith, most.version (kept.proper.copies v.node k there.0 holds), greatest)
-
-    some : 1 ≤ there.0.version
-    some = (kept.proper.in_place v.node k there.0 holds).written
-
-    abbrev m : ℕ
-    m = suc (length list.earlier + (there.0.version - 1))
-
-    within : m ≤ length (entries_of list)
-    within = omega (arith, low, some, length-append list.earlier list.current)
-
-    before : (d : Entry) × (write_numbered (entries_of list) m ≡ Some d)
-    before = numbered-some (entries_of list) m (omega arith) within
-
-    same : before.0 ≡ there.0
-    same =
-        let at = current-at list are m before.0 before.1 (omega arith) in
-        let one : before.0.generation ≡ there.0.generation = at.0 ∙ sym generation ∙ sym (kept.proper.own k there.0 holds) in
-        let two : before.0.version ≡ there.0.version = omega (arith, at.1, some) in
-        under.apart m n before.0 there.0 (sym (begins m within) ∙ before.1) there.1 (λ i. record { generation = one i; version = two i })
-
-    never : ⊥
-    never = kept.first v.node k in_nodes in_keys m (omega (arith, within, past)) (sym (begins m within) ∙ before.1 ∙ ap Some same ∙ sym there.1)
+  held_so_far : (k : ℕ) (e : Entry) → entry_at t v.node k ≡ Some e → Contains (entries_of list) e
+  held_so_far k e holds =
+      let here = kept.proper.in_place v.node k e holds in
+      let most : IsUpTo (mark_of e) (greatest_mark t v.node) = subst (λ h. IsUpTo (mark_held h) (greatest_mark t v.node)) holds (mark_at-up_to_greatest t v.node k here.key_below) in
+      let low : e.version ≤ length list.current = omega (arith, most.version (kept.proper.copies v.node k e holds), greatest) in
+      let place = length list.earlier + (e.version - 1) in
+      let within : place < length (entries_of list) = omega (arith, low, here.written, length-append list.earlier list.current) in
+      let there = write_from-some (entries_of list) place within in
+      let at = current-at list are (suc place) there.0 there.1 (omega arith) in
+      let is : write_numbered (written v.node) (cell v.cells v.nodes v.node k) ≡ Some e =
+      sym (has_cells written v.node v.nodes v.keys v.generation (cell v.cells v.nodes) kept.numbers v.node k in_nodes here.key_below) ∙ holds in
+      let one : there.0.generation ≡ e.generation = at.0 ∙ sym generation ∙ sym (kept.proper.own k e holds) in
+      let two : there.0.version ≡ e.version = omega (arith, at.1, here.written) in
+      let same = under.apart (suc place) (cell v.cells v.nodes v.node k) there.0 e (sym (begins (suc place) (omega (arith, within))) ∙ there.1) is (λ i. record { generation = one i; version = two i }) in
+      (place, within, (write_from-at (entries_of list) place there.0 e there.1).1 ∙ same)
 
   upto : (k : ℕ) → k < v.keys → cell v.cells v.nodes v.node k < number
-  upto k in_keys = elim (cases_lt (length (entries_of list)) (cell v.cells v.nodes v.node k)) [
-    | inl past ↦ absurd (never k in_keys past)
-    | inr not_past ↦ omega (arith, not_past)
-  ]
+  upto k in_keys = omega (arith, so-far-upto written v kept (entries_of list) v.node begins held_so_far k in_nodes in_keys)
 
   above : slice_index v.greatest v.node < number
   above = elim (kept.most v.node in_nodes).held [

@@ -95,7 +95,7 @@ module _ (written : ℕ → List Entry) (views : List VersionTableView) where
         held_is = has_cells written v.node v.nodes v.keys v.generation (cell v.cells v.nodes) kept.numbers r k in_r in_k
 
         upto : c ≤ length so_far
-        upto = so-far-upto written v kept (all_writes lists) laid.begins (λ o j e h. ((together.standing p in_tables).holds o j e (ap (λ t. entry_at t o j) read ∙ h)).0) r k in_r in_k
+        upto = so-far-upto written v kept so_far r (laid.begins r) (λ j e h. ((together.standing p in_tables).holds r j e (ap (λ t. entry_at t r j) read ∙ h)).0) k in_r in_k
 
         here : IsNumberAt lists (table_in written v) r k c
         here = record { held = held_is ∙ sym (laid.begins r c upto); written = upto }

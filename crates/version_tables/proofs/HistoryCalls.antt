@@ -67,10 +67,16 @@ module _ (all : List Entry) (most rounds : ℕ) (v : OwnerListView) (key value :
     | inr new ↦ subst (λ n. P n d) (sym new.0) (subst (P (length w + 1)) (sym new.1) last)
   ]
 
-  born-upto : (i : ℕ) (d : Entry) → i < length w → (get_or w i d).born ≤ rounds + 1
+  made-more : AreMadeBy (rounds + 1) more
+  made-more = record {
+    first = each-more (λ _ d. 1 ≤ d.born) so_far.made.first (omega arith);
+    last = each-more (λ _ d. d.born ≤ rounds + 1) so_far.made.last (omega arith);
+  }
+
+  born-upto : (i : ℕ) (d : Entry) → i < length more → (get_or more i d).born ≤ rounds + 1
   born-upto i d lt =
-      let there = write_from-some w i lt in
-      omega (arith, so_far.made.last (suc i) there.0 there.1, ap (λ (x : Entry). x.born) (write_from-at w i there.0 d there.1).1)
+      let there = write_from-some more i lt in
+      omega (arith, made-more.last (suc i) there.0 there.1, ap (λ (x : Entry). x.born) (write_from-at more i there.0 d there.1).1)
 
   history-more : IsHistory more
   history-more = record {
@@ -82,11 +88,7 @@ module _ (all : List Entry) (most rounds : ℕ) (v : OwnerListView) (key value :
           omega (arith, first, second, so_far.history.born i j d le before)
       | inr not_before ↦
           let last : length w ≡ j = omega (arith, not_before, lt, length-append w (e ∷ [])) in
-          let second : (get_or more j d).born ≡ rounds + 1 = ap (λ (x : Entry). x.born) (get_or_push w e d j last) in
-          elim (cases_lt i (length w)) [
-            | inl old ↦ omega (arith, ap (λ (x : Entry). x.born) (get_or_append_left w (e ∷ []) d i old), born-upto i d old, second)
-            | inr new ↦ omega (arith, ap (λ k. (get_or more k d).born) {x = i} {y = j} (omega (arith, le, new, last)))
-          ]
+          omega (arith, born-upto i d (omega (arith, le, lt)), ap (λ (x : Entry). x.born) (get_or_push w e d j last))
     ];
   }
 
@@ -111,12 +113,6 @@ module _ (all : List Entry) (most rounds : ℕ) (v : OwnerListView) (key value :
             | inr also ↦ ap (λ (x : Entry). x.generation) (also.1 ∙ sym new.1)
           ]
     ];
-  }
-
-  made-more : AreMadeBy (rounds + 1) more
-  made-more = record {
-    first = each-more (λ _ d. 1 ≤ d.born) so_far.made.first (omega arith);
-    last = each-more (λ _ d. d.born ≤ rounds + 1) so_far.made.last (omega arith);
   }
 
   pub so_far-more : write_numbered all (length w + 1) ≡ Some e → length w + 1 < most → IsWrittenSoFar all most rounds more

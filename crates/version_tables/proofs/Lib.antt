@@ -14,7 +14,6 @@ pub mod TakenByOwner
 pub mod TakenViews
 pub mod ExchangedViews
 pub mod Merged
-pub mod MergedViews
 pub mod DigestSizes
 pub mod HistoryCalls
 pub mod Carried

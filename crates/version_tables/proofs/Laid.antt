@@ -21,12 +21,9 @@ use Rattle.version_tables.specs.Laid.{entry_list, entries_below, table_of_cells,
 entry_in-append_none : (xs ys : List Entry) (key : ℕ) → entry_in xs key ≡ None → entry_in (xs ++ ys) key ≡ entry_in ys key
 entry_in-append_none [] ys key none = refl
 entry_in-append_none (x ∷ xs) ys key none = elim (eqb x.key key) as (λ b. cond b (Some x) (entry_in xs key) ≡ None → cond b (Some x) (entry_in (xs ++ ys) key) ≡ entry_in ys key) [
-  | true ↦ λ e. absurd (some e)
+  | true ↦ λ e. absurd (none-some x (sym e))
   | false ↦ λ e. entry_in-append_none xs ys key e
 ] none
-  where
-    some : Some x ≡ None → ⊥
-    some h = cc
 
 entry_in-append_some : (xs ys : List Entry) (key : ℕ) (e : Entry) → entry_in xs key ≡ Some e → entry_in (xs ++ ys) key ≡ Some e
 entry_in-append_some [] ys key e is = absurd (none-some e is)

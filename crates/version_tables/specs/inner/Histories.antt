@@ -69,7 +69,8 @@ pub record FitsRun (written : ℕ → List Entry) (most : ℕ) (h : HistoriesVie
   pub among : FitsHistories h t
 
 -- two tables of which an exchange may be made
-pub record IsReadyExchange (written : ℕ → List Entry) (most : ℕ) (rules : Rules) (plan : Exchange) (h : HistoriesView) (initiator responder : Table) : Type 0 where
+pub record IsReadyExchange (written : ℕ → List Entry) (most : ℕ) (rules : Rules) (plan : Exchange)
+    (h : HistoriesView) (initiator responder : Table) : Type 0 where
   pub budget : IsLawfulBudget rules.budget
   pub tables : MayBeExchanged plan initiator responder
   pub known : AreKnown written most h

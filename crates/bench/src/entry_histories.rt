@@ -92,8 +92,6 @@ impl RoundHistories<NodeTable> for EntryHistories {
         Ok(())
     }
 
-    fn stand_ready(&self, _round: u32) {}
-
     fn figures<R: Threads + Sync>(
         &self,
         rt: &R,

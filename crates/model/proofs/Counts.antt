@@ -1,5 +1,5 @@
 -- Which elements of a list pass a test that holds on one stretch of it, and how many.
--- Serves `Apart`, `Picked`, `Places`, `reconcile` and `version_tables`.
+-- Serves `Apart`, `Picked`, `Places` and `reconcile`.
 use Rattle.std.proofs.Common.{◌≡◌, ℕ, zero, suc, ◌+◌, ◌-◌, ◌<◌, ◌≤◌, Bool, true, false, cond, not, List, [], ◌∷◌, length, take, drop, get_or, ◌⊎◌, inl, inr, refl, sym, ap, ◌∙◌, arith}
 use Rattle.std.specs.Prelude.{filter, count_by, Contains}
 use Rattle.std.proofs.lemmas.List.{length-take-le, length-drop}

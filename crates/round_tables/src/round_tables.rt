@@ -76,7 +76,7 @@ pub trait RoundHistories<T: MemoryTable>: Exchanging<T> + Drop {
         ensures ended { OnOk result (has_ended self.new (born - 1)) }
         ensures only { IsOkUnless result OutOfMemory };
 
-    /// The writes of a round are made: the exchanges come next.
+    /// The writes of a round are made: the exchanges come next, and tables that stand among the histories fit them.
     fn end_writes(&mut self, round: u32) -> Result<(), Fault>
         requires first { 1 ≤ round }
         requires last { round ≤ MOST_ROUNDS }
@@ -84,13 +84,8 @@ pub trait RoundHistories<T: MemoryTable>: Exchanging<T> + Drop {
         requires written { AreWrittenBy round (lists self.old) }
         ensures lists { OnOk result (lists self.new ≡ lists self.old) }
         ensures ended { OnOk result (has_ended self.new round) }
+        ensures fits { OnOk result ((t : Table) → StandsAmong (lists self.new) t → Self.fits self.new t) }
         ensures only { IsOkUnless result OutOfMemory };
-
-    /// The exchanges of a round may begin: tables that stand among the histories fit them. It does nothing.
-    fn stand_ready(&self, round: u32)
-        requires ended { has_ended self.now round }
-        requires written { AreWrittenBy round (lists self.now) }
-        ensures { (t : Table) → StandsAmong (lists self.now) t → Self.fits self.now t };
 
     /// The figures at the end of a round. The hands bear on the time and memory that this takes, and on nothing else.
     fn figures<R: Threads + Sync>(

@@ -1,5 +1,5 @@
 -- How far the nodes have begun their round, by node.
--- Serves `begin_round`, `Floors`, `Healing` and `Soundness`.
+-- Serves `begin`, `Floors`, `Healing` and `Soundness`.
 use Rattle.std.proofs.Common.{◌≡◌, ◌≢◌, ℕ, ◌+◌, ◌-◌, ◌<◌, ◌≤◌, List, length, map, get_or, set, inl, inr, refl, sym, ap, ◌∙◌, subst, arith}
 use Rattle.std.proofs.lemmas.Bool.{cases_eq}
 use Rattle.std.proofs.lemmas.List.{get_or-map, length-map, length-set, map-set}

@@ -8,7 +8,7 @@ ghost use Rattle.model.specs.Tables.{AreProper};
 ghost use Rattle.model.specs.Runs.{AreWorkers, IsFaultOfWorkers};
 ghost use Rattle.round_plan.specs.calls.Words.{run_words_of, AreWordsOf};
 ghost use Rattle.simulation.specs.Rounds.{opening_tables, after_restart, rules_of};
-ghost use Rattle.simulation.specs.inner.InMemory.{IsBeforeRound, IsBegun, AreBegun, LeavesOthers, TablesStand, IsOwnerIn, IsRestartedIn, WritesIn};
+ghost use Rattle.simulation.specs.inner.InMemory.{HasBegun, IsBeforeRound, IsBegun, LeavesOthers, TablesStand, IsOwnerIn, IsRestartedIn, WritesIn};
 ghost use Rattle.simulation.specs.inner.Insides.{HasPlayed, IsAfterRound};
 ghost use Rattle.simulation.specs.inner.Plans.{IsDrawnAfter, MayDraw};
 ghost use Rattle.simulation.specs.inner.Steps.{IsRoundOf, MayWriteOwn};
@@ -76,7 +76,6 @@ impl<T: MemoryTable + Send + Sync, H: RoundHistories<T>> Cluster<T, H> {
         } = self;
         let Plan { words, list } = drawn.plan(alloc, scenario, round)?;
         let (begun, histories) = begin(scenario, tables, histories, &words, round)?;
-        histories.stand_ready(round);
         let rules = rules_of(scenario);
         let work = Work {
             shared: &histories,
@@ -146,7 +145,7 @@ fn empty_tables<T: MemoryTable, H: RoundHistories<T>>(
     Ok(tables)
 }
 
-// What a round begins with, of all nodes and their histories.
+// What a round begins with: its restarts and its writes, by node.
 fn begin<T: MemoryTable, H: RoundHistories<T>>(
     scenario: &Scenario,
     mut tables: Vec<T>,
@@ -158,30 +157,8 @@ fn begin<T: MemoryTable, H: RoundHistories<T>>(
     requires words { words.now ≡ run_words_of scenario.now round }
     requires ended { H.has_ended histories (round - 1) }
     requires standing { TablesStand T.table H.lists scenario.now (round - 1) tables.items histories }
-    ensures standing { IfOk result (λ p. TablesStand T.table H.lists scenario.now round p.0.items p.1) }
-    ensures tables { IfOk result (λ p. AreBegun T.table scenario.now round tables.items p.0.items) }
-    ensures ended { IfOk result (λ p. H.has_ended p.1 round) }
-    ensures only { IsOkUnless result OutOfMemory }
-{
-    begin_round(scenario, &mut tables, &mut histories, words, round)?;
-    Ok((tables, histories))
-}
-
-// What a round begins with: its restarts and its writes, by node.
-fn begin_round<T: MemoryTable, H: RoundHistories<T>>(
-    scenario: &Scenario,
-    tables: &mut [T],
-    histories: &mut H,
-    words: &RunWords,
-    round: u32,
-) -> Result<(), Fault>
-    requires round { IsRoundOf H.may_write scenario.now round }
-    requires words { words.now ≡ run_words_of scenario.now round }
-    requires ended { H.has_ended histories.old (round - 1) }
-    requires standing { TablesStand T.table H.lists scenario.now (round - 1) tables.old histories.old }
-    ensures standing { OnOk result (TablesStand T.table H.lists scenario.now round tables.new histories.new) }
-    ensures tables { OnOk result (AreBegun T.table scenario.now round tables.old tables.new) }
-    ensures ended { OnOk result (H.has_ended histories.new round) }
+    ensures begun { IfOk result (λ p. HasBegun T.table H.lists H.has_ended H.fits scenario.now round
+        tables.items p.0.items p.1) }
     ensures only { IsOkUnless result OutOfMemory }
 {
     for node in 0..scenario.nodes() {
@@ -190,12 +167,13 @@ fn begin_round<T: MemoryTable, H: RoundHistories<T>>(
             scenario,
             node,
             &mut tables[at],
-            histories,
+            &mut histories,
             words.of_node(node),
             round,
         )?;
     }
-    histories.end_writes(round)
+    histories.end_writes(round)?;
+    Ok((tables, histories))
 }
 
 // What a node begins a round with: its restarts, and then its writes. No other node's table or list matters

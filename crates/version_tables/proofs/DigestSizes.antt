@@ -1,11 +1,12 @@
 -- How many owners and entries a table of versions holds.
 -- Serves `digest_size`.
-use Rattle.std.proofs.Common.{◌≡◌, ℕ, zero, suc, ◌+◌, ◌*◌, ◌<◌, Bool, true, false, cond, nat_lt, List, ◌∷◌, Some, inl, inr, refl, sym, ap, ◌∙◌, arith}
+use Rattle.std.proofs.Common.{◌≡◌, ℕ, zero, suc, ◌+◌, ◌*◌, ◌<◌, Bool, true, false, cond, nat_lt, List, Some, inl, inr, refl, sym, ap, ◌∙◌, arith}
 use Rattle.std.specs.Prelude.{count_by, slice_index}
 use Rattle.std.specs.FinMap.{entries, len-entries}
 use Rattle.std.specs.List.{range_with_len}
 use Rattle.std.proofs.lemmas.Bool.{cases_lt, lt-ltb, le-ltb}
 use Rattle.std.proofs.lemmas.List.{length-map}
+use Rattle.std.proofs.lemmas.List.Sums.{sum_by-cons}
 use Rattle.bench_types.specs.declared.entries.Entry.{Entry}
 use Rattle.bench_types.specs.declared.entries.Item.{Item}
 use Rattle.bench_types.specs.declared.entries.Mark.{Mark}
@@ -18,7 +19,6 @@ use Rattle.planes.specs.Planes.{cell, total_of}
 use Rattle.bench_types.specs.Sums.{sum_below}
 use Rattle.bench_types.proofs.Sums.{sum_below-same}
 use Rattle.model.specs.Digests.{digest_size}
-use Rattle.model.proofs.Counts.{count_by-cons_true, count_by-cons_false}
 use Rattle.model.proofs.Fitting.{sum_by-ones}
 use Rattle.version_tables.specs.Views.{VersionTableView, table_in, IsKept}
 use Rattle.delta_plans.specs.Grids.{number_here, number_there}
@@ -30,16 +30,10 @@ sum_first : (n : ℕ) (f : ℕ → ℕ) → sum_below (suc n) f ≡ f 0 + sum_be
 sum_first zero f = omega arith
 sum_first (suc n) f = omega (arith, sum_first n f)
 
-one_or_none : (p : ℕ → Bool) (x : ℕ) (xs : List ℕ) → count_by p (x ∷ xs) ≡ cond (p x) 1 0 + count_by p xs
-one_or_none p x xs = elim (p x) as (λ b. p x ≡ b → count_by p (x ∷ xs) ≡ cond b 1 0 + count_by p xs) [
-  | true ↦ λ is. omega (arith, count_by-cons_true p x xs is)
-  | false ↦ λ is. omega (arith, count_by-cons_false p x xs is)
-] refl
-
 count-range : (p : ℕ → Bool) (from n : ℕ) → count_by p (range_with_len from n) ≡ sum_below n (λ i. cond (p (from + i)) 1 0)
 count-range p from zero = refl
 count-range p from (suc n) =
-    one_or_none p from (range_with_len (from + 1) n)
+    sum_by-cons (λ i. cond (p i) 1 0) from (range_with_len (from + 1) n)
     ∙ (λ i. cond (p (from_zero i)) 1 0 + (count-range p (from + 1) n ∙ sum_below-same n _ _ (λ j lt. ap {B = ℕ} (λ k. cond (p k) 1 0) {x = from + 1 + j} {y = from + suc j} (omega arith))) i)
     ∙ sym (sum_first n (λ i. cond (p (from + i)) 1 0))
   where

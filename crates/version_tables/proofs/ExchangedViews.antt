@@ -2,7 +2,7 @@
 -- Serves `exchange`, `exchange_deltas` and `Merged`.
 use Rattle.std.proofs.Common.{◌≡◌, ℕ, ◌<◌, Bool, true, false, eqb, List, [], ◌∷◌, length, if◌then◌else◌, refl, sym, ap, ◌∙◌, subst, arith}
 use Rattle.std.specs.Prelude.{◌||◌}
-use Rattle.std.proofs.lemmas.Bool.{eqb-true}
+use Rattle.std.proofs.lemmas.Bool.{both_ways, eqb-true}
 use Rattle.bench_types.specs.declared.entries.Entry.{Entry}
 use Rattle.bench_types.specs.declared.entries.Item.{Item}
 use Rattle.bench_types.specs.declared.exchanges.Exchange.{Exchange}
@@ -74,12 +74,6 @@ nothing_applied : (t : Table) (items : List Item) → length items ≡ 0 → app
 nothing_applied t [] none = refl
 nothing_applied t (i ∷ is) none = absurd (omega (arith, none))
 
-not_both : {A : Type 0} → false ≡ true → A
-not_both h = absurd (no h)
-  where
-    no : false ≡ true → ⊥
-    no h = cc
-
 -- what both take
 module _ (written : ℕ → List Entry) (rules : Rules) (e : Exchange) (most : ℕ) (h : HistoriesView)
     (so_far : (owner : ℕ) → IsWrittenSoFar (written owner) most h.rounds (all_writes h.lists owner)) (are : (owner : ℕ) → AreWrites (list_of_owner h.lists owner))
@@ -120,7 +114,7 @@ module _ (written : ℕ → List Entry) (rules : Rules) (e : Exchange) (most : �
     forth_is true false is q' same =
         ap (table_in written) same
         ∙ sym (nothing_applied (table_in written q) (delta_of_views rules e.rotation written p q).items (sym forth.count ∙ eqb-true forth_sent 0 (sym is)))
-    forth_is false true is q' takes = not_both is
+    forth_is false true is q' takes = absurd (both_ways false refl is)
     forth_is false false is q' takes = ap (table_in written) takes.rest
         ∙ becomes_applied rules e.rotation written most h so_far are p q p_kept q_kept p_fits q_fits nodes keys flow fhigh forth.marks after.cells q'.cells q'.greatest (same_after nothing after took) takes.taken
 

@@ -1,10 +1,10 @@
 -- What the calls of the histories make of all that is kept of the owners' writes.
 -- Serves `Histories::begin_generation`, `Histories::end_round`, `Histories::lasts`, `Histories::new` and
 -- `Histories::write`.
-use Rattle.std.proofs.Common.{◌≡◌, ◌≢◌, ℕ, zero, suc, ◌+◌, ◌-◌, ◌*◌, ◌<◌, ◌≤◌, ◌==◌, cond, List, [], ◌∷◌, ◌++◌, length, get_or, set, map, take, Some, ◌⊎◌, inl, inr, refl, sym, ap, ◌∙◌, subst, arith, length-append}
+use Rattle.std.proofs.Common.{◌≡◌, ◌≢◌, ℕ, zero, suc, ◌+◌, ◌*◌, ◌<◌, ◌≤◌, ◌==◌, cond, List, [], ◌∷◌, ◌++◌, length, get_or, set, map, take, Some, ◌⊎◌, inl, inr, refl, sym, ap, ◌∙◌, subst, arith, length-append}
 use Rattle.std.proofs.Math.Nat.{mul-le-mul_right}
 use Rattle.std.proofs.lemmas.Bool.{cases_lt, cases_eq, eq-eqb, ne_eqb}
-use Rattle.std.proofs.lemmas.List.{get_or-set_same, get_or-set_other, get_or_append_left, get_or_push, length-set, get_or-map, get_or-append-add, get_or-append_right, get_or_default, length-map, length-take-le, get_or-take, take-map, map-append, map-set, append_assoc, append-nil}
+use Rattle.std.proofs.lemmas.List.{get_or-set_same, get_or-set_other, get_or_append_left, get_or_push, length-set, get_or-map, get_or-append-add, get_or_default, length-map, length-take-le, get_or-take, take-map, map-append, map-set, append_assoc, append-nil}
 use Rattle.std.proofs.lemmas.Option.{same_Some}
 use Rattle.bench_types.specs.declared.entries.Entry.{Entry}
 use Rattle.bench_types.specs.declared.limits.TheConstants.{MOST_KEYS, MOST_NODES}
@@ -16,6 +16,7 @@ use Rattle.version_tables.specs.inner.Histories.{AreHistories, IsBeginning, IsWr
 use Rattle.owner_writes.specs.Numbered.{AreMadeBy, IsHistory, IsNumberedHistory, AreEnds, IsRoundMark}
 use Rattle.version_lags.specs.Missed.{IsLastNumber}
 use Rattle.owner_writes.proofs.Numbers.{write_from-some, numbered-within, write_from-at}
+use Rattle.version_tables.proofs.Generations.{current-at, earlier-at}
 use Rattle.version_tables.proofs.OwnCalls.{same-place, place-within}
 
 -- a write behind others has the number after theirs, and they keep their own
@@ -59,24 +60,23 @@ module _ (all : List Entry) (most rounds : ℕ) (v : OwnerListView) (key value :
   abbrev more : List Entry
   more = entries_of v ++ e ∷ []
 
-  earlier-at : (number : ℕ) (d : Entry) → write_numbered w number ≡ Some d → number ≤ length v.earlier → d.generation < v.generation
-  earlier-at zero d is le = absurd (omega (arith, (numbered-within w 0 d is).0))
-  earlier-at (suc place) d is le =
-      let lt : place < length v.earlier = omega (arith, le) in
-      omega (arith, are.earlier place d lt, ap (λ (x : Entry). x.generation) (sym (get_or_append_left v.earlier v.current d place lt) ∙ (write_from-at w place d d is).1))
+  -- what holds of each write before, and of the one more
+  each-more : (P : ℕ → Entry → Type 0) → ((number : ℕ) (d : Entry) → write_numbered w number ≡ Some d → P number d) → P (length w + 1) e → (number : ℕ) (d : Entry) → write_numbered more number ≡ Some d → P number d
+  each-more P before last number d is = elim (numbered-more w e number d is) [
+    | inl old ↦ before number d old.1
+    | inr new ↦ subst (λ n. P n d) (sym new.0) (subst (P (length w + 1)) (sym new.1) last)
+  ]
 
-  current-at : (number : ℕ) (d : Entry) → write_numbered w number ≡ Some d → length v.earlier < number → d.generation ≡ v.generation
-  current-at zero d is lt = absurd (omega (arith, lt))
-  current-at (suc place) d is lt =
-      let at = write_from-at w place d d is in
-      let within : place - length v.earlier < length v.current = omega (arith, lt, at.0, length-append v.earlier v.current) in
-      ap (λ (x : Entry). x.generation) (sym at.1 ∙ get_or-append_right v.earlier v.current (length v.earlier) place d refl (omega (arith, lt)))
-      ∙ (are.current (place - length v.earlier) d within).0
+  made-more : AreMadeBy (rounds + 1) more
+  made-more = record {
+    first = each-more (λ _ d. 1 ≤ d.born) so_far.made.first (omega arith);
+    last = each-more (λ _ d. d.born ≤ rounds + 1) so_far.made.last (omega arith);
+  }
 
-  born-upto : (i : ℕ) (d : Entry) → i < length w → (get_or w i d).born ≤ rounds + 1
+  born-upto : (i : ℕ) (d : Entry) → i < length more → (get_or more i d).born ≤ rounds + 1
   born-upto i d lt =
-      let there = write_from-some w i lt in
-      omega (arith, so_far.made.last (suc i) there.0 there.1, ap (λ (x : Entry). x.born) (write_from-at w i there.0 d there.1).1)
+      let there = write_from-some more i lt in
+      omega (arith, made-more.last (suc i) there.0 there.1, ap (λ (x : Entry). x.born) (write_from-at more i there.0 d there.1).1)
 
   history-more : IsHistory more
   history-more = record {
@@ -88,29 +88,20 @@ module _ (all : List Entry) (most rounds : ℕ) (v : OwnerListView) (key value :
           omega (arith, first, second, so_far.history.born i j d le before)
       | inr not_before ↦
           let last : length w ≡ j = omega (arith, not_before, lt, length-append w (e ∷ [])) in
-          let second : (get_or more j d).born ≡ rounds + 1 = ap (λ (x : Entry). x.born) (get_or_push w e d j last) in
-          elim (cases_lt i (length w)) [
-            | inl old ↦ omega (arith, ap (λ (x : Entry). x.born) (get_or_append_left w (e ∷ []) d i old), born-upto i d old, second)
-            | inr new ↦ omega (arith, ap (λ k. (get_or more k d).born) {x = i} {y = j} (omega (arith, le, new, last)))
-          ]
+          omega (arith, born-upto i d (omega (arith, le, lt)), ap (λ (x : Entry). x.born) (get_or_push w e d j last))
     ];
   }
 
   numbered_history-more : IsNumberedHistory more
   numbered_history-more = record {
-    counted = λ number d is. elim (numbered-more w e number d is) [
-      | inl old ↦ so_far.numbered.counted number d old.1
-      | inr new ↦
-          let version : d.version ≡ length v.current + 1 = ap (λ (x : Entry). x.version) new.1 in
-          (omega (arith, version), omega (arith, version, new.0, length-append v.earlier v.current))
-    ];
+    counted = each-more (λ number d. (1 ≤ d.version) × (d.version ≤ number)) so_far.numbered.counted (omega arith, omega (arith, length-append v.earlier v.current));
     older = λ m n c d is_c is_d le. elim (numbered-more w e n d is_d) [
       | inl old ↦ so_far.numbered.older m n c d (sym (numbered-before w e m (omega (arith, old.0, le))) ∙ is_c) old.1 le
       | inr new ↦
           let version : d.version ≡ length v.current + 1 = ap (λ (x : Entry). x.version) new.1 in
           let generation : d.generation ≡ v.generation = ap (λ (x : Entry). x.generation) new.1 in
           let upto : m ≤ length v.earlier = omega (arith, version, new.0, le, length-append v.earlier v.current) in
-          omega (arith, generation, earlier-at m c (sym (numbered-before w e m (omega (arith, upto, length-append v.earlier v.current))) ∙ is_c) upto)
+          omega (arith, generation, earlier-at v are m c (sym (numbered-before w e m (omega (arith, upto, length-append v.earlier v.current))) ∙ is_c) upto)
     ];
     alike = λ m n c d is_c is_d le lt. elim (numbered-more w e n d is_d) [
       | inl old ↦ so_far.numbered.alike m n c d (sym (numbered-before w e m (omega (arith, old.0, le))) ∙ is_c) old.1 le lt
@@ -118,21 +109,9 @@ module _ (all : List Entry) (most rounds : ℕ) (v : OwnerListView) (key value :
           let version : d.version ≡ length v.current + 1 = ap (λ (x : Entry). x.version) new.1 in
           let generation : d.generation ≡ v.generation = ap (λ (x : Entry). x.generation) new.1 in
           elim (numbered-more w e m c is_c) [
-            | inl old ↦ current-at m c old.1 (omega (arith, version, new.0, lt, length-append v.earlier v.current)) ∙ sym generation
+            | inl old ↦ (current-at v are m c old.1 (omega (arith, version, new.0, lt, length-append v.earlier v.current))).0 ∙ sym generation
             | inr also ↦ ap (λ (x : Entry). x.generation) (also.1 ∙ sym new.1)
           ]
-    ];
-  }
-
-  made-more : AreMadeBy (rounds + 1) more
-  made-more = record {
-    first = λ number d is. elim (numbered-more w e number d is) [
-      | inl old ↦ so_far.made.first number d old.1
-      | inr new ↦ omega (arith, ap (λ (x : Entry). x.born) new.1)
-    ];
-    last = λ number d is. elim (numbered-more w e number d is) [
-      | inl old ↦ so_far.made.last number d old.1
-      | inr new ↦ omega (arith, ap (λ (x : Entry). x.born) new.1)
     ];
   }
 
@@ -211,19 +190,7 @@ module _ (all : List Entry) (most rounds : ℕ) (v : OwnerListView) (key value :
 
 -- a call that changes one owner's list
 module _ (lists new : List OwnerListView) (owner : ℕ) (list : OwnerListView) (changes : ListBecomes owner list lists new) where
-  writes-changed : all_writes new owner ≡ entries_of list
-  writes-changed = ap entries_of changes.changed
-
-  writes-others : (r : ℕ) → r ≢ owner → all_writes new r ≡ all_writes lists r
-  writes-others r other = ap entries_of (changes.others r other)
-
-  -- what holds of the writes before, and of the owner's after the call, holds of all after it
-  each-writes : (P : ℕ → List Entry → Type 0) → ((r : ℕ) → r ≢ owner → P r (all_writes lists r)) → P owner (entries_of list) → (r : ℕ) → P r (all_writes new r)
-  each-writes P before here r = elim (cases_eq r owner) [
-    | inl same ↦ subst (P r) (sym (ap (all_writes new) same ∙ writes-changed)) (subst (λ k. P k (entries_of list)) (sym same) here)
-    | inr other ↦ subst (P r) (sym (writes-others r other)) (before r other)
-  ]
-
+  -- what holds of the lists before, and of the owner's after the call, holds of all after it
   each-list : (P : ℕ → OwnerListView → Type 0) → ((r : ℕ) → r ≢ owner → P r (list_of_owner lists r)) → P owner list → (r : ℕ) → P r (list_of_owner new r)
   each-list P before here r = elim (cases_eq r owner) [
     | inl same ↦ subst (P r) (sym (ap (list_of_owner new) same ∙ changes.changed)) (subst (λ k. P k list) (sym same) here)
@@ -289,8 +256,8 @@ module _ (written : ℕ → List Entry) (most : ℕ) (lists new : List OwnerList
       few_nodes = omega (arith, kept.few_nodes, changes.count);
       counted = subst (λ n. HasEach n (λ r n. n ≡ length (all_writes new r)) (set counts owner (length (all_writes lists owner) + 1))) (sym changes.count)
           (set-each (length lists) owner (λ r n. n ≡ length (all_writes new r)) counts (length (all_writes lists owner) + 1) kept.counted.size
-          (sym (ap (λ (es : List Entry). length es) (writes-changed lists new owner _ changes) ∙ longer))
-          (λ r lt other. kept.counted.each r lt ∙ sym (ap (λ (es : List Entry). length es) (writes-others lists new owner _ changes r other))));
+          (sym (ap (λ v. length (entries_of v)) changes.changed ∙ longer))
+          (λ r lt other. kept.counted.each r lt ∙ sym (ap (λ v. length (entries_of v)) (changes.others r other))));
       based = subst (λ n. HasEach n (λ r n. n ≡ length (list_of_owner new r).earlier) bases) (sym changes.count) (record {
         size = kept.based.size;
         each = λ r lt. each-list lists new owner _ changes (λ r (v : OwnerListView). r < length lists → get_or bases r 0 ≡ length v.earlier)
@@ -307,13 +274,13 @@ module _ (written : ℕ → List Entry) (most : ℕ) (lists new : List OwnerList
           ])
           r other lt));
       are = each-list lists new owner _ changes (λ r v. AreWrites v) (λ r _. kept.are r) (writes_more list (kept.are owner) key value (rounds + 1));
-      so_far = each-writes lists new owner _ changes (λ r w. IsWrittenSoFar (written r) most rounds w) (λ r _. kept.so_far r) grown;
+      so_far = each-list lists new owner _ changes (λ r v. IsWrittenSoFar (written r) most rounds (entries_of v)) (λ r _. kept.so_far r) grown;
       ends_size = kept.ends_size ∙ ap (λ n. (rounds + 1) * n) (sym changes.count);
       ended = subst (λ n. AreEnds (all_writes new) n rounds (cell ends n)) (sym changes.count) (record {
         none = kept.ended.none;
         rise = kept.ended.rise;
-        parts = λ r round lt upto. each-writes lists new owner _ changes
-            (λ r w. r < length lists → IsRoundMark w 0 round (cell ends (length lists) r round))
+        parts = λ r round lt upto. each-list lists new owner _ changes
+            (λ r v. r < length lists → IsRoundMark (entries_of v) 0 round (cell ends (length lists) r round))
             (λ r _ lt. kept.ended.parts r round lt upto)
             (λ lt. subst (λ w. IsRoundMark w 0 round (cell ends (length lists) owner round)) (sym behind)
             (mark-more (written owner) most rounds list key value (kept.are owner) so_far-own round (cell ends (length lists) owner round) upto
@@ -322,21 +289,15 @@ module _ (written : ℕ → List Entry) (most : ℕ) (lists new : List OwnerList
             r lt;
       });
       reached = λ r round lt upto. subst (λ n. cell ends n r round ≤ length (all_writes new r)) (sym changes.count)
-          (each-writes lists new owner _ changes (λ r w. r < length lists → cell ends (length lists) r round ≤ length w)
+          (each-list lists new owner _ changes (λ r v. r < length lists → cell ends (length lists) r round ≤ length (entries_of v))
           (λ r _ lt. kept.reached r round lt upto)
           (λ lt. omega (arith, kept.reached owner round lt upto, longer))
           r (omega (arith, lt, changes.count)));
     }))
 
   module _ (changes : ListBecomes owner (begun_generation list) lists new) where
-    same_writes : all_writes new owner ≡ all_writes lists owner
-    same_writes = writes-changed lists new owner _ changes ∙ append-nil (entries_of list)
-
     same_each : (r : ℕ) → all_writes new r ≡ all_writes lists r
-    same_each r = elim (cases_eq r owner) [
-      | inl same ↦ ap (all_writes new) same ∙ same_writes ∙ ap (all_writes lists) (sym same)
-      | inr other ↦ writes-others lists new owner _ changes r other
-    ]
+    same_each = each-list lists new owner _ changes (λ r v. entries_of v ≡ all_writes lists r) (λ r _. refl) (append-nil (entries_of list))
 
     -- no key has a write of it yet
     last-none : (k : ℕ) → IsLastNumber (begun_generation list) k 0
@@ -377,17 +338,13 @@ module _ (written : ℕ → List Entry) (most : ℕ) (lists new : List OwnerList
           (subst (λ w. cell ends (length lists) r round ≤ length w) (sym (same_each r)) (kept.reached r round (omega (arith, lt, changes.count)) upto));
     })
 
--- a place in rows of so many
-place-below : (nodes rounds round owner : ℕ) → round ≤ rounds → owner < nodes → round * nodes + owner < (rounds + 1) * nodes
-place-below nodes rounds round owner le lt = omega (arith, mul-le-mul_right {m = round + 1} {n = rounds + 1} nodes (omega (arith, le)))
-
 -- one more round's end
 module _ (written : ℕ → List Entry) (most : ℕ) (lists : List OwnerListView) (counts bases lasts ends : List ℕ) (rounds : ℕ) (kept : AreHistories written most lists counts bases lasts ends rounds) where
   abbrev nodes : ℕ
   nodes = length lists
 
   row-before : (owner round : ℕ) → owner < nodes → round ≤ rounds → cell (ends ++ counts) nodes owner round ≡ cell ends nodes owner round
-  row-before owner round lt upto = get_or_append_left ends counts 0 (round * nodes + owner) (omega (arith, place-below nodes rounds round owner upto lt, kept.ends_size))
+  row-before owner round lt upto = get_or_append_left ends counts 0 (round * nodes + owner) (omega (arith, place-within nodes (rounds + 1) owner round lt (omega (arith, upto)), kept.ends_size))
 
   row-last : (owner round : ℕ) → owner < nodes → round ≡ rounds + 1 → cell (ends ++ counts) nodes owner round ≡ length (all_writes lists owner)
   row-last owner round lt last =

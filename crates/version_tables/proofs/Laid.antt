@@ -1,15 +1,15 @@
 -- What a table that lies in cells holds.
 -- Serves most of the crate.
-use Rattle.std.proofs.Common.{◌≡◌, ◌≢◌, ℕ, zero, suc, ◌<◌, ◌≤◌, true, false, cond, eqb, List, [], ◌∷◌, ◌++◌, map, Some, None, ◌⊎◌, inl, inr, refl, sym, ap, ◌∙◌, subst, arith}
+use Rattle.std.proofs.Common.{◌≡◌, ◌≢◌, ℕ, zero, suc, ◌<◌, ◌≤◌, true, false, cond, eqb, List, [], ◌∷◌, ◌++◌, length, map, Vec, Some, None, ◌⊎◌, inl, inr, refl, sym, ap, ◌∙◌, subst, arith}
 use Rattle.std.specs.List.{range_with_len}
+use Rattle.std.specs.Vec.{with_items}
 use Rattle.std.proofs.lemmas.Bool.{cases_lt, eq-eqb, ne_eqb}
-use Rattle.std.proofs.lemmas.List.{get_or_past}
+use Rattle.std.proofs.lemmas.List.{get_or_past, with_items_is}
+use Rattle.std.proofs.lemmas.Option.{none-some}
 use Rattle.std.proofs.lemmas.List.FromFn.{get_or-map-range_with_len, length-map-range_with_len}
 use Rattle.bench_types.specs.declared.entries.Entry.{Entry}
-use Rattle.bench_types.specs.declared.limits.TheConstants.{MOST_NODES, LEAST_KEYS, MOST_KEYS}
-use Rattle.model.specs.Table.{Table, entry_at, empty_table, IsProper}
-use Rattle.model.proofs.TableLaws.{same_table, entry_at-empty_table}
-use Rattle.model.proofs.ProperLaws.{proper-empty_table}
+use Rattle.model.specs.Table.{Table, entry_at, IsProper}
+use Rattle.model.proofs.TableLaws.{same_table}
 use Rattle.model.specs.inner.Held.{entry_in}
 use Rattle.model.proofs.InLists.{get-held_by_lists}
 use Rattle.delta_plans.specs.Offers.{HasCells}
@@ -21,18 +21,12 @@ use Rattle.version_tables.specs.Laid.{entry_list, entries_below, table_of_cells,
 entry_in-append_none : (xs ys : List Entry) (key : ℕ) → entry_in xs key ≡ None → entry_in (xs ++ ys) key ≡ entry_in ys key
 entry_in-append_none [] ys key none = refl
 entry_in-append_none (x ∷ xs) ys key none = elim (eqb x.key key) as (λ b. cond b (Some x) (entry_in xs key) ≡ None → cond b (Some x) (entry_in (xs ++ ys) key) ≡ entry_in ys key) [
-  | true ↦ λ e. absurd (some e)
+  | true ↦ λ e. absurd (none-some x (sym e))
   | false ↦ λ e. entry_in-append_none xs ys key e
 ] none
-  where
-    some : Some x ≡ None → ⊥
-    some h = cc
 
 entry_in-append_some : (xs ys : List Entry) (key : ℕ) (e : Entry) → entry_in xs key ≡ Some e → entry_in (xs ++ ys) key ≡ Some e
-entry_in-append_some [] ys key e is = absurd (none is)
-  where
-    none : None ≡ Some e → ⊥
-    none h = cc
+entry_in-append_some [] ys key e is = absurd (none-some e is)
 entry_in-append_some (x ∷ xs) ys key e is = elim (eqb x.key key) as (λ b. cond b (Some x) (entry_in xs key) ≡ Some e → cond b (Some x) (entry_in (xs ++ ys) key) ≡ Some e) [
   | true ↦ λ here. here
   | false ↦ λ later. entry_in-append_some xs ys key e later
@@ -122,24 +116,11 @@ cells_table lists cells is proper are has =
       ]
     ]
 
--- cells of which all are 0 are those of an empty table
-pub no_cells : (lists : ℕ → List Entry) (node nodes keys : ℕ) (cells : Cells) → node < nodes → nodes ≤ MOST_NODES → LEAST_KEYS ≤ keys → keys ≤ MOST_KEYS → ((owner key : ℕ) → owner < nodes → key < keys → cells owner key ≡ 0)
-    → AreNumbers lists nodes keys cells × (table_of_cells lists node nodes keys 0 cells ≡ empty_table node nodes keys)
-no_cells lists node nodes keys cells in_nodes few some many none = (
-  are,
-  cells_table lists cells (empty_table node nodes keys) (proper-empty_table node nodes keys in_nodes few some many) are
-      (λ owner key below in_keys. entry_at-empty_table node nodes keys owner key ∙ sym (ap (write_numbered (lists owner)) (none owner key below in_keys))),
-)
-  where
-    are : AreNumbers lists nodes keys cells
-    are = record {
-      written = λ owner key below in_keys. omega (arith, none owner key below in_keys);
-      keyed = λ owner key e below in_keys is. absurd (nothing owner e (sym (ap (write_numbered (lists owner)) (none owner key below in_keys)) ∙ is));
-    }
-      where
-        nothing : (owner : ℕ) (e : Entry) → None ≡ Some e → ⊥
-        nothing owner e h = cc
-
 -- what is seen of a table, of which it is known that it is what lies there
 abbrev pub seen : {A : Type 0} {x y : A} → x ≡ y → A
 seen {x = x} is = x
+
+-- what is known of what a vector's numbers became is known of it
+pub put-back : {N Z : Type 0} (P : List ℕ → List ℕ → Type 0) (number : N → ℕ) (v : Vec N Z) (read new : List N) → length new ≡ v.len → read ≡ v.items → P (map number read) (map number new) → P (map number v.items) (map number (with_items v new).items)
+put-back P number v read new size is changed =
+    subst (λ xs. P (map number v.items) (map number xs)) (sym (with_items_is v new size)) (subst (λ xs. P (map number xs) (map number new)) is changed)

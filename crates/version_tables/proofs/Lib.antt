@@ -4,6 +4,7 @@ pub mod Delivered
 pub mod Laid
 pub mod TakenCells
 pub mod Fitting
+pub mod Generations
 pub mod OwnCalls
 pub mod NextWrites
 pub mod Standing
@@ -13,7 +14,6 @@ pub mod TakenByOwner
 pub mod TakenViews
 pub mod ExchangedViews
 pub mod Merged
-pub mod MergedViews
 pub mod DigestSizes
 pub mod HistoryCalls
 pub mod Carried

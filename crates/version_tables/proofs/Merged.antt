@@ -1,7 +1,7 @@
 -- Tables that take all that the other has above their own greatest numbers exchange as the model's do.
--- Serves `exchange_all`.
+-- Serves `exchange`.
 use Rattle.std.proofs.Common.{◌≡◌, ℕ, zero, suc, ◌+◌, ◌-◌, ◌*◌, ◌<◌, ◌≤◌, ◌&&◌, true, false, cond, min, max, nat_lt, nat_le, List, length, get_or, map, ◌⊎◌, inl, inr, refl, sym, ap, ◌∙◌, subst, arith}
-use Rattle.std.specs.Prelude.{Some, None}
+use Rattle.std.specs.Prelude.{Option, Some, None}
 use Rattle.std.proofs.Math.Bool.{and-true}
 use Rattle.std.proofs.Math.Nat.{mul-le-mul_right}
 use Rattle.std.proofs.lemmas.Bool.{cases_lt, lt-ltb, le-leb}
@@ -104,15 +104,11 @@ module _ (cells : Cells) (owner : ℕ) where
   ]
 
 -- no write takes more than the largest share
-largest-share : (budget : Budget) (writes : List Entry) (number : ℕ) → share_or_none budget (write_numbered writes number) ≤ largest_share budget
-largest-share (Entries n) writes number = elim (write_numbered writes number) as (λ o. share_or_none (Entries n) o ≤ 1) [
-  | None ↦ omega arith
-  | Some e ↦ omega arith
-]
-largest-share (Bytes n) writes number = elim (write_numbered writes number) as (λ o. share_or_none (Bytes n) o ≤ largest_share (Bytes n)) [
-  | None ↦ omega arith
-  | Some e ↦ omega arith
-]
+largest-share : (budget : Budget) (o : Option Entry) → share_or_none budget o ≤ largest_share budget
+largest-share (Entries n) None = omega arith
+largest-share (Entries n) (Some e) = omega arith
+largest-share (Bytes n) None = omega arith
+largest-share (Bytes n) (Some e) = omega arith
 
 -- one number, of which the sender has none above a high mark
 module _ (x s low high : ℕ) (upto : s ≤ high) where
@@ -194,7 +190,7 @@ module _ (written : ℕ → List Entry) (rules : Rules) (rotation most : ℕ) (h
   -- so all of it fits
   within : weight_in id offer (low_in id offer) (high_in id offer) ≤ amount_of rules.budget
   within =
-      let weighs = weight_between-most (weights_in offer) (largest_share rules.budget) (cells_in id offer) from.nodes from.keys (low_in id offer) (high_in id offer) (λ owner number. largest-share rules.budget (lists owner) number) in
+      let weighs = weight_between-most (weights_in offer) (largest_share rules.budget) (cells_in id offer) from.nodes from.keys (low_in id offer) (high_in id offer) (λ owner number. largest-share rules.budget (write_numbered (lists owner) number)) in
       elim may.fits [
         | inl apart ↦
             let times = mul-le-mul_right {m = count_in id offer (low_in id offer) (high_in id offer)} {n = most_ahead from.nodes from.keys from.greatest to.greatest} (largest_share rules.budget) count-few in

@@ -1,11 +1,10 @@
 -- What an owner writes next stands under the number behind all that it wrote, above what its table holds of it.
 -- Serves `write`.
-use Rattle.std.proofs.Common.{◌≡◌, ℕ, zero, suc, ◌+◌, ◌-◌, ◌<◌, ◌≤◌, List, length, get_or, Some, None, inl, inr, refl, sym, ap, ◌∙◌, subst, arith}
-use Rattle.std.specs.Prelude.{slice_index}
+use Rattle.std.proofs.Common.{◌≡◌, ℕ, zero, suc, ◌+◌, ◌-◌, ◌<◌, ◌≤◌, List, length, Some, inl, inr, sym, ap, ◌∙◌, subst, arith}
+use Rattle.std.specs.Prelude.{slice_index, Contains}
 use Rattle.std.proofs.lemmas.Bool.{cases_lt}
-use Rattle.std.proofs.lemmas.List.{length-append, get_or_append_left, get_or-append_right}
-use Rattle.std.proofs.lemmas.List.Elements.{All-get_or}
-use Rattle.std.proofs.lemmas.Option.{same_Some}
+use Rattle.std.proofs.lemmas.List.{length-append}
+use Rattle.std.proofs.lemmas.Option.{none-some, same_Some}
 use Rattle.bench_types.specs.declared.entries.Entry.{Entry}
 use Rattle.bench_types.specs.Mark.{mark_of, mark_held, IsUpTo}
 use Rattle.model.specs.Table.{Table, entry_at, greatest_mark, greatest_version}
@@ -17,25 +16,10 @@ use Rattle.version_tables.specs.Views.{VersionTableView, table_in, IsKept}
 use Rattle.version_tables.specs.Writes.{IsNextWrite}
 use Rattle.version_tables.specs.inner.Histories.{IsBeginning, IsWriteUnder}
 use Rattle.version_tables.specs.Laid.{IsFirst}
+use Rattle.version_tables.proofs.Fitting.{so-far-upto}
+use Rattle.version_tables.proofs.Generations.{current-at, earlier-at}
 use Rattle.version_tables.proofs.Laid.{has_cells}
-use Rattle.owner_writes.proofs.Numbers.{numbered-some, write_from-at}
-
-nothing : (e : Entry) → None ≡ Some e → ⊥
-nothing e h = cc
-
--- a write of an earlier generation, and one of the owner's own
-module _ (list : OwnerListView) (are : AreWrites list) (place : ℕ) (e : Entry) (is : write_from (entries_of list) place ≡ Some e) where
-  earlier-at : place < length list.earlier → e.generation < list.generation
-  earlier-at lt =
-      subst (λ (d : Entry). d.generation < list.generation) (sym (get_or_append_left list.earlier list.current e place lt) ∙ (write_from-at (entries_of list) place e e is).1)
-      (All-get_or (λ (d : Entry). d.generation < list.generation) list.earlier place e lt are.earlier)
-
-  current-at : length list.earlier ≤ place → (e.generation ≡ list.generation) × (e.version ≡ place - length list.earlier + 1)
-  current-at le =
-      let at = write_from-at (entries_of list) place e e is in
-      let here : get_or list.current (place - length list.earlier) e ≡ e = sym (get_or-append_right list.earlier list.current (length list.earlier) place e refl le) ∙ at.1 in
-      let next = are.current (place - length list.earlier) e (omega (arith, at.0, le, length-append list.earlier list.current)) in
-      (sym (ap (λ (d : Entry). d.generation) here) ∙ next.0, sym (ap (λ (d : Entry). d.version) here) ∙ next.1 ∙ omega arith)
+use Rattle.owner_writes.proofs.Numbers.{numbered-some, write_from-at, write_from-some}
 
 module _ (written : ℕ → List Entry) (v : VersionTableView) (kept : IsKept written v) (list : OwnerListView) (are : AreWrites list) (begins : IsBeginning (entries_of list) (written v.node)) (generation : v.generation ≡ list.generation)
     (greatest : greatest_version (table_in written v) v.node ≡ length list.current) (most key value born : ℕ) (under : IsWriteUnder written most v.node (length (entries_of list) + 1) (next_entry list key value born)) where
@@ -49,48 +33,24 @@ module _ (written : ℕ → List Entry) (v : VersionTableView) (kept : IsKept wr
   in_nodes = kept.proper.node_below
 
   -- what the table holds of the node is a write so far
-  module _ (k : ℕ) (in_keys : k < v.keys) (past : length (entries_of list) < cell v.cells v.nodes v.node k) where
-    abbrev n : ℕ
-    n = cell v.cells v.nodes v.node k
-
-    there : (e : Entry) × (write_numbered (written v.node) n ≡ Some e)
-    there = numbered-some (written v.node) n (omega (arith, past)) (kept.numbers.written v.node k in_nodes in_keys)
-
-    holds : entry_at t v.node k ≡ Some there.0
-    holds = has_cells written v.node v.nodes v.keys v.generation (cell v.cells v.nodes) kept.numbers v.node k in_nodes in_keys ∙ there.1
-
-    low : there.0.version ≤ length list.current
-    low =
-        let most : IsUpTo (mark_of there.0) (greatest_mark t v.node) = subst (λ h. IsUpTo (mark_held h) (greatest_mark t v.node)) holds (mark_at-up_to_greatest t v.node k in_keys) in
-        omega (arith, most.version (kept.proper.copies v.node k there.0 holds), greatest)
-
-    some : 1 ≤ there.0.version
-    some = (kept.proper.in_place v.node k there.0 holds).written
-
-    abbrev m : ℕ
-    m = suc (length list.earlier + (there.0.version - 1))
-
-    within : m ≤ length (entries_of list)
-    within = omega (arith, low, some, length-append list.earlier list.current)
-
-    before : (d : Entry) × (write_numbered (entries_of list) m ≡ Some d)
-    before = numbered-some (entries_of list) m (omega arith) within
-
-    same : before.0 ≡ there.0
-    same =
-        let at = current-at list are (length list.earlier + (there.0.version - 1)) before.0 before.1 (omega arith) in
-        let one : before.0.generation ≡ there.0.generation = at.0 ∙ sym generation ∙ sym (kept.proper.own k there.0 holds) in
-        let two : before.0.version ≡ there.0.version = omega (arith, at.1, some) in
-        under.apart m n before.0 there.0 (sym (begins m within) ∙ before.1) there.1 (λ i. record { generation = one i; version = two i })
-
-    never : ⊥
-    never = kept.first v.node k in_nodes in_keys m (omega (arith, within, past)) (sym (begins m within) ∙ before.1 ∙ ap Some same ∙ sym there.1)
+  held_so_far : (k : ℕ) (e : Entry) → entry_at t v.node k ≡ Some e → Contains (entries_of list) e
+  held_so_far k e holds =
+      let here = kept.proper.in_place v.node k e holds in
+      let most : IsUpTo (mark_of e) (greatest_mark t v.node) = subst (λ h. IsUpTo (mark_held h) (greatest_mark t v.node)) holds (mark_at-up_to_greatest t v.node k here.key_below) in
+      let low : e.version ≤ length list.current = omega (arith, most.version (kept.proper.copies v.node k e holds), greatest) in
+      let place = length list.earlier + (e.version - 1) in
+      let within : place < length (entries_of list) = omega (arith, low, here.written, length-append list.earlier list.current) in
+      let there = write_from-some (entries_of list) place within in
+      let at = current-at list are (suc place) there.0 there.1 (omega arith) in
+      let is : write_numbered (written v.node) (cell v.cells v.nodes v.node k) ≡ Some e =
+      sym (has_cells written v.node v.nodes v.keys v.generation (cell v.cells v.nodes) kept.numbers v.node k in_nodes here.key_below) ∙ holds in
+      let one : there.0.generation ≡ e.generation = at.0 ∙ sym generation ∙ sym (kept.proper.own k e holds) in
+      let two : there.0.version ≡ e.version = omega (arith, at.1, here.written) in
+      let same = under.apart (suc place) (cell v.cells v.nodes v.node k) there.0 e (sym (begins (suc place) (omega (arith, within))) ∙ there.1) is (λ i. record { generation = one i; version = two i }) in
+      (place, within, (write_from-at (entries_of list) place there.0 e there.1).1 ∙ same)
 
   upto : (k : ℕ) → k < v.keys → cell v.cells v.nodes v.node k < number
-  upto k in_keys = elim (cases_lt (length (entries_of list)) (cell v.cells v.nodes v.node k)) [
-    | inl past ↦ absurd (never k in_keys past)
-    | inr not_past ↦ omega (arith, not_past)
-  ]
+  upto k in_keys = omega (arith, so-far-upto written v kept (entries_of list) v.node begins held_so_far k in_nodes in_keys)
 
   above : slice_index v.greatest v.node < number
   above = elim (kept.most v.node in_nodes).held [
@@ -101,12 +61,12 @@ module _ (written : ℕ → List Entry) (v : VersionTableView) (kept : IsKept wr
   -- no earlier write is this one
   earlier-other : (place : ℕ) (d : Entry) → write_from (entries_of list) place ≡ Some d → place < length (entries_of list) → d ≡ next_entry list key value born → ⊥
   earlier-other place d is lt same = elim (cases_lt place (length list.earlier)) [
-    | inl in_earlier ↦ omega (arith, earlier-at list are place d is in_earlier, ap (λ (x : Entry). x.generation) same)
-    | inr in_current ↦ omega (arith, (current-at list are place d is (omega (arith, in_current))).1, ap (λ (x : Entry). x.version) same, lt, length-append list.earlier list.current)
+    | inl in_earlier ↦ omega (arith, earlier-at list are (suc place) d is (omega (arith, in_earlier)), ap (λ (x : Entry). x.generation) same)
+    | inr in_current ↦ omega (arith, (current-at list are (suc place) d is (omega (arith, in_current))).1, ap (λ (x : Entry). x.version) same, lt, length-append list.earlier list.current)
   ]
 
   first : IsFirst (written v.node) number
-  first zero lt same = nothing (next_entry list key value born) (same ∙ under.is)
+  first zero lt same = none-some (next_entry list key value born) (same ∙ under.is)
   first (suc place) lt same =
       let at = numbered-some (entries_of list) (suc place) (omega arith) (omega (arith, lt)) in
       earlier-other place at.0 at.1 (omega (arith, lt)) (same_Some at.0 (next_entry list key value born) (sym at.1 ∙ begins (suc place) (omega (arith, lt)) ∙ same ∙ under.is))

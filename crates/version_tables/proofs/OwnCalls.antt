@@ -1,31 +1,24 @@
 -- A node's own calls on its table: its numbers lie as those of the table that the model has then.
 -- Serves the functions of `owners` and `tables` and `HistoryCalls`.
-use Rattle.std.proofs.Common.{◌≡◌, ◌≢◌, ℕ, ◌+◌, ◌*◌, ◌<◌, ◌≤◌, ◌==◌, cond, List, length, get_or, set, Some, None, ◌⊎◌, inl, inr, sym, ap, ◌∙◌, subst, arith}
+use Rattle.std.proofs.Common.{◌≡◌, ◌≢◌, ℕ, ◌+◌, ◌*◌, ◌<◌, ◌≤◌, ◌==◌, cond, List, length, get_or, set, Some, ◌⊎◌, inl, inr, sym, ap, ◌∙◌, subst, arith}
 use Rattle.std.specs.Prelude.{slice_index}
 use Rattle.std.proofs.Math.Nat.{mul-le-mul_right}
 use Rattle.std.proofs.lemmas.Bool.{cases_lt, cases_eq, eq-eqb, ne_eqb}
 use Rattle.std.proofs.lemmas.List.{get_or-set_same, get_or-set_other, length-set, get_or_past}
-use Rattle.std.proofs.lemmas.Option.{same_Some}
+use Rattle.std.proofs.lemmas.Option.{none-some, same_Some}
 use Rattle.bench_types.specs.declared.entries.Entry.{Entry}
 use Rattle.bench_types.specs.declared.limits.TheConstants.{MOST_NODES, LEAST_KEYS, MOST_KEYS}
-use Rattle.bench_types.specs.Mark.{mark_of, IsBefore}
-use Rattle.bench_types.proofs.Marks.{not_both, up_to-itself}
 use Rattle.model.specs.Table.{Table, entry_at, empty_table, with_own_write, without_others, without_all, IsProper}
 use Rattle.model.proofs.TableLaws.{entry_at-own_write, entry_at-own_write_other, entry_at-without_others_own, entry_at-without_others_other, entry_at-without_all, entry_at-empty_table}
 use Rattle.model.proofs.ProperLaws.{proper-empty_table, proper-with_own_write, proper-without_others, proper-without_all}
 use Rattle.model.specs.calls.Numbers.{write_numbered}
-use Rattle.planes.specs.Planes.{cell, ArePlanesChanged, HasEach}
+use Rattle.planes.specs.Planes.{Cells, cell, ArePlanesChanged, HasEach}
 use Rattle.planes.specs.Elementwise.{AreChanged}
 use Rattle.version_tables.specs.Views.{VersionTableView, table_in, IsKept}
 use Rattle.version_tables.specs.Writes.{IsNextWrite, HasOwnWrite}
-use Rattle.version_tables.specs.inner.Histories.{IsBeginning}
 use Rattle.version_tables.specs.Laid.{table_of_cells, AreNumbers, IsFirst, IsGreatest, IsVersionTable}
-use Rattle.owner_writes.specs.Numbered.{IsHistory}
 use Rattle.version_tables.proofs.Laid.{has_cells, cells_table}
-use Rattle.owner_writes.proofs.Numbers.{numbered-some, numbered-within, numbers-before}
-
-nothing : (e : Entry) → None ≡ Some e → ⊥
-nothing e h = cc
+use Rattle.owner_writes.proofs.Numbers.{numbered-within}
 
 -- numbers of which all but an owner's are put to 0
 pub kept-one : (old mid : List ℕ) (owner : ℕ) → owner < length old → AreChanged (λ r x y. y ≡ 0) old mid → AreChanged (λ r x y. y ≡ cond (r == owner) x 0) old (set mid owner (get_or old owner 0))
@@ -67,15 +60,15 @@ all_zero old new cleared i = elim (cases_lt i (length old)) [
 ]
 
 -- a number is that of a write of its key, or 0, and stands first
-record IsGood (written : ℕ → List Entry) (owner key number : ℕ) : Type 0 where
-  within : number ≤ length (written owner)
-  keyed : (e : Entry) → write_numbered (written owner) number ≡ Some e → e.key ≡ key
-  first : IsFirst (written owner) number
+pub record IsGood (written : ℕ → List Entry) (owner key number : ℕ) : Type 0 where
+  pub within : number ≤ length (written owner)
+  pub keyed : (e : Entry) → write_numbered (written owner) number ≡ Some e → e.key ≡ key
+  pub first : IsFirst (written owner) number
 
 good_zero : (written : ℕ → List Entry) (owner key : ℕ) → IsGood written owner key 0
 good_zero written owner key = record {
   within = omega arith;
-  keyed = λ e is. absurd (nothing e is);
+  keyed = λ e is. absurd (none-some e is);
   first = λ m lt. absurd (omega (arith, lt));
 }
 
@@ -87,13 +80,13 @@ good_kept written v kept owner key in_nodes in_keys = record {
 }
 
 -- numbers that lie as a proper table is
-record LiesAs (written : ℕ → List Entry) (is : Table) (cells greatest : List ℕ) : Type 0 where
-  proper : IsProper is
-  cell_count : length cells ≡ is.keys * is.nodes
-  greatest_count : length greatest ≡ is.nodes
-  good : (owner key : ℕ) → owner < is.nodes → key < is.keys → IsGood written owner key (cell cells is.nodes owner key)
-  holds : (owner key : ℕ) → owner < is.nodes → key < is.keys → entry_at is owner key ≡ write_numbered (written owner) (cell cells is.nodes owner key)
-  most : (owner : ℕ) → owner < is.nodes → IsGreatest (cell cells is.nodes) is.keys owner (slice_index greatest owner)
+pub record LiesAs (written : ℕ → List Entry) (is : Table) (cells greatest : List ℕ) : Type 0 where
+  pub proper : IsProper is
+  pub cell_count : length cells ≡ is.keys * is.nodes
+  pub greatest_count : length greatest ≡ is.nodes
+  pub good : (owner key : ℕ) → owner < is.nodes → key < is.keys → IsGood written owner key (cell cells is.nodes owner key)
+  pub holds : (owner key : ℕ) → owner < is.nodes → key < is.keys → entry_at is owner key ≡ write_numbered (written owner) (cell cells is.nodes owner key)
+  pub most : (owner : ℕ) → owner < is.nodes → IsGreatest (cell cells is.nodes) is.keys owner (slice_index greatest owner)
 
 module _ (written : ℕ → List Entry) (is : Table) (cells greatest : List ℕ) (lies : LiesAs written is cells greatest) where
   numbers : AreNumbers written is.nodes is.keys (cell cells is.nodes)
@@ -102,10 +95,10 @@ module _ (written : ℕ → List Entry) (is : Table) (cells greatest : List ℕ)
     keyed = λ owner key e in_nodes in_keys at. (lies.good owner key in_nodes in_keys).keyed e at;
   }
 
-  lies-table : table_of_cells written is.node is.nodes is.keys is.generation (cell cells is.nodes) ≡ is
+  pub lies-table : table_of_cells written is.node is.nodes is.keys is.generation (cell cells is.nodes) ≡ is
   lies-table = cells_table written (cell cells is.nodes) is lies.proper numbers (λ owner key in_nodes in_keys. lies.holds owner key in_nodes in_keys)
 
-  lies-kept : IsVersionTable written is.node is.nodes is.keys is.generation cells greatest
+  pub lies-kept : IsVersionTable written is.node is.nodes is.keys is.generation cells greatest
   lies-kept = record {
     proper = subst IsProper (sym lies-table) lies.proper;
     cell_count = lies.cell_count;
@@ -115,13 +108,20 @@ module _ (written : ℕ → List Entry) (is : Table) (cells greatest : List ℕ)
     most = lies.most;
   }
 
+-- where its numbers stay, so does an owner's greatest one
+same-most : (old new : Cells) (keys owner before after : ℕ) → ((key : ℕ) → key < keys → new owner key ≡ old owner key) → after ≡ before → IsGreatest old keys owner before → IsGreatest new keys owner after
+same-most old new keys owner before after same is most = record {
+  upto = λ key lt. omega (arith, same key lt, most.upto key lt, is);
+  held = elim most.held [ inl none ↦ inl (is ∙ none) | inr (key, lt, at) ↦ inr (key, lt, same key lt ∙ at ∙ sym is) ];
+}
+
 -- a table that starts
 module _ (written : ℕ → List Entry) (node nodes keys : ℕ) (cells greatest : List ℕ) (in_nodes : node < nodes) (few : nodes ≤ MOST_NODES) (some : LEAST_KEYS ≤ keys) (many : keys ≤ MOST_KEYS)
     (no_cells : HasEach (keys * nodes) (λ r n. n ≡ 0) cells) (no_greatest : HasEach nodes (λ r n. n ≡ 0) greatest) where
   none : (owner key : ℕ) → owner < nodes → key < keys → cell cells nodes owner key ≡ 0
   none owner key in_node in_key = no_cells.each (key * nodes + owner) (place-within nodes keys owner key in_node in_key)
 
-  starts : LiesAs written (empty_table node nodes keys) cells greatest
+  pub starts : LiesAs written (empty_table node nodes keys) cells greatest
   starts = record {
     proper = proper-empty_table node nodes keys in_nodes few some many;
     cell_count = no_cells.size;
@@ -130,12 +130,6 @@ module _ (written : ℕ → List Entry) (node nodes keys : ℕ) (cells greatest 
     holds = λ owner key in_node in_key. entry_at-empty_table node nodes keys owner key ∙ sym (ap (write_numbered (written owner)) (none owner key in_node in_key));
     most = λ owner in_node. record { upto = λ key in_key. omega (arith, none owner key in_node in_key); held = inl (no_greatest.each owner in_node) };
   }
-
-  pub starts-table : table_of_cells written node nodes keys 0 (cell cells nodes) ≡ empty_table node nodes keys
-  starts-table = lies-table written (empty_table node nodes keys) cells greatest starts
-
-  pub starts-kept : IsVersionTable written node nodes keys 0 cells greatest
-  starts-kept = lies-kept written (empty_table node nodes keys) cells greatest starts
 
 module _ (written : ℕ → List Entry) (v : VersionTableView) (kept : IsKept written v) where
   abbrev t : Table
@@ -146,7 +140,7 @@ module _ (written : ℕ → List Entry) (v : VersionTableView) (kept : IsKept wr
 
   -- one that forgets
   module _ (cells greatest : List ℕ) (no_cells : AreChanged (λ r x y. y ≡ 0) v.cells cells) (no_greatest : AreChanged (λ r x y. y ≡ 0) v.greatest greatest) where
-    forgets : LiesAs written (without_all t) cells greatest
+    pub forgets : LiesAs written (without_all t) cells greatest
     forgets = record {
       proper = proper-without_all t kept.proper;
       cell_count = no_cells.size ∙ kept.cell_count;
@@ -158,12 +152,6 @@ module _ (written : ℕ → List Entry) (v : VersionTableView) (kept : IsKept wr
         held = inl (all_zero v.greatest greatest no_greatest owner);
       };
     }
-
-    pub forgets-table : (now : VersionTableView) → v ≡ now → table_of_cells written v.node v.nodes v.keys (v.generation + 1) (cell cells v.nodes) ≡ without_all (table_in written now)
-    forgets-table now is = lies-table written (without_all t) cells greatest forgets ∙ ap (λ (w : VersionTableView). without_all (table_in written w)) is
-
-    pub forgets-kept : IsVersionTable written v.node v.nodes v.keys (v.generation + 1) cells greatest
-    forgets-kept = lies-kept written (without_all t) cells greatest forgets
 
   -- one that restarts
   module _ (cells greatest : List ℕ) (own_cells : ArePlanesChanged (λ r k x y. y ≡ cond (r == v.node) x 0) v.nodes v.keys v.cells cells) (own_greatest : AreChanged (λ r x y. y ≡ cond (r == v.node) x 0) v.greatest greatest) where
@@ -192,23 +180,15 @@ module _ (written : ℕ → List Entry) (v : VersionTableView) (kept : IsKept wr
 
     restart_most : (owner : ℕ) → owner < v.nodes → IsGreatest (cell cells v.nodes) v.keys owner (slice_index greatest owner)
     restart_most owner in_nodes = elim (cases_eq owner v.node) [
-      | inl own ↦
-          let same : slice_index greatest owner ≡ slice_index v.greatest owner =
-          own_greatest.each owner (omega (arith, in_nodes, kept.greatest_count)) ∙ ap (λ b. cond b (slice_index v.greatest owner) 0) (eq-eqb owner v.node own) in
-          record {
-            upto = λ key in_keys. omega (arith, own_cell owner key in_nodes in_keys own, (kept.most owner in_nodes).upto key in_keys, same);
-            held = elim (kept.most owner in_nodes).held [
-              | inl zero' ↦ inl (same ∙ zero')
-              | inr (key, in_keys, is) ↦ inr (key, in_keys, own_cell owner key in_nodes in_keys own ∙ is ∙ sym same)
-            ];
-          }
+      | inl own ↦ same-most (cell v.cells v.nodes) (cell cells v.nodes) v.keys owner (slice_index v.greatest owner) (slice_index greatest owner) (λ key lt. own_cell owner key in_nodes lt own)
+          (own_greatest.each owner (omega (arith, in_nodes, kept.greatest_count)) ∙ ap (λ b. cond b (slice_index v.greatest owner) 0) (eq-eqb owner v.node own)) (kept.most owner in_nodes)
       | inr other ↦ record {
         upto = λ key in_keys. omega (arith, other_cell owner key in_nodes in_keys other);
         held = inl (own_greatest.each owner (omega (arith, in_nodes, kept.greatest_count)) ∙ ap (λ b. cond b (slice_index v.greatest owner) 0) (ne_eqb owner v.node other));
       }
     ]
 
-    restarts : LiesAs written (without_others t) cells greatest
+    pub restarts : LiesAs written (without_others t) cells greatest
     restarts = record {
       proper = proper-without_others t kept.proper;
       cell_count = own_cells.size ∙ kept.cell_count;
@@ -217,12 +197,6 @@ module _ (written : ℕ → List Entry) (v : VersionTableView) (kept : IsKept wr
       holds = restart_holds;
       most = restart_most;
     }
-
-    pub restarts-table : (now : VersionTableView) → v ≡ now → table_of_cells written v.node v.nodes v.keys v.generation (cell cells v.nodes) ≡ without_others (table_in written now)
-    restarts-table now is = lies-table written (without_others t) cells greatest restarts ∙ ap (λ (w : VersionTableView). without_others (table_in written w)) is
-
-    pub restarts-kept : IsVersionTable written v.node v.nodes v.keys v.generation cells greatest
-    restarts-kept = lies-kept written (without_others t) cells greatest restarts
 
   -- one that writes
   module _ (key number : ℕ) (in_keys : key < v.keys) (write : IsNextWrite written v key number) where
@@ -301,18 +275,11 @@ module _ (written : ℕ → List Entry) (v : VersionTableView) (kept : IsKept wr
     write_most : (owner : ℕ) → owner < v.nodes → IsGreatest (cell cells v.nodes) v.keys owner (slice_index greatest owner)
     write_most owner in_node = elim (cases_eq owner v.node) [
       | inl own ↦ subst (λ o. IsGreatest (cell cells v.nodes) v.keys o (slice_index greatest o)) (sym own) own_most
-      | inr other ↦
-          let same : slice_index greatest owner ≡ slice_index v.greatest owner = get_or-set_other v.greatest v.node owner number 0 other in
-          record {
-            upto = λ k in_key. omega (arith, elsewhere owner k in_node (inl other), (kept.most owner in_node).upto k in_key, same);
-            held = elim (kept.most owner in_node).held [
-              | inl zero' ↦ inl (same ∙ zero')
-              | inr (k, in_key, is) ↦ inr (k, in_key, elsewhere owner k in_node (inl other) ∙ is ∙ sym same)
-            ];
-          }
+      | inr other ↦ same-most (cell v.cells v.nodes) (cell cells v.nodes) v.keys owner (slice_index v.greatest owner) (slice_index greatest owner) (λ k lt. elsewhere owner k in_node (inl other))
+          (get_or-set_other v.greatest v.node owner number 0 other) (kept.most owner in_node)
     ]
 
-    writes : LiesAs written after cells greatest
+    pub writes : LiesAs written after cells greatest
     writes = record {
       proper = proper-with_own_write t key e.value e.born kept.proper in_keys;
       cell_count = length-set v.cells index number ∙ kept.cell_count;
@@ -321,9 +288,6 @@ module _ (written : ℕ → List Entry) (v : VersionTableView) (kept : IsKept wr
       holds = write_holds;
       most = write_most;
     }
-
-    pub writes-kept : IsVersionTable written v.node v.nodes v.keys v.generation cells greatest
-    writes-kept = lies-kept written after cells greatest writes
 
     pub writes-table : HasOwnWrite written v number (record v { cells = cells; greatest = greatest })
     writes-table d is =
@@ -335,16 +299,3 @@ module _ (written : ℕ → List Entry) (v : VersionTableView) (kept : IsKept wr
 
         is_key : key ≡ d.key
         is_key = sym (ap (λ (x : Entry). x.key) write.next) ∙ ap (λ (x : Entry). x.key) same
-
--- a write that was made stands under its number first
-pub first-written : (some all : List Entry) (number : ℕ) → IsBeginning some all → IsHistory some → number ≤ length some → IsFirst all number
-first-written some all number begins history within m lt same = elim (cases_lt 0 m) [
-  | inr none ↦
-      let there = numbered-some some number (omega (arith, lt)) within in
-      absurd (nothing there.0 (ap (write_numbered all) {x = 0} {y = m} (omega (arith, none)) ∙ same ∙ sym (begins number within) ∙ there.1))
-  | inl above ↦
-      let at = numbered-some some m above (omega (arith, lt, within)) in
-      let there = numbered-some some number (omega (arith, lt)) within in
-      let one : at.0 ≡ there.0 = same_Some at.0 there.0 (sym at.1 ∙ begins m (omega (arith, lt, within)) ∙ same ∙ sym (begins number within) ∙ there.1) in
-      absurd (not_both (mark_of there.0) (mark_of there.0) (subst (λ x. IsBefore (mark_of x) (mark_of there.0)) one (numbers-before some history m number at.0 there.0 at.1 there.1 lt)) (up_to-itself (mark_of there.0)))
-]

@@ -1,7 +1,6 @@
 -- Tables of versions beside the owners' lists so far: what their numbers are.
 -- Serves `cells_of` and `figures`.
-use Rattle.std.proofs.Common.{◌≡◌, ℕ, suc, ◌+◌, ◌*◌, ◌<◌, ◌≤◌, List, [], ◌∷◌, ◌++◌, length, get_or, map, Some, inl, inr, refl, sym, ap, ◌∙◌, subst, arith}
-use Rattle.std.specs.Prelude.{Contains}
+use Rattle.std.proofs.Common.{◌≡◌, ℕ, ◌+◌, ◌*◌, ◌<◌, ◌≤◌, List, [], ◌∷◌, ◌++◌, length, get_or, map, inl, inr, sym, ap, ◌∙◌, subst, arith}
 use Rattle.std.specs.Borrow.{Bor}
 use Rattle.std.proofs.lemmas.Bool.{cases_lt}
 use Rattle.std.proofs.lemmas.List.{get_or-map, get_or_default, get_or_append_left, get_or_at, length-append, length-map, map-append}
@@ -12,7 +11,6 @@ use Rattle.model.specs.Tables.{table_of_node, HoldsOfEach}
 use Rattle.model.specs.calls.Tables.{IsCluster}
 use Rattle.model.specs.calls.OwnerListView.{OwnerListView, all_writes, entries_of, list_of_owner, AreWrites}
 use Rattle.model.specs.calls.Numbers.{write_numbered}
-use Rattle.owner_writes.proofs.Numbers.{numbered-some}
 use Rattle.planes.specs.Planes.{cell, HasEach, HasEachPlace}
 use Rattle.round_tables.specs.Histories.{StandsAmong}
 use Rattle.version_lags.specs.Missed.{base_of, IsLastNumber, IsNumberAt}
@@ -20,7 +18,7 @@ use Rattle.version_lags.specs.Pieces.{keys_in, numbers_at, numbers_in, AreNumber
 use Rattle.version_tables.specs.Views.{VersionTableView, table_in, IsKept}
 use Rattle.version_tables.specs.inner.Beside.{tables_of_views, view_at, AreCellsOf, AreCellsUpto, AreLaidAsNumbers}
 use Rattle.version_tables.specs.inner.Histories.{IsWrittenSoFar}
-use Rattle.version_tables.proofs.Fitting.{write_from-contains}
+use Rattle.version_tables.proofs.Fitting.{so-far-upto}
 use Rattle.version_tables.proofs.Laid.{has_cells}
 
 few-standing : (ts : List Table) (lists : List OwnerListView) → length lists ≡ length ts → HoldsOfEach (StandsAmong lists) ts → (length ts ≤ MOST_NODES) × (keys_in ts ≤ MOST_KEYS)
@@ -96,20 +94,8 @@ module _ (written : ℕ → List Entry) (views : List VersionTableView) where
         held_is : entry_at (table_in written v) r k ≡ write_numbered (written r) c
         held_is = has_cells written v.node v.nodes v.keys v.generation (cell v.cells v.nodes) kept.numbers r k in_r in_k
 
-        holds : (e : Entry) → entry_at (table_in written v) r k ≡ Some e → Contains so_far e
-        holds e h = ((together.standing p in_tables).holds r k e (ap (λ t. entry_at t r k) read ∙ h)).0
-
         upto : c ≤ length so_far
-        upto = elim (cases_lt 0 c) [
-          | inr none ↦ omega (arith, none)
-          | inl some ↦
-              let there = numbered-some (written r) c some (kept.numbers.written r k in_r in_k) in
-              let at = write_from-contains so_far there.0 (holds there.0 (held_is ∙ there.1)) in
-              elim (cases_lt (suc at.0) c) [
-                | inl before ↦ absurd (kept.first r k in_r in_k (suc at.0) before (sym (laid.begins r (suc at.0) (omega (arith, at.1))) ∙ at.2 ∙ sym there.1))
-                | inr not_before ↦ omega (arith, not_before, at.1)
-              ]
-        ]
+        upto = so-far-upto written v kept so_far r (laid.begins r) (λ j e h. ((together.standing p in_tables).holds r j e (ap (λ t. entry_at t r j) read ∙ h)).0) k in_r in_k
 
         here : IsNumberAt lists (table_in written v) r k c
         here = record { held = held_is ∙ sym (laid.begins r c upto); written = upto }
@@ -142,10 +128,7 @@ module _ (written : ℕ → List Entry) (views : List VersionTableView) where
               (subst (λ m. HasEachPlace m count (λ r k y. IsLastNumber (list_of_owner lists r) k y) last) together.one_list_each lasts);
         }
 
--- the numbers of tables, one more after another
-pub cells-none : (written : ℕ → List Entry) (views : List VersionTableView) → AreCellsUpto written views [] 0
-cells-none written views = record { count = refl; each = λ p lt. absurd (omega (arith, lt)) }
-
+-- the numbers of one more table behind others
 pub cells-more : {N : Type 0} (written : ℕ → List Entry) (views : List VersionTableView) (number : N → ℕ) (cells : List (Bor (List N))) (at : ℕ) (x : Bor (List N)) (v : VersionTableView) → AreCellsUpto written views (numbers_in number cells) at
     → at < length views → v ≡ get_or views at v → IsKept written v → map number x.now ≡ v.cells → AreCellsUpto written views (numbers_in number (cells ++ x ∷ [])) (at + 1)
 cells-more written views number cells at x v before lt is kept same = subst (λ xs. AreCellsUpto written views xs (at + 1)) (sym (map-append (λ y. map number y.now) cells (x ∷ []))) (record {

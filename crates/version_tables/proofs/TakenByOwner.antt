@@ -1,43 +1,14 @@
 -- One owner's numbers once what was sent is taken and what is of older generations is dropped.
 -- Serves `TakenViews`.
-use Rattle.std.proofs.Common.{◌≡◌, ℕ, zero, suc, ◌+◌, ◌-◌, ◌<◌, ◌≤◌, ◌&&◌, Bool, true, false, cond, nat_lt, nat_le, List, ◌++◌, length, get_or, Some, None, ◌⊎◌, inl, inr, refl, sym, ap, ◌∙◌, arith}
-use Rattle.std.proofs.lemmas.Bool.{cases_lt, lt-ltb, le-leb, ltb-true, leb-true, and_parts, both_ways}
-use Rattle.std.proofs.lemmas.List.Elements.{All-contains}
-use Rattle.std.proofs.lemmas.List.{get_or_append_left, get_or-append_right, length-append}
-use Rattle.std.proofs.lemmas.Option.{same_Some}
+use Rattle.std.proofs.Common.{◌≡◌, ℕ, ◌+◌, ◌<◌, ◌≤◌, ◌&&◌, Bool, true, false, cond, nat_lt, nat_le, List, length, Some, None, ◌⊎◌, inl, inr, refl, sym, ap, ◌∙◌, arith}
+use Rattle.std.proofs.lemmas.Bool.{cases_lt, lt-ltb, le-leb, ltb-true, leb-true, and_parts}
 use Rattle.bench_types.specs.declared.entries.Entry.{Entry}
 use Rattle.model.specs.Table.{Table, entry_at, generation_held, IsProper}
-use Rattle.model.specs.calls.Numbers.{write_from, write_numbered}
-use Rattle.model.specs.calls.OwnerListView.{OwnerListView, entries_of, AreWrites}
+use Rattle.model.specs.calls.Numbers.{write_numbered}
 use Rattle.owner_writes.specs.Numbered.{IsHistory, IsNumberedHistory, start_before, start_of}
 use Rattle.version_tables.specs.inner.Taken.{SendsNoNewer, SendsNewer, drop_start, number_kept}
-use Rattle.owner_writes.proofs.Numbers.{numbered-some, numbers-up_to, write_from-at}
+use Rattle.owner_writes.proofs.Numbers.{numbered-some, numbers-up_to}
 use Rattle.version_tables.proofs.TakenNumbers.{kept-above, kept-none, kept-zero}
-
--- writes behind those of earlier generations are of the owner's own generation, and none is of a newer one
-module _ (v : OwnerListView) (are : AreWrites v) where
-  earlier_from : (xs ys : List Entry) (place : ℕ) (e : Entry) → write_from (xs ++ ys) place ≡ Some e → ((place < length xs) × (get_or xs place e ≡ e)) ⊎ ((length xs ≤ place) × (get_or ys (place - length xs) e ≡ e) × (place - length xs < length ys))
-  earlier_from xs ys place e is =
-      let at = write_from-at (xs ++ ys) place e e is in
-      elim (cases_lt place (length xs)) [
-        | inl before ↦ inl (before, sym (get_or_append_left xs ys e place before) ∙ at.1)
-        | inr not_before ↦
-            let behind : length xs ≤ place = omega (arith, not_before) in
-            inr (behind, sym (get_or-append_right xs ys (length xs) place e refl behind) ∙ at.1, omega (arith, at.0, length-append xs ys, behind))
-      ]
-
-  pub generation-of : (number : ℕ) (e : Entry) → write_numbered (entries_of v) number ≡ Some e → ((number ≤ length v.earlier) × (e.generation < v.generation)) ⊎ (e.generation ≡ v.generation)
-  generation-of zero e is = absurd (none is)
-    where
-      none : None ≡ Some e → ⊥
-      none h = cc
-  generation-of (suc place) e is = elim (earlier_from v.earlier v.current place e is) [
-    | inl before ↦ inl (omega (arith, before.0), All-contains (λ (x : Entry). x.generation < v.generation) v.earlier e are.earlier (place, before.0, before.1))
-    | inr behind ↦ inr (ap (λ (x : Entry). x.generation) (sym behind.1) ∙ (are.current (place - length v.earlier) e behind.2).0)
-  ]
-
-  pub generation-upto : (number : ℕ) (e : Entry) → write_numbered (entries_of v) number ≡ Some e → e.generation ≤ v.generation
-  generation-upto number e is = elim (generation-of number e is) [ inl before ↦ omega (arith, before.1) | inr own ↦ omega (arith, own) ]
 
 -- of a copy, numbers of writes up to where a generation starts are of older ones, and the others aren't
 module _ (writes : List Entry) (history : IsHistory writes) (numbered : IsNumberedHistory writes) where
@@ -91,19 +62,17 @@ pub record AreNumbersTaken (from to : Table) (sent : ℕ → ℕ → Bool) (owne
 module _ (from to : Table) (from_proper : IsProper from) (to_proper : IsProper to) (keys : from.keys ≡ to.keys) (owner : ℕ)
     (writes : List Entry) (history : IsHistory writes) (numbered : IsNumberedHistory writes) (base : ℕ)
     (newest : (m n : ℕ) (d e : Entry) → write_numbered writes m ≡ Some d → write_numbered writes n ≡ Some e → base < n → d.generation ≤ e.generation)
-    (sent : ℕ → ℕ → Bool) (sender receiver y : ℕ → ℕ)
+    (sent : ℕ → ℕ → Bool) (sender receiver y taken : ℕ → ℕ)
     (has_sender : (key : ℕ) → key < to.keys → entry_at from owner key ≡ write_numbered writes (sender key))
     (has_receiver : (key : ℕ) → key < to.keys → entry_at to owner key ≡ write_numbered writes (receiver key))
     (sender_upto : (key : ℕ) → key < to.keys → sender key ≤ length writes) (receiver_upto : (key : ℕ) → key < to.keys → receiver key ≤ length writes)
     (above : (key : ℕ) → key < to.keys → sent owner key ≡ true → receiver key < sender key)
     (y_sent : (key : ℕ) → key < to.keys → sent owner key ≡ true → y key ≡ sender key) (y_stays : (key : ℕ) → key < to.keys → sent owner key ≡ false → y key ≡ receiver key)
     (old new : ℕ) (old_upto : (key : ℕ) → key < to.keys → receiver key ≤ old) (old_from : (old ≡ 0) ⊎ ((key : ℕ) × (key < to.keys) × (receiver key ≡ old)))
-    (rises : old ≤ new) (new_upto : (key : ℕ) → key < to.keys → y key ≤ new) (new_from : (new ≡ old) ⊎ ((key : ℕ) × (key < to.keys) × (y key ≡ new))) where
+    (rises : old ≤ new) (new_upto : (key : ℕ) → key < to.keys → y key ≤ new) (new_from : (new ≡ old) ⊎ ((key : ℕ) × (key < to.keys) × (y key ≡ new)))
+    (kept_is : (key : ℕ) → key < to.keys → taken key ≡ number_kept (drop_start writes old base new) (y key)) where
   abbrev start : ℕ
   start = drop_start writes old base new
-
-  abbrev taken : ℕ → ℕ
-  taken key = number_kept start (y key)
 
   held_to : (key : ℕ) → key < to.keys → 0 < receiver key → (e : Entry) × (write_numbered writes (receiver key) ≡ Some e) × (e.generation ≡ generation_held to owner)
   held_to key lt some =
@@ -134,7 +103,8 @@ module _ (from to : Table) (from_proper : IsProper from) (to_proper : IsProper t
   -- what is sent comes
   came_number : (key : ℕ) → key < to.keys → sent owner key ≡ true → taken key ≡ sender key
   came_number key lt yes' =
-      ap (number_kept start) (y_sent key lt yes')
+      kept_is key lt
+      ∙ ap (number_kept start) (y_sent key lt yes')
       ∙ kept-above start (sender key) (elim (drop-cases writes old base new) [
         | inl none ↦ omega (arith, none, above key lt yes')
         | inr (some, upto, raised, is) ↦ elim (cases_lt start (sender key)) [
@@ -146,47 +116,51 @@ module _ (from to : Table) (from_proper : IsProper from) (to_proper : IsProper t
         ]
       ])
 
-  -- something newer is sent, or nothing is
-  newer_below : (bound : ℕ) → ((key : ℕ) (e : Entry) → key < bound → entry_at from owner key ≡ Some e → sent owner key ≡ true → e.generation ≤ generation_held to owner) ⊎ SendsNewer from to sent owner
-  newer_below zero = inl (λ key e lt held yes'. absurd (omega (arith, lt)))
-  newer_below (suc bound) = elim (newer_below bound) [
-    | inr newer ↦ inr newer
-    | inl before ↦ elim (entry_at from owner bound) as (λ o. entry_at from owner bound ≡ o → ((key : ℕ) (e : Entry) → key < suc bound → entry_at from owner key ≡ Some e → sent owner key ≡ true → e.generation ≤ generation_held to owner) ⊎ SendsNewer from to sent owner) [
-      | None ↦ λ none. inl (λ key e lt held yes'. elim (cases_lt key bound) [
-        | inl earlier ↦ before key e earlier held yes'
-        | inr not_earlier ↦ absurd (nothing e (sym none ∙ ap (entry_at from owner) {x = bound} {y = key} (omega (arith, lt, not_earlier)) ∙ held))
-      ])
-      | Some d ↦ λ here. elim (cases_lt (generation_held to owner) d.generation) [
-        | inr not_newer ↦ inl (λ key e lt held yes'. elim (cases_lt key bound) [
-          | inl earlier ↦ before key e earlier held yes'
-          | inr not_earlier ↦
-              let same : Some d ≡ Some e = sym here ∙ ap (entry_at from owner) {x = bound} {y = key} (omega (arith, lt, not_earlier)) ∙ held in
-              omega (arith, not_newer, ap (λ (x : Entry). x.generation) (same_Some d e same))
-        ])
-        | inl is_newer ↦ elim (sent owner bound) as (λ b. sent owner bound ≡ b → ((key : ℕ) (e : Entry) → key < suc bound → entry_at from owner key ≡ Some e → sent owner key ≡ true → e.generation ≤ generation_held to owner) ⊎ SendsNewer from to sent owner) [
-          | true ↦ λ yes'. inr (record { key = bound; entry = d; held = here; is_sent = yes'; newer = is_newer })
-          | false ↦ λ no'. inl (λ key e lt held yes'. elim (cases_lt key bound) [
-            | inl earlier ↦ before key e earlier held yes'
-            | inr not_earlier ↦ absurd (both_ways (sent owner bound) no' (ap (sent owner) {x = bound} {y = key} (omega (arith, lt, not_earlier)) ∙ yes'))
-          ])
-        ] refl
-      ]
-    ] refl
+  -- the write of the greatest number before
+  held_old : 0 < old → (e : Entry) × (write_numbered writes old ≡ Some e) × (e.generation ≡ generation_held to owner)
+  held_old some = elim old_from [
+    | inl none ↦ absurd (omega (arith, none, some))
+    | inr (key, in_keys, is) ↦ let last = held_to key in_keys (omega (arith, is, some)) in (last.0, ap (write_numbered writes) (sym is) ∙ last.1, last.2)
   ]
-    where
-      nothing : (e : Entry) → None ≡ Some e → ⊥
-      nothing e h = cc
 
+  -- it is raised where something newer is sent
+  module _ (newer : SendsNewer from to sent owner) where
+    newer_in : newer.key < to.keys
+    newer_in = omega (arith, (from_proper.in_place owner newer.key newer.entry newer.held).key_below, keys)
+
+    newer_is : write_numbered writes (sender newer.key) ≡ Some newer.entry
+    newer_is = sym (has_sender newer.key newer_in) ∙ newer.held
+
+    newer_raises : old < new
+    newer_raises =
+        let upto : sender newer.key ≤ new = omega (arith, y_sent newer.key newer_in newer.is_sent, new_upto newer.key newer_in) in
+        elim (cases_lt 0 old) [
+          | inr none ↦ omega (arith, none, above newer.key newer_in newer.is_sent, upto)
+          | inl some ↦
+              let last = held_old some in
+              omega (arith, upto, newer-above writes history numbered old (sender newer.key) last.0 newer.entry last.1 newer_is (omega (arith, last.2, newer.newer)))
+        ]
+
+  -- so something newer is sent, or nothing is
   newer_or_not : SendsNoNewer from to sent owner ⊎ SendsNewer from to sent owner
-  newer_or_not = elim (newer_below from.keys) [
-    | inl none ↦ inl (λ key e held yes'. none key e (from_proper.in_place owner key e held).key_below held yes')
-    | inr newer ↦ inr newer
+  newer_or_not = elim (cases_lt old new) [
+    | inr stays ↦ inl (λ key e held yes'. elim (cases_lt (generation_held to owner) e.generation) [
+      | inr not_newer ↦ omega (arith, not_newer)
+      | inl newer ↦ absurd (omega (arith, stays, newer_raises (record { key = key; entry = e; held = held; is_sent = yes'; newer = newer })))
+    ])
+    | inl raised ↦
+        let at = of_new raised in
+        elim (cases_lt (generation_held to owner) (generation_held from owner)) [
+          | inr not_newer ↦ inl (λ key e held yes'. omega (arith, not_newer, from_proper.copies owner key e held))
+          | inl newer ↦ inr (record { key = at.0; entry = at.1; held = at.5; is_sent = at.4; newer = omega (arith, newer, at.3) })
+        ]
   ]
 
   -- where nothing newer comes, other numbers stay
   stays_number : SendsNoNewer from to sent owner → (key : ℕ) → key < to.keys → sent owner key ≡ false → taken key ≡ receiver key
   stays_number no_newer key lt no' =
-      ap (number_kept start) (y_stays key lt no')
+      kept_is key lt
+      ∙ ap (number_kept start) (y_stays key lt no')
       ∙ elim (cases_lt 0 (receiver key)) [
         | inr none ↦ ap (number_kept start) {x = receiver key} {y = 0} (omega (arith, none)) ∙ kept-zero start ∙ omega (arith, none)
         | inl some ↦ kept-above start (receiver key) (elim (drop-cases writes old base new) [
@@ -204,39 +178,30 @@ module _ (from to : Table) (from_proper : IsProper from) (to_proper : IsProper t
   -- and where something does, they are dropped
   drops_number : SendsNewer from to sent owner → (key : ℕ) → key < to.keys → sent owner key ≡ false → taken key ≡ 0
   drops_number newer key lt no' =
-      ap (number_kept start) (y_stays key lt no')
+      kept_is key lt
+      ∙ ap (number_kept start) (y_stays key lt no')
       ∙ elim (cases_lt 0 (receiver key)) [
         | inr none ↦ ap (number_kept start) {x = receiver key} {y = 0} (omega (arith, none)) ∙ kept-zero start
         | inl some ↦ kept-none start (receiver key) (upto_start some)
       ]
     where
-      in_keys : newer.key < to.keys
-      in_keys = omega (arith, (from_proper.in_place owner newer.key newer.entry newer.held).key_below, keys)
-
-      number_is : write_numbered writes (sender newer.key) ≡ Some newer.entry
-      number_is = sym (has_sender newer.key in_keys) ∙ newer.held
-
       upto_start : 0 < receiver key → receiver key ≤ start
-      upto_start some = elim old_from [
-        | inl none ↦ absurd (omega (arith, none, some, old_upto key lt))
-        | inr (m, m_lt, m_is) ↦
-            let last = held_to m m_lt (omega (arith, m_is, some, old_upto key lt)) in
-            let old_is : write_numbered writes old ≡ Some last.0 = ap (write_numbered writes) (sym m_is) ∙ last.1 in
-            let beyond : old < sender newer.key = newer-above writes history numbered old (sender newer.key) last.0 newer.entry old_is number_is (omega (arith, last.2, newer.newer)) in
-            let raised : old < new = omega (arith, beyond, y_sent newer.key in_keys newer.is_sent, new_upto newer.key in_keys) in
-            let upto : old ≤ base = elim (cases_lt base old) [
-              | inl over ↦ absurd (omega (arith, newest (sender newer.key) old newer.entry last.0 number_is old_is over, last.2, newer.newer))
-              | inr not_over ↦ omega (arith, not_over)
-            ] in
-            let at = of_new raised in
-            let here = held_to key lt some in
-            omega (
-              arith,
-              drop-here writes old base new (omega (arith, some, old_upto key lt)) upto raised,
-              start-not_older writes history numbered (receiver key) new here.0 at.1 here.1 at.2 (omega (arith, old_upto key lt, raised))
-                  (omega (arith, here.2, newer.newer, at.3, from_proper.copies owner newer.key newer.entry newer.held)),
-            )
-      ]
+      upto_start some =
+          let some_old : 0 < old = omega (arith, some, old_upto key lt) in
+          let last = held_old some_old in
+          let raised = newer_raises newer in
+          let upto : old ≤ base = elim (cases_lt base old) [
+            | inl over ↦ absurd (omega (arith, newest (sender newer.key) old newer.entry last.0 (newer_is newer) last.1 over, last.2, newer.newer))
+            | inr not_over ↦ omega (arith, not_over)
+          ] in
+          let at = of_new raised in
+          let here = held_to key lt some in
+          omega (
+            arith,
+            drop-here writes old base new some_old upto raised,
+            start-not_older writes history numbered (receiver key) new here.0 at.1 here.1 at.2 (omega (arith, old_upto key lt, raised))
+                (omega (arith, here.2, newer.newer, at.3, from_proper.copies owner newer.key newer.entry newer.held)),
+          )
 
   other_number : (key : ℕ) → key < to.keys → sent owner key ≡ false → (SendsNoNewer from to sent owner × (taken key ≡ receiver key)) ⊎ (SendsNewer from to sent owner × (taken key ≡ 0))
   other_number key lt no' = elim newer_or_not [
@@ -258,13 +223,13 @@ module _ (from to : Table) (from_proper : IsProper from) (to_proper : IsProper t
   ]
 
   greatest_upto : (key : ℕ) → key < to.keys → taken key ≤ new
-  greatest_upto key lt = omega (arith, taken_upto (y key), new_upto key lt)
+  greatest_upto key lt = omega (arith, kept_is key lt, taken_upto (y key), new_upto key lt)
 
   greatest_from : (new ≡ 0) ⊎ ((key : ℕ) × (key < to.keys) × (taken key ≡ new))
   greatest_from = elim (cases_lt 0 new) [
     | inr none ↦ inl (omega (arith, none))
     | inl some ↦ elim new_from [
-      | inr (key, lt, is) ↦ inr (key, lt, ap (number_kept start) is ∙ kept-above start new (start_below some))
+      | inr (key, lt, is) ↦ inr (key, lt, kept_is key lt ∙ ap (number_kept start) is ∙ kept-above start new (start_below some))
       | inl same ↦ elim old_from [
         | inl none ↦ absurd (omega (arith, none, same, some))
         | inr (key, lt, is) ↦
@@ -273,7 +238,7 @@ module _ (from to : Table) (from_proper : IsProper from) (to_proper : IsProper t
               | false ↦ λ no'. omega (arith, y_stays key lt no')
             ] refl in
             let here : y key ≡ new = omega (arith, no_less, is, same, new_upto key lt) in
-            inr (key, lt, ap (number_kept start) here ∙ kept-above start new (start_below some))
+            inr (key, lt, kept_is key lt ∙ ap (number_kept start) here ∙ kept-above start new (start_below some))
       ]
     ]
   ]

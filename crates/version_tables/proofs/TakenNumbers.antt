@@ -1,7 +1,7 @@
 -- One number, taken or not, and kept or dropped; and a table that has taken such numbers.
 -- Serves `take_unless`, `TakenByOwner` and `TakenViews`.
 use Rattle.std.proofs.Common.{◌≡◌, ℕ, ◌<◌, ◌≤◌, ◌&&◌, Bool, true, false, cond, max, nat_lt, nat_le, List, slice_index, inl, inr, refl, sym, ap, ◌∙◌, subst, arith}
-use Rattle.std.proofs.lemmas.Bool.{cases_lt, lt-ltb, le-leb, lt-leb, ltb-true, and_parts}
+use Rattle.std.proofs.lemmas.Bool.{cases_lt, lt-ltb, le-leb, lt-leb, ltb-true, and_parts, both_ways}
 use Rattle.planes.specs.Planes.{number_taken, ArePlanesChanged, AreRaised, AreTaken, HasEach}
 use Rattle.bench_types.specs.declared.entries.Entry.{Entry}
 use Rattle.version_tables.specs.Views.{VersionTableView}
@@ -24,12 +24,9 @@ stays-number x s low high no' = elim (nat_lt low s && nat_le s high) as (λ b. (
       let above : low < s = ltb-true low s parts.0 in
       elim (cases_lt x s) [
         | inr not_below ↦ omega (arith, not_below)
-        | inl below ↦ absurd (both no' ((λ i. lt-ltb (max x low) s (omega (arith, above, below)) i && parts.1 i)))
+        | inl below ↦ absurd (both_ways (is_taken x s low high) no' ((λ i. lt-ltb (max x low) s (omega (arith, above, below)) i && parts.1 i)))
       ]
 ] refl
-  where
-    both : {b : Bool} → b ≡ false → b ≡ true → ⊥
-    both f t = cc
 
 pub kept-above : (start x : ℕ) → start < x → number_kept start x ≡ x
 kept-above start x lt = ap (λ b. cond b 0 x) (lt-leb x start lt)

@@ -1,8 +1,9 @@
 -- A table that took a delta by marks is the model's table that took its items.
 -- Serves `ExchangedViews` and `Merged`.
-use Rattle.std.proofs.Common.{◌≡◌, ℕ, ◌<◌, ◌≤◌, Bool, true, false, max, nat_lt, nat_le, List, length, Some, None, ◌⊎◌, inl, inr, refl, sym, ap, ◌∙◌, subst, arith}
+use Rattle.std.proofs.Common.{◌≡◌, ℕ, ◌<◌, ◌≤◌, Bool, true, false, max, nat_lt, nat_le, List, length, Some, inl, inr, refl, sym, ap, ◌∙◌, subst, arith}
 use Rattle.std.specs.Prelude.{slice_index}
 use Rattle.std.proofs.lemmas.Bool.{le-ltb, ltb-true, and_left, and_parts}
+use Rattle.std.proofs.lemmas.Option.{none-some}
 use Rattle.bench_types.specs.declared.entries.Entry.{Entry}
 use Rattle.bench_types.specs.declared.exchanges.Rules.{Rules}
 use Rattle.model.specs.Table.{Table, applied, IsProper}
@@ -14,27 +15,21 @@ use Rattle.planes.specs.Planes.{Cells, cell, number_taken, numbers_taken}
 use Rattle.version_tables.specs.Views.{VersionTableView, HistoriesView, table_in, IsKept}
 use Rattle.version_tables.specs.inner.Deltas.{delta_of_views, is_taken_at}
 use Rattle.version_tables.specs.inner.Histories.{bases_in, IsWrittenSoFar, FitsHistories}
-use Rattle.version_tables.specs.Laid.{table_of_cells, AreNumbers, IsFirst, IsGreatest, IsVersionTable}
+use Rattle.version_tables.specs.Laid.{table_of_cells, AreNumbers, IsFirst, IsVersionTable}
 use Rattle.delta_plans.specs.Offers.{HasCells, AreSent}
-use Rattle.version_tables.specs.inner.Taken.{is_taken, drop_start, number_kept, SendsNoNewer, SendsNewer, AreTakenCells, IsTaken}
+use Rattle.version_tables.specs.inner.Taken.{is_taken, SendsNewer, AreTakenCells, IsTaken}
 use Rattle.version_tables.proofs.Fitting.{fits-upto, fits-cells}
+use Rattle.version_tables.proofs.Generations.{current-at, generation-upto}
 use Rattle.version_tables.proofs.Laid.{cells_table}
 use Rattle.version_tables.proofs.TakenCells.{taken_cells}
 use Rattle.version_tables.proofs.TakenNumbers.{taken-number, stays-number}
 use Rattle.version_tables.proofs.TakenEntries.{came-lacked}
-use Rattle.version_tables.proofs.TakenByOwner.{generation-of, generation-upto, AreNumbersTaken, are_numbers_taken}
-
-nothing : (e : Entry) → None ≡ Some e → ⊥
-nothing e h = cc
+use Rattle.version_tables.proofs.TakenByOwner.{AreNumbersTaken, are_numbers_taken}
 
 -- numbers above those of earlier generations are of the newest one
 newest_in : (lists : List OwnerListView) (owner : ℕ) → AreWrites (list_of_owner lists owner) → (m n : ℕ) (d e : Entry) → write_numbered (all_writes lists owner) m ≡ Some d → write_numbered (all_writes lists owner) n ≡ Some e → bases_in lists owner < n → d.generation ≤ e.generation
 newest_in lists owner are m n d e is_d is_e lt =
-    let upto = generation-upto (list_of_owner lists owner) are m d is_d in
-    elim (generation-of (list_of_owner lists owner) are n e is_e) [
-      | inl before ↦ absurd (omega (arith, before.0, lt))
-      | inr own ↦ omega (arith, upto, own)
-    ]
+    omega (arith, generation-upto (list_of_owner lists owner) are m d is_d, (current-at (list_of_owner lists owner) are n e is_e lt).0)
 
 module _ (rules : Rules) (rotation : ℕ) (written : ℕ → List Entry) (most : ℕ) (h : HistoriesView)
     (so_far : (owner : ℕ) → IsWrittenSoFar (written owner) most h.rounds (all_writes h.lists owner)) (are : (owner : ℕ) → AreWrites (list_of_owner h.lists owner))
@@ -91,62 +86,27 @@ module _ (rules : Rules) (rotation : ℕ) (written : ℕ → List Entry) (most :
   module _ (now cells greatest : List ℕ)
       (same : (owner key : ℕ) → owner < to.nodes → key < to.keys → numbers_taken to.nodes to.cells now low high owner key ≡ y owner key)
       (taken : IsTaken (all_writes h.lists) (bases_in h.lists) to.nodes to.keys to.cells to.greatest now low high cells greatest) where
-    module _ (owner : ℕ) (in_nodes : owner < to.nodes) where
-      abbrev start : ℕ
-      start = drop_start (all_writes h.lists owner) (slice_index to.greatest owner) (bases_in h.lists owner) (slice_index greatest owner)
-
-      new_upto : (key : ℕ) → key < to.keys → y owner key ≤ slice_index greatest owner
-      new_upto key lt = omega (arith, same owner key in_nodes lt, (taken.raised owner in_nodes).upto key lt)
-
-      new_from : (slice_index greatest owner ≡ slice_index to.greatest owner) ⊎ ((key : ℕ) × (key < to.keys) × (y owner key ≡ slice_index greatest owner))
-      new_from = elim (taken.raised owner in_nodes).from [
-        | inl stays ↦ inl stays
-        | inr (key, lt, is) ↦ inr (key, lt, sym (same owner key in_nodes lt) ∙ is)
-      ]
-
-      kept_is : (key : ℕ) → key < to.keys → cell cells to.nodes owner key ≡ number_kept start (y owner key)
-      kept_is key lt = taken.kept owner key in_nodes lt ∙ ap (number_kept start) (same owner key in_nodes lt)
-
-      numbers : AreNumbersTaken (table_in written from) (table_in written to) sent owner (sender owner) (receiver owner) (λ key. number_kept start (y owner key)) (slice_index greatest owner)
-      numbers =
-          are_numbers_taken (table_in written from) (table_in written to) from_kept.proper to_kept.proper keys owner (all_writes h.lists owner) (so_far owner).history (so_far owner).numbered (bases_in h.lists owner)
-          (newest_in h.lists owner (are owner)) sent (sender owner) (receiver owner) (y owner)
-          (λ k k_lt. has_sender owner k (in_sender owner in_nodes) (in_sender_keys k k_lt)) (λ k k_lt. has_receiver owner k in_nodes k_lt)
-          (λ k k_lt. sender_upto owner k in_nodes k_lt) (λ k k_lt. receiver_upto owner k in_nodes k_lt)
-          (λ k k_lt. sent_above owner k) (λ k k_lt. y_sent owner k) (λ k k_lt. y_stays owner k)
-          (slice_index to.greatest owner) (slice_index greatest owner) (to_kept.most owner in_nodes).upto (to_kept.most owner in_nodes).held
-          (taken.raised owner in_nodes).rises new_upto new_from
-
-      came_here : (key : ℕ) → key < to.keys → sent owner key ≡ true → cell cells to.nodes owner key ≡ sender owner key
-      came_here key lt yes' = kept_is key lt ∙ numbers.came key lt yes'
-
-      other_here : (key : ℕ) → key < to.keys → sent owner key ≡ false
-          → (SendsNoNewer (table_in written from) (table_in written to) sent owner × (cell cells to.nodes owner key ≡ receiver owner key)) ⊎ (SendsNewer (table_in written from) (table_in written to) sent owner × (cell cells to.nodes owner key ≡ 0))
-      other_here key lt no' = elim (numbers.others key lt no') [
-        | inl stays ↦ inl (stays.0, kept_is key lt ∙ stays.1)
-        | inr gone ↦ inr (gone.0, kept_is key lt ∙ gone.1)
-      ]
-
-      most_here : IsGreatest (cell cells to.nodes) to.keys owner (slice_index greatest owner)
-      most_here = record {
-        upto = λ key lt. omega (arith, kept_is key lt, numbers.upto key lt);
-        held = elim numbers.held [
-          | inl none ↦ inl none
-          | inr (key, lt, is) ↦ inr (key, lt, kept_is key lt ∙ is)
-        ];
-      }
+    numbers : (owner : ℕ) → owner < to.nodes → AreNumbersTaken (table_in written from) (table_in written to) sent owner (sender owner) (receiver owner) (cell cells to.nodes owner) (slice_index greatest owner)
+    numbers owner in_nodes =
+        let raised = taken.raised owner in_nodes in
+        are_numbers_taken (table_in written from) (table_in written to) from_kept.proper to_kept.proper keys owner (all_writes h.lists owner) (so_far owner).history (so_far owner).numbered (bases_in h.lists owner)
+        (newest_in h.lists owner (are owner)) sent (sender owner) (receiver owner) (numbers_taken to.nodes to.cells now low high owner) (cell cells to.nodes owner)
+        (λ k k_lt. has_sender owner k (in_sender owner in_nodes) (in_sender_keys k k_lt)) (λ k k_lt. has_receiver owner k in_nodes k_lt)
+        (λ k k_lt. sender_upto owner k in_nodes k_lt) (λ k k_lt. receiver_upto owner k in_nodes k_lt)
+        (λ k k_lt. sent_above owner k) (λ k k_lt yes'. same owner k in_nodes k_lt ∙ y_sent owner k yes') (λ k k_lt no'. same owner k in_nodes k_lt ∙ y_stays owner k no')
+        (slice_index to.greatest owner) (slice_index greatest owner) (to_kept.most owner in_nodes).upto (to_kept.most owner in_nodes).held raised.rises raised.upto raised.from (λ k k_lt. taken.kept owner k in_nodes k_lt)
 
     pub are_taken : AreTakenCells (table_in written from) (table_in written to) sent sender receiver (cell cells to.nodes)
     are_taken = record {
-      came = λ owner key in_nodes in_keys yes'. came_here owner in_nodes key in_keys yes';
-      others = λ owner key in_nodes in_keys no'. other_here owner in_nodes key in_keys no';
+      came = λ owner key in_nodes in_keys. (numbers owner in_nodes).came key in_keys;
+      others = λ owner key in_nodes in_keys. (numbers owner in_nodes).others key in_keys;
     }
 
     -- each number is the sender's, the receiver's or 0
     by_number : (P : ℕ → Type 0) (owner key : ℕ) → owner < to.nodes → key < to.keys → P 0 → P (receiver owner key) → P (sender owner key) → P (cell cells to.nodes owner key)
     by_number P owner key in_nodes in_keys none held came = elim (sent owner key) as (λ b. sent owner key ≡ b → P (cell cells to.nodes owner key)) [
-      | true ↦ λ yes'. subst P (sym (came_here owner in_nodes key in_keys yes')) came
-      | false ↦ λ no'. elim (other_here owner in_nodes key in_keys no') [
+      | true ↦ λ yes'. subst P (sym ((numbers owner in_nodes).came key in_keys yes')) came
+      | false ↦ λ no'. elim ((numbers owner in_nodes).others key in_keys no') [
         | inl stays ↦ subst P (sym stays.1) held
         | inr gone ↦ subst P (sym gone.1) none
       ]
@@ -156,7 +116,7 @@ module _ (rules : Rules) (rotation : ℕ) (written : ℕ → List Entry) (most :
     numbers_here = record {
       written = λ owner key in_nodes in_keys. by_number (λ n. n ≤ length (written owner)) owner key in_nodes in_keys (omega arith) (to_kept.numbers.written owner key in_nodes in_keys)
           (from_kept.numbers.written owner key (in_sender owner in_nodes) (in_sender_keys key in_keys));
-      keyed = λ owner key e in_nodes in_keys. by_number (λ n. write_numbered (written owner) n ≡ Some e → e.key ≡ key) owner key in_nodes in_keys (λ is. absurd (nothing e is)) (to_kept.numbers.keyed owner key e in_nodes in_keys)
+      keyed = λ owner key e in_nodes in_keys. by_number (λ n. write_numbered (written owner) n ≡ Some e → e.key ≡ key) owner key in_nodes in_keys (λ is. absurd (none-some e is)) (to_kept.numbers.keyed owner key e in_nodes in_keys)
           (from_kept.numbers.keyed owner key e (in_sender owner in_nodes) (in_sender_keys key in_keys));
     }
 
@@ -193,7 +153,7 @@ module _ (rules : Rules) (rotation : ℕ) (written : ℕ → List Entry) (most :
       numbers = numbers_here;
       first = λ owner key in_nodes in_keys. by_number (IsFirst (written owner)) owner key in_nodes in_keys (λ m lt. absurd (omega (arith, lt))) (to_kept.first owner key in_nodes in_keys)
           (from_kept.first owner key (in_sender owner in_nodes) (in_sender_keys key in_keys));
-      most = λ owner in_nodes. most_here owner in_nodes;
+      most = λ owner in_nodes. record { upto = (numbers owner in_nodes).upto; held = (numbers owner in_nodes).held };
     }
 
 -- a number that isn't above the receiver's isn't taken

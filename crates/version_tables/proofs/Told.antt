@@ -22,10 +22,6 @@ use Rattle.delta_plans.specs.Offers.{HasCells, Offers, is_lacked, told_by, offer
 use Rattle.version_tables.specs.Laid.{AreNumbers, IsGreatest}
 use Rattle.owner_writes.proofs.Numbers.{numbers-before, numbered-none, numbered-some, numbered-within, numbers-up_to, numbers-compare}
 
--- the start of a generation that a write has
-start-is : (writes : List Entry) (number : ℕ) (o : Option Entry) → write_numbered writes number ≡ o → start_of writes number ≡ start_before number o
-start-is writes number o is = ap (start_before number) is
-
 module _ (lists : ℕ → List Entry) (histories : (owner : ℕ) → IsHistory (lists owner)) (numbered : (owner : ℕ) → IsNumberedHistory (lists owner))
     (to : Table) (proper : IsProper to) (receiver : Cells) (has : HasCells lists receiver to) (are : AreNumbers lists to.nodes to.keys receiver)
     (owner : ℕ) (in_nodes : owner < to.nodes) (greatest : ℕ) (most : IsGreatest receiver to.keys owner greatest) where

@@ -43,7 +43,6 @@ fn write<N: Number, H: Written>(
     ensures only { IsOkUnless result OutOfMemory }
 {
     let node = table.node();
-    let _lists = histories.lists();
     let number = histories.write(node, key, value, born)?;
     table.write_own(key, number);
     Ok(())
@@ -171,10 +170,6 @@ impl<N: SharedNumber + Send + Sync, H: Written + Send + Sync> RoundHistories<Ver
 
     fn end_writes(&mut self, _round: u32) -> Result<(), Fault> {
         self.end_round()
-    }
-
-    fn stand_ready(&self, _round: u32) {
-        let _lists = self.lists();
     }
 
     fn figures<R: Threads + Sync>(

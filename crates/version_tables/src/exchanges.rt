@@ -2,14 +2,12 @@
 
 ghost use Rattle.std.specs.Prelude.{◌≡◌, ◌==◌, IfOk, OnOk, OnErr, IsOkUnless, false};
 ghost use Rattle.bench_types.specs.declared.faults.Fault.TheVariants.{OutOfMemory};
-ghost use Rattle.bench_types.specs.calls.Budget.{IsLawfulBudget};
 ghost use Rattle.bench_types.specs.Mode.{digest_kind};
-ghost use Rattle.model.specs.calls.Exchanging.{MayBeExchanged, MakesOf};
+ghost use Rattle.model.specs.calls.Exchanging.{MakesOf};
 ghost use Rattle.version_tables.specs.Views.{table_in, IsKept};
 ghost use Rattle.model.specs.Digests.{digest_size};
-ghost use Rattle.version_tables.specs.inner.Histories.{FitsHistories, IsReadyExchange};
-ghost use Rattle.version_tables.specs.inner.Merged.{MayMerge};
-ghost use Rattle.version_tables.specs.inner.Taken.{HaveTakenBoth, MayTakeBoth};
+ghost use Rattle.version_tables.specs.inner.Histories.{IsReadyExchange};
+ghost use Rattle.version_tables.specs.inner.Taken.{BothStay, HaveTakenBoth, MayTakeBoth};
 
 use crate::deltas::delta;
 use crate::digests::digest_size;
@@ -33,16 +31,14 @@ pub(crate) fn exchange<N: Number, H: Written>(
     plan: &Exchange,
     rules: &Rules,
 ) -> Result<Record, Fault>
-    requires budget { IsLawfulBudget rules.now.budget }
-    requires tables { MayBeExchanged plan.now (table_in H.lists initiator.old)
+    requires { IsReadyExchange H.lists N.most rules.now plan.now histories.now
+        (table_in H.lists initiator.old)
         (table_in H.lists responder.old) }
-    requires initiator { FitsHistories histories.now (table_in H.lists initiator.old) }
-    requires responder { FitsHistories histories.now (table_in H.lists responder.old) }
     ensures ok { IfOk result
         (MakesOf (table_in H.lists) rules.now plan.now initiator.old responder.old initiator.new
         responder.new) }
-    ensures initiator_stays { OnErr result (initiator.new ≡ initiator.old) }
-    ensures responder_stays { OnErr result (responder.new ≡ responder.old) }
+    ensures stay { OnErr result
+        (BothStay initiator.old responder.old initiator.new responder.new) }
     ensures only { IsOkUnless result OutOfMemory }
 {
     let digest1 = digest_size(initiator, rules.mode);
@@ -50,43 +46,13 @@ pub(crate) fn exchange<N: Number, H: Written>(
         return Ok(sent_before_an_answer(digest1));
     }
     if !plan.lost2 && !plan.lost3 && may_merge(initiator, responder, histories, rules) {
-        return Ok(exchange_all(initiator, responder, digest1, plan, rules, histories));
+        let digest2 = digest_size(responder, rules.mode);
+        let came = merge(initiator, responder);
+        let back = all_sent(came.first);
+        let forth = all_sent(came.second);
+        return Ok(sent_both(digest1, digest2, back, forth, false));
     }
     exchange_deltas(alloc, histories, initiator, responder, digest1, plan, rules)
-}
-
-// The exchange of which all comes and surely fits, from the second message on.
-fn exchange_all<N: Number, H: Written>(
-    initiator: &mut VersionTable<N, H>,
-    responder: &mut VersionTable<N, H>,
-    digest1: u32,
-    plan: &Exchange,
-    rules: &Rules,
-    histories: &Histories<N, H>,
-) -> Record
-    requires first { plan.now.lost1 ≡ false }
-    requires second { plan.now.lost2 ≡ false }
-    requires third { plan.now.lost3 ≡ false }
-    requires kept { IsKept H.lists initiator.old }
-    requires digest1 { digest1 ≡ digest_size (digest_kind rules.now.mode)
-        (table_in H.lists initiator.old) }
-    requires may { IsReadyExchange rules.now plan.now histories.now (table_in H.lists initiator.old)
-        (table_in H.lists responder.old) }
-    requires merge { MayMerge rules.now histories.now initiator.old responder.old }
-    ensures { MakesOf (table_in H.lists) rules.now plan.now initiator.old responder.old
-        initiator.new responder.new
-        result }
-{
-    let _lists = histories.lists();
-    let digest2 = digest_size(responder, rules.mode);
-    let came = merge(initiator, responder);
-    sent_both(
-        digest1,
-        digest2,
-        all_sent(came.first),
-        all_sent(came.second),
-        false,
-    )
 }
 
 // So many are sent, and none is cut.
@@ -114,13 +80,14 @@ fn exchange_deltas<N: Number, H: Written>(
     requires kept { IsKept H.lists initiator.old }
     requires digest1 { digest1 ≡ digest_size (digest_kind rules.now.mode)
         (table_in H.lists initiator.old) }
-    requires may { IsReadyExchange rules.now plan.now histories.now (table_in H.lists initiator.old)
+    requires may { IsReadyExchange H.lists N.most rules.now plan.now histories.now
+        (table_in H.lists initiator.old)
         (table_in H.lists responder.old) }
     ensures ok { IfOk result
         (MakesOf (table_in H.lists) rules.now plan.now initiator.old responder.old
         initiator.new responder.new) }
-    ensures initiator_stays { OnErr result (initiator.new ≡ initiator.old) }
-    ensures responder_stays { OnErr result (responder.new ≡ responder.old) }
+    ensures stay { OnErr result
+        (BothStay initiator.old responder.old initiator.new responder.new) }
     ensures only { IsOkUnless result OutOfMemory }
 {
     let back = delta(alloc, responder, initiator, histories, rules, plan.rotation)?;
@@ -163,8 +130,8 @@ fn take_both<N: Number, H: Written>(
     requires may { MayTakeBoth N.number H.lists owners initiator.old responder.old back forth }
     ensures ok { OnOk result (HaveTakenBoth N.number owners.entry initiator.old responder.old
         back.entry forth.entry initiator.new responder.new) }
-    ensures initiator_stays { OnErr result (initiator.new ≡ initiator.old) }
-    ensures responder_stays { OnErr result (responder.new ≡ responder.old) }
+    ensures stay { OnErr result
+        (BothStay initiator.old responder.old initiator.new responder.new) }
     ensures only { IsOkUnless result OutOfMemory }
 {
     let initiator_before = Vec::from_slice(alloc, initiator.greatest())?;

@@ -16,12 +16,12 @@ impl<N: Number, H: Written> MemoryTable for VersionTable<N, H> {
 
 impl<N: Number + Send + Sync, H: Written + Send + Sync> Exchanging<VersionTable<N, H>>
     for Histories<N, H> {
-    ghost use Rattle.version_tables.specs.inner.Histories.{FitsHistories};
+    ghost use Rattle.version_tables.specs.inner.Histories.{FitsRun};
     ghost use Rattle.version_tables.specs.inner.FitsKept.{fits_stays};
 
-    ghost fits = { FitsHistories };
+    ghost fits = { FitsRun H.lists N.most };
 
-    ghost stays_fit = { fits_stays };
+    ghost stays_fit = { fits_stays H.lists N.most };
 
     fn exchange(
         &self,

@@ -52,7 +52,7 @@ impl<N: Number, H: Written> Histories<N, H> {
     ghost use Rattle.bench_types.specs.declared.limits.TheConstants.{MOST_KEYS, MOST_NODES};
     ghost use Rattle.model.specs.calls.OwnerListView.{all_writes, list_of_owner, no_writes, next_entry, with_write, begun_generation, AreWrites, ListBecomes};
     ghost use Rattle.planes.specs.Planes.{cell, HasEach, HasEachPlace};
-    ghost use Rattle.version_tables.specs.inner.Histories.{IsWrittenSoFar, IsWriteUnder};
+    ghost use Rattle.version_tables.specs.inner.Histories.{AreKnown, IsWrittenSoFar, IsWriteUnder};
     ghost use Rattle.version_lags.specs.Missed.{IsLastNumber};
     ghost use Rattle.owner_writes.specs.Numbered.{AreEnds};
 
@@ -94,6 +94,7 @@ impl<N: Number, H: Written> Histories<N, H> {
             self.new.lists) }
         ensures err { OnErr result (self.new ≡ self.old) }
         ensures rounds { self.new.rounds ≡ self.old.rounds }
+        ensures known { IfOk result (λ _. AreKnown H.lists N.most self.old) }
         ensures only { IsOkUnless result OutOfMemory }
     {
         let owner = owner as usize;
@@ -127,6 +128,7 @@ impl<N: Number, H: Written> Histories<N, H> {
         ensures lists { self.new.lists ≡ self.old.lists }
         ensures ok { OnOk result (self.new.rounds ≡ self.old.rounds + 1) }
         ensures err { OnErr result (self.new ≡ self.old) }
+        ensures known { AreKnown H.lists N.most self.new }
         ensures only { IsOkUnless result OutOfMemory }
     {
         self.ends.extend_from_slice(&self.counts)?;
@@ -152,15 +154,7 @@ impl<N: Number, H: Written> Histories<N, H> {
         self.rounds
     }
 
-    // How many writes each owner has made.
-    pub(crate) fn counts(&self) -> &[N]
-        ensures { HasEach (length self.now.lists) (λ r n. n ≡ length (all_writes self.now.lists r))
-            (map N.number result.now) }
-    {
-        &self.counts
-    }
-
-    // How many of them are of earlier generations.
+    // How many writes of earlier generations each owner has made.
     pub(crate) fn bases(&self) -> &[N]
         ensures value { HasEach (length self.now.lists)
             (λ r n. n ≡ length (list_of_owner self.now.lists r).earlier)

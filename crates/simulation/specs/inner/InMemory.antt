@@ -5,7 +5,7 @@ use Rattle.bench_types.specs.declared.limits.TheConstants.{MOST_ROUNDS}
 use Rattle.model.specs.Table.{Table}
 use Rattle.model.specs.calls.OwnerListView.{OwnerListView, list_of_owner}
 use Rattle.round_plan.specs.declared.owners.OwnWrite.{OwnWrite}
-use Rattle.round_tables.specs.Histories.{own_list}
+use Rattle.round_tables.specs.Histories.{own_list, StandsAmong}
 use Rattle.scenario.specs.Settings.{Settings}
 use Rattle.simulation.specs.Rounds.{begun}
 use Rattle.simulation.specs.calls.Standing.{IsOwner, StandAfterRound}
@@ -34,6 +34,14 @@ module _ {T H : Type 0} (table : T → Table) (lists : H → List OwnerListView)
   abbrev pub WritesIn : ℕ → List OwnWrite → T → T → H → H → Type 0
   WritesIn round writes old new h h' =
       HasWritten round writes (table old) (table new) (own_list (table old) (lists h)) (own_list (table old) (lists h'))
+
+-- the tables and histories with which a round begins: as many rounds have ended, and what stands among the lists fits
+pub record HasBegun {T H : Type 0} (table : T → Table) (lists : H → List OwnerListView) (Ended : H → ℕ → Type 0)
+    (Fits : H → Table → Type 0) (s : Settings) (round : ℕ) (old new : List T) (h : H) : Type 0 where
+  pub standing : TablesStand table lists s round new h
+  pub tables : AreBegun table s round old new
+  pub ended : Ended h round
+  pub fits : (t : Table) → StandsAmong (lists h) t → Fits h t
 
 -- a node's table beside the histories, of which the round before one that a run may have has ended
 pub record IsBeforeRound {T H : Type 0} (table : T → Table) (lists : H → List OwnerListView) (Ended : H → ℕ → Type 0)

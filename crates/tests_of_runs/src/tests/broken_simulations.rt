@@ -79,10 +79,6 @@ impl<T: MemoryTable, H: RoundHistories<T>> RoundHistories<T> for Refusing<H> {
         self.inner.end_writes(round)
     }
 
-    fn stand_ready(&self, round: u32) {
-        self.inner.stand_ready(round);
-    }
-
     fn figures<R: Threads + Sync>(
         &self,
         rt: &R,

@@ -51,6 +51,11 @@ pub record AreOwners {N : Type 0} (number : N → ℕ) (nodes : ℕ) (owners : O
   pub bases : HasEach nodes (λ r n. n ≡ bases_in owners.lists.now r) (map number owners.bases.now)
   pub numbered : (owner : ℕ) → IsNumberedHistory (all_writes owners.lists.now owner)
 
+-- what is known of all owners' writes, where this is what they write in the run
+pub record AreKnown (written : ℕ → List Entry) (most : ℕ) (h : HistoriesView) : Type 0 where
+  pub so_far : (owner : ℕ) → IsWrittenSoFar (written owner) most h.rounds (all_writes h.lists owner)
+  pub writes : (owner : ℕ) → AreWrites (list_of_owner h.lists owner)
+
 -- what a table owes to the histories: its entries were written, and no later than in the last round
 pub record FitsHistories (h : HistoriesView) (t : Table) : Type 0 where
   pub proper : IsProper t
@@ -58,10 +63,17 @@ pub record FitsHistories (h : HistoriesView) (t : Table) : Type 0 where
   pub holds : (owner key : ℕ) (e : Entry) → entry_at t owner key ≡ Some e → Contains (all_writes h.lists owner) e
   pub made : (owner : ℕ) → AreMadeBy h.rounds (all_writes h.lists owner)
 
+-- and the histories to the run
+pub record FitsRun (written : ℕ → List Entry) (most : ℕ) (h : HistoriesView) (t : Table) : Type 0 where
+  pub known : AreKnown written most h
+  pub among : FitsHistories h t
+
 -- two tables of which an exchange may be made
-pub record IsReadyExchange (rules : Rules) (plan : Exchange) (h : HistoriesView) (initiator responder : Table) : Type 0 where
+pub record IsReadyExchange (written : ℕ → List Entry) (most : ℕ) (rules : Rules) (plan : Exchange)
+    (h : HistoriesView) (initiator responder : Table) : Type 0 where
   pub budget : IsLawfulBudget rules.budget
   pub tables : MayBeExchanged plan initiator responder
+  pub known : AreKnown written most h
   pub initiator_fits : FitsHistories h initiator
   pub responder_fits : FitsHistories h responder
 

@@ -102,6 +102,10 @@ pub record MayTakeBoth {N : Type 0} (number : N → ℕ) (written : ℕ → List
       → HasArrived number owners initiator responder.cells back after
       → MayArrive number written owners responder after.cells forth
 
+-- or neither has changed
+abbrev pub BothStay : VersionTableView → VersionTableView → VersionTableView → VersionTableView → Type 0
+BothStay initiator responder new_initiator new_responder = (new_initiator ≡ initiator) × (new_responder ≡ responder)
+
 -- and they have taken that
 pub record HaveTakenBoth {N : Type 0} (number : N → ℕ) (owners : Owners N)
     (initiator responder : VersionTableView) (back forth : Arrival N)

@@ -1,6 +1,5 @@
 use Rattle.std.proofs.Common.{◌+◌, length, sym, ap, ◌∙◌, subst}
-use Rattle.model.specs.calls.Numbers.{write_numbered}
-use Rattle.model.specs.calls.OwnerListView.{all_writes, next_entry, list_of_owner}
+use Rattle.model.specs.calls.OwnerListView.{all_writes, list_of_owner}
 use Rattle.version_tables.specs.Writes.{IsNextWrite}
 use Rattle.version_tables.proofs.NextWrites.{next-write}
 use Rattle.version_tables.proofs.carrying.write.Goals as goal
@@ -12,17 +11,7 @@ write_own-requires-clause-next g c =
     let list = list_of_owner lists table.node in
     let number = c.in_ok-number.ensures.number
     ∙ ap (λ owner. length (all_writes lists owner) + 1) c.node-node.ensures.value in
-    let begins = (c.lists-lists.ensures.so_far table.node).begins in
+    let begins = (c.in_ok-number.ensures.known.so_far table.node).begins in
     subst (IsNextWrite g.H.Written.lists table c.args.key) (sym number)
-    (next-write g.H.Written.lists table c.node-node.ensures.kept list (c.lists-lists.ensures.writes table.node) begins
+    (next-write g.H.Written.lists table c.node-node.ensures.kept list (c.in_ok-number.ensures.known.writes table.node) begins
     c.requires.may.beside.generation c.requires.may.beside.greatest g.N.Number.most c.args.key c.args.value c.args.born c.requires.may.may)
-
-pub returns-clause-table : goal.returns-clause-table
-returns-clause-table g c =
-    let table = c.args.table.now in
-    let lists = c.args.histories.now.lists in
-    let list = list_of_owner lists table.node in
-    let number = c.in_ok-number.ensures.number
-    ∙ ap (λ owner. length (all_writes lists owner) + 1) c.node-node.ensures.value in
-    c.write_own.ensures (next_entry list c.args.key c.args.value c.args.born)
-    (ap (write_numbered (g.H.Written.lists table.node)) number ∙ c.requires.may.may.is)

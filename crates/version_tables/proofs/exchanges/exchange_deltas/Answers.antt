@@ -1,4 +1,4 @@
-use Rattle.std.proofs.Common.{◌≡◌, ℕ, ◌*◌, ◌<◌, Bool, true, false, List, length, map, ap, sym, subst, ◌∙◌}
+use Rattle.std.proofs.Common.{◌≡◌, ℕ, ◌*◌, Bool, true, false, List, length, map, ap, sym, subst, ◌∙◌}
 use Rattle.std.proofs.Math.Path.{transport}
 use Rattle.std.specs.Prelude.{◌||◌}
 use Rattle.std.proofs.lemmas.List.{length-map}
@@ -79,24 +79,3 @@ returns-clause-ok g c =
     c.requires.may.initiator_fits c.requires.may.responder_fits c.requires.may.tables.nodes c.requires.may.tables.keys _ _ _ _ _ _ _ _ c.in_ok-back.ensures.delta c.in_ok-forth.ensures.delta c.lists.result.now c.lists.ensures.value
     c.args.digest1 c.digest_size-digest2.result c.requires.digest1 c.digest_size-digest2.ensures.size c.requires.came c.if-plan.false _ _ c.is_nothing.ensures (ap (λ b. c.args.plan.now.lost3 || b) c.is_nothing-2.ensures)
     c.take_both.new.initiator c.take_both.new.responder c.in_ok-take_both.ensures.ok.first c.in_ok-take_both.ensures.ok.second c.sent_both.result c.sent_both.ensures
-
-pub delta-requires : goal.delta-requires
-delta-requires g c = record {
-  may =
-      let may = c.requires.may in
-      record {
-        budget = may.budget;
-        nodes = sym may.tables.nodes;
-        keys = sym may.tables.keys;
-        rotation = subst (λ n. c.args.plan.now.rotation < n) may.tables.nodes may.tables.rotation;
-        sender = may.responder_fits;
-        receiver = may.initiator_fits;
-      };
-}
-
-pub delta-requires-2 : goal.delta-requires-2
-delta-requires-2 g c = record {
-  may =
-      let may = c.requires.may in
-      record { budget = may.budget; nodes = may.tables.nodes; keys = may.tables.keys; rotation = may.tables.rotation; sender = may.initiator_fits; receiver = may.responder_fits };
-}

@@ -1,13 +1,12 @@
-use Rattle.std.proofs.Common.{◌≡◌, ℕ, max, map, slice_index, ap, sym, ◌∙◌}
+use Rattle.std.proofs.Common.{◌≡◌, ℕ, max, map, slice_index, refl, ap, sym, ◌∙◌}
 use Rattle.std.proofs.Math.Path.{transport}
 use Rattle.std.specs.Vec.{with_items}
 use Rattle.std.proofs.lemmas.List.{with_items_is}
 use Rattle.planes.specs.Elementwise.{AreChanged}
 use Rattle.planes.specs.Planes.{cell, number_raised, ArePlanesChanged}
 use Rattle.version_tables.specs.Views.{VersionTableView}
-use Rattle.version_tables.specs.inner.Merged.{IsMerged}
+use Rattle.version_tables.specs.inner.Merged.{HasMerged, IsMerged, StaysMerged}
 use Rattle.version_tables.proofs.Laid.{seen}
-use Rattle.version_tables.proofs.MergedViews.{merged-one, has-merged}
 use Rattle.version_tables.proofs.merging.merge.Given as given
 use Rattle.version_tables.proofs.merging.merge.Goals as goal
 
@@ -27,8 +26,13 @@ module _ (g : given.Over) (c : goal.After-responder-2-1 g) where
   keys : p.keys ≡ q.keys
   keys = ap (λ (v : VersionTableView). v.keys) c.initiator.view_is ∙ c.requires.size.keys ∙ sym (ap (λ (v : VersionTableView). v.keys) c.responder.view_is)
 
-  came : IsMerged p.nodes p.keys p.cells p.greatest q.cells q.greatest
-      (map number (with_items c.initiator.inside.cells c.merge-came.new.first).items) (map number (with_items c.initiator.inside.greatest c.raise_both.new.first).items)
+  abbrev p' : VersionTableView
+  p' = record p { cells = map number (with_items c.initiator.inside.cells c.merge-came.new.first).items; greatest = map number (with_items c.initiator.inside.greatest c.raise_both.new.first).items }
+
+  abbrev q' : VersionTableView
+  q' = record q { cells = map number (with_items c.responder.inside.cells c.merge-came.new.second).items; greatest = map number (with_items c.responder.inside.greatest c.raise_both.new.second).items }
+
+  came : IsMerged p.nodes p.keys p.cells p.greatest q.cells q.greatest p'.cells p'.greatest
   came = record {
     numbers =
         transport (λ i. ArePlanesChanged (λ r k x y. y ≡ number_raised x (cell (map number (c.deref_mut-2.ensures.value i)) p.nodes r k) (slice_index (map number (c.deref.ensures.value i)) r)) p.nodes p.keys (map number (c.deref_mut.ensures.value i))
@@ -38,8 +42,7 @@ module _ (g : given.Over) (c : goal.After-responder-2-1 g) where
         (map number (sym (with_items_is c.initiator.inside.greatest c.raise_both.new.first (c.raise_both.auto.first ∙ c.deref_mut-3.ensures.len)) i))) c.raise_both.ensures.first;
   }
 
-  went : IsMerged q.nodes q.keys q.cells q.greatest p.cells p.greatest
-      (map number (with_items c.responder.inside.cells c.merge-came.new.second).items) (map number (with_items c.responder.inside.greatest c.raise_both.new.second).items)
+  went : IsMerged q.nodes q.keys q.cells q.greatest p.cells p.greatest q'.cells q'.greatest
   went = record {
     numbers =
         transport (λ i. ArePlanesChanged (λ r k x y. y ≡ number_raised x (cell (map number (c.deref_mut.ensures.value i)) (nodes i) r k) (slice_index (map number (c.deref-2.ensures.value i)) r)) (nodes i) (keys i) (map number (c.deref_mut-2.ensures.value i))
@@ -50,13 +53,15 @@ module _ (g : given.Over) (c : goal.After-responder-2-1 g) where
   }
 
 pub invariant_of-initiator : goal.invariant_of-initiator
-invariant_of-initiator g c = merged-one (q g c) (p g c) c.args.responder.now c.args.initiator.now c.responder.view_is c.initiator.view_is _ _ (came g c) g.H.Written.lists c.requires.initiator
+invariant_of-initiator g c =
+    transport (λ i. StaysMerged g.H.Written.lists (sym c.initiator.view_is i) (sym c.responder.view_is i).cells (sym c.responder.view_is i).greatest) c.requires.initiator _ _ (came g c)
 
 pub invariant_of-responder : goal.invariant_of-responder
-invariant_of-responder g c = merged-one (p g c) (q g c) c.args.initiator.now c.args.responder.now c.initiator.view_is c.responder.view_is _ _ (went g c) g.H.Written.lists c.requires.responder
+invariant_of-responder g c =
+    transport (λ i. StaysMerged g.H.Written.lists (sym c.responder.view_is i) (sym c.initiator.view_is i).cells (sym c.initiator.view_is i).greatest) c.requires.responder _ _ (went g c)
 
 pub returns-clause-initiator : goal.returns-clause-initiator
-returns-clause-initiator g c = has-merged (q g c) (p g c) c.args.responder.now c.args.initiator.now c.responder.view_is c.initiator.view_is _ _ (came g c)
+returns-clause-initiator g c = transport (λ i. HasMerged (c.responder.view_is i) (c.initiator.view_is i) (p' g c)) (record { merged = came g c; rest = refl })
 
 pub returns-clause-responder : goal.returns-clause-responder
-returns-clause-responder g c = has-merged (p g c) (q g c) c.args.initiator.now c.args.responder.now c.initiator.view_is c.responder.view_is _ _ (went g c)
+returns-clause-responder g c = transport (λ i. HasMerged (c.initiator.view_is i) (c.responder.view_is i) (q' g c)) (record { merged = went g c; rest = refl })

@@ -3,7 +3,7 @@ use Rattle.std.specs.Prelude.{◌&&◌}
 use Rattle.std.proofs.lemmas.List.{length-map}
 use Rattle.model.specs.calls.OwnerListView.{all_writes}
 use Rattle.planes.proofs.Elementwise.{number-at}
-use Rattle.planes.proofs.ByOwner.{owners-none, owners-next, owners-all}
+use Rattle.planes.proofs.ByOwner.{owners-next, owners-all}
 use Rattle.owner_writes.specs.Numbered.{IsNumberedHistory}
 use Rattle.version_tables.specs.inner.Taken.{drop_start, number_kept}
 use Rattle.version_tables.proofs.Clearing.{planes-stay, no_start, kept-all, plane-none}
@@ -36,9 +36,6 @@ starts g c =
 pub drop_from-start-requires : goal.drop_from-start-requires
 drop_from-start-requires g c =
     subst IsNumberedHistory (all_writes-here c.args.owners.lists.now c.loop-owner.owner c.index-lists-owner.result (omega (arith, c.requires.owners.count, c.loop-owner-test.true)) c.index-lists-owner.is) (c.requires.owners.numbered c.loop-owner.owner)
-
-pub loop-owner-init : goal.loop-owner-init
-loop-owner-init g c = owners-none _ c.args.nodes c.args.keys (map g.N.Number.number c.args.cells.now)
 
 pub loop-owner-preserved : goal.loop-owner-preserved
 loop-owner-preserved g c =

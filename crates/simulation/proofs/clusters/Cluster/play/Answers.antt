@@ -12,17 +12,14 @@ use Rattle.simulation.proofs.Standing.{written_by}
 use Rattle.simulation.proofs.clusters.Cluster.play.Given as given
 use Rattle.simulation.proofs.clusters.Cluster.play.Goals as goal
 
-pub stand_ready-requires-clause-written : goal.stand_ready-requires-clause-written
-stand_ready-requires-clause-written g c = written_by c.args.scenario.now c.args.round _ _ c.in_ok-begun.ensures.standing
-
 -- each table stands among the lists as the exchanges begin
 pub run_list_with-requires-clause-tables : goal.run_list_with-requires-clause-tables
 run_list_with-requires-clause-tables g c _ _ = record {
   cluster =
       subst (λ n. IsCluster n (map g.T.MemoryTable.table c.in_ok-begun.begun.items)) (sym (ap (λ (l : RoundListView). l.nodes) c.in_ok-words.ensures.plan.list))
-      (nodes_cluster g.T.MemoryTable.table c.args.scenario.now c.args.round c.in_ok-begun.begun.items (g.H.RoundHistories.lists c.in_ok-begun.histories) c.in_ok-begun.ensures.standing);
+      (nodes_cluster g.T.MemoryTable.table c.args.scenario.now c.args.round c.in_ok-begun.begun.items (g.H.RoundHistories.lists c.in_ok-begun.histories) c.in_ok-begun.ensures.begun.standing);
   each_fits = λ n lt.
-      c.stand_ready.ensures _ (each_begun c.args.scenario.now c.args.round _ _ _ c.requires.lawful c.requires.round.first c.requires.before.tables c.in_ok-begun.ensures.tables c.in_ok-begun.ensures.standing n lt);
+      c.in_ok-begun.ensures.begun.fits _ (each_begun c.args.scenario.now c.args.round _ _ _ c.requires.lawful c.requires.round.first c.requires.before.tables c.in_ok-begun.ensures.begun.tables c.in_ok-begun.ensures.begun.standing n lt);
   budget = subst (λ (r : Rules). IsLawfulBudget r.budget) (sym c.rules_of-rules.ensures) (lawful_budget c.args.scenario.now.format c.args.scenario.now.budget c.requires.lawful.budget);
 }
 
@@ -30,7 +27,7 @@ run_list_with-requires-clause-tables g c _ _ = record {
 read : (g : given.Over) (c : goal.After-deref g) → IsLeft g.T.MemoryTable.table c.args.scenario.now c.args.round c.deref.result.now (g.H.RoundHistories.lists c.in_ok-begun.histories)
 read g c =
     subst (λ ts. IsLeft g.T.MemoryTable.table c.args.scenario.now c.args.round ts (g.H.RoundHistories.lists c.in_ok-begun.histories)) (sym c.deref.ensures.value)
-    (is_left g.T.MemoryTable.table c.args.scenario.now c.args.round c.in_ok-words.field-0.list _ _ _ c.in_ok-tables.tables.items c.in_ok-tables.records.items _ c.requires.lawful c.requires.round.first (subst IsRoundPlan c.list.view_is c.list.invariant) c.in_ok-words.ensures.plan.list c.rules_of-rules.ensures c.requires.before.tables c.in_ok-begun.ensures.tables c.in_ok-begun.ensures.standing c.in_ok-tables.ensures.exchanged)
+    (is_left g.T.MemoryTable.table c.args.scenario.now c.args.round c.in_ok-words.field-0.list _ _ _ c.in_ok-tables.tables.items c.in_ok-tables.records.items _ c.requires.lawful c.requires.round.first (subst IsRoundPlan c.list.view_is c.list.invariant) c.in_ok-words.ensures.plan.list c.rules_of-rules.ensures c.requires.before.tables c.in_ok-begun.ensures.begun.tables c.in_ok-begun.ensures.begun.standing c.in_ok-tables.ensures.exchanged)
 
 pub figures-requires-clause-cluster : goal.figures-requires-clause-cluster
 figures-requires-clause-cluster g c = standing_cluster g.T.MemoryTable.table c.args.scenario.now c.args.round c.deref.result.now _ (read g c).standing
@@ -39,7 +36,7 @@ pub figures-requires-clause-one_list_each : goal.figures-requires-clause-one_lis
 figures-requires-clause-one_list_each g c = one_list_each g.T.MemoryTable.table c.args.scenario.now c.args.round c.deref.result.now _ (read g c).standing
 
 pub figures-requires-clause-written : goal.figures-requires-clause-written
-figures-requires-clause-written g c = written_by c.args.scenario.now c.args.round _ _ c.in_ok-begun.ensures.standing
+figures-requires-clause-written g c = written_by c.args.scenario.now c.args.round _ _ c.in_ok-begun.ensures.begun.standing
 
 pub figures-requires-clause-standing : goal.figures-requires-clause-standing
 figures-requires-clause-standing g c = (read g c).each
@@ -51,17 +48,17 @@ of-played-requires g c =
 -- what the round leaves
 left : (g : given.Over) (c : goal.After-result-1 g) → IsLeft g.T.MemoryTable.table c.args.scenario.now c.args.round c.in_ok-tables.tables.items (g.H.RoundHistories.lists c.in_ok-begun.histories)
 left g c =
-    is_left g.T.MemoryTable.table c.args.scenario.now c.args.round c.in_ok-words.field-0.list _ _ _ c.in_ok-tables.tables.items c.in_ok-tables.records.items _ c.requires.lawful c.requires.round.first (subst IsRoundPlan c.list.view_is c.list.invariant) c.in_ok-words.ensures.plan.list c.rules_of-rules.ensures c.requires.before.tables c.in_ok-begun.ensures.tables c.in_ok-begun.ensures.standing c.in_ok-tables.ensures.exchanged
+    is_left g.T.MemoryTable.table c.args.scenario.now c.args.round c.in_ok-words.field-0.list _ _ _ c.in_ok-tables.tables.items c.in_ok-tables.records.items _ c.requires.lawful c.requires.round.first (subst IsRoundPlan c.list.view_is c.list.invariant) c.in_ok-words.ensures.plan.list c.rules_of-rules.ensures c.requires.before.tables c.in_ok-begun.ensures.begun.tables c.in_ok-begun.ensures.begun.standing c.in_ok-tables.ensures.exchanged
 
 pub returns-clause-after : goal.returns-clause-after
 returns-clause-after g c =
     let is = left g c in
-    record { standing = is.standing; tables = is.after; ended = c.in_ok-begun.ensures.ended; drawn = subst (λ r. IfOk r (IsDrawnAfter c.args.scenario.now c.args.round)) c.in_ok-drawn.was c.in_ok-tables.ensures.made.0 }
+    record { standing = is.standing; tables = is.after; ended = c.in_ok-begun.ensures.begun.ended; drawn = subst (λ r. IfOk r (IsDrawnAfter c.args.scenario.now c.args.round)) c.in_ok-drawn.was c.in_ok-tables.ensures.made.0 }
 
 pub returns-clause-played : goal.returns-clause-played
 returns-clause-played g c =
     let lists = g.H.RoundHistories.lists c.in_ok-begun.histories in
     played_is c.args.scenario.now c.args.round (map g.T.MemoryTable.table c.args.self.tables.items) (map g.T.MemoryTable.table c.in_ok-tables.tables.items) lists c.in_ok-words.field-0.list c.in_ok-tables.records.items c.in_ok-lag.lag c.of-played.result c.in_ok-words.ensures.plan.list
-    (round_is c.args.scenario.now c.args.round c.in_ok-words.field-0.list (subst IsRoundPlan c.list.view_is c.list.invariant) c.in_ok-words.ensures.plan.list _ _ _ c.in_ok-tables.records.items c.in_ok-tables.ensures.exchanged (map g.T.MemoryTable.table c.args.self.tables.items) c.in_ok-begun.ensures.tables c.rules_of-rules.ensures)
+    (round_is c.args.scenario.now c.args.round c.in_ok-words.field-0.list (subst IsRoundPlan c.list.view_is c.list.invariant) c.in_ok-words.ensures.plan.list _ _ _ c.in_ok-tables.records.items c.in_ok-tables.ensures.exchanged (map g.T.MemoryTable.table c.args.self.tables.items) c.in_ok-begun.ensures.begun.tables c.rules_of-rules.ensures)
     (c.in_ok-lag.ensures.figures ∙ ap (λ ts. figures_of c.args.round (map g.T.MemoryTable.table ts) (lists_in lists)) c.deref.ensures.value)
     c.of-played.ensures

@@ -4,7 +4,7 @@ use Rattle.version_tables.specs.Views.{VersionTableView}
 use Rattle.version_tables.specs.Writes.{IsNextWrite, HasOwnWrite}
 use Rattle.version_tables.specs.Laid.{IsVersionTable}
 use Rattle.version_tables.proofs.Laid.{seen}
-use Rattle.version_tables.proofs.OwnCalls.{writes-table, writes-kept}
+use Rattle.version_tables.proofs.OwnCalls.{lies-kept, writes, writes-table}
 use Rattle.version_tables.proofs.tables.VersionTable.write_own.Given as given
 use Rattle.version_tables.proofs.tables.VersionTable.write_own.Goals as goal
 
@@ -31,7 +31,7 @@ module _ (g : given.Over) (c : goal.After-self-2-1 g) where
 pub invariant_of-self : goal.invariant_of-self
 invariant_of-self g c =
     put g c (IsVersionTable g.H.Written.lists c.self.inside.node c.self.inside.nodes c.self.inside.keys c.self.inside.generation)
-    (writes-kept g.H.Written.lists (old g c) c.self.invariant c.args.key (g.N.Number.number c.args.number) (in_keys g c) (next g c))
+    (lies-kept g.H.Written.lists _ _ _ (writes g.H.Written.lists (old g c) c.self.invariant c.args.key (g.N.Number.number c.args.number) (in_keys g c) (next g c)))
 
 pub returns : goal.returns
 returns g c =

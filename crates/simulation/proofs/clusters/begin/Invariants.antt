@@ -1,8 +1,8 @@
 use Rattle.std.proofs.Common.{◌-◌, map}
 use Rattle.simulation.proofs.Begun.{HaveBegun}
-use Rattle.simulation.proofs.clusters.begin_round.Given as goal
+use Rattle.simulation.proofs.clusters.begin.Given as goal
 
 abbrev pub invariant-loop-node : goal.invariant-loop-node
 invariant-loop-node g l =
-    HaveBegun l.scenario l.round (map g.T.MemoryTable.table l.initial.tables) (map g.T.MemoryTable.table l.tables) (g.H.RoundHistories.lists l.histories) l.node
+    HaveBegun l.scenario l.round (map g.T.MemoryTable.table l.initial.tables.items) (map g.T.MemoryTable.table l.tables.items) (g.H.RoundHistories.lists l.histories) l.node
     × g.H.RoundHistories.has_ended l.histories (l.round - 1)

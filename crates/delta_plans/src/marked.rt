@@ -68,7 +68,6 @@ pub fn planned<N: Number>(
     })
 }
 
-// The marks that let all through.
 fn whole_mark<N: Number>(alloc: Global, offer: &Offer<N>, first: First) -> Result<Vec<N>, Fault>
     ensures marks { IfOk result (λ v. map N.number v.items
         ≡ by_first first (map N.number offer.now.high.now) (map N.number offer.now.low.now)) }
@@ -80,7 +79,6 @@ fn whole_mark<N: Number>(alloc: Global, offer: &Offer<N>, first: First) -> Resul
     }
 }
 
-// The first level of a mode that doesn't fit with those before it.
 fn level_of<N: Number>(
     alloc: Global,
     offer: &Offer<N>,

@@ -94,7 +94,6 @@ fn few_rounds<N: Number>(
     Ok(Few { rounds: few, whole })
 }
 
-// What marks let through.
 fn look<N: Number>(offer: &Offer<N>, mark: &[N], found: u32, first: First) -> Found
     requires offer { IsOffer N.number N.most offer.now }
     requires mark { length mark.now ≡ offer.now.nodes }
@@ -121,7 +120,6 @@ fn look<N: Number>(offer: &Offer<N>, mark: &[N], found: u32, first: First) -> Fo
     }
 }
 
-// The marks between so many rounds and the others.
 fn mark_after<N: Number>(
     alloc: Global,
     ends: Ends<N>,

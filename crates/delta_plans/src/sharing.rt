@@ -82,7 +82,6 @@ impl<'a, 'b, N: Number> Turns<'a, 'b, N> {
         }
     }
 
-    // What is sent whole takes so much.
     fn weight_of_whole(&self) -> u32
         requires { AreTurns N.number N.most self.now }
         ensures { result ≡ weight_on self.now.first N.number self.now.offer.now

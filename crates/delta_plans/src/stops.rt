@@ -83,7 +83,6 @@ impl<'a, 'b, N: Number> Part<'a, 'b, N> {
     }
 }
 
-// The nearest mark that is past a number.
 fn mark_past<N: Number>(first: First, number: N) -> N
     requires some { 0 < N.number number }
     requires fits { N.number number ≤ N.most }

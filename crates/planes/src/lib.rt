@@ -17,7 +17,7 @@
 //!   goes over; it can't be that one comes back in its place, so neither way has to wait for the other. The pass counts
 //!   what goes each way, and the greatest numbers are raised once behind it.
 //! - Few owners are gone through one by one. An owner whose two marks have nothing between them concerns no loop that
-//!   takes or counts numbers. Where there are 8 keys or more, and at most one in 32 owners has something between its
+//!   takes or counts numbers. Where there are 16 keys or more, and at most one in 32 owners has something between its
 //!   marks, or one in 8 where numbers are changed, these owners alone are visited, key by key, in place of whole
 //!   planes. Where two tables are merged, the numbers of such an owner come from the table with the greater mark. The
 //!   contract is the same.

@@ -12,7 +12,7 @@ use crate::numbers::Number;
 use crate::planes;
 
 /// So many keys are many: with fewer, planes are the faster way.
-const MANY_KEYS: usize = 8;
+const MANY_KEYS: usize = 16;
 /// Owners are few where they are no more than all divided by this: to count their numbers, or to change them.
 pub(crate) const FEW_TO_COUNT: usize = 32;
 
@@ -28,7 +28,6 @@ pub(crate) fn are_few<N: Number>(keys: usize, low: &[N], high: &[N], few: usize)
     keys >= MANY_KEYS && planes::how_many_above(high, low) as usize <= high.len() / few
 }
 
-// How many numbers of an owner are above a mark.
 fn owner_above<N: Number>(cells: &[N], nodes: usize, keys: usize, owner: usize, low: N) -> u32
     requires grid { IsGrid nodes keys (length cells.now) }
     requires owner { owner < nodes }

@@ -157,8 +157,8 @@ fn begin<T: MemoryTable, H: RoundHistories<T>>(
     requires words { words.now ≡ run_words_of scenario.now round }
     requires ended { H.has_ended histories (round - 1) }
     requires standing { TablesStand T.table H.lists scenario.now (round - 1) tables.items histories }
-    ensures begun { IfOk result (λ p. HasBegun T.table H.lists H.has_ended H.fits scenario.now round
-        tables.items p.0.items p.1) }
+    ensures begun { IfOk result
+        (λ p. HasBegun T.table H.lists H.has_ended H.fits scenario.now round tables.items p.0.items p.1) }
     ensures only { IsOkUnless result OutOfMemory }
 {
     for node in 0..scenario.nodes() {

@@ -55,7 +55,6 @@ pub(crate) fn exchange<N: Number, H: Written>(
     exchange_deltas(alloc, histories, initiator, responder, digest1, plan, rules)
 }
 
-// So many are sent, and none is cut.
 fn all_sent(count: u32) -> DeltaCounts
     ensures sent { result.sent ≡ count }
     ensures cut { result.cut ≡ 0 }

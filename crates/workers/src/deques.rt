@@ -93,7 +93,6 @@ impl<L: Limit> Tasks<L> {
         Ok(Way { from, pass })
     }
 
-    // Puts an exchange of the list on its own deque. An error is lack of memory.
     fn push(&mut self, i: u32) -> Result<(), Fault>
         requires within { i < L.limit }
         ensures pushed { OnOk result (pushed self.new ≡ pushed self.old ++ i ∷ []) }

@@ -3,4 +3,3 @@ pub mod Entry
 pub mod Exchange
 pub mod FaultLine
 pub mod Field
-pub mod Mode

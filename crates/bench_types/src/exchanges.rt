@@ -3,7 +3,6 @@
 ghost use Rattle.std.specs.Prelude.{◌≡◌, Some, find, bytes_eq};
 ghost use Rattle.bench_types.specs.Budget.{amount_of, share_of};
 ghost use Rattle.bench_types.specs.Mode.{digest_kind, mode_name, mode_named};
-ghost use Rattle.bench_types.specs.calls.Mode.{first_sent};
 
 use crate::entries::Entry;
 
@@ -14,13 +13,6 @@ pub enum DigestKind {
     Scuttle,
     /// Each mark that is held, of each owner and key, and the generation held of each owner.
     Precise,
-}
-
-/// Which of an owner's entries goes first.
-#[derive(Clone, Copy, Debug, PartialEq, Eq)]
-pub enum First {
-    Oldest,
-    Newest,
 }
 
 /// Which entries are sent, which follows from what digests tell, and in which order.
@@ -53,16 +45,6 @@ impl Mode {
         match self {
             Mode::ScuttleBreadth | Mode::ScuttleDepth => DigestKind::Scuttle,
             Mode::PreciseOldest | Mode::PreciseNewest => DigestKind::Precise,
-        }
-    }
-
-    /// Which of an owner's entries of one level this mode sends first.
-    pub fn first(self) -> First
-        ensures { result ≡ first_sent self }
-    {
-        match self {
-            Mode::ScuttleBreadth | Mode::ScuttleDepth | Mode::PreciseOldest => First::Oldest,
-            Mode::PreciseNewest => First::Newest,
         }
     }
 

@@ -15,7 +15,7 @@ mod sinks;
 mod sources;
 
 pub use entries::{Entry, Item, Mark};
-pub use exchanges::{Budget, DigestKind, Exchange, Fate, First, Mode, Record, Rules};
+pub use exchanges::{Budget, DigestKind, Exchange, Fate, Mode, Record, Rules};
 pub use faults::Fault;
 pub use fields::{Field, TableName};
 pub use lines::{FaultLine, MOST_LINE};

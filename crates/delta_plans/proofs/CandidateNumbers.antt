@@ -1,21 +1,7 @@
 -- Candidates by their numbers.
 -- Serves `Columns`, `LevelMarks`, `Lifts`, `StopMarks` and `version_tables`.
-use Rattle.std.proofs.Common.{◌≡◌, ℕ, ◌<◌, true, List, Some, inl, inr, sym, ap, ◌∙◌, subst, arith}
-use Rattle.std.specs.Prelude.{Contains}
-use Rattle.std.proofs.lemmas.Bool.{cases_lt, both_ways}
-use Rattle.std.proofs.lemmas.Option.{same_Some}
-use Rattle.bench_types.specs.declared.entries.Entry.{Entry}
-use Rattle.bench_types.specs.declared.entries.Item.{Item}
-use Rattle.bench_types.specs.declared.exchanges.Mode.{Mode}
-use Rattle.model.specs.Table.{Table, entry_at, items_of, generation_held, IsProper}
-use Rattle.model.proofs.Items.{entry_at-items_of}
-use Rattle.model.proofs.Members.{Contains-kept}
-use Rattle.model.specs.Candidates.{candidates}
+use Rattle.delta_plans.proofs.Common.{◌≡◌, ℕ, ◌<◌, true, List, Some, inl, inr, sym, ap, ◌∙◌, subst, arith, Contains, cases_lt, both_ways, same_Some, Entry, Item, Mode, Table, entry_at, items_of, generation_held, IsProper, entry_at-items_of, Contains-kept, candidates, IsHistory, write_numbered, Cells, versions-rise}
 use Rattle.delta_plans.specs.Offers.{Offers, is_lacked}
-use Rattle.owner_writes.specs.Numbered.{IsHistory}
-use Rattle.model.specs.calls.Numbers.{write_numbered}
-use Rattle.planes.specs.Planes.{Cells}
-use Rattle.owner_writes.proofs.Numbers.{versions-rise}
 use Rattle.delta_plans.specs.Firsts.{item_number}
 
 -- a candidate's owner is one of the sender's

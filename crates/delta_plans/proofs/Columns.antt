@@ -1,22 +1,9 @@
 -- Ranks among an owner's candidates and how many it has, by its numbers.
 -- Serves most of the crate and `version_tables`.
-use Rattle.std.proofs.Common.{◌≡◌, ◌≢◌, ℕ, zero, suc, ◌<◌, Bool, true, false, cond, eqb, ltb, List, inl, inr, refl, sym, ap, ◌∙◌, arith}
-use Rattle.std.specs.Prelude.{Contains, ◌&&◌}
-use Rattle.std.proofs.lemmas.Bool.{cases_lt, cases_eq, eq-eqb, ne_eqb, lt-ltb, le-ltb}
-use Rattle.bench_types.specs.declared.entries.Entry.{Entry}
-use Rattle.bench_types.specs.declared.entries.Item.{Item}
-use Rattle.bench_types.specs.declared.exchanges.Mode.{Mode}
-use Rattle.model.specs.Table.{Table, IsProper}
-use Rattle.model.specs.Candidates.{candidates}
-use Rattle.model.specs.Order.{rank_among, owner_count}
-use Rattle.bench_types.specs.Sums.{sum_below}
+use Rattle.delta_plans.proofs.Common.{◌≡◌, ◌≢◌, ℕ, zero, suc, ◌<◌, Bool, true, false, cond, eqb, ltb, List, inl, inr, refl, sym, ap, ◌∙◌, arith, Contains, ◌&&◌, cases_lt, cases_eq, eq-eqb, ne_eqb, lt-ltb, le-ltb, Entry, Item, Mode, Table, IsProper, candidates, rank_among, owner_count, sum_below, IsHistory, Cells, count_above, sum_below-same, number-of_version, versions-rise}
 use Rattle.delta_plans.specs.Offers.{Offers, offered_sum, rank_above}
-use Rattle.owner_writes.specs.Numbered.{IsHistory}
-use Rattle.planes.specs.Planes.{Cells, count_above}
 use Rattle.delta_plans.specs.Firsts.{item_number}
-use Rattle.bench_types.proofs.Sums.{sum_below-same}
 use Rattle.delta_plans.proofs.OfferSums.{offered-sum}
-use Rattle.owner_writes.proofs.Numbers.{number-of_version, versions-rise}
 use Rattle.delta_plans.proofs.CandidateNumbers.{candidate-number, candidate-below, alike, d_number}
 
 -- a sum to which one index alone adds

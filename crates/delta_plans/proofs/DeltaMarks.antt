@@ -1,25 +1,10 @@
 -- A delta by marks: whole levels, and of the next one what comes before the first candidate that doesn't fit.
 -- Serves `Lifts`.
-use Rattle.std.proofs.Common.{◌≡◌, ℕ, ◌+◌, ◌<◌, ◌≤◌, Bool, true, cond, List, ap, arith}
-use Rattle.std.specs.Prelude.{Contains}
-use Rattle.bench_types.specs.declared.entries.Entry.{Entry}
-use Rattle.bench_types.specs.declared.entries.Item.{Item}
-use Rattle.bench_types.specs.declared.exchanges.Budget.{Budget}
-use Rattle.bench_types.specs.declared.exchanges.Mode.{Mode}
-use Rattle.bench_types.specs.calls.Mode.{first_sent}
-use Rattle.bench_types.specs.Budget.{amount_of}
-use Rattle.model.specs.Table.{Table, IsProper}
-use Rattle.model.specs.Candidates.{candidates}
-use Rattle.model.specs.Deltas.{delta_between, item_share}
-use Rattle.model.specs.Order.{sending_order}
-use Rattle.model.proofs.Levels.{level_cmp}
-use Rattle.model.proofs.DeltaLaws.{sending_order-total}
+use Rattle.delta_plans.proofs.Common.{◌≡◌, ℕ, ◌+◌, ◌<◌, ◌≤◌, Bool, true, cond, List, ap, arith, Contains, Entry, Item, Budget, Mode, amount_of, Table, IsProper, candidates, delta_between, item_share, sending_order, level_cmp, sending_order-total, IsHistory, Cells}
 use Rattle.delta_plans.specs.SentSets.{HasSet, size_in}
 use Rattle.delta_plans.specs.Offers.{Offers}
-use Rattle.owner_writes.specs.Numbered.{IsHistory}
-use Rattle.planes.specs.Planes.{Cells}
 use Rattle.delta_plans.specs.Firsts.{item_number}
-use Rattle.delta_plans.specs.LevelMarks.{lets_through, AreLevelMarks, StopAt, size_through_marks}
+use Rattle.delta_plans.specs.LevelMarks.{first_sent, lets_through, AreLevelMarks, StopAt, size_through_marks}
 use Rattle.delta_plans.proofs.OfferSums.{offered-sum}
 use Rattle.delta_plans.proofs.SentSets.{stops_sent, all_sent, set_sent}
 use Rattle.delta_plans.proofs.StopMarks.{marks-stop}

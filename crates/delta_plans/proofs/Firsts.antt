@@ -1,12 +1,8 @@
 -- What goes first, by numbers, versions and marks.
 -- Serves `StopMarks`.
-use Rattle.std.proofs.Common.{◌≡◌, ℕ, ◌<◌, ◌⊎◌, true, false, inl, inr, arith}
-use Rattle.std.specs.declared.cmp.Ordering.TheVariants.{Less, Greater}
-use Rattle.std.proofs.lemmas.Bool.{cases_lt, lt-ltb, le-ltb, le-leb, lt-leb, leb-true, leb-false, ltb-true, ltb-false}
-use Rattle.bench_types.specs.declared.exchanges.First.{First}
-use Rattle.bench_types.specs.declared.exchanges.First.TheVariants.{Oldest, Newest}
-use Rattle.bench_types.proofs.Comparing.{nat_cmp-less, nat_cmp-greater}
-use Rattle.model.proofs.Levels.{age_cmp}
+use Rattle.delta_plans.proofs.Common.{◌≡◌, ℕ, ◌<◌, ◌⊎◌, true, false, inl, inr, arith, Less, Greater, cases_lt, lt-ltb, le-ltb, le-leb, lt-leb, leb-true, leb-false, ltb-true, ltb-false, nat_cmp-less, nat_cmp-greater, nat_cmp, Ordering}
+use Rattle.delta_plans.specs.declared.marked.First.{First}
+use Rattle.delta_plans.specs.declared.marked.First.TheVariants.{Oldest, Newest}
 use Rattle.delta_plans.specs.Firsts.{comes_first}
 use Rattle.delta_plans.specs.LevelMarks.{lets_through}
 
@@ -28,6 +24,11 @@ first-not Newest m n is = le-ltb n m (omega (arith, ltb-true m n is))
 pub first-same : (first : First) (m n : ℕ) → m ≡ n → comes_first first m n ≡ false
 first-same Oldest m n same = le-ltb m n (omega (arith, same))
 first-same Newest m n same = le-ltb n m (omega (arith, same))
+
+-- rounds and versions compare: the lower first, or from the newest on the higher
+abbrev pub age_cmp : First → ℕ → ℕ → Ordering
+age_cmp Oldest m n = nat_cmp m n
+age_cmp Newest m n = nat_cmp n m
 
 -- where versions rise with numbers, they compare as these do
 module _ (m n v w : ℕ) (rise : m < n → v < w) (fall : n < m → w < v) where

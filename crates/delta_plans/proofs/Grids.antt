@@ -1,26 +1,7 @@
 -- The items of a table are those of its places, so a sum over them is one over all places.
 -- Serves `OfferSums` and `version_tables`.
-use Rattle.std.proofs.Common.{◌≡◌, ℕ, zero, suc, ◌+◌, ◌<◌, Bool, true, false, cond, not, eqb, List, [], ◌∷◌, get_or, Option, Some, None, inl, inr, refl, sym, ap, ◌∙◌, subst, arith}
-use Rattle.std.specs.Prelude.{filter, Contains, IsPermutation, ◌&&◌}
-use Rattle.std.specs.List.{sum_by}
-use Rattle.std.specs.Ordering.{is_eq}
-use Rattle.std.proofs.lemmas.Bool.{cases_lt, eqb-true, and_parts}
-use Rattle.std.proofs.lemmas.List.Elements.{Contains-append_left, Contains-append_right, Contains-append_cases}
-use Rattle.std.proofs.lemmas.List.Sorted.{sum_by-IsPermutation}
-use Rattle.std.proofs.lemmas.List.Sums.{sum_by-append, sum_by-cons}
-use Rattle.bench_types.specs.declared.entries.Entry.{Entry}
-use Rattle.bench_types.specs.declared.entries.Item.{Item}
-use Rattle.bench_types.specs.declared.exchanges.Mode.{Mode}
-use Rattle.bench_types.specs.Mark.{mark_of, is_before}
-use Rattle.bench_types.specs.Mode.{digest_kind}
-use Rattle.model.specs.Candidates.{candidates, known_mark}
-use Rattle.model.specs.Table.{Table, entry_at, items_of, IsProper}
-use Rattle.model.specs.inner.Applied.{stands_at}
-use Rattle.model.proofs.Items.{IsApart, entry_at-items_of, Contains-items_of, apart-items_of}
-use Rattle.model.proofs.TableLaws.{tied-stands_at}
-use Rattle.model.proofs.Members.{AllPairs-append, same_members}
+use Rattle.delta_plans.proofs.Common.{◌≡◌, ℕ, zero, suc, ◌+◌, ◌<◌, Bool, true, false, cond, not, eqb, List, [], ◌∷◌, get_or, Option, Some, None, inl, inr, refl, sym, ap, ◌∙◌, subst, arith, filter, Contains, IsPermutation, ◌&&◌, sum_by, is_eq, cases_lt, eqb-true, and_parts, Contains-append_left, Contains-append_right, Contains-append_cases, sum_by-IsPermutation, sum_by-append, sum_by-cons, Entry, Item, Mode, mark_of, is_before, digest_kind, candidates, known_mark, Table, entry_at, items_of, IsProper, stands_at, IsApart, entry_at-items_of, Contains-items_of, apart-items_of, tied-stands_at, AllPairs-append, same_members, sum_below}
 use Rattle.delta_plans.specs.Grids.{item_here, column_items, grid_items, number_here, number_there, sum_over}
-use Rattle.bench_types.specs.Sums.{sum_below}
 
 -- what stands among the items of a place, a column and the grid
 here-from : (owner : ℕ) (o : Option Entry) (i : Item) → Contains (item_here owner o) i → (i.owner ≡ owner) × (o ≡ Some i.entry)

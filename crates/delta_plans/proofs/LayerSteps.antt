@@ -1,13 +1,6 @@
 -- Layers of an offer, gone over as long as they fit.
 -- Serves `breadth` and `one_more`.
-use Rattle.std.proofs.Common.{◌≡◌, ℕ, ◌+◌, ◌-◌, ◌<◌, ◌≤◌, true, false, cond, ltb, List, length, get_or, map, inl, inr, sym, ap, ◌∙◌, subst, arith}
-use Rattle.std.proofs.lemmas.Bool.{cases_lt, lt-ltb, le-ltb}
-use Rattle.std.proofs.lemmas.List.{length-map}
-use Rattle.bench_types.specs.Budget.{amount_of}
-use Rattle.planes.specs.Planes.{Cells, count_between, HasEach, IsNextAbove, IsLeastAbove}
-use Rattle.planes.specs.Elementwise.{AreChanged}
-use Rattle.bench_types.specs.Sums.{sum_below}
-use Rattle.bench_types.proofs.Sums.{sum_below-same, sum_below-plus, sum_below-le}
+use Rattle.delta_plans.proofs.Common.{◌≡◌, ℕ, ◌+◌, ◌-◌, ◌<◌, ◌≤◌, true, false, cond, ltb, List, length, get_or, map, inl, inr, sym, ap, ◌∙◌, subst, arith, cases_lt, lt-ltb, le-ltb, length-map, amount_of, Cells, count_between, HasEach, IsNextAbove, IsLeastAbove, AreChanged, sum_below, sum_below-same, sum_below-plus, sum_below-le}
 use Rattle.delta_plans.specs.declared.offers.Offer.{Offer}
 use Rattle.delta_plans.specs.OfferInMemory.{cells_in, low_in, high_in, weights_in, weight_in, count_in, IsOffer}
 use Rattle.delta_plans.specs.Plans.{raised, IsNextMark, AreLayersSoFar}

@@ -1,12 +1,8 @@
 -- Marks layer by layer: one more number of each owner at a time.
 -- Serves `LayerSteps` and `LevelMarks`.
-use Rattle.std.proofs.Common.{◌≡◌, ℕ, zero, suc, ◌+◌, ◌<◌, ◌≤◌, eqb, ltb, inl, inr, refl, ap, ◌∙◌, subst, arith}
-use Rattle.std.proofs.lemmas.Bool.{cases_lt, cases_eq, lt-ltb, le-ltb, le-leb, lt-leb}
-use Rattle.bench_types.specs.Sums.{sum_below}
+use Rattle.delta_plans.proofs.Common.{◌≡◌, ℕ, zero, suc, ◌+◌, ◌<◌, ◌≤◌, eqb, ltb, inl, inr, refl, ap, ◌∙◌, subst, arith, cases_lt, cases_eq, lt-ltb, le-ltb, le-leb, lt-leb, sum_below, Cells, count_between, IsLeastAbove, HasNoneAbove, sum_below-le, sum_below-plus, sum_below-same}
 use Rattle.delta_plans.specs.Offers.{rank_above}
-use Rattle.planes.specs.Planes.{Cells, count_between, IsLeastAbove, HasNoneAbove}
 use Rattle.delta_plans.specs.LevelMarks.{IsLayerMark, NumbersDiffer}
-use Rattle.bench_types.proofs.Sums.{sum_below-le, sum_below-plus, sum_below-same}
 use Rattle.delta_plans.proofs.Columns.{sum_below-one, where_true, where_none}
 use Rattle.delta_plans.proofs.WeightLaws.{part, part-in, part-low, part-high}
 

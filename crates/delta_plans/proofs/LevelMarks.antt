@@ -1,31 +1,22 @@
 -- The marks of a mode's levels.
--- Serves `Lifts`.
-use Rattle.std.proofs.Common.{◌≡◌, ℕ, ◌+◌, ◌<◌, ◌≤◌, true, false, not, ltb, leb, List, Some, inl, inr, sym, ap, ◌∙◌, arith}
-use Rattle.std.specs.Prelude.{Contains}
-use Rattle.std.specs.declared.cmp.Ordering.TheVariants.{Less}
-use Rattle.std.specs.Ordering.{nat_cmp, ordering_then, is_lt}
-use Rattle.std.proofs.lemmas.Bool.{cases_lt, lt-ltb, le-ltb, le-leb, lt-leb, leb-true, leb-false, ltb-true, ltb-false}
-use Rattle.bench_types.specs.declared.entries.Entry.{Entry}
-use Rattle.bench_types.specs.declared.entries.Item.{Item}
-use Rattle.bench_types.specs.declared.exchanges.First.{First}
-use Rattle.bench_types.specs.declared.exchanges.First.TheVariants.{Oldest, Newest}
-use Rattle.bench_types.specs.declared.exchanges.Mode.{Mode}
-use Rattle.bench_types.specs.declared.exchanges.Mode.TheVariants.{ScuttleBreadth, ScuttleDepth, PreciseOldest, PreciseNewest}
-use Rattle.bench_types.specs.calls.Mode.{first_sent}
-use Rattle.model.specs.Table.{Table, IsProper}
-use Rattle.bench_types.proofs.Comparing.{nat_cmp-less, nat_cmp-equal, nat_cmp-greater}
-use Rattle.model.specs.Candidates.{candidates}
-use Rattle.model.specs.calls.Numbers.{write_numbered}
-use Rattle.model.specs.Order.{rank_among, owner_count}
-use Rattle.model.proofs.Levels.{age_cmp, level_cmp}
+-- Serves `Lifts` and `StopMarks`.
+use Rattle.delta_plans.proofs.Common.{◌≡◌, ℕ, ◌+◌, ◌<◌, ◌≤◌, true, false, not, ltb, leb, List, Some, inl, inr, refl, sym, ap, ◌∙◌, arith, Contains, Less, nat_cmp, ordering_then, is_lt, cases_lt, lt-ltb, le-ltb, le-leb, lt-leb, leb-true, leb-false, ltb-true, ltb-false, Entry, Item, Mode, ScuttleBreadth, ScuttleDepth, PreciseOldest, PreciseNewest, Table, IsProper, nat_cmp-less, nat_cmp-equal, nat_cmp-greater, candidates, write_numbered, rank_among, owner_count, level_cmp, version_cmp, IsHistory, IsRoundMark, Cells, count_above}
+use Rattle.delta_plans.specs.declared.marked.First.{First}
+use Rattle.delta_plans.specs.declared.marked.First.TheVariants.{Oldest, Newest}
+use Rattle.delta_plans.proofs.Firsts.{age_cmp}
 use Rattle.delta_plans.specs.Offers.{Offers, rank_above}
-use Rattle.owner_writes.specs.Numbered.{IsHistory, IsRoundMark}
-use Rattle.planes.specs.Planes.{Cells, count_above}
 use Rattle.delta_plans.specs.Firsts.{item_number}
-use Rattle.delta_plans.specs.LevelMarks.{lets_through, AreLevelMarks, IsRunMark, AreLayers, AreRuns, AreRounds, PartByRounds, HasShape}
+use Rattle.delta_plans.specs.LevelMarks.{first_sent, lets_through, AreLevelMarks, IsRunMark, AreLayers, AreRuns, AreRounds, PartByRounds, HasShape}
 use Rattle.delta_plans.proofs.CandidateNumbers.{candidate-number, candidate-below, candidate-key}
 use Rattle.delta_plans.proofs.Columns.{rank_among-is, owner_count-is}
 use Rattle.delta_plans.proofs.Layers.{layer-upto, layer-above}
+
+-- versions compare by what a mode sends first
+pub version_cmp-first : (mode : Mode) (v w : ℕ) → version_cmp mode v w ≡ age_cmp (first_sent mode) v w
+version_cmp-first ScuttleBreadth v w = refl
+version_cmp-first ScuttleDepth v w = refl
+version_cmp-first PreciseOldest v w = refl
+version_cmp-first PreciseNewest v w = refl
 
 -- a comparison of two numbers that is or isn't less, and is or isn't greater
 cmp-less : (a b : ℕ) → a < b → is_lt (nat_cmp a b) ≡ true

@@ -19,3 +19,4 @@ pub mod RunSteps
 pub mod StopSteps
 pub mod TurnSteps
 pub mod Nodes
+pub mod Common

@@ -1,34 +1,13 @@
 -- From marks over numbers to the delta that they are.
 -- Serves `version_tables`.
-use Rattle.std.proofs.Common.{◌≡◌, ℕ, ◌+◌, ◌<◌, ◌≤◌, Bool, true, false, cond, not, ltb, leb, List, [], ◌∷◌, length, Some, inl, inr, refl, sym, ap, ◌∙◌, subst, arith}
-use Rattle.std.specs.Prelude.{nat_lt, ◌&&◌, count_by, Contains}
-use Rattle.std.specs.List.{sum_by}
-use Rattle.std.proofs.lemmas.Bool.{cases_lt, lt-ltb, le-ltb, le-leb, both_ways}
-use Rattle.std.proofs.lemmas.List.Sums.{sum_by-cons}
-use Rattle.std.proofs.lemmas.Option.{same_Some}
-use Rattle.bench_types.specs.declared.entries.Entry.{Entry}
-use Rattle.bench_types.specs.declared.entries.Item.{Item}
-use Rattle.bench_types.specs.declared.exchanges.Budget.{Budget}
-use Rattle.bench_types.specs.declared.exchanges.Mode.{Mode}
-use Rattle.bench_types.specs.declared.exchanges.First.{First}
-use Rattle.bench_types.specs.declared.exchanges.First.TheVariants.{Oldest, Newest}
-use Rattle.bench_types.specs.Budget.{amount_of}
-use Rattle.bench_types.specs.calls.Mode.{first_sent}
-use Rattle.model.specs.Table.{Table, entry_at, items_of, IsProper}
-use Rattle.model.proofs.Items.{Contains-items_of}
-use Rattle.model.specs.Candidates.{candidates}
-use Rattle.model.specs.Deltas.{DeltaView, delta_between, item_share}
-use Rattle.model.specs.Order.{rotated}
-use Rattle.model.proofs.Members.{Contains-filter}
-use Rattle.model.specs.calls.Numbers.{write_numbered}
-use Rattle.planes.specs.Planes.{Cells, HasNoneAbove}
-use Rattle.bench_types.proofs.Sums.{sum_below-same}
+use Rattle.delta_plans.proofs.Common.{◌≡◌, ℕ, ◌+◌, ◌<◌, ◌≤◌, Bool, true, false, cond, not, ltb, leb, List, [], ◌∷◌, length, Some, inl, inr, refl, sym, ap, ◌∙◌, subst, arith, nat_lt, ◌&&◌, count_by, Contains, sum_by, cases_lt, lt-ltb, le-ltb, le-leb, both_ways, sum_by-cons, same_Some, Entry, Item, Budget, Mode, amount_of, Table, entry_at, items_of, IsProper, Contains-items_of, candidates, DeltaView, delta_between, item_share, rotated, Contains-filter, write_numbered, Cells, HasNoneAbove, sum_below-same, IsHistory}
+use Rattle.delta_plans.specs.declared.marked.First.{First}
+use Rattle.delta_plans.specs.declared.marked.First.TheVariants.{Oldest, Newest}
 use Rattle.delta_plans.specs.SentSets.{HasSet}
 use Rattle.delta_plans.specs.Firsts.{comes_first, item_number}
 use Rattle.delta_plans.specs.Marked.{KeepsLow}
-use Rattle.owner_writes.specs.Numbered.{IsHistory}
 use Rattle.delta_plans.specs.Offers.{Offers, is_lacked, AreSent}
-use Rattle.delta_plans.specs.LevelMarks.{lets_through, HasShape, StopAt, size_through_marks}
+use Rattle.delta_plans.specs.LevelMarks.{first_sent, lets_through, HasShape, StopAt, size_through_marks}
 use Rattle.delta_plans.specs.Weights.{share_or_none, number_shares, weight_between, weight_through, one_each}
 use Rattle.delta_plans.proofs.Columns.{where_true, where_none}
 use Rattle.delta_plans.proofs.DeltaMarks.{marks-sent, all-sent}

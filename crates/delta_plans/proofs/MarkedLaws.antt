@@ -1,19 +1,12 @@
 -- Marks of all that is offered, or of a level that was shared out.
 -- Serves `planned` and `version_tables`.
-use Rattle.std.proofs.Common.{◌≡◌, ℕ, ◌-◌, ◌<◌, ◌≤◌, Bool, true, false, ltb, leb, List, length, get_or, map, inl, inr, refl, sym, ap, ◌∙◌, subst, arith}
-use Rattle.std.proofs.lemmas.Bool.{cases_lt, lt-ltb, le-ltb, le-leb}
-use Rattle.std.proofs.lemmas.List.{length-map, get_or_past}
-use Rattle.bench_types.specs.declared.exchanges.First.{First}
-use Rattle.bench_types.specs.declared.exchanges.First.TheVariants.{Oldest, Newest}
-use Rattle.bench_types.specs.declared.exchanges.Mode.{Mode}
-use Rattle.bench_types.specs.Budget.{amount_of}
-use Rattle.bench_types.specs.calls.Mode.{first_sent}
-use Rattle.planes.specs.Planes.{Cells, HasNoneAbove}
-use Rattle.bench_types.proofs.Sums.{sum_below-le}
+use Rattle.delta_plans.proofs.Common.{◌≡◌, ℕ, ◌-◌, ◌<◌, ◌≤◌, Bool, true, false, ltb, leb, List, length, get_or, map, inl, inr, refl, sym, ap, ◌∙◌, subst, arith, cases_lt, lt-ltb, le-ltb, le-leb, length-map, get_or_past, Mode, amount_of, Cells, HasNoneAbove, sum_below-le}
+use Rattle.delta_plans.specs.declared.marked.First.{First}
+use Rattle.delta_plans.specs.declared.marked.First.TheVariants.{Oldest, Newest}
 use Rattle.delta_plans.specs.declared.offers.Offer.{Offer}
 use Rattle.delta_plans.specs.declared.offers.Level.{Level}
 use Rattle.delta_plans.specs.Firsts.{by_first}
-use Rattle.delta_plans.specs.LevelMarks.{lets_through}
+use Rattle.delta_plans.specs.LevelMarks.{first_sent, lets_through}
 use Rattle.delta_plans.specs.Marked.{HasShapeIn, KeepsLow, AreMarked}
 use Rattle.delta_plans.specs.OfferInMemory.{cells_in, low_in, high_in, marks, weights_in, weight_in, count_in, IsOffer}
 use Rattle.delta_plans.specs.Plans.{count_on}

@@ -1,12 +1,6 @@
 -- Nodes' numbers changed one after another, of which some are counted.
 -- Serves `next_runs` and `one_more`.
-use Rattle.std.proofs.Common.{◌≡◌, ℕ, ◌+◌, ◌<◌, ◌≤◌, Bool, cond, List, length, get_or, set, map, refl, arith, Fits, w32}
-use Rattle.std.proofs.lemmas.List.{length-map}
-use Rattle.bench_types.specs.declared.limits.TheConstants.{MOST_NODES}
-use Rattle.bench_types.specs.Sums.{sum_below}
-use Rattle.planes.specs.Elementwise.{AreChanged, AreChangedUpto}
-use Rattle.planes.proofs.Counts.{one_le, count_le, sum_next, sum_whole}
-use Rattle.planes.proofs.Elementwise.{changed_none, changed_all, written_next}
+use Rattle.delta_plans.proofs.Common.{◌≡◌, ℕ, ◌+◌, ◌<◌, ◌≤◌, Bool, cond, List, length, get_or, set, map, refl, arith, Fits, w32, length-map, MOST_NODES, sum_below, AreChanged, AreChangedUpto, one_le, count_le, sum_next, sum_whole, changed_none, changed_all, written_next}
 
 pub count_fits : (test : ℕ → Bool) (r n count x : ℕ) (b : Bool) → count ≡ sum_below r (λ k. cond (test k) 1 0) → x ≡ cond b 1 0 → r < n → n ≤ MOST_NODES → Fits w32 (count + x)
 count_fits test r n count x b is now lt most = omega (arith, is, now, one_le b, count_le r test, lt, most)

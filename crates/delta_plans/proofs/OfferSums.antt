@@ -1,21 +1,9 @@
 -- What one table offers another, told by numbers.
 -- Serves `Columns`, `DeltaMarks` and `Lifts`.
-use Rattle.std.proofs.Common.{◌≡◌, ℕ, ◌<◌, cond, ltb, List, Some, None, inl, inr, refl, sym, ap, ◌∙◌, arith}
-use Rattle.std.specs.Prelude.{Contains}
-use Rattle.std.specs.List.{sum_by}
-use Rattle.std.proofs.lemmas.Bool.{cases_lt, lt-ltb, le-ltb}
-use Rattle.bench_types.specs.declared.entries.Entry.{Entry}
-use Rattle.bench_types.specs.declared.entries.Item.{Item}
-use Rattle.bench_types.specs.declared.exchanges.Mode.{Mode}
-use Rattle.model.specs.Table.{Table, entry_at, items_of, IsProper}
-use Rattle.model.proofs.Items.{Contains-items_of}
-use Rattle.model.proofs.Members.{Contains-filter}
-use Rattle.model.specs.Candidates.{candidates}
+use Rattle.delta_plans.proofs.Common.{◌≡◌, ℕ, ◌<◌, cond, ltb, List, Some, None, inl, inr, refl, sym, ap, ◌∙◌, arith, Contains, sum_by, cases_lt, lt-ltb, le-ltb, Entry, Item, Mode, Table, entry_at, items_of, IsProper, Contains-items_of, Contains-filter, candidates, Cells, sum_below-same}
 use Rattle.delta_plans.specs.Grids.{number_here, number_there}
 use Rattle.delta_plans.specs.Offers.{Offers, is_lacked, offered_sum}
-use Rattle.planes.specs.Planes.{Cells}
 use Rattle.delta_plans.proofs.Grids.{candidates_sum}
-use Rattle.bench_types.proofs.Sums.{sum_below-same}
 
 module _ (mode : Mode) (from to : Table) (proper : IsProper from) (lists : ℕ → List Entry) (cells : Cells) (low : ℕ → ℕ) (offers : Offers mode from to lists cells low) where
   -- a number of a candidate that is told by its place sums up over the places of numbers above the marks

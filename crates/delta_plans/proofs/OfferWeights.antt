@@ -1,16 +1,6 @@
 -- What an offer's numbers take of its budget.
 -- Serves the functions of `breadths`, `depths` and `offers`, `LayerSteps`, `RunSteps` and `TurnSteps`.
-use Rattle.std.proofs.Common.{◌≡◌, ℕ, ◌*◌, ◌<◌, ◌≤◌, Bool, true, false, List, Option, Some, None, inl, inr, sym, subst, arith}
-use Rattle.std.specs.Prelude.{◌↔◌}
-use Rattle.std.proofs.lemmas.Bool.{cases_lt, both_ways}
-use Rattle.std.proofs.Math.Nat.{mul-le-mul_right}
-use Rattle.bench_types.specs.declared.entries.Entry.{Entry}
-use Rattle.bench_types.specs.declared.exchanges.Budget.{Budget}
-use Rattle.bench_types.specs.declared.exchanges.Budget.TheVariants.{Entries, Bytes}
-use Rattle.bench_types.specs.Budget.{amount_of}
-use Rattle.bench_types.specs.declared.limits.TheConstants.{MOST_NODES, MOST_KEYS, MOST_ENTRY_SIZE}
-use Rattle.model.specs.calls.Numbers.{write_numbered}
-use Rattle.model.specs.calls.OwnerListView.{all_writes}
+use Rattle.delta_plans.proofs.Common.{◌≡◌, ℕ, ◌*◌, ◌<◌, ◌≤◌, Bool, true, false, List, Option, Some, None, inl, inr, sym, subst, arith, ◌↔◌, cases_lt, both_ways, mul-le-mul_right, Entry, Budget, Entries, Bytes, amount_of, MOST_NODES, MOST_KEYS, MOST_ENTRY_SIZE, write_numbered, all_writes}
 use Rattle.delta_plans.specs.declared.offers.Offer.{Offer}
 use Rattle.delta_plans.specs.OfferInMemory.{cells_in, marks, weights_in, weight_in, count_in, IsOffer}
 use Rattle.delta_plans.specs.Weights.{share_or_none, one_each}

@@ -1,20 +1,10 @@
 -- What marks at the ends of rounds let through.
 -- Serves `few_rounds`, `look`, `rounds` and `version_tables`.
-use Rattle.std.proofs.Common.{◌≡◌, ℕ, ◌+◌, ◌-◌, ◌<◌, ◌≤◌, max, map, ltb, leb, List, length, inl, inr, refl, sym, ap, ◌∙◌, subst, arith}
-use Rattle.std.specs.Prelude.{nat_lt}
-use Rattle.std.proofs.lemmas.List.{length-map}
-use Rattle.std.proofs.lemmas.Bool.{cases_lt, lt-ltb, le-ltb, le-leb, lt-leb}
-use Rattle.bench_types.specs.declared.entries.Entry.{Entry}
-use Rattle.bench_types.specs.declared.exchanges.First.{First}
-use Rattle.bench_types.specs.declared.exchanges.First.TheVariants.{Oldest, Newest}
-use Rattle.bench_types.specs.Budget.{amount_of}
-use Rattle.model.specs.calls.OwnerListView.{all_writes}
-use Rattle.planes.specs.Planes.{Cells, cell, total_of, HasNoneAbove, HasEach}
-use Rattle.bench_types.specs.Sums.{sum_below}
-use Rattle.bench_types.proofs.Sums.{sum_below-same, sum_below-plus}
+use Rattle.delta_plans.proofs.Common.{◌≡◌, ℕ, ◌+◌, ◌-◌, ◌<◌, ◌≤◌, max, map, ltb, leb, List, length, inl, inr, refl, sym, ap, ◌∙◌, subst, arith, nat_lt, length-map, cases_lt, lt-ltb, le-ltb, le-leb, lt-leb, Entry, amount_of, all_writes, Cells, cell, total_of, HasNoneAbove, HasEach, sum_below, sum_below-same, sum_below-plus, AreMadeBy, AreEnds, IsRoundMark, numbered-some}
+use Rattle.delta_plans.specs.declared.marked.First.{First}
+use Rattle.delta_plans.specs.declared.marked.First.TheVariants.{Oldest, Newest}
 use Rattle.delta_plans.specs.declared.offers.Offer.{Offer}
 use Rattle.delta_plans.specs.declared.offers.Level.{Level}
-use Rattle.owner_writes.specs.Numbered.{AreMadeBy, AreEnds, IsRoundMark}
 use Rattle.delta_plans.specs.OfferInMemory.{cells_in, low_in, high_in, marks, weights_in, weight_in, count_in, IsOffer}
 use Rattle.delta_plans.specs.Plans.{weight_on, count_on, AreFarther, IsLevel}
 use Rattle.delta_plans.specs.RoundLevels.{end_mark, round_mark, AreFewAndEnough}
@@ -22,7 +12,6 @@ use Rattle.delta_plans.specs.LevelMarks.{AreRounds}
 use Rattle.delta_plans.specs.Stops.{IsOn}
 use Rattle.delta_plans.specs.Weights.{weight_between, weight_through, count_all_between, one_each}
 use Rattle.delta_plans.proofs.Columns.{where_true, where_none, sum_below-none}
-use Rattle.owner_writes.proofs.Numbers.{numbered-some}
 use Rattle.delta_plans.proofs.TurnSteps.{through-same}
 
 -- one number between two marks

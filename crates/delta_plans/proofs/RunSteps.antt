@@ -1,16 +1,8 @@
 -- Runs of an offer, gone over as long as they fit.
 -- Serves `depth` and `next_runs`.
-use Rattle.std.proofs.Common.{◌≡◌, ℕ, zero, suc, ◌+◌, ◌-◌, ◌*◌, ◌<◌, ◌≤◌, cond, eqb, ltb, List, length, get_or, map, inl, inr, refl, sym, ap, ◌∙◌, subst, arith}
-use Rattle.std.proofs.lemmas.Bool.{cases_lt, cases_eq, eq-eqb, ne_eqb, lt-ltb, le-ltb}
-use Rattle.std.proofs.lemmas.List.{length-map}
-use Rattle.bench_types.specs.Budget.{amount_of}
-use Rattle.planes.specs.Planes.{Cells, count_above, count_between, HasNoneAbove, HasEach}
-use Rattle.planes.specs.Elementwise.{AreChanged}
-use Rattle.bench_types.specs.Sums.{sum_below}
-use Rattle.bench_types.proofs.Sums.{sum_below-same, sum_below-plus}
+use Rattle.delta_plans.proofs.Common.{◌≡◌, ℕ, zero, suc, ◌+◌, ◌-◌, ◌*◌, ◌<◌, ◌≤◌, cond, eqb, ltb, List, length, get_or, map, inl, inr, refl, sym, ap, ◌∙◌, subst, arith, cases_lt, cases_eq, eq-eqb, ne_eqb, lt-ltb, le-ltb, length-map, amount_of, Cells, count_above, count_between, HasNoneAbove, HasEach, AreChanged, sum_below, sum_below-same, sum_below-plus, MOST_KEYS}
 use Rattle.delta_plans.specs.declared.offers.Offer.{Offer}
 use Rattle.delta_plans.specs.OfferInMemory.{cells_in, low_in, high_in, marks, owner_count_in, weights_in, weight_in, count_in, IsOffer}
-use Rattle.bench_types.specs.declared.limits.TheConstants.{MOST_KEYS}
 use Rattle.delta_plans.specs.declared.offers.Level.{Level}
 use Rattle.delta_plans.specs.declared.offers.Step.{Step}
 use Rattle.delta_plans.specs.Plans.{IsMarkFrom, AreMarksFrom, AreNextRuns, AreRunsSoFar}

@@ -1,33 +1,6 @@
 -- Any set of candidates that is closed downwards, fits, and lets nothing more in is what is sent.
 -- Serves `deltas_have_their_sets` and `DeltaMarks`.
-use Rattle.std.proofs.Common.{◌≡◌, ◌≢◌, ℕ, zero, suc, ◌+◌, ◌<◌, ◌≤◌, Bool, true, false, cond, not, eqb, List, [], ◌∷◌, get_or, Some, refl, sym, ap, ◌∙◌, subst, arith}
-use Rattle.std.specs.Prelude.{count_by, filter, IsPermutation, Contains, ◌&&◌}
-use Rattle.std.specs.List.{sum_by}
-use Rattle.std.specs.declared.cmp.Ordering.{Ordering}
-use Rattle.std.specs.declared.cmp.Ordering.TheVariants.{Less, Equal, Greater}
-use Rattle.std.specs.Ordering.{is_lt, is_eq, ordering_reverse}
-use Rattle.std.specs.Cmp.{IsTotalOrder, tied_itself}
-use Rattle.std.proofs.lemmas.Bool.{both_ways, le-leb, lt-leb, and_parts, eqb-true}
-use Rattle.std.proofs.lemmas.List.{get_or_default}
-use Rattle.std.proofs.lemmas.List.Kept.{AllPairs-filter}
-use Rattle.std.proofs.lemmas.List.Sorted.{length_permutation}
-use Rattle.model.proofs.TableLaws.{tied-stands_at}
-use Rattle.std.proofs.lemmas.Option.{same_Some}
-use Rattle.std.proofs.lemmas.List.Sums.{sum_by-cons, length-filter}
-use Rattle.bench_types.specs.declared.entries.Item.{Item}
-use Rattle.bench_types.specs.Budget.{amount_of}
-use Rattle.bench_types.specs.Mark.{is_before, mark_of}
-use Rattle.bench_types.specs.Mode.{digest_kind}
-use Rattle.model.specs.Table.{Table, entry_at, items_of, IsProper}
-use Rattle.model.specs.inner.Applied.{stands_at}
-use Rattle.model.proofs.Items.{IsApart, entry_at-items_of, apart-items_of}
-use Rattle.model.specs.Candidates.{candidates, known_mark}
-use Rattle.model.specs.Deltas.{DeltaView, delta_between, item_share}
-use Rattle.model.specs.Order.{sending_order}
-use Rattle.model.proofs.DeltaLaws.{sending_order-total, sending_order-strict}
-use Rattle.model.proofs.Members.{Contains-filter, Contains-kept, same_members}
-use Rattle.model.specs.Picks.{before_count, first_places, size_through, fits, sent, cut_count}
-use Rattle.model.proofs.Places.{before_count-places, Contains-first_places, first_places-Contains}
+use Rattle.delta_plans.proofs.Common.{◌≡◌, ◌≢◌, ℕ, zero, suc, ◌+◌, ◌<◌, ◌≤◌, Bool, true, false, cond, not, eqb, List, [], ◌∷◌, get_or, Some, refl, sym, ap, ◌∙◌, subst, arith, count_by, filter, IsPermutation, Contains, ◌&&◌, sum_by, Ordering, Less, Equal, Greater, is_lt, is_eq, ordering_reverse, IsTotalOrder, tied_itself, both_ways, le-leb, lt-leb, and_parts, eqb-true, get_or_default, AllPairs-filter, length_permutation, tied-stands_at, same_Some, sum_by-cons, length-filter, Item, amount_of, is_before, mark_of, digest_kind, Table, entry_at, items_of, IsProper, stands_at, IsApart, entry_at-items_of, apart-items_of, candidates, known_mark, DeltaView, delta_between, item_share, sending_order, sending_order-total, sending_order-strict, Contains-filter, Contains-kept, same_members, before_count, first_places, size_through, fits, sent, cut_count, before_count-places, Contains-first_places, first_places-Contains}
 use Rattle.delta_plans.specs.SentSets.{size_in, IsKeptOut, IsSentSet, EndsBefore, HasAll, DeltasHaveTheirSets}
 
 -- a sum over a list whose terms are no greater, for the elements of the list

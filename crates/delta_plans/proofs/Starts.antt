@@ -1,20 +1,8 @@
 -- Where generations start in an owner's list.
 -- Serves `put_starts`, `start_of`, `told` and `version_tables`.
-use Rattle.std.proofs.Common.{◌≡◌, ℕ, zero, suc, ◌+◌, ◌-◌, ◌*◌, ◌<◌, ◌≤◌, min, Bool, true, false, cond, List, [], ◌∷◌, ◌++◌, length, get_or, set, Some, None, inl, inr, refl, sym, ap, ◌∙◌, arith}
-use Rattle.std.specs.Prelude.{nat_lt, nat_le, ◌&&◌}
-use Rattle.std.proofs.lemmas.Bool.{cases_lt, cases_eq, lt-ltb, le-leb, eq-eqb, ne_eqb}
-use Rattle.std.proofs.lemmas.List.{get_or_default, get_or-set_same, get_or-set_other, length-set, length-append}
-use Rattle.bench_types.specs.declared.entries.Entry.{Entry}
-use Rattle.bench_types.specs.declared.exchanges.DigestKind.{DigestKind}
-use Rattle.model.specs.calls.Numbers.{write_from, write_numbered}
-use Rattle.model.specs.calls.OwnerListView.{OwnerListView, all_writes, entries_of, list_of_owner, no_writes, AreWrites}
-use Rattle.planes.specs.Planes.{cell, total_of}
-use Rattle.bench_types.specs.Sums.{sum_below}
-use Rattle.planes.specs.Elementwise.{AreChanged}
-use Rattle.owner_writes.specs.Numbered.{start_before, start_of}
+use Rattle.delta_plans.proofs.Common.{◌≡◌, ℕ, zero, suc, ◌+◌, ◌-◌, ◌*◌, ◌<◌, ◌≤◌, min, Bool, true, false, cond, List, [], ◌∷◌, ◌++◌, length, get_or, set, Some, None, inl, inr, refl, sym, ap, ◌∙◌, arith, nat_lt, nat_le, ◌&&◌, cases_lt, cases_eq, lt-ltb, le-leb, eq-eqb, ne_eqb, get_or_default, get_or-set_same, get_or-set_other, length-set, length-append, Entry, DigestKind, write_from, write_numbered, OwnerListView, all_writes, entries_of, list_of_owner, no_writes, AreWrites, cell, total_of, sum_below, AreChanged, start_before, start_of, numbered-some, write_from-at}
 use Rattle.delta_plans.specs.Offers.{told_by, told_number}
 use Rattle.delta_plans.specs.Told.{IsKnown}
-use Rattle.owner_writes.proofs.Numbers.{numbered-some, write_from-at}
 
 -- an owner's writes are those of its list
 pub list-here : (lists : List OwnerListView) (owner : ℕ) (x : OwnerListView) → owner < length lists → x ≡ get_or lists owner x → list_of_owner lists owner ≡ x

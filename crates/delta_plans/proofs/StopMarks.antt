@@ -1,31 +1,13 @@
 -- Marks that stop at a candidate let through what comes before it.
 -- Serves `DeltaMarks`.
-use Rattle.std.proofs.Common.{◌≡◌, ℕ, ◌<◌, true, false, List, inl, inr, refl, sym, ap, ◌∙◌, arith}
-use Rattle.std.specs.Prelude.{Contains}
-use Rattle.std.specs.declared.cmp.Ordering.{Ordering}
-use Rattle.std.specs.declared.cmp.Ordering.TheVariants.{Less, Equal, Greater}
-use Rattle.std.specs.Ordering.{nat_cmp, ordering_then, is_lt}
-use Rattle.std.specs.Cmp.{tied_itself}
-use Rattle.std.proofs.lemmas.Bool.{cases_lt, cases_eq}
-use Rattle.bench_types.specs.declared.entries.Entry.{Entry}
-use Rattle.bench_types.specs.declared.entries.Item.{Item}
-use Rattle.bench_types.specs.declared.exchanges.First.{First}
-use Rattle.bench_types.specs.declared.exchanges.Mode.{Mode}
-use Rattle.bench_types.specs.calls.Mode.{first_sent}
-use Rattle.bench_types.proofs.Comparing.{both_equal, nat_cmp-less, nat_cmp-equal, nat_cmp-greater}
-use Rattle.model.specs.Table.{Table, IsProper}
-use Rattle.model.specs.Candidates.{candidates}
-use Rattle.model.specs.Order.{rotated, sending_order}
-use Rattle.model.proofs.Apart.{rotated-injective}
-use Rattle.model.proofs.DeltaLaws.{sending_order-total}
-use Rattle.model.proofs.Levels.{order-levels, age_cmp, level_cmp}
+use Rattle.delta_plans.proofs.Common.{◌≡◌, ℕ, ◌<◌, true, false, List, inl, inr, refl, sym, ap, ◌∙◌, arith, Contains, Ordering, Less, Equal, Greater, nat_cmp, ordering_then, is_lt, tied_itself, cases_lt, cases_eq, Entry, Item, Mode, both_equal, nat_cmp-less, nat_cmp-equal, nat_cmp-greater, Table, IsProper, candidates, rotated, sending_order, rotated-injective, sending_order-total, order-levels, level_cmp, IsHistory, Cells}
+use Rattle.delta_plans.specs.declared.marked.First.{First}
 use Rattle.delta_plans.specs.Offers.{Offers}
-use Rattle.owner_writes.specs.Numbered.{IsHistory}
-use Rattle.planes.specs.Planes.{Cells}
 use Rattle.delta_plans.specs.Firsts.{item_number, comes_first}
-use Rattle.delta_plans.specs.LevelMarks.{lets_through, AreLevelMarks, StopAt}
+use Rattle.delta_plans.specs.LevelMarks.{first_sent, lets_through, AreLevelMarks, StopAt}
+use Rattle.delta_plans.proofs.LevelMarks.{version_cmp-first}
 use Rattle.delta_plans.proofs.CandidateNumbers.{candidate-below, one_item, older}
-use Rattle.delta_plans.proofs.Firsts.{first-cases, first-not, first-same, version-first, version-last, lets-before, lets-behind}
+use Rattle.delta_plans.proofs.Firsts.{age_cmp, first-cases, first-not, first-same, version-first, version-last, lets-before, lets-behind}
 
 then_greater : (a b : Ordering) → b ≡ Greater → is_lt (ordering_then a b) ≡ is_lt a
 then_greater Less b is = refl
@@ -51,7 +33,10 @@ module _ (mode : Mode) (from to : Table) (proper : IsProper from) (lists : ℕ �
   below c in_c = candidate-below mode from to proper c in_c
 
   by_levels : (c : Item) → Contains cs c → order c ≡ ordering_then (level_cmp mode cs c next) (behind c)
-  by_levels c in_c = order-levels mode from.nodes rotation cs c next in_nodes (below c in_c) (below next in_next) in_c in_next
+  by_levels c in_c =
+      order-levels mode from.nodes rotation cs c next in_nodes (below c in_c) (below next in_next) in_c in_next
+      ∙ ap (λ o. ordering_then (level_cmp mode cs c next) (ordering_then (nat_cmp (rotated from.nodes rotation c.owner) (rotated from.nodes rotation next.owner)) (ordering_then o (nat_cmp c.entry.key next.entry.key))))
+      (version_cmp-first mode c.entry.version next.entry.version)
 
   -- of a level those go with the far marks that are less, and those with the near ones that are greater
   by_far : (c : Item) → Contains cs c → behind c ≡ Less → lets_through first (far c.owner) (item_number cells c) ≡ is_lt (order c)

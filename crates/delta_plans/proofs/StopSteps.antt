@@ -1,11 +1,8 @@
 -- An owner's numbers gone over one after another.
 -- Serves `Part::nearest` and `Part::stop_from`.
-use Rattle.std.proofs.Common.{◌≡◌, ◌≢◌, ℕ, Bool, zero, suc, ◌+◌, ◌-◌, ◌<◌, ◌≤◌, ◌⊎◌, cond, min, max, inl, inr, refl, sym, ap, ◌∙◌, subst, arith}
-use Rattle.std.proofs.lemmas.Bool.{cases_lt, lt-ltb, le-ltb, lt-leb, le-leb}
-use Rattle.bench_types.specs.declared.exchanges.First.{First}
-use Rattle.bench_types.specs.declared.exchanges.First.TheVariants.{Oldest, Newest}
-use Rattle.planes.specs.Planes.{Cells}
-use Rattle.bench_types.specs.Sums.{sum_below}
+use Rattle.delta_plans.proofs.Common.{◌≡◌, ◌≢◌, ℕ, Bool, zero, suc, ◌+◌, ◌-◌, ◌<◌, ◌≤◌, ◌⊎◌, cond, min, max, inl, inr, refl, sym, ap, ◌∙◌, subst, arith, cases_lt, lt-ltb, le-ltb, lt-leb, le-leb, Cells, sum_below}
+use Rattle.delta_plans.specs.declared.marked.First.{First}
+use Rattle.delta_plans.specs.declared.marked.First.TheVariants.{Oldest, Newest}
 use Rattle.delta_plans.specs.Firsts.{by_first}
 use Rattle.delta_plans.specs.LevelMarks.{NumbersDiffer}
 use Rattle.delta_plans.specs.Stops.{HasBetween, HasNext, IsBeyond, IsNext, IsOn, IsPast, IsStopFrom, nearer_beyond}

@@ -1,19 +1,8 @@
 -- The owners' turns in a level.
 -- Serves `Turns::pass_turns`, `Turns::share_into`, `Turns::weight_of_part` and `RoundMarks`.
-use Rattle.std.proofs.Common.{◌≡◌, ◌≢◌, ℕ, zero, suc, ◌+◌, ◌-◌, ◌*◌, ◌<◌, ◌≤◌, true, false, List, length, get_or, set, map, inl, inr, refl, sym, ap, ◌∙◌, subst, arith}
-use Rattle.std.proofs.lemmas.List.{get_or-set_same, get_or-set_other, length-map, map-set}
-use Rattle.bench_types.specs.declared.exchanges.Budget.TheVariants.{Entries}
-use Rattle.bench_types.specs.declared.limits.TheConstants.{MOST_NODES, MOST_KEYS, MOST_ENTRY_SIZE}
-use Rattle.std.proofs.lemmas.Bool.{cases_lt, cases_eq, lt-ltb, le-ltb, le-leb, lt-leb, leb-false, ltb-true}
-use Rattle.bench_types.specs.declared.exchanges.First.{First}
-use Rattle.bench_types.specs.declared.exchanges.First.TheVariants.{Oldest, Newest}
-use Rattle.bench_types.specs.Budget.{amount_of}
-use Rattle.model.specs.calls.OwnerListView.{all_writes}
-use Rattle.planes.specs.Planes.{Cells, HasNoneAbove}
-use Rattle.bench_types.specs.Sums.{sum_below}
-use Rattle.bench_types.proofs.Sums.{sum_below-same, sum_below-plus}
-use Rattle.model.specs.Order.{rotated}
-use Rattle.model.proofs.Apart.{rotated-injective, rotated-is}
+use Rattle.delta_plans.proofs.Common.{◌≡◌, ◌≢◌, ℕ, zero, suc, ◌+◌, ◌-◌, ◌*◌, ◌<◌, ◌≤◌, true, false, List, length, get_or, set, map, inl, inr, refl, sym, ap, ◌∙◌, subst, arith, get_or-set_same, get_or-set_other, length-map, map-set, Entries, MOST_NODES, MOST_KEYS, MOST_ENTRY_SIZE, cases_lt, cases_eq, lt-ltb, le-ltb, le-leb, lt-leb, leb-false, ltb-true, amount_of, all_writes, Cells, HasNoneAbove, sum_below, sum_below-same, sum_below-plus, rotated, rotated-injective, rotated-is, write_numbered}
+use Rattle.delta_plans.specs.declared.marked.First.{First}
+use Rattle.delta_plans.specs.declared.marked.First.TheVariants.{Oldest, Newest}
 use Rattle.delta_plans.specs.declared.offers.Offer.{Offer}
 use Rattle.delta_plans.specs.Firsts.{by_first}
 use Rattle.delta_plans.specs.OfferInMemory.{cells_in, low_in, high_in, marks, weights_in, IsOffer}
@@ -25,7 +14,6 @@ use Rattle.delta_plans.specs.Turns.{AreTurnsPassed, IsStop}
 use Rattle.delta_plans.specs.Weights.{weight_of, weight_from, weight_through, one_each}
 use Rattle.delta_plans.proofs.WeightLaws.{part, part-in, part-low, part-high, weight_of-split, weight_of-same, weight_of-most, number_share-one, count_between-most}
 use Rattle.delta_plans.proofs.OfferWeights.{offer-few, share-most}
-use Rattle.model.specs.calls.Numbers.{write_numbered}
 
 -- a sum that changes at one index
 sum_below-changed : (n r d : ℕ) (f g : ℕ → ℕ) → r < n → ((i : ℕ) → i < n → i ≢ r → g i ≡ f i) → g r ≡ f r + d → sum_below n g ≡ sum_below n f + d

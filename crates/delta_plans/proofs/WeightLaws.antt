@@ -1,14 +1,6 @@
 -- What numbers weigh between marks.
 -- Serves most of the crate and `version_tables`.
-use Rattle.std.proofs.Common.{◌≡◌, ℕ, zero, suc, ◌+◌, ◌*◌, ◌<◌, ◌≤◌, ltb, leb, List, [], ◌∷◌, length, Some, ◌⊎◌, inl, inr, refl, sym, ap, ◌∙◌, arith}
-use Rattle.std.proofs.lemmas.Bool.{cases_lt, lt-ltb, le-ltb, le-leb, lt-leb}
-use Rattle.bench_types.specs.declared.entries.Entry.{Entry}
-use Rattle.bench_types.specs.declared.exchanges.Budget.{Budget}
-use Rattle.bench_types.specs.declared.exchanges.Budget.TheVariants.{Entries}
-use Rattle.model.specs.calls.Numbers.{write_from, write_numbered}
-use Rattle.planes.specs.Planes.{Cells, count_between, HasNoneAbove}
-use Rattle.bench_types.specs.Sums.{sum_below}
-use Rattle.bench_types.proofs.Sums.{sum_below-same, sum_below-le, sum_below-plus}
+use Rattle.delta_plans.proofs.Common.{◌≡◌, ℕ, zero, suc, ◌+◌, ◌*◌, ◌<◌, ◌≤◌, ltb, leb, List, [], ◌∷◌, length, Some, ◌⊎◌, inl, inr, refl, sym, ap, ◌∙◌, arith, cases_lt, lt-ltb, le-ltb, le-leb, lt-leb, Entry, Budget, Entries, write_from, write_numbered, Cells, count_between, HasNoneAbove, sum_below, sum_below-same, sum_below-le, sum_below-plus}
 use Rattle.delta_plans.specs.Weights.{number_share, share_or_none, weight_of, weight_between, count_all_between}
 use Rattle.delta_plans.proofs.Columns.{where_true, where_none, sum_below-none}
 

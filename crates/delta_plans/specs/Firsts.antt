@@ -1,8 +1,8 @@
 -- The numbers of items, and which of two goes first. Source: this project.
 use Rattle.std.specs.Prelude.{ℕ, nat_lt, Bool}
 use Rattle.bench_types.specs.declared.entries.Item.{Item}
-use Rattle.bench_types.specs.declared.exchanges.First.{First}
-use Rattle.bench_types.specs.declared.exchanges.First.TheVariants.{Oldest, Newest}
+use Rattle.delta_plans.specs.declared.marked.First.{First}
+use Rattle.delta_plans.specs.declared.marked.First.TheVariants.{Oldest, Newest}
 use Rattle.planes.specs.Planes.{Cells}
 
 -- the number of an item

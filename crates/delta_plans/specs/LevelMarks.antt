@@ -6,8 +6,8 @@ use Rattle.std.specs.declared.cmp.Ordering.TheVariants.{Less}
 use Rattle.std.specs.Ordering.{ordering_then, is_lt}
 use Rattle.bench_types.specs.declared.entries.Entry.{Entry}
 use Rattle.bench_types.specs.declared.entries.Item.{Item}
-use Rattle.bench_types.specs.declared.exchanges.First.{First}
-use Rattle.bench_types.specs.declared.exchanges.First.TheVariants.{Oldest, Newest}
+use Rattle.delta_plans.specs.declared.marked.First.{First}
+use Rattle.delta_plans.specs.declared.marked.First.TheVariants.{Oldest, Newest}
 use Rattle.bench_types.specs.declared.exchanges.Mode.{Mode}
 use Rattle.bench_types.specs.declared.exchanges.Mode.TheVariants.{ScuttleBreadth, ScuttleDepth, PreciseOldest, PreciseNewest}
 use Rattle.model.specs.Order.{rotated}
@@ -16,6 +16,13 @@ use Rattle.owner_writes.specs.Numbered.{IsRoundMark}
 use Rattle.delta_plans.specs.Offers.{offered_sum}
 use Rattle.planes.specs.Planes.{Cells, count_above, count_between, HasNoneAbove}
 use Rattle.delta_plans.specs.Firsts.{item_number, comes_first}
+
+-- which of an owner's candidates of one level a mode sends first
+abbrev pub first_sent : Mode → First
+first_sent ScuttleBreadth = Oldest
+first_sent ScuttleDepth = Oldest
+first_sent PreciseOldest = Oldest
+first_sent PreciseNewest = Newest
 
 -- a mark lets a number through that is up to it, or from the newest on above it
 abbrev pub lets_through : First → ℕ → ℕ → Bool

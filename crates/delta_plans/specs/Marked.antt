@@ -1,16 +1,15 @@
 -- What is sent where not all fits, or all, as one mark for each owner. Source: this project.
 use Rattle.std.specs.Prelude.{◌≡◌, ◌⊎◌, ℕ, ◌+◌, ◌<◌, ◌≤◌, true}
-use Rattle.bench_types.specs.declared.exchanges.First.{First}
-use Rattle.bench_types.specs.declared.exchanges.First.TheVariants.{Oldest, Newest}
+use Rattle.delta_plans.specs.declared.marked.First.{First}
+use Rattle.delta_plans.specs.declared.marked.First.TheVariants.{Oldest, Newest}
 use Rattle.bench_types.specs.declared.exchanges.Mode.{Mode}
 use Rattle.bench_types.specs.Budget.{amount_of}
-use Rattle.bench_types.specs.calls.Mode.{first_sent}
 use Rattle.model.specs.calls.OwnerListView.{all_writes}
 use Rattle.delta_plans.specs.declared.offers.Level.{Level}
 use Rattle.delta_plans.specs.declared.offers.Offer.{Offer}
 use Rattle.delta_plans.specs.OfferInMemory.{cells_in, low_in, high_in, count_in, marks}
 use Rattle.delta_plans.specs.Plans.{weight_on, count_on}
-use Rattle.delta_plans.specs.LevelMarks.{lets_through, HasShape}
+use Rattle.delta_plans.specs.LevelMarks.{first_sent, lets_through, HasShape}
 use Rattle.delta_plans.specs.Sharing.{AreShared}
 
 -- the marks of a level of what is offered

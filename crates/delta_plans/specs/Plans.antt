@@ -1,8 +1,8 @@
 -- Levels of what is offered, as marks: near marks let through whole levels, and far marks one level more, which doesn't
 -- fit. Source: this project.
 use Rattle.std.specs.Prelude.{◌≡◌, ◌⊎◌, ℕ, ◌+◌, ◌*◌, ◌<◌, ◌≤◌, nat_eq, nat_lt, length, if◌then◌else◌}
-use Rattle.bench_types.specs.declared.exchanges.First.{First}
-use Rattle.bench_types.specs.declared.exchanges.First.TheVariants.{Oldest}
+use Rattle.delta_plans.specs.declared.marked.First.{First}
+use Rattle.delta_plans.specs.declared.marked.First.TheVariants.{Oldest}
 use Rattle.bench_types.specs.Budget.{amount_of}
 use Rattle.planes.specs.Planes.{Cells, HasNoneAbove, IsLeastAbove}
 use Rattle.bench_types.specs.Sums.{sum_below}

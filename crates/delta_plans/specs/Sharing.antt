@@ -1,6 +1,6 @@
 -- A level shared out by rotation, as marks. Source: this project.
 use Rattle.std.specs.Prelude.{◌≡◌, ℕ, ◌+◌, ◌<◌, ◌≤◌, true, false}
-use Rattle.bench_types.specs.declared.exchanges.First.{First}
+use Rattle.delta_plans.specs.declared.marked.First.{First}
 use Rattle.bench_types.specs.Budget.{amount_of}
 use Rattle.model.specs.Order.{rotated}
 use Rattle.delta_plans.specs.declared.offers.Offer.{Offer}

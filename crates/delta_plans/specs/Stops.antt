@@ -1,7 +1,7 @@
 -- Where an owner's part of a level stops: at the first of its numbers that doesn't fit. Source: this project.
 use Rattle.std.specs.Prelude.{◌≡◌, ℕ, ◌+◌, ◌<◌, ◌≤◌, max, min, nat_le, nat_lt, if◌then◌else◌}
-use Rattle.bench_types.specs.declared.exchanges.First.{First}
-use Rattle.bench_types.specs.declared.exchanges.First.TheVariants.{Oldest, Newest}
+use Rattle.delta_plans.specs.declared.marked.First.{First}
+use Rattle.delta_plans.specs.declared.marked.First.TheVariants.{Oldest, Newest}
 use Rattle.planes.specs.Planes.{Cells}
 use Rattle.delta_plans.specs.declared.stops.Part.{Part}
 use Rattle.delta_plans.specs.Firsts.{by_first}

@@ -1,6 +1,6 @@
 -- The owners' turns in a level, from the rotation on. Source: this project.
 use Rattle.std.specs.Prelude.{◌≡◌, ◌⊎◌, ℕ, ◌+◌, ◌<◌, ◌≤◌, List, map, true, false}
-use Rattle.bench_types.specs.declared.exchanges.First.{First}
+use Rattle.delta_plans.specs.declared.marked.First.{First}
 use Rattle.bench_types.specs.Budget.{amount_of}
 use Rattle.planes.specs.Planes.{Cells, HasEach}
 use Rattle.model.specs.Order.{rotated}

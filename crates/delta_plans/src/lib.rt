@@ -25,6 +25,6 @@ mod stops;
 mod told_marks;
 
 pub use laws::deltas_have_their_sets;
-pub use marked::{Marked, planned};
+pub use marked::{First, Marked, planned};
 pub use offers::Offer;
 pub use told_marks::{Owners, told};

@@ -2,8 +2,8 @@
 
 ghost use Rattle.std.specs.Prelude.{◌≡◌, ℕ, ◌<◌, ◌≤◌, length, map, IfOk, IsOkUnless};
 ghost use Rattle.bench_types.specs.declared.faults.Fault.TheVariants.{OutOfMemory};
-ghost use Rattle.bench_types.specs.calls.Mode.{first_sent};
 ghost use Rattle.delta_plans.specs.Firsts.{by_first};
+ghost use Rattle.delta_plans.specs.LevelMarks.{first_sent};
 ghost use Rattle.delta_plans.specs.Marked.{HasShapeOf, AreMarked};
 ghost use Rattle.delta_plans.specs.OfferInMemory.{marks, IsCountOffered, IsOffer, IsTooLarge};
 ghost use Rattle.delta_plans.specs.Plans.{IsLevel};
@@ -14,10 +14,29 @@ use crate::depths::depth;
 use crate::offers::{Level, Offer};
 use crate::rounds::rounds;
 use crate::sharing::share;
-use bench_types::{Fault, First, Mode};
+use bench_types::{Fault, Mode};
 use model::DeltaCounts;
 use planes::{Ends, Number};
 use std::alloc::Global;
+
+/// Which of an owner's candidates of one level goes first.
+#[derive(Clone, Copy, Debug, PartialEq, Eq)]
+pub enum First {
+    Oldest,
+    Newest,
+}
+
+impl First {
+    /// Which a mode sends first.
+    pub fn of(mode: Mode) -> First
+        ensures { result ≡ first_sent mode }
+    {
+        match mode {
+            Mode::ScuttleBreadth | Mode::ScuttleDepth | Mode::PreciseOldest => First::Oldest,
+            Mode::PreciseNewest => First::Newest,
+        }
+    }
+}
 
 /// Marks of what is sent: all numbers up to them, or where the newest goes first all above them.
 #[derive(Drop)]
@@ -46,7 +65,7 @@ pub fn planned<N: Number>(
         m.counts.cut) }
     ensures only { IsOkUnless result OutOfMemory }
 {
-    let first = mode.first();
+    let first = First::of(mode);
     if offer.fits(found, offer.low, offer.high) {
         let mark = whole_mark(alloc, offer, first)?;
         let counts = DeltaCounts {

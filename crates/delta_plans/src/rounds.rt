@@ -12,8 +12,9 @@ ghost use Rattle.delta_plans.specs.OfferInMemory.{low_in, marks, IsCountOffered,
 ghost use Rattle.delta_plans.specs.Plans.{weight_on, count_on, IsLevel};
 ghost use Rattle.delta_plans.specs.RoundLevels.{round_mark, AreEndsOf, AreFewAndEnough, AreRoundMarks};
 
+use crate::marked::First;
 use crate::offers::{Level, Offer};
-use bench_types::{Fault, First};
+use bench_types::Fault;
 use planes::{Ends, Number};
 use std::alloc::Global;
 

@@ -11,9 +11,10 @@ ghost use Rattle.delta_plans.specs.Plans.{weight_on, IsLevel};
 ghost use Rattle.delta_plans.specs.Sharing.{AreShared};
 ghost use Rattle.delta_plans.specs.Turns.{part_weight, AreKnownFor, ArePassedBy, AreSharedBy, AreTurns};
 
+use crate::marked::First;
 use crate::offers::{Level, Offer, Share, number_at};
 use crate::stops::Part;
-use bench_types::{Budget, Fault, First};
+use bench_types::{Budget, Fault};
 use planes::{Number, all_of, count_some_between};
 use std::alloc::Global;
 

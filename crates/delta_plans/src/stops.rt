@@ -5,8 +5,8 @@ ghost use Rattle.delta_plans.specs.OfferInMemory.{cells_in, weights_in};
 ghost use Rattle.delta_plans.specs.Stops.{HasNext, IsNearest, IsNext, IsPart, IsPast, IsStopFrom};
 ghost use Rattle.delta_plans.specs.Weights.{weight_from};
 
+use crate::marked::First;
 use crate::offers::{Offer, pick};
-use bench_types::First;
 use planes::Number;
 
 /// The mark where an owner's part stops, and how many numbers it lets through of it.

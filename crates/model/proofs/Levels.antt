@@ -12,11 +12,8 @@ use Rattle.std.specs.FinMap.{nat_cmp-IsAntisymmetric}
 use Rattle.std.proofs.lemmas.Bool.{cases_lt, cases_eq, eq-eqb, eqb-true, lt-ltb, ltb-true, le-ltb, and_parts, and_from, and_right}
 use Rattle.std.proofs.lemmas.List.Sorted.{sum_by-IsPermutation, All-permutation}
 use Rattle.bench_types.specs.declared.entries.Item.{Item}
-use Rattle.bench_types.specs.declared.exchanges.First.{First}
-use Rattle.bench_types.specs.declared.exchanges.First.TheVariants.{Oldest, Newest}
 use Rattle.bench_types.specs.declared.exchanges.Mode.{Mode}
 use Rattle.bench_types.specs.declared.exchanges.Mode.TheVariants.{ScuttleBreadth, ScuttleDepth, PreciseOldest, PreciseNewest}
-use Rattle.bench_types.specs.calls.Mode.{first_sent}
 use Rattle.bench_types.proofs.Comparing.{both_equal, nat_cmp-less, nat_cmp-equal, nat_cmp-greater}
 use Rattle.model.specs.Candidates.{IsScuttleMode}
 use Rattle.model.specs.Order.{rotated, rank_among, owner_count, sending_order}
@@ -98,24 +95,26 @@ sending_order-permuted ScuttleDepth ns s xs ys same c d =
 sending_order-permuted PreciseOldest ns s xs ys same c d = refl
 sending_order-permuted PreciseNewest ns s xs ys same c d = refl
 
--- rounds and versions compare: the lower first, or from the newest on the higher
-abbrev pub age_cmp : First → ℕ → ℕ → Ordering
-age_cmp Oldest m n = nat_cmp m n
-age_cmp Newest m n = nat_cmp n m
-
 -- levels compare: by rank, by how many candidates the owner has, the most first, and by round
 abbrev pub level_cmp : Mode → List Item → Item → Item → Ordering
 level_cmp ScuttleBreadth cs c d = nat_cmp (rank_among cs c) (rank_among cs d)
 level_cmp ScuttleDepth cs c d = nat_cmp (owner_count cs d) (owner_count cs c)
-level_cmp PreciseOldest cs c d = age_cmp Oldest c.entry.born d.entry.born
-level_cmp PreciseNewest cs c d = age_cmp Newest c.entry.born d.entry.born
+level_cmp PreciseOldest cs c d = nat_cmp c.entry.born d.entry.born
+level_cmp PreciseNewest cs c d = nat_cmp d.entry.born c.entry.born
+
+-- an owner's versions compare within a level
+abbrev pub version_cmp : Mode → ℕ → ℕ → Ordering
+version_cmp ScuttleBreadth v w = nat_cmp v w
+version_cmp ScuttleDepth v w = nat_cmp v w
+version_cmp PreciseOldest v w = nat_cmp v w
+version_cmp PreciseNewest v w = nat_cmp w v
 
 -- by level, turn, version and key
 abbrev pub level_order : Mode → ℕ → ℕ → List Item → Item → Item → Ordering
 level_order mode nodes rotation cs c d =
     ordering_then (level_cmp mode cs c d)
     (ordering_then (nat_cmp (rotated nodes rotation c.owner) (rotated nodes rotation d.owner))
-    (ordering_then (age_cmp (first_sent mode) c.entry.version d.entry.version)
+    (ordering_then (version_cmp mode c.entry.version d.entry.version)
     (nat_cmp c.entry.key d.entry.key)))
 
 -- what stands behind a comparison that decides makes no difference

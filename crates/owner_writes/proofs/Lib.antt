@@ -1,3 +1,4 @@
 pub mod Numbered
 pub mod Keeping
 pub mod Numbers
+pub mod Common

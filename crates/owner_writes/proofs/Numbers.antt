@@ -1,13 +1,6 @@
 -- Writes by their numbers: which there are, and how their marks compare.
 -- Serves `delta_plans`, `version_lags` and `version_tables`.
-use Rattle.std.proofs.Common.{◌≡◌, ℕ, zero, suc, ◌<◌, ◌≤◌, List, [], ◌∷◌, length, get_or, Some, None, inl, inr, refl, sym, ap, ◌∙◌, subst, arith}
-use Rattle.std.specs.Prelude.{nat_lt}
-use Rattle.std.proofs.lemmas.Bool.{cases_lt, lt-ltb, le-ltb}
-use Rattle.std.proofs.lemmas.Option.{same_Some}
-use Rattle.bench_types.specs.declared.entries.Entry.{Entry}
-use Rattle.bench_types.specs.Mark.{mark_of, is_before, IsBefore, IsUpTo}
-use Rattle.bench_types.proofs.Marks.{before-yes, before-no, before-up_to, up_to-itself}
-use Rattle.model.specs.calls.Numbers.{write_from, write_numbered}
+use Rattle.owner_writes.proofs.Common.{◌≡◌, ℕ, zero, suc, ◌<◌, ◌≤◌, List, [], ◌∷◌, length, get_or, Some, None, inl, inr, refl, sym, ap, ◌∙◌, subst, arith, nat_lt, cases_lt, lt-ltb, le-ltb, same_Some, Entry, mark_of, is_before, IsBefore, IsUpTo, before-yes, before-no, before-up_to, up_to-itself, write_from, write_numbered}
 use Rattle.owner_writes.specs.Numbered.{IsHistory}
 
 -- what stands at a place

@@ -1,10 +1,8 @@
 -- The least of an owner's numbers that pass a test, key by key.
 -- Serves `count_behind`, `least_above` and `least_behind`.
-use Rattle.std.proofs.Common.{◌≡◌, ℕ, zero, suc, ◌+◌, ◌<◌, ◌≤◌, Bool, true, cond, nat_lt, get_or, List, ◌⊎◌, inl, inr, sym, ap, ◌∙◌, subst, arith}
-use Rattle.std.proofs.lemmas.Bool.{cases_lt, cases_Bool, lt-ltb, ltb-true, both_ways}
+use Rattle.planes.proofs.Common.{◌≡◌, ℕ, zero, suc, ◌+◌, ◌<◌, ◌≤◌, Bool, true, cond, nat_lt, get_or, List, ◌⊎◌, inl, inr, sym, ap, ◌∙◌, subst, arith, cases_lt, cases_Bool, lt-ltb, ltb-true, both_ways, sum_below}
 use Rattle.planes.specs.inner.Answering.{IsLowered}
 use Rattle.planes.specs.Planes.{Cells, HasEach, HasNoneAbove, IsNextAbove}
-use Rattle.bench_types.specs.Sums.{sum_below}
 use Rattle.planes.proofs.Places.{plane_count}
 use Rattle.planes.specs.Lags.{IsLeastBehind}
 

@@ -1,9 +1,6 @@
 -- How far numbers are ahead of others.
 -- Serves `most_ahead`.
-use Rattle.std.proofs.Common.{◌≡◌, ℕ, Fits, w32, ◌+◌, ◌-◌, ◌<◌, ◌≤◌, min, arith}
-use Rattle.bench_types.specs.declared.limits.TheConstants.{MOST_NODES, MOST_KEYS}
-use Rattle.bench_types.specs.Sums.{sum_below}
-use Rattle.bench_types.proofs.Sums.{sum_below-most}
+use Rattle.planes.proofs.Common.{◌≡◌, ℕ, Fits, w32, ◌+◌, ◌-◌, ◌<◌, ◌≤◌, min, arith, MOST_NODES, MOST_KEYS, sum_below, sum_below-most}
 
 pub lead-fits : (keys : ℕ) (numbers others : ℕ → ℕ) (r sum lead : ℕ) → sum ≡ sum_below r (λ k. min keys (numbers k - others k)) → lead ≤ keys → r < MOST_NODES → keys ≤ MOST_KEYS → Fits w32 (sum + lead)
 lead-fits keys numbers others r sum lead is le few_nodes few_keys =

@@ -4,3 +4,4 @@ pub mod Places
 pub mod Behind
 pub mod ByOwner
 pub mod Leads
+pub mod Common

@@ -1,11 +1,6 @@
 -- What is counted where no node has forgotten.
 -- Serves `has_forgotten` and `left_over`.
-use Rattle.std.proofs.Common.{◌≡◌, ℕ, ◌<◌, Bool, true, false, cond, ◌&&◌, refl, ap, ◌∙◌, arith, inl, inr}
-use Rattle.std.specs.Prelude.{nat_lt, nat_le}
-use Rattle.std.proofs.lemmas.Bool.{cases_lt, lt-ltb, le-ltb, lt-leb, both_ways}
-use Rattle.bench_types.specs.Sums.{sum_below}
-use Rattle.planes.specs.Planes.{Cells, total_of}
-use Rattle.bench_types.proofs.Sums.{sum_below-most}
+use Rattle.version_lags.proofs.Common.{◌≡◌, ℕ, ◌<◌, Bool, true, false, cond, ◌&&◌, refl, ap, ◌∙◌, arith, inl, inr, nat_lt, nat_le, cases_lt, lt-ltb, le-ltb, lt-leb, both_ways, sum_below, Cells, total_of, sum_below-most}
 
 -- no number is up to 0 but 0
 none_here : (number base : ℕ) → base ≡ 0 → ◌≡◌ {A = ℕ} (cond (nat_lt 0 number && nat_le number base) 1 0) 0

@@ -1,22 +1,8 @@
 -- How long copies have been behind, by the numbers that they hold: the least number has been longest.
 -- Serves `Pieces`.
-use Rattle.std.proofs.Common.{◌≡◌, ℕ, zero, suc, ◌+◌, ◌<◌, ◌≤◌, min, max, false, ltb, ◌&&◌, List, length, get_or, Some, None, if◌then◌else◌, option_map, inl, inr, refl, sym, ap, ◌∙◌, subst, arith}
-use Rattle.std.specs.Prelude.{IfSome, nat_lt, nat_le}
-use Rattle.std.proofs.lemmas.Bool.{cases_lt, lt-ltb, le-ltb, le-leb, lt-leb}
-use Rattle.std.proofs.lemmas.List.{get_or-map, length-map, get_or_append_left}
-use Rattle.bench_types.specs.declared.entries.Entry.{Entry}
-use Rattle.model.specs.Table.{Table, entry_at, IsProper}
-use Rattle.model.specs.declared.writes.Write.{Write}
-use Rattle.model.specs.Writes.{write_of_entry}
-use Rattle.model.specs.calls.Writes.{last_write, IsNumbered}
-use Rattle.model.specs.calls.OwnerListView.{OwnerListView, entries_of, written, AreWrites}
-use Rattle.model.specs.calls.Numbers.{write_numbered}
-use Rattle.round_tables.specs.Histories.{BirthsRise, StandsBeside}
-use Rattle.model.specs.Figures.{is_left_over, stale_count, rounds_behind}
+use Rattle.version_lags.proofs.Common.{◌≡◌, ℕ, zero, suc, ◌+◌, ◌<◌, ◌≤◌, min, max, false, ltb, ◌&&◌, List, length, get_or, Some, None, if◌then◌else◌, option_map, inl, inr, refl, sym, ap, ◌∙◌, subst, arith, IfSome, nat_lt, nat_le, cases_lt, lt-ltb, le-ltb, le-leb, lt-leb, get_or-map, length-map, get_or_append_left, Entry, Table, entry_at, IsProper, Write, write_of_entry, last_write, IsNumbered, OwnerListView, entries_of, written, AreWrites, write_numbered, BirthsRise, StandsBeside, is_left_over, stale_count, rounds_behind, write_from-at, write_from-here}
 use Rattle.version_lags.specs.Missed.{base_of, number_staleness, IsMissed, HasNoneMissed, IsLastNumber}
-use Rattle.owner_writes.proofs.Numbers.{write_from-at}
 use Rattle.version_lags.proofs.Missed.{numbers-born, current-numbered, last_write-after, last_write-keyed, missed_cases}
-use Rattle.owner_writes.proofs.Numbered.{write_from-here}
 
 module _ (round : ℕ) (v : OwnerListView) (are : AreWrites v) where
   abbrev all : List Entry

@@ -5,3 +5,4 @@ pub mod Walks
 pub mod Counted
 pub mod Parts
 pub mod Whole
+pub mod Common

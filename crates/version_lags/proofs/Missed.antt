@@ -1,24 +1,7 @@
 -- The first write that a copy misses, by numbers.
 -- Serves `Lagging` and `Walks`.
-use Rattle.std.proofs.Common.{◌≡◌, ℕ, zero, suc, ◌+◌, ◌-◌, ◌<◌, ◌≤◌, Bool, true, false, cond, eqb, ltb, ◌&&◌, List, [], ◌∷◌, length, get_or, reverse, Some, None, ◌⊎◌, option_map, inl, inr, refl, sym, ap, ◌∙◌, subst, arith, length-append}
-use Rattle.std.specs.List.{find}
-use Rattle.std.proofs.lemmas.Bool.{cases_lt, cases_Bool, lt-ltb, le-ltb, ltb-true, eq-eqb, eqb-true, and_parts, both_ways}
-use Rattle.std.proofs.lemmas.List.{get_or-append_right, get_or-map, length-map, get_or_default, get_or-reverse, length-reverse}
-use Rattle.std.proofs.lemmas.Option.{same_Some}
-use Rattle.bench_types.specs.declared.entries.Entry.{Entry}
-use Rattle.bench_types.specs.declared.entries.Mark.{Mark}
-use Rattle.bench_types.specs.Mark.{absent, mark_of, mark_held, is_before, IsBefore, IsUpTo}
-use Rattle.bench_types.proofs.Marks.{before-yes, before-no, before-up_to, up_to-itself}
-use Rattle.model.specs.declared.writes.Write.{Write}
-use Rattle.model.specs.Writes.{write_of_entry}
-use Rattle.model.specs.calls.Writes.{IsNumbered, is_write_of, last_write}
-use Rattle.model.specs.calls.OwnerListView.{OwnerListView, entries_of, written, AreWrites}
-use Rattle.model.specs.calls.Numbers.{write_numbered}
-use Rattle.model.proofs.Picked.{find_none, find_passes}
+use Rattle.version_lags.proofs.Common.{◌≡◌, ℕ, zero, suc, ◌+◌, ◌-◌, ◌<◌, ◌≤◌, Bool, true, false, cond, eqb, ltb, ◌&&◌, List, [], ◌∷◌, length, get_or, reverse, Some, None, ◌⊎◌, option_map, inl, inr, refl, sym, ap, ◌∙◌, subst, arith, length-append, find, cases_lt, cases_Bool, lt-ltb, le-ltb, ltb-true, eq-eqb, eqb-true, and_parts, both_ways, get_or-append_right, get_or-map, length-map, get_or_default, get_or-reverse, length-reverse, same_Some, Entry, Mark, absent, mark_of, mark_held, is_before, IsBefore, IsUpTo, before-yes, before-no, before-up_to, up_to-itself, Write, write_of_entry, IsNumbered, is_write_of, last_write, OwnerListView, entries_of, written, AreWrites, write_numbered, find_none, find_passes, write_from-here, BirthsRise, write_from-at, numbered-placed}
 use Rattle.version_lags.specs.Missed.{base_of, number_staleness, IsMissed, IsFirstMissed, HasNoneMissed}
-use Rattle.owner_writes.proofs.Numbered.{write_from-here}
-use Rattle.round_tables.specs.Histories.{BirthsRise}
-use Rattle.owner_writes.proofs.Numbers.{write_from-at, numbered-placed}
 
 -- births don't fall with the numbers
 pub numbers-born : (writes : List Entry) (rise : BirthsRise writes) (m n : ℕ) (d e : Entry) → write_numbered writes m ≡ Some d → write_numbered writes n ≡ Some e → m ≤ n → d.born ≤ e.born

@@ -1,16 +1,6 @@
 -- Pieces of tables as code counts them, table by table and part by part.
 -- Serves `+rest`, `Numbers::piece_of` and `figures`.
-use Rattle.std.proofs.Common.{◌≡◌, ℕ, ◌+◌, ◌*◌, ◌<◌, ◌≤◌, min, Bool, cond, ◌&&◌, List, [], length, get_or, map, refl, sym, ap, ◌∙◌, subst, arith}
-use Rattle.std.specs.Prelude.{slice_index, nat_lt, nat_le}
-use Rattle.std.specs.Borrow.{Bor}
-use Rattle.std.proofs.lemmas.List.{get_or-map, length-map}
-use Rattle.bench_types.specs.declared.limits.TheConstants.{MOST_NODES, MOST_KEYS}
-use Rattle.model.specs.Table.{Table}
-use Rattle.model.specs.calls.OwnerListView.{OwnerListView, list_of_owner}
-use Rattle.bench_types.specs.Sums.{sum_below}
-use Rattle.planes.specs.Planes.{cell, total_of, ArePlanesChanged}
-use Rattle.bench_types.proofs.Sums.{sum_below-same, sum_below-most}
-use Rattle.planes.proofs.Counts.{count_le}
+use Rattle.version_lags.proofs.Common.{◌≡◌, ℕ, ◌+◌, ◌*◌, ◌<◌, ◌≤◌, min, Bool, cond, ◌&&◌, List, [], length, get_or, map, refl, sym, ap, ◌∙◌, subst, arith, slice_index, nat_lt, nat_le, Bor, get_or-map, length-map, MOST_NODES, MOST_KEYS, Table, OwnerListView, list_of_owner, sum_below, cell, total_of, ArePlanesChanged, sum_below-same, sum_below-most, count_le}
 use Rattle.version_lags.specs.Missed.{base_of}
 use Rattle.version_lags.specs.Pieces.{keys_in, StandTogether, numbers_at, numbers_in, AreGrids, AreNumbersAt, AreNumbersOf, CountsPiece}
 use Rattle.version_lags.proofs.Pieces.{piece-none, piece-more, piece-joined}

@@ -1,21 +1,6 @@
 -- What is counted of tables of versions comes to the figures of the tables that they are.
 -- Serves `Parts` and `Whole`.
-use Rattle.std.proofs.Common.{◌≡◌, ℕ, zero, suc, ◌+◌, ◌<◌, min, max, Bool, true, false, ◌&&◌, List, [], length, Some, None, if◌then◌else◌, inl, inr, refl, sym, ap, ◌∙◌, subst, arith}
-use Rattle.std.specs.Prelude.{nat_lt, nat_le}
-use Rattle.std.proofs.lemmas.Bool.{cases_lt, cases_eq, le-ltb, eq-eqb, ne_eqb, lt-leb}
-use Rattle.bench_types.specs.declared.entries.Entry.{Entry}
-use Rattle.bench_types.specs.Mark.{mark_held}
-use Rattle.model.specs.Table.{Table, entry_at, mark_at, IsProper}
-use Rattle.model.specs.Tables.{table_of_node}
-use Rattle.model.specs.calls.OwnerListView.{OwnerListView, entries_of, list_of_owner, lists_in, no_writes, AreWrites}
-use Rattle.model.specs.calls.Numbers.{write_numbered}
-use Rattle.model.proofs.Owners.{list_read}
-use Rattle.bench_types.specs.Sums.{sum_below, most_below}
-use Rattle.planes.specs.Planes.{cell, total_of, ArePlanesChanged}
-use Rattle.planes.proofs.Counts.{sum_next}
-use Rattle.bench_types.proofs.Sums.{most_below-same, sum_below-same}
-use Rattle.round_tables.specs.Histories.{BirthsRise, StandsBeside}
-use Rattle.model.specs.Figures.{writes_of_owner, generation_at, staleness_of, staleness_at, is_left_over, leftover_at, stale_count, rounds_behind, node_figures}
+use Rattle.version_lags.proofs.Common.{◌≡◌, ℕ, zero, suc, ◌+◌, ◌<◌, min, max, Bool, true, false, ◌&&◌, List, [], length, Some, None, if◌then◌else◌, inl, inr, refl, sym, ap, ◌∙◌, subst, arith, nat_lt, nat_le, cases_lt, cases_eq, le-ltb, eq-eqb, ne_eqb, lt-leb, Entry, mark_held, Table, entry_at, mark_at, IsProper, table_of_node, OwnerListView, entries_of, list_of_owner, lists_in, no_writes, AreWrites, write_numbered, list_read, sum_below, most_below, cell, total_of, ArePlanesChanged, sum_next, most_below-same, sum_below-same, BirthsRise, StandsBeside, writes_of_owner, generation_at, staleness_of, staleness_at, is_left_over, leftover_at, stale_count, rounds_behind, node_figures}
 use Rattle.version_lags.specs.Missed.{base_of, IsNumberAt, number_staleness, IsLastNumber}
 use Rattle.version_lags.specs.Pieces.{keys_in, StandTogether, MayBeCounted, AreLastNumbers, AreNumbersAt, IsLeastHeld, IsPiece}
 use Rattle.version_lags.proofs.Lagging.{last_fresh, stale_by_number, lag-least, left_over-by_number, own_is_last, key_held}

@@ -1,20 +1,8 @@
 -- The first write of an owner that some copy misses has been missed for longest.
 -- Serves `greatest_lag` and `lag_of_owner`.
-use Rattle.std.proofs.Common.{◌≡◌, ℕ, zero, suc, ◌+◌, ◌-◌, ◌*◌, ◌<◌, ◌≤◌, max, List, length, Some, inl, inr, refl, sym, ap, ◌∙◌, subst, arith}
-use Rattle.std.proofs.Math.Nat.{mul-le-mul_right}
-use Rattle.std.proofs.lemmas.Bool.{cases_lt}
-use Rattle.std.proofs.lemmas.Option.{same_Some}
-use Rattle.bench_types.specs.declared.entries.Entry.{Entry}
-use Rattle.model.specs.calls.OwnerListView.{OwnerListView, entries_of, list_of_owner, AreWrites}
-use Rattle.model.specs.calls.Numbers.{write_numbered}
-use Rattle.planes.specs.Planes.{cell}
-use Rattle.round_tables.specs.Histories.{BirthsRise}
-use Rattle.bench_types.specs.Sums.{most_below}
-use Rattle.model.specs.Figures.{rounds_behind}
+use Rattle.version_lags.proofs.Common.{◌≡◌, ℕ, zero, suc, ◌+◌, ◌-◌, ◌*◌, ◌<◌, ◌≤◌, max, List, length, Some, inl, inr, refl, sym, ap, ◌∙◌, subst, arith, mul-le-mul_right, cases_lt, same_Some, Entry, OwnerListView, entries_of, list_of_owner, AreWrites, write_numbered, cell, BirthsRise, most_below, rounds_behind, IsRoundMark, numbered-placed, numbered-within}
 use Rattle.version_lags.specs.Missed.{base_of, number_staleness, IsMissed, IsLastNumber, NonePassUpto}
-use Rattle.owner_writes.specs.Numbered.{IsRoundMark}
 use Rattle.version_lags.specs.Pieces.{MayWalk, WalksFrom, most_lag}
-use Rattle.owner_writes.proofs.Numbers.{numbered-placed, numbered-within}
 use Rattle.version_lags.proofs.Missed.{numbers-born, missed_cases}
 
 most_below-le : (f : ℕ → ℕ) (m x : ℕ) → ((k : ℕ) → k < m → f k ≤ x) → most_below m f ≤ x

@@ -1,14 +1,6 @@
 -- What is counted of all tables comes to the figures of a round.
 -- Serves `figures`.
-use Rattle.std.proofs.Common.{◌≡◌, ℕ, ◌+◌, ◌<◌, List, length, sym, ap, ◌∙◌, subst, arith}
-use Rattle.bench_types.specs.declared.rows.Figures.{Figures}
-use Rattle.model.specs.Table.{Table}
-use Rattle.model.specs.calls.OwnerListView.{OwnerListView, all_writes, list_of_owner, lists_in}
-use Rattle.bench_types.specs.Sums.{sum_below, most_below}
-use Rattle.planes.specs.Planes.{HasEachPlace}
-use Rattle.bench_types.proofs.Sums.{sum_below-same, most_below-same}
-use Rattle.model.specs.Figures.{staleness_at, rounds_behind, node_figures, figures_of}
-use Rattle.model.proofs.Figures.{most_by_owner}
+use Rattle.version_lags.proofs.Common.{◌≡◌, ℕ, ◌+◌, ◌<◌, List, length, sym, ap, ◌∙◌, subst, arith, Figures, Table, OwnerListView, all_writes, list_of_owner, lists_in, sum_below, most_below, HasEachPlace, sum_below-same, most_below-same, staleness_at, rounds_behind, node_figures, figures_of, most_by_owner}
 use Rattle.version_lags.specs.Pieces.{keys_in, StandTogether, MayBeCounted, IsPiece, IsLeastHeld, MayWalk, most_lag}
 use Rattle.version_lags.proofs.Pieces.{key_within}
 

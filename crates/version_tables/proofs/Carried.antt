@@ -1,11 +1,6 @@
 -- Tables that stand in a round fit the histories that its exchanges read.
 -- Serves `HistoriesRoundHistoriesVersionTable::end_writes`.
-use Rattle.std.proofs.Common.{◌≡◌, ℕ, List, ap, arith}
-use Rattle.bench_types.specs.declared.entries.Entry.{Entry}
-use Rattle.owner_writes.proofs.Numbers.{numbered-placed}
-use Rattle.model.specs.calls.OwnerListView.{all_writes}
-use Rattle.model.specs.Table.{Table}
-use Rattle.round_tables.specs.Histories.{AreWrittenBy, StandsAmong}
+use Rattle.version_tables.proofs.Common.{◌≡◌, ℕ, List, ap, arith, Entry, numbered-placed, all_writes, Table, AreWrittenBy, StandsAmong}
 use Rattle.version_tables.specs.Views.{HistoriesView}
 use Rattle.version_tables.specs.inner.Histories.{AreKnown, FitsRun}
 

@@ -1,13 +1,7 @@
 -- Numbers of an owner's keys that are dropped.
 -- Serves `are_current`, `drop_older`, `is_current` and `Merged`.
-use Rattle.std.proofs.Common.{◌≡◌, ℕ, zero, suc, ◌+◌, ◌*◌, ◌<◌, ◌≤◌, ◌&&◌, Bool, true, false, cond, List, nat_lt, nat_le, slice_index, inl, inr, refl, ap, ◌∙◌, subst, arith}
-use Rattle.std.proofs.lemmas.Bool.{cases_lt, lt-leb, lt-ltb}
-use Rattle.bench_types.specs.declared.entries.Entry.{Entry}
-use Rattle.bench_types.specs.Sums.{sum_below}
-use Rattle.planes.specs.Planes.{cell, total_of, ArePlanesChanged}
+use Rattle.version_tables.proofs.Common.{◌≡◌, ℕ, zero, suc, ◌+◌, ◌*◌, ◌<◌, ◌≤◌, ◌&&◌, Bool, true, false, cond, List, nat_lt, nat_le, slice_index, inl, inr, refl, ap, ◌∙◌, subst, arith, cases_lt, lt-leb, lt-ltb, Entry, sum_below, cell, total_of, ArePlanesChanged, start_of, sum_below-none}
 use Rattle.version_tables.specs.inner.Taken.{drop_start, number_kept}
-use Rattle.owner_writes.specs.Numbered.{start_of}
-use Rattle.delta_plans.proofs.Columns.{sum_below-none}
 
 -- nothing is dropped up to 0
 pub kept-all : (x : ℕ) → number_kept 0 x ≡ x

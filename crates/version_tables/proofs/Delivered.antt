@@ -1,47 +1,13 @@
 -- From an offer's marks to the marks of a delta between two tables.
 -- Serves `either`, `marks_sent`, `told_to` and `Merged`.
-use Rattle.std.proofs.Common.{◌≡◌, ℕ, ◌*◌, ◌<◌, ◌≤◌, max, Bool, true, cond, List, length, get_or, map, inl, inr, refl, sym, ap, ◌∙◌, subst, arith}
-use Rattle.std.specs.Prelude.{nat_lt, nat_le, ◌&&◌}
-use Rattle.std.proofs.lemmas.Bool.{cases_lt, cases_eq, lt-ltb, le-ltb, le-leb, eq-eqb, ne_eqb}
-use Rattle.std.proofs.lemmas.List.{length-map}
-use Rattle.bench_types.specs.declared.entries.Entry.{Entry}
-use Rattle.bench_types.specs.declared.exchanges.Budget.{Budget}
-use Rattle.bench_types.specs.declared.exchanges.First.{First}
-use Rattle.bench_types.specs.declared.exchanges.First.TheVariants.{Oldest, Newest}
-use Rattle.bench_types.specs.declared.exchanges.Mode.{Mode}
-use Rattle.bench_types.specs.declared.exchanges.DigestKind.{DigestKind}
-use Rattle.bench_types.specs.declared.exchanges.DigestKind.TheVariants.{Scuttle, Precise}
-use Rattle.bench_types.specs.Mode.{digest_kind}
-use Rattle.bench_types.specs.calls.Mode.{first_sent}
-use Rattle.bench_types.specs.Budget.{amount_of}
-use Rattle.model.specs.Table.{Table}
-use Rattle.model.specs.Candidates.{candidates}
-use Rattle.model.specs.Deltas.{delta_between}
-use Rattle.model.specs.Order.{rotated}
-use Rattle.model.specs.calls.Numbers.{write_numbered}
-use Rattle.model.specs.calls.OwnerListView.{OwnerListView, all_writes, AreWrites, list_of_owner}
-use Rattle.planes.specs.Planes.{Cells, cell, number_ahead, HasEach, HasEachPlace, HasNoneAbove}
-use Rattle.delta_plans.specs.declared.offers.Offer.{Offer}
-use Rattle.delta_plans.specs.SentSets.{HasSet}
+use Rattle.version_tables.proofs.Common.{◌≡◌, ℕ, ◌*◌, ◌<◌, ◌≤◌, max, Bool, true, cond, List, length, get_or, map, inl, inr, refl, sym, ap, ◌∙◌, subst, arith, nat_lt, nat_le, ◌&&◌, cases_lt, cases_eq, lt-ltb, le-ltb, le-leb, eq-eqb, ne_eqb, length-map, Entry, Budget, First, Oldest, Newest, Mode, DigestKind, Scuttle, Precise, digest_kind, first_sent, amount_of, Table, candidates, delta_between, rotated, write_numbered, OwnerListView, all_writes, AreWrites, list_of_owner, Cells, cell, number_ahead, HasEach, HasEachPlace, HasNoneAbove, Offer, HasSet, by_first, LetAll, ShareLevel, KeepsLow, AreMarked, cells_in, low_in, high_in, count_in, IsOffer, IsHistory, Offers, offered_by, told_by, told_number, weight_on, lets_through, NumbersDiffer, HasShape, AreKnown, number_shares, weight_between, weight_through, one_each, candidate-below, candidate-key, candidate-number, lets, count-sent, count-cut, are-sent, shared-sent, whole-sent, numbered-some}
 use Rattle.version_tables.specs.Views.{VersionTableView, HistoriesView, table_in, IsKept}
 use Rattle.version_tables.specs.inner.Deltas.{is_taken_at, AreMarksOf}
 use Rattle.version_tables.specs.inner.Histories.{IsWrittenSoFar, FitsHistories}
 use Rattle.version_tables.specs.Laid.{AreNumbers}
-use Rattle.delta_plans.specs.Firsts.{by_first}
-use Rattle.delta_plans.specs.Marked.{LetAll, ShareLevel, KeepsLow, AreMarked}
 use Rattle.version_tables.specs.inner.Offered.{AreLow, AreOffered}
-use Rattle.delta_plans.specs.OfferInMemory.{cells_in, low_in, high_in, count_in, IsOffer}
-use Rattle.owner_writes.specs.Numbered.{IsHistory}
-use Rattle.delta_plans.specs.Offers.{Offers, offered_by, told_by, told_number}
-use Rattle.delta_plans.specs.Plans.{weight_on}
-use Rattle.delta_plans.specs.LevelMarks.{lets_through, NumbersDiffer, HasShape}
 use Rattle.version_tables.specs.inner.Taken.{is_taken}
-use Rattle.delta_plans.specs.Told.{AreKnown}
-use Rattle.delta_plans.specs.Weights.{number_shares, weight_between, weight_through, one_each}
-use Rattle.delta_plans.proofs.CandidateNumbers.{candidate-below, candidate-key, candidate-number}
 use Rattle.version_tables.proofs.Fitting.{fits-upto, fits-below, fits-cells}
-use Rattle.delta_plans.proofs.Lifts.{lets, count-sent, count-cut, are-sent, shared-sent, whole-sent}
-use Rattle.owner_writes.proofs.Numbers.{numbered-some}
 use Rattle.version_tables.proofs.Told.{told-offers, offered-is, offered-upto}
 
 -- the marks of a delta

@@ -1,30 +1,8 @@
 -- How many owners and entries a table of versions holds.
 -- Serves `digest_size`.
-use Rattle.std.proofs.Common.{◌≡◌, ℕ, zero, suc, ◌+◌, ◌*◌, ◌<◌, Bool, true, false, cond, nat_lt, List, Some, inl, inr, refl, sym, ap, ◌∙◌, arith}
-use Rattle.std.specs.Prelude.{count_by, slice_index}
-use Rattle.std.specs.FinMap.{entries, len-entries}
-use Rattle.std.specs.List.{range_with_len}
-use Rattle.std.proofs.lemmas.Bool.{cases_lt, lt-ltb, le-ltb}
-use Rattle.std.proofs.lemmas.List.{length-map}
-use Rattle.std.proofs.lemmas.List.Sums.{sum_by-cons}
-use Rattle.bench_types.specs.declared.entries.Entry.{Entry}
-use Rattle.bench_types.specs.declared.entries.Item.{Item}
-use Rattle.bench_types.specs.declared.entries.Mark.{Mark}
-use Rattle.bench_types.specs.declared.exchanges.DigestKind.TheVariants.{Scuttle, Precise}
-use Rattle.bench_types.specs.Mark.{IsUpTo, mark_held}
-use Rattle.model.specs.Table.{Table, entry_at, items_of, item_of, mark_at, greatest_mark, greatest_version}
-use Rattle.model.proofs.Greatest.{greatest_mark-none, mark_at-up_to_greatest}
-use Rattle.model.specs.calls.Numbers.{write_numbered}
-use Rattle.planes.specs.Planes.{cell, total_of}
-use Rattle.bench_types.specs.Sums.{sum_below}
-use Rattle.bench_types.proofs.Sums.{sum_below-same}
-use Rattle.model.specs.Digests.{digest_size}
-use Rattle.model.proofs.Fitting.{sum_by-ones}
+use Rattle.version_tables.proofs.Common.{◌≡◌, ℕ, zero, suc, ◌+◌, ◌*◌, ◌<◌, Bool, true, false, cond, nat_lt, List, Some, inl, inr, refl, sym, ap, ◌∙◌, arith, count_by, slice_index, entries, len-entries, range_with_len, cases_lt, lt-ltb, le-ltb, length-map, sum_by-cons, Entry, Item, Mark, Scuttle, Precise, IsUpTo, mark_held, Table, entry_at, items_of, item_of, mark_at, greatest_mark, greatest_version, greatest_mark-none, mark_at-up_to_greatest, write_numbered, cell, total_of, sum_below, sum_below-same, digest_size, sum_by-ones, number_here, number_there, items_sum, numbered-some}
 use Rattle.version_tables.specs.Views.{VersionTableView, table_in, IsKept}
-use Rattle.delta_plans.specs.Grids.{number_here, number_there}
-use Rattle.delta_plans.proofs.Grids.{items_sum}
 use Rattle.version_tables.proofs.Laid.{has_cells}
-use Rattle.owner_writes.proofs.Numbers.{numbered-some}
 
 sum_first : (n : ℕ) (f : ℕ → ℕ) → sum_below (suc n) f ≡ f 0 + sum_below n (λ i. f (suc i))
 sum_first zero f = omega arith

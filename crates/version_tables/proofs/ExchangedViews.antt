@@ -1,26 +1,10 @@
 -- An exchange of tables of versions is the model's.
 -- Serves `exchange`, `exchange_deltas` and `Merged`.
-use Rattle.std.proofs.Common.{◌≡◌, ℕ, ◌<◌, Bool, true, false, eqb, List, [], ◌∷◌, length, if◌then◌else◌, refl, sym, ap, ◌∙◌, subst, arith}
-use Rattle.std.specs.Prelude.{◌||◌}
-use Rattle.std.proofs.lemmas.Bool.{both_ways, eqb-true}
-use Rattle.bench_types.specs.declared.entries.Entry.{Entry}
-use Rattle.bench_types.specs.declared.entries.Item.{Item}
-use Rattle.bench_types.specs.declared.exchanges.Exchange.{Exchange}
-use Rattle.bench_types.specs.declared.exchanges.Fate.{Fate}
+use Rattle.version_tables.proofs.Common.{◌≡◌, ℕ, ◌<◌, Bool, true, false, eqb, List, [], ◌∷◌, length, if◌then◌else◌, refl, sym, ap, ◌∙◌, subst, arith, ◌||◌, both_ways, eqb-true, Entry, Item, Exchange, Fate, Record, Rules, digest_kind, Exchanged, last_fate, sent_until, initiator_after, responder_after, MakesOf, Table, applied, OwnerListView, all_writes, list_of_owner, AreWrites, DeltaView, digest_size, numbers_taken}
 use Rattle.bench_types.specs.declared.exchanges.Fate.TheVariants as fate
-use Rattle.bench_types.specs.declared.exchanges.Record.{Record}
-use Rattle.bench_types.specs.declared.exchanges.Rules.{Rules}
-use Rattle.bench_types.specs.Mode.{digest_kind}
-use Rattle.model.specs.Exchanged.{Exchanged, last_fate, sent_until, initiator_after, responder_after}
-use Rattle.model.specs.calls.Exchanging.{MakesOf}
-use Rattle.model.specs.Table.{Table, applied}
-use Rattle.model.specs.calls.OwnerListView.{OwnerListView, all_writes, list_of_owner, AreWrites}
-use Rattle.model.specs.Deltas.{DeltaView}
-use Rattle.model.specs.Digests.{digest_size}
 use Rattle.version_tables.specs.Views.{VersionTableView, HistoriesView, table_in, IsKept}
 use Rattle.version_tables.specs.inner.Deltas.{delta_of_views, is_taken_at, AreMarksOf}
 use Rattle.version_tables.specs.inner.Histories.{bases_in, IsWrittenSoFar, FitsHistories}
-use Rattle.planes.specs.Planes.{numbers_taken}
 use Rattle.version_tables.specs.inner.Taken.{HasTakenUnless, StaysOne}
 use Rattle.version_tables.proofs.TakenViews.{are_taken, becomes_applied, becomes_one, same_taken, sent_above}
 

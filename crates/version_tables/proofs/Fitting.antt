@@ -1,18 +1,9 @@
 -- Tables beside the histories: the numbers that they hold are of writes made so far.
 -- Serves `Delivered`, `NextWrites`, `Standing` and `TakenViews`.
-use Rattle.std.proofs.Common.{◌≡◌, ℕ, zero, suc, ◌<◌, ◌≤◌, List, [], ◌∷◌, length, Some, inl, inr, sym, ap, ◌∙◌, arith}
-use Rattle.std.specs.Prelude.{Contains}
-use Rattle.std.proofs.lemmas.Bool.{cases_lt}
-use Rattle.bench_types.specs.declared.entries.Entry.{Entry}
-use Rattle.model.specs.Table.{entry_at}
-use Rattle.model.specs.calls.Numbers.{write_from}
-use Rattle.model.specs.calls.OwnerListView.{all_writes}
-use Rattle.planes.specs.Planes.{Cells, cell}
+use Rattle.version_tables.proofs.Common.{◌≡◌, ℕ, zero, suc, ◌<◌, ◌≤◌, List, [], ◌∷◌, length, Some, inl, inr, sym, ap, ◌∙◌, arith, Contains, cases_lt, Entry, entry_at, write_from, all_writes, Cells, cell, HasCells, numbered-some}
 use Rattle.version_tables.specs.Views.{VersionTableView, HistoriesView, table_in, IsKept}
 use Rattle.version_tables.specs.inner.Histories.{IsBeginning, IsWrittenSoFar, FitsHistories}
-use Rattle.delta_plans.specs.Offers.{HasCells}
 use Rattle.version_tables.proofs.Laid.{has_cells}
-use Rattle.owner_writes.proofs.Numbers.{numbered-some}
 
 -- what is contained has a place
 write_from-contains : (writes : List Entry) (e : Entry) → Contains writes e → (place : ℕ) × (place < length writes) × (write_from writes place ≡ Some e)

@@ -1,12 +1,6 @@
 -- Writes behind those of earlier generations are of the owner's own one, numbered on, and none is of a newer one.
 -- Serves `HistoryCalls`, `NextWrites` and `TakenViews`.
-use Rattle.std.proofs.Common.{◌≡◌, ℕ, ◌+◌, ◌-◌, ◌<◌, ◌≤◌, length, get_or, Some, inl, inr, refl, sym, ap, ◌∙◌, subst, arith}
-use Rattle.std.proofs.lemmas.Bool.{cases_lt}
-use Rattle.std.proofs.lemmas.List.{get_or_append_left, get_or-append_right, length-append}
-use Rattle.bench_types.specs.declared.entries.Entry.{Entry}
-use Rattle.model.specs.calls.Numbers.{write_numbered}
-use Rattle.model.specs.calls.OwnerListView.{OwnerListView, entries_of, AreWrites}
-use Rattle.owner_writes.proofs.Numbers.{IsPlaced, numbered-placed}
+use Rattle.version_tables.proofs.Common.{◌≡◌, ℕ, ◌+◌, ◌-◌, ◌<◌, ◌≤◌, length, get_or, Some, inl, inr, refl, sym, ap, ◌∙◌, subst, arith, cases_lt, get_or_append_left, get_or-append_right, length-append, Entry, write_numbered, OwnerListView, entries_of, AreWrites, IsPlaced, numbered-placed}
 
 module _ (v : OwnerListView) (are : AreWrites v) (number : ℕ) (e : Entry) (is : write_numbered (entries_of v) number ≡ Some e) where
   at : IsPlaced (entries_of v) number e

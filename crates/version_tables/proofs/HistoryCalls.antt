@@ -1,21 +1,8 @@
 -- What the calls of the histories make of all that is kept of the owners' writes.
 -- Serves `Histories::begin_generation`, `Histories::end_round`, `Histories::lasts`, `Histories::new` and
 -- `Histories::write`.
-use Rattle.std.proofs.Common.{◌≡◌, ◌≢◌, ℕ, zero, suc, ◌+◌, ◌*◌, ◌<◌, ◌≤◌, ◌==◌, cond, List, [], ◌∷◌, ◌++◌, length, get_or, set, map, take, Some, ◌⊎◌, inl, inr, refl, sym, ap, ◌∙◌, subst, arith, length-append}
-use Rattle.std.proofs.Math.Nat.{mul-le-mul_right}
-use Rattle.std.proofs.lemmas.Bool.{cases_lt, cases_eq, eq-eqb, ne_eqb}
-use Rattle.std.proofs.lemmas.List.{get_or-set_same, get_or-set_other, get_or_append_left, get_or_push, length-set, get_or-map, get_or-append-add, get_or_default, length-map, length-take-le, get_or-take, take-map, map-append, map-set, append_assoc, append-nil}
-use Rattle.std.proofs.lemmas.Option.{same_Some}
-use Rattle.bench_types.specs.declared.entries.Entry.{Entry}
-use Rattle.bench_types.specs.declared.limits.TheConstants.{MOST_KEYS, MOST_NODES}
-use Rattle.model.specs.calls.Numbers.{write_from, write_numbered}
-use Rattle.model.specs.calls.OwnerListView.{OwnerListView, all_writes, entries_of, list_of_owner, no_writes, next_entry, with_write, begun_generation, MarksRise, AreWrites, ListBecomes}
-use Rattle.owner_writes.proofs.Keeping.{writes_more, writes_begun}
-use Rattle.planes.specs.Planes.{HasEach, HasEachPlace, ArePlanesChanged, cell}
+use Rattle.version_tables.proofs.Common.{◌≡◌, ◌≢◌, ℕ, zero, suc, ◌+◌, ◌*◌, ◌<◌, ◌≤◌, ◌==◌, cond, List, [], ◌∷◌, ◌++◌, length, get_or, set, map, take, Some, ◌⊎◌, inl, inr, refl, sym, ap, ◌∙◌, subst, arith, length-append, mul-le-mul_right, cases_lt, cases_eq, eq-eqb, ne_eqb, get_or-set_same, get_or-set_other, get_or_append_left, get_or_push, length-set, get_or-map, get_or-append-add, get_or_default, length-map, length-take-le, get_or-take, take-map, map-append, map-set, append_assoc, append-nil, same_Some, Entry, MOST_KEYS, MOST_NODES, write_from, write_numbered, OwnerListView, all_writes, entries_of, list_of_owner, no_writes, next_entry, with_write, begun_generation, MarksRise, AreWrites, ListBecomes, writes_more, writes_begun, HasEach, HasEachPlace, ArePlanesChanged, cell, AreMadeBy, IsHistory, IsNumberedHistory, AreEnds, IsRoundMark, IsLastNumber, write_from-some, numbered-within, write_from-at}
 use Rattle.version_tables.specs.inner.Histories.{AreHistories, IsBeginning, IsWrittenSoFar, IsWriteUnder}
-use Rattle.owner_writes.specs.Numbered.{AreMadeBy, IsHistory, IsNumberedHistory, AreEnds, IsRoundMark}
-use Rattle.version_lags.specs.Missed.{IsLastNumber}
-use Rattle.owner_writes.proofs.Numbers.{write_from-some, numbered-within, write_from-at}
 use Rattle.version_tables.proofs.Generations.{current-at, earlier-at}
 use Rattle.version_tables.proofs.OwnCalls.{same-place, place-within}
 

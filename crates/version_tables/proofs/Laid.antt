@@ -1,20 +1,6 @@
 -- What a table that lies in cells holds.
 -- Serves most of the crate.
-use Rattle.std.proofs.Common.{◌≡◌, ◌≢◌, ℕ, zero, suc, ◌<◌, ◌≤◌, true, false, cond, eqb, List, [], ◌∷◌, ◌++◌, length, map, Vec, Some, None, ◌⊎◌, inl, inr, refl, sym, ap, ◌∙◌, subst, arith}
-use Rattle.std.specs.List.{range_with_len}
-use Rattle.std.specs.Vec.{with_items}
-use Rattle.std.proofs.lemmas.Bool.{cases_lt, eq-eqb, ne_eqb}
-use Rattle.std.proofs.lemmas.List.{get_or_past, with_items_is}
-use Rattle.std.proofs.lemmas.Option.{none-some}
-use Rattle.std.proofs.lemmas.List.FromFn.{get_or-map-range_with_len, length-map-range_with_len}
-use Rattle.bench_types.specs.declared.entries.Entry.{Entry}
-use Rattle.model.specs.Table.{Table, entry_at, IsProper}
-use Rattle.model.proofs.TableLaws.{same_table}
-use Rattle.model.specs.inner.Held.{entry_in}
-use Rattle.model.proofs.InLists.{get-held_by_lists}
-use Rattle.delta_plans.specs.Offers.{HasCells}
-use Rattle.model.specs.calls.Numbers.{write_numbered}
-use Rattle.planes.specs.Planes.{Cells}
+use Rattle.version_tables.proofs.Common.{◌≡◌, ◌≢◌, ℕ, zero, suc, ◌<◌, ◌≤◌, true, false, cond, eqb, List, [], ◌∷◌, ◌++◌, length, map, Vec, Some, None, ◌⊎◌, inl, inr, refl, sym, ap, ◌∙◌, subst, arith, range_with_len, with_items, cases_lt, eq-eqb, ne_eqb, get_or_past, with_items_is, none-some, get_or-map-range_with_len, length-map-range_with_len, Entry, Table, entry_at, IsProper, same_table, entry_in, get-held_by_lists, HasCells, write_numbered, Cells}
 use Rattle.version_tables.specs.Laid.{entry_list, entries_below, table_of_cells, AreNumbers}
 
 -- an entry in one of two rows, where the first has none of its key

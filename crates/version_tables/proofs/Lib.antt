@@ -17,3 +17,4 @@ pub mod Merged
 pub mod DigestSizes
 pub mod HistoryCalls
 pub mod Carried
+pub mod Common

@@ -1,56 +1,17 @@
 -- Tables that take all that the other has above their own greatest numbers exchange as the model's do.
 -- Serves `exchange`.
-use Rattle.std.proofs.Common.{◌≡◌, ℕ, zero, suc, ◌+◌, ◌-◌, ◌*◌, ◌<◌, ◌≤◌, ◌&&◌, true, false, cond, min, max, nat_lt, nat_le, List, length, get_or, map, ◌⊎◌, inl, inr, refl, sym, ap, ◌∙◌, subst, arith}
-use Rattle.std.specs.Prelude.{Option, Some, None}
-use Rattle.std.proofs.Math.Bool.{and-true}
-use Rattle.std.proofs.Math.Nat.{mul-le-mul_right}
-use Rattle.std.proofs.lemmas.Bool.{cases_lt, lt-ltb, le-leb}
-use Rattle.std.proofs.lemmas.List.{map-id}
-use Rattle.bench_types.specs.declared.entries.Entry.{Entry}
-use Rattle.bench_types.specs.declared.exchanges.Budget.{Budget}
-use Rattle.bench_types.specs.declared.exchanges.Budget.TheVariants.{Entries, Bytes}
-use Rattle.bench_types.specs.declared.exchanges.DigestKind.TheVariants.{Scuttle}
-use Rattle.bench_types.specs.declared.exchanges.Exchange.{Exchange}
-use Rattle.bench_types.specs.declared.exchanges.First.{First}
-use Rattle.bench_types.specs.declared.exchanges.First.TheVariants.{Oldest, Newest}
-use Rattle.bench_types.specs.declared.exchanges.Mode.{Mode}
-use Rattle.bench_types.specs.declared.exchanges.Record.{Record}
-use Rattle.bench_types.specs.declared.exchanges.Rules.{Rules}
-use Rattle.bench_types.specs.Budget.{amount_of, largest_share}
-use Rattle.bench_types.specs.Mode.{digest_kind}
-use Rattle.bench_types.specs.calls.Mode.{first_sent}
-use Rattle.bench_types.proofs.Sums.{sum_below-le}
-use Rattle.model.specs.Deltas.{DeltaView}
-use Rattle.model.specs.Digests.{digest_size}
-use Rattle.model.specs.Exchanged.{last_fate, sent_until}
-use Rattle.model.specs.calls.Exchanging.{MakesOf}
-use Rattle.model.specs.calls.Numbers.{write_numbered}
-use Rattle.model.specs.calls.OwnerListView.{all_writes, list_of_owner, AreWrites}
-use Rattle.model.specs.Table.{applied}
-use Rattle.planes.specs.Planes.{Cells, cell, count_between, most_ahead, number_raised, number_taken, numbers_taken, total_above}
-use Rattle.planes.proofs.Places.{total-same}
-use Rattle.delta_plans.specs.declared.offers.Offer.{Offer}
+use Rattle.version_tables.proofs.Common.{◌≡◌, ℕ, zero, suc, ◌+◌, ◌-◌, ◌*◌, ◌<◌, ◌≤◌, ◌&&◌, true, false, cond, min, max, nat_lt, nat_le, List, length, get_or, map, ◌⊎◌, inl, inr, refl, sym, ap, ◌∙◌, subst, arith, Option, Some, None, and-true, mul-le-mul_right, cases_lt, lt-ltb, le-leb, map-id, Entry, Budget, Entries, Bytes, Scuttle, Exchange, First, Oldest, Newest, Mode, Record, Rules, amount_of, largest_share, digest_kind, first_sent, sum_below-le, DeltaView, digest_size, last_fate, sent_until, MakesOf, write_numbered, all_writes, list_of_owner, AreWrites, applied, Cells, cell, count_between, most_ahead, number_raised, number_taken, numbers_taken, total_above, total-same, Offer, NumbersDiffer, by_first, AreMarked, cells_in, low_in, high_in, weights_in, weight_in, count_in, IsOffer, offered_by, told_by, share_or_none, sum_below-none, whole-size, whole-marked, count-newest, part, part-cases, weight_of-none, weight_of-split, weight_between-most, count_between-most}
 use Rattle.version_tables.specs.Laid.{IsVersionTable}
 use Rattle.version_tables.specs.Views.{VersionTableView, HistoriesView, table_in, IsKept}
 use Rattle.version_tables.specs.inner.Deltas.{delta_of_views, AreMarksOf}
 use Rattle.version_tables.specs.inner.Histories.{bases_in, IsWrittenSoFar, FitsHistories}
-use Rattle.delta_plans.specs.LevelMarks.{NumbersDiffer}
-use Rattle.delta_plans.specs.Firsts.{by_first}
-use Rattle.delta_plans.specs.Marked.{AreMarked}
 use Rattle.version_tables.specs.inner.Offered.{AreLow}
 use Rattle.version_tables.specs.inner.Merged.{HasMerged, IsMerged, MayMerge, MayTakeAll, StaysMerged}
-use Rattle.delta_plans.specs.OfferInMemory.{cells_in, low_in, high_in, weights_in, weight_in, count_in, IsOffer}
-use Rattle.delta_plans.specs.Offers.{offered_by, told_by}
 use Rattle.version_tables.specs.inner.Taken.{number_kept, IsTaken}
-use Rattle.delta_plans.specs.Weights.{share_or_none}
 use Rattle.version_tables.proofs.Clearing.{kept-all, no_start}
-use Rattle.delta_plans.proofs.Columns.{sum_below-none}
 use Rattle.version_tables.proofs.Delivered.{offer-is, delta-marks}
 use Rattle.version_tables.proofs.ExchangedViews.{all_sent_case}
-use Rattle.delta_plans.proofs.MarkedLaws.{whole-size, whole-marked}
-use Rattle.delta_plans.proofs.RoundMarks.{count-newest}
 use Rattle.version_tables.proofs.TakenViews.{becomes_applied, becomes_one}
-use Rattle.delta_plans.proofs.WeightLaws.{part, part-cases, weight_of-none, weight_of-split, weight_between-most, count_between-most}
 
 -- marks that let all through are the high ones, or from the newest on the low ones, beside which are the others
 low-whole : (first : First) (low high : List ℕ) → by_first first low (by_first first high low) ≡ low

@@ -1,17 +1,6 @@
 -- What an owner writes next stands under the number behind all that it wrote, above what its table holds of it.
 -- Serves `write`.
-use Rattle.std.proofs.Common.{◌≡◌, ℕ, zero, suc, ◌+◌, ◌-◌, ◌<◌, ◌≤◌, List, length, Some, inl, inr, sym, ap, ◌∙◌, subst, arith}
-use Rattle.std.specs.Prelude.{slice_index, Contains}
-use Rattle.std.proofs.lemmas.Bool.{cases_lt}
-use Rattle.std.proofs.lemmas.List.{length-append}
-use Rattle.std.proofs.lemmas.Option.{none-some, same_Some}
-use Rattle.bench_types.specs.declared.entries.Entry.{Entry}
-use Rattle.bench_types.specs.Mark.{mark_of, mark_held, IsUpTo}
-use Rattle.model.specs.Table.{Table, entry_at, greatest_mark, greatest_version}
-use Rattle.model.proofs.Greatest.{mark_at-up_to_greatest}
-use Rattle.model.specs.calls.Numbers.{write_from, write_numbered}
-use Rattle.model.specs.calls.OwnerListView.{OwnerListView, AreWrites, entries_of, next_entry}
-use Rattle.planes.specs.Planes.{cell}
+use Rattle.version_tables.proofs.Common.{◌≡◌, ℕ, zero, suc, ◌+◌, ◌-◌, ◌<◌, ◌≤◌, List, length, Some, inl, inr, sym, ap, ◌∙◌, subst, arith, slice_index, Contains, cases_lt, length-append, none-some, same_Some, Entry, mark_of, mark_held, IsUpTo, Table, entry_at, greatest_mark, greatest_version, mark_at-up_to_greatest, write_from, write_numbered, OwnerListView, AreWrites, entries_of, next_entry, cell, numbered-some, write_from-at, write_from-some}
 use Rattle.version_tables.specs.Views.{VersionTableView, table_in, IsKept}
 use Rattle.version_tables.specs.Writes.{IsNextWrite}
 use Rattle.version_tables.specs.inner.Histories.{IsBeginning, IsWriteUnder}
@@ -19,7 +8,6 @@ use Rattle.version_tables.specs.Laid.{IsFirst}
 use Rattle.version_tables.proofs.Fitting.{so-far-upto}
 use Rattle.version_tables.proofs.Generations.{current-at, earlier-at}
 use Rattle.version_tables.proofs.Laid.{has_cells}
-use Rattle.owner_writes.proofs.Numbers.{numbered-some, write_from-at, write_from-some}
 
 module _ (written : ℕ → List Entry) (v : VersionTableView) (kept : IsKept written v) (list : OwnerListView) (are : AreWrites list) (begins : IsBeginning (entries_of list) (written v.node)) (generation : v.generation ≡ list.generation)
     (greatest : greatest_version (table_in written v) v.node ≡ length list.current) (most key value born : ℕ) (under : IsWriteUnder written most v.node (length (entries_of list) + 1) (next_entry list key value born)) where

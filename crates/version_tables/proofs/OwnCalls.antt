@@ -1,24 +1,10 @@
 -- A node's own calls on its table: its numbers lie as those of the table that the model has then.
 -- Serves the functions of `owners` and `tables` and `HistoryCalls`.
-use Rattle.std.proofs.Common.{◌≡◌, ◌≢◌, ℕ, ◌+◌, ◌*◌, ◌<◌, ◌≤◌, ◌==◌, cond, List, length, get_or, set, Some, ◌⊎◌, inl, inr, sym, ap, ◌∙◌, subst, arith}
-use Rattle.std.specs.Prelude.{slice_index}
-use Rattle.std.proofs.Math.Nat.{mul-le-mul_right}
-use Rattle.std.proofs.lemmas.Bool.{cases_lt, cases_eq, eq-eqb, ne_eqb}
-use Rattle.std.proofs.lemmas.List.{get_or-set_same, get_or-set_other, length-set, get_or_past}
-use Rattle.std.proofs.lemmas.Option.{none-some, same_Some}
-use Rattle.bench_types.specs.declared.entries.Entry.{Entry}
-use Rattle.bench_types.specs.declared.limits.TheConstants.{MOST_NODES, LEAST_KEYS, MOST_KEYS}
-use Rattle.model.specs.Table.{Table, entry_at, empty_table, with_own_write, without_others, without_all, IsProper}
-use Rattle.model.proofs.TableLaws.{entry_at-own_write, entry_at-own_write_other, entry_at-without_others_own, entry_at-without_others_other, entry_at-without_all, entry_at-empty_table}
-use Rattle.model.proofs.ProperLaws.{proper-empty_table, proper-with_own_write, proper-without_others, proper-without_all}
-use Rattle.model.specs.calls.Numbers.{write_numbered}
-use Rattle.planes.specs.Planes.{Cells, cell, ArePlanesChanged, HasEach}
-use Rattle.planes.specs.Elementwise.{AreChanged}
+use Rattle.version_tables.proofs.Common.{◌≡◌, ◌≢◌, ℕ, ◌+◌, ◌*◌, ◌<◌, ◌≤◌, ◌==◌, cond, List, length, get_or, set, Some, ◌⊎◌, inl, inr, sym, ap, ◌∙◌, subst, arith, slice_index, mul-le-mul_right, cases_lt, cases_eq, eq-eqb, ne_eqb, get_or-set_same, get_or-set_other, length-set, get_or_past, none-some, same_Some, Entry, MOST_NODES, LEAST_KEYS, MOST_KEYS, Table, entry_at, empty_table, with_own_write, without_others, without_all, IsProper, entry_at-own_write, entry_at-own_write_other, entry_at-without_others_own, entry_at-without_others_other, entry_at-without_all, entry_at-empty_table, proper-empty_table, proper-with_own_write, proper-without_others, proper-without_all, write_numbered, Cells, cell, ArePlanesChanged, HasEach, AreChanged, numbered-within}
 use Rattle.version_tables.specs.Views.{VersionTableView, table_in, IsKept}
 use Rattle.version_tables.specs.Writes.{IsNextWrite, HasOwnWrite}
 use Rattle.version_tables.specs.Laid.{table_of_cells, AreNumbers, IsFirst, IsGreatest, IsVersionTable}
 use Rattle.version_tables.proofs.Laid.{has_cells, cells_table}
-use Rattle.owner_writes.proofs.Numbers.{numbered-within}
 
 -- numbers of which all but an owner's are put to 0
 pub kept-one : (old mid : List ℕ) (owner : ℕ) → owner < length old → AreChanged (λ r x y. y ≡ 0) old mid → AreChanged (λ r x y. y ≡ cond (r == owner) x 0) old (set mid owner (get_or old owner 0))

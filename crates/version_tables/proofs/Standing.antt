@@ -1,20 +1,6 @@
 -- Tables of versions beside the owners' lists so far: what their numbers are.
 -- Serves `cells_of` and `figures`.
-use Rattle.std.proofs.Common.{◌≡◌, ℕ, ◌+◌, ◌*◌, ◌<◌, ◌≤◌, List, [], ◌∷◌, ◌++◌, length, get_or, map, inl, inr, sym, ap, ◌∙◌, subst, arith}
-use Rattle.std.specs.Borrow.{Bor}
-use Rattle.std.proofs.lemmas.Bool.{cases_lt}
-use Rattle.std.proofs.lemmas.List.{get_or-map, get_or_default, get_or_append_left, get_or_at, length-append, length-map, map-append}
-use Rattle.bench_types.specs.declared.entries.Entry.{Entry}
-use Rattle.bench_types.specs.declared.limits.TheConstants.{MOST_NODES, MOST_KEYS}
-use Rattle.model.specs.Table.{Table, entry_at, empty_table}
-use Rattle.model.specs.Tables.{table_of_node, HoldsOfEach}
-use Rattle.model.specs.calls.Tables.{IsCluster}
-use Rattle.model.specs.calls.OwnerListView.{OwnerListView, all_writes, entries_of, list_of_owner, AreWrites}
-use Rattle.model.specs.calls.Numbers.{write_numbered}
-use Rattle.planes.specs.Planes.{cell, HasEach, HasEachPlace}
-use Rattle.round_tables.specs.Histories.{StandsAmong}
-use Rattle.version_lags.specs.Missed.{base_of, IsLastNumber, IsNumberAt}
-use Rattle.version_lags.specs.Pieces.{keys_in, numbers_at, numbers_in, AreNumbersAt, AreNumbersOf, StandTogether}
+use Rattle.version_tables.proofs.Common.{◌≡◌, ℕ, ◌+◌, ◌*◌, ◌<◌, ◌≤◌, List, [], ◌∷◌, ◌++◌, length, get_or, map, inl, inr, sym, ap, ◌∙◌, subst, arith, Bor, cases_lt, get_or-map, get_or_default, get_or_append_left, get_or_at, length-append, length-map, map-append, Entry, MOST_NODES, MOST_KEYS, Table, entry_at, empty_table, table_of_node, HoldsOfEach, IsCluster, OwnerListView, all_writes, entries_of, list_of_owner, AreWrites, write_numbered, cell, HasEach, HasEachPlace, StandsAmong, base_of, IsLastNumber, IsNumberAt, keys_in, numbers_at, numbers_in, AreNumbersAt, AreNumbersOf, StandTogether}
 use Rattle.version_tables.specs.Views.{VersionTableView, table_in, IsKept}
 use Rattle.version_tables.specs.inner.Beside.{tables_of_views, view_at, AreCellsOf, AreCellsUpto, AreLaidAsNumbers}
 use Rattle.version_tables.specs.inner.Histories.{IsWrittenSoFar}

@@ -1,13 +1,7 @@
 -- One owner's numbers once what was sent is taken and what is of older generations is dropped.
 -- Serves `TakenViews`.
-use Rattle.std.proofs.Common.{◌≡◌, ℕ, ◌+◌, ◌<◌, ◌≤◌, ◌&&◌, Bool, true, false, cond, nat_lt, nat_le, List, length, Some, None, ◌⊎◌, inl, inr, refl, sym, ap, ◌∙◌, arith}
-use Rattle.std.proofs.lemmas.Bool.{cases_lt, lt-ltb, le-leb, ltb-true, leb-true, and_parts}
-use Rattle.bench_types.specs.declared.entries.Entry.{Entry}
-use Rattle.model.specs.Table.{Table, entry_at, generation_held, IsProper}
-use Rattle.model.specs.calls.Numbers.{write_numbered}
-use Rattle.owner_writes.specs.Numbered.{IsHistory, IsNumberedHistory, start_before, start_of}
+use Rattle.version_tables.proofs.Common.{◌≡◌, ℕ, ◌+◌, ◌<◌, ◌≤◌, ◌&&◌, Bool, true, false, cond, nat_lt, nat_le, List, length, Some, None, ◌⊎◌, inl, inr, refl, sym, ap, ◌∙◌, arith, cases_lt, lt-ltb, le-leb, ltb-true, leb-true, and_parts, Entry, Table, entry_at, generation_held, IsProper, write_numbered, IsHistory, IsNumberedHistory, start_before, start_of, numbered-some, numbers-up_to}
 use Rattle.version_tables.specs.inner.Taken.{SendsNoNewer, SendsNewer, drop_start, number_kept}
-use Rattle.owner_writes.proofs.Numbers.{numbered-some, numbers-up_to}
 use Rattle.version_tables.proofs.TakenNumbers.{kept-above, kept-none, kept-zero}
 
 -- of a copy, numbers of writes up to where a generation starts are of older ones, and the others aren't

@@ -1,15 +1,6 @@
 -- The cells of a table that has taken a delta hold what the model's table does.
 -- Serves `TakenViews`.
-use Rattle.std.proofs.Common.{◌≡◌, ◌≢◌, ℕ, ◌<◌, Bool, true, false, List, Some, inl, inr, refl, sym, ap, ◌∙◌, subst, arith}
-use Rattle.std.proofs.lemmas.Bool.{both_ways}
-use Rattle.bench_types.specs.declared.entries.Entry.{Entry}
-use Rattle.bench_types.specs.declared.exchanges.Rules.{Rules}
-use Rattle.model.specs.Table.{Table, entry_at, IsProper}
-use Rattle.model.proofs.TableLaws.{frame-applied}
-use Rattle.model.specs.Deltas.{delta_between}
-use Rattle.delta_plans.specs.Offers.{HasCells, AreSent}
-use Rattle.model.specs.calls.Numbers.{write_numbered}
-use Rattle.planes.specs.Planes.{Cells}
+use Rattle.version_tables.proofs.Common.{◌≡◌, ◌≢◌, ℕ, ◌<◌, Bool, true, false, List, Some, inl, inr, refl, sym, ap, ◌∙◌, subst, arith, both_ways, Entry, Rules, Table, entry_at, IsProper, frame-applied, delta_between, HasCells, AreSent, write_numbered, Cells}
 use Rattle.version_tables.specs.inner.Taken.{AreTakenCells}
 use Rattle.version_tables.proofs.TakenEntries.{after, Comes, after-sent, after-kept, after-dropped, came-held}
 

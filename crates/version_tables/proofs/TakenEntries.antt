@@ -1,24 +1,6 @@
 -- The entries that the model's table has once it has taken what another sent it.
 -- Serves `TakenCells` and `TakenViews`.
-use Rattle.std.proofs.Common.{◌≡◌, ◌≢◌, ℕ, ◌<◌, ◌≤◌, List, Some, None, ◌⊎◌, inl, inr, refl, sym, ap, ◌∙◌, subst, arith}
-use Rattle.std.specs.Prelude.{Contains}
-use Rattle.bench_types.specs.declared.entries.Entry.{Entry}
-use Rattle.bench_types.specs.declared.entries.Item.{Item}
-use Rattle.bench_types.specs.declared.entries.Mark.{Mark}
-use Rattle.bench_types.specs.declared.exchanges.DigestKind.{DigestKind}
-use Rattle.bench_types.specs.declared.exchanges.DigestKind.TheVariants.{Scuttle, Precise}
-use Rattle.bench_types.specs.declared.exchanges.Rules.{Rules}
-use Rattle.bench_types.specs.Mark.{mark_of, mark_held, IsBefore, IsUpTo}
-use Rattle.bench_types.specs.Mode.{digest_kind}
-use Rattle.bench_types.proofs.Marks.{up_to-before, not_both}
-use Rattle.model.specs.Table.{Table, entry_at, mark_at, greatest_mark, generation_held, IsProper}
-use Rattle.model.proofs.Greatest.{greatest_mark-from, mark_at-up_to_greatest}
-use Rattle.model.proofs.TableLaws.{entry_at-applied_from, frame-applied}
-use Rattle.model.specs.Deltas.{delta_between}
-use Rattle.model.specs.calls.DeltaLaws.{Lacks}
-use Rattle.model.proofs.Lacking.{candidates-lacked}
-use Rattle.model.proofs.DeltaLaws.{sent-candidate}
-use Rattle.model.proofs.Received.{received, sent-held, received-proper, kept, sent-up_to}
+use Rattle.version_tables.proofs.Common.{◌≡◌, ◌≢◌, ℕ, ◌<◌, ◌≤◌, List, Some, None, ◌⊎◌, inl, inr, refl, sym, ap, ◌∙◌, subst, arith, Contains, Entry, Item, Mark, DigestKind, Scuttle, Precise, Rules, mark_of, mark_held, IsBefore, IsUpTo, digest_kind, up_to-before, not_both, Table, entry_at, mark_at, greatest_mark, generation_held, IsProper, greatest_mark-from, mark_at-up_to_greatest, entry_at-applied_from, frame-applied, delta_between, Lacks, candidates-lacked, sent-candidate, received, sent-held, received-proper, kept, sent-up_to}
 
 -- nothing that a receiver lacks is before what it holds at its place, and no older than its copy
 lacks-at : (kind : DigestKind) (to : Table) (i : Item) → IsProper to → i.entry.key < to.keys → Lacks kind to i → (generation_held to i.owner ≤ i.entry.generation) × IsBefore (mark_at to i.owner i.entry.key) (mark_of i.entry)

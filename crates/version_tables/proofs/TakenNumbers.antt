@@ -1,9 +1,6 @@
 -- One number, taken or not, and kept or dropped; and a table that has taken such numbers.
 -- Serves `take_unless`, `TakenByOwner` and `TakenViews`.
-use Rattle.std.proofs.Common.{◌≡◌, ℕ, ◌<◌, ◌≤◌, ◌&&◌, Bool, true, false, cond, max, nat_lt, nat_le, List, slice_index, inl, inr, refl, sym, ap, ◌∙◌, subst, arith}
-use Rattle.std.proofs.lemmas.Bool.{cases_lt, lt-ltb, le-leb, lt-leb, ltb-true, and_parts, both_ways}
-use Rattle.planes.specs.Planes.{number_taken, ArePlanesChanged, AreRaised, AreTaken, HasEach}
-use Rattle.bench_types.specs.declared.entries.Entry.{Entry}
+use Rattle.version_tables.proofs.Common.{◌≡◌, ℕ, ◌<◌, ◌≤◌, ◌&&◌, Bool, true, false, cond, max, nat_lt, nat_le, List, slice_index, inl, inr, refl, sym, ap, ◌∙◌, subst, arith, cases_lt, lt-ltb, le-leb, lt-leb, ltb-true, and_parts, both_ways, number_taken, ArePlanesChanged, AreRaised, AreTaken, HasEach, Entry}
 use Rattle.version_tables.specs.Views.{VersionTableView}
 use Rattle.version_tables.specs.Laid.{IsVersionTable}
 use Rattle.version_tables.specs.inner.Taken.{drop_start, is_taken, number_kept, IsTaken, HasTaken, HasTakenUnless, StaysOne}

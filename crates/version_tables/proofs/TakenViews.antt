@@ -1,22 +1,10 @@
 -- A table that took a delta by marks is the model's table that took its items.
 -- Serves `ExchangedViews` and `Merged`.
-use Rattle.std.proofs.Common.{◌≡◌, ℕ, ◌<◌, ◌≤◌, Bool, true, false, max, nat_lt, nat_le, List, length, Some, inl, inr, refl, sym, ap, ◌∙◌, subst, arith}
-use Rattle.std.specs.Prelude.{slice_index}
-use Rattle.std.proofs.lemmas.Bool.{le-ltb, ltb-true, and_left, and_parts}
-use Rattle.std.proofs.lemmas.Option.{none-some}
-use Rattle.bench_types.specs.declared.entries.Entry.{Entry}
-use Rattle.bench_types.specs.declared.exchanges.Rules.{Rules}
-use Rattle.model.specs.Table.{Table, applied, IsProper}
-use Rattle.model.proofs.TableLaws.{KeepsFrame, frame-applied}
-use Rattle.model.proofs.Received.{received-proper}
-use Rattle.model.specs.calls.Numbers.{write_numbered}
-use Rattle.model.specs.calls.OwnerListView.{OwnerListView, all_writes, list_of_owner, AreWrites}
-use Rattle.planes.specs.Planes.{Cells, cell, number_taken, numbers_taken}
+use Rattle.version_tables.proofs.Common.{◌≡◌, ℕ, ◌<◌, ◌≤◌, Bool, true, false, max, nat_lt, nat_le, List, length, Some, inl, inr, refl, sym, ap, ◌∙◌, subst, arith, slice_index, le-ltb, ltb-true, and_left, and_parts, none-some, Entry, Rules, Table, applied, IsProper, KeepsFrame, frame-applied, received-proper, write_numbered, OwnerListView, all_writes, list_of_owner, AreWrites, Cells, cell, number_taken, numbers_taken, HasCells, AreSent}
 use Rattle.version_tables.specs.Views.{VersionTableView, HistoriesView, table_in, IsKept}
 use Rattle.version_tables.specs.inner.Deltas.{delta_of_views, is_taken_at}
 use Rattle.version_tables.specs.inner.Histories.{bases_in, IsWrittenSoFar, FitsHistories}
 use Rattle.version_tables.specs.Laid.{table_of_cells, AreNumbers, IsFirst, IsVersionTable}
-use Rattle.delta_plans.specs.Offers.{HasCells, AreSent}
 use Rattle.version_tables.specs.inner.Taken.{is_taken, SendsNewer, AreTakenCells, IsTaken}
 use Rattle.version_tables.proofs.Fitting.{fits-upto, fits-cells}
 use Rattle.version_tables.proofs.Generations.{current-at, generation-upto}

@@ -1,26 +1,7 @@
 -- What a digest tells, by numbers: which of the sender's writes the receiver lacks.
 -- Serves `Delivered`.
-use Rattle.std.proofs.Common.{◌≡◌, ℕ, ◌-◌, ◌<◌, ◌≤◌, max, true, false, cond, not, List, length, Option, Some, None, inl, inr, refl, sym, ap, ◌∙◌, subst, arith}
-use Rattle.std.specs.Prelude.{◌≢◌, nat_lt, ◌&&◌}
-use Rattle.std.proofs.lemmas.Bool.{cases_lt, cases_eq, lt-ltb, le-ltb, eq-eqb, ne_eqb}
-use Rattle.bench_types.specs.declared.entries.Entry.{Entry}
-use Rattle.bench_types.specs.declared.entries.Item.{Item}
-use Rattle.bench_types.specs.declared.entries.Mark.{Mark}
-use Rattle.bench_types.specs.declared.exchanges.Mode.{Mode}
-use Rattle.bench_types.specs.declared.exchanges.DigestKind.{DigestKind}
-use Rattle.bench_types.specs.declared.exchanges.DigestKind.TheVariants.{Scuttle, Precise}
-use Rattle.bench_types.specs.Mark.{mark_of, mark_held, is_before, IsUpTo}
-use Rattle.bench_types.specs.Mode.{digest_kind}
-use Rattle.bench_types.proofs.Marks.{before-yes, before-no, absent-first}
-use Rattle.model.specs.Table.{Table, mark_at, greatest_mark, generation_held, IsProper}
-use Rattle.model.proofs.Greatest.{greatest_mark-unique}
-use Rattle.model.specs.Candidates.{known_mark}
-use Rattle.model.specs.calls.Numbers.{write_numbered}
-use Rattle.planes.specs.Planes.{Cells, number_ahead}
-use Rattle.owner_writes.specs.Numbered.{IsHistory, IsNumberedHistory, start_before, start_of}
-use Rattle.delta_plans.specs.Offers.{HasCells, Offers, is_lacked, told_by, offered_by}
+use Rattle.version_tables.proofs.Common.{◌≡◌, ℕ, ◌-◌, ◌<◌, ◌≤◌, max, true, false, cond, not, List, length, Option, Some, None, inl, inr, refl, sym, ap, ◌∙◌, subst, arith, ◌≢◌, nat_lt, ◌&&◌, cases_lt, cases_eq, lt-ltb, le-ltb, eq-eqb, ne_eqb, Entry, Item, Mark, Mode, DigestKind, Scuttle, Precise, mark_of, mark_held, is_before, IsUpTo, digest_kind, before-yes, before-no, absent-first, Table, mark_at, greatest_mark, generation_held, IsProper, greatest_mark-unique, known_mark, write_numbered, Cells, number_ahead, IsHistory, IsNumberedHistory, start_before, start_of, HasCells, Offers, is_lacked, told_by, offered_by, numbers-before, numbered-none, numbered-some, numbered-within, numbers-up_to, numbers-compare}
 use Rattle.version_tables.specs.Laid.{AreNumbers, IsGreatest}
-use Rattle.owner_writes.proofs.Numbers.{numbers-before, numbered-none, numbered-some, numbered-within, numbers-up_to, numbers-compare}
 
 module _ (lists : ℕ → List Entry) (histories : (owner : ℕ) → IsHistory (lists owner)) (numbered : (owner : ℕ) → IsNumberedHistory (lists owner))
     (to : Table) (proper : IsProper to) (receiver : Cells) (has : HasCells lists receiver to) (are : AreNumbers lists to.nodes to.keys receiver)

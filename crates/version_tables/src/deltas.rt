@@ -4,7 +4,7 @@ ghost use Rattle.std.specs.Prelude.{◌≡◌, ◌<◌, length, map, IfOk, IsOkU
 ghost use Rattle.bench_types.specs.declared.exchanges.DigestKind.TheVariants.{Precise};
 ghost use Rattle.bench_types.specs.declared.faults.Fault.TheVariants.{OutOfMemory};
 ghost use Rattle.bench_types.specs.Mode.{digest_kind};
-ghost use Rattle.bench_types.specs.calls.Mode.{first_sent};
+ghost use Rattle.delta_plans.specs.LevelMarks.{first_sent};
 ghost use Rattle.version_tables.specs.Views.{table_in, IsKept};
 ghost use Rattle.version_tables.specs.inner.Deltas.{AreMarksOf, MaySend};
 ghost use Rattle.version_tables.specs.inner.Histories.{FitsHistories};
@@ -13,8 +13,8 @@ ghost use Rattle.version_tables.specs.inner.Offered.{AreAhead, AreTold, IsOffere
 
 use crate::histories::Histories;
 use crate::tables::{VersionTable, Written};
-use bench_types::{DigestKind, Fault, First, Rules};
-use delta_plans::{Marked, Offer, Owners, planned, told};
+use bench_types::{DigestKind, Fault, Rules};
+use delta_plans::{First, Marked, Offer, Owners, planned, told};
 use model::DeltaCounts;
 use planes::{Masked, Number};
 use std::alloc::Global;
@@ -54,7 +54,7 @@ pub(crate) fn delta<N: Number, H: Written>(
     let ahead = ahead_of(alloc, sender, receiver, kind, &low)?;
     let offered = either(sender, receiver, kind, &low, &ahead);
     let marked = marks_sent(alloc, sender, receiver, offered, histories, rules, rotation)?;
-    let marks = marks_of(alloc, rules.mode.first(), low, sender.greatest(), marked)?;
+    let marks = marks_of(alloc, First::of(rules.mode), low, sender.greatest(), marked)?;
     Ok(marks)
 }
 

@@ -1,4 +1,4 @@
-use Rattle.std.proofs.Common.{◌≡◌, ℕ, ◌+◌, ◌<◌, length, sym, ap, ◌∙◌, subst, arith}
+use Rattle.delta_plans.proofs.Common.{◌≡◌, ℕ, ◌+◌, ◌<◌, length, sym, ap, ◌∙◌, subst, arith}
 use Rattle.delta_plans.specs.OfferInMemory.{cells_in, low_in, marks, count_in}
 use Rattle.delta_plans.specs.Plans.{AreLayersSoFar, IsNextMark, raised}
 use Rattle.delta_plans.proofs.LayerSteps.{layers-first, layers-count, layers-upto, layers-more, layers-next, layers-far, layers-farther, smaller_by}

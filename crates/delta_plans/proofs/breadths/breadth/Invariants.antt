@@ -1,4 +1,4 @@
-use Rattle.std.proofs.Common.{◌≡◌, ◌-◌, length}
+use Rattle.delta_plans.proofs.Common.{◌≡◌, ◌-◌, length}
 use Rattle.delta_plans.specs.OfferInMemory.{marks, count_in}
 use Rattle.delta_plans.specs.Plans.{AreLayersSoFar}
 use Rattle.delta_plans.proofs.breadths.breadth.Given as goal

@@ -1,8 +1,4 @@
-use Rattle.std.proofs.Common.{nat_lt, get_or, length, map, sym, ap, subst, ◌∙◌, arith, if◌then◌else◌}
-use Rattle.std.proofs.lemmas.List.{length-map, with_items_is}
-use Rattle.planes.specs.Planes.{HasEach, IsNextAbove}
-use Rattle.planes.proofs.Elementwise.{number-at}
-use Rattle.planes.proofs.Places.{each-next}
+use Rattle.delta_plans.proofs.Common.{nat_lt, get_or, length, map, sym, ap, subst, ◌∙◌, arith, if◌then◌else◌, length-map, with_items_is, HasEach, IsNextAbove, number-at, each-next}
 use Rattle.delta_plans.specs.OfferInMemory.{cells_in, marks}
 use Rattle.delta_plans.specs.Plans.{raised, IsNextMark}
 use Rattle.delta_plans.proofs.LayerSteps.{next-mark, steps-raised}

@@ -1,7 +1,4 @@
-use Rattle.std.proofs.Common.{◌≡◌, ℕ, ◌+◌, ◌-◌, ◌≤◌, ◌<◌, length, get_or, map, sym, ap, ◌∙◌, subst, arith}
-use Rattle.std.proofs.lemmas.List.{length-map}
-use Rattle.bench_types.specs.declared.limits.TheConstants.{MOST_KEYS}
-use Rattle.planes.specs.Planes.{HasEach}
+use Rattle.delta_plans.proofs.Common.{◌≡◌, ℕ, ◌+◌, ◌-◌, ◌≤◌, ◌<◌, length, get_or, map, sym, ap, ◌∙◌, subst, arith, length-map, MOST_KEYS, HasEach}
 use Rattle.delta_plans.specs.OfferInMemory.{low_in, marks, count_in, owner_count_in}
 use Rattle.delta_plans.specs.Plans.{AreRunsSoFar, AreNextRuns}
 use Rattle.delta_plans.proofs.OfferWeights.{offer-few, offer-fits, offer-cut}

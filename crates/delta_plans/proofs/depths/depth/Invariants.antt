@@ -1,5 +1,4 @@
-use Rattle.std.proofs.Common.{◌≡◌, ◌≤◌, length}
-use Rattle.bench_types.specs.declared.limits.TheConstants.{MOST_KEYS}
+use Rattle.delta_plans.proofs.Common.{◌≡◌, ◌≤◌, length, MOST_KEYS}
 use Rattle.delta_plans.specs.OfferInMemory.{marks}
 use Rattle.delta_plans.specs.Plans.{AreRunsSoFar}
 use Rattle.delta_plans.proofs.depths.depth.Given as goal

@@ -1,6 +1,4 @@
-use Rattle.std.proofs.Common.{◌≤◌, get_or, map, inl, inr, subst, arith}
-use Rattle.std.proofs.lemmas.Bool.{cases_lt}
-use Rattle.planes.proofs.Elementwise.{number-at}
+use Rattle.delta_plans.proofs.Common.{◌≤◌, get_or, map, inl, inr, subst, arith, cases_lt, number-at}
 use Rattle.delta_plans.proofs.depths.greatest_of.Goals as goal
 
 pub loop-r-preserved : goal.loop-r-preserved

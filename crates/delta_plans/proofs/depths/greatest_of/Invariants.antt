@@ -1,5 +1,4 @@
-use Rattle.std.proofs.Common.{ℕ, ◌<◌, ◌≤◌, slice_index, map}
-use Rattle.bench_types.specs.declared.limits.TheConstants.{MOST_KEYS}
+use Rattle.delta_plans.proofs.Common.{ℕ, ◌<◌, ◌≤◌, slice_index, map, MOST_KEYS}
 use Rattle.delta_plans.proofs.depths.greatest_of.Given as goal
 
 abbrev pub invariant-loop-r : goal.invariant-loop-r

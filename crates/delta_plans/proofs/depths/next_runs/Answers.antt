@@ -1,10 +1,4 @@
-use Rattle.std.proofs.Common.{◌≡◌, ◌≤◌, eqb, get_or, length, map, ap, ◌∙◌, arith, if◌then◌else◌}
-use Rattle.std.specs.Vec.{with_items}
-use Rattle.std.proofs.lemmas.List.{length-map, with_items_is}
-use Rattle.std.proofs.Math.Nat.{mul-le-mul_left, mul-le-mul_right}
-use Rattle.bench_types.specs.declared.limits.TheConstants.{MOST_NODES}
-use Rattle.planes.proofs.Counts.{count_le}
-use Rattle.planes.proofs.Elementwise.{number-at}
+use Rattle.delta_plans.proofs.Common.{◌≡◌, ◌≤◌, eqb, get_or, length, map, ap, ◌∙◌, arith, if◌then◌else◌, with_items, length-map, with_items_is, mul-le-mul_left, mul-le-mul_right, MOST_NODES, count_le, number-at}
 use Rattle.delta_plans.proofs.Nodes.{count_fits, counted_none, counted_next, counted_all}
 use Rattle.delta_plans.proofs.RunSteps.{next-count, next-marked, next-more}
 use Rattle.delta_plans.proofs.depths.next_runs.Goals as goal

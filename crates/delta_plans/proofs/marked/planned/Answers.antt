@@ -1,6 +1,4 @@
-use Rattle.std.proofs.Common.{map, inl, inr, sym, ap, ◌∙◌, subst, arith}
-use Rattle.std.proofs.lemmas.Bool.{cases_lt, both_ways}
-use Rattle.bench_types.specs.Budget.{amount_of}
+use Rattle.delta_plans.proofs.Common.{map, inl, inr, sym, ap, ◌∙◌, subst, arith, cases_lt, both_ways, amount_of}
 use Rattle.delta_plans.specs.Firsts.{by_first}
 use Rattle.delta_plans.specs.OfferInMemory.{marks, weight_in}
 use Rattle.delta_plans.specs.Plans.{IsLevel}

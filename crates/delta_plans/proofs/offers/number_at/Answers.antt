@@ -1,4 +1,4 @@
-use Rattle.planes.proofs.Elementwise.{number-at}
+use Rattle.delta_plans.proofs.Common.{number-at}
 use Rattle.delta_plans.proofs.offers.number_at.Goals as goal
 
 pub returns : goal.returns

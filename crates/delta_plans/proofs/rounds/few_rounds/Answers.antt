@@ -1,7 +1,4 @@
-use Rattle.std.proofs.Common.{◌≡◌, ℕ, ◌+◌, ◌<◌, get_or, length, map, inl, inr, sym, ap, subst, ◌∙◌, arith}
-use Rattle.std.proofs.lemmas.List.{length-map}
-use Rattle.std.proofs.lemmas.Bool.{cases_lt, both_ways}
-use Rattle.bench_types.specs.Budget.{amount_of}
+use Rattle.delta_plans.proofs.Common.{◌≡◌, ℕ, ◌+◌, ◌<◌, get_or, length, map, inl, inr, sym, ap, subst, ◌∙◌, arith, length-map, cases_lt, both_ways, amount_of}
 use Rattle.delta_plans.specs.OfferInMemory.{marks}
 use Rattle.delta_plans.specs.Plans.{weight_on}
 use Rattle.delta_plans.specs.RoundLevels.{round_mark, AreFewAndEnough}

@@ -1,4 +1,4 @@
-use Rattle.std.proofs.Common.{◌-◌, ◌<◌, map}
+use Rattle.delta_plans.proofs.Common.{◌-◌, ◌<◌, map}
 use Rattle.delta_plans.specs.OfferInMemory.{marks}
 use Rattle.delta_plans.specs.RoundLevels.{round_mark, AreFewAndEnough}
 use Rattle.delta_plans.proofs.rounds.few_rounds.Given as goal

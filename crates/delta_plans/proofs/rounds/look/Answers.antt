@@ -1,6 +1,4 @@
-use Rattle.std.proofs.Common.{◌≡◌, ◌-◌, ◌≤◌, sym, ◌∙◌, subst, arith}
-use Rattle.std.specs.Prelude.{◌↔◌, IsTrue}
-use Rattle.bench_types.specs.Budget.{amount_of}
+use Rattle.delta_plans.proofs.Common.{◌≡◌, ◌-◌, ◌≤◌, sym, ◌∙◌, subst, arith, ◌↔◌, IsTrue, amount_of}
 use Rattle.delta_plans.specs.OfferInMemory.{marks}
 use Rattle.delta_plans.specs.Plans.{count_on, weight_on}
 use Rattle.delta_plans.proofs.RoundMarks.{count-newest, count-oldest}

@@ -1,7 +1,4 @@
-use Rattle.std.proofs.Common.{◌≡◌, length, map, max, get_or, ap, sym, subst, ◌∙◌, arith}
-use Rattle.std.specs.Vec.{with_items}
-use Rattle.std.proofs.lemmas.List.{length-map, with_items_is}
-use Rattle.planes.specs.Planes.{HasEach}
+use Rattle.delta_plans.proofs.Common.{◌≡◌, length, map, max, get_or, ap, sym, subst, ◌∙◌, arith, with_items, length-map, with_items_is, HasEach}
 use Rattle.delta_plans.specs.OfferInMemory.{marks}
 use Rattle.delta_plans.specs.RoundLevels.{round_at, end_mark}
 use Rattle.delta_plans.proofs.rounds.mark_after.Goals as goal

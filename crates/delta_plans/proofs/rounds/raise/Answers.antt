@@ -1,6 +1,4 @@
-use Rattle.std.proofs.Common.{max, ◌∙◌, arith, map}
-use Rattle.std.proofs.lemmas.List.{length-map}
-use Rattle.planes.proofs.Elementwise.{number-at, written_next}
+use Rattle.delta_plans.proofs.Common.{max, ◌∙◌, arith, map, length-map, number-at, written_next}
 use Rattle.delta_plans.proofs.rounds.raise.Goals as goal
 
 pub loop-r-preserved : goal.loop-r-preserved

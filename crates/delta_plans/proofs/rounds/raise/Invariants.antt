@@ -1,5 +1,4 @@
-use Rattle.std.proofs.Common.{◌≡◌, max, slice_index, map}
-use Rattle.planes.specs.Elementwise.{AreChangedUpto}
+use Rattle.delta_plans.proofs.Common.{◌≡◌, max, slice_index, map, AreChangedUpto}
 use Rattle.delta_plans.proofs.rounds.raise.Given as goal
 
 abbrev pub invariant-loop-r : goal.invariant-loop-r

@@ -1,4 +1,4 @@
-use Rattle.std.proofs.Common.{refl, map, arith}
+use Rattle.delta_plans.proofs.Common.{refl, map, arith}
 use Rattle.delta_plans.proofs.RoundMarks.{rounds-level, rounds-parts}
 use Rattle.delta_plans.proofs.rounds.rounds.Goals as goal
 

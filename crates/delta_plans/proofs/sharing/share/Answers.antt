@@ -1,5 +1,4 @@
-use Rattle.std.proofs.Common.{length, map, inl, ap, sym, subst, ◌∙◌}
-use Rattle.std.proofs.lemmas.List.{with_items_is}
+use Rattle.delta_plans.proofs.Common.{length, map, inl, ap, sym, subst, ◌∙◌, with_items_is}
 use Rattle.delta_plans.specs.OfferInMemory.{marks}
 use Rattle.delta_plans.specs.Sharing.{AreShared}
 use Rattle.delta_plans.specs.Turns.{AreKnownCounts}

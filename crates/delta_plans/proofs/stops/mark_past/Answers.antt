@@ -1,4 +1,4 @@
-use Rattle.std.proofs.Common.{refl, sym, subst, arith}
+use Rattle.delta_plans.proofs.Common.{refl, sym, subst, arith}
 use Rattle.delta_plans.specs.Stops.{IsPast}
 use Rattle.delta_plans.proofs.stops.mark_past.Goals as goal
 

@@ -1,8 +1,4 @@
-use Rattle.std.proofs.Common.{◌<◌, length, get_or, sym, ◌∙◌, subst, arith, map}
-use Rattle.std.proofs.lemmas.List.{length-map}
-use Rattle.model.specs.calls.OwnerListView.{entries_of, list_of_owner}
-use Rattle.owner_writes.specs.Numbered.{start_of}
-use Rattle.planes.proofs.Elementwise.{number-at, written_next}
+use Rattle.delta_plans.proofs.Common.{◌<◌, length, get_or, sym, ◌∙◌, subst, arith, map, length-map, entries_of, list_of_owner, start_of, number-at, written_next}
 use Rattle.delta_plans.specs.Told.{IsKnown}
 use Rattle.delta_plans.proofs.Starts.{list-here, none-upto, start-lower}
 use Rattle.delta_plans.proofs.told_marks.put_starts.Goals as goal

@@ -1,7 +1,4 @@
-use Rattle.std.proofs.Common.{◌≡◌, map}
-use Rattle.model.specs.calls.OwnerListView.{all_writes}
-use Rattle.owner_writes.specs.Numbered.{start_of}
-use Rattle.planes.specs.Elementwise.{AreChangedUpto}
+use Rattle.delta_plans.proofs.Common.{◌≡◌, map, all_writes, start_of, AreChangedUpto}
 use Rattle.delta_plans.proofs.told_marks.put_starts.Given as goal
 
 abbrev pub invariant-loop-r : goal.invariant-loop-r

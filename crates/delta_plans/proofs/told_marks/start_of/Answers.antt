@@ -1,5 +1,4 @@
-use Rattle.std.proofs.Common.{◌<◌, sym, ◌∙◌, arith}
-use Rattle.std.proofs.lemmas.Bool.{ltb-true}
+use Rattle.delta_plans.proofs.Common.{◌<◌, sym, ◌∙◌, arith, ltb-true}
 use Rattle.delta_plans.proofs.Starts.{start-own}
 use Rattle.delta_plans.proofs.told_marks.start_of.Goals as goal
 

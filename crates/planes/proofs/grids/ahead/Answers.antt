@@ -1,5 +1,4 @@
-use Rattle.std.proofs.Common.{◌≡◌, map, sym, subst, ◌∙◌}
-use Rattle.std.proofs.lemmas.List.{with_items_is}
+use Rattle.planes.proofs.Common.{◌≡◌, map, sym, subst, ◌∙◌, with_items_is}
 use Rattle.planes.specs.Planes.{cell, total_above}
 use Rattle.planes.proofs.Places.{total-kept}
 use Rattle.planes.proofs.grids.ahead.Goals as goal

@@ -1,4 +1,4 @@
-use Rattle.std.proofs.Common.{◌≡◌, ◌-◌, ◌≤◌, length, take}
+use Rattle.planes.proofs.Common.{◌≡◌, ◌-◌, ◌≤◌, length, take}
 use Rattle.planes.proofs.grids.copied.Given as goal
 
 abbrev pub invariant-loop-start : goal.invariant-loop-start

@@ -1,5 +1,4 @@
-use Rattle.std.proofs.Common.{◌≡◌, ℕ, ◌<◌, nat_lt, slice_index, sym, subst, ◌∙◌, arith, map, if◌then◌else◌}
-use Rattle.std.proofs.lemmas.List.{with_items_is, length-map}
+use Rattle.planes.proofs.Common.{◌≡◌, ℕ, ◌<◌, nat_lt, slice_index, sym, subst, ◌∙◌, arith, map, if◌then◌else◌, with_items_is, length-map}
 use Rattle.planes.specs.Planes.{cell, count_above, HasEach}
 use Rattle.planes.proofs.Counts.{count_le, number_next}
 use Rattle.planes.proofs.Elementwise.{made-more}

@@ -1,4 +1,4 @@
-use Rattle.std.proofs.Common.{◌≡◌, slice_index, map}
+use Rattle.planes.proofs.Common.{◌≡◌, slice_index, map}
 use Rattle.planes.specs.Planes.{cell, count_above, HasEach}
 use Rattle.planes.proofs.grids.counts_above.Given as goal
 

@@ -1,6 +1,4 @@
-use Rattle.std.proofs.Common.{◌≡◌, ℕ, ◌+◌, ◌*◌, ◌-◌, ◌≤◌, nat_lt, max, slice_index, refl, ◌∙◌, arith, map, List, length, take, drop, if◌then◌else◌}
-use Rattle.std.proofs.lemmas.List.{length-map, length-take-le, length-drop}
-use Rattle.bench_types.specs.Sums.{sum_below}
+use Rattle.planes.proofs.Common.{◌≡◌, ℕ, ◌+◌, ◌*◌, ◌-◌, ◌≤◌, nat_lt, max, slice_index, refl, ◌∙◌, arith, map, List, length, take, drop, if◌then◌else◌, length-map, length-take-le, length-drop, sum_below}
 use Rattle.planes.specs.Elementwise.{AreChanged}
 use Rattle.planes.specs.inner.Counting.{count_passing}
 use Rattle.planes.specs.Planes.{cell, number_ahead}

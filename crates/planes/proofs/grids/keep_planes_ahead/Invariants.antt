@@ -1,5 +1,4 @@
-use Rattle.std.proofs.Common.{◌≡◌, nat_lt, max, slice_index, map, if◌then◌else◌}
-use Rattle.bench_types.specs.Sums.{sum_below}
+use Rattle.planes.proofs.Common.{◌≡◌, nat_lt, max, slice_index, map, if◌then◌else◌, sum_below}
 use Rattle.planes.specs.Planes.{cell, number_ahead, ArePlanesChangedUpto}
 use Rattle.planes.proofs.grids.keep_planes_ahead.Given as goal
 

@@ -1,4 +1,4 @@
-use Rattle.std.proofs.Common.{◌+◌, ◌*◌, ◌-◌, arith}
+use Rattle.planes.proofs.Common.{◌+◌, ◌*◌, ◌-◌, arith}
 use Rattle.planes.proofs.Places.{plane-cells}
 use Rattle.planes.proofs.grids.plane_of.Goals as goal
 

@@ -1,4 +1,4 @@
-use Rattle.std.proofs.Common.{◌≡◌, slice_index, map}
+use Rattle.planes.proofs.Common.{◌≡◌, slice_index, map}
 use Rattle.planes.specs.Planes.{cell, number_taken, numbers_taken, ArePlanesChangedUpto, HasEach, IsRaised}
 use Rattle.planes.proofs.grids.take.Given as goal
 

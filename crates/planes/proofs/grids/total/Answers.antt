@@ -1,5 +1,4 @@
-use Rattle.std.proofs.Common.{◌≡◌, sym, ◌∙◌, ap, arith, length, map}
-use Rattle.std.proofs.lemmas.List.{length-map}
+use Rattle.planes.proofs.Common.{◌≡◌, sym, ◌∙◌, ap, arith, length, map, length-map}
 use Rattle.planes.specs.Planes.{cell}
 use Rattle.planes.proofs.Counts.{sum_next}
 use Rattle.planes.proofs.Places.{plane_count, total_whole}

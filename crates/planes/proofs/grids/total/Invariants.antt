@@ -1,5 +1,4 @@
-use Rattle.std.proofs.Common.{◌≡◌, ℕ, ◌*◌, ◌≤◌, Bool, map, if◌then◌else◌}
-use Rattle.bench_types.specs.Sums.{sum_below}
+use Rattle.planes.proofs.Common.{◌≡◌, ℕ, ◌*◌, ◌≤◌, Bool, map, if◌then◌else◌, sum_below}
 use Rattle.planes.specs.Planes.{cell}
 use Rattle.planes.specs.inner.Answering.{AnswersAs}
 use Rattle.planes.proofs.grids.total.Given as goal

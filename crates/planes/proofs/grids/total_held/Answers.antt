@@ -1,4 +1,4 @@
-use Rattle.std.proofs.Common.{rules, nat_lt}
+use Rattle.planes.proofs.Common.{rules, nat_lt}
 use Rattle.planes.proofs.grids.total_held.Goals as goal
 
 pub returns : goal.returns

@@ -1,4 +1,4 @@
-use Rattle.std.proofs.Common.{rules, ◌&&◌, nat_lt, nat_le, slice_index, map}
+use Rattle.planes.proofs.Common.{rules, ◌&&◌, nat_lt, nat_le, slice_index, map}
 use Rattle.planes.proofs.Elementwise.{number-at}
 use Rattle.planes.proofs.grids.total_upto.Goals as goal
 

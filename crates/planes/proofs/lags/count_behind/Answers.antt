@@ -1,6 +1,4 @@
-use Rattle.std.proofs.Common.{◌≡◌, ℕ, ◌+◌, ◌*◌, ◌-◌, min, nat_lt, slice_index, refl, sym, ap, ◌∙◌, arith, map, List, length, take, drop, if◌then◌else◌}
-use Rattle.std.proofs.lemmas.List.{length-map}
-use Rattle.bench_types.specs.Sums.{sum_below}
+use Rattle.planes.proofs.Common.{◌≡◌, ℕ, ◌+◌, ◌*◌, ◌-◌, min, nat_lt, slice_index, refl, sym, ap, ◌∙◌, arith, map, List, length, take, drop, if◌then◌else◌, length-map, sum_below}
 use Rattle.planes.specs.Elementwise.{AreChanged}
 use Rattle.planes.specs.inner.Counting.{count_less}
 use Rattle.planes.specs.Planes.{cell}

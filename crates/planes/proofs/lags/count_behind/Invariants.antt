@@ -1,5 +1,4 @@
-use Rattle.std.proofs.Common.{◌≡◌, min, nat_lt, map, if◌then◌else◌}
-use Rattle.bench_types.specs.Sums.{sum_below}
+use Rattle.planes.proofs.Common.{◌≡◌, min, nat_lt, map, if◌then◌else◌, sum_below}
 use Rattle.planes.specs.Planes.{cell, ArePlanesChangedUpto}
 use Rattle.planes.proofs.lags.count_behind.Given as goal
 

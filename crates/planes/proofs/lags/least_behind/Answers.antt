@@ -1,5 +1,4 @@
-use Rattle.std.proofs.Common.{◌≡◌, nat_lt, sym, subst, ◌∙◌, map, if◌then◌else◌}
-use Rattle.std.proofs.lemmas.List.{with_items_is}
+use Rattle.planes.proofs.Common.{◌≡◌, nat_lt, sym, subst, ◌∙◌, map, if◌then◌else◌, with_items_is}
 use Rattle.planes.specs.inner.Answering.{IsLowered}
 use Rattle.planes.specs.Planes.{cell, HasEach}
 use Rattle.planes.specs.Lags.{IsLeastBehind}

@@ -1,5 +1,4 @@
-use Rattle.std.proofs.Common.{◌<◌, min, slice_index, arith, length, map, rules}
-use Rattle.std.proofs.lemmas.List.{length-map}
+use Rattle.planes.proofs.Common.{◌<◌, min, slice_index, arith, length, map, rules, length-map}
 use Rattle.planes.proofs.Elementwise.{made-as, number-at}
 use Rattle.planes.proofs.lags.lower.Goals as goal
 

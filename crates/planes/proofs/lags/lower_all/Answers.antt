@@ -1,5 +1,4 @@
-use Rattle.std.proofs.Common.{◌+◌, ◌*◌, ◌-◌, min, ap, ◌∙◌, arith, map, length}
-use Rattle.std.proofs.lemmas.List.{length-map}
+use Rattle.planes.proofs.Common.{◌+◌, ◌*◌, ◌-◌, min, ap, ◌∙◌, arith, map, length, length-map}
 use Rattle.planes.proofs.Places.{plane-within, planes-none, planes-written, planes-all}
 use Rattle.planes.proofs.lags.lower_all.Goals as goal
 

@@ -1,4 +1,4 @@
-use Rattle.std.proofs.Common.{◌≡◌, min, map}
+use Rattle.planes.proofs.Common.{◌≡◌, min, map}
 use Rattle.planes.specs.Planes.{cell, ArePlanesChangedUpto}
 use Rattle.planes.proofs.lags.lower_all.Given as goal
 

@@ -1,5 +1,4 @@
-use Rattle.std.proofs.Common.{refl, arith, ◌∙◌, length, map}
-use Rattle.std.proofs.lemmas.List.{length-map}
+use Rattle.planes.proofs.Common.{refl, arith, ◌∙◌, length, map, length-map}
 use Rattle.planes.proofs.Elementwise.{changed_none, changed_all}
 use Rattle.planes.proofs.Counts.{part_added, part_end}
 use Rattle.planes.proofs.merges.merge_planes.Goals as goal

@@ -1,4 +1,4 @@
-use Rattle.std.proofs.Common.{◌≡◌, ◌-◌, ◌≤◌, length, nat_lt, slice_index, map}
+use Rattle.planes.proofs.Common.{◌≡◌, ◌-◌, ◌≤◌, length, nat_lt, slice_index, map}
 use Rattle.planes.specs.Elementwise.{AreChangedUpto}
 use Rattle.planes.specs.inner.Counting.{count_passing}
 use Rattle.planes.specs.Planes.{number_raised}

@@ -1,4 +1,4 @@
-use Rattle.std.proofs.Common.{◌≡◌, ℕ, ◌+◌, ◌≤◌, List, nat_lt, slice_index, map}
+use Rattle.planes.proofs.Common.{◌≡◌, ℕ, ◌+◌, ◌≤◌, List, nat_lt, slice_index, map}
 use Rattle.planes.specs.Elementwise.{AreChangedUpto}
 use Rattle.planes.specs.inner.Counting.{IsPartDone}
 use Rattle.planes.specs.Planes.{number_raised}

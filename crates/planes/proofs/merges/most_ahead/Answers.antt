@@ -1,4 +1,4 @@
-use Rattle.std.proofs.Common.{◌-◌, min, ◌∙◌, arith, length}
+use Rattle.planes.proofs.Common.{◌-◌, min, ◌∙◌, arith, length}
 use Rattle.planes.proofs.Elementwise.{number-at}
 use Rattle.planes.proofs.Counts.{sum_next, sum_whole}
 use Rattle.planes.proofs.Leads.{lead-fits}

@@ -1,5 +1,4 @@
-use Rattle.std.proofs.Common.{◌≡◌, ◌-◌, min, slice_index, map}
-use Rattle.bench_types.specs.Sums.{sum_below}
+use Rattle.planes.proofs.Common.{◌≡◌, ◌-◌, min, slice_index, map, sum_below}
 use Rattle.planes.proofs.merges.most_ahead.Given as goal
 
 abbrev pub invariant-loop-r : goal.invariant-loop-r

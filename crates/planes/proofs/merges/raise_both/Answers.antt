@@ -1,5 +1,4 @@
-use Rattle.std.proofs.Common.{max, ◌∙◌, arith, map}
-use Rattle.std.proofs.lemmas.List.{length-map}
+use Rattle.planes.proofs.Common.{max, ◌∙◌, arith, map, length-map}
 use Rattle.planes.proofs.Elementwise.{number-waits, changed_none, changed_all, written_next}
 use Rattle.planes.proofs.merges.raise_both.Goals as goal
 

@@ -1,4 +1,4 @@
-use Rattle.std.proofs.Common.{◌≡◌, map}
+use Rattle.planes.proofs.Common.{◌≡◌, map}
 use Rattle.planes.specs.Planes.{cell, count_above}
 use Rattle.planes.proofs.owners.owner_above.Given as goal
 

@@ -1,6 +1,4 @@
-use Rattle.std.proofs.Common.{ℕ, ◌+◌, ◌≤◌, slice_index, sym, subst, ◌∙◌, arith, map}
-use Rattle.std.proofs.lemmas.Bool.{ltb-false}
-use Rattle.std.proofs.lemmas.List.{length-map}
+use Rattle.planes.proofs.Common.{ℕ, ◌+◌, ◌≤◌, slice_index, sym, subst, ◌∙◌, arith, map, ltb-false, length-map}
 use Rattle.planes.specs.Elementwise.{AreChangedUpto}
 use Rattle.planes.specs.Planes.{cell, number_taken, numbers_taken, ArePlanesChanged, IsRaised}
 use Rattle.planes.proofs.Elementwise.{changed_none, number-at, left_next, written_next}

@@ -1,5 +1,4 @@
-use Rattle.std.proofs.Common.{refl, arith, map}
-use Rattle.std.proofs.lemmas.List.{length-map}
+use Rattle.planes.proofs.Common.{refl, arith, map, length-map}
 use Rattle.planes.proofs.Elementwise.{number-waits, changed_none, changed_all, written_next}
 use Rattle.planes.proofs.planes.change.Goals as goal
 

@@ -1,4 +1,4 @@
-use Rattle.std.proofs.Common.{map}
+use Rattle.planes.proofs.Common.{map}
 use Rattle.planes.specs.Elementwise.{AreChangedUpto}
 use Rattle.planes.specs.inner.Answering.{IsMade}
 use Rattle.planes.proofs.planes.change.Given as goal

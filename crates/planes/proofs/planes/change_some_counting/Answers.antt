@@ -1,5 +1,4 @@
-use Rattle.std.proofs.Common.{ℕ, ◌+◌, ◌<◌, ap, ◌∙◌, arith, length, if◌then◌else◌}
-use Rattle.std.proofs.lemmas.List.{length-map}
+use Rattle.planes.proofs.Common.{ℕ, ◌+◌, ◌<◌, ap, ◌∙◌, arith, length, if◌then◌else◌, length-map}
 use Rattle.planes.proofs.Elementwise.{number-waits, part-begun, part-written, part-whole}
 use Rattle.planes.proofs.Counts.{one_le, part_none, part_next, part_whole}
 use Rattle.planes.proofs.planes.change_some_counting.Goals as goal

@@ -1,4 +1,4 @@
-use Rattle.std.proofs.Common.{◌≡◌, ℕ, ◌+◌, ◌≤◌, Bool, List, length, slice_index, map}
+use Rattle.planes.proofs.Common.{◌≡◌, ℕ, ◌+◌, ◌≤◌, Bool, List, length, slice_index, map}
 use Rattle.planes.specs.Elementwise.{AreChangedUpto}
 use Rattle.planes.specs.inner.Answering.{MakesAs}
 use Rattle.planes.specs.inner.Counting.{IsPartDone}

@@ -1,4 +1,4 @@
-use Rattle.std.proofs.Common.{refl, ◌∙◌, arith, length}
+use Rattle.planes.proofs.Common.{refl, ◌∙◌, arith, length}
 use Rattle.planes.proofs.Counts.{part_added, part_end}
 use Rattle.planes.proofs.planes.how_many.Goals as goal
 

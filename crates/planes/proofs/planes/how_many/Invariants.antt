@@ -1,4 +1,4 @@
-use Rattle.std.proofs.Common.{◌≡◌, ℕ, ◌-◌, ◌≤◌, Bool, length, slice_index, map}
+use Rattle.planes.proofs.Common.{◌≡◌, ℕ, ◌-◌, ◌≤◌, Bool, length, slice_index, map}
 use Rattle.planes.specs.inner.Answering.{AnswersAs}
 use Rattle.planes.specs.inner.Counting.{count_passing}
 use Rattle.planes.proofs.planes.how_many.Given as goal

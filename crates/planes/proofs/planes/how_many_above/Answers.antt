@@ -1,4 +1,4 @@
-use Rattle.std.proofs.Common.{rules, nat_lt, slice_index, map}
+use Rattle.planes.proofs.Common.{rules, nat_lt, slice_index, map}
 use Rattle.planes.proofs.Elementwise.{number-at}
 use Rattle.planes.proofs.planes.how_many_above.Goals as goal
 

@@ -1,4 +1,4 @@
-use Rattle.std.proofs.Common.{◌+◌, ◌<◌, ◌∙◌, arith, ap, length, if◌then◌else◌}
+use Rattle.planes.proofs.Common.{◌+◌, ◌<◌, ◌∙◌, arith, ap, length, if◌then◌else◌}
 use Rattle.planes.proofs.Elementwise.{number-at}
 use Rattle.planes.proofs.Counts.{one_le, part_none, part_next, part_whole}
 use Rattle.planes.proofs.planes.how_many_of.Goals as goal

@@ -1,7 +1,4 @@
-use Rattle.std.proofs.Common.{◌≡◌, ◌+◌, ◌-◌, min, map, sym, ◌∙◌, subst, arith}
-use Rattle.std.proofs.lemmas.List.{with_items_is}
-use Rattle.std.proofs.lemmas.Result.{IfOk-at_ok}
-use Rattle.planes.specs.Planes.{cell, ArePlanesChanged}
+use Rattle.version_lags.proofs.Common.{◌≡◌, ◌+◌, ◌-◌, min, map, sym, ◌∙◌, subst, arith, with_items_is, IfOk-at_ok, cell, ArePlanesChanged}
 use Rattle.version_lags.specs.Pieces.{numbers_in, CountsPiece, CountsPieceOf}
 use Rattle.version_lags.proofs.Parts.{counts-joined}
 use Rattle.version_lags.proofs.lags.+rest.Goals as goal

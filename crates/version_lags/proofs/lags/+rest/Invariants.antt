@@ -1,4 +1,4 @@
-use Rattle.std.proofs.Common.{◌+◌, ◌-◌, ◌*◌}
+use Rattle.version_lags.proofs.Common.{◌+◌, ◌-◌, ◌*◌}
 use Rattle.version_lags.proofs.lags.+rest.Given as goal
 
 abbrev pub decreases-Numbers::rest_from : goal.decreases-Numbers::rest_from

@@ -1,5 +1,4 @@
-use Rattle.std.proofs.Common.{arith}
-use Rattle.std.proofs.lemmas.List.{length-map}
+use Rattle.version_lags.proofs.Common.{arith, length-map}
 use Rattle.version_lags.proofs.lags.counted.Goals as goal
 
 pub rest_from-requires-clause-numbers : goal.rest_from-requires-clause-numbers

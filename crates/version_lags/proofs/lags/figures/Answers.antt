@@ -1,6 +1,4 @@
-use Rattle.std.proofs.Common.{◌≡◌, ℕ, ◌<◌, length, map, sym, subst}
-use Rattle.bench_types.specs.Sums.{most_below}
-use Rattle.model.specs.calls.OwnerListView.{list_of_owner}
+use Rattle.version_lags.proofs.Common.{◌≡◌, ℕ, ◌<◌, length, map, sym, subst, most_below, list_of_owner}
 use Rattle.version_lags.specs.Pieces.{numbers_in, MayWalk, most_lag}
 use Rattle.version_lags.proofs.Parts.{grids-of}
 use Rattle.version_lags.proofs.Whole.{may-walk, figures-are}

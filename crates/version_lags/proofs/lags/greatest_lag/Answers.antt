@@ -1,8 +1,4 @@
-use Rattle.std.proofs.Common.{rules, ◌≡◌, ◌+◌, ◌≤◌, max, length, map, refl, ap, ◌∙◌, arith}
-use Rattle.std.proofs.lemmas.List.{length-map, get_or_default}
-use Rattle.model.specs.calls.OwnerListView.{list_of_owner, no_writes}
-use Rattle.planes.specs.Planes.{cell}
-use Rattle.planes.proofs.Elementwise.{number-at}
+use Rattle.version_lags.proofs.Common.{rules, ◌≡◌, ◌+◌, ◌≤◌, max, length, map, refl, ap, ◌∙◌, arith, length-map, get_or_default, list_of_owner, no_writes, cell, number-at}
 use Rattle.version_lags.specs.Pieces.{most_lag}
 use Rattle.version_lags.proofs.Walks.{walks-from, lag-since, most-next, most-stays}
 use Rattle.version_lags.proofs.lags.greatest_lag.Goals as goal

@@ -1,6 +1,4 @@
-use Rattle.std.proofs.Common.{◌≡◌, length, map}
-use Rattle.model.specs.calls.OwnerListView.{list_of_owner}
-use Rattle.bench_types.specs.Sums.{most_below}
+use Rattle.version_lags.proofs.Common.{◌≡◌, length, map, list_of_owner, most_below}
 use Rattle.version_lags.specs.Pieces.{most_lag}
 use Rattle.version_lags.proofs.lags.greatest_lag.Given as goal
 

@@ -1,5 +1,4 @@
-use Rattle.std.proofs.Common.{sym, ◌∙◌, below_more}
-use Rattle.planes.proofs.Elementwise.{number-at}
+use Rattle.version_lags.proofs.Common.{sym, ◌∙◌, below_more, number-at}
 use Rattle.version_lags.proofs.Counted.{not_above}
 use Rattle.version_lags.proofs.lags.has_forgotten.Goals as goal
 

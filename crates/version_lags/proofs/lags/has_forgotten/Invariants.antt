@@ -1,4 +1,4 @@
-use Rattle.std.proofs.Common.{◌≡◌, ℕ, ◌<◌, slice_index, map}
+use Rattle.version_lags.proofs.Common.{◌≡◌, ℕ, ◌<◌, slice_index, map}
 use Rattle.version_lags.proofs.lags.has_forgotten.Given as goal
 
 abbrev pub invariant-loop-base : goal.invariant-loop-base

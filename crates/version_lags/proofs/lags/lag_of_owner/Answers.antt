@@ -1,15 +1,4 @@
-use Rattle.std.proofs.Common.{◌≡◌, ◌+◌, ◌*◌, ◌≤◌, Option, None, Some, max, map, refl, sym, ap, subst, ◌∙◌, arith}
-use Rattle.std.specs.Prelude.{MatchOption}
-use Rattle.std.specs.Borrow.{Bor}
-use Rattle.std.proofs.lemmas.List.{length-map}
-use Rattle.std.proofs.lemmas.Option.{same_Some}
-use Rattle.bench_types.specs.declared.entries.Entry.{Entry}
-use Rattle.model.specs.calls.OwnerListView.{entries_of}
-use Rattle.model.specs.calls.Numbers.{write_numbered}
-use Rattle.owner_writes.specs.declared.writes.Kept.{Kept}
-use Rattle.owner_writes.specs.Kept.{entry_kept}
-use Rattle.planes.specs.Planes.{cell}
-use Rattle.planes.proofs.Elementwise.{number-at}
+use Rattle.version_lags.proofs.Common.{◌≡◌, ◌+◌, ◌*◌, ◌≤◌, Option, None, Some, max, map, refl, sym, ap, subst, ◌∙◌, arith, MatchOption, Bor, length-map, same_Some, Entry, entries_of, write_numbered, Kept, entry_kept, cell, number-at}
 use Rattle.version_lags.specs.Missed.{base_of}
 use Rattle.version_lags.proofs.Walks.{walk-next, walk-none, walk-found, walk-keyed, walk-index, walk-born}
 use Rattle.version_lags.proofs.lags.lag_of_owner.Goals as goal

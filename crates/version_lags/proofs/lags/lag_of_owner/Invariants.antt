@@ -1,5 +1,4 @@
-use Rattle.std.proofs.Common.{map}
-use Rattle.planes.specs.Planes.{cell}
+use Rattle.version_lags.proofs.Common.{map, cell}
 use Rattle.version_lags.specs.Missed.{NonePassUpto}
 use Rattle.version_lags.proofs.lags.lag_of_owner.Given as goal
 

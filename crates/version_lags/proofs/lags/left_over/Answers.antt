@@ -1,5 +1,4 @@
-use Rattle.std.proofs.Common.{slice_index, map}
-use Rattle.planes.specs.Planes.{cell}
+use Rattle.version_lags.proofs.Common.{slice_index, map, cell}
 use Rattle.version_lags.proofs.Counted.{none_left}
 use Rattle.version_lags.proofs.lags.left_over.Goals as goal
 

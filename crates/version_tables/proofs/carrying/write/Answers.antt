@@ -1,5 +1,4 @@
-use Rattle.std.proofs.Common.{◌+◌, length, sym, ap, ◌∙◌, subst}
-use Rattle.model.specs.calls.OwnerListView.{all_writes, list_of_owner}
+use Rattle.version_tables.proofs.Common.{◌+◌, length, sym, ap, ◌∙◌, subst, all_writes, list_of_owner}
 use Rattle.version_tables.specs.Writes.{IsNextWrite}
 use Rattle.version_tables.proofs.NextWrites.{next-write}
 use Rattle.version_tables.proofs.carrying.write.Goals as goal

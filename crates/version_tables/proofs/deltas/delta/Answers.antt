@@ -1,14 +1,7 @@
-use Rattle.std.proofs.Common.{◌≡◌, ℕ, List, length, map, sym, ap, subst, ◌∙◌}
-use Rattle.std.proofs.lemmas.List.{length-map}
-use Rattle.bench_types.specs.declared.entries.Entry.{Entry}
-use Rattle.bench_types.specs.declared.exchanges.Rules.{Rules}
-use Rattle.bench_types.specs.Mode.{digest_kind}
-use Rattle.model.specs.declared.records.DeltaCounts.{DeltaCounts}
+use Rattle.version_tables.proofs.Common.{◌≡◌, ℕ, List, length, map, sym, ap, subst, ◌∙◌, length-map, Entry, Rules, digest_kind, DeltaCounts, by_first, AreSent}
 use Rattle.version_tables.specs.Views.{VersionTableView, table_in}
 use Rattle.version_tables.specs.inner.Deltas.{delta_of_views, is_taken_at, AreMarksOf}
-use Rattle.delta_plans.specs.Firsts.{by_first}
 use Rattle.version_tables.specs.inner.Offered.{AreAhead, AreTold, IsOffered}
-use Rattle.delta_plans.specs.Offers.{AreSent}
 use Rattle.version_tables.proofs.deltas.delta.Goals as goal
 
 pub ahead_of-requires-clause-low : goal.ahead_of-requires-clause-low

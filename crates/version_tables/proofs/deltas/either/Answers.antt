@@ -1,5 +1,4 @@
-use Rattle.std.proofs.Common.{◌≡◌, refl, slice_index, sym, subst, ◌∙◌, map}
-use Rattle.planes.specs.Planes.{cell, number_ahead, total_above, HasEachPlace}
+use Rattle.version_tables.proofs.Common.{◌≡◌, refl, slice_index, sym, subst, ◌∙◌, map, cell, number_ahead, total_above, HasEachPlace}
 use Rattle.version_tables.specs.inner.Offered.{AreOffered}
 use Rattle.version_tables.proofs.Delivered.{all-offered, ahead-offered}
 use Rattle.version_tables.proofs.deltas.either.Goals as goal

@@ -1,12 +1,5 @@
-use Rattle.std.proofs.Common.{refl, sym, ap, ◌∙◌, subst, map}
-use Rattle.std.proofs.lemmas.List.{length-map}
-use Rattle.bench_types.specs.Mode.{digest_kind}
-use Rattle.bench_types.specs.calls.Mode.{first_sent}
-use Rattle.planes.specs.Planes.{cell, total_above}
+use Rattle.version_tables.proofs.Common.{refl, sym, ap, ◌∙◌, subst, map, length-map, digest_kind, first_sent, cell, total_above, by_first, marks, count-newest}
 use Rattle.version_tables.specs.inner.Deltas.{AreMarksOf}
-use Rattle.delta_plans.specs.Firsts.{by_first}
-use Rattle.delta_plans.specs.OfferInMemory.{marks}
-use Rattle.delta_plans.proofs.RoundMarks.{count-newest}
 use Rattle.version_tables.proofs.Delivered.{offer-is, delta-marks, told-low}
 use Rattle.version_tables.proofs.deltas.marks_sent.Goals as goal
 

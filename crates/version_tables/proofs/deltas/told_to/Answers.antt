@@ -1,4 +1,4 @@
-use Rattle.std.proofs.Common.{map}
+use Rattle.version_tables.proofs.Common.{map}
 use Rattle.version_tables.proofs.Delivered.{known}
 use Rattle.version_tables.proofs.deltas.told_to.Goals as goal
 

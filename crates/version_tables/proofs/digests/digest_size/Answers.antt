@@ -1,7 +1,4 @@
-use Rattle.std.proofs.Common.{length, map, ap, nat_lt, sym, ◌∙◌, arith}
-use Rattle.std.proofs.lemmas.List.{length-map}
-use Rattle.planes.specs.Planes.{cell, total_of}
-use Rattle.model.specs.Digests.{digest_size}
+use Rattle.version_tables.proofs.Common.{length, map, ap, nat_lt, sym, ◌∙◌, arith, length-map, cell, total_of, digest_size}
 use Rattle.version_tables.specs.Views.{table_in}
 use Rattle.version_tables.proofs.Laid.{seen}
 use Rattle.version_tables.proofs.DigestSizes.{held-size, owners-size}

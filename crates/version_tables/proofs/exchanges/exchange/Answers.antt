@@ -1,4 +1,4 @@
-use Rattle.std.proofs.Common.{◌∙◌}
+use Rattle.version_tables.proofs.Common.{◌∙◌}
 use Rattle.version_tables.proofs.ExchangedViews.{lost_first}
 use Rattle.version_tables.proofs.Merged.{stays-back, stays-forth, merged-whole}
 use Rattle.version_tables.proofs.exchanges.exchange.Goals as goal

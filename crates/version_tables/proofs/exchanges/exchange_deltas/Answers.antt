@@ -1,14 +1,6 @@
-use Rattle.std.proofs.Common.{◌≡◌, ℕ, ◌*◌, Bool, true, false, List, length, map, ap, sym, subst, ◌∙◌}
-use Rattle.std.proofs.Math.Path.{transport}
-use Rattle.std.specs.Prelude.{◌||◌}
-use Rattle.std.proofs.lemmas.List.{length-map}
-use Rattle.bench_types.specs.declared.entries.Entry.{Entry}
-use Rattle.model.specs.calls.OwnerListView.{all_writes}
-use Rattle.planes.specs.Planes.{HasEach}
+use Rattle.version_tables.proofs.Common.{◌≡◌, ℕ, ◌*◌, Bool, true, false, List, length, map, ap, sym, subst, ◌∙◌, transport, ◌||◌, length-map, Entry, all_writes, HasEach, Owners, IsNumberedHistory}
 use Rattle.version_tables.specs.Views.{HistoriesView, VersionTableView}
-use Rattle.delta_plans.specs.declared.told_marks.Owners.{Owners}
 use Rattle.version_tables.specs.inner.Histories.{bases_in, AreOwners}
-use Rattle.owner_writes.specs.Numbered.{IsNumberedHistory}
 use Rattle.version_tables.specs.inner.Taken.{HasTakenUnless}
 use Rattle.version_tables.proofs.ExchangedViews.{lost_second, stays_back, stays_forth, exchange_whole}
 use Rattle.version_tables.proofs.exchanges.exchange_deltas.Goals as goal

@@ -1,4 +1,4 @@
-use Rattle.std.proofs.Common.{sym, subst}
+use Rattle.version_tables.proofs.Common.{sym, subst}
 use Rattle.version_tables.specs.inner.Taken.{HasArrived, MayArrive}
 use Rattle.version_tables.proofs.exchanges.take_both.Goals as goal
 

@@ -1,5 +1,4 @@
-use Rattle.std.proofs.Common.{◌≡◌, ℕ, length}
-use Rattle.model.specs.calls.OwnerListView.{no_writes, list_of_owner}
+use Rattle.version_tables.proofs.Common.{◌≡◌, ℕ, length, no_writes, list_of_owner}
 use Rattle.version_tables.proofs.histories.no_lists.Given as goal
 
 abbrev pub invariant-loop : goal.invariant-loop

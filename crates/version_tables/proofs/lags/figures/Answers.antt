@@ -1,20 +1,4 @@
-use Rattle.std.proofs.Common.{◌≡◌, ℕ, ◌+◌, ◌*◌, ◌<◌, ◌≤◌, List, length, map, sym, ap, ◌∙◌, subst}
-use Rattle.std.proofs.Math.Path.{transport}
-use Rattle.std.specs.Borrow.{Bor}
-use Rattle.std.proofs.lemmas.Result.{IfOk-weaker}
-use Rattle.bench_types.specs.declared.entries.Entry.{Entry}
-use Rattle.bench_types.specs.declared.limits.TheConstants.{MOST_ROUNDS}
-use Rattle.model.specs.Figures.{figures_of}
-use Rattle.model.specs.calls.OwnerListView.{all_writes, list_of_owner, lists_in, AreWrites}
-use Rattle.model.specs.Table.{Table}
-use Rattle.model.specs.Tables.{HoldsOfEach}
-use Rattle.model.specs.calls.Tables.{IsCluster}
-use Rattle.owner_writes.specs.Numbered.{AreEnds}
-use Rattle.planes.specs.Planes.{cell, HasEach, HasEachPlace}
-use Rattle.round_tables.specs.Histories.{AreWrittenBy, StandsAmong}
-use Rattle.version_lags.specs.declared.lags.RoundNumbers.{RoundNumbers}
-use Rattle.version_lags.specs.Missed.{base_of, IsLastNumber}
-use Rattle.version_lags.specs.Pieces.{keys_in, numbers_in, AreNumbersOf, AreRoundNumbers, MayBeCounted}
+use Rattle.version_tables.proofs.Common.{◌≡◌, ℕ, ◌+◌, ◌*◌, ◌<◌, ◌≤◌, List, length, map, sym, ap, ◌∙◌, subst, transport, Bor, IfOk-weaker, Entry, MOST_ROUNDS, figures_of, all_writes, list_of_owner, lists_in, AreWrites, Table, HoldsOfEach, IsCluster, AreEnds, cell, HasEach, HasEachPlace, AreWrittenBy, StandsAmong, RoundNumbers, base_of, IsLastNumber, keys_in, numbers_in, AreNumbersOf, AreRoundNumbers, MayBeCounted}
 use Rattle.version_tables.specs.Views.{VersionTableView, HistoriesView}
 use Rattle.version_tables.specs.inner.Beside.{tables_of_views, AreCellsOf, AreLaidAsNumbers}
 use Rattle.version_tables.specs.inner.Histories.{IsWrittenSoFar}

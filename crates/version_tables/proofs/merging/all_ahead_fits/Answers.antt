@@ -1,8 +1,4 @@
-use Rattle.std.proofs.Common.{◌*◌, ◌-◌, ◌≤◌, ℕ, Bool, List, map, min, nat_lt, slice_index, if◌then◌else◌, true, false, arith}
-use Rattle.bench_types.specs.declared.limits.TheConstants.{MOST_NODES, MOST_KEYS}
-use Rattle.bench_types.specs.Sums.{sum_below}
-use Rattle.bench_types.proofs.Sums.{sum_below-most}
-use Rattle.planes.specs.Planes.{cell, most_ahead, total_of}
+use Rattle.version_tables.proofs.Common.{◌*◌, ◌-◌, ◌≤◌, ℕ, Bool, List, map, min, nat_lt, slice_index, if◌then◌else◌, true, false, arith, MOST_NODES, MOST_KEYS, sum_below, sum_below-most, cell, most_ahead, total_of}
 use Rattle.version_tables.proofs.merging.all_ahead_fits.Goals as goal
 
 ahead-most : (nodes keys : ℕ) (numbers others : List ℕ) → nodes ≤ MOST_NODES → keys ≤ MOST_KEYS → most_ahead nodes keys numbers others ≤ MOST_NODES * MOST_KEYS

@@ -1,9 +1,4 @@
-use Rattle.std.proofs.Common.{◌≡◌, ℕ, max, map, slice_index, refl, ap, sym, ◌∙◌}
-use Rattle.std.proofs.Math.Path.{transport}
-use Rattle.std.specs.Vec.{with_items}
-use Rattle.std.proofs.lemmas.List.{with_items_is}
-use Rattle.planes.specs.Elementwise.{AreChanged}
-use Rattle.planes.specs.Planes.{cell, number_raised, ArePlanesChanged}
+use Rattle.version_tables.proofs.Common.{◌≡◌, ℕ, max, map, slice_index, refl, ap, sym, ◌∙◌, transport, with_items, with_items_is, AreChanged, cell, number_raised, ArePlanesChanged}
 use Rattle.version_tables.specs.Views.{VersionTableView}
 use Rattle.version_tables.specs.inner.Merged.{HasMerged, IsMerged, StaysMerged}
 use Rattle.version_tables.proofs.Laid.{seen}

@@ -1,6 +1,4 @@
-use Rattle.std.proofs.Common.{arith, map}
-use Rattle.std.proofs.lemmas.List.{length-map}
-use Rattle.planes.proofs.Elementwise.{written_next}
+use Rattle.version_tables.proofs.Common.{arith, map, length-map, written_next}
 use Rattle.version_tables.proofs.owners.clear.Goals as goal
 
 pub loop-r-preserved : goal.loop-r-preserved

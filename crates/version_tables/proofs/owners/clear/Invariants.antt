@@ -1,5 +1,4 @@
-use Rattle.std.proofs.Common.{◌≡◌, map}
-use Rattle.planes.specs.Elementwise.{AreChangedUpto}
+use Rattle.version_tables.proofs.Common.{◌≡◌, map, AreChangedUpto}
 use Rattle.version_tables.proofs.owners.clear.Given as goal
 
 abbrev pub invariant-loop-r : goal.invariant-loop-r

@@ -1,7 +1,4 @@
-use Rattle.std.proofs.Common.{arith, map, length}
-use Rattle.std.proofs.lemmas.List.{length-map}
-use Rattle.planes.proofs.ByOwner.{owner-next}
-use Rattle.planes.proofs.Places.{plane-within}
+use Rattle.version_tables.proofs.Common.{arith, map, length, length-map, owner-next, plane-within}
 use Rattle.version_tables.proofs.owners.clear_owner.Goals as goal
 
 pub loop-key-preserved : goal.loop-key-preserved

@@ -1,6 +1,4 @@
-use Rattle.std.proofs.Common.{map}
-use Rattle.planes.specs.Planes.{ArePlanesChangedUpto}
-use Rattle.planes.proofs.ByOwner.{owner_changed}
+use Rattle.version_tables.proofs.Common.{map, ArePlanesChangedUpto, owner_changed}
 use Rattle.version_tables.proofs.owners.clear_owner.Given as goal
 
 abbrev pub invariant-loop-key : goal.invariant-loop-key

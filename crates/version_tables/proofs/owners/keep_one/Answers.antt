@@ -1,7 +1,4 @@
-use Rattle.std.proofs.Common.{◌≡◌, ◌==◌, set, if◌then◌else◌, sym, ◌∙◌, ap, subst, arith, map}
-use Rattle.std.proofs.lemmas.List.{length-map, map-set}
-use Rattle.planes.proofs.Elementwise.{number-at}
-use Rattle.planes.specs.Elementwise.{AreChanged}
+use Rattle.version_tables.proofs.Common.{◌≡◌, ◌==◌, set, if◌then◌else◌, sym, ◌∙◌, ap, subst, arith, map, length-map, map-set, number-at, AreChanged}
 use Rattle.version_tables.proofs.OwnCalls.{kept-one}
 use Rattle.version_tables.proofs.owners.keep_one.Goals as goal
 

@@ -1,6 +1,4 @@
-use Rattle.std.proofs.Common.{◌+◌, ◌*◌, ◌-◌, arith, map, length}
-use Rattle.std.proofs.lemmas.List.{length-map}
-use Rattle.planes.proofs.Places.{plane-within, planes-written}
+use Rattle.version_tables.proofs.Common.{◌+◌, ◌*◌, ◌-◌, arith, map, length, length-map, plane-within, planes-written}
 use Rattle.version_tables.proofs.owners.keep_owner.Goals as goal
 
 pub loop-key-preserved : goal.loop-key-preserved

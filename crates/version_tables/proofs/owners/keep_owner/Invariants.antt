@@ -1,5 +1,4 @@
-use Rattle.std.proofs.Common.{◌≡◌, ◌==◌, map, if◌then◌else◌}
-use Rattle.planes.specs.Planes.{ArePlanesChangedUpto}
+use Rattle.version_tables.proofs.Common.{◌≡◌, ◌==◌, map, if◌then◌else◌, ArePlanesChangedUpto}
 use Rattle.version_tables.proofs.owners.keep_owner.Given as goal
 
 abbrev pub invariant-loop-key : goal.invariant-loop-key

@@ -1,7 +1,4 @@
-use Rattle.std.proofs.Common.{◌+◌, ◌*◌, ◌≤◌, ap, arith, sym, map, length, ◌∙◌}
-use Rattle.std.proofs.lemmas.List.{length-map, get_or-map}
-use Rattle.planes.proofs.ByOwner.{owner-next}
-use Rattle.planes.proofs.Places.{plane-within}
+use Rattle.version_tables.proofs.Common.{◌+◌, ◌*◌, ◌≤◌, ap, arith, sym, map, length, ◌∙◌, length-map, get_or-map, owner-next, plane-within}
 use Rattle.version_tables.specs.inner.Taken.{number_kept}
 use Rattle.version_tables.proofs.taking.clear_column.Goals as goal
 

@@ -1,13 +1,6 @@
-use Rattle.std.proofs.Common.{ℕ, ◌≡◌, false, subst, ◌<◌, arith, map, slice_index, sym, ap, ◌∙◌, nat_lt, nat_le}
-use Rattle.std.specs.Prelude.{◌&&◌}
-use Rattle.std.proofs.lemmas.List.{length-map}
-use Rattle.model.specs.calls.OwnerListView.{all_writes}
-use Rattle.planes.proofs.Elementwise.{number-at}
-use Rattle.planes.proofs.ByOwner.{owners-next, owners-all}
-use Rattle.owner_writes.specs.Numbered.{IsNumberedHistory}
+use Rattle.version_tables.proofs.Common.{ℕ, ◌≡◌, false, subst, ◌<◌, arith, map, slice_index, sym, ap, ◌∙◌, nat_lt, nat_le, ◌&&◌, length-map, all_writes, number-at, owners-next, owners-all, IsNumberedHistory, all_writes-here}
 use Rattle.version_tables.specs.inner.Taken.{drop_start, number_kept}
 use Rattle.version_tables.proofs.Clearing.{planes-stay, no_start, kept-all, plane-none}
-use Rattle.delta_plans.proofs.Starts.{all_writes-here}
 use Rattle.version_tables.proofs.taking.drop_older.Given as given
 use Rattle.version_tables.proofs.taking.drop_older.Goals as goal
 

@@ -1,7 +1,4 @@
-use Rattle.std.proofs.Common.{slice_index, map}
-use Rattle.model.specs.calls.OwnerListView.{all_writes}
-use Rattle.planes.specs.Planes.{ArePlanesChanged}
-use Rattle.planes.proofs.ByOwner.{owners_changed}
+use Rattle.version_tables.proofs.Common.{slice_index, map, all_writes, ArePlanesChanged, owners_changed}
 use Rattle.version_tables.specs.inner.Taken.{drop_start, number_kept}
 use Rattle.version_tables.proofs.taking.drop_older.Given as goal
 

@@ -1,9 +1,4 @@
-use Rattle.std.proofs.Common.{◌≡◌, length, map, slice_index, ap, subst, sym, ◌∙◌}
-use Rattle.std.proofs.Math.Path.{transport}
-use Rattle.std.specs.Vec.{with_items}
-use Rattle.std.proofs.lemmas.List.{length-map, with_items_is}
-use Rattle.planes.specs.Planes.{AreCovered, ArePlanesChanged, AreRaised, AreTaken}
-use Rattle.model.specs.calls.OwnerListView.{all_writes}
+use Rattle.version_tables.proofs.Common.{◌≡◌, length, map, slice_index, ap, subst, sym, ◌∙◌, transport, with_items, length-map, with_items_is, AreCovered, ArePlanesChanged, AreRaised, AreTaken, all_writes}
 use Rattle.version_tables.specs.Views.{VersionTableView}
 use Rattle.version_tables.specs.inner.Histories.{bases_in, AreOwners}
 use Rattle.version_tables.specs.inner.Taken.{drop_start, number_kept, IsTaken}

@@ -1,4 +1,4 @@
-use Rattle.std.proofs.Common.{sym, ◌∙◌}
+use Rattle.delta_plans.proofs.Common.{sym, ◌∙◌}
 use Rattle.delta_plans.specs.OfferInMemory.{marks}
 use Rattle.delta_plans.proofs.OfferWeights.{offer-entries}
 use Rattle.delta_plans.proofs.offers.Offer.weight.Goals as goal

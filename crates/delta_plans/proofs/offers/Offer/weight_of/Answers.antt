@@ -1,6 +1,4 @@
-use Rattle.std.proofs.Common.{◌≡◌, ℕ, ◌<◌, ◌≤◌, refl, sym, ap, ◌∙◌, subst, arith}
-use Rattle.std.proofs.lemmas.Bool.{ltb-true, ltb-false, leb-true, leb-false}
-use Rattle.planes.proofs.Counts.{number_next}
+use Rattle.delta_plans.proofs.Common.{◌≡◌, ℕ, ◌<◌, ◌≤◌, refl, sym, ap, ◌∙◌, subst, arith, ltb-true, ltb-false, leb-true, leb-false, number_next}
 use Rattle.delta_plans.specs.OfferInMemory.{cells_in, weights_in}
 use Rattle.delta_plans.proofs.WeightLaws.{part, part-in, part-low, part-high}
 use Rattle.delta_plans.proofs.offers.Offer.weight_of.Goals as goal

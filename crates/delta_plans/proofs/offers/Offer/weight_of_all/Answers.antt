@@ -1,5 +1,4 @@
-use Rattle.std.proofs.Common.{ltb, sym, ◌∙◌, arith}
-use Rattle.std.proofs.lemmas.Bool.{ltb-false}
+use Rattle.delta_plans.proofs.Common.{ltb, sym, ◌∙◌, arith, ltb-false}
 use Rattle.delta_plans.specs.OfferInMemory.{cells_in, marks, weights_in}
 use Rattle.delta_plans.specs.Weights.{weight_of}
 use Rattle.delta_plans.proofs.WeightLaws.{weight_of-none, weight-next}

@@ -1,5 +1,4 @@
-use Rattle.std.proofs.Common.{◌≡◌, ◌*◌, ◌≤◌}
-use Rattle.bench_types.specs.Budget.{largest_share}
+use Rattle.delta_plans.proofs.Common.{◌≡◌, ◌*◌, ◌≤◌, largest_share}
 use Rattle.delta_plans.specs.OfferInMemory.{cells_in, marks, weights_in}
 use Rattle.delta_plans.specs.Weights.{weight_between}
 use Rattle.delta_plans.proofs.offers.Offer.weight_of_all.Given as goal

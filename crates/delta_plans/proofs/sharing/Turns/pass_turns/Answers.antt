@@ -1,5 +1,4 @@
-use Rattle.std.proofs.Common.{◌<◌, length, set, sym, ap, ◌∙◌, subst, arith}
-use Rattle.std.proofs.lemmas.List.{length-set}
+use Rattle.delta_plans.proofs.Common.{◌<◌, length, set, sym, ap, ◌∙◌, subst, arith, length-set}
 use Rattle.delta_plans.specs.OfferInMemory.{cells_in, marks}
 use Rattle.delta_plans.specs.Turns.{AreTurnsPassed}
 use Rattle.delta_plans.proofs.TurnSteps.{turns-first, turns-next, turns-end, put-here, put-other, part-few, count_on-few}

@@ -1,4 +1,4 @@
-use Rattle.std.proofs.Common.{◌≡◌, length, map}
+use Rattle.delta_plans.proofs.Common.{◌≡◌, length, map}
 use Rattle.delta_plans.specs.OfferInMemory.{marks}
 use Rattle.delta_plans.specs.Turns.{AreKnownCounts, AreTurnsPassed}
 use Rattle.delta_plans.proofs.sharing.Turns.pass_turns.Given as goal

@@ -1,6 +1,4 @@
-use Rattle.std.proofs.Common.{◌<◌, length, set, refl, ap, ◌∙◌, subst, arith}
-use Rattle.std.proofs.lemmas.List.{length-set}
-use Rattle.model.specs.Order.{rotated}
+use Rattle.delta_plans.proofs.Common.{◌<◌, length, set, refl, ap, ◌∙◌, subst, arith, length-set, rotated}
 use Rattle.delta_plans.specs.OfferInMemory.{cells_in, marks, weights_in}
 use Rattle.delta_plans.specs.Turns.{IsStop}
 use Rattle.delta_plans.proofs.TurnSteps.{stop-at, turns-shared, put-here, put-other, part-few, count_on-few}

@@ -1,4 +1,4 @@
-use Rattle.std.proofs.Common.{sym, ◌∙◌}
+use Rattle.delta_plans.proofs.Common.{sym, ◌∙◌}
 use Rattle.delta_plans.specs.OfferInMemory.{cells_in, marks}
 use Rattle.delta_plans.proofs.TurnSteps.{part-entries, part-none}
 use Rattle.delta_plans.proofs.sharing.Turns.weight_of_part.Goals as goal

@@ -1,4 +1,4 @@
-use Rattle.std.proofs.Common.{length, ap, sym, ◌∙◌}
+use Rattle.delta_plans.proofs.Common.{length, ap, sym, ◌∙◌}
 use Rattle.delta_plans.specs.OfferInMemory.{marks}
 use Rattle.delta_plans.specs.Plans.{count_on, weight_on}
 use Rattle.delta_plans.proofs.sharing.Turns.weight_of_whole.Goals as goal

@@ -1,5 +1,5 @@
-use Rattle.std.proofs.Common.{ℕ}
-use Rattle.bench_types.specs.declared.exchanges.First.{First}
+use Rattle.delta_plans.proofs.Common.{ℕ}
+use Rattle.delta_plans.specs.declared.marked.First.{First}
 use Rattle.delta_plans.specs.OfferInMemory.{cells_in}
 use Rattle.delta_plans.specs.Stops.{AnswersNearer}
 use Rattle.delta_plans.proofs.StopSteps.{IsNextSoFar}

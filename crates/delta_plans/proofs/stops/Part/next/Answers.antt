@@ -1,5 +1,5 @@
-use Rattle.std.proofs.Common.{rules, sym, subst}
-use Rattle.bench_types.specs.declared.exchanges.First.TheVariants.{Oldest, Newest}
+use Rattle.delta_plans.proofs.Common.{rules, sym, subst}
+use Rattle.delta_plans.specs.declared.marked.First.TheVariants.{Oldest, Newest}
 use Rattle.delta_plans.specs.OfferInMemory.{cells_in}
 use Rattle.delta_plans.specs.Stops.{HasNext, IsNext}
 use Rattle.delta_plans.proofs.stops.Part.next.Goals as goal

@@ -1,4 +1,4 @@
-use Rattle.std.proofs.Common.{arith}
+use Rattle.delta_plans.proofs.Common.{arith}
 use Rattle.delta_plans.specs.OfferInMemory.{cells_in, weights_in}
 use Rattle.delta_plans.proofs.StopSteps.{past-rest, some-next, few-from, next-held, stop-first, stop-more, stop-next, stop-found}
 use Rattle.delta_plans.proofs.stops.Part.stop_from.Goals as goal

@@ -1,9 +1,4 @@
-use Rattle.std.proofs.Common.{◌≡◌, suc, List, map, Some, None, sym, ap, ◌∙◌, arith}
-use Rattle.std.specs.Prelude.{MatchOption}
-use Rattle.std.specs.Slice.{IsGetResult}
-use Rattle.bench_types.specs.declared.entries.Entry.{Entry}
-use Rattle.model.specs.calls.Numbers.{write_numbered}
-use Rattle.model.specs.calls.OwnerListView.{entries_of}
+use Rattle.owner_writes.proofs.Common.{◌≡◌, suc, List, map, Some, None, sym, ap, ◌∙◌, arith, MatchOption, IsGetResult, Entry, write_numbered, entries_of}
 use Rattle.owner_writes.specs.Kept.{entry_kept}
 use Rattle.owner_writes.proofs.Keeping.{entries_whole}
 use Rattle.owner_writes.proofs.Numbered.{numbered-here, numbered-past}

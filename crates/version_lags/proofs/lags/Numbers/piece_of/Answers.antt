@@ -1,6 +1,4 @@
-use Rattle.std.proofs.Common.{◌≡◌, ◌+◌, ◌<◌, min, map, length, sym, ap, ◌∙◌, subst, arith}
-use Rattle.std.proofs.lemmas.List.{length-map, with_items_is}
-use Rattle.planes.specs.Planes.{cell, ArePlanesChanged, IsGrid}
+use Rattle.version_lags.proofs.Common.{◌≡◌, ◌+◌, ◌<◌, min, map, length, sym, ap, ◌∙◌, subst, arith, length-map, with_items_is, cell, ArePlanesChanged, IsGrid}
 use Rattle.version_lags.specs.Pieces.{numbers_in, CountsPiece}
 use Rattle.version_lags.proofs.Parts.{counts-none, counts-more, cells-read}
 use Rattle.version_lags.proofs.lags.Numbers.piece_of.Goals as goal

@@ -1,4 +1,4 @@
-use Rattle.std.proofs.Common.{map}
+use Rattle.version_lags.proofs.Common.{map}
 use Rattle.version_lags.specs.Pieces.{numbers_in, CountsPiece}
 use Rattle.version_lags.proofs.lags.Numbers.piece_of.Given as goal
 

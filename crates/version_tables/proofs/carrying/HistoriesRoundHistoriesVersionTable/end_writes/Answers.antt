@@ -1,6 +1,4 @@
-use Rattle.std.proofs.Common.{sym, subst, arith}
-use Rattle.std.proofs.lemmas.Result.{on_ok_weaker}
-use Rattle.round_tables.specs.Histories.{AreWrittenBy}
+use Rattle.version_tables.proofs.Common.{sym, subst, arith, on_ok_weaker, AreWrittenBy}
 use Rattle.version_tables.proofs.Carried.{standing-fits}
 use Rattle.version_tables.proofs.carrying.HistoriesRoundHistoriesVersionTable.end_writes.Goals as goal
 

@@ -1,8 +1,4 @@
-use Rattle.std.proofs.Common.{rules, ◌≡◌, ◌<◌, ◌==◌, cond, length, set, map, subst, sym, ◌∙◌}
-use Rattle.std.proofs.lemmas.List.{with_items_is}
-use Rattle.bench_types.specs.declared.limits.TheConstants.{MOST_KEYS}
-use Rattle.model.specs.calls.OwnerListView.{all_writes, begun_generation}
-use Rattle.planes.specs.Planes.{ArePlanesChanged}
+use Rattle.version_tables.proofs.Common.{rules, ◌≡◌, ◌<◌, ◌==◌, cond, length, set, map, subst, sym, ◌∙◌, with_items_is, MOST_KEYS, all_writes, begun_generation, ArePlanesChanged}
 use Rattle.version_tables.specs.Views.{HistoriesView}
 use Rattle.version_tables.specs.inner.Histories.{AreHistories}
 use Rattle.version_tables.proofs.HistoryCalls.{histories-begun, list-becomes, number-here, numbers-set}

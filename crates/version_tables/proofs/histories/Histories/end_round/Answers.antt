@@ -1,4 +1,4 @@
-use Rattle.std.proofs.Common.{map}
+use Rattle.version_tables.proofs.Common.{map}
 use Rattle.version_tables.proofs.HistoryCalls.{histories-ended, numbers-appended}
 use Rattle.version_tables.proofs.histories.Histories.end_round.Goals as goal
 

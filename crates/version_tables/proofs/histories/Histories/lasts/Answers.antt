@@ -1,9 +1,5 @@
-use Rattle.std.proofs.Common.{rules, ◌≡◌, ◌*◌, length, map, take, sym, subst}
-use Rattle.bench_types.specs.declared.limits.TheConstants.{MOST_KEYS}
-use Rattle.model.specs.calls.OwnerListView.{list_of_owner}
-use Rattle.planes.specs.Planes.{HasEachPlace}
+use Rattle.version_tables.proofs.Common.{rules, ◌≡◌, ◌*◌, length, map, take, sym, subst, MOST_KEYS, list_of_owner, HasEachPlace, IsLastNumber}
 use Rattle.version_tables.specs.Views.{HistoriesView}
-use Rattle.version_lags.specs.Missed.{IsLastNumber}
 use Rattle.version_tables.proofs.HistoryCalls.{first-planes}
 use Rattle.version_tables.proofs.histories.Histories.lasts.Goals as goal
 

@@ -1,4 +1,4 @@
-use Rattle.std.proofs.Common.{map, arith}
+use Rattle.version_tables.proofs.Common.{map, arith}
 use Rattle.version_tables.proofs.HistoryCalls.{histories-empty}
 use Rattle.version_tables.proofs.histories.Histories.new.Goals as goal
 

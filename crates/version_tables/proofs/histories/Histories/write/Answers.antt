@@ -1,6 +1,4 @@
-use Rattle.std.proofs.Common.{rules, ◌≡◌, ◌+◌, ◌*◌, ◌<◌, length, set, map, ap, subst, sym, ◌∙◌}
-use Rattle.std.proofs.lemmas.List.{set-get_or}
-use Rattle.model.specs.calls.OwnerListView.{all_writes, list_of_owner, next_entry, with_write, ListBecomes}
+use Rattle.version_tables.proofs.Common.{rules, ◌≡◌, ◌+◌, ◌*◌, ◌<◌, length, set, map, ap, subst, sym, ◌∙◌, set-get_or, all_writes, list_of_owner, next_entry, with_write, ListBecomes}
 use Rattle.version_tables.specs.Views.{HistoriesView}
 use Rattle.version_tables.specs.inner.Histories.{AreHistories, AreKnown, IsWriteUnder}
 use Rattle.version_tables.proofs.HistoryCalls.{histories-written, list-becomes, number-here, numbers-set}

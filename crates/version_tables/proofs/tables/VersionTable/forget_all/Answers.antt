@@ -1,7 +1,4 @@
-use Rattle.std.proofs.Common.{◌≡◌, map, ap, ◌∙◌}
-use Rattle.std.specs.Vec.{with_items}
-use Rattle.model.specs.Table.{without_all}
-use Rattle.planes.specs.Elementwise.{AreChanged}
+use Rattle.version_tables.proofs.Common.{◌≡◌, map, ap, ◌∙◌, with_items, without_all, AreChanged}
 use Rattle.version_tables.specs.Views.{VersionTableView, table_in}
 use Rattle.version_tables.proofs.Laid.{put-back, seen}
 use Rattle.version_tables.proofs.OwnCalls.{LiesAs, forgets, lies-kept, lies-table}

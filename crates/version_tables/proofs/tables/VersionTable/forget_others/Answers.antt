@@ -1,8 +1,4 @@
-use Rattle.std.proofs.Common.{◌≡◌, ◌==◌, if◌then◌else◌, map, ap, ◌∙◌}
-use Rattle.std.specs.Vec.{with_items}
-use Rattle.model.specs.Table.{without_others}
-use Rattle.planes.specs.Planes.{ArePlanesChanged}
-use Rattle.planes.specs.Elementwise.{AreChanged}
+use Rattle.version_tables.proofs.Common.{◌≡◌, ◌==◌, if◌then◌else◌, map, ap, ◌∙◌, with_items, without_others, ArePlanesChanged, AreChanged}
 use Rattle.version_tables.specs.Views.{VersionTableView, table_in}
 use Rattle.version_tables.proofs.Laid.{put-back, seen}
 use Rattle.version_tables.proofs.OwnCalls.{LiesAs, lies-kept, lies-table, restarts}

@@ -1,4 +1,4 @@
-use Rattle.std.proofs.Common.{map}
+use Rattle.version_tables.proofs.Common.{map}
 use Rattle.version_tables.proofs.OwnCalls.{lies-table, lies-kept, starts}
 use Rattle.version_tables.proofs.tables.VersionTable.new.Goals as goal
 

@@ -1,5 +1,4 @@
-use Rattle.std.proofs.Common.{ℕ, List, ◌+◌, ◌*◌, ◌<◌, set, map, sym, subst}
-use Rattle.std.proofs.lemmas.List.{map-set}
+use Rattle.version_tables.proofs.Common.{ℕ, List, ◌+◌, ◌*◌, ◌<◌, set, map, sym, subst, map-set}
 use Rattle.version_tables.specs.Views.{VersionTableView}
 use Rattle.version_tables.specs.Writes.{IsNextWrite, HasOwnWrite}
 use Rattle.version_tables.specs.Laid.{IsVersionTable}

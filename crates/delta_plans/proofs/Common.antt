@@ -1,0 +1,55 @@
+-- The names of other libraries that these proofs cite, passed on from one place. Declares nothing.
+pub use Rattle.std.proofs.Common.{Bool, Fits, List, None, Option, Some, [], ap, arith, cond, drop, eqb, false, get_or, if◌then◌else◌, inl, inr, leb, length, ltb, map, max, min, nat_lt, not, refl, rules, set, slice_index, subst, suc, sym, take, true, w32, zero, ℕ, ◌*◌, ◌++◌, ◌+◌, ◌-◌, ◌<◌, ◌∙◌, ◌∷◌, ◌≡◌, ◌≢◌, ◌≤◌, ◌⊎◌}
+pub use Rattle.std.proofs.Math.Nat.{mul-le-mul_left, mul-le-mul_right}
+pub use Rattle.std.proofs.Math.Path.{transport}
+pub use Rattle.std.proofs.lemmas.Bool.{and_parts, both_ways, cases_eq, cases_lt, eq-eqb, eqb-true, le-leb, le-ltb, leb-false, leb-true, lt-leb, lt-ltb, ltb-false, ltb-true, ne_eqb}
+pub use Rattle.std.proofs.lemmas.List.{get_or-set_other, get_or-set_same, get_or_default, get_or_past, length-append, length-drop, length-map, length-set, length-take-le, map-set, with_items_is}
+pub use Rattle.std.proofs.lemmas.List.Elements.{Contains-append_cases, Contains-append_left, Contains-append_right}
+pub use Rattle.std.proofs.lemmas.List.Kept.{AllPairs-filter}
+pub use Rattle.std.proofs.lemmas.List.Sorted.{length_permutation, sum_by-IsPermutation}
+pub use Rattle.std.proofs.lemmas.List.Sums.{length-filter, sum_by-append, sum_by-cons}
+pub use Rattle.std.proofs.lemmas.Option.{same_Some}
+pub use Rattle.std.specs.Cmp.{IsTotalOrder, tied_itself}
+pub use Rattle.std.specs.List.{sum_by}
+pub use Rattle.std.specs.Ordering.{is_eq, is_lt, nat_cmp, ordering_reverse, ordering_then}
+pub use Rattle.std.specs.Prelude.{Contains, IsPermutation, IsTrue, count_by, filter, nat_le, ◌&&◌, ◌↔◌}
+pub use Rattle.std.specs.Vec.{with_items}
+pub use Rattle.std.specs.declared.cmp.Ordering.{Ordering}
+pub use Rattle.std.specs.declared.cmp.Ordering.TheVariants.{Equal, Greater, Less}
+pub use borrow.Rule.Slice.PartMut.{put_mid}
+pub use Rattle.bench_types.proofs.Comparing.{both_equal, nat_cmp-equal, nat_cmp-greater, nat_cmp-less}
+pub use Rattle.bench_types.proofs.Sums.{sum_below-le, sum_below-plus, sum_below-same}
+pub use Rattle.bench_types.specs.Budget.{amount_of, largest_share}
+pub use Rattle.bench_types.specs.Mark.{is_before, mark_of}
+pub use Rattle.bench_types.specs.Mode.{digest_kind}
+pub use Rattle.bench_types.specs.Sums.{sum_below}
+pub use Rattle.bench_types.specs.declared.entries.Entry.{Entry}
+pub use Rattle.bench_types.specs.declared.entries.Item.{Item}
+pub use Rattle.bench_types.specs.declared.exchanges.Budget.{Budget}
+pub use Rattle.bench_types.specs.declared.exchanges.Budget.TheVariants.{Bytes, Entries}
+pub use Rattle.bench_types.specs.declared.exchanges.DigestKind.{DigestKind}
+pub use Rattle.bench_types.specs.declared.exchanges.Mode.{Mode}
+pub use Rattle.bench_types.specs.declared.exchanges.Mode.TheVariants.{PreciseNewest, PreciseOldest, ScuttleBreadth, ScuttleDepth}
+pub use Rattle.bench_types.specs.declared.limits.TheConstants.{MOST_ENTRY_SIZE, MOST_KEYS, MOST_NODES}
+pub use Rattle.model.proofs.Apart.{rotated-injective, rotated-is}
+pub use Rattle.model.proofs.DeltaLaws.{sending_order-strict, sending_order-total}
+pub use Rattle.model.proofs.Items.{Contains-items_of, IsApart, apart-items_of, entry_at-items_of}
+pub use Rattle.model.proofs.Levels.{level_cmp, order-levels, version_cmp}
+pub use Rattle.model.proofs.Members.{AllPairs-append, Contains-filter, Contains-kept, same_members}
+pub use Rattle.model.proofs.Places.{Contains-first_places, before_count-places, first_places-Contains}
+pub use Rattle.model.proofs.TableLaws.{tied-stands_at}
+pub use Rattle.model.specs.Candidates.{candidates, known_mark}
+pub use Rattle.model.specs.Deltas.{DeltaView, delta_between, item_share}
+pub use Rattle.model.specs.Order.{owner_count, rank_among, rotated, sending_order}
+pub use Rattle.model.specs.Picks.{before_count, cut_count, first_places, fits, sent, size_through}
+pub use Rattle.model.specs.Table.{IsProper, Table, entry_at, generation_held, items_of}
+pub use Rattle.model.specs.calls.Numbers.{write_from, write_numbered}
+pub use Rattle.model.specs.calls.OwnerListView.{AreWrites, OwnerListView, all_writes, entries_of, list_of_owner, no_writes}
+pub use Rattle.model.specs.inner.Applied.{stands_at}
+pub use Rattle.owner_writes.proofs.Numbers.{number-of_version, numbered-some, versions-rise, write_from-at}
+pub use Rattle.owner_writes.specs.Numbered.{AreEnds, AreMadeBy, IsHistory, IsRoundMark, start_before, start_of}
+pub use Rattle.planes.proofs.Counts.{count_le, number_next, one_le, sum_next, sum_whole}
+pub use Rattle.planes.proofs.Elementwise.{changed_all, changed_none, number-at, written_next}
+pub use Rattle.planes.proofs.Places.{each-next, part-here, part-written}
+pub use Rattle.planes.specs.Elementwise.{AreChanged, AreChangedUpto}
+pub use Rattle.planes.specs.Planes.{Cells, HasEach, HasNoneAbove, IsLeastAbove, IsNextAbove, cell, count_above, count_between, total_of}

@@ -1,0 +1,11 @@
+-- The names of other libraries that these proofs cite, passed on from one place. Declares nothing.
+pub use Rattle.std.proofs.Common.{Bool, Fits, List, [], ap, arith, cond, drop, false, get_or, if◌then◌else◌, inl, inr, length, map, max, min, nat_le, nat_lt, refl, replicate, rules, set, slice_index, subst, suc, sym, take, true, w32, zero, ℕ, ◌&&◌, ◌*◌, ◌++◌, ◌+◌, ◌-◌, ◌<◌, ◌==◌, ◌∙◌, ◌≡◌, ◌≢◌, ◌≤◌, ◌⊎◌}
+pub use Rattle.std.proofs.Math.Nat.{mul-le-mul_right}
+pub use Rattle.std.proofs.Math.Seq.{take-add, take-nil}
+pub use Rattle.std.proofs.lemmas.Bool.{both_ways, cases_Bool, cases_eq, cases_lt, eq-eqb, le-ltb, lt-leb, lt-ltb, ltb-false, ltb-true, ne_eqb}
+pub use Rattle.std.proofs.lemmas.List.{get_or-append_right, get_or-drop, get_or-map, get_or-replicate, get_or-set_other, get_or-set_same, get_or-take, get_or_append_left, length-append, length-drop, length-map, length-replicate, length-set, length-take-le, map-append, map-set, take-map, with_items_is}
+pub use Rattle.std.specs.List.{drop-map}
+pub use borrow.Rule.Slice.PartMut.{post_of, put_mid}
+pub use Rattle.bench_types.proofs.Sums.{sum_below-most, sum_below-same, sum_below-turned}
+pub use Rattle.bench_types.specs.Sums.{sum_below}
+pub use Rattle.bench_types.specs.declared.limits.TheConstants.{MOST_KEYS, MOST_NODES}

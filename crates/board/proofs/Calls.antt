@@ -1,13 +1,6 @@
 -- What the calls of a board conclude from the steps that they make.
 -- Serves the functions of `boards`.
-use Rattle.std.proofs.Common.{◌≡◌, ◌≢◌, ℕ, ◌+◌, ◌<◌, ◌≤◌, ◌/◌, ◌↔◌, Bool, ◌==◌, if◌then◌else◌, List, [], ◌∷◌, ◌++◌, length, map, drop, All, append-nil, Option, None, Some, inl, inr, refl, sym, ap, ◌∙◌, subst, arith}
-use Rattle.std.proofs.lemmas.Bool.{cases_eq, eq-eqb, ne_eqb}
-use Rattle.std.specs.Prelude.{IfSome}
-use Rattle.atomic_table.specs.Table.{step, rest, turned, Me, Step}
-use mathlib.Core.Option.{none}
-use Rattle.model.specs.Table.{Table}
-use Rattle.model.specs.RoundLists.{RoundListView}
-use Rattle.dependencies.specs.Neighbours.{predecessors, as_list, successors}
+use Rattle.board.proofs.Common.{◌≡◌, ◌≢◌, ℕ, ◌+◌, ◌<◌, ◌≤◌, ◌/◌, ◌↔◌, Bool, ◌==◌, if◌then◌else◌, List, [], ◌∷◌, ◌++◌, length, map, drop, All, append-nil, Option, None, Some, inl, inr, refl, sym, ap, ◌∙◌, subst, arith, cases_eq, eq-eqb, ne_eqb, IfSome, step, rest, turned, Me, Step, none, Table, RoundListView, predecessors, as_list, successors}
 use Rattle.board.specs.Weights.{only, times, Has}
 use Rattle.board.specs.SeatView.{SeatView, IsWhole, with_held, with_told, without_held, with_made, freed_by, joined}
 use Rattle.board.specs.inner.Plays.{with_freed}

@@ -1,7 +1,6 @@
 -- What a claim leaves of a seat.
 -- Serves `tests_of_boards` and `workers`.
-use Rattle.std.proofs.Common.{◌≡◌, ℕ, [], ◌∷◌, sym, ap, subst, arith}
-use Rattle.model.specs.Table.{Table}
+use Rattle.board.proofs.Common.{◌≡◌, ℕ, [], ◌∷◌, sym, ap, subst, arith, Table}
 use Rattle.board.specs.Weights.{Has, only}
 use Rattle.board.specs.SeatView.{SeatView}
 use Rattle.board.specs.Plan.{BoardPlan}

@@ -1,17 +1,7 @@
 -- A claim and the moves of tables keep the rule.
 -- Serves `Finishing`, `Moving` and `Steps`.
-use Rattle.std.proofs.Common.{◌≡◌, ◌≢◌, ℕ, ◌+◌, ◌<◌, true, false, eqb, List, [], ◌∷◌, length, get_or, set, Some, inl, inr, refl, sym, ap, ◌∙◌, subst, arith, length-set, get_or-set_same, get_or-set_other}
-use Rattle.std.proofs.lemmas.Bool.{cases_eq}
-use mathlib.Core.Option.{some, none}
-use mathlib.Core.Logic.{dite}
-use native.Mathlib.Decide.{ℕ_discrete}
-use lib.ListN.{get_elem?}
-use lib.Seq.{set-get_or}
-use prog.Atomic.{either}
-use Rattle.atomic_table.specs.Table.{State, Me, step, Act, keeps, takes, gives, chain, Valid, carried_after, homes_after, stepped, Allows}
-use Rattle.atomic_table.proofs.Lists.{set_here, set_else, exchanged}
-use Rattle.dependencies.specs.Sharing.{takes_part}
-use Rattle.dependencies.proofs.Sharers.{initiator_part, responder_part, not_initiator, not_responder, part_cases}
+use Rattle.board.proofs.Common.{◌≡◌, ◌≢◌, ℕ, ◌+◌, ◌<◌, true, false, eqb, List, [], ◌∷◌, length, get_or, set, Some, inl, inr, refl, sym, ap, ◌∙◌, subst, arith, length-set, get_or-set_same, get_or-set_other, cases_eq, some, none, dite, ℕ_discrete, get_elem?, set-get_or, either, State, Me, step, Act, keeps, takes, gives, chain, Valid, carried_after, homes_after, stepped, Allows, set_here, set_else, takes_part, initiator_part, responder_part, not_initiator, not_responder, part_cases}
+use Rattle.atomic_table.proofs.Lists.{exchanged}
 use Rattle.board.specs.Weights.{only}
 use Rattle.board.specs.SeatView.{SeatView, with_told}
 use Rattle.board.specs.Plan.{BoardPlan, table_at, initiator_of, responder_of}

@@ -1,16 +1,6 @@
 -- The opening and the last state, and seats that are split and joined.
 -- Serves `Board::close`, `Board::new`, `Filling` and `Steps`.
-use Rattle.std.proofs.Common.{◌≡◌, ℕ, zero, suc, ◌+◌, ◌/◌, ◌<◌, ◌≤◌, Bool, true, false, ◌||◌, if◌then◌else◌, nat_le, List, [], ◌∷◌, ◌++◌, length, get_or, set, Some, inl, inr, refl, sym, ap, ◌∙◌, subst, arith}
-use Rattle.std.proofs.lemmas.Bool.{cases_Bool, cases_lt}
-use Rattle.std.proofs.lemmas.List.{length-map, length-append}
-use mathlib.Core.Option.{some, some-injective, some-ne-none}
-use lib.ListN.{get_elem?}
-use Rattle.atomic_table.specs.Table.{State, Splits, Joins, opening, Final, Seen}
-use Rattle.atomic_table.proofs.Lists.{at_set, at_snoc, at_map, set_else}
-use Rattle.model.specs.Table.{Table}
-use Rattle.dependencies.specs.Sharing.{takes_part}
-use Rattle.dependencies.specs.Neighbours.{predecessors, pending_of}
-use Rattle.model.specs.Tables.{table_of_node}
+use Rattle.board.proofs.Common.{◌≡◌, ℕ, zero, suc, ◌+◌, ◌/◌, ◌<◌, ◌≤◌, Bool, true, false, ◌||◌, if◌then◌else◌, nat_le, List, [], ◌∷◌, ◌++◌, length, get_or, set, Some, inl, inr, refl, sym, ap, ◌∙◌, subst, arith, cases_Bool, cases_lt, length-map, length-append, some, some-injective, some-ne-none, get_elem?, State, Splits, Joins, opening, Final, Seen, at_set, at_snoc, at_map, set_else, Table, takes_part, predecessors, pending_of, table_of_node}
 use Rattle.board.specs.Weights.{total, only, times, flag}
 use Rattle.board.specs.SeatView.{SeatView, IsWhole, split_left, split_right, joined}
 use Rattle.board.specs.inner.Plays.{spent_seat}

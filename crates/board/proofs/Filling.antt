@@ -1,29 +1,12 @@
 -- The words and slots that a board is made of, and the tables that come out at its end.
 -- Serves `Board::close`, `Board::new` and `all_out`.
-use Rattle.std.proofs.Common.{◌≡◌, ℕ, zero, suc, ◌+◌, ◌<◌, List, [], ◌∷◌, ◌++◌, length, map, take, drop, get_or, Option, None, Some, refl, sym, ap, ◌∙◌, subst, arith}
-use Rattle.std.specs.Prelude.{Vec}
-use Rattle.std.specs.declared.alloc.Global.{Global}
-use Rattle.std.specs.List.{range_with_len}
-use Rattle.std.proofs.lemmas.List.{length-map}
-use Rattle.std.proofs.lemmas.List.FromFn.{length-map-range_with_len, get_or-map-range_with_len}
-use mathlib.Core.Option.{some, some-injective, some-ne-none}
-use lib.ListN.{get_elem?}
-use Rattle.model.specs.Table.{Table}
-use Rattle.model.specs.RoundLists.{RoundListView}
-use Rattle.model.specs.calls.RoundLists.{IsRoundPlan}
-use Rattle.dependencies.specs.Neighbours.{pending_of}
-use Rattle.dependencies.specs.inner.Slots.{in_place}
-use Rattle.model.specs.Tables.{table_of_node}
-use Rattle.model.specs.calls.Tables.{IsCluster}
-use Rattle.model.specs.Folds.{fold_of}
-use Rattle.model.proofs.FoldLaws.{fold_counts_tables}
+use Rattle.board.proofs.Common.{◌≡◌, ℕ, zero, suc, ◌+◌, ◌<◌, List, [], ◌∷◌, ◌++◌, length, map, take, drop, get_or, Option, None, Some, refl, sym, ap, ◌∙◌, subst, arith, Vec, Global, range_with_len, length-map, length-map-range_with_len, get_or-map-range_with_len, some, some-injective, some-ne-none, get_elem?, Table, RoundListView, IsRoundPlan, pending_of, in_place, table_of_node, IsCluster, fold_of, fold_counts_tables, tables_at_end}
 use Rattle.board.specs.Plan.{BoardPlan, IsBoardPlan, table_at}
 use Rattle.board.specs.Rule.{Slot}
 use Rattle.board.specs.Keys.{IsBoardKey, key_plan}
 use Rattle.board.specs.Models.{slot_model}
 use Rattle.board.specs.declared.plays.BoardKey.{BoardKey}
 use Rattle.board.proofs.Modelled.{table_of}
-use Rattle.dependencies.proofs.Moves.{tables_at_end}
 use Rattle.board.proofs.Ends.{IsOpening}
 
 module _ {T : Type 0} where

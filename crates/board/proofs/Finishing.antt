@@ -1,19 +1,6 @@
 -- A finish, a release, a look and a stop keep the rule.
 -- Serves `Steps`.
-use Rattle.std.proofs.Common.{◌≡◌, ◌≢◌, ℕ, ◌+◌, ◌-◌, ◌*◌, ◌/◌, ◌%◌, ◌<◌, ◌≤◌, Bool, true, ◌==◌, ◌^◌, if◌then◌else◌, List, [], ◌∷◌, ◌++◌, length, map, drop, eq-zero-or-pos, ◌↔◌, All, get_or, set, Some, inl, inr, refl, sym, ap, ◌∙◌, subst, arith, length-set, get_or-set_same, get_or-set_other}
-use Rattle.std.proofs.lemmas.Bool.{cases_eq, cases_lt, eq-eqb, ne_eqb, eqb-true}
-use mathlib.Core.Option.{some, none}
-use mathlib.Core.Logic.{dite}
-use native.Mathlib.Decide.{ℕ_discrete}
-use lib.ListN.{get_elem?}
-use lib.Seq.{set-get_or}
-use lib.Bits.{bit_or, or_shifted, or_add_and, and_mask}
-use Rattle.atomic_table.specs.Table.{step, keeps, gives, chain, Allows}
-use Rattle.atomic_table.proofs.Lists.{at_set}
-use Rattle.model.specs.Table.{Table}
-use Rattle.dependencies.specs.Sharing.{takes_part}
-use Rattle.dependencies.specs.Neighbours.{predecessors, pending_of}
-use Rattle.dependencies.proofs.Moves.{initiator_left, responder_left}
+use Rattle.board.proofs.Common.{◌≡◌, ◌≢◌, ℕ, ◌+◌, ◌-◌, ◌*◌, ◌/◌, ◌%◌, ◌<◌, ◌≤◌, Bool, true, ◌==◌, ◌^◌, if◌then◌else◌, List, [], ◌∷◌, ◌++◌, length, map, drop, eq-zero-or-pos, ◌↔◌, All, get_or, set, Some, inl, inr, refl, sym, ap, ◌∙◌, subst, arith, length-set, get_or-set_same, get_or-set_other, cases_eq, cases_lt, eq-eqb, ne_eqb, eqb-true, some, none, dite, ℕ_discrete, get_elem?, set-get_or, bit_or, or_shifted, or_add_and, and_mask, step, keeps, gives, chain, Allows, at_set, Table, takes_part, predecessors, pending_of, initiator_left, responder_left}
 use Rattle.board.specs.Weights.{total, only, times, flag}
 use Rattle.board.specs.SeatView.{SeatView, IsWhole, with_made, having_seen, having_stopped}
 use Rattle.board.specs.inner.Plays.{with_freed}

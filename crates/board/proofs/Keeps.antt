@@ -1,12 +1,6 @@
 -- The frame of each step: what one seat's change makes of the counts over all seats, and the steps that change no count.
 -- Serves `Claims`, `Finishing`, `Moving` and `Telling`.
-use Rattle.std.proofs.Common.{◌≡◌, ℕ, ◌+◌, ◌*◌, ◌<◌, ◌≤◌, ◌⊎◌, Bool, true, false, List, length, get_or, set, inl, inr, ap, ◌∙◌, subst, arith}
-use Rattle.std.proofs.lemmas.Bool.{cases_Bool, cases_lt}
-use mathlib.Core.Option.{some}
-use lib.ListN.{get_elem?}
-use Rattle.atomic_table.specs.Table.{State}
-use Rattle.atomic_table.proofs.Lists.{at_set}
-use Rattle.bench_types.specs.declared.exchanges.Exchange.{Exchange}
+use Rattle.board.proofs.Common.{◌≡◌, ℕ, ◌+◌, ◌*◌, ◌<◌, ◌≤◌, ◌⊎◌, Bool, true, false, List, length, get_or, set, inl, inr, ap, ◌∙◌, subst, arith, cases_Bool, cases_lt, some, get_elem?, State, at_set, Exchange}
 use Rattle.board.specs.Weights.{total, times, flag}
 use Rattle.board.specs.Plan.{BoardPlan}
 use Rattle.board.specs.Rule.{Slot, Home, made_in, held_in, moving_in, running_in, freed_in, told_in, known_in, owed_from, owed_to, from_only, to_only, finished_in, parts_in, stops_known, stops_called, AreInformed, OwesForMade, AreSeats, Orderly}

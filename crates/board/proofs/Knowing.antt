@@ -1,6 +1,6 @@
 -- What a whole seat was told, knows and has freed is its own, for the law `every_whole_seat_knows_its_own`.
 -- Serves `every_whole_seat_knows_its_own`.
-use Rattle.std.proofs.Common.{refl}
+use Rattle.board.proofs.Common.{refl}
 use Rattle.board.specs.Seats.{resting}
 use Rattle.board.specs.Laws.{EachWholeSeatKnowsItsOwn}
 use Rattle.board.proofs.Telling.{its_own}

@@ -16,3 +16,4 @@ pub mod Knowing
 pub mod Claimed
 pub mod Meeting
 pub mod Returning
+pub mod Common

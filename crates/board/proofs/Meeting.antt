@@ -1,11 +1,6 @@
 -- The exchange of a hold may be carried out on its tables.
 -- Serves `every_hold_may_be_exchanged` and `workers`.
-use Rattle.std.proofs.Common.{◌<◌, ◌∙◌, sym, subst}
-use Rattle.bench_types.specs.calls.Exchange.{IsPlanned}
-use Rattle.model.specs.Table.{Table}
-use Rattle.model.specs.Tables.{table_of_node, IsTableOf}
-use Rattle.model.proofs.FoldLaws.{before_tables}
-use Rattle.dependencies.specs.Sharing.{exchange_at, no_exchange}
+use Rattle.board.proofs.Common.{◌<◌, ◌∙◌, sym, subst, IsPlanned, Table, table_of_node, IsTableOf, before_tables, exchange_at, no_exchange}
 use Rattle.board.specs.Laws.{EachHoldMayBeExchanged}
 
 pub may_be_exchanged : {T : Type 0} (table : T → Table) → EachHoldMayBeExchanged table

@@ -1,13 +1,6 @@
 -- Steps on tables in memory, from the same steps on their models.
 -- Serves the functions of `boards`, `Calls`, `Filling` and `Steps`.
-use Rattle.std.proofs.Common.{◌≡◌, ℕ, zero, suc, List, [], ◌∷◌, length, map, set, get_or, Option, None, Some, refl, sym, ap, ◌∙◌, subst, arith}
-use Rattle.std.proofs.lemmas.List.{length-map, map-set}
-use Rattle.std.proofs.lemmas.Option.{none-some, same_Some}
-use mathlib.Core.Option.{some, none, some-injective, some-ne-none}
-use lib.ListN.{get_elem?}
-use Rattle.atomic_table.specs.Table.{State, Me, Act, keeps, takes, gives, chain, Valid, carried_after, homes_after, Allows, Splits, Joins, opening, Final, Seen}
-use Rattle.atomic_table.proofs.Lists.{at_map}
-use Rattle.model.specs.Table.{Table}
+use Rattle.board.proofs.Common.{◌≡◌, ℕ, zero, suc, List, [], ◌∷◌, length, map, set, get_or, Option, None, Some, refl, sym, ap, ◌∙◌, subst, arith, length-map, map-set, none-some, same_Some, some, none, some-injective, some-ne-none, get_elem?, State, Me, Act, keeps, takes, gives, chain, Valid, carried_after, homes_after, Allows, Splits, Joins, opening, Final, Seen, at_map, Table}
 use Rattle.board.specs.Rule.{Slot}
 use Rattle.board.specs.Seats.{Sat}
 use Rattle.board.specs.Models.{slot_model, home_model, state_model, carried_model, seat_model}

@@ -1,13 +1,6 @@
 -- The moves of tables between two steps on words keep the rule.
 -- Serves `Finishing` and `Steps`.
-use Rattle.std.proofs.Common.{◌≡◌, ℕ, ◌+◌, ◌*◌, ◌<◌, List, [], ◌∷◌, length, get_or, set, None, inl, inr, refl, sym, ap, ◌∙◌, subst, arith, length-set}
-use Rattle.std.proofs.lemmas.Bool.{cases_lt}
-use mathlib.Core.Option.{some, none}
-use lib.ListN.{get_elem?}
-use lib.Seq.{set-get_or}
-use Rattle.atomic_table.specs.Table.{step, takes, gives, chain, Allows}
-use Rattle.atomic_table.proofs.Lists.{set_else}
-use Rattle.dependencies.proofs.Sharers.{initiator_part, responder_part}
+use Rattle.board.proofs.Common.{◌≡◌, ℕ, ◌+◌, ◌*◌, ◌<◌, List, [], ◌∷◌, length, get_or, set, None, inl, inr, refl, sym, ap, ◌∙◌, subst, arith, length-set, cases_lt, some, none, get_elem?, set-get_or, step, takes, gives, chain, Allows, set_else, initiator_part, responder_part}
 use Rattle.board.specs.Weights.{total, only, times, flag, Has}
 use Rattle.board.specs.SeatView.{SeatView, with_held, without_held}
 use Rattle.board.specs.Plan.{BoardPlan, initiator_of, responder_of}

@@ -1,16 +1,7 @@
 -- What a claim, a move of tables, a finish and a release make of the parts of the rule. Here the lists of all seats stand
 -- as counts by index.
 -- Serves most of the crate.
-use Rattle.std.proofs.Common.{◌≡◌, ◌≢◌, ℕ, zero, suc, ◌+◌, ◌<◌, ◌≤◌, ◌⊎◌, true, false, List, length, None, Some, inl, inr, sym, ap, ◌∙◌, subst, arith}
-use Rattle.std.proofs.lemmas.Bool.{cases_Bool, cases_eq, cases_lt, false≢true}
-use mathlib.Core.Option.{some}
-use lib.ListN.{get_elem?}
-use Rattle.bench_types.specs.declared.exchanges.Exchange.{Exchange}
-use Rattle.dependencies.specs.Sharing.{takes_part, share_node}
-use Rattle.dependencies.specs.Neighbours.{predecessors, pending_of}
-use Rattle.dependencies.proofs.Predecessors.{share_from}
-use Rattle.dependencies.proofs.Moves.{table_still}
-use Rattle.model.specs.Table.{Table}
+use Rattle.board.proofs.Common.{◌≡◌, ◌≢◌, ℕ, zero, suc, ◌+◌, ◌<◌, ◌≤◌, ◌⊎◌, true, false, List, length, None, Some, inl, inr, sym, ap, ◌∙◌, subst, arith, cases_Bool, cases_eq, cases_lt, false≢true, some, get_elem?, Exchange, takes_part, share_node, predecessors, pending_of, share_from, table_still, Table}
 use Rattle.board.specs.Weights.{only, times}
 use Rattle.board.specs.Plan.{BoardPlan, table_at}
 use Rattle.board.specs.inner.Plays.{successor_list}

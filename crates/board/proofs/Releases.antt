@@ -1,14 +1,6 @@
 -- The successors of an exchange are those whose predecessor it is, each once.
 -- Serves `Calls`, `Finishing`, `Parts` and `workers`.
-use Rattle.std.proofs.Common.{◌≡◌, ℕ, zero, suc, ◌+◌, ◌-◌, ◌<◌, ◌≤◌, ◌⊎◌, Bool, true, false, cond, if◌then◌else◌, List, ◌++◌, length, Option, None, Some, inl, inr, sym, ap, ◌∙◌, subst, arith, find}
-use Rattle.std.specs.List.{range_with_len}
-use Rattle.std.proofs.lemmas.Bool.{cases_Bool, cases_eq, cases_lt, eq-eqb, ne_eqb, or_left, or_right, false≢true}
-use Rattle.std.proofs.lemmas.Option.{none-some, same_Some}
-use Rattle.bench_types.specs.declared.exchanges.Exchange.{Exchange}
-use Rattle.dependencies.specs.Sharing.{exchange_at, takes_part, share_node}
-use Rattle.dependencies.specs.Neighbours.{last_before, first_from, unless_same, as_list, predecessors}
-use Rattle.dependencies.proofs.Predecessors.{last_before-is, last_before-reaches}
-use Rattle.dependencies.proofs.Sharers.{part_cases, initiator_part, responder_part}
+use Rattle.board.proofs.Common.{◌≡◌, ℕ, zero, suc, ◌+◌, ◌-◌, ◌<◌, ◌≤◌, ◌⊎◌, Bool, true, false, cond, if◌then◌else◌, List, ◌++◌, length, Option, None, Some, inl, inr, sym, ap, ◌∙◌, subst, arith, find, range_with_len, cases_Bool, cases_eq, cases_lt, eq-eqb, ne_eqb, or_left, or_right, false≢true, none-some, same_Some, Exchange, exchange_at, takes_part, share_node, last_before, first_from, unless_same, as_list, predecessors, last_before-is, last_before-reaches, part_cases, initiator_part, responder_part}
 use Rattle.board.specs.Weights.{only, times}
 use Rattle.board.specs.inner.Plays.{successor_list}
 use Rattle.board.proofs.Sums.{only-same, only-other, only_at}

@@ -1,9 +1,7 @@
 -- What an exchange leaves of a hold's tables may be put back.
 -- Serves `every_exchange_may_be_put_back`, `tests_of_boards` and `workers`.
-use Rattle.std.proofs.Common.{◌≡◌, ◌∙◌, sym, ap, subst}
-use Rattle.model.specs.Table.{Table}
-use Rattle.model.specs.Exchanged.{Exchanged, exchanged}
-use Rattle.dependencies.specs.Sharing.{exchange_at}
+use Rattle.board.proofs.Common.{◌≡◌, ◌∙◌, sym, ap, subst, Table, Exchanged, exchange_at}
+use Rattle.model.specs.Exchanged.{exchanged}
 use Rattle.board.specs.Weights.{Has}
 use Rattle.board.specs.Plan.{table_at, responder_of, exchanged_at}
 use Rattle.board.specs.Laws.{EachMayBePutBack}

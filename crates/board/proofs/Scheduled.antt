@@ -1,18 +1,6 @@
 -- The lawful schedule at which a board stands.
 -- Serves `every_board_keeps_a_schedule`.
-use Rattle.std.proofs.Common.{◌≡◌, ℕ, zero, suc, ◌+◌, ◌<◌, ◌≤◌, ◌⊎◌, Bool, true, false, not, ◌&&◌, ◌||◌, if◌then◌else◌, nat_lt, List, length, All, inl, inr, refl, sym, ap, ◌∙◌, subst, arith}
-use Rattle.std.proofs.lemmas.Bool.{cases_Bool, cases_eq, cases_lt, false≢true, and_parts, and_from, lt-ltb, le-ltb}
-use Rattle.bench_types.specs.declared.exchanges.Exchange.{Exchange}
-use Rattle.bench_types.specs.calls.Exchange.{IsPlanned}
-use Rattle.dependencies.specs.declared.events.Event.{Event}
-use Rattle.dependencies.specs.Sharing.{takes_part}
-use Rattle.dependencies.specs.Schedules.{is_started, is_finished, is_running}
-use Rattle.dependencies.specs.Neighbours.{predecessors}
-use Rattle.dependencies.specs.ListOrder.{finished_upto, schedule_of, AreClosed}
-use Rattle.dependencies.proofs.Predecessors.{predecessors_earlier, share_from}
-use Rattle.dependencies.proofs.Sets.{below, schedule_from}
-use Rattle.dependencies.proofs.Lawful.{in_list_order}
-use Rattle.atomic_table.specs.Table.{State}
+use Rattle.board.proofs.Common.{◌≡◌, ℕ, zero, suc, ◌+◌, ◌<◌, ◌≤◌, ◌⊎◌, Bool, true, false, not, ◌&&◌, ◌||◌, if◌then◌else◌, nat_lt, List, length, All, inl, inr, refl, sym, ap, ◌∙◌, subst, arith, cases_Bool, cases_eq, cases_lt, false≢true, and_parts, and_from, lt-ltb, le-ltb, Exchange, IsPlanned, Event, takes_part, is_started, is_finished, is_running, predecessors, finished_upto, schedule_of, AreClosed, predecessors_earlier, share_from, below, schedule_from, in_list_order, State}
 use Rattle.board.specs.Plan.{BoardPlan, table_at}
 use Rattle.board.specs.Rule.{Slot, made_in, running_in, AreFinishedBelow, NoneIsClaimedFrom, Orderly}
 use Rattle.board.specs.Laws.{IsScheduled, EachKeepsASchedule}

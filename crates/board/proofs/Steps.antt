@@ -1,11 +1,6 @@
 -- What the rule allows of a seat, its tables in memory seen as models.
 -- Serves the functions of `boards`.
-use Rattle.std.proofs.Common.{◌≡◌, ℕ, ◌+◌, ◌-◌, ◌%◌, ◌^◌, ◌<◌, ◌≤◌, eqb, List, [], ◌∷◌, length, Option, None, Some, refl, ap}
-use mathlib.Core.Option.{none}
-use lib.Bits.{bit_or}
-use prog.Atomic.{either}
-use Rattle.atomic_table.specs.Table.{Me, Step, step, Allows, Splits, Joins}
-use Rattle.model.specs.Table.{Table}
+use Rattle.board.proofs.Common.{◌≡◌, ℕ, ◌+◌, ◌-◌, ◌%◌, ◌^◌, ◌<◌, ◌≤◌, eqb, List, [], ◌∷◌, length, Option, None, Some, refl, ap, none, bit_or, either, Me, Step, step, Allows, Splits, Joins, Table}
 use Rattle.board.specs.Weights.{Has}
 use Rattle.board.specs.SeatView.{SeatView}
 use Rattle.board.specs.Plan.{BoardPlan, initiator_of, responder_of, exchanged_at}

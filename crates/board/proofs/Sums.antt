@@ -1,10 +1,6 @@
 -- Sums over lists that change at one place, and how often an index stands in a list.
 -- Serves most of the crate and `workers`.
-use Rattle.std.proofs.Common.{◌≡◌, ℕ, zero, suc, ◌+◌, ◌<◌, ◌≤◌, ◌≢◌, Bool, List, [], ◌∷◌, ◌++◌, length, set, sym, refl, ap, ◌∙◌, subst, inl, inr, arith, cond, if◌then◌else◌, All}
-use Rattle.std.proofs.lemmas.Bool.{cases_eq, eq-eqb, ne_eqb, cases_lt}
-use Rattle.std.proofs.lemmas.List.Elements.{All-nil, All-cons, All-head, All-tail}
-use mathlib.Core.Option.{some, some-injective, some-ne-none}
-use lib.ListN.{get_elem?}
+use Rattle.board.proofs.Common.{◌≡◌, ℕ, zero, suc, ◌+◌, ◌<◌, ◌≤◌, ◌≢◌, Bool, List, [], ◌∷◌, ◌++◌, length, set, sym, refl, ap, ◌∙◌, subst, inl, inr, arith, cond, if◌then◌else◌, All, cases_eq, eq-eqb, ne_eqb, cases_lt, All-nil, All-cons, All-head, All-tail, some, some-injective, some-ne-none, get_elem?}
 use Rattle.board.specs.Weights.{total, only, times}
 use Rattle.board.specs.SeatView.{without}
 

@@ -1,18 +1,6 @@
 -- What a seat may conclude from the rule.
 -- Serves `Claims`, `Ends`, `Finishing`, `Knowing` and `Moving`.
-use Rattle.std.proofs.Common.{◌≡◌, ◌≢◌, ℕ, ◌+◌, ◌*◌, ◌/◌, ◌%◌, ◌<◌, ◌≤◌, true, List, [], length, get_or, Option, None, Some, inl, inr, sym, ap, ◌∙◌, subst, arith, All, ◌↔◌, ◌⊎◌}
-use Rattle.std.proofs.lemmas.Bool.{cases_Bool, cases_eq, cases_lt, eq-eqb, eqb-true}
-use Rattle.std.proofs.lemmas.List.{length-append}
-use Rattle.std.proofs.lemmas.List.Elements.{All-get_or}
-use mathlib.Core.Option.{some, some-injective}
-use lib.ListN.{get_elem?}
-use Rattle.atomic_table.specs.Table.{State}
-use Rattle.bench_types.specs.declared.exchanges.Exchange.{Exchange}
-use Rattle.bench_types.specs.calls.Exchange.{IsPlanned}
-use Rattle.dependencies.specs.Sharing.{no_exchange, exchange_at, takes_part, share_node}
-use Rattle.dependencies.specs.Neighbours.{predecessors, pending_of, as_list, predecessors_of}
-use Rattle.dependencies.proofs.Predecessors.{earlier_from_predecessors, predecessors_earlier, share_from}
-use Rattle.dependencies.proofs.Sharers.{share_common}
+use Rattle.board.proofs.Common.{◌≡◌, ◌≢◌, ℕ, ◌+◌, ◌*◌, ◌/◌, ◌%◌, ◌<◌, ◌≤◌, true, List, [], length, get_or, Option, None, Some, inl, inr, sym, ap, ◌∙◌, subst, arith, All, ◌↔◌, ◌⊎◌, cases_Bool, cases_eq, cases_lt, eq-eqb, eqb-true, length-append, All-get_or, some, some-injective, get_elem?, State, Exchange, IsPlanned, no_exchange, exchange_at, takes_part, share_node, predecessors, pending_of, as_list, predecessors_of, earlier_from_predecessors, predecessors_earlier, share_from, share_common}
 use Rattle.board.specs.Weights.{total, only, times, flag, Has}
 use Rattle.board.specs.SeatView.{IsWhole, having_seen}
 use Rattle.board.specs.Plan.{BoardPlan, IsBoardPlan, table_at}

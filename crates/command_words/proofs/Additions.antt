@@ -1,12 +1,6 @@
 -- What `clap` reads of a command that was added to.
 -- Serves `commands`, `compare` and `run`.
-use Rattle.std.proofs.Common.{◌≡◌, ◌∙◌, true, false, not, is_some, ap}
-use Rattle.clap.specs.Walk.{is_empty, is_simple_arg}
-use Rattle.clap.specs.Words.{AddsArg, AddsSubcommand, Rule, Shape, app_of, rule_of, shape_of, with_rule, with_subcommand}
-use Rattle.clap.proofs.SimpleLemmas.{is_false, plain_fields}
-use Rattle.clap.proofs.WalkLemmas.{both}
-use Rattle.clap.specs.declared.builder.arg.Arg.{Arg}
-use Rattle.clap.specs.declared.builder.command.Command.{Command}
+use Rattle.command_words.proofs.Common.{◌≡◌, ◌∙◌, true, false, not, is_some, ap, is_empty, is_simple_arg, AddsArg, AddsSubcommand, Rule, Shape, app_of, rule_of, shape_of, with_rule, with_subcommand, is_false, plain_fields, both, Arg, Command}
 
 simple_is_local : (a : Arg) → is_simple_arg a ≡ true → a.global ≡ false
 simple_is_local a e =

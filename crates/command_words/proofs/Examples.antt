@@ -1,10 +1,6 @@
 -- What some words come to.
 -- Serves no file: it is for readers.
-use Rattle.std.proofs.Common.{◌≡◌, List, [], ◌∷◌, Option, Some, None, codes, refl}
-use Rattle.clap.specs.Words.{Text, first_of, one_of}
-use Rattle.clap.proofs.OnLiterals.{clap_on_literals}
-use Rattle.clap.specs.declared.error.ErrorKind.TheVariants.{DisplayHelp, MissingSubcommand, UnknownArgument, ValueValidation}
-use Rattle.std.specs.Prelude.{option_map}
+use Rattle.command_words.proofs.Common.{◌≡◌, List, [], ◌∷◌, Option, Some, None, codes, refl, Text, first_of, one_of, clap_on_literals, DisplayHelp, MissingSubcommand, UnknownArgument, ValueValidation, option_map}
 use Rattle.command_words.specs.Program.{program}
 use Rattle.command_words.specs.Words.{command_of, faults_of}
 

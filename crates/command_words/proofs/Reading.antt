@@ -1,15 +1,6 @@
 -- What the options of a command say, by what `clap` reads of them.
 -- Serves `asked_for` and `workers_of`.
-use Rattle.std.proofs.Common.{◌≡◌, ◌≤◌, ℕ, List, Option, Some, None, Result, codes, option_map, refl, sym, arith, Box, Global, MatchOption, ◌∙◌}
-use Rattle.std.specs.Str.Parse.{ParsesUnsigned, ExplainsUnsignedError, HasUnsignedDigitsIfOk, IsNumeral, digits_value, without_leading_plus}
-use Rattle.clap.specs.Words.{ReadsOne, Row, Text, one_of, one_text, rows_of, subcommand_name_of, subcommand_rows, subcommand_rows_of}
-use Rattle.clap.proofs.WalkLemmas.{one_text-rows}
-use Rattle.clap.specs.declared.parser.matches.Found.{Found}
-use Rattle.clap.specs.declared.parser.matches.SubCommand.{SubCommand}
-use Rattle.std.specs.Box.{box_value}
-use Rattle.std.specs.declared.num.ParseIntError.{ParseIntError}
-use Rattle.clap.specs.declared.parser.matches.ArgMatches.{ArgMatches}
-use Rattle.clap.specs.declared.parser.matches.ArgMatches.TheViews.{out-ArgMatches, out-SubCommand}
+use Rattle.command_words.proofs.Common.{◌≡◌, ◌≤◌, ℕ, List, Option, Some, None, Result, codes, option_map, refl, sym, arith, Box, Global, MatchOption, ◌∙◌, ParsesUnsigned, ExplainsUnsignedError, HasUnsignedDigitsIfOk, IsNumeral, digits_value, without_leading_plus, ReadsOne, Row, Text, one_of, one_text, rows_of, subcommand_name_of, subcommand_rows, subcommand_rows_of, one_text-rows, Found, SubCommand, box_value, ParseIntError, ArgMatches, out-ArgMatches, out-SubCommand}
 use Rattle.command_words.specs.Jobs.{AreWorkersOf, AsksForNone}
 use Rattle.command_words.specs.Workers.{AreLawfulWorkers}
 use Rattle.command_words.specs.declared.jobs.Job.TheVariants.{Check, Run, Compare}

@@ -1,11 +1,6 @@
 -- Lawful schedules, event by event.
 -- Serves `predecessors_tell_of_all_earlier`, `Lawful`, `Moments`, `Sets` and `planner`.
-use Rattle.std.proofs.Common.{◌≡◌, ℕ, zero, suc, ◌+◌, ◌<◌, ◌≤◌, Bool, true, false, not, ◌==◌, ◌||◌, List, [], ◌∷◌, ◌++◌, length, take, slice_get, Some, ◌⊎◌, inl, inr, refl, sym, ap, ◌∙◌, subst, arith}
-use Rattle.std.proofs.lemmas.Bool.{cases_lt, or_cases, or_left, and_parts, eqb-true, false≢true}
-use Rattle.std.proofs.lemmas.List.{take_more, take_all, take-take, take-append-le, take_at, length_push, length-take-le}
-use Rattle.std.proofs.lemmas.Option.{none-some, same_Some, slice_get_within, slice_get_cases}
-use Rattle.std.proofs.lemmas.List.Folds.{list_any-append}
-use Rattle.bench_types.specs.declared.exchanges.Exchange.{Exchange}
+use Rattle.dependencies.proofs.Common.{◌≡◌, ℕ, zero, suc, ◌+◌, ◌<◌, ◌≤◌, Bool, true, false, not, ◌==◌, ◌||◌, List, [], ◌∷◌, ◌++◌, length, take, slice_get, Some, ◌⊎◌, inl, inr, refl, sym, ap, ◌∙◌, subst, arith, cases_lt, or_cases, or_left, and_parts, eqb-true, false≢true, take_more, take_all, take-take, take-append-le, take_at, length_push, length-take-le, none-some, same_Some, slice_get_within, slice_get_cases, list_any-append, Exchange}
 use Rattle.dependencies.specs.declared.events.Event.{Event}
 use Rattle.dependencies.specs.declared.events.Event.TheVariants.{Start, Finish}
 use Rattle.dependencies.specs.Sharing.{share_node}

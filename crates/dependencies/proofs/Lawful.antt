@@ -1,15 +1,6 @@
 -- Every lawful schedule gives the tables and records of list order.
 -- Serves `every_schedule_keeps_list_order`, `every_whole_schedule_gives_list_order`, `board` and `planner`.
-use Rattle.std.proofs.Common.{◌≡◌, ◌≢◌, ◌∙◌, ℕ, suc, ◌+◌, ◌<◌, ◌≤◌, ◌⊎◌, Bool, true, false, if◌then◌else◌, List, [], ◌∷◌, ◌++◌, length, inl, inr, Option, None, Some, refl, sym, ap, subst, arith, add-one}
-use Rattle.std.specs.Prelude.{slice_get}
-use Rattle.std.proofs.lemmas.Bool.{cases_Bool, cases_lt, cases_eq, and_from, false_from_ne_true, false≢true}
-use Rattle.std.proofs.lemmas.List.Sums.{fold_push}
-use Rattle.std.proofs.lemmas.Option.{slice_get-get_or}
-use Rattle.bench_types.specs.declared.exchanges.Exchange.{Exchange}
-use Rattle.bench_types.specs.declared.exchanges.Rules.{Rules}
-use Rattle.model.specs.Table.{Table, empty_table}
-use Rattle.model.specs.Exchanged.{Exchanged}
-use Rattle.model.specs.Folds.{fold_of}
+use Rattle.dependencies.proofs.Common.{◌≡◌, ◌≢◌, ◌∙◌, ℕ, suc, ◌+◌, ◌<◌, ◌≤◌, ◌⊎◌, Bool, true, false, if◌then◌else◌, List, [], ◌∷◌, ◌++◌, length, inl, inr, Option, None, Some, refl, sym, ap, subst, arith, add-one, slice_get, cases_Bool, cases_lt, cases_eq, and_from, false_from_ne_true, false≢true, fold_push, slice_get-get_or, Exchange, Rules, Table, empty_table, Exchanged, fold_of}
 use Rattle.dependencies.specs.declared.events.Event.{Event}
 use Rattle.dependencies.specs.declared.events.Event.TheVariants.{Start, Finish}
 use Rattle.dependencies.specs.Sharing.{exchange_at, takes_part, share_node}

@@ -9,3 +9,4 @@ pub mod Sharers
 pub mod Maps
 pub mod Moves
 pub mod Passes
+pub mod Common

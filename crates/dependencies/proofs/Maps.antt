@@ -1,7 +1,6 @@
 -- A map changed at one place, and at two.
 -- Serves `Lawful` and `planner`.
-use Rattle.std.proofs.Common.{◌≡◌, ◌≢◌, ℕ, ◌==◌, ◌∙◌}
-use Rattle.std.proofs.lemmas.Bool.{eq-eqb, ne_eqb, cond-true, cond-false}
+use Rattle.dependencies.proofs.Common.{◌≡◌, ◌≢◌, ℕ, ◌==◌, ◌∙◌, eq-eqb, ne_eqb, cond-true, cond-false}
 use Rattle.dependencies.specs.States.{with_at}
 
 pub with_at-same : {A : Type 0} (f : ℕ → A) (place n : ℕ) (x : A) → n ≡ place → with_at f place x n ≡ x

@@ -1,21 +1,6 @@
 -- One node's table along list order: it changes by the exchanges of the node alone.
 -- Serves `Lawful`, `board` and `workers`.
-use Rattle.std.proofs.Common.{◌≡◌, ◌∙◌, ℕ, suc, zero, ◌+◌, ◌<◌, ◌≤◌, Bool, true, false, ◌&&◌, if◌then◌else◌, List, [], ◌∷◌, ◌++◌, length, take, drop, get_or, set, fold, inl, inr, Some, refl, sym, ap, arith, add-one}
-use Rattle.std.specs.Prelude.{slice_get}
-use Rattle.std.proofs.lemmas.Bool.{cases_Bool, cases_lt, and_from}
-use Rattle.std.proofs.lemmas.List.{get_or-set_same, get_or-set_other, length-set, take_all, take-append-drop, get_or_append_left, length-take-le, length-append}
-use Rattle.std.proofs.Math.Seq.{get_or-append_seam}
-use Rattle.std.proofs.lemmas.List.Sums.{fold_more, fold-append}
-use Rattle.std.proofs.lemmas.List.Elements.{All-get_or}
-use Rattle.std.proofs.lemmas.Option.{slice_get-get_or}
-use Rattle.bench_types.specs.declared.exchanges.Exchange.{Exchange}
-use Rattle.bench_types.specs.declared.exchanges.Rules.{Rules}
-use Rattle.model.specs.Table.{Table, empty_table}
-use Rattle.model.specs.Exchanged.{Exchanged, exchanged}
-use Rattle.model.specs.Tables.{table_of_node}
-use Rattle.model.proofs.FoldLaws.{fold_counts_records, fold_counts_tables}
-use Rattle.model.specs.Folds.{Folded, exchange_in, fold_of, tables_before}
-use Rattle.bench_types.specs.calls.Exchange.{IsPlanned}
+use Rattle.dependencies.proofs.Common.{◌≡◌, ◌∙◌, ℕ, suc, zero, ◌+◌, ◌<◌, ◌≤◌, Bool, true, false, ◌&&◌, if◌then◌else◌, List, [], ◌∷◌, ◌++◌, length, take, drop, get_or, set, fold, inl, inr, Some, refl, sym, ap, arith, add-one, slice_get, cases_Bool, cases_lt, and_from, get_or-set_same, get_or-set_other, length-set, take_all, take-append-drop, get_or_append_left, length-take-le, length-append, get_or-append_seam, fold_more, fold-append, All-get_or, slice_get-get_or, Exchange, Rules, Table, empty_table, Exchanged, exchanged, table_of_node, fold_counts_records, fold_counts_tables, Folded, exchange_in, fold_of, tables_before, IsPlanned}
 use Rattle.dependencies.specs.declared.events.Event.{Event}
 use Rattle.dependencies.specs.Sharing.{no_exchange, exchange_at, takes_part}
 use Rattle.dependencies.specs.Schedules.{is_finished}

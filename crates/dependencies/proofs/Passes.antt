@@ -1,13 +1,6 @@
 -- The two passes over a list: the last exchange of each node before a place, and the first from a place on.
 -- Serves the functions of `deps`.
-use Rattle.std.proofs.Common.{◌≡◌, ℕ, suc, inl, inr, ◌+◌, ◌-◌, ◌<◌, ◌≤◌, ◌||◌, Bool, true, false, cond, List, [], ◌∷◌, ◌++◌, length, map, get_or, set, add-one, refl, sym, ap, ◌∙◌, arith, append-nil, length-set, get_or-set_other, get_or-set_same}
-use Rattle.std.specs.Prelude.{Option, None, Some, nat_eq}
-use Rattle.std.specs.List.{range_with_len, find, filter}
-use Rattle.std.proofs.lemmas.Bool.{cases_eq, eq-eqb, ne_eqb}
-use Rattle.std.proofs.lemmas.List.{map-id}
-use Rattle.std.proofs.lemmas.List.FromFn.{map-range_with_len_more, fill_by_all, get_or-map-range_with_len, length-map-range_with_len, filter_of_map_range_with_len_more}
-use Rattle.bench_types.specs.declared.exchanges.Exchange.{Exchange}
-use Rattle.bench_types.specs.calls.Exchange.{IsPlanned}
+use Rattle.dependencies.proofs.Common.{◌≡◌, ℕ, suc, inl, inr, ◌+◌, ◌-◌, ◌<◌, ◌≤◌, ◌||◌, Bool, true, false, cond, List, [], ◌∷◌, ◌++◌, length, map, get_or, set, add-one, refl, sym, ap, ◌∙◌, arith, append-nil, length-set, get_or-set_other, get_or-set_same, Option, None, Some, nat_eq, range_with_len, find, filter, cases_eq, eq-eqb, ne_eqb, map-id, map-range_with_len_more, fill_by_all, get_or-map-range_with_len, length-map-range_with_len, filter_of_map_range_with_len_more, Exchange, IsPlanned}
 use Rattle.dependencies.specs.declared.deps.After.{After}
 use Rattle.dependencies.specs.declared.deps.Before.{Before}
 use Rattle.dependencies.specs.Sharing.{exchange_at, takes_part}

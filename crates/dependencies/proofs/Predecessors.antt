@@ -1,10 +1,6 @@
 -- What the predecessors of an exchange tell of all earlier exchanges of its nodes.
 -- Serves `predecessors_tell_of_all_earlier`, `Lawful`, `Sets`, `Sharers`, `board` and `planner`.
-use Rattle.std.proofs.Common.{◌≡◌, ℕ, zero, suc, ◌<◌, ◌≤◌, Bool, true, false, ◌==◌, if◌then◌else◌, List, [], ◌∷◌, ◌++◌, Option, None, Some, inl, inr, All, refl, sym, ap, ◌∙◌, subst, arith}
-use Rattle.std.proofs.lemmas.Bool.{cases_eq, or_cases, or_left, or_right, eqb-true, false≢true}
-use Rattle.std.proofs.lemmas.Option.{none-some, same_Some}
-use Rattle.std.proofs.lemmas.List.Elements.{All-nil, All-cons, All-head, All-tail}
-use Rattle.bench_types.specs.declared.exchanges.Exchange.{Exchange}
+use Rattle.dependencies.proofs.Common.{◌≡◌, ℕ, zero, suc, ◌<◌, ◌≤◌, Bool, true, false, ◌==◌, if◌then◌else◌, List, [], ◌∷◌, ◌++◌, Option, None, Some, inl, inr, All, refl, sym, ap, ◌∙◌, subst, arith, cases_eq, or_cases, or_left, or_right, eqb-true, false≢true, none-some, same_Some, All-nil, All-cons, All-head, All-tail, Exchange}
 use Rattle.dependencies.specs.Sharing.{exchange_at, takes_part, share_node}
 use Rattle.dependencies.specs.Neighbours.{last_before, unless_same, as_list, predecessors}
 

@@ -1,8 +1,6 @@
 -- Exchanges that share a node.
 -- Serves `Lawful`, `Moves` and `board`.
-use Rattle.std.proofs.Common.{◌≡◌, ◌≢◌, ◌∙◌, ℕ, ◌⊎◌, true, false, ◌==◌, List, inl, inr, refl, sym, subst}
-use Rattle.std.proofs.lemmas.Bool.{or_cases, or_left, or_right, eqb-true, eq-eqb, false≢true}
-use Rattle.bench_types.specs.declared.exchanges.Exchange.{Exchange}
+use Rattle.dependencies.proofs.Common.{◌≡◌, ◌≢◌, ◌∙◌, ℕ, ◌⊎◌, true, false, ◌==◌, List, inl, inr, refl, sym, subst, or_cases, or_left, or_right, eqb-true, eq-eqb, false≢true, Exchange}
 use Rattle.dependencies.specs.Sharing.{exchange_at, takes_part, share_node}
 use Rattle.dependencies.proofs.Predecessors.{share_from}
 

@@ -1,13 +1,6 @@
 -- Candidates stand at different places, and the rotation turns different owners to different turns.
 -- Serves `Levels`, `delta_plans` and `reconcile`.
-use Rattle.std.proofs.Common.{◌≡◌, ℕ, zero, suc, ◌+◌, ◌-◌, ◌%◌, ◌<◌, ◌≤◌, Bool, true, false, cond, ◌&&◌, eqb, List, [], ◌∷◌, length, get_or, ◌⊎◌, inl, inr, refl, sym, ap, ◌∙◌, subst, arith}
-use Rattle.std.specs.Prelude.{count_by, filter, IsPermutation}
-use Rattle.std.specs.declared.cmp.Ordering.TheVariants.{Less, Equal}
-use Rattle.std.specs.Cmp.{tied_itself}
-use Rattle.std.proofs.Math.Nat.{mod-eq_of_lt, add-mod_right}
-use Rattle.std.proofs.lemmas.Bool.{cases_lt, eq-eqb, eqb-true}
-use Rattle.std.proofs.lemmas.List.Sorted.{sum_by-IsPermutation}
-use Rattle.bench_types.specs.declared.entries.Item.{Item}
+use Rattle.model.proofs.Common.{◌≡◌, ℕ, zero, suc, ◌+◌, ◌-◌, ◌%◌, ◌<◌, ◌≤◌, Bool, true, false, cond, ◌&&◌, eqb, List, [], ◌∷◌, length, get_or, ◌⊎◌, inl, inr, refl, sym, ap, ◌∙◌, subst, arith, count_by, filter, IsPermutation, Less, Equal, tied_itself, mod-eq_of_lt, add-mod_right, cases_lt, eq-eqb, eqb-true, sum_by-IsPermutation, Item}
 use Rattle.model.specs.Table.{place_cmp}
 use Rattle.model.specs.inner.Items.{no_item, place_of, IsRising}
 use Rattle.model.proofs.Order.{place_total}

@@ -2,17 +2,8 @@
 -- owners' writes, and none with a gap. Only the owner writes its own state, and each write gets a mark above all
 -- earlier ones; a restart may drop what the node holds of another owner, and of itself where it forgets.
 -- Serves `no_copy_is_ahead`, `Fresh`, `StateFigures`, `fixtures` and `simulation`.
-use Rattle.std.proofs.Common.{◌≡◌, ◌≢◌, ℕ, suc, ◌+◌, ◌<◌, ◌≤◌, List, [], ◌∷◌, ◌++◌, length, Some, None, ◌⊎◌, inl, inr, All, refl, sym, ap, ◌∙◌, subst, arith, append_assoc}
+use Rattle.model.proofs.Common.{◌≡◌, ◌≢◌, ℕ, suc, ◌+◌, ◌<◌, ◌≤◌, List, [], ◌∷◌, ◌++◌, length, Some, None, ◌⊎◌, inl, inr, All, refl, sym, ap, ◌∙◌, subst, arith, append_assoc, cases_eq, cases_lt, append-nil, get_or_past, All-head, All-tail, Contains-append_left, Contains-push, Contains-push_cases, Entry, Mark, next_version, IsNextAfter, AreNextAfter, mark_of, mark_held, IsBefore, IsUpTo, absent-first, before-up_to, not_both, up_to-before, up_to-itself, up_to-then, same_Some}
 use Rattle.std.specs.Prelude.{Contains}
-use Rattle.std.proofs.lemmas.Bool.{cases_eq, cases_lt}
-use Rattle.std.proofs.lemmas.List.{append-nil, get_or_past}
-use Rattle.std.proofs.lemmas.List.Elements.{All-head, All-tail, Contains-append_left, Contains-push, Contains-push_cases}
-use Rattle.bench_types.specs.declared.entries.Entry.{Entry}
-use Rattle.bench_types.specs.declared.entries.Mark.{Mark}
-use Rattle.bench_types.specs.Entry.{next_version}
-use Rattle.bench_types.specs.calls.Entry.{IsNextAfter, AreNextAfter}
-use Rattle.bench_types.specs.Mark.{mark_of, mark_held, IsBefore, IsUpTo}
-use Rattle.bench_types.proofs.Marks.{absent-first, before-up_to, not_both, up_to-before, up_to-itself, up_to-then}
 use Rattle.model.specs.Table.{Table, empty_table, entry_at, mark_at, greatest_mark, greatest_version, own_write, with_own_write, with_own_writes, without_others, without_all, IsProper}
 use Rattle.model.proofs.Greatest.{greatest_mark-from, greatest_mark-none, greatest_mark-same, mark_at-up_to_greatest}
 use Rattle.model.proofs.TableLaws.{entry_at-own_write, entry_at-own_write_other, entry_at-without_others_own, entry_at-without_others_other, entry_at-without_all, entry_at-empty_table}
@@ -24,7 +15,6 @@ use Rattle.model.specs.Copies.{WritesBy, IsCurrentOrOlder, IsLastOf}
 use Rattle.model.proofs.ExchangeLaws.{marks_stay, marks_then}
 use Rattle.model.specs.Clusters.{own_parts, generations_of, AreCopiesOf, HaveNoGap}
 use Rattle.model.specs.calls.Clusters.{own_mark}
-use Rattle.std.proofs.lemmas.Option.{same_Some}
 
 -- the node stays, and so does how many nodes and keys there are
 pub record KeepsBounds (old new : Table) : Type 0 where

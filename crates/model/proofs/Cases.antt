@@ -1,6 +1,6 @@
 -- What an exchange makes of a table, whatever its fate is.
 -- Serves `ExchangeLaws` and `Owns`.
-use Rattle.bench_types.specs.declared.exchanges.Fate.{Fate}
+use Rattle.model.proofs.Common.{Fate}
 use Rattle.bench_types.specs.declared.exchanges.Fate.TheVariants as fate
 use Rattle.model.specs.Table.{Table, applied}
 use Rattle.model.specs.Deltas.{DeltaView}

@@ -1,9 +1,7 @@
 -- Which elements of a list pass a test that holds on one stretch of it, and how many.
 -- Serves `Apart`, `Picked`, `Places` and `reconcile`.
-use Rattle.std.proofs.Common.{◌≡◌, ℕ, zero, suc, ◌+◌, ◌-◌, ◌<◌, ◌≤◌, Bool, true, false, cond, not, List, [], ◌∷◌, length, take, drop, get_or, ◌⊎◌, inl, inr, refl, sym, ap, ◌∙◌, arith}
-use Rattle.std.specs.Prelude.{filter, count_by, Contains}
-use Rattle.std.proofs.lemmas.List.{length-take-le, length-drop}
-use Rattle.std.proofs.lemmas.List.Sums.{sum_by-cons, length-filter}
+use Rattle.model.proofs.Common.{◌≡◌, ℕ, zero, suc, ◌+◌, ◌-◌, ◌<◌, ◌≤◌, Bool, true, false, cond, not, List, [], ◌∷◌, length, take, drop, get_or, ◌⊎◌, inl, inr, refl, sym, ap, ◌∙◌, arith, filter, count_by, length-take-le, length-drop, sum_by-cons, length-filter}
+use Rattle.std.specs.Prelude.{Contains}
 
 module _ {X : Type 0} (p : X → Bool) where
   -- one step of a count

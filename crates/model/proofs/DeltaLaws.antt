@@ -1,20 +1,8 @@
 -- Laws of the sending orders, and of what a budget lets through in them.
 -- Serves the functions of `laws`, `ExchangeLaws`, `Received`, `StateDeltas`, `States`, `delta_plans`, `simulation`
 -- and `version_tables`.
-use Rattle.std.proofs.Common.{◌≡◌, ℕ, ◌<◌, ◌≤◌, Bool, not, ◌&&◌, eqb, List, length, get_or, inl, inr, sym, ap, ◌∙◌, arith}
-use Rattle.std.specs.Prelude.{count_by, Contains}
-use Rattle.std.specs.declared.cmp.Ordering.TheVariants.{Equal}
-use Rattle.std.specs.Cmp.{IsTotalOrder}
-use Rattle.std.proofs.lemmas.Bool.{cases_lt}
-use Rattle.std.proofs.lemmas.List.{get_or_default}
-use Rattle.std.proofs.lemmas.List.Elements.{All-filter}
-use Rattle.std.proofs.lemmas.List.Sorted.{IsPermutation-refl}
-use Rattle.bench_types.specs.declared.exchanges.Budget.{Budget}
-use Rattle.bench_types.specs.Budget.{amount_of}
-use Rattle.bench_types.specs.declared.entries.Item.{Item}
-use Rattle.bench_types.specs.declared.exchanges.Mode.{Mode}
-use Rattle.bench_types.specs.Mark.{mark_of, is_before}
-use Rattle.bench_types.specs.Mode.{digest_kind}
+use Rattle.model.proofs.Common.{◌≡◌, ℕ, ◌<◌, ◌≤◌, Bool, not, ◌&&◌, eqb, List, length, get_or, inl, inr, sym, ap, ◌∙◌, arith, count_by, Equal, IsTotalOrder, cases_lt, get_or_default, All-filter, IsPermutation-refl, Budget, amount_of, Item, Mode, mark_of, is_before, digest_kind}
+use Rattle.std.specs.Prelude.{Contains}
 use Rattle.model.specs.Table.{Table, items_of, IsProper}
 use Rattle.model.proofs.Proper.{items_sound}
 use Rattle.model.specs.Candidates.{IsScuttleMode, known_mark, candidates}

@@ -2,13 +2,8 @@
 -- names a mode or what was sent. That neither side's own part changes is in OwnParts.
 -- Serves `enough_budget_cuts_nothing`, `entries_come_from_either`, `whole_precise_exchanges_give_the_newer`,
 -- `BeginLaws`, `FoldLaws` and `simulation`.
-use Rattle.std.proofs.Common.{◌≡◌, ℕ, ◌<◌, max, inl, inr, refl, sym, ◌∙◌, subst, arith, if◌then◌else◌}
-use Rattle.bench_types.specs.declared.exchanges.Exchange.{Exchange}
-use Rattle.bench_types.specs.declared.exchanges.Fate.{Fate}
+use Rattle.model.proofs.Common.{◌≡◌, ℕ, ◌<◌, max, inl, inr, refl, sym, ◌∙◌, subst, arith, if◌then◌else◌, Exchange, Fate, Rules, digest_kind, up_to-itself, up_to-then}
 use Rattle.bench_types.specs.declared.exchanges.Fate.TheVariants as fate
-use Rattle.bench_types.specs.declared.exchanges.Rules.{Rules}
-use Rattle.bench_types.specs.Mode.{digest_kind}
-use Rattle.bench_types.proofs.Marks.{up_to-itself, up_to-then}
 use Rattle.model.specs.Table.{Table, applied, mark_at, greatest_mark, IsProper}
 use Rattle.model.proofs.TableLaws.{frame-applied}
 use Rattle.model.specs.Candidates.{IsScuttleMode}

@@ -1,13 +1,11 @@
 -- The figures of a round, counted by owner.
 -- Serves `version_lags`.
-use Rattle.std.proofs.Common.{◌≡◌, ℕ, List, length, sym, ap, ◌∙◌}
+use Rattle.model.proofs.Common.{◌≡◌, ℕ, List, length, sym, ap, ◌∙◌, most_below, IsFoldBelow, greatest, fold_below-same, fold_below-swap}
 use Rattle.model.specs.Table.{Table}
 use Rattle.model.specs.Tables.{table_of_node}
 use Rattle.model.specs.calls.Tables.{IsCluster}
 use Rattle.model.specs.declared.writes.Write.{Write}
-use Rattle.bench_types.specs.Sums.{most_below}
 use Rattle.model.specs.Figures.{staleness_at, rounds_behind}
-use Rattle.bench_types.proofs.Sums.{IsFoldBelow, greatest, fold_below-same, fold_below-swap}
 
 -- by owner, by key and then by node they are the same
 module _ (round : ℕ) (tables : List Table) (lists : List (List Write)) (cluster : IsCluster (length tables) tables) where

@@ -1,13 +1,7 @@
 -- Laws of the exchanges of a list, for the crates above: what holds of the tables of all nodes before any of the
 -- exchanges, and after the last.
 -- Serves `lists_keep_tables_proper`, `Spreads`, `StateFolds` and the crates above.
-use Rattle.std.proofs.Common.{◌≡◌, ◌≢◌, ℕ, ◌+◌, ◌<◌, ◌≤◌, List, [], ◌∷◌, ◌++◌, length, set, take, drop, fold, All, inl, inr, refl, sym, ap, ◌∙◌, subst, arith}
-use Rattle.std.proofs.lemmas.Bool.{cases_eq}
-use Rattle.std.proofs.lemmas.List.{get_or-set_same, get_or-set_other, length-set, length-append, take-take, take-append-drop}
-use Rattle.std.proofs.lemmas.List.Sums.{fold-append}
-use Rattle.std.proofs.lemmas.List.Elements.{All-head, All-tail, All-take, All-drop}
-use Rattle.bench_types.specs.declared.exchanges.Exchange.{Exchange}
-use Rattle.bench_types.specs.declared.exchanges.Rules.{Rules}
+use Rattle.model.proofs.Common.{◌≡◌, ◌≢◌, ℕ, ◌+◌, ◌<◌, ◌≤◌, List, [], ◌∷◌, ◌++◌, length, set, take, drop, fold, All, inl, inr, refl, sym, ap, ◌∙◌, subst, arith, cases_eq, get_or-set_same, get_or-set_other, length-set, length-append, take-take, take-append-drop, fold-append, All-head, All-tail, All-take, All-drop, Exchange, Rules, IsPlanned}
 use Rattle.model.specs.Table.{Table, empty_table, entry_at, IsProper}
 use Rattle.model.specs.Candidates.{IsScuttleMode}
 use Rattle.model.specs.Exchanged.{Exchanged, exchanged}
@@ -18,7 +12,6 @@ use Rattle.model.specs.ExchangeLaws.{NoMarkFalls}
 use Rattle.model.specs.calls.ExchangeLaws.{MayMeet}
 use Rattle.model.specs.Copies.{OwnParts, Generations, WritesBy, IsLastOf, HoldsWrites}
 use Rattle.model.specs.inner.Copies.{AreLastOf, HasNoGap}
-use Rattle.bench_types.specs.calls.Exchange.{IsPlanned}
 use Rattle.model.specs.Clusters.{own_parts, generations_of, AreCopiesOf, HaveNoGap, NoMarksFall}
 use Rattle.model.specs.inner.Owns.{KeepOwnParts, KeepsOwn}
 use Rattle.model.proofs.Owns.{keeps_own_same, keeps_own_then, initiator_keeps_own, responder_keeps_own}

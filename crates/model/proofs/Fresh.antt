@@ -1,11 +1,7 @@
 -- A copy that has all of its owner's own part: what one exchange makes of it, and what leaves it.
 -- Serves `Spreads` and `simulation`.
-use Rattle.std.proofs.Common.{◌≡◌, ℕ, ◌<◌, ◌≤◌, List, Some, None, ◌⊎◌, inl, inr, refl, sym, ap, ◌∙◌, subst, arith}
+use Rattle.model.proofs.Common.{◌≡◌, ℕ, ◌<◌, ◌≤◌, List, Some, None, ◌⊎◌, inl, inr, refl, sym, ap, ◌∙◌, subst, arith, Entry, Mark, mark_of, mark_held, IsBefore, IsUpTo, before-up_to, not_both, up_to-itself}
 use Rattle.std.specs.Prelude.{Contains}
-use Rattle.bench_types.specs.declared.entries.Entry.{Entry}
-use Rattle.bench_types.specs.declared.entries.Mark.{Mark}
-use Rattle.bench_types.specs.Mark.{mark_of, mark_held, IsBefore, IsUpTo}
-use Rattle.bench_types.proofs.Marks.{before-up_to, not_both, up_to-itself}
 use Rattle.model.specs.Table.{Table, entry_at, mark_at, greatest_mark, generation_held, IsProper}
 use Rattle.model.specs.Tables.{table_of_node}
 use Rattle.model.specs.Clusters.{AreCopiesOf}

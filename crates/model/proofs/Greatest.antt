@@ -1,13 +1,6 @@
 -- The greatest mark of an owner, by look-ups.
 -- Serves most of the crate, `node_table`, `reconcile`, `simulation` and `version_tables`.
-use Rattle.std.proofs.Common.{◌≡◌, ℕ, zero, suc, ◌<◌, None, ◌⊎◌, inl, inr, refl, sym, ap, ◌∙◌, subst, arith}
-use Rattle.std.specs.declared.cmp.Ordering.TheVariants.{Less, Equal, Greater}
-use Rattle.std.specs.Ordering.{nat_cmp, ordering_then}
-use Rattle.std.specs.Cmp.{ranked}
-use Rattle.std.proofs.lemmas.Bool.{cases_lt}
-use Rattle.bench_types.specs.declared.entries.Mark.{Mark}
-use Rattle.bench_types.specs.Mark.{absent, mark_held, IsUpTo, later}
-use Rattle.bench_types.proofs.Marks.{up_to-itself, up_to-then, up_to-both, absent-first, first-later, second-later, later-up_to, cases_later}
+use Rattle.model.proofs.Common.{◌≡◌, ℕ, zero, suc, ◌<◌, None, ◌⊎◌, inl, inr, refl, sym, ap, ◌∙◌, subst, arith, Less, Equal, Greater, nat_cmp, ordering_then, ranked, cases_lt, Mark, absent, mark_held, IsUpTo, later, up_to-itself, up_to-then, up_to-both, absent-first, first-later, second-later, later-up_to, cases_later}
 use Rattle.model.specs.Table.{Place, place_cmp, Table, entry_at, mark_at, greatest_below, greatest_mark}
 
 -- a place below another has an owner below, or the same owner and a key below

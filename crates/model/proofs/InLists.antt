@@ -1,15 +1,9 @@
 -- The rows of all owners as one map: its look-ups, how many entries it has, and what an entry that comes into one
 -- row does to it.
 -- Serves `node_table` and `version_tables`.
-use Rattle.std.proofs.Common.{◌≡◌, ◌≢◌, ℕ, zero, suc, ◌+◌, ◌<◌, cond, ◌==◌, ◌&&◌, List, [], ◌∷◌, ◌++◌, length, map, get_or, Some, None, is_some, All, inl, inr, refl, sym, ap, ◌∙◌, subst, arith}
+use Rattle.model.proofs.Common.{◌≡◌, ◌≢◌, ℕ, zero, suc, ◌+◌, ◌<◌, cond, ◌==◌, ◌&&◌, List, [], ◌∷◌, ◌++◌, length, map, get_or, Some, None, is_some, All, inl, inr, refl, sym, ap, ◌∙◌, subst, arith, eq_by_cmp, AllPairs, get, insert, from_entries, len, get-from_entries, get-insert, len-insert, len-empty, same_map, cases_eq, eq-eqb, ne_eqb, and_left, All-head, All-tail, sum_by-cons, Entry}
 use Rattle.std.specs.Prelude.{sum_by}
-use Rattle.std.specs.Ordering.{eq_by_cmp}
-use Rattle.std.specs.List.{AllPairs}
-use Rattle.std.specs.FinMap.{find, get, insert, from_entries, len, get-from_entries, get-insert, len-insert, len-empty, same_map}
-use Rattle.std.proofs.lemmas.Bool.{cases_eq, eq-eqb, ne_eqb, and_left}
-use Rattle.std.proofs.lemmas.List.Elements.{All-head, All-tail}
-use Rattle.std.proofs.lemmas.List.Sums.{sum_by-cons}
-use Rattle.bench_types.specs.declared.entries.Entry.{Entry}
+use Rattle.std.specs.FinMap.{find}
 use Rattle.model.specs.Table.{Place, place_cmp}
 use Rattle.model.specs.calls.Held.{placed, placed_from, held_by_lists}
 use Rattle.model.specs.inner.Held.{entry_in, HaveTwoKeys}

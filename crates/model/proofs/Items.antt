@@ -1,25 +1,14 @@
 -- Laws of the list of a table's items, and of lists in which no two items share a place.
 -- Serves `Lacking`, `Members`, `Proper`, `Received`, `StateDeltas`, `delta_plans`, `reconcile` and `simulation`.
-use Rattle.std.proofs.Common.{◌≡◌, ℕ, zero, suc, ◌<◌, true, false, cond, List, [], ◌∷◌, length, map, get_or, Some, None, All, refl, sym, ap, ◌∙◌, subst, arith}
-use lib.Dec.{T}
-use Rattle.std.specs.declared.cmp.Ordering.TheVariants.{Less, Equal, Greater}
-use Rattle.std.specs.Ordering.{is_eq, eq_by_cmp}
-use Rattle.std.specs.Cmp.{tied_itself}
-use Rattle.std.specs.List.{AllPairs, Contains}
-use Rattle.std.specs.FinMap.{find, is_sorted, entries, entries_sorted, get-entries}
-use Rattle.std.specs.FinMap.Entries.{below_all}
-use Rattle.std.proofs.lemmas.Bool.{both_ways}
-use Rattle.std.proofs.lemmas.List.Elements.{All-head, All-tail}
-use Rattle.bench_types.specs.declared.entries.Entry.{Entry}
-use Rattle.bench_types.specs.declared.entries.Item.{Item}
+use Rattle.model.proofs.Common.{◌≡◌, ℕ, zero, suc, ◌<◌, true, false, cond, List, [], ◌∷◌, length, map, get_or, Some, None, All, refl, sym, ap, ◌∙◌, subst, arith, T, Less, Equal, Greater, is_eq, eq_by_cmp, tied_itself, AllPairs, is_sorted, entries, entries_sorted, get-entries, below_all, both_ways, All-head, All-tail, Entry, Item, first, second, less, same_Some}
+use Rattle.std.specs.List.{Contains}
+use Rattle.std.specs.FinMap.{find}
 use Rattle.model.specs.Table.{Place, place_cmp, Table, entry_at, item_of, items_of, IsProper}
 use Rattle.model.specs.inner.Items.{place_of, pair_of, pairs, IsRising}
 use Rattle.model.specs.inner.Applied.{stands_at, items_at}
 use Rattle.model.proofs.Order.{place_total, place_turned}
-use Rattle.bench_types.proofs.Comparing.{first, second, less}
 use Rattle.model.proofs.Rising.{rising_at}
 use Rattle.model.proofs.TableLaws.{place_tied, tied-stands_at, items_at-none}
-use Rattle.std.proofs.lemmas.Option.{same_Some}
 
 -- an entry of a list in order is what is found at its place
 found_there : (es : List (Place × Entry)) (k : ℕ) (d : Place × Entry) → T (is_sorted place_cmp es) → k < length es → find place_cmp (get_or es k d).0 es ≡ Some (get_or es k d).1

@@ -1,15 +1,7 @@
 -- The candidates in plain words: what a receiver lacks by what it holds.
 -- Serves `candidates_are_lacked` and `version_tables`.
-use Rattle.std.proofs.Common.{◌≡◌, ◌≢◌, ◌↔◌, ◌≤◌, Bool, not, ◌&&◌, eqb, Some, None, sym, ap, ◌∙◌, arith, refl}
+use Rattle.model.proofs.Common.{◌≡◌, ◌≢◌, ◌↔◌, ◌≤◌, Bool, not, ◌&&◌, eqb, Some, None, sym, ap, ◌∙◌, arith, refl, eq-eqb, ne_eqb, and_parts, and_from, both_ways, not-true, Item, Mode, DigestKind, Scuttle, Precise, mark_of, mark_held, is_before, IsBefore, digest_kind, before-true, before-yes}
 use Rattle.std.specs.Prelude.{Contains}
-use Rattle.std.proofs.lemmas.Bool.{eq-eqb, ne_eqb, and_parts, and_from, both_ways, not-true}
-use Rattle.bench_types.specs.declared.entries.Item.{Item}
-use Rattle.bench_types.specs.declared.exchanges.Mode.{Mode}
-use Rattle.bench_types.specs.declared.exchanges.DigestKind.{DigestKind}
-use Rattle.bench_types.specs.declared.exchanges.DigestKind.TheVariants.{Scuttle, Precise}
-use Rattle.bench_types.specs.Mark.{mark_of, mark_held, is_before, IsBefore}
-use Rattle.bench_types.specs.Mode.{digest_kind}
-use Rattle.bench_types.proofs.Marks.{before-true, before-yes}
 use Rattle.model.specs.Table.{Table, entry_at, mark_at, generation_held, items_of, IsProper}
 use Rattle.model.proofs.Items.{entry_at-items_of}
 use Rattle.model.specs.Candidates.{known_mark, candidates}

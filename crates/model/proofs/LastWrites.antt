@@ -1,13 +1,9 @@
 -- The last write of a key.
 -- Serves `OwnParts` and `owner_lists`.
-use Rattle.std.proofs.Common.{◌≡◌, ◌≢◌, ℕ, eqb, List, [], ◌∷◌, ◌++◌, Some, inl, inr, if◌then◌else◌, sym, ap, ◌∙◌, arith}
+use Rattle.model.proofs.Common.{◌≡◌, ◌≢◌, ℕ, eqb, List, [], ◌∷◌, ◌++◌, Some, inl, inr, if◌then◌else◌, sym, ap, ◌∙◌, arith, nat_cmp, is_eq, cases_lt, ne_eqb, eq-eqb, reverse-append, nat_cmp-less, nat_cmp-equal, nat_cmp-greater}
 use Rattle.std.specs.List.{find}
-use Rattle.std.specs.Ordering.{nat_cmp, is_eq}
-use Rattle.std.proofs.lemmas.Bool.{cases_lt, ne_eqb, eq-eqb}
-use Rattle.std.proofs.lemmas.List.{reverse-append}
 use Rattle.model.specs.declared.writes.Write.{Write}
 use Rattle.model.specs.calls.Writes.{is_write_of, last_write}
-use Rattle.bench_types.proofs.Comparing.{nat_cmp-less, nat_cmp-equal, nat_cmp-greater}
 
 -- a write at the end is the last of its key
 pub last_write-push : (ws : List Write) (w : Write) (key : ℕ) → last_write (ws ++ w ∷ []) key ≡ (if is_write_of key w then Some w else last_write ws key)

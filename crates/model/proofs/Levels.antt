@@ -2,19 +2,8 @@
 -- sends each owner's candidates by version, the order in which candidates stand makes no difference, and all go by
 -- level, turn, version and key.
 -- Serves `DeltaLaws`, `Sending`, `delta_plans` and `reconcile`.
-use Rattle.std.proofs.Common.{◌≡◌, ◌≢◌, ℕ, ◌<◌, List, inl, inr, refl, sym, ap, ◌∙◌, arith, Bool, ◌&&◌, eqb, ltb, length, get_or, All}
-use Rattle.std.specs.Prelude.{Contains, count_by, filter, IsPermutation}
-use Rattle.std.specs.declared.cmp.Ordering.{Ordering}
-use Rattle.std.specs.declared.cmp.Ordering.TheVariants.{Less, Equal, Greater}
-use Rattle.std.specs.Ordering.{nat_cmp, ordering_then}
-use Rattle.std.specs.Cmp.{IsTotalOrder, nat_cmp_total, on_total, then_total, back_total}
-use Rattle.std.specs.FinMap.{nat_cmp-IsAntisymmetric}
-use Rattle.std.proofs.lemmas.Bool.{cases_lt, cases_eq, eq-eqb, eqb-true, lt-ltb, ltb-true, le-ltb, and_parts, and_from, and_right}
-use Rattle.std.proofs.lemmas.List.Sorted.{sum_by-IsPermutation, All-permutation}
-use Rattle.bench_types.specs.declared.entries.Item.{Item}
-use Rattle.bench_types.specs.declared.exchanges.Mode.{Mode}
-use Rattle.bench_types.specs.declared.exchanges.Mode.TheVariants.{ScuttleBreadth, ScuttleDepth, PreciseOldest, PreciseNewest}
-use Rattle.bench_types.proofs.Comparing.{both_equal, nat_cmp-less, nat_cmp-equal, nat_cmp-greater}
+use Rattle.model.proofs.Common.{◌≡◌, ◌≢◌, ℕ, ◌<◌, List, inl, inr, refl, sym, ap, ◌∙◌, arith, Bool, ◌&&◌, eqb, ltb, length, get_or, All, count_by, filter, IsPermutation, Ordering, Less, Equal, Greater, nat_cmp, ordering_then, IsTotalOrder, nat_cmp_total, on_total, then_total, back_total, nat_cmp-IsAntisymmetric, cases_lt, cases_eq, eq-eqb, eqb-true, lt-ltb, ltb-true, le-ltb, and_parts, and_from, and_right, sum_by-IsPermutation, All-permutation, Item, Mode, ScuttleBreadth, ScuttleDepth, PreciseOldest, PreciseNewest, both_equal, nat_cmp-less, nat_cmp-equal, nat_cmp-greater}
+use Rattle.std.specs.Prelude.{Contains}
 use Rattle.model.specs.Candidates.{IsScuttleMode}
 use Rattle.model.specs.Order.{rotated, rank_among, owner_count, sending_order}
 use Rattle.model.specs.inner.Items.{no_item, IsRising}

@@ -36,3 +36,4 @@ pub mod StateFigures
 pub mod StateFolds
 pub mod States
 pub mod Tables
+pub mod Common

@@ -1,16 +1,7 @@
 -- Lists in which no two items share a place: two with the same items have them in another order.
 -- Serves `Lacking`, `Received`, `StateDeltas`, `delta_plans`, `reconcile` and `simulation`.
-use Rattle.std.proofs.Common.{◌≡◌, zero, suc, ◌-◌, ◌<◌, Bool, true, false, cond, not, List, [], ◌∷◌, ◌++◌, length, map, get_or, inl, inr, refl, sym, ap, ◌∙◌, subst, arith}
-use Rattle.std.specs.Prelude.{filter, Contains, IsPermutation}
-use Rattle.std.specs.List.{AllPairs}
-use Rattle.std.specs.Ordering.{is_eq}
-use Rattle.std.specs.Cmp.{tied_itself}
-use Rattle.std.proofs.lemmas.Bool.{cases_lt, both_ways, not-true}
-use Rattle.std.proofs.lemmas.List.{get_or-map, length-map, get_or_append_left, get_or-append_right, length-append}
-use Rattle.std.proofs.lemmas.List.Elements.{All-contains, All-filter, All-contains_itself, Contains-get_or, filter_passes}
-use Rattle.std.proofs.lemmas.List.Kept.{AllPairs-filter}
-use Rattle.std.proofs.lemmas.List.Sorted.{IsPermutation-refl, IsPermutation-sym, IsPermutation-trans, IsPermutation-cons, IsPermutation-filter_both}
-use Rattle.bench_types.specs.declared.entries.Item.{Item}
+use Rattle.model.proofs.Common.{◌≡◌, zero, suc, ◌-◌, ◌<◌, Bool, true, false, cond, not, List, [], ◌∷◌, ◌++◌, length, map, get_or, inl, inr, refl, sym, ap, ◌∙◌, subst, arith, filter, IsPermutation, AllPairs, is_eq, tied_itself, cases_lt, both_ways, not-true, get_or-map, length-map, get_or_append_left, get_or-append_right, length-append, All-contains, All-filter, All-contains_itself, Contains-get_or, filter_passes, AllPairs-filter, IsPermutation-refl, IsPermutation-sym, IsPermutation-trans, IsPermutation-cons, IsPermutation-filter_both, Item}
+use Rattle.std.specs.Prelude.{Contains}
 use Rattle.model.specs.inner.Items.{place_of}
 use Rattle.model.specs.inner.Applied.{stands_at}
 use Rattle.model.proofs.Order.{place_total}

@@ -1,12 +1,7 @@
 -- Places are in a total order, in which only equal places tie.
 -- Serves most of the crate and `node_table`.
-use Rattle.std.proofs.Common.{◌≡◌, ap, ◌∙◌}
-use Rattle.std.specs.declared.cmp.Ordering.{Ordering}
-use Rattle.std.specs.Ordering.{nat_cmp, ordering_reverse}
-use Rattle.std.specs.Cmp.{IsTotalOrder, nat_cmp_total, on_total, then_total}
-use Rattle.std.specs.FinMap.{IsAntisymmetric, nat_cmp-IsAntisymmetric}
+use Rattle.model.proofs.Common.{◌≡◌, ap, ◌∙◌, Ordering, nat_cmp, ordering_reverse, IsTotalOrder, nat_cmp_total, on_total, then_total, IsAntisymmetric, nat_cmp-IsAntisymmetric, both_equal}
 use Rattle.model.specs.Table.{Place, place_cmp}
-use Rattle.bench_types.proofs.Comparing.{both_equal}
 
 pub place_total : IsTotalOrder place_cmp
 place_total = then_total (on_total (λ (p : Place). p.0) nat_cmp_total) (on_total (λ (p : Place). p.1) nat_cmp_total)

@@ -1,9 +1,7 @@
 -- A node's own part stays the last writes of its list, through its own writes and what it receives. For callers that
 -- keep tables and lists side by side.
 -- Serves `simulation`.
-use Rattle.std.proofs.Common.{◌≡◌, ℕ, ◌+◌, ◌≤◌, Bool, true, false, cond, eqb, List, [], ◌∷◌, ◌++◌, length, Some, option_map, if◌then◌else◌, refl, sym, ap, ◌∙◌, arith}
-use Rattle.std.specs.Ordering.{nat_cmp, ordering_then, is_eq, eq_by_cmp}
-use Rattle.std.specs.FinMap.{get-empty, get-insert}
+use Rattle.model.proofs.Common.{◌≡◌, ℕ, ◌+◌, ◌≤◌, Bool, true, false, cond, eqb, List, [], ◌∷◌, ◌++◌, length, Some, option_map, if◌then◌else◌, refl, sym, ap, ◌∙◌, arith, nat_cmp, ordering_then, is_eq, eq_by_cmp, get-empty, get-insert, nat_cmp-equal}
 use Rattle.model.specs.Table.{place_cmp, Table, empty_table, entry_at, greatest_version, own_write, with_own_write}
 use Rattle.model.proofs.Order.{place_total}
 use Rattle.model.specs.declared.writes.Write.{Write}
@@ -11,7 +9,6 @@ use Rattle.model.specs.Writes.{write_of_entry}
 use Rattle.model.specs.inner.Writes.{next_write}
 use Rattle.model.specs.calls.Writes.{is_write_of, AreBornBy}
 use Rattle.model.specs.calls.OwnParts.{OwnPartIsLastWrites}
-use Rattle.bench_types.proofs.Comparing.{nat_cmp-equal}
 use Rattle.model.proofs.LastWrites.{same_key, with_version, last_write-push}
 
 -- nothing is held, and nothing was written

@@ -1,7 +1,6 @@
 -- The lists of all owners, and what one more write is in them.
 -- Serves `bench`, `simulation`, `staleness` and `version_lags`.
-use Rattle.std.proofs.Common.{◌≡◌, ℕ, ◌+◌, ◌<◌, List, [], ◌∷◌, ◌++◌, length, get_or, sym, ap, ◌∙◌}
-use Rattle.std.proofs.lemmas.List.{length-map, map-append, get_or-map}
+use Rattle.model.proofs.Common.{◌≡◌, ℕ, ◌+◌, ◌<◌, List, [], ◌∷◌, ◌++◌, length, get_or, sym, ap, ◌∙◌, length-map, map-append, get_or-map}
 use Rattle.model.specs.declared.writes.Write.{Write}
 use Rattle.model.specs.calls.OwnerListView.{OwnerListView, written, next_entry, with_write, lists_in}
 use Rattle.model.specs.Writes.{write_of_entry}

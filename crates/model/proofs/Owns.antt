@@ -1,10 +1,6 @@
 -- An exchange leaves each side's own part alone.
 -- Serves `FoldLaws` and `planner`.
-use Rattle.std.proofs.Common.{◌≢◌, ℕ, List, All, refl, sym, ap, ◌∙◌}
-use Rattle.bench_types.specs.declared.entries.Item.{Item}
-use Rattle.bench_types.specs.declared.exchanges.Exchange.{Exchange}
-use Rattle.bench_types.specs.declared.exchanges.Rules.{Rules}
-use Rattle.bench_types.specs.Mode.{digest_kind}
+use Rattle.model.proofs.Common.{◌≢◌, ℕ, List, All, refl, sym, ap, ◌∙◌, Item, Exchange, Rules, digest_kind, All-weaker}
 use Rattle.model.specs.Table.{Table, applied, items_of, entry_at, greatest_mark}
 use Rattle.model.proofs.TableLaws.{entry_at-applied_other, frame-applied}
 use Rattle.model.proofs.MarkLaws.{greatest_mark-applied_other}
@@ -14,7 +10,6 @@ use Rattle.model.proofs.Sent.{All-delta_between, All-items_above}
 use Rattle.model.specs.Exchanged.{exchanged, fate_of}
 use Rattle.model.specs.inner.Owns.{KeepsOwn}
 use Rattle.model.proofs.Cases.{initiator_after-either, responder_after-either}
-use Rattle.std.proofs.lemmas.List.Elements.{All-weaker}
 
 -- nothing that is sent is the receiver's own
 pub delta-others : (rules : Rules) (s : ℕ) (from to : Table) → All (λ (i : Item). i.owner ≢ to.node) (delta_between rules.mode s rules.budget from to).items

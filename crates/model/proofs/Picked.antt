@@ -1,17 +1,8 @@
 -- What the definition picks of candidates, where they stand sorted: the first of them.
 -- Serves `Places`, `Sending`, `Sent` and `version_lags`.
-use Rattle.std.proofs.Common.{◌≡◌, ℕ, zero, suc, ◌+◌, ◌-◌, ◌<◌, ◌≤◌, Bool, true, false, cond, eqb, leb, List, [], ◌∷◌, length, get_or, take, drop, Option, Some, None, ◌⊎◌, inl, inr, refl, sym, ap, ◌∙◌, subst, arith}
-use Rattle.std.specs.Prelude.{count_by, find, IsPermutation, Contains}
-use Rattle.std.specs.List.{filter_map, range_with_len, cons_option, sum_by}
-use Rattle.std.specs.List.Sorted.{IsSorted}
-use Rattle.std.specs.declared.cmp.Ordering.{Ordering}
-use Rattle.std.specs.declared.cmp.Ordering.TheVariants.{Less, Equal, Greater}
-use Rattle.std.specs.Ordering.{is_lt, ordering_reverse}
-use Rattle.std.specs.Cmp.{IsTotalOrder, tied_itself}
-use Rattle.std.proofs.lemmas.Bool.{cases_lt, eq-eqb, eqb-true, le-leb, lt-leb}
-use Rattle.std.proofs.lemmas.List.{get_or_default}
-use Rattle.std.proofs.lemmas.List.Sums.{sum_by-cons}
-use Rattle.std.proofs.lemmas.List.Sorted.{sorted_far, ranks_by, sum_by-IsPermutation, length_permutation, Contains-permutation, IsPermutation-sym}
+use Rattle.model.proofs.Common.{◌≡◌, ℕ, zero, suc, ◌+◌, ◌-◌, ◌<◌, ◌≤◌, Bool, true, false, cond, eqb, leb, List, [], ◌∷◌, length, get_or, take, drop, Option, Some, None, ◌⊎◌, inl, inr, refl, sym, ap, ◌∙◌, subst, arith, count_by, IsPermutation, filter_map, range_with_len, cons_option, IsSorted, Ordering, Less, Equal, Greater, is_lt, ordering_reverse, IsTotalOrder, tied_itself, cases_lt, eq-eqb, eqb-true, le-leb, lt-leb, get_or_default, sum_by-cons, sorted_far, ranks_by, sum_by-IsPermutation, length_permutation, Contains-permutation, IsPermutation-sym}
+use Rattle.std.specs.Prelude.{find, Contains}
+use Rattle.std.specs.List.{sum_by}
 use Rattle.model.specs.Picks.{before_count, at_place, first_places, size_through, fits, sent, cut_count}
 use Rattle.model.specs.inner.Fitting.{fitting}
 use Rattle.model.proofs.Counts.{count_by-stretch, count_by-not}

@@ -1,15 +1,8 @@
 -- What a budget lets through of candidates in a strict total order: those with few enough before them.
 -- Serves `DeltaLaws`, `Levels`, `StateDeltas` and `delta_plans`.
-use Rattle.std.proofs.Common.{◌≡◌, ℕ, zero, suc, ◌+◌, ◌<◌, ◌≤◌, Bool, true, false, cond, not, eqb, List, [], ◌∷◌, length, get_or, Option, Some, None, inl, inr, refl, sym, ap, ◌∙◌, subst, arith}
-use Rattle.std.specs.Prelude.{count_by, find, Contains}
-use Rattle.std.specs.List.{filter_map, range_with_len, cons_option, sum_by}
-use Rattle.std.specs.declared.cmp.Ordering.{Ordering}
-use Rattle.std.specs.declared.cmp.Ordering.TheVariants.{Less, Equal, Greater}
-use Rattle.std.specs.Ordering.{is_lt, ordering_reverse}
-use Rattle.std.specs.Cmp.{IsTotalOrder, tied_itself}
-use Rattle.std.proofs.lemmas.Bool.{both_ways, eq-eqb, eqb-true, le-leb}
-use Rattle.std.proofs.lemmas.List.{get_or_default}
-use Rattle.std.proofs.lemmas.List.Sums.{sum_by-cons}
+use Rattle.model.proofs.Common.{◌≡◌, ℕ, zero, suc, ◌+◌, ◌<◌, ◌≤◌, Bool, true, false, cond, not, eqb, List, [], ◌∷◌, length, get_or, Option, Some, None, inl, inr, refl, sym, ap, ◌∙◌, subst, arith, count_by, filter_map, range_with_len, cons_option, Ordering, Less, Equal, Greater, is_lt, ordering_reverse, IsTotalOrder, tied_itself, both_ways, eq-eqb, eqb-true, le-leb, get_or_default, sum_by-cons}
+use Rattle.std.specs.Prelude.{find, Contains}
+use Rattle.std.specs.List.{sum_by}
 use Rattle.model.specs.Picks.{before_count, at_place, first_places, size_through, fits, sent, cut_count}
 use Rattle.model.proofs.Counts.{count_by-cons_true, count_by-cons_false, count_by-stretch, count_by-not}
 use Rattle.model.proofs.Picked.{find_passes, find_stands, find_none}

@@ -1,11 +1,6 @@
 -- The items of a proper table are sound, and there are at most as many as places.
 -- Serves `DeltaLaws`, `Sending`, `Sent` and `reconcile`.
-use Rattle.std.proofs.Common.{◌≡◌, ℕ, zero, suc, ◌+◌, ◌*◌, ◌<◌, ◌≤◌, List, length, get_or, All, inl, inr, refl, ap, arith}
-use Rattle.std.specs.declared.cmp.Ordering.TheVariants.{Less}
-use Rattle.std.proofs.Math.Nat.{mul-le-mul_right, mul-le-mul_left}
-use Rattle.std.proofs.lemmas.List.{get_or_default}
-use Rattle.bench_types.specs.declared.entries.Item.{Item}
-use Rattle.bench_types.specs.declared.limits.TheConstants.{MOST_NODES, MOST_KEYS}
+use Rattle.model.proofs.Common.{◌≡◌, ℕ, zero, suc, ◌+◌, ◌*◌, ◌<◌, ◌≤◌, List, length, get_or, All, inl, inr, refl, ap, arith, Less, mul-le-mul_right, mul-le-mul_left, get_or_default, Item, MOST_NODES, MOST_KEYS}
 use Rattle.model.specs.Table.{Place, place_cmp, Table, items_of, IsProper}
 use Rattle.model.specs.inner.Items.{place_of, IsRising, IsSound}
 use Rattle.model.specs.calls.Table.{IsItemInPlace}

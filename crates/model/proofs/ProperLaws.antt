@@ -1,16 +1,6 @@
 -- The tables that start are proper, and what changes a table keeps it so.
 -- Serves `BeginLaws`, `Received`, `fixtures`, `node_table`, `simulation` and `version_tables`.
-use Rattle.std.proofs.Common.{◌≡◌, ◌≢◌, ◌==◌, ℕ, ◌+◌, ◌<◌, ◌≤◌, List, [], ◌∷◌, Some, None, All, ◌⊎◌, inl, inr, refl, sym, ap, ◌∙◌, subst, arith}
-use Rattle.std.specs.FinMap.{insert, retain_keys, empty}
-use Rattle.std.proofs.lemmas.Bool.{cases_eq}
-use Rattle.std.proofs.lemmas.List.Elements.{All-head, All-tail}
-use Rattle.std.proofs.lemmas.Option.{same_Some}
-use Rattle.bench_types.specs.declared.entries.Entry.{Entry}
-use Rattle.bench_types.specs.declared.entries.Item.{Item}
-use Rattle.bench_types.specs.declared.entries.Mark.{Mark}
-use Rattle.bench_types.specs.declared.limits.TheConstants.{LEAST_KEYS, MOST_NODES, MOST_KEYS}
-use Rattle.bench_types.specs.Mark.{mark_of}
-use Rattle.bench_types.proofs.Marks.{cases_later}
+use Rattle.model.proofs.Common.{◌≡◌, ◌≢◌, ◌==◌, ℕ, ◌+◌, ◌<◌, ◌≤◌, List, [], ◌∷◌, Some, None, All, ◌⊎◌, inl, inr, refl, sym, ap, ◌∙◌, subst, arith, insert, retain_keys, empty, cases_eq, All-head, All-tail, same_Some, Entry, Item, Mark, LEAST_KEYS, MOST_NODES, MOST_KEYS, mark_of, cases_later}
 use Rattle.model.specs.Table.{Held, Table, empty_table, entry_at, greatest_mark, generation_held, taken, applied, own_write, with_own_write, without_others, without_all, IsInPlace, IsProper}
 use Rattle.model.specs.calls.Table.{IsItemInPlace, MayReceive}
 use Rattle.model.proofs.TableLaws.{KeepsFrame, cases_taken, entry_at-taken_other, entry_at-taken_newer, entry_at-taken_from, entry_at-own_write, entry_at-own_write_other, entry_at-without_others_own, entry_at-without_others_other, entry_at-without_all, entry_at-empty_table, frame-taken}

@@ -1,17 +1,7 @@
 -- What one delta makes of the table that receives it.
 -- Serves `ExchangeLaws`, `StateFolds`, `States` and `version_tables`.
-use Rattle.std.proofs.Common.{◌≡◌, ◌≢◌, ℕ, zero, suc, ◌<◌, ◌≤◌, max, not, ◌&&◌, eqb, List, [], ◌∷◌, Some, None, All, ◌⊎◌, inl, inr, if◌then◌else◌, refl, sym, ap, ◌∙◌, subst, arith}
-use Rattle.std.specs.Prelude.{Contains, Option}
-use Rattle.std.proofs.lemmas.Bool.{cases_lt, cases_eq, eq-eqb, ne_eqb}
-use Rattle.std.proofs.lemmas.List.Elements.{All-contains, All-weaker}
-use Rattle.bench_types.specs.declared.entries.Entry.{Entry}
-use Rattle.bench_types.specs.declared.entries.Item.{Item}
-use Rattle.bench_types.specs.declared.entries.Mark.{Mark}
-use Rattle.bench_types.specs.declared.exchanges.Mode.{Mode}
-use Rattle.bench_types.specs.declared.exchanges.Rules.{Rules}
-use Rattle.bench_types.specs.Mark.{absent, mark_of, mark_held, is_before, IsBefore, IsUpTo, later}
-use Rattle.bench_types.specs.Mode.{digest_kind}
-use Rattle.bench_types.proofs.Marks.{before-yes, cases_before, cases_later, first-later, second-later, later-first, up_to-itself, up_to-then, up_to-both, absent-first, not_both}
+use Rattle.model.proofs.Common.{◌≡◌, ◌≢◌, ℕ, zero, suc, ◌<◌, ◌≤◌, max, not, ◌&&◌, eqb, List, [], ◌∷◌, Some, None, All, ◌⊎◌, inl, inr, if◌then◌else◌, refl, sym, ap, ◌∙◌, subst, arith, Option, cases_lt, cases_eq, eq-eqb, ne_eqb, All-contains, All-weaker, Entry, Item, Mark, Mode, Rules, absent, mark_of, mark_held, is_before, IsBefore, IsUpTo, later, digest_kind, before-yes, cases_before, cases_later, first-later, second-later, later-first, up_to-itself, up_to-then, up_to-both, absent-first, not_both}
+use Rattle.std.specs.Prelude.{Contains}
 use Rattle.model.specs.Table.{Table, applied, entry_at, mark_at, greatest_mark, generation_held, items_of, IsProper}
 use Rattle.model.specs.calls.Table.{IsItemInPlace, MayReceive}
 use Rattle.model.specs.inner.GreatestMarks.{greatest_among}

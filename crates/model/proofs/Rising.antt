@@ -1,13 +1,8 @@
 -- Lists of items that rise by place.
 -- Serves `Apart`, `Items` and `Proper`.
-use Rattle.std.proofs.Common.{◌≡◌, ℕ, zero, suc, ◌<◌, List, [], ◌∷◌, length, get_or, arith}
-use lib.Dec.{T}
-use Rattle.std.specs.declared.cmp.Ordering.TheVariants.{Less}
-use Rattle.std.specs.FinMap.Entries.{below_all}
-use Rattle.bench_types.specs.declared.entries.Item.{Item}
+use Rattle.model.proofs.Common.{◌≡◌, ℕ, zero, suc, ◌<◌, List, [], ◌∷◌, length, get_or, arith, T, Less, below_all, Item, first, second, less}
 use Rattle.model.specs.Table.{Place, place_cmp}
 use Rattle.model.specs.inner.Items.{place_of, pairs, IsRising}
-use Rattle.bench_types.proofs.Comparing.{first, second, less}
 
 below_at : (p : Place) (xs : List Item) (i : ℕ) (d : Item) → T (below_all place_cmp p (pairs xs)) → i < length xs → place_cmp p (place_of (get_or xs i d)) ≡ Less
 below_at p [] i d h lt = absurd (omega arith)

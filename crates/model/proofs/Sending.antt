@@ -1,18 +1,6 @@
 -- What fits of the sorted candidates is the delta.
 -- Serves `DeltaLaws` and `reconcile`.
-use Rattle.std.proofs.Common.{◌≡◌, ℕ, ◌+◌, ◌-◌, ◌^◌, ◌<◌, ◌≤◌, Bool, List, length, get_or, All, sym, ap, ◌∙◌, arith}
-use Rattle.std.specs.Prelude.{filter, IsPermutation}
-use Rattle.std.specs.List.Sorted.{IsSorted}
-use Rattle.std.specs.declared.cmp.Ordering.{Ordering}
-use Rattle.std.specs.declared.cmp.Ordering.TheVariants.{Equal}
-use Rattle.std.specs.Ordering.{is_lt}
-use Rattle.std.proofs.lemmas.List.Sums.{length-filter, count_by-le-length}
-use Rattle.std.proofs.lemmas.List.Elements.{All-filter}
-use Rattle.std.proofs.lemmas.List.Sorted.{IsPermutation-trans, length_permutation}
-use Rattle.bench_types.specs.declared.exchanges.Budget.{Budget}
-use Rattle.bench_types.specs.Budget.{amount_of}
-use Rattle.bench_types.specs.declared.entries.Item.{Item}
-use Rattle.bench_types.specs.declared.exchanges.Mode.{Mode}
+use Rattle.model.proofs.Common.{◌≡◌, ℕ, ◌+◌, ◌-◌, ◌^◌, ◌<◌, ◌≤◌, Bool, List, length, get_or, All, sym, ap, ◌∙◌, arith, filter, IsPermutation, IsSorted, Ordering, Equal, is_lt, length-filter, count_by-le-length, All-filter, IsPermutation-trans, length_permutation, Budget, amount_of, Item, Mode}
 use Rattle.model.specs.Table.{Table, items_of, IsProper}
 use Rattle.model.proofs.Proper.{items_sound, length-le-limit}
 use Rattle.model.specs.Order.{sending_order}

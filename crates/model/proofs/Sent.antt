@@ -1,17 +1,6 @@
 -- What is sent stood among the candidates.
 -- Serves `Owns`, `Received`, `reconcile` and `simulation`.
-use Rattle.std.proofs.Common.{◌≡◌, ◌≢◌, ℕ, zero, suc, ◌+◌, true, false, cond, not, ◌&&◌, eqb, List, [], ◌∷◌, All, Some, None, refl, sym, ◌∙◌, subst}
-use Rattle.std.specs.Prelude.{count_by}
-use Rattle.std.specs.List.{filter_map, range_with_len, cons_option}
-use Rattle.std.specs.declared.cmp.Ordering.{Ordering}
-use Rattle.std.proofs.lemmas.Bool.{eq-eqb}
-use Rattle.std.proofs.lemmas.List.Elements.{All-nil, All-cons, All-head, All-tail}
-use Rattle.bench_types.specs.declared.exchanges.Budget.{Budget}
-use Rattle.bench_types.specs.Budget.{amount_of}
-use Rattle.bench_types.specs.declared.entries.Item.{Item}
-use Rattle.bench_types.specs.declared.entries.Mark.{Mark}
-use Rattle.bench_types.specs.Mark.{mark_of, is_before}
-use Rattle.bench_types.specs.declared.exchanges.Mode.{Mode}
+use Rattle.model.proofs.Common.{◌≡◌, ◌≢◌, ℕ, zero, suc, ◌+◌, true, false, cond, not, ◌&&◌, eqb, List, [], ◌∷◌, All, Some, None, refl, sym, ◌∙◌, subst, count_by, filter_map, range_with_len, cons_option, Ordering, eq-eqb, All-nil, All-cons, All-head, All-tail, Budget, amount_of, Item, Mark, mark_of, is_before, Mode}
 use Rattle.model.specs.Table.{Table, items_of, IsProper}
 use Rattle.model.specs.calls.Table.{IsItemInPlace}
 use Rattle.model.proofs.Proper.{items_sound}

@@ -1,11 +1,6 @@
 -- A copy that has all of its owner's own part hands it on by a delta of which nothing of that owner is cut.
 -- Serves `simulation`.
-use Rattle.std.proofs.Common.{◌≡◌, ◌≢◌, ℕ, ◌<◌, ◌≤◌, List, Some, refl, sym, ◌∙◌, subst, arith}
-use Rattle.bench_types.specs.declared.exchanges.Exchange.{Exchange}
-use Rattle.bench_types.specs.declared.exchanges.Rules.{Rules}
-use Rattle.bench_types.specs.calls.Exchange.{IsPlanned}
-use Rattle.bench_types.specs.Mark.{mark_of, mark_held, IsUpTo}
-use Rattle.bench_types.proofs.Marks.{up_to-itself}
+use Rattle.model.proofs.Common.{◌≡◌, ◌≢◌, ℕ, ◌<◌, ◌≤◌, List, Some, refl, sym, ◌∙◌, subst, arith, Exchange, Rules, IsPlanned, mark_of, mark_held, IsUpTo, up_to-itself}
 use Rattle.model.specs.Table.{Table, applied, entry_at, mark_at, generation_held}
 use Rattle.model.specs.Tables.{table_of_node}
 use Rattle.model.specs.Candidates.{IsScuttleMode}

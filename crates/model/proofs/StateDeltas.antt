@@ -1,26 +1,8 @@
 -- Deltas that cut nothing: each has as many entries as there are candidates, and to a copy that is a state of its owner
 -- these are the same in every mode.
 -- Serves `simulation`.
-use Rattle.std.proofs.Common.{◌≡◌, ℕ, suc, ◌<◌, Bool, true, false, cond, not, ◌&&◌, eqb, List, [], ◌∷◌, length, get_or, Some, None, refl, sym, ap, ◌∙◌, subst, inl, inr, arith}
-use Rattle.std.specs.Prelude.{filter, Contains}
-use Rattle.std.specs.Cmp.{IsTotalOrder}
-use Rattle.std.specs.Ordering.{is_eq}
-use Rattle.std.specs.declared.cmp.Ordering.{Ordering}
-use Rattle.std.proofs.lemmas.Bool.{and_parts, eqb-true}
-use Rattle.std.proofs.lemmas.List.{get_or_default}
-use Rattle.std.proofs.lemmas.List.Kept.{AllPairs-filter}
-use Rattle.std.proofs.lemmas.List.Sorted.{length_permutation}
-use Rattle.std.proofs.lemmas.Option.{same_Some}
-use Rattle.bench_types.specs.declared.entries.Entry.{Entry}
-use Rattle.bench_types.specs.declared.entries.Item.{Item}
-use Rattle.bench_types.specs.declared.entries.Mark.{Mark}
-use Rattle.bench_types.specs.declared.exchanges.Budget.{Budget}
-use Rattle.bench_types.specs.declared.exchanges.DigestKind.{DigestKind}
-use Rattle.bench_types.specs.declared.exchanges.DigestKind.TheVariants.{Scuttle, Precise}
-use Rattle.bench_types.specs.declared.exchanges.Mode.{Mode}
-use Rattle.bench_types.specs.Mark.{mark_of, mark_held, is_before, IsBefore, IsUpTo}
-use Rattle.bench_types.specs.Mode.{digest_kind}
-use Rattle.bench_types.proofs.Marks.{before-true, before-yes, before-no, cases_before, not_both}
+use Rattle.model.proofs.Common.{◌≡◌, ℕ, suc, ◌<◌, Bool, true, false, cond, not, ◌&&◌, eqb, List, [], ◌∷◌, length, get_or, Some, None, refl, sym, ap, ◌∙◌, subst, inl, inr, arith, filter, IsTotalOrder, is_eq, Ordering, and_parts, eqb-true, get_or_default, AllPairs-filter, length_permutation, same_Some, Entry, Item, Mark, Budget, DigestKind, Scuttle, Precise, Mode, mark_of, mark_held, is_before, IsBefore, IsUpTo, digest_kind, before-true, before-yes, before-no, cases_before, not_both}
+use Rattle.std.specs.Prelude.{Contains}
 use Rattle.model.specs.Table.{Table, entry_at, mark_at, greatest_mark, generation_held, items_of, IsProper}
 use Rattle.model.specs.Candidates.{known_mark, candidates}
 use Rattle.model.specs.Copies.{HoldsOf}

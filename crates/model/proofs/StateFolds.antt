@@ -1,21 +1,8 @@
 -- Copies that are states through the exchanges of a list that cut nothing, beside those of another mode and budget.
 -- Serves `Spreads`, `StateFigures` and `simulation`.
-use Rattle.std.proofs.Common.{◌≡◌, ◌≢◌, ℕ, ◌<◌, List, [], ◌∷◌, set, fold, All, Some, None, inl, inr, refl, sym, ap, ◌∙◌, subst, arith}
+use Rattle.model.proofs.Common.{◌≡◌, ◌≢◌, ℕ, ◌<◌, List, [], ◌∷◌, set, fold, All, Some, None, inl, inr, refl, sym, ap, ◌∙◌, subst, arith, cases_eq, length-set, All-head, All-tail, Contains-append_left, Contains-append_right, Entry, Mark, Exchange, Fate, Record, Rules, IsPlanned, mark_of, mark_held, digest_kind, up_to-both}
 use Rattle.std.specs.Prelude.{Contains}
-use Rattle.std.proofs.lemmas.Bool.{cases_eq}
-use Rattle.std.proofs.lemmas.List.{length-set}
-use Rattle.std.proofs.lemmas.List.Elements.{All-head, All-tail, Contains-append_left, Contains-append_right}
-use Rattle.bench_types.specs.declared.entries.Entry.{Entry}
-use Rattle.bench_types.specs.declared.entries.Mark.{Mark}
-use Rattle.bench_types.specs.declared.exchanges.Exchange.{Exchange}
-use Rattle.bench_types.specs.declared.exchanges.Fate.{Fate}
 use Rattle.bench_types.specs.declared.exchanges.Fate.TheVariants as fate
-use Rattle.bench_types.specs.declared.exchanges.Record.{Record}
-use Rattle.bench_types.specs.declared.exchanges.Rules.{Rules}
-use Rattle.bench_types.specs.calls.Exchange.{IsPlanned}
-use Rattle.bench_types.specs.Mark.{mark_of, mark_held}
-use Rattle.bench_types.specs.Mode.{digest_kind}
-use Rattle.bench_types.proofs.Marks.{up_to-both}
 use Rattle.model.specs.Table.{Table, applied, entry_at, mark_at, greatest_mark, generation_held, IsProper}
 use Rattle.model.specs.Tables.{table_of_node, AreTablesInOrder}
 use Rattle.model.specs.Clusters.{AreCopiesOf}

@@ -1,18 +1,8 @@
 -- Copies that are states of their owners, and tables that hold as much as others: what an exchange that cuts nothing makes
 -- of them.
 -- Serves `Spreads`, `StateFolds` and `simulation`.
-use Rattle.std.proofs.Common.{◌≡◌, ◌≢◌, ℕ, ◌<◌, ◌≤◌, List, Some, None, ◌⊎◌, inl, inr, refl, sym, ap, subst, arith}
+use Rattle.model.proofs.Common.{◌≡◌, ◌≢◌, ℕ, ◌<◌, ◌≤◌, List, Some, None, ◌⊎◌, inl, inr, refl, sym, ap, subst, arith, cases_lt, Entry, Item, Mark, DigestKind, Scuttle, Precise, Rules, absent, mark_of, mark_held, IsUpTo, digest_kind, absent-first, before-up_to, cases_before, up_to-itself, up_to-then}
 use Rattle.std.specs.Prelude.{Contains}
-use Rattle.std.proofs.lemmas.Bool.{cases_lt}
-use Rattle.bench_types.specs.declared.entries.Entry.{Entry}
-use Rattle.bench_types.specs.declared.entries.Item.{Item}
-use Rattle.bench_types.specs.declared.entries.Mark.{Mark}
-use Rattle.bench_types.specs.declared.exchanges.DigestKind.{DigestKind}
-use Rattle.bench_types.specs.declared.exchanges.DigestKind.TheVariants.{Scuttle, Precise}
-use Rattle.bench_types.specs.declared.exchanges.Rules.{Rules}
-use Rattle.bench_types.specs.Mark.{absent, mark_of, mark_held, IsUpTo}
-use Rattle.bench_types.specs.Mode.{digest_kind}
-use Rattle.bench_types.proofs.Marks.{absent-first, before-up_to, cases_before, up_to-itself, up_to-then}
 use Rattle.model.specs.Table.{Table, entry_at, mark_at, greatest_mark, generation_held, IsProper}
 use Rattle.model.specs.Candidates.{IsScuttleMode, known_mark, candidates}
 use Rattle.model.specs.Copies.{IsLastOf, HoldsOf}

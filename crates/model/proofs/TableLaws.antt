@@ -1,22 +1,11 @@
 -- Laws of tables: what each place holds after a write, after a list of items and after a restart.
 -- Serves most of the crate and the crates above.
-use Rattle.std.proofs.Common.{◌≡◌, ◌≢◌, ℕ, suc, ◌<◌, ◌≤◌, not, Bool, true, false, cond, ◌==◌, List, [], ◌∷◌, Option, Some, None, All, ◌⊎◌, inl, inr, if◌then◌else◌, refl, sym, ap, ◌∙◌, subst, arith}
-use Rattle.std.specs.Ordering.{is_eq, eq_by_cmp}
-use Rattle.std.specs.Cmp.{tied_itself}
+use Rattle.model.proofs.Common.{◌≡◌, ◌≢◌, ℕ, suc, ◌<◌, ◌≤◌, not, Bool, true, false, cond, ◌==◌, List, [], ◌∷◌, Option, Some, None, All, ◌⊎◌, inl, inr, if◌then◌else◌, refl, sym, ap, ◌∙◌, subst, arith, is_eq, eq_by_cmp, tied_itself, get, get-insert, get-empty, get-retain_keys, same_map, cases_lt, cases_eq, and_parts, and_from, and_left, and_right, eq-eqb, ne_eqb, eqb-true, lt-ltb, le-ltb, All-head, All-tail, Entry, Item, newer, mark_of, is_before, equal, same_Some}
 use Rattle.std.specs.List.{Contains}
-use Rattle.std.specs.FinMap.{get, get-insert, get-empty, get-retain_keys, same_map}
-use Rattle.std.proofs.lemmas.Bool.{cases_lt, cases_eq, and_parts, and_from, and_left, and_right, eq-eqb, ne_eqb, eqb-true, lt-ltb, le-ltb}
-use Rattle.std.proofs.lemmas.List.Elements.{All-head, All-tail}
-use Rattle.bench_types.specs.declared.entries.Entry.{Entry}
-use Rattle.bench_types.specs.declared.entries.Item.{Item}
-use Rattle.bench_types.specs.Entry.{newer}
-use Rattle.bench_types.specs.Mark.{mark_of, is_before}
 use Rattle.model.specs.Table.{Place, place_cmp, Held, Table, empty_table, entry_at, generation_held, held_with, without_owner, held_beside, taken, applied, own_write, with_own_write, without_others, without_all}
 use Rattle.model.specs.inner.Items.{place_of}
 use Rattle.model.specs.inner.Applied.{stands_at, items_at}
 use Rattle.model.proofs.Order.{place_total, place_same}
-use Rattle.bench_types.proofs.Comparing.{equal}
-use Rattle.std.proofs.lemmas.Option.{same_Some}
 
 -- places that tie are one place
 pub place_tied : (p q : Place) → eq_by_cmp place_cmp p q ≡ true → p ≡ q

@@ -1,12 +1,7 @@
 -- Slots that are moved within a block, and rows outside of it.
 -- Serves `Layout::renew`, `insert`, `put_among`, `put_at_rank` and `Opened`.
-use Rattle.std.proofs.Common.{◌≡◌, ℕ, zero, suc, ◌+◌, ◌-◌, ◌<◌, ◌≤◌, List, [], ◌∷◌, ◌++◌, length, set, take, drop, replicate, ◌⊎◌, inl, inr, refl, sym, ap, ◌∙◌, arith, append_assoc}
-use lib.Seq.{paste}
-use borrow.Rule.Slice.PartMut.{put_mid}
-use Rattle.std.specs.List.{insert, remove, copy_within}
-use Rattle.std.proofs.lemmas.List.{length-take-le, length-drop, take-take, take_more_set, drop-take, set-append_left, take-append-le, drop-append-le, drop_at, drop-set, drop-set-lt, take-set-le, take-replicate}
-use Rattle.std.proofs.lemmas.List.Edits.{take-paste}
-use Rattle.std.proofs.lemmas.Slice.{drop-put_mid}
+use Rattle.node_table.proofs.Common.{◌≡◌, ℕ, zero, suc, ◌+◌, ◌-◌, ◌<◌, ◌≤◌, List, [], ◌∷◌, ◌++◌, length, set, take, drop, replicate, ◌⊎◌, inl, inr, refl, sym, ap, ◌∙◌, arith, append_assoc, paste, put_mid, remove, copy_within, length-take-le, length-drop, take-take, take_more_set, drop-take, set-append_left, take-append-le, drop-append-le, drop_at, drop-set, drop-set-lt, take-set-le, take-replicate, take-paste, drop-put_mid}
+use Rattle.std.specs.List.{insert}
 
 take_set : {X : Type 0} (n : ℕ) (xs : List X) (i : ℕ) (y : X) → take n (set xs i y) ≡ set (take n xs) i y
 take_set zero xs i y = refl

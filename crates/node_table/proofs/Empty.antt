@@ -1,24 +1,11 @@
 -- A layout of which no row has an entry.
 -- Serves `Layout::forget_all` and `NodeTable::new`.
-use Rattle.std.proofs.Common.{◌≡◌, ℕ, [], replicate, None, inl, inr, refl, sym, ap, ◌∙◌, subst, arith}
-use Rattle.std.specs.Prelude.{◌≤◌, List, vec_capacity, sum_by}
-use Rattle.std.specs.FinMap.{empty, get-empty}
-use Rattle.std.proofs.lemmas.Bool.{cases_lt}
-use Rattle.std.proofs.lemmas.List.{length-replicate, get_or-replicate}
-use Rattle.bench_types.specs.declared.entries.Mark.{Mark}
-use Rattle.bench_types.specs.Mark.{absent}
-use Rattle.bench_types.specs.declared.entries.Entry.{Entry}
+use Rattle.node_table.proofs.Common.{◌≡◌, ℕ, [], replicate, None, inl, inr, refl, sym, ap, ◌∙◌, subst, arith, ◌≤◌, List, vec_capacity, sum_by, empty, get-empty, cases_lt, length-replicate, get_or-replicate, Mark, absent, Entry, place_cmp, Table, entry_at, greatest_mark, IsProper, held_by_lists, entry_in, same_table, greatest_mark-none, get-held_by_lists}
 use Rattle.node_table.specs.declared.layouts.Row.{Row}
 use Rattle.node_table.specs.declared.layouts.Layout.{Layout}
-use Rattle.model.specs.Table.{place_cmp, Table, entry_at, greatest_mark, IsProper}
 use Rattle.node_table.specs.Entries.{AreGenerations, AreGreatest}
-use Rattle.model.specs.calls.Held.{held_by_lists}
 use Rattle.node_table.specs.inner.Layouts.{entries_in_row, rows_of, row_at, row_len, block_len, table_laid, IsInSlots, AreLaid, IsLayout}
-use Rattle.model.specs.inner.Held.{entry_in}
-use Rattle.model.proofs.TableLaws.{same_table}
 use Rattle.node_table.proofs.Laid.{row_at-get_or, row_at-past}
-use Rattle.model.proofs.Greatest.{greatest_mark-none}
-use Rattle.model.proofs.InLists.{get-held_by_lists}
 use Rattle.node_table.proofs.Forgotten.{empty_row, empty_is_row, sum_none}
 
 module _ (nodes keys : ℕ) where

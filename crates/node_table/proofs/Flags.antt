@@ -1,19 +1,11 @@
 -- Marks in a list of greatest versions: each owner of whom nothing is held is counted once, and its mark goes again.
 -- Serves `Layout::blocks_for`, `flag_new` and `unflag`.
-use Rattle.std.proofs.Common.{◌≡◌, ◌≢◌, ℕ, ◌+◌, ◌<◌, ◌≤◌, cond, List, [], ◌∷◌, length, get_or, set, drop, Some, ◌⊎◌, inl, inr, refl, sym, ap, ◌∙◌, arith, get_or-set_same, get_or-set_other}
-use Rattle.std.proofs.lemmas.Bool.{cases_lt, cases_eq, eq-eqb}
-use Rattle.std.proofs.lemmas.List.{drop_more, get_or_default}
-use Rattle.bench_types.specs.declared.entries.Entry.{Entry}
-use Rattle.bench_types.specs.declared.entries.Item.{Item}
-use Rattle.bench_types.specs.Mark.{mark_held}
+use Rattle.node_table.proofs.Common.{◌≡◌, ◌≢◌, ℕ, ◌+◌, ◌<◌, ◌≤◌, cond, List, [], ◌∷◌, length, get_or, set, drop, Some, ◌⊎◌, inl, inr, refl, sym, ap, ◌∙◌, arith, get_or-set_same, get_or-set_other, cases_lt, cases_eq, eq-eqb, drop_more, get_or_default, Entry, Item, mark_held, greatest_version, no_item, entry_in}
 use Rattle.node_table.specs.declared.layouts.Row.{Row}
 use Rattle.node_table.specs.declared.layouts.Layout.{Layout}
-use Rattle.model.specs.Table.{greatest_version}
 use Rattle.node_table.specs.Entries.{AreGreatest}
-use Rattle.model.specs.inner.Items.{no_item}
 use Rattle.node_table.specs.NodeTableView.{blocks_below}
 use Rattle.node_table.specs.inner.Layouts.{row_at, table_laid, IsRow, IsLayout}
-use Rattle.model.specs.inner.Held.{entry_in}
 use Rattle.node_table.specs.inner.Flags.{ComesWithin, AreFlagged, AreUnflagged}
 use Rattle.node_table.proofs.Room.{blocks-upto, blocks-came_held, blocks-came_new}
 use Rattle.node_table.proofs.Taking.{version-le-greatest}

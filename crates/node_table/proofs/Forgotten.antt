@@ -1,24 +1,11 @@
 -- A layout of which one owner's row is left, at the front.
 -- Serves `Layout::forget_all`, `Layout::forget_others` and `Empty`.
-use Rattle.std.proofs.Common.{◌≡◌, ◌≢◌, ℕ, zero, suc, ◌<◌, ◌≤◌, List, [], length, get_or, set, take, replicate, All, inl, inr, refl, sym, ap, ◌∙◌, subst, arith}
-use Rattle.std.specs.Prelude.{sum_by}
-use Rattle.std.specs.List.{AllPairs}
-use Rattle.std.proofs.lemmas.Bool.{cases_lt, cases_eq}
-use Rattle.std.proofs.lemmas.List.{length-set, length-replicate, get_or-set_same, get_or-set_other, get_or-replicate}
-use Rattle.std.proofs.lemmas.List.Sums.{sum_by-cons, sum_by-set}
-use Rattle.bench_types.specs.declared.entries.Entry.{Entry}
+use Rattle.node_table.proofs.Common.{◌≡◌, ◌≢◌, ℕ, zero, suc, ◌<◌, ◌≤◌, List, [], length, get_or, set, take, replicate, All, inl, inr, refl, sym, ap, ◌∙◌, subst, arith, sum_by, AllPairs, cases_lt, cases_eq, length-set, length-replicate, get_or-set_same, get_or-set_other, get_or-replicate, sum_by-cons, sum_by-set, Entry, Mark, Table, without_others, entry_at, generation_held, greatest_version, held_by_lists, entry_in, same_table, entry_at-without_others_own, entry_at-without_others_other, greatest_mark-without_others_own, greatest_mark-without_others_other, get-held_by_lists}
 use Rattle.node_table.specs.declared.layouts.Row.{Row}
 use Rattle.node_table.specs.declared.layouts.Layout.{Layout}
-use Rattle.bench_types.specs.declared.entries.Mark.{Mark}
-use Rattle.model.specs.Table.{Table, without_others, entry_at, generation_held, greatest_version}
 use Rattle.node_table.specs.Entries.{AreGenerations, AreGreatest}
-use Rattle.model.specs.calls.Held.{held_by_lists}
 use Rattle.node_table.specs.inner.Layouts.{entries_in_row, rows_of, row_at, row_len, block_len, table_laid, IsRow, IsInSlots, AreApart, AreLaid, AreOthersKept}
-use Rattle.model.specs.inner.Held.{entry_in}
-use Rattle.model.proofs.TableLaws.{same_table, entry_at-without_others_own, entry_at-without_others_other}
-use Rattle.model.proofs.MarkLaws.{greatest_mark-without_others_own, greatest_mark-without_others_other}
 use Rattle.node_table.proofs.Laid.{row_at-get_or, row_at-past, block_len-some}
-use Rattle.model.proofs.InLists.{get-held_by_lists}
 use Rattle.node_table.proofs.InLayout.{entry_at-in}
 
 abbrev pub empty_row : Row

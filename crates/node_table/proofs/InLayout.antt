@@ -1,27 +1,11 @@
 -- The table that lies in memory: its look-ups, its rows, its count, and that it is proper.
 -- Serves the functions of `layouts`, `rows` and `tables`, `Flags`, `Forgotten` and `Opened`.
-use Rattle.std.proofs.Common.{◌≡◌, ◌≢◌, ℕ, zero, suc, ◌+◌, ◌-◌, ◌<◌, ◌≤◌, cond, ◌==◌, true, false, List, [], ◌∷◌, length, get_or, drop, Some, None, inl, inr, refl, sym, ap, ◌∙◌, subst, arith}
-use Rattle.std.specs.Prelude.{sum_by}
-use Rattle.std.specs.List.{AllPairs, Contains}
-use Rattle.std.proofs.lemmas.Bool.{cases_lt, cases_eq, eq-eqb, ne_eqb, eqb-true}
-use Rattle.std.proofs.lemmas.List.{nil_from_length, length-drop, get_or-drop, get_or_default}
-use Rattle.std.proofs.lemmas.List.Elements.{All-map}
-use Rattle.std.proofs.lemmas.Option.{same_Some}
-use Rattle.bench_types.specs.declared.entries.Entry.{Entry}
-use Rattle.bench_types.specs.declared.entries.Item.{Item}
-use Rattle.bench_types.specs.declared.entries.Mark.{Mark}
-use Rattle.bench_types.specs.Mark.{absent, mark_of, IsBefore, IsUpTo}
+use Rattle.node_table.proofs.Common.{◌≡◌, ◌≢◌, ℕ, zero, suc, ◌+◌, ◌-◌, ◌<◌, ◌≤◌, cond, ◌==◌, true, false, List, [], ◌∷◌, length, get_or, drop, Some, None, inl, inr, refl, sym, ap, ◌∙◌, subst, arith, sum_by, AllPairs, Contains, cases_lt, cases_eq, eq-eqb, ne_eqb, eqb-true, nil_from_length, length-drop, get_or-drop, get_or_default, All-map, same_Some, Entry, Item, Mark, absent, mark_of, IsBefore, IsUpTo, Table, entry_at, greatest_mark, generation_held, greatest_version, count_of, taken, held_by_lists, entry_in, HaveTwoKeys, greatest_mark-none, place_less, same_table, entry_at-taken_other, entry_at-taken_newer, frame-taken, get-held_by_lists, len-held_by_lists, held_by_lists-put, entry_in-none}
 use Rattle.node_table.specs.declared.layouts.Row.{Row}
 use Rattle.node_table.specs.declared.layouts.Layout.{Layout}
-use Rattle.model.specs.Table.{Table, entry_at, greatest_mark, generation_held, greatest_version, count_of, taken}
 use Rattle.node_table.specs.Entries.{StandsBefore, AreAbove}
-use Rattle.model.specs.calls.Held.{held_by_lists}
 use Rattle.node_table.specs.inner.Layouts.{entries_in_row, rows_of, row_at, row_len, table_laid, with_entry, IsRow, IsInSlots, AreLaid, IsLayout, IsIndexOf, IsRankAbove, IsPlaced, IsRenewed}
-use Rattle.model.specs.inner.Held.{entry_in, HaveTwoKeys}
-use Rattle.model.proofs.Greatest.{greatest_mark-none, place_less}
-use Rattle.model.proofs.TableLaws.{same_table, entry_at-taken_other, entry_at-taken_newer, frame-taken}
 use Rattle.node_table.proofs.InRow.{rank_place, absent_from_end}
-use Rattle.model.proofs.InLists.{get-held_by_lists, len-held_by_lists, held_by_lists-put, entry_in-none}
 use Rattle.node_table.proofs.Laid.{entries_in_row-empty, row_at-get_or, row_at-past, total-rows, length-entries_in_row}
 
 -- the entry of a key is the first that has it

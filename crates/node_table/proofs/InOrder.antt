@@ -1,12 +1,9 @@
 -- The tables in memory of all nodes, in order: how they are read and written.
 -- Serves `planner` and `staleness`.
-use Rattle.std.proofs.Common.{◌≡◌, ℕ, ◌<◌, List, length, get_or, ap, sym, ◌∙◌}
+use Rattle.node_table.proofs.Common.{◌≡◌, ℕ, ◌<◌, List, length, get_or, ap, sym, ◌∙◌, get_or_default, length-map, empty_table, table_of_node}
 use Rattle.std.proofs.Math.ListN.{get_or-map}
-use Rattle.std.proofs.lemmas.List.{get_or_default, length-map}
-use Rattle.model.specs.Table.{empty_table}
 use Rattle.node_table.specs.NodeTableView.{NodeTableView}
 use Rattle.node_table.specs.NodeTableView.{tables_in}
-use Rattle.model.specs.Tables.{table_of_node}
 
 abbrev pub no_table : NodeTableView
 no_table = record { table = empty_table 0 0 0; room = 0 }

@@ -1,25 +1,10 @@
 -- One owner's row: how many entries it has at most, and what becomes of it where an entry is taken out or put in.
 -- Serves the functions of `rows`, `InLayout`, `Laid` and `Newest`.
-use Rattle.std.proofs.Common.{◌≡◌, ◌≢◌, ℕ, zero, suc, ◌+◌, ◌-◌, ◌<◌, ◌≤◌, false, cond, eqb, ◌==◌, List, [], ◌∷◌, length, map, get_or, Some, None, All, inl, inr, refl, sym, ap, ◌∙◌, subst, arith}
-use Rattle.std.specs.declared.cmp.Ordering.TheVariants.{Less, Equal, Greater}
-use Rattle.std.specs.Ordering.{is_lt}
-use Rattle.std.specs.List.{AllPairs, insert, remove}
-use Rattle.std.proofs.lemmas.Bool.{cases_lt, cases_eq, eq-eqb, ne_eqb, eqb-true}
-use Rattle.std.proofs.lemmas.Bool.Decides.{Decides-eqb}
-use Rattle.std.proofs.lemmas.List.{get_or-map, length-map}
-use Rattle.std.proofs.lemmas.List.Edits.{length-insert, get_or-insert_below, get_or-insert_at, get_or-insert_above, length-remove, get_or-remove_below, get_or-remove_above}
-use Rattle.std.proofs.lemmas.List.Elements.{All-cons, All-tail, All-map, All-contains}
-use Rattle.std.proofs.lemmas.List.Kept.{AllPairs-cons}
-use Rattle.std.proofs.lemmas.List.Quantifiers.{all_pairs_remove}
-use Rattle.std.proofs.lemmas.Map.Made.{IsDistinct-from_AllPairs}
-use Rattle.std.proofs.lemmas.Map.Steps.{length-le_from_distinct_below}
-use Rattle.std.proofs.lemmas.Map.Views.{Contains-from_any}
-use Rattle.bench_types.specs.declared.entries.Entry.{Entry}
-use Rattle.model.specs.Table.{Place}
+use Rattle.node_table.proofs.Common.{◌≡◌, ◌≢◌, ℕ, zero, suc, ◌+◌, ◌-◌, ◌<◌, ◌≤◌, false, cond, eqb, ◌==◌, List, [], ◌∷◌, length, map, get_or, Some, None, All, inl, inr, refl, sym, ap, ◌∙◌, subst, arith, Less, Equal, Greater, is_lt, AllPairs, remove, cases_lt, cases_eq, eq-eqb, ne_eqb, eqb-true, Decides-eqb, length-map, length-insert, get_or-insert_below, get_or-insert_at, get_or-insert_above, length-remove, get_or-remove_below, get_or-remove_above, All-cons, All-tail, All-map, All-contains, AllPairs-cons, all_pairs_remove, IsDistinct-from_AllPairs, length-le_from_distinct_below, Contains-from_any, Entry, Place, entry_in, HaveTwoKeys, place_total, place_same, place_turned}
+use Rattle.std.specs.List.{insert}
+use Rattle.std.proofs.lemmas.List.{get_or-map}
 use Rattle.node_table.specs.Entries.{entry_cmp, StandsBefore}
-use Rattle.model.specs.inner.Held.{entry_in, HaveTwoKeys}
 use Rattle.node_table.specs.inner.Layouts.{IsRow, IsIndexOf, IsRankOf, IsPut}
-use Rattle.model.proofs.Order.{place_total, place_same, place_turned}
 
 abbrev pub no_entry : Entry
 no_entry = record { key = 0; generation = 0; version = 0; value = 0; born = 0 }

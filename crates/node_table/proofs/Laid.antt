@@ -1,15 +1,7 @@
 -- Rows among the slots: how long they are, and what stays where one of them is written anew.
 -- Serves most of the crate.
-use Rattle.std.proofs.Common.{◌≡◌, ◌≢◌, ℕ, suc, ◌+◌, ◌<◌, ◌≤◌, cond, List, [], ◌∷◌, length, get_or, set, take, drop, Some, None, All, ◌⊎◌, inl, inr, refl, sym, ap, ◌∙◌, subst, arith}
-use Rattle.std.specs.Prelude.{sum_by}
-use Rattle.std.specs.List.{AllPairs}
-use Rattle.std.proofs.Math.Nat.{mul-le-mul_right, mul-le-mul_left}
-use Rattle.std.proofs.lemmas.Bool.{cases_lt, cases_eq, eq-eqb, ne_eqb}
-use Rattle.std.proofs.lemmas.List.{length-take-le, length-drop, length-map, length-set, get_or-map, get_or_past, get_or-set_same, get_or-set_other}
-use Rattle.std.proofs.lemmas.List.Elements.{All-head, All-tail}
-use Rattle.std.proofs.lemmas.List.Sums.{sum_by-cons, sum_by-set, sum_by-le}
-use Rattle.bench_types.specs.declared.entries.Entry.{Entry}
-use Rattle.bench_types.specs.declared.limits.TheConstants.{MOST_NODES, MOST_KEYS}
+use Rattle.node_table.proofs.Common.{◌≡◌, ◌≢◌, ℕ, suc, ◌+◌, ◌<◌, ◌≤◌, cond, List, [], ◌∷◌, length, get_or, set, take, drop, Some, None, All, ◌⊎◌, inl, inr, refl, sym, ap, ◌∙◌, subst, arith, sum_by, AllPairs, mul-le-mul_right, mul-le-mul_left, cases_lt, cases_eq, eq-eqb, ne_eqb, length-take-le, length-drop, length-map, length-set, get_or_past, get_or-set_same, get_or-set_other, All-head, All-tail, sum_by-cons, sum_by-set, sum_by-le, Entry, MOST_NODES, MOST_KEYS}
+use Rattle.std.proofs.lemmas.List.{get_or-map}
 use Rattle.node_table.specs.declared.layouts.Row.{Row}
 use Rattle.node_table.specs.inner.Layouts.{entries_in_row, rows_of, row_at, row_len, block_len, IsRow, IsInSlots, AreApart, AreLaid, IsPut, IsPlaced, IsRenewed, KeepOutside}
 use Rattle.node_table.proofs.InRow.{row_fits}

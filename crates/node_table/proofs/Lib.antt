@@ -10,3 +10,4 @@ mod Empty
 mod Room
 mod Flags
 mod Newest
+pub mod Common

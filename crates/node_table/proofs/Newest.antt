@@ -1,18 +1,7 @@
 -- An entry that is newer than all others of its row: they close up, and it comes behind them.
 -- Serves `keep_others` and `put_in`.
-use Rattle.std.proofs.Common.{◌≡◌, ◌≢◌, ℕ, zero, suc, ◌+◌, ◌-◌, ◌<◌, ◌≤◌, Bool, false, cond, not, List, [], ◌∷◌, ◌++◌, length, get_or, set, All, ◌⊎◌, inl, inr, refl, sym, ap, ◌∙◌, subst, arith}
-use Rattle.std.specs.Ordering.{is_lt, nat_cmp, ordering_then}
-use Rattle.std.specs.List.{AllPairs, filter, remove}
-use Rattle.std.proofs.lemmas.Bool.{cases_eq, eq-eqb, ne_eqb}
-use Rattle.std.proofs.lemmas.List.{get_or_default, length-set, take-set, drop-set-lt}
-use Rattle.std.proofs.lemmas.List.Edits.{length-remove, length-insert, insert_end}
-use Rattle.std.proofs.lemmas.List.Elements.{All-cons, All-nil, All-tail}
-use Rattle.std.proofs.lemmas.List.Filters.{FiltersInPlace, FiltersInPlace-more_no}
-use Rattle.bench_types.specs.declared.entries.Entry.{Entry}
+use Rattle.node_table.proofs.Common.{◌≡◌, ◌≢◌, ℕ, zero, suc, ◌+◌, ◌-◌, ◌<◌, ◌≤◌, Bool, false, cond, not, List, [], ◌∷◌, ◌++◌, length, get_or, set, All, ◌⊎◌, inl, inr, refl, sym, ap, ◌∙◌, subst, arith, is_lt, nat_cmp, ordering_then, AllPairs, filter, remove, cases_eq, eq-eqb, ne_eqb, get_or_default, length-set, take-set, drop-set-lt, length-remove, length-insert, insert_end, All-cons, All-nil, All-tail, FiltersInPlace, FiltersInPlace-more_no, Entry, HaveTwoKeys, nat_cmp-greater, place_less}
 use Rattle.node_table.specs.inner.Layouts.{has_other_key, IsRow, IsIndexOf, IsRankOf, IsPut}
-use Rattle.model.specs.inner.Held.{HaveTwoKeys}
-use Rattle.bench_types.proofs.Comparing.{nat_cmp-greater}
-use Rattle.model.proofs.Greatest.{place_less}
 use Rattle.node_table.proofs.InRow.{rank_place, row_fits, room_for_key, all-remove, put_at_rank, row_remove, absent_remove, put_over}
 
 -- an element that doesn't pass may be written all the same

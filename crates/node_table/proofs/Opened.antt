@@ -1,25 +1,12 @@
 -- A block that is laid behind the others for an owner's first entry.
 -- Serves `Layout::put_first`, `Layout::renew` and `open`.
-use Rattle.std.proofs.Common.{◌≡◌, ◌≢◌, ℕ, ◌+◌, ◌<◌, ◌≤◌, cond, List, [], ◌∷◌, ◌++◌, length, get_or, set, replicate, Option, Some, None, inl, inr, refl, sym, ap, ◌∙◌, subst, arith, length-append}
-use Rattle.std.proofs.lemmas.Bool.{cases_lt, eq-eqb, ne_eqb}
-use Rattle.std.proofs.lemmas.List.{length-replicate}
-use Rattle.std.proofs.lemmas.List.Elements.{All-cons, All-nil}
-use Rattle.bench_types.specs.declared.entries.Entry.{Entry}
-use Rattle.bench_types.specs.declared.entries.Item.{Item}
-use Rattle.bench_types.specs.declared.entries.Mark.{Mark}
-use Rattle.bench_types.specs.Mark.{absent, mark_of, mark_held, later}
-use Rattle.bench_types.proofs.Marks.{later-second}
+use Rattle.node_table.proofs.Common.{◌≡◌, ◌≢◌, ℕ, ◌+◌, ◌<◌, ◌≤◌, cond, List, [], ◌∷◌, ◌++◌, length, get_or, set, replicate, Option, Some, None, inl, inr, refl, sym, ap, ◌∙◌, subst, arith, length-append, cases_lt, eq-eqb, ne_eqb, length-replicate, All-cons, All-nil, Entry, Item, Mark, absent, mark_of, mark_held, later, later-second, held_by_lists, Table, mark_at, greatest_mark, generation_held, greatest_version, taken, IsProper, IsItemInPlace, entry_in, greatest_mark-taken}
 use Rattle.node_table.specs.declared.layouts.Layout.{Layout}
 use Rattle.node_table.specs.declared.layouts.Row.{Row}
-use Rattle.model.specs.calls.Held.{held_by_lists}
-use Rattle.model.specs.Table.{Table, mark_at, greatest_mark, generation_held, greatest_version, taken, IsProper}
-use Rattle.model.specs.calls.Table.{IsItemInPlace}
 use Rattle.node_table.specs.inner.Layouts.{entries_in_row, rows_of, row_at, table_laid, block_len, IsRow, IsInSlots, AreApart, AreLaid, IsPut, IsPlaced, IsRenewed}
-use Rattle.model.specs.inner.Held.{entry_in}
 use Rattle.node_table.proofs.Blocks.{take-behind, take-new}
 use Rattle.node_table.proofs.InLayout.{entry_at-in, nothing_held, table_placed, table_renewed}
 use Rattle.node_table.proofs.Laid.{laid_after, renewed_after, block_len-some, block_len-none}
-use Rattle.model.proofs.MarkLaws.{greatest_mark-taken}
 use Rattle.node_table.proofs.Taking.{taken_put}
 
 -- a row of one entry

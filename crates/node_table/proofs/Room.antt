@@ -1,16 +1,7 @@
 -- How many blocks a list of items needs once one of them has come in.
 -- Serves the functions of `layouts` and `tables` and `Flags`.
-use Rattle.std.proofs.Common.{◌≡◌, ◌≢◌, ℕ, zero, suc, ◌+◌, ◌*◌, ◌/◌, ◌<◌, ◌≤◌, true, false, cond, ◌==◌, ◌&&◌, ◌||◌, List, [], ◌∷◌, inl, inr, refl, sym, ap, ◌∙◌, subst, arith}
-use Rattle.std.proofs.lemmas.Bool.{cases_lt, cases_eq, eq-eqb, ne_eqb}
-use Rattle.std.proofs.Math.Nat.{mul-le-mul_right}
-use Rattle.std.proofs.lemmas.Nat.{le-div, div-add-mod'}
-use Rattle.bench_types.specs.declared.entries.Item.{Item}
-use Rattle.bench_types.specs.declared.entries.Mark.{Mark}
-use Rattle.model.specs.Table.{Table, greatest_version, taken, IsProper}
-use Rattle.model.specs.calls.Table.{IsItemInPlace}
+use Rattle.node_table.proofs.Common.{◌≡◌, ◌≢◌, ℕ, zero, suc, ◌+◌, ◌*◌, ◌/◌, ◌<◌, ◌≤◌, true, false, cond, ◌==◌, ◌&&◌, ◌||◌, List, [], ◌∷◌, inl, inr, refl, sym, ap, ◌∙◌, subst, arith, cases_lt, cases_eq, eq-eqb, ne_eqb, mul-le-mul_right, le-div, div-add-mod', Item, Mark, Table, greatest_version, taken, IsProper, IsItemInPlace, frame-taken, greatest_mark-taken_other}
 use Rattle.node_table.specs.NodeTableView.{comes_in, needs_block, blocks_below, blocks_for}
-use Rattle.model.proofs.TableLaws.{frame-taken}
-use Rattle.model.proofs.MarkLaws.{greatest_mark-taken_other}
 use Rattle.node_table.proofs.Taking.{held-taken}
 
 -- greatest versions before and after an item came in, or its owner was flagged

@@ -1,24 +1,10 @@
 -- An item that a table takes: the table with its entry put at its place, and the lists of greatest versions and of
 -- generations.
 -- Serves the functions of `layouts` and `tables`, `Flags`, `Opened` and `Room`.
-use Rattle.std.proofs.Common.{◌≡◌, ◌≢◌, ℕ, ◌<◌, ◌≤◌, max, cond, true, false, List, length, get_or, set, Some, None, ◌⊎◌, inl, inr, refl, sym, ap, ◌∙◌, subst, arith}
-use Rattle.std.specs.FinMap.{get, insert, get-insert, same_map}
-use Rattle.std.specs.Ordering.{eq_by_cmp}
-use Rattle.std.proofs.lemmas.Bool.{cases_eq}
-use Rattle.std.proofs.lemmas.List.{length-set, get_or-set_same, get_or-set_other}
-use Rattle.bench_types.specs.declared.entries.Entry.{Entry}
-use Rattle.bench_types.specs.declared.entries.Item.{Item}
-use Rattle.bench_types.specs.declared.entries.Mark.{Mark}
-use Rattle.bench_types.specs.Entry.{newer}
-use Rattle.bench_types.specs.Mark.{absent, mark_of, mark_held, IsUpTo, later}
-use Rattle.bench_types.proofs.Marks.{before-yes, before-no, cases_later, later-second, second-later}
-use Rattle.model.specs.Table.{Place, place_cmp, Held, Table, entry_at, mark_at, greatest_mark, generation_held, greatest_version, taken, own_write, with_own_write, IsProper}
+use Rattle.node_table.proofs.Common.{◌≡◌, ◌≢◌, ℕ, ◌<◌, ◌≤◌, max, cond, true, false, List, length, get_or, set, Some, None, ◌⊎◌, inl, inr, refl, sym, ap, ◌∙◌, subst, arith, get, get-insert, same_map, eq_by_cmp, cases_eq, length-set, get_or-set_same, get_or-set_other, Entry, Item, Mark, newer, absent, mark_of, mark_held, IsUpTo, later, before-yes, before-no, cases_later, later-second, second-later, Place, place_cmp, Held, Table, entry_at, mark_at, greatest_mark, generation_held, greatest_version, taken, own_write, with_own_write, IsProper, place_total, place_same, place_tied, same_table, cases_taken, entry_at-taken_other, entry_at-taken_newer, entry_at-own_write, entry_at-own_write_other, frame-taken, greatest_mark-from, greatest_mark-none, mark_at-up_to_greatest, greatest_mark-taken, greatest_mark-taken_other}
+use Rattle.std.specs.FinMap.{insert}
 use Rattle.node_table.specs.Entries.{AreGenerations, AreGreatest}
 use Rattle.node_table.specs.inner.Layouts.{with_entry, AreOthersKept}
-use Rattle.model.proofs.Order.{place_total, place_same}
-use Rattle.model.proofs.TableLaws.{place_tied, same_table, cases_taken, entry_at-taken_other, entry_at-taken_newer, entry_at-own_write, entry_at-own_write_other, frame-taken}
-use Rattle.model.proofs.Greatest.{greatest_mark-from, greatest_mark-none, mark_at-up_to_greatest}
-use Rattle.model.proofs.MarkLaws.{greatest_mark-taken, greatest_mark-taken_other}
 
 nothing : (e : Entry) → None ≡ Some e → ⊥
 nothing e h = cc

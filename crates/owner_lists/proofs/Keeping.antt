@@ -1,20 +1,8 @@
 -- What an owner's list keeps through its calls.
 -- Serves the functions of `lists`.
-use Rattle.std.proofs.Common.{◌≡◌, ℕ, ◌+◌, ◌-◌, ◌^◌, ◌<◌, cond, eqb, Some, List, [], ◌∷◌, ◌++◌, length, map, take, drop, refl, sym, ap, ◌∙◌, subst, arith}
-use Rattle.std.specs.Ordering.{nat_cmp}
-use Rattle.std.specs.Cmp.{nat_cmp_total}
-use Rattle.std.specs.FinMap.{put}
-use Rattle.std.specs.FinMap.Entries.{find-put}
-use Rattle.std.proofs.lemmas.List.{length-drop, length-map, get_or-map, map-append, take_all}
-use Rattle.bench_types.specs.declared.entries.Entry.{Entry}
-use Rattle.model.specs.declared.writes.Write.{Write}
-use Rattle.model.specs.calls.OwnerListView.{OwnerListView, written, AreWrites, next_entry}
-use Rattle.model.specs.Writes.{write_of_entry}
-use Rattle.model.specs.calls.Writes.{IsNumbered}
-use Rattle.model.proofs.LastWrites.{last_write-push, same_key}
+use Rattle.owner_lists.proofs.Common.{◌≡◌, ℕ, ◌+◌, ◌-◌, ◌^◌, ◌<◌, cond, eqb, Some, List, [], ◌∷◌, ◌++◌, length, map, take, drop, refl, sym, ap, ◌∙◌, subst, arith, nat_cmp, nat_cmp_total, put, find-put, length-drop, length-map, get_or-map, map-append, take_all, Entry, Write, OwnerListView, written, AreWrites, next_entry, write_of_entry, IsNumbered, last_write-push, same_key, view_begun, view_pushed, kept_begun, kept_pushed}
 use Rattle.owner_lists.specs.Latest.{keyed, write_of, IsLatest}
 use Rattle.owner_lists.specs.inner.Kept.{itself, view_of, IsKeptList}
-use Rattle.owner_writes.proofs.Keeping.{view_begun, view_pushed, kept_begun, kept_pushed}
 use Rattle.owner_lists.proofs.Rising.{rising_put}
 
 -- what stands from a place on, as it is lent

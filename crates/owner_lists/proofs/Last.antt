@@ -1,16 +1,6 @@
 -- The last write of a key, and the first one that was missed.
 -- Serves `OwnerList::first_missed`, `first_from` and `staleness`.
-use Rattle.std.proofs.Common.{◌≡◌, ◌≢◌, ℕ, zero, suc, ◌+◌, ◌<◌, ◌≤◌, Bool, true, false, cond, eqb, ltb, ◌&&◌, List, [], ◌∷◌, length, get_or, drop, drop-cons, map, reverse, Some, None, IfSome, All, if◌then◌else◌, refl, sym, ap, ◌∙◌, subst, arith}
-use Rattle.std.specs.List.{find}
-use Rattle.std.specs.Option.{option_or}
-use Rattle.std.proofs.lemmas.Bool.{lt-ltb, le-ltb, eq-eqb, ne_eqb}
-use Rattle.std.proofs.lemmas.List.{reverse-append, drop_all, get_or-map, length-map}
-use Rattle.std.proofs.lemmas.List.Folds.{find-append}
-use Rattle.std.proofs.lemmas.List.Elements.{All-head, All-tail}
-use Rattle.model.specs.declared.writes.Write.{Write}
-use Rattle.bench_types.specs.declared.entries.Entry.{Entry}
-use Rattle.model.specs.Writes.{write_of_entry}
-use Rattle.model.specs.calls.Writes.{IsNumbered, is_write_of, last_write}
+use Rattle.owner_lists.proofs.Common.{◌≡◌, ◌≢◌, ℕ, zero, suc, ◌+◌, ◌<◌, ◌≤◌, Bool, true, false, cond, eqb, ltb, ◌&&◌, List, [], ◌∷◌, length, get_or, drop, drop-cons, map, reverse, Some, None, IfSome, All, if◌then◌else◌, refl, sym, ap, ◌∙◌, subst, arith, find, option_or, lt-ltb, le-ltb, eq-eqb, ne_eqb, reverse-append, drop_all, get_or-map, length-map, find-append, All-head, All-tail, Write, Entry, write_of_entry, IsNumbered, is_write_of, last_write}
 use Rattle.owner_lists.specs.Missed.{is_missed, first_missed}
 
 -- a write at the front is the last of its key where none follows

@@ -1,21 +1,7 @@
 -- What stands under a mark.
 -- Serves `OwnerList::entry` and `searched_entry`.
-use Rattle.std.proofs.Common.{◌≡◌, ◌≢◌, ℕ, zero, suc, ◌+◌, ◌<◌, Bool, true, false, cond, eqb, ◌&&◌, List, [], ◌∷◌, length, get_or, Option, Some, None, All, inl, inr, refl, sym, ap, ◌∙◌, subst, arith, length-append}
-use Rattle.std.specs.List.{find}
-use Rattle.std.specs.List.Sorted.{IsPartitionedBy, IsPartitionPoint}
-use Rattle.std.specs.Option.{option_or}
-use Rattle.std.proofs.lemmas.Bool.{cases_eq, cases_lt, eq-eqb, eqb-true, ne_eqb}
-use Rattle.std.proofs.lemmas.List.{get_or_append_left}
-use Rattle.std.proofs.lemmas.List.Folds.{find-append}
-use Rattle.bench_types.specs.declared.entries.Entry.{Entry}
-use Rattle.bench_types.specs.declared.entries.Mark.{Mark}
-use Rattle.bench_types.specs.calls.Entry.{AreNextAfter}
-use Rattle.bench_types.specs.Mark.{mark_of, is_before, IsBefore}
-use Rattle.bench_types.proofs.Marks.{before-true, before-false, before-yes, before-up_to, up_to-before}
-use Rattle.model.specs.calls.OwnerListView.{OwnerListView, entries_of, MarksRise, AreWrites}
+use Rattle.owner_lists.proofs.Common.{◌≡◌, ◌≢◌, ℕ, zero, suc, ◌+◌, ◌<◌, Bool, true, false, cond, eqb, ◌&&◌, List, [], ◌∷◌, length, get_or, Option, Some, None, All, inl, inr, refl, sym, ap, ◌∙◌, subst, arith, length-append, find, IsPartitionedBy, IsPartitionPoint, option_or, cases_eq, cases_lt, eq-eqb, eqb-true, ne_eqb, get_or_append_left, find-append, Entry, Mark, AreNextAfter, mark_of, is_before, IsBefore, before-true, before-false, before-yes, before-up_to, up_to-before, OwnerListView, entries_of, MarksRise, AreWrites, write_numbered, write_from-here, write_from-past}
 use Rattle.owner_lists.specs.Marked.{has_mark, entry_of}
-use Rattle.model.specs.calls.Numbers.{write_numbered}
-use Rattle.owner_writes.proofs.Numbered.{write_from-here, write_from-past}
 
 pub find-here : (test : Entry → Bool) (es : List Entry) (i : ℕ) (d : Entry) → i < length es → test (get_or es i d) ≡ true → ((j : ℕ) → j < i → test (get_or es j d) ≡ false) → find test es ≡ Some (get_or es i d)
 find-here test [] i d lt here before = absurd (omega arith)

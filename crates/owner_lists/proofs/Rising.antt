@@ -1,20 +1,8 @@
 -- Lists of writes that rise by key: what a search finds, and what an edit at an index does to the look-ups.
 -- Serves `put`, `search`, `write_in` and `Keeping`.
-use Rattle.std.proofs.Common.{◌≡◌, ◌≢◌, ℕ, zero, suc, ◌+◌, ◌<◌, false, cond, List, [], ◌∷◌, length, get_or, set, Some, None, Result, Ok, Err, IfOk, IfErr, inl, inr, refl, sym, ap, ◌∙◌, subst, arith}
-use lib.Dec.{T}
-use Rattle.std.specs.declared.cmp.Ordering.TheVariants.{Less, Equal, Greater}
-use Rattle.std.specs.Ordering.{nat_cmp, is_lt, is_eq}
-use Rattle.std.specs.Cmp.{ranked, nat_cmp_total}
-use Rattle.std.specs.List.{insert}
-use Rattle.std.specs.List.Sorted.{IsSearchInRange, IsBinarySearchResult, IsSortedBy}
-use Rattle.std.specs.FinMap.{find, put, is_sorted}
-use Rattle.std.specs.FinMap.Entries.{below_all, by_order, is_sorted-put}
-use Rattle.std.proofs.lemmas.Bool.{cases_lt}
-use Rattle.std.proofs.lemmas.List.Sorted.{searchable_from_sorted}
-use Rattle.model.specs.declared.writes.Write.{Write}
+use Rattle.owner_lists.proofs.Common.{◌≡◌, ◌≢◌, ℕ, zero, suc, ◌+◌, ◌<◌, false, cond, List, [], ◌∷◌, length, get_or, set, Some, None, Result, Ok, Err, IfOk, IfErr, inl, inr, refl, sym, ap, ◌∙◌, subst, arith, T, Less, Equal, Greater, nat_cmp, is_lt, is_eq, ranked, nat_cmp_total, insert, IsSearchInRange, IsBinarySearchResult, IsSortedBy, find, put, is_sorted, below_all, by_order, is_sorted-put, cases_lt, searchable_from_sorted, Write, first, second, less, nat_cmp-less, nat_cmp-equal, nat_cmp-greater}
 use Rattle.owner_lists.specs.Latest.{keyed, KeysRise}
 use Rattle.owner_lists.specs.inner.Keys.{IsIndexOfKey, IsGapForKey}
-use Rattle.bench_types.proofs.Comparing.{first, second, less, nat_cmp-less, nat_cmp-equal, nat_cmp-greater}
 
 below_at : (key : ℕ) (ws : List Write) (i : ℕ) (d : Write) → T (below_all nat_cmp key (keyed ws)) → i < length ws → key < (get_or ws i d).key
 below_at key [] i d h lt = absurd (omega arith)

@@ -3,3 +3,4 @@ pub mod Standings
 pub mod Stages
 pub mod Places
 pub mod Playing
+pub mod Common

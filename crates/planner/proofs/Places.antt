@@ -1,28 +1,7 @@
 -- What stands in the places, and how starts and finishes change it.
 -- Serves `all_of`, `put_back`, `take_out` and `Playing`.
-use Rattle.std.proofs.Common.{◌≡◌, ◌≢◌, ℕ, zero, suc, ◌<◌, List, [], ◌∷◌, ◌++◌, length, get_or, set, map, fold, Option, None, Some, inl, inr, refl, sym, ap, ◌∙◌, subst, arith}
-use Rattle.std.specs.List.{slice_get, filter_map, cons_option}
-use Rattle.std.proofs.lemmas.Bool.{cases_eq}
-use Rattle.std.proofs.lemmas.List.{get_or-set_same, get_or-set_other, length-set, get_or_read, append_assoc, append-nil}
-use Rattle.std.proofs.lemmas.List.Elements.{filter_map-append}
-use Rattle.std.proofs.lemmas.Option.{same_Some, none-some, slice_get_within, get_or_from_slice_get}
-use Rattle.bench_types.specs.declared.exchanges.Exchange.{Exchange}
-use Rattle.bench_types.specs.declared.exchanges.Record.{Record}
-use Rattle.bench_types.specs.declared.exchanges.Rules.{Rules}
-use Rattle.model.specs.Table.{Table, empty_table}
-use Rattle.node_table.specs.NodeTableView.{NodeTableView}
-use Rattle.model.specs.Exchanged.{Exchanged, exchanged}
-use Rattle.node_table.specs.NodeTableView.{tables_in}
-use Rattle.model.specs.Tables.{IsTableOf, AreTablesInOrder}
-use Rattle.model.proofs.Tables.{still_table_of}
-use Rattle.model.proofs.Owns.{initiator_keeps_own, responder_keeps_own}
-use Rattle.dependencies.specs.declared.events.Event.{Event}
-use Rattle.dependencies.specs.declared.events.Event.TheVariants.{Start, Finish}
+use Rattle.planner.proofs.Common.{◌≡◌, ◌≢◌, ℕ, zero, suc, ◌<◌, List, [], ◌∷◌, ◌++◌, length, get_or, set, map, fold, Option, None, Some, inl, inr, refl, sym, ap, ◌∙◌, subst, arith, slice_get, filter_map, cons_option, cases_eq, get_or-set_same, get_or-set_other, length-set, get_or_read, append_assoc, append-nil, filter_map-append, same_Some, none-some, slice_get_within, get_or_from_slice_get, Exchange, Record, Rules, Table, empty_table, NodeTableView, Exchanged, exchanged, tables_in, IsTableOf, AreTablesInOrder, still_table_of, initiator_keeps_own, responder_keeps_own, Event, Start, Finish, exchange_at, Taken, State, with_at, both_of, opened, put_back, after_event, state_of, in_place, with_at-same, with_at-other}
 use Rattle.planner.specs.declared.plays.Pair.{Pair}
-use Rattle.dependencies.specs.Sharing.{exchange_at}
-use Rattle.dependencies.specs.States.{Taken, State, with_at, both_of, opened, put_back, after_event, state_of}
-use Rattle.dependencies.specs.inner.Slots.{in_place}
-use Rattle.dependencies.proofs.Maps.{with_at-same, with_at-other}
 use Rattle.planner.specs.inner.Places.{without_room, taken_of, itself, both_or_none, IsPairOf, AreInPlace}
 
 -- a list changed at one place, as a map

@@ -1,37 +1,11 @@
 -- A schedule that is being carried out, event by event.
 -- Serves `play`.
-use Rattle.std.proofs.Common.{◌≡◌, ℕ, ◌+◌, ◌<◌, List, [], ◌∷◌, ◌++◌, length, get_or, map, take, All, Some, inl, inr, refl, sym, ap, ◌∙◌, subst, arith}
-use Rattle.std.specs.List.{slice_get}
-use Rattle.std.proofs.lemmas.List.{take_more, length-map}
-use Rattle.std.proofs.lemmas.List.Sums.{fold-append}
-use Rattle.std.proofs.lemmas.Option.{slice_get-get_or}
-use Rattle.bench_types.specs.declared.exchanges.Exchange.{Exchange}
-use Rattle.bench_types.specs.declared.exchanges.Record.{Record}
-use Rattle.bench_types.specs.declared.exchanges.Rules.{Rules}
-use Rattle.bench_types.specs.declared.faults.Fault.{Fault}
-use Rattle.model.specs.Table.{Table}
-use Rattle.node_table.specs.NodeTableView.{NodeTableView}
-use Rattle.bench_types.specs.calls.Exchange.{IsPlanned}
-use Rattle.model.specs.RoundLists.{RoundListView}
-use Rattle.model.specs.calls.RoundLists.{IsRoundPlan}
-use Rattle.node_table.specs.NodeTableView.{tables_in}
-use Rattle.model.specs.Tables.{table_of_node}
-use Rattle.model.specs.calls.Tables.{IsCluster}
-use Rattle.model.specs.Folds.{fold_of}
-use Rattle.node_table.proofs.InOrder.{length-tables_in}
-use Rattle.model.proofs.FoldLaws.{fold_tables, fold_counts_records}
-use Rattle.dependencies.specs.declared.events.Event.{Event}
-use Rattle.dependencies.specs.declared.events.Event.TheVariants.{Start, Finish}
+use Rattle.planner.proofs.Common.{◌≡◌, ℕ, ◌+◌, ◌<◌, List, [], ◌∷◌, ◌++◌, length, get_or, map, take, All, Some, inl, inr, refl, sym, ap, ◌∙◌, subst, arith, slice_get, take_more, length-map, fold-append, slice_get-get_or, Exchange, Record, Rules, Fault, Table, NodeTableView, IsPlanned, RoundListView, IsRoundPlan, tables_in, table_of_node, IsCluster, fold_of, length-tables_in, fold_tables, fold_counts_records, Event, Start, Finish, IsLawful, AreFinished, after_event, opened, state_of, in_place, IsEndOfList, whole_in_list_order}
 use Rattle.planner.specs.declared.plays.Places.{Places}
-use Rattle.dependencies.specs.Schedules.{IsLawful, AreFinished}
 use Rattle.planner.specs.Stages.{ScheduleView, not_started}
-use Rattle.dependencies.specs.States.{after_event, opened, state_of}
-use Rattle.dependencies.specs.inner.Slots.{in_place}
-use Rattle.dependencies.specs.ListOrder.{IsEndOfList}
 use Rattle.planner.specs.inner.Places.{state_in, AreEmpty, HasPlaces, AreInPlace, StandIn}
 use Rattle.planner.specs.Plays.{IsPlayed, IsEventAt, IsRefusal}
 use Rattle.planner.specs.inner.Plays.{Follows, IsEventRefused}
-use Rattle.dependencies.proofs.Lawful.{whole_in_list_order}
 use Rattle.planner.proofs.Places.{always_in_place, opened_in_place, opened_state, all_tables, all_records}
 use Rattle.planner.proofs.Stages.{IsAt, at_first, at_start, at_finish, can_start, not_running}
 

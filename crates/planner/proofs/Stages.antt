@@ -1,19 +1,9 @@
 -- How far the exchanges are after some events, step by step.
 -- Serves `play` and `Playing`.
-use Rattle.std.proofs.Common.{◌≡◌, ◌≢◌, ℕ, zero, suc, ◌+◌, ◌<◌, ◌≤◌, ◌==◌, Bool, true, false, not, ◌&&◌, ◌||◌, if◌then◌else◌, List, [], ◌∷◌, ◌++◌, length, get_or, set, map, inl, inr, refl, sym, ap, ◌∙◌, subst, arith}
-use Rattle.std.specs.List.{count_by}
-use Rattle.std.proofs.lemmas.Bool.{cases_eq, cases_lt, cases_Bool, eq-eqb, ne_eqb, cond-true, both_ways}
-use Rattle.std.proofs.lemmas.List.{get_or-set_same, get_or-set_other, length-set, length-map, get_or_past}
-use Rattle.std.proofs.lemmas.List.Sums.{sum_by-cons, count_by-le-length}
-use Rattle.bench_types.specs.declared.exchanges.Exchange.{Exchange}
-use Rattle.model.specs.RoundLists.{RoundListView}
-use Rattle.dependencies.specs.declared.events.Event.{Event}
-use Rattle.dependencies.specs.declared.events.Event.TheVariants.{Start, Finish}
+use Rattle.planner.proofs.Common.{◌≡◌, ◌≢◌, ℕ, zero, suc, ◌+◌, ◌<◌, ◌≤◌, ◌==◌, Bool, true, false, not, ◌&&◌, ◌||◌, if◌then◌else◌, List, [], ◌∷◌, ◌++◌, length, get_or, set, map, inl, inr, refl, sym, ap, ◌∙◌, subst, arith, count_by, cases_eq, cases_lt, cases_Bool, eq-eqb, ne_eqb, cond-true, both_ways, get_or-set_same, get_or-set_other, length-set, length-map, get_or_past, sum_by-cons, count_by-le-length, Exchange, RoundListView, Event, Start, Finish, is_started, is_finished, is_running, MayStart, IsLawful, AreFinished, or_none, lawful_none, lawful_push, started-start, started-finish, finished-start, finished-finish, history_of}
 use Rattle.planner.specs.declared.schedules.Stage.{Stage}
 use Rattle.planner.specs.declared.schedules.Stage.TheVariants.{Waiting, Running, Done}
-use Rattle.dependencies.specs.Schedules.{is_started, is_finished, is_running, MayStart, IsLawful, AreFinished}
 use Rattle.planner.specs.Stages.{ScheduleView, standing_of, stage_in, stage_after, CanStart, with_stage, waiting_at_first, not_started, is_over}
-use Rattle.dependencies.proofs.Histories.{or_none, lawful_none, lawful_push, started-start, started-finish, finished-start, finished-finish, history_of}
 
 -- the stage, from whether an exchange is finished and whether it is started
 abbrev stage_by : Bool → Bool → Stage

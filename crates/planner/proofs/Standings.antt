@@ -1,24 +1,11 @@
 -- A list of exchanges and their stages, as the schedules keep them.
 -- Serves the functions of `plays` and `schedules`.
-use Rattle.std.proofs.Common.{◌≡◌, ◌≢◌, ℕ, ◌<◌, Bool, true, false, ◌&&◌, ◌||◌, if◌then◌else◌, List, [], ◌∷◌, ◌++◌, length, slice_get, Option, None, Some, inl, inr, All, refl, sym, ap, ◌∙◌, subst, arith}
-use Rattle.std.specs.Prelude.{IsTrue, ◌↔◌}
-use Rattle.std.specs.Option.{option_eq}
-use Rattle.std.proofs.lemmas.Bool.{cases_eq, cases_lt, lt-ltb, false≢true}
-use Rattle.std.proofs.lemmas.List.{get_or_past, get_or-set_other, length-set}
-use Rattle.std.proofs.lemmas.List.Elements.{All-nil, All-cons, All-head, All-tail}
-use Rattle.std.proofs.lemmas.Option.{get_or_from_slice_get, slice_get-get_or}
+use Rattle.planner.proofs.Common.{◌≡◌, ◌≢◌, ℕ, ◌<◌, Bool, true, false, ◌&&◌, ◌||◌, if◌then◌else◌, List, [], ◌∷◌, ◌++◌, length, slice_get, Option, None, Some, inl, inr, All, refl, sym, ap, ◌∙◌, subst, arith, IsTrue, ◌↔◌, option_eq, cases_eq, cases_lt, lt-ltb, false≢true, get_or_past, get_or-set_other, length-set, All-nil, All-cons, All-head, All-tail, get_or_from_slice_get, slice_get-get_or, Before, share_node, is_started, is_finished, as_list, predecessors_of, predecessors, AreClosed, schedule_of, predecessors_earlier, earlier_from_predecessors, schedule_from}
 use Rattle.planner.specs.contracts.schedules.StagePartialEq.TheImpl.{eq-value}
-use Rattle.dependencies.specs.declared.deps.Before.{Before}
 use Rattle.planner.specs.declared.schedules.Stage.{Stage}
 use Rattle.planner.specs.declared.schedules.Stage.TheVariants.{Waiting, Running, Done}
-use Rattle.dependencies.specs.Sharing.{share_node}
-use Rattle.dependencies.specs.Schedules.{is_started, is_finished}
-use Rattle.dependencies.specs.Neighbours.{as_list, predecessors_of, predecessors}
-use Rattle.dependencies.specs.ListOrder.{AreClosed, schedule_of}
 use Rattle.planner.specs.Stages.{ScheduleView, IsSchedule, HasSchedule, CanStart, stage_in, with_stage, runs, is_over}
 use Rattle.planner.specs.inner.Stages.{none_or_over}
-use Rattle.dependencies.proofs.Predecessors.{predecessors_earlier, earlier_from_predecessors}
-use Rattle.dependencies.proofs.Sets.{schedule_from}
 
 -- the exchanges that are done, and those that run
 abbrev pub over_in : List Stage → ℕ → Bool

@@ -1,15 +1,8 @@
 -- Items that come into a parcel, one list after another.
 -- Serves the functions of `candidates`, `parcels` and `suffixes`.
-use Rattle.std.proofs.Common.{◌≡◌, ◌≤◌, List, [], ◌++◌, refl, sym, ap, ◌∙◌, arith}
-use Rattle.std.proofs.lemmas.List.{append-nil, append_assoc}
-use Rattle.bench_types.specs.declared.entries.Item.{Item}
-use Rattle.bench_types.specs.declared.exchanges.Budget.{Budget}
-use Rattle.bench_types.specs.declared.exchanges.Budget.TheVariants.{Entries, Bytes}
-use Rattle.model.specs.Deltas.{item_share}
+use Rattle.reconcile.proofs.Common.{◌≡◌, ◌≤◌, List, [], ◌++◌, refl, sym, ap, ◌∙◌, arith, append-nil, append_assoc, Item, Budget, Entries, Bytes, item_share, fitting, left_after, fitting-append, left_after-append}
 use Rattle.reconcile.specs.inner.Parcels.{AddsFitting}
-use Rattle.model.specs.inner.Fitting.{fitting, left_after}
 use Rattle.reconcile.specs.declared.parcels.Parcel.{Parcel}
-use Rattle.model.proofs.Fitting.{fitting-append, left_after-append}
 
 -- each item takes something
 pub some_share : (budget : Budget) (i : Item) → 1 ≤ item_share budget i

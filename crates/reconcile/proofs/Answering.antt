@@ -1,30 +1,14 @@
 -- What is sent of the suffixes that were found, or of the candidates, is the answer to the digest.
 -- Serves `precise_delta` and `scuttle_delta`.
-use Rattle.std.proofs.Common.{◌≡◌, ℕ, ◌-◌, ◌<◌, ◌≤◌, ◌^◌, not, ◌&&◌, eqb, Bool, List, length, sym, ap, arith, subst}
-use Rattle.std.specs.Prelude.{IsPermutation}
-use Rattle.std.proofs.lemmas.List.Elements.{Contains-get_or}
-use Rattle.std.specs.List.Sorted.{IsSorted}
-use Rattle.std.proofs.lemmas.List.Sorted.{length_permutation, IsPermutation-trans}
-use Rattle.bench_types.specs.declared.exchanges.Budget.{Budget}
-use Rattle.bench_types.specs.Budget.{amount_of}
-use Rattle.bench_types.specs.declared.entries.Item.{Item}
-use Rattle.bench_types.specs.declared.exchanges.Mode.{Mode}
-use Rattle.bench_types.specs.Mark.{mark_of, is_before}
-use Rattle.model.specs.Table.{Table, items_of, IsProper}
-use Rattle.model.specs.Candidates.{IsScuttleMode, items_above}
-use Rattle.model.specs.Deltas.{DeltaView, item_share}
-use Rattle.model.specs.calls.DeltaLaws.{AreWithin}
-use Rattle.model.specs.Order.{sending_order}
+use Rattle.reconcile.proofs.Common.{◌≡◌, ℕ, ◌-◌, ◌<◌, ◌≤◌, ◌^◌, not, ◌&&◌, eqb, Bool, List, length, sym, ap, arith, subst, IsPermutation, Contains-get_or, IsSorted, length_permutation, IsPermutation-trans, Budget, amount_of, Item, Mode, mark_of, is_before, Table, items_of, IsProper, IsScuttleMode, items_above, DeltaView, item_share, AreWithin, sending_order, length-fitting-le, sum-fitting, length-candidates-lt, sorted_sent}
 use Rattle.reconcile.specs.inner.Parcels.{first_within}
 use Rattle.reconcile.specs.Answers.{answer_of}
 use Rattle.reconcile.specs.Digests.{DigestView, told_mark}
 use Rattle.reconcile.specs.inner.Newer.{AreCandidates}
 use Rattle.reconcile.specs.inner.Suffixes.{items_of_suffixes, IsTurned, layered, AreLayered}
 use Rattle.reconcile.specs.declared.suffixes.Suffix.{Suffix}
-use Rattle.model.proofs.Fitting.{length-fitting-le, sum-fitting}
 use Rattle.reconcile.proofs.Layers.{first_key, layered-permutation, order_layers}
 use Rattle.reconcile.proofs.Newer.{candidates-permuted}
-use Rattle.model.proofs.Sending.{length-candidates-lt, sorted_sent}
 use Rattle.reconcile.proofs.Turned.{turned-permutation, turned-pairs}
 
 -- no more are sent than there are

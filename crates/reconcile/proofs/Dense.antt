@@ -1,14 +1,6 @@
 -- The versions of a table in one list, owner by owner, and where each stands.
 -- Serves `each_of_table` and `each_version`.
-use Rattle.std.proofs.Common.{◌≡◌, ◌≢◌, ℕ, zero, suc, ◌+◌, ◌*◌, ◌<◌, ◌≤◌, ◌⊎◌, List, [], ◌∷◌, length, get_or, set, cond, All, Some, None, inl, inr, refl, sym, ap, ◌∙◌, subst, arith}
-use Rattle.std.proofs.Math.Nat.{mul-le-mul_right}
-use Rattle.std.proofs.lemmas.Bool.{cases_lt, cases_eq, ne_eqb}
-use Rattle.std.proofs.lemmas.List.{get_or_default, get_or-set_same, get_or-set_other, length-set}
-use Rattle.std.proofs.lemmas.List.Elements.{All-head, All-tail, Contains-get_or}
-use Rattle.bench_types.specs.declared.entries.Entry.{Entry}
-use Rattle.bench_types.specs.Mark.{absent, mark_held}
-use Rattle.model.specs.Table.{Table, entry_at, mark_at, generation_held, IsProper}
-use Rattle.node_table.specs.Entries.{AreAbove, AreGenerations}
+use Rattle.reconcile.proofs.Common.{◌≡◌, ◌≢◌, ℕ, zero, suc, ◌+◌, ◌*◌, ◌<◌, ◌≤◌, ◌⊎◌, List, [], ◌∷◌, length, get_or, set, cond, All, Some, None, inl, inr, refl, sym, ap, ◌∙◌, subst, arith, mul-le-mul_right, cases_lt, cases_eq, ne_eqb, get_or_default, get_or-set_same, get_or-set_other, length-set, All-head, All-tail, Contains-get_or, Entry, absent, mark_held, Table, entry_at, mark_at, generation_held, IsProper, AreAbove, AreGenerations}
 use Rattle.reconcile.specs.Digests.{mark_with, version_index}
 use Rattle.reconcile.specs.inner.Inside.{AreVersions, with_row}
 

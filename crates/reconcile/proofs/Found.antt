@@ -1,21 +1,10 @@
 -- Suffixes found owner by owner: their items are the candidates so far.
 -- Serves `suffixes_above`.
-use Rattle.std.proofs.Common.{◌≡◌, ◌≢◌, ℕ, ◌+◌, ◌<◌, List, [], ◌∷◌, ◌++◌, length, map, get_or, All, refl, sym, ap, ◌∙◌, subst, arith}
-use Rattle.std.specs.Prelude.{Contains}
-use Rattle.std.specs.List.{AllPairs}
-use Rattle.std.proofs.lemmas.Grind.{flat_map-append}
-use Rattle.std.proofs.lemmas.List.{append-nil}
-use Rattle.std.proofs.lemmas.List.Elements.{All-nil, All-cons, All-append, All-weaker, All-contains}
-use Rattle.bench_types.specs.declared.entries.Entry.{Entry}
-use Rattle.bench_types.specs.declared.entries.Mark.{Mark}
-use Rattle.bench_types.specs.Mark.{IsUpTo}
-use Rattle.model.specs.Table.{Table, greatest_mark, IsProper}
-use Rattle.node_table.specs.Entries.{StandsBefore, AreAbove, AreGenerations, AreGreatest}
+use Rattle.reconcile.proofs.Common.{◌≡◌, ◌≢◌, ℕ, ◌+◌, ◌<◌, List, [], ◌∷◌, ◌++◌, length, map, get_or, All, refl, sym, ap, ◌∙◌, subst, arith, Contains, AllPairs, flat_map-append, append-nil, All-nil, All-cons, All-append, All-weaker, All-contains, Entry, Mark, IsUpTo, Table, greatest_mark, IsProper, StandsBefore, AreAbove, AreGenerations, AreGreatest, AllPairs-append}
 use Rattle.reconcile.specs.Digests.{DigestView, Greatest, told_up_to, told_mark_at}
 use Rattle.reconcile.specs.inner.Newer.{AreCandidates, item_with}
 use Rattle.reconcile.specs.inner.Suffixes.{suffix_items, items_of_suffixes, OwnersRise, AreSuffixes}
 use Rattle.reconcile.specs.declared.suffixes.Suffix.{Suffix}
-use Rattle.model.proofs.Members.{AllPairs-append}
 use Rattle.reconcile.proofs.Newer.{newer-above, newer_items-above, above-none, candidates-own, candidates-more}
 
 -- the suffixes of the owners below a bound

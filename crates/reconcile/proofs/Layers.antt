@@ -1,30 +1,8 @@
 -- Items that stand by turn, then by version and then by key, and are taken layer by layer, are in the order of their
 -- scuttle mode.
 -- Serves `by_length`, `by_rank`, `scuttle_delta`, `Answering` and `Turned`.
-use Rattle.std.proofs.Common.{◌≡◌, ℕ, zero, suc, ◌+◌, ◌<◌, ◌≤◌, ◌^◌, Bool, true, false, cond, not, ◌&&◌, eqb, ltb, List, [], ◌∷◌, ◌++◌, length, get_or, All, ◌⊎◌, inl, inr, refl, sym, ap, ◌∙◌, subst, arith}
-use Rattle.std.specs.Prelude.{filter, Contains, IsPermutation}
-use Rattle.std.specs.List.{AllPairs}
-use Rattle.std.specs.List.Sorted.{IsSorted}
-use Rattle.std.specs.declared.cmp.Ordering.{Ordering}
-use Rattle.std.specs.declared.cmp.Ordering.TheVariants.{Less, Greater}
-use Rattle.std.specs.Ordering.{nat_cmp, ordering_then, ordering_reverse, is_lt}
-use Rattle.std.proofs.lemmas.Bool.{cases_lt, cases_order, eq-eqb, eqb-true, ne_eqb, lt-ltb, le-ltb}
-use Rattle.std.proofs.lemmas.List.{append-nil, append_assoc, length-append}
-use Rattle.std.proofs.lemmas.List.Elements.{All-nil, All-head, All-tail, All-append, All-weaker, All-contains, Contains-get_or, filter_passes}
-use Rattle.std.proofs.lemmas.List.Kept.{AllPairs-filter}
-use Rattle.std.proofs.lemmas.List.Sums.{count_by-le-length}
-use Rattle.std.proofs.lemmas.List.Sorted.{length_permutation, Contains-permutation, IsPermutation-refl, IsPermutation-sym, IsPermutation-trans, IsPermutation-append_left, IsPermutation-filter_both}
-use Rattle.bench_types.specs.declared.entries.Item.{Item}
-use Rattle.bench_types.specs.declared.exchanges.Mode.{Mode}
-use Rattle.bench_types.specs.declared.exchanges.Mode.TheVariants.{ScuttleBreadth, ScuttleDepth, PreciseOldest, PreciseNewest}
-use Rattle.bench_types.proofs.Comparing.{nat_cmp-less, nat_cmp-equal, nat_cmp-greater}
-use Rattle.model.specs.Candidates.{IsScuttleMode}
-use Rattle.model.specs.Order.{rotated, rank_among, owner_count, sending_order}
-use Rattle.model.specs.inner.Fitting.{fitting, left_after}
+use Rattle.reconcile.proofs.Common.{◌≡◌, ℕ, zero, suc, ◌+◌, ◌<◌, ◌≤◌, ◌^◌, Bool, true, false, cond, not, ◌&&◌, eqb, ltb, List, [], ◌∷◌, ◌++◌, length, get_or, All, ◌⊎◌, inl, inr, refl, sym, ap, ◌∙◌, subst, arith, filter, Contains, IsPermutation, AllPairs, IsSorted, Ordering, Less, Greater, nat_cmp, ordering_then, ordering_reverse, is_lt, cases_lt, cases_order, eq-eqb, eqb-true, ne_eqb, lt-ltb, le-ltb, append-nil, append_assoc, length-append, All-nil, All-head, All-tail, All-append, All-weaker, All-contains, Contains-get_or, filter_passes, AllPairs-filter, count_by-le-length, length_permutation, Contains-permutation, IsPermutation-refl, IsPermutation-sym, IsPermutation-trans, IsPermutation-append_left, IsPermutation-filter_both, Item, Mode, ScuttleBreadth, ScuttleDepth, PreciseOldest, PreciseNewest, nat_cmp-less, nat_cmp-equal, nat_cmp-greater, IsScuttleMode, rotated, rank_among, owner_count, sending_order, fitting, left_after, sending_total, sending_order-ascending, length-fitting-le, fitting-zero, fitting-append, left_after-append, AllPairs-append}
 use Rattle.reconcile.specs.inner.Suffixes.{layer_of, layered, reversed, lengths_first}
-use Rattle.model.proofs.Levels.{sending_total, sending_order-ascending}
-use Rattle.model.proofs.Fitting.{length-fitting-le, fitting-zero, fitting-append, left_after-append}
-use Rattle.model.proofs.Members.{AllPairs-append}
 
 -- one filter after another
 filter-twice : (p q r : Item → Bool) → ((c : Item) → r c ≡ (q c && p c)) → (cs : List Item) → filter p (filter q cs) ≡ filter r cs

@@ -8,3 +8,4 @@ pub mod Ranked
 pub mod SuffixLayers
 pub mod Found
 pub mod Answering
+pub mod Common

@@ -1,31 +1,8 @@
 -- A table's entries that a digest doesn't know, owner by owner, are the candidates in another order.
 -- Serves `candidates`, `push_newer`, `Answering` and `Found`.
-use Rattle.std.proofs.Common.{◌≡◌, ◌≢◌, ℕ, ◌+◌, ◌<◌, Bool, true, false, cond, not, ◌&&◌, eqb, List, [], ◌∷◌, ◌++◌, length, map, take, get_or, All, Some, inl, inr, refl, sym, ap, ◌∙◌, subst, arith}
-use Rattle.std.specs.Prelude.{filter, Contains, IsPermutation}
-use Rattle.std.specs.List.{AllPairs}
-use Rattle.std.specs.declared.cmp.Ordering.TheVariants.{Less, Equal}
-use Rattle.std.specs.Ordering.{nat_cmp, ordering_then, is_eq}
-use Rattle.std.specs.Cmp.{IsTotalOrder, nat_cmp_total, on_total, then_total, tied_itself}
-use Rattle.std.proofs.lemmas.Bool.{cases_lt, eq-eqb, ne_eqb, eqb-true, and_parts, and_from, both_ways, not-true}
-use Rattle.std.proofs.lemmas.List.{append_assoc, map-append, take_more}
-use Rattle.std.proofs.lemmas.List.Elements.{All-contains, All-head, All-tail, All-map, Contains-get_or, Contains-append_left, Contains-append_right, Contains-append_cases, filter-append}
-use Rattle.std.proofs.lemmas.List.Kept.{AllPairs-filter}
-use Rattle.bench_types.specs.declared.entries.Entry.{Entry}
-use Rattle.bench_types.specs.declared.entries.Item.{Item}
-use Rattle.bench_types.specs.declared.entries.Mark.{Mark}
-use Rattle.bench_types.specs.Mark.{absent, mark_of, mark_held, is_before, IsBefore, IsUpTo}
-use Rattle.bench_types.proofs.Marks.{before-true, before-yes, before-no, up_to-then}
-use Rattle.model.specs.Table.{Table, entry_at, greatest_mark, items_of, IsProper}
-use Rattle.node_table.specs.Entries.{AreAbove}
-use Rattle.model.specs.inner.Applied.{stands_at}
-use Rattle.bench_types.proofs.Comparing.{nat_cmp-less, nat_cmp-equal}
-use Rattle.model.proofs.Items.{IsApart, apart-items_of, entry_at-items_of, Contains-items_of}
-use Rattle.model.proofs.TableLaws.{tied-stands_at}
-use Rattle.model.proofs.Greatest.{mark_at-up_to_greatest}
-use Rattle.model.specs.Candidates.{items_above}
+use Rattle.reconcile.proofs.Common.{◌≡◌, ◌≢◌, ℕ, ◌+◌, ◌<◌, Bool, true, false, cond, not, ◌&&◌, eqb, List, [], ◌∷◌, ◌++◌, length, map, take, get_or, All, Some, inl, inr, refl, sym, ap, ◌∙◌, subst, arith, filter, Contains, IsPermutation, AllPairs, Less, Equal, nat_cmp, ordering_then, is_eq, IsTotalOrder, nat_cmp_total, on_total, then_total, tied_itself, cases_lt, eq-eqb, ne_eqb, eqb-true, and_parts, and_from, both_ways, not-true, append_assoc, map-append, take_more, All-contains, All-head, All-tail, All-map, Contains-get_or, Contains-append_left, Contains-append_right, Contains-append_cases, filter-append, AllPairs-filter, Entry, Item, Mark, absent, mark_of, mark_held, is_before, IsBefore, IsUpTo, before-true, before-yes, before-no, up_to-then, Table, entry_at, greatest_mark, items_of, IsProper, AreAbove, stands_at, nat_cmp-less, nat_cmp-equal, IsApart, apart-items_of, entry_at-items_of, Contains-items_of, tied-stands_at, mark_at-up_to_greatest, items_above, Contains-filter, Contains-kept, Contains-map, AllPairs-append, AllPairs-map, same_members}
 use Rattle.reconcile.specs.Digests.{DigestView, told_mark_at, told_mark}
 use Rattle.reconcile.specs.inner.Newer.{AreNewer, item_with, newer_items, version_order, IsCandidate, AreCandidates}
-use Rattle.model.proofs.Members.{Contains-filter, Contains-kept, Contains-map, AllPairs-append, AllPairs-map, same_members}
 
 pub version_total : IsTotalOrder version_order
 version_total = then_total (on_total (λ (i : Item). i.owner) nat_cmp_total) (then_total (on_total (λ (i : Item). i.entry.version) nat_cmp_total) (on_total (λ (i : Item). i.entry.key) nat_cmp_total))

@@ -1,16 +1,7 @@
 -- The entries of a rank, where entries stand by version: a stretch of one version.
 -- Serves `Parcel::add_entries`, `entries_ranked` and `SuffixLayers`.
-use Rattle.std.proofs.Common.{◌≡◌, ◌≢◌, ℕ, zero, suc, ◌+◌, ◌-◌, ◌<◌, ◌≤◌, Bool, true, false, eqb, ltb, List, [], ◌∷◌, length, take, drop, get_or, ◌⊎◌, inl, inr, refl, ap, ◌∙◌, arith}
-use Rattle.std.specs.Prelude.{count_by}
-use Rattle.std.specs.List.{AllPairs}
-use Rattle.std.specs.declared.cmp.Ordering.TheVariants.{Less, Equal, Greater}
-use Rattle.std.specs.Ordering.{nat_cmp, ordering_then}
-use Rattle.std.specs.Cmp.{ranked}
-use Rattle.std.proofs.lemmas.Bool.{cases_lt, eq-eqb, ne_eqb, lt-ltb, le-ltb}
-use Rattle.bench_types.specs.declared.entries.Entry.{Entry}
-use Rattle.node_table.specs.Entries.{StandsBefore}
+use Rattle.reconcile.proofs.Common.{◌≡◌, ◌≢◌, ℕ, zero, suc, ◌+◌, ◌-◌, ◌<◌, ◌≤◌, Bool, true, false, eqb, ltb, List, [], ◌∷◌, length, take, drop, get_or, ◌⊎◌, inl, inr, refl, ap, ◌∙◌, arith, count_by, AllPairs, Less, Equal, Greater, nat_cmp, ordering_then, ranked, cases_lt, eq-eqb, ne_eqb, lt-ltb, le-ltb, Entry, StandsBefore, count_by-cons_true, count_by-cons_false, filter-stretch}
 use Rattle.reconcile.specs.inner.Suffixes.{rank_in, entries_ranked}
-use Rattle.model.proofs.Counts.{count_by-cons_true, count_by-cons_false, filter-stretch}
 
 abbrev pub no_entry : Entry
 no_entry = record { key = 0; generation = 0; version = 0; value = 0; born = 0 }

@@ -1,23 +1,9 @@
 -- A layer of the items of suffixes is what each suffix sends in it.
 -- Serves the functions of `parcels` and `suffixes`.
-use Rattle.std.proofs.Common.{◌≡◌, ◌≢◌, ◌⊎◌, ℕ, zero, suc, ◌+◌, ◌<◌, ◌≤◌, ◌^◌, Bool, true, false, cond, ◌&&◌, eqb, ltb, List, [], ◌∷◌, ◌++◌, length, map, take, get_or, max, All, inl, inr, refl, sym, ap, ◌∙◌, subst, arith}
-use Rattle.std.specs.Prelude.{filter, count_by}
-use Rattle.std.specs.List.{AllPairs, flat_map}
-use Rattle.std.proofs.lemmas.Bool.{ltb-false, cases_order, eq-eqb, ne_eqb}
-use Rattle.std.proofs.lemmas.Grind.{flat_map-append}
-use Rattle.std.proofs.lemmas.List.{append-nil, map-append, take_more, length-append, length-map}
-use Rattle.std.proofs.lemmas.List.Folds.{length-flat_map-take}
-use Rattle.std.proofs.lemmas.List.Elements.{All-filter, filter-append, All-nil, All-cons, All-weaker, All-head, All-tail, All-append, All-map}
-use Rattle.std.proofs.lemmas.List.Kept.{AllPairs-filter}
-use Rattle.std.proofs.lemmas.List.Sums.{sum_by-append}
-use Rattle.bench_types.specs.declared.entries.Entry.{Entry}
-use Rattle.bench_types.specs.declared.entries.Item.{Item}
-use Rattle.node_table.specs.Entries.{StandsBefore}
+use Rattle.reconcile.proofs.Common.{◌≡◌, ◌≢◌, ◌⊎◌, ℕ, zero, suc, ◌+◌, ◌<◌, ◌≤◌, ◌^◌, Bool, true, false, cond, ◌&&◌, eqb, ltb, List, [], ◌∷◌, ◌++◌, length, map, take, get_or, max, All, inl, inr, refl, sym, ap, ◌∙◌, subst, arith, filter, count_by, AllPairs, flat_map, ltb-false, cases_order, eq-eqb, ne_eqb, flat_map-append, append-nil, map-append, take_more, length-append, length-map, length-flat_map-take, All-filter, filter-append, All-nil, All-cons, All-weaker, All-head, All-tail, All-append, All-map, AllPairs-filter, sum_by-append, Entry, Item, StandsBefore, rank_among, owner_count, count_by-cons_true, count_by-cons_false}
 use Rattle.reconcile.specs.inner.Newer.{item_with}
-use Rattle.model.specs.Order.{rank_among, owner_count}
 use Rattle.reconcile.specs.inner.Suffixes.{suffix_items, items_of_suffixes, AreSuffixes, rank_in, ranked, of_length, lengths_first, layer_of, reversed}
 use Rattle.reconcile.specs.declared.suffixes.Suffix.{Suffix}
-use Rattle.model.proofs.Counts.{count_by-cons_true, count_by-cons_false}
 use Rattle.reconcile.proofs.Ranked.{count_by-front_le, rank-le, ranked-beyond, versions-rise}
 use Rattle.reconcile.proofs.Turned.{owners-items}
 

@@ -1,30 +1,9 @@
 -- What a digest tells is what the table holds, and what is sent stood among the candidates.
 -- Serves `delta` and `push_newer`.
-use Rattle.std.proofs.Common.{◌≡◌, ◌≢◌, ℕ, ◌<◌, Bool, true, false, cond, not, ◌&&◌, eqb, List, [], ◌∷◌, get_or, All, Result, IfOk, refl, sym, ap, ◌∙◌, subst}
-use Rattle.std.specs.Prelude.{filter}
-use Rattle.std.proofs.lemmas.Bool.{eqb-true}
-use Rattle.std.proofs.lemmas.List.Elements.{All-head, All-tail}
-use Rattle.std.proofs.lemmas.Result.{IfOk-weaker}
-use Rattle.bench_types.specs.declared.exchanges.Budget.{Budget}
-use Rattle.bench_types.specs.Budget.{amount_of}
-use Rattle.bench_types.specs.declared.entries.Item.{Item}
-use Rattle.bench_types.specs.declared.faults.Fault.{Fault}
-use Rattle.bench_types.specs.declared.entries.Mark.{Mark}
-use Rattle.bench_types.specs.Mark.{absent, mark_of, is_before}
-use Rattle.bench_types.specs.declared.exchanges.Mode.{Mode}
-use Rattle.bench_types.specs.declared.exchanges.DigestKind.{DigestKind}
+use Rattle.reconcile.proofs.Common.{◌≡◌, ◌≢◌, ℕ, ◌<◌, Bool, true, false, cond, not, ◌&&◌, eqb, List, [], ◌∷◌, get_or, All, Result, IfOk, refl, sym, ap, ◌∙◌, subst, filter, eqb-true, All-head, All-tail, IfOk-weaker, Budget, amount_of, Item, Fault, Mark, absent, mark_of, is_before, Mode, DigestKind, digest_kind, Table, items_of, IsProper, IsItemInPlace, IsFor, items_sound, items_above, candidates, known_mark, DeltaView, item_share, delta_of, sending_order, fits, candidates-in_place, All-sent}
 use Rattle.bench_types.specs.declared.exchanges.DigestKind.TheVariants as kinds
-use Rattle.bench_types.specs.Mode.{digest_kind}
-use Rattle.model.specs.Table.{Table, items_of, IsProper}
-use Rattle.model.specs.calls.Table.{IsItemInPlace, IsFor}
-use Rattle.model.proofs.Proper.{items_sound}
-use Rattle.model.specs.Candidates.{items_above, candidates, known_mark}
 use Rattle.reconcile.specs.Digests.{DigestView, ToldVersions, Greatest, Each, kind_told, IsDigestOf, greatest_in, each_in, told_up_to, mark_with, told_generation, told_mark}
-use Rattle.model.specs.Deltas.{DeltaView, item_share, delta_of}
 use Rattle.reconcile.specs.Answers.{answer_of, IsDeltaToReceiver}
-use Rattle.model.specs.Order.{sending_order}
-use Rattle.model.specs.Picks.{fits}
-use Rattle.model.proofs.Sent.{candidates-in_place, All-sent}
 
 -- two tests that agree on a list keep the same of it
 filter-same : (p q : Item → Bool) (xs : List Item) → All (λ (i : Item). p i ≡ q i) xs → filter p xs ≡ filter q xs

@@ -1,26 +1,10 @@
 -- Suffixes turned by a rotation: their items stand by turn, then by version and then by key.
 -- Serves `scuttle_delta`, `turn_to`, `Answering` and `SuffixLayers`.
-use Rattle.std.proofs.Common.{◌≡◌, ◌≢◌, ℕ, ◌+◌, ◌-◌, ◌<◌, ◌≤◌, true, false, ltb, List, [], ◌∷◌, ◌++◌, length, take, drop, get_or, All, ◌⊎◌, inl, inr, refl, sym, ap, ◌∙◌, subst, arith}
-use Rattle.std.specs.Prelude.{Contains, IsPermutation}
-use Rattle.std.specs.List.{AllPairs}
-use Rattle.std.specs.List.Sorted.{IsNonDecreasingBy, IsPartitionPoint}
-use Rattle.std.specs.declared.cmp.Ordering.TheVariants.{Less, Equal, Greater}
-use Rattle.std.specs.Ordering.{nat_cmp, ordering_then}
-use Rattle.std.specs.Cmp.{ranked}
-use Rattle.std.proofs.lemmas.Bool.{cases_lt, ltb-true, ltb-false}
-use Rattle.std.proofs.lemmas.Grind.{flat_map-append}
-use Rattle.std.proofs.lemmas.List.{get_or-take, get_or-drop, get_or_append_left, get_or-append_right, length-append, length-take, length-drop, take-append-drop, take_at}
-use Rattle.std.proofs.lemmas.List.Elements.{All-nil, All-append, All-map, All-head, All-tail, All-take, All-drop, All-contains}
-use Rattle.std.proofs.lemmas.List.Sorted.{IsPermutation-append_comm}
-use Rattle.bench_types.specs.declared.entries.Item.{Item}
-use Rattle.node_table.specs.Entries.{StandsBefore}
+use Rattle.reconcile.proofs.Common.{◌≡◌, ◌≢◌, ℕ, ◌+◌, ◌-◌, ◌<◌, ◌≤◌, true, false, ltb, List, [], ◌∷◌, ◌++◌, length, take, drop, get_or, All, ◌⊎◌, inl, inr, refl, sym, ap, ◌∙◌, subst, arith, Contains, IsPermutation, AllPairs, IsNonDecreasingBy, IsPartitionPoint, Less, Equal, Greater, nat_cmp, ordering_then, ranked, cases_lt, ltb-true, ltb-false, flat_map-append, get_or-take, get_or-drop, get_or_append_left, get_or-append_right, length-append, length-take, length-drop, take-append-drop, take_at, All-nil, All-append, All-map, All-head, All-tail, All-take, All-drop, All-contains, IsPermutation-append_comm, Item, StandsBefore, rotated, rotated-is, AllPairs-append}
 use Rattle.reconcile.specs.inner.Newer.{item_with, version_order}
-use Rattle.model.specs.Order.{rotated}
 use Rattle.reconcile.specs.inner.Suffixes.{suffix_items, items_of_suffixes, OwnersRise, AreSuffixes, IsTurned}
 use Rattle.reconcile.specs.declared.suffixes.Suffix.{Suffix}
-use Rattle.model.proofs.Apart.{rotated-is}
 use Rattle.reconcile.proofs.Layers.{InTurn}
-use Rattle.model.proofs.Members.{AllPairs-append}
 
 -- what holds of the suffixes' owners holds of the items'
 pub owners-items : (P : ℕ → Type 0) (suffixes : List Suffix) → All (λ (r : Suffix). P r.owner) suffixes → All (λ (i : Item). P i.owner) (items_of_suffixes suffixes)

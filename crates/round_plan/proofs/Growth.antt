@@ -1,18 +1,6 @@
 -- How the writes of an owner grow from round to round, in its generation and over all of them.
 -- Serves `writes_by`, `Written`, `runs` and `simulation`.
-use Rattle.std.proofs.Common.{◌≡◌, ℕ, zero, suc, ◌+◌, ◌-◌, ◌*◌, ◌<◌, ◌≤◌, Bool, true, false, if◌then◌else◌, List, [], ◌∷◌, ◌++◌, map, reverse, find, option_map, unwrap_or, Some, length, get_or, All, refl, sym, ap, ◌∙◌, subst, inl, inr, arith, length-append}
-use Rattle.std.specs.List.{range_with_len}
-use Rattle.std.proofs.Math.ListN.{get_or-append}
-use Rattle.std.proofs.Math.Nat.{mod-lt}
-use Rattle.std.proofs.lemmas.Bool.{cases_lt, cond_both}
-use Rattle.std.proofs.lemmas.List.{length-map, length-reverse, get_or-reverse, get_or-append_right, get_or-map}
-use Rattle.std.proofs.lemmas.List.Elements.{All-nil, All-tail, All-map}
-use Rattle.std.proofs.lemmas.List.FromFn.{length-map-range_with_len, get_or-map-range_with_len}
-use Rattle.bench_types.specs.declared.entries.Entry.{Entry}
-use Rattle.bench_types.specs.calls.Entry.{IsNextAfter, AreNextAfter}
-use Rattle.bench_types.specs.declared.limits.TheConstants.{MOST_WRITES}
-use Rattle.scenario.specs.declared.elements.Load.{Load}
-use Rattle.scenario.specs.Settings.{Settings, IsLawfulScenario}
+use Rattle.round_plan.proofs.Common.{◌≡◌, ℕ, zero, suc, ◌+◌, ◌-◌, ◌*◌, ◌<◌, ◌≤◌, Bool, true, false, if◌then◌else◌, List, [], ◌∷◌, ◌++◌, map, reverse, find, option_map, unwrap_or, Some, length, get_or, All, refl, sym, ap, ◌∙◌, subst, inl, inr, arith, length-append, range_with_len, get_or-append, mod-lt, cases_lt, cond_both, length-map, length-reverse, get_or-reverse, get_or-append_right, get_or-map, All-nil, All-tail, All-map, length-map-range_with_len, get_or-map-range_with_len, Entry, IsNextAfter, AreNextAfter, MOST_WRITES, Load, Settings, IsLawfulScenario}
 use Rattle.round_plan.specs.declared.owners.OwnWrite.{OwnWrite}
 use Rattle.round_plan.specs.Generations.{generation_upto}
 use Rattle.round_plan.specs.Outages.{is_up, forgets_now}

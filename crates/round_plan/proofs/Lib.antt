@@ -5,3 +5,4 @@ pub mod Others
 pub mod Planned
 pub mod Streams
 pub mod Written
+pub mod Common

@@ -1,17 +1,8 @@
 -- The list of a round, node by node.
 -- Serves `round_list` and `round_list_by`.
-use Rattle.std.proofs.Common.{◌≡◌, ℕ, ◌+◌, ◌<◌, ◌≤◌, true, false, not, ◌&&◌, List, [], ◌∷◌, ◌++◌, cond, map, take, length, get_or, All, count_by, sym, ap, ◌∙◌, arith, append-nil, length-append}
-use Rattle.std.specs.List.{range_with_len, filter}
-use Rattle.std.proofs.lemmas.List.{map-append, take_all}
-use Rattle.std.proofs.lemmas.List.Elements.{All-push, filter_more}
-use Rattle.std.proofs.lemmas.List.FromFn.{get_or-range_with_len, length-range_with_len, get_or-map-range_with_len, length-map-range_with_len}
-use Rattle.std.proofs.lemmas.List.Sums.{count_by_more_yes, count_by_more_no}
-use Rattle.bench_types.specs.declared.exchanges.Exchange.{Exchange}
-use Rattle.scenario.specs.Settings.{Settings}
+use Rattle.round_plan.proofs.Common.{◌≡◌, ℕ, ◌+◌, ◌<◌, ◌≤◌, true, false, not, ◌&&◌, List, [], ◌∷◌, ◌++◌, cond, map, take, length, get_or, All, count_by, sym, ap, ◌∙◌, arith, append-nil, length-append, range_with_len, filter, map-append, take_all, All-push, filter_more, get_or-range_with_len, length-range_with_len, get_or-map-range_with_len, length-map-range_with_len, count_by_more_yes, count_by_more_no, Exchange, Settings, IsPlanned, round_list_view}
 use Rattle.round_plan.specs.Outages.{is_up}
-use Rattle.bench_types.specs.calls.Exchange.{IsPlanned}
 use Rattle.round_plan.specs.Plan.{exchange_of, begins, is_unreached, reaches, round_list_of}
-use Rattle.model.specs.RoundLists.{round_list_view}
 use Rattle.round_plan.specs.inner.Rounds.{AreChosen}
 
 -- what the nodes below i begin, and how many of them are unreached

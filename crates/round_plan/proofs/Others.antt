@@ -1,10 +1,6 @@
 -- The others of a node in ascending order: those below it stand at their own number, those above it one earlier.
 -- Serves `peer_by` and `Planned`.
-use Rattle.std.proofs.Common.{◌≡◌, ◌==◌, ℕ, zero, suc, ◌+◌, ◌<◌, ◌≤◌, Bool, true, false, not, List, ◌∷◌, get_or, cond, refl, ap, ◌∙◌, inl, inr, arith}
-use Rattle.std.specs.List.{range_with_len, filter}
-use Rattle.std.proofs.lemmas.Bool.{cases_lt}
-use Rattle.std.proofs.lemmas.Bool.Decides.{nat_tests}
-use Rattle.std.proofs.lemmas.List.FromFn.{get_or-range_with_len}
+use Rattle.round_plan.proofs.Common.{◌≡◌, ◌==◌, ℕ, zero, suc, ◌+◌, ◌<◌, ◌≤◌, Bool, true, false, not, List, ◌∷◌, get_or, cond, refl, ap, ◌∙◌, inl, inr, arith, range_with_len, filter, cases_lt, nat_tests, get_or-range_with_len}
 use Rattle.round_plan.specs.Peer.{others}
 
 abbrev is_other : ℕ → ℕ → Bool

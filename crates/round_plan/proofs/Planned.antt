@@ -1,18 +1,8 @@
 -- The list of a round has exchanges of two different nodes, for the crates above.
 -- Serves `simulation`.
-use Rattle.std.proofs.Common.{◌≡◌, ◌≢◌, ℕ, ◌+◌, ◌-◌, ◌<◌, ◌≤◌, ◌%◌, All, inl, inr, ap, ◌∙◌, sym, arith}
-use Rattle.std.specs.List.{range_with_len}
-use Rattle.std.proofs.Math.Nat.{mod-lt, mod-eq_of_lt, add-mod_right}
-use Rattle.std.proofs.lemmas.Bool.{cases_lt}
-use Rattle.std.proofs.lemmas.List.Elements.{All-map, All-filter}
-use Rattle.std.proofs.lemmas.List.FromFn.{get_or-range_with_len, length-range_with_len}
-use Rattle.scenario.specs.declared.choices.Peers.{Peers}
-use Rattle.scenario.specs.declared.choices.Peers.TheVariants.{Random, Ring}
-use Rattle.scenario.specs.declared.choices.Rotation.{Rotation}
+use Rattle.round_plan.proofs.Common.{◌≡◌, ◌≢◌, ℕ, ◌+◌, ◌-◌, ◌<◌, ◌≤◌, ◌%◌, All, inl, inr, ap, ◌∙◌, sym, arith, range_with_len, mod-lt, mod-eq_of_lt, add-mod_right, cases_lt, All-map, All-filter, get_or-range_with_len, length-range_with_len, Peers, Random, Ring, Rotation, Settings, IsPlanned}
 use Rattle.scenario.specs.declared.choices.Rotation.TheVariants as rotation
-use Rattle.scenario.specs.Settings.{Settings}
 use Rattle.round_plan.specs.Peer.{random_peer, ring_peer, peer_by}
-use Rattle.bench_types.specs.calls.Exchange.{IsPlanned}
 use Rattle.round_plan.specs.Plan.{begins, exchange_of, rotation_by, round_list_of}
 use Rattle.round_plan.specs.Words.{word_of}
 use Rattle.round_plan.proofs.Others.{other_below, other_above}

@@ -1,8 +1,6 @@
 -- The streams of all nodes, as they go on from round to round.
 -- Serves `RunWords::next_round`, `draw_next` and `words_of`.
-use Rattle.std.proofs.Common.{◌≡◌, ℕ, ◌+◌, ◌<◌, ◌≤◌, List, length, get_or, ap, ◌∙◌, arith}
-use Rattle.bench_types.specs.declared.limits.TheConstants.{MOST_ROUNDS}
-use Rattle.rand_chacha.specs.ChaCha.{ChaCha, word_at, key_of}
+use Rattle.round_plan.proofs.Common.{◌≡◌, ℕ, ◌+◌, ◌<◌, ◌≤◌, List, length, get_or, ap, ◌∙◌, arith, MOST_ROUNDS, ChaCha, word_at, key_of}
 use Rattle.round_plan.specs.declared.run_words.NodeWords.{NodeWords}
 use Rattle.round_plan.specs.declared.words.TheConstants.{ROUND_WORDS}
 use Rattle.round_plan.specs.Words.{position, seed_bytes, word_by}

@@ -1,17 +1,6 @@
 -- All writes of an owner, over all its generations: their marks rise, and those of its generation are the last ones.
 -- Serves `runs` and `simulation`.
-use Rattle.std.proofs.Common.{◌≡◌, ◌==◌, ℕ, zero, suc, ◌+◌, ◌-◌, ◌<◌, ◌≤◌, Bool, true, false, ◌||◌, ◌&&◌, cond, if◌then◌else◌, List, [], ◌∷◌, ◌++◌, filter, length, get_or, All, AllPairs, Contains, refl, sym, ap, ◌∙◌, subst, inl, inr, arith, length-append}
-use Rattle.std.specs.Prelude.{nat_lt}
-use Rattle.std.proofs.Math.ListN.{get_or-append}
-use Rattle.std.proofs.lemmas.Bool.{cases_lt, cases_eq, lt-ltb, eq-eqb, ne_eqb}
-use Rattle.std.proofs.lemmas.Bool.Decides.{nat_tests}
-use Rattle.std.proofs.lemmas.List.{get_or-append_right, get_or_default}
-use Rattle.std.proofs.lemmas.List.Elements.{All-nil, All-tail, All-append, All-weaker, All-filter, filter-append, Contains-append_left, Contains-append_right}
-use Rattle.bench_types.specs.declared.entries.Entry.{Entry}
-use Rattle.bench_types.specs.declared.entries.Mark.{Mark}
-use Rattle.bench_types.specs.Entry.{next_version}
-use Rattle.bench_types.specs.Mark.{mark_of, is_before}
-use Rattle.scenario.specs.Settings.{Settings}
+use Rattle.round_plan.proofs.Common.{◌≡◌, ◌==◌, ℕ, zero, suc, ◌+◌, ◌-◌, ◌<◌, ◌≤◌, Bool, true, false, ◌||◌, ◌&&◌, cond, if◌then◌else◌, List, [], ◌∷◌, ◌++◌, filter, length, get_or, All, AllPairs, Contains, refl, sym, ap, ◌∙◌, subst, inl, inr, arith, length-append, nat_lt, get_or-append, cases_lt, cases_eq, lt-ltb, eq-eqb, ne_eqb, nat_tests, get_or-append_right, get_or_default, All-nil, All-tail, All-append, All-weaker, All-filter, filter-append, Contains-append_left, Contains-append_right, Entry, Mark, next_version, mark_of, is_before, Settings}
 use Rattle.round_plan.specs.Generations.{generation_upto}
 use Rattle.round_plan.specs.Outages.{forgets_now}
 use Rattle.round_plan.specs.Writes.{count_upto, count_before, own_writes, writes_upto, written_upto}

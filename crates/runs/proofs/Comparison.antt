@@ -1,25 +1,9 @@
 -- How far a comparison of the modes has been written.
 -- Serves `compare`, `write_all_rounds`, `write_modes`, `write_row` and `write_rows`.
-use Rattle.std.proofs.Common.{◌≡◌, ℕ, ◌+◌, ◌<◌, ◌++◌, ◌∷◌, [], List, length, take, drop, get_or, inl, inr, refl, sym, ap, ◌∙◌, subst, append_assoc, arith, add-one, drop-cons, take-append-drop}
-use Rattle.std.specs.Prelude.{false}
-use Rattle.std.proofs.KnownBytes.{Appends-nil}
-use Rattle.std.proofs.lemmas.Grind.{flat_map-append}
-use Rattle.std.proofs.lemmas.List.{append-nil, take_more}
-use Rattle.std.proofs.lemmas.List.FromFn.{map-range_with_len_more}
-use Rattle.bench_types.specs.declared.exchanges.Mode.{Mode}
-use Rattle.bench_types.specs.declared.faults.Fault.{Fault}
+use Rattle.runs.proofs.Common.{◌≡◌, ℕ, ◌+◌, ◌<◌, ◌++◌, ◌∷◌, [], List, length, take, drop, get_or, inl, inr, refl, sym, ap, ◌∙◌, subst, append_assoc, arith, add-one, drop-cons, take-append-drop, false, Appends-nil, flat_map-append, append-nil, take_more, map-range_with_len_more, Mode, Fault, modes, Table, IsFaultOfWorkers, compare_header_line, compare_line, compare_lines, IsWritten, IsWriteFault, Settings, with_mode, RoundView, row_in, SimView, PlaysNext, IsStepFault}
 use Rattle.bench_types.specs.declared.sinks.Sink.{Ghosts as Sink}
-use Rattle.bench_types.specs.Mode.{modes}
-use Rattle.model.specs.Table.{Table}
-use Rattle.model.specs.Runs.{IsFaultOfWorkers}
-use Rattle.report.specs.Compare.{compare_header_line, compare_line, compare_lines}
-use Rattle.bench_types.specs.Output.{IsWritten, IsWriteFault}
-use Rattle.scenario.specs.Settings.{Settings, with_mode}
 use Rattle.runs.specs.Comparisons.{lines_upto, lines_under, lines_of_modes, comparison_text, IsFaultInRound, IsFaultInRounds, IsFaultInModes}
-use Rattle.simulation.specs.calls.RoundView.{RoundView}
-use Rattle.simulation.specs.Outcomes.{row_in}
 use Rattle.runs.specs.Reports.{rows_upto}
-use Rattle.simulation.specs.calls.Simulation.{SimView, PlaysNext, IsStepFault}
 use Rattle.runs.specs.inner.Starts.{IsReady}
 use Rattle.runs.specs.inner.Rows.{WritesNextRow, IsNextRowFault}
 use Rattle.runs.proofs.Reporting.{written_then, fault_behind, step_fault}

@@ -1,12 +1,7 @@
 -- What the fault of a call tells of its ends, and of reading.
 -- Serves `compare` and `run`.
-use Rattle.std.proofs.Common.{◌≡◌, ℕ, List, inl, inr, refl, ap}
-use Rattle.bench_types.specs.declared.exchanges.Mode.{Mode}
-use Rattle.bench_types.specs.declared.faults.Fault.{Fault}
-use Rattle.bench_types.specs.declared.faults.Fault.TheVariants.{OutOfMemory, WriteFailed}
+use Rattle.runs.proofs.Common.{◌≡◌, ℕ, List, inl, inr, refl, ap, Mode, Fault, OutOfMemory, WriteFailed, IsWritten, IsWriteFault, Settings}
 use Rattle.bench_types.specs.declared.sinks.Sink.{Ghosts as Sink}
-use Rattle.bench_types.specs.Output.{IsWritten, IsWriteFault}
-use Rattle.scenario.specs.Settings.{Settings}
 use Rattle.runs.specs.Comparisons.{IsFaultInModes}
 use Rattle.runs.specs.Runs.{IsFaultAfter, IsWritingFault, StoppingPlace, StopsAt, TellsOfFailing, report_header, trace_header, round_after, lines_after, row_after}
 

@@ -1,16 +1,7 @@
 -- What a source gave up to a pull, and then by that pull; and what reading a scenario comes to.
 -- Serves the functions of `comparing`, `inputs` and `runs`.
-use Rattle.std.proofs.Common.{◌≡◌, ◌≢◌, ◌<◌, ◌≤◌, ◌+◌, ◌++◌, ◌∙◌, ℕ, Bool, true, false, List, Option, None, Some, Result, Ok, Err, IfSome, IfOk, IfErr, inl, inr, length, take, arith, ap, refl, sym, subst, length-append}
-use Rattle.std.specs.Prelude.{IsErrAnd, IsSomeAnd, OnOk}
-use Rattle.std.proofs.lemmas.List.{length-take-le}
-use Rattle.std.proofs.KnownBytes.{Consumes-trans}
-use Rattle.std.specs.Io.KnownBytes.{Consumes}
-use Rattle.bench_types.specs.declared.faults.Fault.{Fault}
-use Rattle.bench_types.specs.declared.faults.Fault.TheVariants.{OutOfMemory}
+use Rattle.runs.proofs.Common.{◌≡◌, ◌≢◌, ◌<◌, ◌≤◌, ◌+◌, ◌++◌, ◌∙◌, ℕ, Bool, true, false, List, Option, None, Some, Result, Ok, Err, IfSome, IfOk, IfErr, inl, inr, length, take, arith, ap, refl, sym, subst, length-append, IsErrAnd, IsSomeAnd, OnOk, length-take-le, Consumes-trans, Consumes, Fault, OutOfMemory, document_of, first_fault, Says, IsFaultOfCheck, Settings}
 use Rattle.bench_types.specs.declared.sources.Source.{Ghosts as Source}
-use Rattle.scenario.specs.Order.{document_of, first_fault, Says}
-use Rattle.scenario.specs.CheckFault.{IsFaultOfCheck}
-use Rattle.scenario.specs.Settings.{Settings}
 use Rattle.runs.specs.Inputs.{Gave, GaveUpTo, IsReadWhole, IsRead, IsInputFault}
 
 -- a pull of `count` bytes adds that many

@@ -3,3 +3,4 @@ pub mod Reporting
 pub mod Comparison
 pub mod Endings
 pub mod Numbers
+pub mod Common

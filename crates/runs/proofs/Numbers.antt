@@ -1,22 +1,6 @@
 -- What the owners of a scenario write may stand under numbers below a bound.
 -- Serves `begin`, `most_in_a_round` and `tests_of_runs`.
-use Rattle.std.proofs.Common.{◌≡◌, ℕ, zero, suc, ◌-◌, ◌*◌, ◌<◌, ◌≤◌, Bool, true, false, cond, All, List, [], ◌∷◌, find, length, option_map, reverse, unwrap_or, sym, subst, ap, ◌∙◌, arith, length-append}
-use Rattle.std.specs.Prelude.{Some, Contains}
-use Rattle.std.proofs.lemmas.Bool.{cond_both}
-use Rattle.std.proofs.lemmas.List.{length-reverse, get_or-reverse}
-use Rattle.std.proofs.lemmas.List.Elements.{All-tail}
-use Rattle.std.proofs.lemmas.Option.{same_Some}
-use Rattle.bench_types.specs.declared.entries.Entry.{Entry}
-use Rattle.bench_types.specs.declared.limits.TheConstants.{MOST_WRITES}
-use Rattle.model.specs.calls.Numbers.{write_from, write_numbered}
-use Rattle.round_plan.specs.Outages.{is_up}
-use Rattle.round_plan.specs.Writes.{covers, writes_in, count_before, own_writes, written_upto}
-use Rattle.round_plan.proofs.Growth.{length-own_writes, writes_in_le}
-use Rattle.round_plan.proofs.Written.{apart-written_upto}
-use Rattle.scenario.specs.declared.elements.Load.{Load}
-use Rattle.scenario.specs.Settings.{Settings, IsLawfulScenario}
-use Rattle.simulation.specs.calls.Simulation.{MayWriteAll}
-use Rattle.version_tables.specs.inner.Histories.{IsWriteUnder}
+use Rattle.runs.proofs.Common.{◌≡◌, ℕ, zero, suc, ◌-◌, ◌*◌, ◌<◌, ◌≤◌, Bool, true, false, cond, All, List, [], ◌∷◌, find, length, option_map, reverse, unwrap_or, sym, subst, ap, ◌∙◌, arith, length-append, Some, Contains, cond_both, length-reverse, get_or-reverse, All-tail, same_Some, Entry, MOST_WRITES, write_from, write_numbered, is_up, covers, writes_in, count_before, own_writes, written_upto, length-own_writes, writes_in_le, apart-written_upto, Load, Settings, IsLawfulScenario, MayWriteAll, IsWriteUnder}
 use Rattle.runs.specs.inner.Writes.{AreWrittenIn, HasWritesBelow}
 
 up_to : (b : Bool) (n most : ℕ) → n ≤ most → cond b n 0 ≤ most

@@ -1,23 +1,7 @@
 -- How far the report and the trace have been written.
 -- Serves `write_round`, `write_texts` and `Comparison`.
-use Rattle.std.proofs.Common.{◌≡◌, ℕ, ◌+◌, ◌<◌, ◌++◌, ◌∷◌, [], List, inl, inr, refl, sym, ap, ◌∙◌, subst, append_assoc, arith}
-use Rattle.std.specs.Prelude.{false}
-use Rattle.std.proofs.KnownBytes.{Appends-trans}
-use Rattle.std.proofs.lemmas.Grind.{flat_map-append}
-use Rattle.std.specs.List.{range_with_len}
-use Rattle.std.proofs.lemmas.List.{append-nil, map-id}
-use Rattle.std.proofs.lemmas.List.FromFn.{map-range_with_len_more}
-use Rattle.bench_types.specs.declared.faults.Fault.{Fault}
+use Rattle.runs.proofs.Common.{◌≡◌, ℕ, ◌+◌, ◌<◌, ◌++◌, ◌∷◌, [], List, inl, inr, refl, sym, ap, ◌∙◌, subst, append_assoc, arith, false, Appends-trans, flat_map-append, range_with_len, append-nil, map-id, map-range_with_len_more, Fault, Table, IsFaultOfWorkers, IsWritten, IsWriteFault, trace_header_line, report_header_line, report_line, report_lines, Settings, RoundView, row_in, SimView, PlaysNext, IsStepFault}
 use Rattle.bench_types.specs.declared.sinks.Sink.{Ghosts as Sink}
-use Rattle.model.specs.Table.{Table}
-use Rattle.model.specs.Runs.{IsFaultOfWorkers}
-use Rattle.bench_types.specs.Output.{IsWritten, IsWriteFault}
-use Rattle.report.specs.Trace.{trace_header_line}
-use Rattle.report.specs.Report.{report_header_line, report_line, report_lines}
-use Rattle.scenario.specs.Settings.{Settings}
-use Rattle.simulation.specs.calls.RoundView.{RoundView}
-use Rattle.simulation.specs.Outcomes.{row_in}
-use Rattle.simulation.specs.calls.Simulation.{SimView, PlaysNext, IsStepFault}
 use Rattle.runs.specs.Reports.{rows_upto, trace_in, traces_upto, report_upto, trace_upto, report_text, trace_text}
 use Rattle.runs.specs.Runs.{IsFaultAfter, AreWritten, IsWritingFault, StopsAt, round_after, lines_after, row_after}
 use Rattle.runs.specs.inner.Rows.{lines_of, WritesNextTexts, IsNextTextsFault}

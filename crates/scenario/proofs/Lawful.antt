@@ -1,11 +1,6 @@
 -- The numbers of an ascending array, and so the nodes of one side of a partition.
 -- Serves `PartitionsElements::of`.
-use Rattle.std.proofs.Common.{◌≡◌, ℕ, zero, suc, ◌+◌, ◌-◌, ◌<◌, ◌≤◌, pos, negsuc, nat_le, ◌&&◌, List, [], ◌∷◌, get_or, Ok, All, sym, subst, arith}
-use Rattle.std.specs.List.Sorted.{IsStrictlyIncreasing}
-use Rattle.std.proofs.lemmas.Bool.{leb-true, and_parts}
-use Rattle.std.proofs.lemmas.List.Elements.{All-nil, All-cons, All-weaker}
-use Rattle.toml.specs.Data.{Data, integer, Members}
-use Rattle.bench_types.specs.declared.fields.Field.{Field}
+use Rattle.scenario.proofs.Common.{◌≡◌, ℕ, zero, suc, ◌+◌, ◌-◌, ◌<◌, ◌≤◌, pos, negsuc, nat_le, ◌&&◌, List, [], ◌∷◌, get_or, Ok, All, sym, subst, arith, IsStrictlyIncreasing, leb-true, and_parts, All-nil, All-cons, All-weaker, Data, integer, Members, Field}
 use Rattle.bench_types.specs.declared.fields.Field.TheVariants as field
 use Rattle.scenario.specs.Elements.{array_of}
 use Rattle.scenario.specs.inner.Elements.{ascending, apart_at}

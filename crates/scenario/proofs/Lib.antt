@@ -5,3 +5,4 @@ pub mod Order
 pub mod Sayings
 pub mod OnlyFaultsOfCheck
 pub mod Settled
+pub mod Common

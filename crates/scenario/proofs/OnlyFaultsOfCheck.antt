@@ -1,27 +1,19 @@
 -- The check of a document comes to no other faults than those of reading a scenario.
 -- Serves `read`.
-use Rattle.std.proofs.Common.{◌≡◌, ◌≢◌, ℕ, ◌+◌, ◌-◌, ◌*◌, pos, negsuc, Bool, true, false, ◌&&◌, nat_le, cond, List, [], ◌∷◌, length, Option, None, Some, Result, Ok, Err, IfErr, subst}
+use Rattle.scenario.proofs.Common.{◌≡◌, ◌≢◌, ℕ, ◌+◌, ◌-◌, ◌*◌, pos, negsuc, Bool, true, false, ◌&&◌, nat_le, cond, List, [], ◌∷◌, length, Option, None, Some, Result, Ok, Err, IfErr, subst, Data, integer, string, boolean, Members, get_member, Fault, OutOfMemory, TooLarge, OutOfRange, BudgetTooSmall, Field, TableName, LEAST_NODES, MOST_NODES, LEAST_KEYS, MOST_KEYS, MOST_ENTRIES, MOST_ROUNDS, MOST_BUDGET, MOST_ENTRY_SIZE, MOST_BUDGET_BYTES, MOST_LOSS, MOST_WRITES, MOST_SEED, MOST_ELEMENTS, field_name, mode_named}
 use Rattle.toml.specs.Data as toml
-use Rattle.toml.specs.Data.{Data, integer, string, boolean, Members, get_member}
-use Rattle.bench_types.specs.declared.faults.Fault.{Fault}
-use Rattle.bench_types.specs.declared.faults.Fault.TheVariants.{OutOfMemory, TooLarge, OutOfRange, BudgetTooSmall}
-use Rattle.bench_types.specs.declared.fields.Field.{Field}
 use Rattle.bench_types.specs.declared.fields.Field.TheVariants as field
-use Rattle.bench_types.specs.declared.fields.TableName.{TableName}
 use Rattle.bench_types.specs.declared.fields.TableName.TheVariants as name
-use Rattle.bench_types.specs.declared.limits.TheConstants.{LEAST_NODES, MOST_NODES, LEAST_KEYS, MOST_KEYS, MOST_ENTRIES, MOST_ROUNDS, MOST_BUDGET, MOST_ENTRY_SIZE, MOST_BUDGET_BYTES, MOST_LOSS, MOST_WRITES, MOST_SEED, MOST_ELEMENTS}
 use Rattle.scenario.specs.Budgets.{is_in_entries, entries_at, is_too_small, bytes_of, bytes_at, budget_at}
 use Rattle.scenario.specs.inner.Checked.{checked, unknown_checked, basics_at, conduct_at}
 use Rattle.scenario.specs.Elements.{has_generations, array_of, as_table, few, elements_of, elements_at, forget_at, elements_have_only, only_elements, partition_fields, restart_fields, load_fields}
 use Rattle.scenario.specs.inner.Elements.{each, ascending, apart_at, array_at, partition_of, restart_of, load_of, partitions_at, restarts_at, loads_at}
-use Rattle.bench_types.specs.Field.{field_name}
 use Rattle.scenario.specs.Fields.{◌>>=◌, value_at, number_at, number_of, present, text_of, flag_of, flag_at, no_other_field, only_fields}
 use Rattle.scenario.specs.Order.{size_checked}
 use Rattle.scenario.specs.CheckFault.{IsFaultOfCheck}
 use Rattle.scenario.specs.Settings.{Settings}
 use Rattle.scenario.specs.Top.{format_at, nodes_at, keys_at, rounds_at, seed_at, mode_at, peers_at, rotation_at, choice_at, loss_ppm_at, writes_at, top_fields}
 use Rattle.scenario.specs.Words.{or_out_of_range, word_at, peers_of, rotation_of, choice_of}
-use Rattle.bench_types.specs.Mode.{mode_named}
 
 abbrev OnlyFaultsOfCheck : {A : Type 0} → Result A Fault → Type 0
 OnlyFaultsOfCheck r = IfErr r IsFaultOfCheck

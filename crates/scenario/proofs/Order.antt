@@ -1,16 +1,9 @@
 -- The check of a document, done one check after another, answers the first fault of them all.
 -- Serves `read`.
-use Rattle.std.proofs.Common.{◌≡◌, ◌≢◌, ℕ, ◌+◌, ◌-◌, List, [], ◌∷◌, ◌++◌, Option, None, Some, Result, Ok, Err, IfOk, IfErr, OnOk, refl, sym, ◌∙◌, ap}
-use Rattle.std.specs.List.{flat_map}
-use Rattle.std.specs.Result.{result_err, result_unwrap_or}
+use Rattle.scenario.proofs.Common.{◌≡◌, ◌≢◌, ℕ, ◌+◌, ◌-◌, List, [], ◌∷◌, ◌++◌, Option, None, Some, Result, Ok, Err, IfOk, IfErr, OnOk, refl, sym, ◌∙◌, ap, flat_map, result_err, result_unwrap_or, Data, integer, Members, get_member, Fault, OutOfMemory, Field, MOST_ROUNDS, MOST_WRITES}
 use Rattle.toml.specs.Data as toml
-use Rattle.toml.specs.Data.{Data, integer, Members, get_member}
-use Rattle.bench_types.specs.declared.faults.Fault.{Fault}
-use Rattle.bench_types.specs.declared.faults.Fault.TheVariants.{OutOfMemory}
-use Rattle.bench_types.specs.declared.fields.Field.{Field}
 use Rattle.bench_types.specs.declared.fields.Field.TheVariants as field
 use Rattle.bench_types.specs.declared.fields.TableName.TheVariants as name
-use Rattle.bench_types.specs.declared.limits.TheConstants.{MOST_ROUNDS, MOST_WRITES}
 use Rattle.scenario.specs.declared.parts.Basics.{Basics}
 use Rattle.scenario.specs.Budgets.{budget_at}
 use Rattle.scenario.specs.inner.Checked.{checked, unknown_checked, basics_at, conduct_at}

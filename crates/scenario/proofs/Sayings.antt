@@ -1,17 +1,9 @@
 -- What the check of a document gives is what the document says.
 -- Serves `read`.
-use Rattle.std.proofs.Common.{◌≡◌, ℕ, ◌+◌, ◌-◌, ◌⊎◌, inl, inr, pos, Bool, true, false, nat_le, cond, List, [], ◌∷◌, length, map, Option, None, Some, Result, Ok, Err, IfOk, refl, sym, ap, ◌∙◌, subst}
-use Rattle.std.specs.List.{AllZip}
+use Rattle.scenario.proofs.Common.{◌≡◌, ℕ, ◌+◌, ◌-◌, ◌⊎◌, inl, inr, pos, Bool, true, false, nat_le, cond, List, [], ◌∷◌, length, map, Option, None, Some, Result, Ok, Err, IfOk, refl, sym, ap, ◌∙◌, subst, AllZip, Data, integer, string, boolean, Items, Members, get_member, Budget, Fault, BudgetTooSmall, Field, TableName, MOST_ROUNDS, MOST_BUDGET, MOST_ENTRY_SIZE, MOST_BUDGET_BYTES, MOST_WRITES, MOST_ELEMENTS, field_name, mode_named}
 use Rattle.toml.specs.Data as toml
-use Rattle.toml.specs.Data.{Data, integer, string, boolean, Items, Members, get_member}
-use Rattle.bench_types.specs.declared.exchanges.Budget.{Budget}
-use Rattle.bench_types.specs.declared.faults.Fault.{Fault}
-use Rattle.bench_types.specs.declared.faults.Fault.TheVariants.{BudgetTooSmall}
-use Rattle.bench_types.specs.declared.fields.Field.{Field}
 use Rattle.bench_types.specs.declared.fields.Field.TheVariants as field
-use Rattle.bench_types.specs.declared.fields.TableName.{TableName}
 use Rattle.bench_types.specs.declared.fields.TableName.TheVariants as name
-use Rattle.bench_types.specs.declared.limits.TheConstants.{MOST_ROUNDS, MOST_BUDGET, MOST_ENTRY_SIZE, MOST_BUDGET_BYTES, MOST_WRITES, MOST_ELEMENTS}
 use Rattle.scenario.specs.declared.elements.Partition.{Partition}
 use Rattle.scenario.specs.declared.elements.Restart.{Restart}
 use Rattle.scenario.specs.declared.elements.Load.{Load}
@@ -20,14 +12,12 @@ use Rattle.scenario.specs.declared.parts.Conduct.{Conduct}
 use Rattle.scenario.specs.inner.Checked.{checked, unknown_checked, basics_at, conduct_at}
 use Rattle.scenario.specs.Elements.{list_of, array_of, few, elements_of, forget_at, elements_have_only, only_elements, partition_fields, restart_fields, load_fields}
 use Rattle.scenario.specs.inner.Elements.{each, ascending, apart_at, partition_of, restart_of, load_of, partitions_at, restarts_at, loads_at}
-use Rattle.bench_types.specs.Field.{field_name}
 use Rattle.scenario.specs.Fields.{◌>>=◌, value_at, number_of, number_at, present, text_of, flag_of, flag_at, no_other_field, only_fields, has_only}
 use Rattle.scenario.specs.Order.{HasNumber, HasFlag, HasBudget, HasWord, SaysPartition, SaysRestart, SaysLoad, Says}
 use Rattle.scenario.specs.Budgets.{is_in_entries, entries_at, is_too_small, bytes_of, bytes_at, budget_at}
 use Rattle.scenario.specs.Settings.{Settings}
 use Rattle.scenario.specs.Top.{mode_at, peers_at, rotation_at, choice_at, loss_ppm_at, writes_at, top_fields}
 use Rattle.scenario.specs.Words.{or_out_of_range, peers_of, rotation_of, choice_of}
-use Rattle.bench_types.specs.Mode.{mode_named}
 use Rattle.scenario.proofs.Steps.{passed, same_ok, basics_read, kept, number_found_at}
 
 -- a number that was read stands in the document

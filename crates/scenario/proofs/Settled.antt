@@ -1,19 +1,7 @@
 -- What a document says fixes the settings of a scenario.
 -- Serves `documents_fix_settings`.
-use Rattle.std.proofs.Common.{◌≡◌, ℕ, pos, Bool, true, false, ◌&&◌, List, [], ◌∷◌, map, Option, Some, inl, inr, refl, sym, ap, ◌∙◌, subst}
-use Rattle.std.specs.List.{AllZip}
-use Rattle.std.specs.Cmp.Lexicographic.{slice_cmp}
-use Rattle.std.specs.Ordering.{is_eq, nat_cmp, match_ordering}
-use Rattle.std.specs.declared.cmp.Ordering.TheVariants.{Less, Equal, Greater}
-use Rattle.std.proofs.lemmas.Map.Text.{is_eq-slice_cmp}
-use Rattle.std.proofs.lemmas.Slice.Eq.{bytes_eq-Decides}
-use Rattle.toml.specs.Data.{Data, integer, Members, no_members, member, get_member}
-use Rattle.bench_types.specs.declared.exchanges.Budget.{Budget}
-use Rattle.bench_types.specs.declared.exchanges.Budget.TheVariants.{Entries, Bytes}
-use Rattle.bench_types.specs.declared.fields.Field.{Field}
+use Rattle.scenario.proofs.Common.{◌≡◌, ℕ, pos, Bool, true, false, ◌&&◌, List, [], ◌∷◌, map, Option, Some, inl, inr, refl, sym, ap, ◌∙◌, subst, AllZip, slice_cmp, is_eq, nat_cmp, match_ordering, Less, Equal, Greater, is_eq-slice_cmp, bytes_eq-Decides, Data, integer, Members, no_members, member, get_member, Budget, Entries, Bytes, Field, field_name, mode_named}
 use Rattle.bench_types.specs.declared.fields.Field.TheVariants as field
-use Rattle.bench_types.specs.Field.{field_name}
-use Rattle.bench_types.specs.Mode.{mode_named}
 use Rattle.scenario.specs.declared.elements.Partition.{Partition}
 use Rattle.scenario.specs.declared.elements.Restart.{Restart}
 use Rattle.scenario.specs.declared.elements.Load.{Load}

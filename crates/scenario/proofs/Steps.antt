@@ -1,10 +1,6 @@
 -- Checks one after another, and what a check that passed has found.
 -- Serves `Lawful`, `Order` and `Sayings`.
-use Rattle.std.proofs.Common.{◌≡◌, ℕ, pos, negsuc, Bool, true, false, nat_le, ◌&&◌, cond, List, [], length, Option, None, Some, Result, Ok, Err, refl, ap, subst}
-use Rattle.toml.specs.Data.{Data, Members, integer, array}
-use Rattle.bench_types.specs.declared.faults.Fault.{Fault}
-use Rattle.bench_types.specs.declared.fields.Field.{Field}
-use Rattle.bench_types.specs.declared.limits.TheConstants.{MOST_ELEMENTS}
+use Rattle.scenario.proofs.Common.{◌≡◌, ℕ, pos, negsuc, Bool, true, false, nat_le, ◌&&◌, cond, List, [], length, Option, None, Some, Result, Ok, Err, refl, ap, subst, Data, Members, integer, array, Fault, Field, MOST_ELEMENTS}
 use Rattle.scenario.specs.declared.parts.Basics.{Basics}
 use Rattle.scenario.specs.Elements.{list_of, array_of, elements_of, values_of}
 use Rattle.scenario.specs.Fields.{◌>>=◌, present, number_of}

@@ -1,11 +1,6 @@
 -- An array of the program beside that of a document, and a walk along it.
 -- Serves `apart_at`, `array_at`, `array_of` and `tables_have_only`.
-use Rattle.std.proofs.Common.{◌≡◌, Bool, ◌&&◌, List, [], ◌∷◌, ◌++◌, map, Result, Ok, refl, ap}
-use Rattle.std.specs.List.{list_all}
-use Rattle.toml.specs.Data.{Data}
-use Rattle.toml.specs.View.{view, items_view}
-use Rattle.toml.specs.declared.value.Value.{Value}
-use Rattle.bench_types.specs.declared.faults.Fault.{Fault}
+use Rattle.scenario.proofs.Common.{◌≡◌, Bool, ◌&&◌, List, [], ◌∷◌, ◌++◌, map, Result, Ok, refl, ap, list_all, Data, view, items_view, Value, Fault}
 use Rattle.scenario.specs.Elements.{list_of}
 use Rattle.scenario.specs.Fields.{◌>>=◌}
 

@@ -1,31 +1,7 @@
 -- Two runs that have cut nothing, by whatever modes and budgets: their tables and rows are the same.
 -- Serves `uncut_modes_are_alike`.
-use Rattle.std.proofs.Common.{◌≡◌, ℕ, ◌+◌, ◌-◌, ◌<◌, ◌≤◌, cond, List, [], ◌∷◌, ◌++◌, length, fold, All, refl, sym, ap, ◌∙◌, subst, arith}
-use Rattle.std.proofs.lemmas.List.Elements.{All-head, All-tail}
-use Rattle.std.proofs.lemmas.List.Sums.{sum_by-append, sum_by-cons}
-use Rattle.bench_types.specs.declared.exchanges.Exchange.{Exchange}
-use Rattle.bench_types.specs.declared.exchanges.Fate.{Fate}
+use Rattle.simulation.proofs.Common.{◌≡◌, ℕ, ◌+◌, ◌-◌, ◌<◌, ◌≤◌, cond, List, [], ◌∷◌, ◌++◌, length, fold, All, refl, sym, ap, ◌∙◌, subst, arith, All-head, All-tail, sum_by-append, sum_by-cons, Exchange, Fate, Record, Rules, IsPlanned, digest_kind, Settings, Table, table_of_node, AreCopiesOf, WritesBy, DeltaView, delta_between, digest_size, exchanged, fate_of, sent_until, figures_of, Folded, exchange_in, RoundListView, lengths-alike, CutsNothing, CutNothing, MissNone, AreBeside, next_recorded, step_beside, same_held, same_tables, round_list_of, planned_list}
 use Rattle.bench_types.specs.declared.exchanges.Fate.TheVariants as fate
-use Rattle.bench_types.specs.declared.exchanges.Record.{Record}
-use Rattle.bench_types.specs.declared.exchanges.Rules.{Rules}
-use Rattle.bench_types.specs.calls.Exchange.{IsPlanned}
-use Rattle.bench_types.specs.Mode.{digest_kind}
-use Rattle.scenario.specs.Settings.{Settings}
-use Rattle.model.specs.Table.{Table}
-use Rattle.model.specs.Tables.{table_of_node}
-use Rattle.model.specs.Clusters.{AreCopiesOf}
-use Rattle.model.specs.Copies.{WritesBy}
-use Rattle.model.specs.Deltas.{DeltaView, delta_between}
-use Rattle.model.specs.Digests.{digest_size}
-use Rattle.model.specs.Exchanged.{exchanged, fate_of, sent_until}
-use Rattle.model.specs.Figures.{figures_of}
-use Rattle.model.specs.Folds.{Folded, exchange_in}
-use Rattle.model.specs.RoundLists.{RoundListView}
-use Rattle.model.proofs.StateDeltas.{lengths-alike}
-use Rattle.model.proofs.StateFolds.{CutsNothing, CutNothing, MissNone, AreBeside, next_recorded, step_beside, same_held}
-use Rattle.model.proofs.Tables.{same_tables}
-use Rattle.round_plan.specs.Plan.{round_list_of}
-use Rattle.round_plan.proofs.Planned.{planned_list}
 use Rattle.simulation.specs.Floors.{with_rules, CutsNothingUpTo}
 use Rattle.simulation.specs.Outcomes.{figures_in, row_in}
 use Rattle.simulation.specs.Rounds.{begun, rules_of, tables_after, records_in}

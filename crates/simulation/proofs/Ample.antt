@@ -1,46 +1,7 @@
 -- A budget for the largest entry of each key of all owners but one cuts nothing.
 -- Serves `ample_budgets_cut_nothing`.
-use Rattle.std.proofs.Common.{◌≡◌, ◌≢◌, ℕ, zero, suc, ◌+◌, ◌-◌, ◌*◌, ◌%◌, ◌<◌, ◌≤◌, not, ◌&&◌, eqb, if◌then◌else◌, List, [], ◌∷◌, length, get_or, fold, All, AllPairs, inl, inr, refl, sym, ap, subst, arith}
-use Rattle.std.specs.Prelude.{nat_lt}
-use Rattle.std.specs.declared.cmp.Ordering.TheVariants.{Less}
-use Rattle.std.proofs.Math.Nat.{mod-lt, mul-le-mul_right}
-use Rattle.std.proofs.lemmas.Bool.{cases_lt, le-ltb, lt-ltb}
-use Rattle.std.proofs.lemmas.List.Elements.{All-head, All-tail}
-use Rattle.std.proofs.lemmas.List.Kept.{AllPairs-filter}
-use Rattle.std.proofs.lemmas.List.Sums.{sum_by-append, sum_by-cons, sum_by-le}
-use Rattle.bench_types.specs.declared.entries.Entry.{Entry}
-use Rattle.bench_types.specs.declared.entries.Item.{Item}
-use Rattle.bench_types.specs.declared.exchanges.Budget.{Budget}
-use Rattle.bench_types.specs.declared.exchanges.Budget.TheVariants.{Entries, Bytes}
-use Rattle.bench_types.specs.declared.exchanges.Exchange.{Exchange}
-use Rattle.bench_types.specs.declared.exchanges.Fate.{Fate}
+use Rattle.simulation.proofs.Common.{◌≡◌, ◌≢◌, ℕ, zero, suc, ◌+◌, ◌-◌, ◌*◌, ◌%◌, ◌<◌, ◌≤◌, not, ◌&&◌, eqb, if◌then◌else◌, List, [], ◌∷◌, length, get_or, fold, All, AllPairs, inl, inr, refl, sym, ap, subst, arith, nat_lt, Less, mod-lt, mul-le-mul_right, cases_lt, le-ltb, lt-ltb, All-head, All-tail, AllPairs-filter, sum_by-append, sum_by-cons, sum_by-le, Entry, Item, Budget, Entries, Bytes, Exchange, Fate, Mode, Record, Rules, ENTRY_SIZES, amount_of, share_of, largest_share, IsPlanned, mark_of, is_before, digest_kind, Settings, IsLawfulScenario, place_cmp, Table, items_of, IsProper, IsItemInPlace, table_of_node, AreTablesInOrder, AreProper, known_mark, candidates, DeltaView, item_share, delta_between, AreWithin, digest_size, exchanged, fate_of, sent_until, Folded, exchange_in, no_item, place_of, cut-none, step_proper, step_tables, place_less, apart-items_of, candidates-in_place, round_list_of, planned_list}
 use Rattle.bench_types.specs.declared.exchanges.Fate.TheVariants as fate
-use Rattle.bench_types.specs.declared.exchanges.Mode.{Mode}
-use Rattle.bench_types.specs.declared.exchanges.Record.{Record}
-use Rattle.bench_types.specs.declared.exchanges.Rules.{Rules}
-use Rattle.bench_types.specs.declared.limits.TheConstants.{ENTRY_SIZES}
-use Rattle.bench_types.specs.Budget.{amount_of, share_of, largest_share}
-use Rattle.bench_types.specs.calls.Exchange.{IsPlanned}
-use Rattle.bench_types.specs.Mark.{mark_of, is_before}
-use Rattle.bench_types.specs.Mode.{digest_kind}
-use Rattle.scenario.specs.Settings.{Settings, IsLawfulScenario}
-use Rattle.model.specs.Table.{place_cmp, Table, items_of, IsProper}
-use Rattle.model.specs.calls.Table.{IsItemInPlace}
-use Rattle.model.specs.Tables.{table_of_node, AreTablesInOrder, AreProper}
-use Rattle.model.specs.Candidates.{known_mark, candidates}
-use Rattle.model.specs.Deltas.{DeltaView, item_share, delta_between}
-use Rattle.model.specs.calls.DeltaLaws.{AreWithin}
-use Rattle.model.specs.Digests.{digest_size}
-use Rattle.model.specs.Exchanged.{exchanged, fate_of, sent_until}
-use Rattle.model.specs.Folds.{Folded, exchange_in}
-use Rattle.model.specs.inner.Items.{no_item, place_of}
-use Rattle.model.proofs.DeltaLaws.{cut-none}
-use Rattle.model.proofs.FoldLaws.{step_proper, step_tables}
-use Rattle.model.proofs.Greatest.{place_less}
-use Rattle.model.proofs.Items.{apart-items_of}
-use Rattle.model.proofs.Sent.{candidates-in_place}
-use Rattle.round_plan.specs.Plan.{round_list_of}
-use Rattle.round_plan.proofs.Planned.{planned_list}
 use Rattle.simulation.specs.Rounds.{begun, rules_of, tables_after}
 use Rattle.simulation.specs.Rows.{cut_total}
 use Rattle.simulation.specs.Healing.{AmpleBudgetsCutNothing}

@@ -1,18 +1,9 @@
 -- How far the nodes have begun their round, by node.
 -- Serves `begin`, `Floors`, `Healing` and `Soundness`.
-use Rattle.std.proofs.Common.{◌≡◌, ◌≢◌, ℕ, ◌+◌, ◌-◌, ◌<◌, ◌≤◌, List, length, map, get_or, set, inl, inr, refl, sym, ap, ◌∙◌, subst, arith}
-use Rattle.std.proofs.lemmas.Bool.{cases_eq}
-use Rattle.std.proofs.lemmas.List.{get_or-map, length-map, length-set, map-set}
-use Rattle.std.proofs.lemmas.List.FromFn.{length-map-range_with_len}
-use Rattle.model.specs.Table.{Table, empty_table, with_own_writes}
-use Rattle.round_plan.specs.Writes.{count_before, own_writes}
-use Rattle.scenario.specs.Settings.{Settings}
-use Rattle.model.specs.calls.OwnerListView.{OwnerListView, list_of_owner}
-use Rattle.model.specs.Tables.{table_of_node}
+use Rattle.simulation.proofs.Common.{◌≡◌, ◌≢◌, ℕ, ◌+◌, ◌-◌, ◌<◌, ◌≤◌, List, length, map, get_or, set, inl, inr, refl, sym, ap, ◌∙◌, subst, arith, cases_eq, get_or-map, length-map, length-set, map-set, length-map-range_with_len, Table, empty_table, with_own_writes, count_before, own_writes, Settings, OwnerListView, list_of_owner, table_of_node, table_of_node-set_same, table_of_node-set_other, table_of_node-made, same_tables}
 use Rattle.simulation.specs.Rounds.{restarted_table, restarted, written_table, begun}
 use Rattle.simulation.specs.inner.Steps.{begun_table, OthersStay}
 use Rattle.simulation.specs.calls.Standing.{IsOwner, StandAfterRound}
-use Rattle.model.proofs.Tables.{table_of_node-set_same, table_of_node-set_other, table_of_node-made, same_tables}
 
 -- the nodes below n have begun the round
 pub record HaveBegun (s : Settings) (round : ℕ) (old new : List Table) (lists : List OwnerListView) (n : ℕ) : Type 0 where

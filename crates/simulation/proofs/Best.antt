@@ -1,38 +1,7 @@
 -- Beside a run that has cut nothing: none of another mode or budget holds more, and where that has cut nothing either both
 -- hold the same.
 -- Serves `uncut_runs_are_best`, `Alike` and `Bounds`.
-use Rattle.std.proofs.Common.{◌≡◌, ◌≢◌, ℕ, zero, suc, ◌-◌, ◌<◌, ◌≤◌, true, false, if◌then◌else◌, List, [], length, AllPairs, Some, None, inl, inr, refl, sym, ap, ◌∙◌, subst, arith}
-use Rattle.std.proofs.lemmas.Bool.{cases_eq, cases_lt}
-use Rattle.std.proofs.lemmas.List.{get_or_past}
-use Rattle.std.proofs.lemmas.List.FromFn.{get_or-map-range_with_len}
-use Rattle.std.proofs.lemmas.List.Kept.{AllPairs-filter}
-use Rattle.bench_types.specs.declared.entries.Entry.{Entry}
-use Rattle.bench_types.specs.declared.exchanges.Rules.{Rules}
-use Rattle.bench_types.proofs.Marks.{up_to-itself}
-use Rattle.bench_types.specs.declared.rows.Figures.{Figures}
-use Rattle.scenario.specs.Settings.{Settings}
-use Rattle.model.specs.Table.{Table, empty_table, entry_at, mark_at, greatest_mark, IsProper}
-use Rattle.model.specs.Tables.{table_of_node}
-use Rattle.model.specs.Clusters.{AreCopiesOf}
-use Rattle.model.specs.ExchangeLaws.{NoMarkFalls}
-use Rattle.model.specs.Figures.{writes_of_owner, figures_of}
-use Rattle.model.specs.Folds.{fold_of}
-use Rattle.model.specs.RoundLists.{RoundListView}
-use Rattle.model.specs.States.{HoldAsMuch}
-use Rattle.model.specs.declared.writes.Write.{Write}
-use Rattle.model.specs.Writes.{write_of_entry}
-use Rattle.model.proofs.ExchangeLaws.{marks_stay}
-use Rattle.model.proofs.FoldLaws.{before_keeps_own}
-use Rattle.model.proofs.Members.{AllPairs-map}
-use Rattle.model.proofs.StateFigures.{NoneIsOlder, stale-le, greatest-le}
-use Rattle.model.proofs.StateFolds.{AreBeside, own_beside, fold_beside}
-use Rattle.model.proofs.States.{HoldsAsMuchOf}
-use Rattle.round_plan.specs.Generations.{generation_upto}
-use Rattle.round_plan.specs.Outages.{restarts_now}
-use Rattle.round_plan.specs.Plan.{round_list_of}
-use Rattle.round_plan.specs.Writes.{writes_upto, written_upto}
-use Rattle.round_plan.proofs.Planned.{planned_list}
-use Rattle.round_plan.proofs.Written.{is_of, writes_upto-filtered}
+use Rattle.simulation.proofs.Common.{◌≡◌, ◌≢◌, ℕ, zero, suc, ◌-◌, ◌<◌, ◌≤◌, true, false, if◌then◌else◌, List, [], length, AllPairs, Some, None, inl, inr, refl, sym, ap, ◌∙◌, subst, arith, cases_eq, cases_lt, get_or_past, get_or-map-range_with_len, AllPairs-filter, Entry, Rules, up_to-itself, Figures, Settings, Table, empty_table, entry_at, mark_at, greatest_mark, IsProper, table_of_node, AreCopiesOf, NoMarkFalls, writes_of_owner, figures_of, fold_of, RoundListView, HoldAsMuch, Write, write_of_entry, marks_stay, before_keeps_own, AllPairs-map, NoneIsOlder, stale-le, greatest-le, AreBeside, own_beside, fold_beside, HoldsAsMuchOf, generation_upto, restarts_now, round_list_of, writes_upto, written_upto, planned_list, is_of, writes_upto-filtered}
 use Rattle.simulation.specs.Floors.{with_rules, CutsNothingUpTo, IsAsGood}
 use Rattle.simulation.specs.Lists.{list_after, lists_after}
 use Rattle.simulation.specs.Outcomes.{figures_in}

@@ -1,31 +1,6 @@
 -- Where all that was written as a round began has come to all others, nothing is stale for longer than since then.
 -- Serves `staleness_is_bounded`.
-use Rattle.std.proofs.Common.{◌≡◌, ◌≢◌, ℕ, zero, suc, ◌+◌, ◌-◌, ◌<◌, ◌≤◌, Bool, true, false, ◌&&◌, cond, eqb, if◌then◌else◌, List, [], ◌∷◌, length, map, Option, Some, None, option_map, inl, inr, refl, sym, ap, ◌∙◌, subst, arith}
-use Rattle.std.specs.Prelude.{Contains}
-use Rattle.std.proofs.lemmas.Bool.{cases_eq, cases_lt, and_parts, eqb-true}
-use Rattle.std.proofs.lemmas.List.Elements.{All-contains, Contains-append_cases}
-use Rattle.std.proofs.lemmas.List.FromFn.{get_or-map-range_with_len}
-use Rattle.std.proofs.lemmas.Option.{same_Some}
-use Rattle.bench_types.specs.declared.entries.Entry.{Entry}
-use Rattle.bench_types.specs.declared.entries.Mark.{Mark}
-use Rattle.bench_types.specs.Mark.{mark_of, mark_held, is_before, IsBefore, IsUpTo}
-use Rattle.bench_types.specs.Sums.{most_below}
-use Rattle.bench_types.proofs.Marks.{before-true, before-up_to, not_both, up_to-then}
-use Rattle.scenario.specs.Settings.{Settings, IsLawfulScenario}
-use Rattle.model.specs.Table.{Table, entry_at, mark_at, greatest_mark, IsProper}
-use Rattle.model.specs.Tables.{table_of_node}
-use Rattle.model.specs.Clusters.{AreCopiesOf}
-use Rattle.model.specs.declared.writes.Write.{Write}
-use Rattle.model.specs.Figures.{writes_of_owner, generation_at, staleness_of, staleness_at, rounds_behind, figures_of}
-use Rattle.model.specs.Writes.{write_of_entry, first_above}
-use Rattle.model.proofs.BeginLaws.{copy-up_to}
-use Rattle.model.proofs.Greatest.{mark_at-up_to_greatest}
-use Rattle.round_plan.specs.Generations.{generation_upto}
-use Rattle.round_plan.specs.Plan.{round_list_of}
-use Rattle.round_plan.specs.Writes.{count_before, own_writes, writes_upto, written_upto}
-use Rattle.round_plan.proofs.Generations.{generation_upto-rises}
-use Rattle.round_plan.proofs.Growth.{born-own_writes, next-writes_upto}
-use Rattle.round_plan.proofs.Written.{born-writes_upto, written-writes_upto}
+use Rattle.simulation.proofs.Common.{◌≡◌, ◌≢◌, ℕ, zero, suc, ◌+◌, ◌-◌, ◌<◌, ◌≤◌, Bool, true, false, ◌&&◌, cond, eqb, if◌then◌else◌, List, [], ◌∷◌, length, map, Option, Some, None, option_map, inl, inr, refl, sym, ap, ◌∙◌, subst, arith, Contains, cases_eq, cases_lt, and_parts, eqb-true, All-contains, Contains-append_cases, get_or-map-range_with_len, same_Some, Entry, Mark, mark_of, mark_held, is_before, IsBefore, IsUpTo, most_below, before-true, before-up_to, not_both, up_to-then, Settings, IsLawfulScenario, Table, entry_at, mark_at, greatest_mark, IsProper, table_of_node, AreCopiesOf, Write, writes_of_owner, generation_at, staleness_of, staleness_at, rounds_behind, figures_of, write_of_entry, first_above, copy-up_to, mark_at-up_to_greatest, generation_upto, round_list_of, count_before, own_writes, writes_upto, written_upto, generation_upto-rises, born-own_writes, next-writes_upto, born-writes_upto, written-writes_upto}
 use Rattle.simulation.specs.CatchingUp.{AllArePassedOn, StalenessIsBounded}
 use Rattle.simulation.specs.Floors.{CutsNothingUpTo}
 use Rattle.simulation.specs.Lists.{list_after, lists_after}

@@ -1,18 +1,6 @@
 -- In a run that has cut nothing a path of exchanges brings all that its owner had written when it began.
 -- Serves `uncut_paths_catch_up` and `Bounds`.
-use Rattle.std.proofs.Common.{◌≡◌, ◌≢◌, ℕ, ◌-◌, ◌<◌, ◌≤◌, false, Some, sym, ap, ◌∙◌, subst, arith}
-use Rattle.std.specs.Prelude.{slice_get}
-use Rattle.bench_types.specs.declared.exchanges.Exchange.{Exchange}
-use Rattle.bench_types.specs.Mark.{IsUpTo}
-use Rattle.bench_types.proofs.Marks.{up_to-itself, up_to-then}
-use Rattle.scenario.specs.Settings.{Settings, IsLawfulScenario}
-use Rattle.model.specs.Table.{Table, applied, greatest_mark}
-use Rattle.model.specs.Tables.{table_of_node}
-use Rattle.model.specs.ExchangeLaws.{NoMarkFalls, LosesNothing}
-use Rattle.model.proofs.ExchangeLaws.{marks_stay, marks_then}
-use Rattle.model.proofs.StateFolds.{CutsNothing, MissNone, brought}
-use Rattle.round_plan.specs.Outages.{restarts_now}
-use Rattle.round_plan.specs.Plan.{round_list_of}
+use Rattle.simulation.proofs.Common.{◌≡◌, ◌≢◌, ℕ, ◌-◌, ◌<◌, ◌≤◌, false, Some, sym, ap, ◌∙◌, subst, arith, slice_get, Exchange, IsUpTo, up_to-itself, up_to-then, Settings, IsLawfulScenario, Table, applied, greatest_mark, table_of_node, NoMarkFalls, LosesNothing, marks_stay, marks_then, CutsNothing, MissNone, brought, restarts_now, round_list_of}
 use Rattle.simulation.specs.CatchingUp.{IsPassedOn, begins, keeps, passed_back, passed_forth, UncutPathsCatchUp}
 use Rattle.simulation.specs.Floors.{CutsNothingUpTo}
 use Rattle.simulation.specs.Healing.{Moment, IsUpToMoment, table_at_moment}

@@ -1,38 +1,7 @@
 -- Runs that have cut nothing: their copies are states of their owners, and hold as much as those of any other mode and
 -- budget.
 -- Serves `uncut_copies_are_states`, `Alike`, `Best`, `Bounds` and `CatchingUp`.
-use Rattle.std.proofs.Common.{◌≡◌, ◌≢◌, ℕ, zero, suc, ◌+◌, ◌-◌, ◌<◌, ◌≤◌, true, false, if◌then◌else◌, List, [], ◌∷◌, length, take, drop, fold, All, Some, None, inl, inr, refl, sym, ap, ◌∙◌, subst, arith}
-use Rattle.std.specs.Prelude.{Contains}
-use Rattle.std.proofs.lemmas.Bool.{cases_eq}
-use Rattle.std.proofs.lemmas.List.{take-append-drop}
-use Rattle.std.proofs.lemmas.List.Elements.{All-take, Contains-append_cases}
-use Rattle.std.proofs.lemmas.List.Sums.{fold-append}
-use Rattle.bench_types.specs.declared.entries.Entry.{Entry}
-use Rattle.bench_types.specs.declared.entries.Mark.{Mark}
-use Rattle.bench_types.specs.declared.exchanges.Exchange.{Exchange}
-use Rattle.bench_types.specs.declared.exchanges.Record.{Record}
-use Rattle.bench_types.specs.calls.Exchange.{IsPlanned}
-use Rattle.bench_types.specs.Mark.{absent, mark_of, mark_held, IsBefore, IsUpTo}
-use Rattle.bench_types.proofs.Marks.{absent-first, not_both, up_to-then}
-use Rattle.scenario.specs.Settings.{Settings}
-use Rattle.model.specs.Table.{Table, entry_at, mark_at, greatest_mark, greatest_version, with_own_write, with_own_writes, without_others, without_all}
-use Rattle.model.specs.Tables.{table_of_node}
-use Rattle.model.specs.Clusters.{AreCopiesOf}
-use Rattle.model.specs.calls.Clusters.{own_mark}
-use Rattle.model.specs.Folds.{Folded, exchange_in, fold_of}
-use Rattle.model.specs.States.{MissesNone}
-use Rattle.model.proofs.BeginLaws.{copy-up_to}
-use Rattle.model.proofs.Greatest.{greatest_mark-same, greatest_mark-none}
-use Rattle.model.proofs.StateFolds.{CutNothing, MissNone, keeps_records, misses-own, fold_states}
-use Rattle.model.proofs.States.{HoldsAsMuchOf, as_much-from}
-use Rattle.model.proofs.TableLaws.{entry_at-own_write_other, entry_at-without_all, entry_at-without_others_other}
-use Rattle.round_plan.specs.Generations.{generation_upto}
-use Rattle.round_plan.specs.Outages.{forgets_now, restarts_now}
-use Rattle.round_plan.specs.Plan.{round_list_of}
-use Rattle.round_plan.specs.Writes.{count_upto, count_before, own_writes, written_upto}
-use Rattle.round_plan.proofs.Generations.{generation_upto-same, generation_upto-next, restarts-forgets}
-use Rattle.round_plan.proofs.Growth.{count_before-grown, next-own_writes, written_upto-grown}
-use Rattle.round_plan.proofs.Planned.{planned_list}
+use Rattle.simulation.proofs.Common.{◌≡◌, ◌≢◌, ℕ, zero, suc, ◌+◌, ◌-◌, ◌<◌, ◌≤◌, true, false, if◌then◌else◌, List, [], ◌∷◌, length, take, drop, fold, All, Some, None, inl, inr, refl, sym, ap, ◌∙◌, subst, arith, Contains, cases_eq, take-append-drop, All-take, Contains-append_cases, fold-append, Entry, Mark, Exchange, Record, IsPlanned, absent, mark_of, mark_held, IsBefore, IsUpTo, absent-first, not_both, up_to-then, Settings, Table, entry_at, mark_at, greatest_mark, greatest_version, with_own_write, with_own_writes, without_others, without_all, table_of_node, AreCopiesOf, own_mark, Folded, exchange_in, fold_of, MissesNone, copy-up_to, greatest_mark-same, greatest_mark-none, CutNothing, MissNone, keeps_records, misses-own, fold_states, HoldsAsMuchOf, as_much-from, entry_at-own_write_other, entry_at-without_all, entry_at-without_others_other, generation_upto, forgets_now, restarts_now, round_list_of, count_upto, count_before, own_writes, written_upto, generation_upto-same, generation_upto-next, restarts-forgets, count_before-grown, next-own_writes, written_upto-grown, planned_list}
 use Rattle.simulation.specs.Floors.{CutsNothingUpTo, UncutCopiesAreStates}
 use Rattle.simulation.specs.Outcomes.{row_in}
 use Rattle.simulation.specs.Rounds.{after_restart, begun, rules_of, round_of, tables_after, records_in}

@@ -1,15 +1,6 @@
 -- What the two formats have in common.
 -- Serves `format_1_leaves_nothing_over` and `the_format_has_no_part`.
-use Rattle.std.proofs.Common.{◌≡◌, ℕ, zero, suc, ◌-◌, ◌<◌, Bool, true, false, eqb, if◌then◌else◌, List, length, map, Option, Some, None, refl, ap, ◌∙◌, arith}
-use Rattle.std.specs.List.{range_with_len}
-use Rattle.std.proofs.lemmas.Bool.{le-ltb}
-use Rattle.bench_types.specs.declared.entries.Entry.{Entry}
-use Rattle.scenario.specs.Settings.{Settings, IsLawfulScenario}
-use Rattle.model.specs.Table.{Table, entry_at, with_own_writes, without_all, without_others}
-use Rattle.model.specs.Tables.{table_of_node}
-use Rattle.model.specs.Figures.{generation_at, is_left_over, leftover_at, figures_of}
-use Rattle.model.specs.Folds.{fold_of}
-use Rattle.round_plan.proofs.Generations.{generation_upto-format_1}
+use Rattle.simulation.proofs.Common.{◌≡◌, ℕ, zero, suc, ◌-◌, ◌<◌, Bool, true, false, eqb, if◌then◌else◌, List, length, map, Option, Some, None, refl, ap, ◌∙◌, arith, range_with_len, le-ltb, Entry, Settings, IsLawfulScenario, Table, entry_at, with_own_writes, without_all, without_others, table_of_node, generation_at, is_left_over, leftover_at, figures_of, fold_of, generation_upto-format_1}
 use Rattle.simulation.specs.Formats.{LeavesNothingOver, FormatHasNoPart}
 use Rattle.simulation.specs.Outcomes.{figures_in, row_in}
 use Rattle.simulation.specs.Rounds.{restarted, begun, rules_of, round_of, tables_after, records_in}

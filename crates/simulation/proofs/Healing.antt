@@ -1,18 +1,6 @@
 -- How long copies of a run stay fresh.
 -- Serves `fresh_copies_stay` and `Paths`.
-use Rattle.std.proofs.Common.{◌≡◌, ℕ, ◌-◌, ◌<◌, ◌≤◌, true, false, if◌then◌else◌, List, Some, sym, ap, ◌∙◌, subst, arith}
-use Rattle.bench_types.specs.declared.entries.Entry.{Entry}
-use Rattle.scenario.specs.Settings.{Settings, IsLawfulScenario}
-use Rattle.model.specs.Table.{Table, entry_at, with_own_writes, without_others, without_all, IsProper}
-use Rattle.model.specs.Tables.{table_of_node}
-use Rattle.model.specs.Clusters.{AreCopiesOf}
-use Rattle.model.specs.Copies.{WritesBy}
-use Rattle.model.proofs.FoldLaws.{before_keeps_own}
-use Rattle.model.proofs.Fresh.{HasAllOf, all_stays, fresh_from, has_all}
-use Rattle.model.proofs.TableLaws.{entry_at-without_all, entry_at-without_others_own}
-use Rattle.round_plan.specs.Outages.{forgets_now, restarts_now}
-use Rattle.round_plan.specs.Plan.{round_list_of}
-use Rattle.round_plan.proofs.Planned.{planned_list}
+use Rattle.simulation.proofs.Common.{◌≡◌, ℕ, ◌-◌, ◌<◌, ◌≤◌, true, false, if◌then◌else◌, List, Some, sym, ap, ◌∙◌, subst, arith, Entry, Settings, IsLawfulScenario, Table, entry_at, with_own_writes, without_others, without_all, IsProper, table_of_node, AreCopiesOf, WritesBy, before_keeps_own, HasAllOf, all_stays, fresh_from, has_all, entry_at-without_all, entry_at-without_others_own, forgets_now, restarts_now, round_list_of, planned_list}
 use Rattle.simulation.specs.Rounds.{after_restart, begun, rules_of, tables_after}
 use Rattle.simulation.specs.Soundness.{writes_by, tables_within}
 use Rattle.simulation.specs.Healing.{LeavesCopy, FreshCopiesStay}

@@ -17,3 +17,4 @@ pub mod Bounds
 pub mod Alike
 pub mod Stepping
 pub mod Playing
+pub mod Common

@@ -1,17 +1,6 @@
 -- What owners write, who restarts and who meets whom is the same in each format, under each mode and with each budget.
 -- Serves `Alike`, `Best`, `Formats` and `runs`.
-use Rattle.std.proofs.Common.{◌≡◌, ℕ, zero, suc, ◌+◌, ◌++◌, [], map, if◌then◌else◌, refl}
-use Rattle.std.specs.List.{range_with_len}
-use Rattle.bench_types.specs.declared.exchanges.Mode.{Mode}
-use Rattle.bench_types.specs.declared.exchanges.Rules.{Rules}
-use Rattle.bench_types.specs.Entry.{next_version}
-use Rattle.model.specs.Writes.{write_of_entry}
-use Rattle.round_plan.specs.Generations.{generation_upto}
-use Rattle.round_plan.specs.Outages.{is_up, forgets_now, restarts_now, separated}
-use Rattle.round_plan.specs.Plan.{round_list_of}
-use Rattle.round_plan.specs.Words.{word_of}
-use Rattle.round_plan.specs.Writes.{writes_in, number_by, count_upto, count_before, numbered_write, own_writes, writes_upto, written_upto}
-use Rattle.scenario.specs.Settings.{Settings, with_mode}
+use Rattle.simulation.proofs.Common.{◌≡◌, ℕ, zero, suc, ◌+◌, ◌++◌, [], map, if◌then◌else◌, refl, range_with_len, Mode, Rules, next_version, write_of_entry, generation_upto, is_up, forgets_now, restarts_now, separated, round_list_of, word_of, writes_in, number_by, count_upto, count_before, numbered_write, own_writes, writes_upto, written_upto, Settings, with_mode}
 use Rattle.simulation.specs.Lists.{lists_after}
 
 module _ (s : Settings) (format : ℕ) (rules : Rules) where

@@ -1,25 +1,7 @@
 -- The moments of a run: what the exchange at one of them does, and what stays from one to a later one.
 -- Serves `Bounds`, `CatchingUp`, `Healing`, `Paths` and `Rings`.
-use Rattle.std.proofs.Common.{◌≡◌, ℕ, zero, suc, ◌+◌, ◌-◌, ◌<◌, ◌≤◌, Bool, true, false, if◌then◌else◌, List, [], length, take, drop, fold, get_or, Some, inl, inr, refl, sym, ap, ◌∙◌, subst, arith}
-use Rattle.std.specs.Prelude.{slice_get, Contains}
-use Rattle.std.proofs.lemmas.List.{take-append-drop, take_all}
-use Rattle.std.proofs.lemmas.List.Sums.{fold-append, fold_more}
-use Rattle.std.proofs.lemmas.Option.{get_or_from_slice_get, slice_get_within}
-use Rattle.bench_types.specs.declared.exchanges.Exchange.{Exchange}
+use Rattle.simulation.proofs.Common.{◌≡◌, ℕ, zero, suc, ◌+◌, ◌-◌, ◌<◌, ◌≤◌, Bool, true, false, if◌then◌else◌, List, [], length, take, drop, fold, get_or, Some, inl, inr, refl, sym, ap, ◌∙◌, subst, arith, slice_get, Contains, take-append-drop, take_all, fold-append, fold_more, get_or_from_slice_get, slice_get_within, Exchange, digest_kind, IsPlanned, Settings, IsLawfulScenario, Table, applied, table_of_node, DeltaView, delta_between, digest_size, LosesNothing, fate_of, initiator_after, last_fate, responder_after, sent_until, Folded, exchange_in, fold_of, initiator_is, next_recorded, responder_is, round_list_of, planned_list}
 use Rattle.bench_types.specs.declared.exchanges.Fate.TheVariants as fate
-use Rattle.bench_types.specs.Mode.{digest_kind}
-use Rattle.bench_types.specs.calls.Exchange.{IsPlanned}
-use Rattle.scenario.specs.Settings.{Settings, IsLawfulScenario}
-use Rattle.model.specs.Table.{Table, applied}
-use Rattle.model.specs.Tables.{table_of_node}
-use Rattle.model.specs.Deltas.{DeltaView, delta_between}
-use Rattle.model.specs.Digests.{digest_size}
-use Rattle.model.specs.ExchangeLaws.{LosesNothing}
-use Rattle.model.specs.Exchanged.{fate_of, initiator_after, last_fate, responder_after, sent_until}
-use Rattle.model.specs.Folds.{Folded, exchange_in, fold_of}
-use Rattle.model.proofs.StateFolds.{initiator_is, next_recorded, responder_is}
-use Rattle.round_plan.specs.Plan.{round_list_of}
-use Rattle.round_plan.proofs.Planned.{planned_list}
 use Rattle.simulation.specs.Healing.{Moment, IsUpToMoment, table_at_moment}
 use Rattle.simulation.specs.Paths.{record_at}
 use Rattle.simulation.specs.Rounds.{begun, rules_of, tables_after, records_in}

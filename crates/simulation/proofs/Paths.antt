@@ -1,22 +1,7 @@
 -- A path of exchanges makes fresh what its last holder has.
 -- Serves `exchanges_make_fresh`, `paths_make_fresh`, `uncut_exchanges_hand_on` and `Rings`.
-use Rattle.std.proofs.Common.{◌≡◌, ℕ, ◌+◌, ◌<◌, ◌≤◌, false, Some, inl, inr, refl, sym, ◌∙◌, subst, arith, Bool, true, if◌then◌else◌}
-use Rattle.std.specs.Prelude.{slice_get}
-use Rattle.std.proofs.lemmas.Bool.{cases_eq}
-use Rattle.bench_types.specs.declared.exchanges.Exchange.{Exchange}
+use Rattle.simulation.proofs.Common.{◌≡◌, ℕ, ◌+◌, ◌<◌, ◌≤◌, false, Some, inl, inr, refl, sym, ◌∙◌, subst, arith, Bool, true, if◌then◌else◌, slice_get, cases_eq, Exchange, Record, digest_kind, Settings, IsLawfulScenario, applied, table_of_node, DeltaView, digest_size, last_fate, sent_until, sent-uncut, HasAllOf, fresh_from, has_all, hands_on, round_list_of}
 use Rattle.bench_types.specs.declared.exchanges.Fate.TheVariants as fate
-use Rattle.bench_types.specs.declared.exchanges.Record.{Record}
-use Rattle.bench_types.specs.Mode.{digest_kind}
-use Rattle.scenario.specs.Settings.{Settings, IsLawfulScenario}
-use Rattle.model.specs.Table.{applied}
-use Rattle.model.specs.Tables.{table_of_node}
-use Rattle.model.specs.Deltas.{DeltaView}
-use Rattle.model.specs.Digests.{digest_size}
-use Rattle.model.specs.Exchanged.{last_fate, sent_until}
-use Rattle.model.proofs.DeltaLaws.{sent-uncut}
-use Rattle.model.proofs.Fresh.{HasAllOf, fresh_from, has_all}
-use Rattle.model.proofs.Spreads.{hands_on}
-use Rattle.round_plan.specs.Plan.{round_list_of}
 use Rattle.simulation.specs.Rounds.{rules_of}
 use Rattle.simulation.specs.Soundness.{writes_by, tables_within}
 use Rattle.simulation.specs.Healing.{Moment, IsFreshAt, ExchangesMakeFresh, SendsOwnPartAt, AnswersWhole, table_at_moment}

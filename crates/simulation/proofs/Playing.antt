@@ -1,33 +1,11 @@
 -- A round, from the tables with which it begins to those that its exchanges leave.
 -- Serves `Cluster::play`.
-use Rattle.std.proofs.Common.{◌≡◌, ℕ, ◌-◌, ◌≤◌, All, List, [], length, map, sym, ap, ◌∙◌, subst, arith}
-use Rattle.std.proofs.lemmas.List.{length-map}
-use Rattle.bench_types.specs.calls.Budget.{IsLawfulBudget}
-use Rattle.bench_types.specs.calls.Exchange.{IsPlanned}
-use Rattle.bench_types.specs.declared.exchanges.Budget.{Budget}
-use Rattle.bench_types.specs.declared.exchanges.Budget.TheVariants.{Entries, Bytes}
-use Rattle.bench_types.specs.declared.exchanges.Record.{Record}
-use Rattle.bench_types.specs.declared.exchanges.Rules.{Rules}
-use Rattle.bench_types.specs.declared.rows.Figures.{Figures}
-use Rattle.model.specs.Table.{Table}
-use Rattle.model.specs.inner.Owns.{KeepOwnParts}
-use Rattle.model.specs.Folds.{Folded, fold_of}
-use Rattle.model.specs.Tables.{AreTablesInOrder, AreProper, HoldsOfEach}
-use Rattle.model.specs.calls.Tables.{IsCluster}
-use Rattle.model.proofs.FoldLaws.{fold_counts_tables, fold_counts_records, fold_keeps_own, fold_proper}
-use Rattle.model.proofs.Tables.{cluster_of}
-use Rattle.model.specs.RoundLists.{RoundListView}
-use Rattle.model.specs.calls.RoundLists.{IsRoundPlan}
-use Rattle.round_plan.specs.Plan.{round_list_of}
-use Rattle.scenario.specs.Settings.{Settings, IsBudgetOf, IsLawfulScenario}
-use Rattle.model.specs.Figures.{figures_of}
-use Rattle.model.specs.calls.OwnerListView.{OwnerListView, lists_in}
+use Rattle.simulation.proofs.Common.{◌≡◌, ℕ, ◌-◌, ◌≤◌, All, List, [], length, map, sym, ap, ◌∙◌, subst, arith, length-map, IsLawfulBudget, IsPlanned, Budget, Entries, Bytes, Record, Rules, Figures, Table, KeepOwnParts, Folded, fold_of, AreTablesInOrder, AreProper, HoldsOfEach, IsCluster, fold_counts_tables, fold_counts_records, fold_keeps_own, fold_proper, cluster_of, RoundListView, IsRoundPlan, round_list_of, Settings, IsBudgetOf, IsLawfulScenario, figures_of, OwnerListView, lists_in, StandsAmong}
 use Rattle.simulation.specs.calls.Outcomes.{played_with}
 use Rattle.simulation.specs.inner.Steps.{IsPlayedFrom}
 use Rattle.simulation.specs.calls.RoundView.{RoundView}
 use Rattle.simulation.specs.Rounds.{begun, rules_of, round_of, tables_after}
 use Rattle.simulation.specs.calls.Standing.{StandAfterRound}
-use Rattle.round_tables.specs.Histories.{StandsAmong}
 use Rattle.simulation.specs.Soundness.{AreSound}
 use Rattle.simulation.proofs.Soundness.{begun_sound, sound_run}
 use Rattle.simulation.proofs.Standing.{standing_kept, each_among}

@@ -1,41 +1,10 @@
 -- On a ring quiet rounds, as many as a node has others, make all copies fresh.
 -- Serves `quiet_rings_heal`, `Floors` and `Formats`.
-use Rattle.std.proofs.Common.{◌≡◌, ◌≢◌, ℕ, zero, suc, ◌+◌, ◌-◌, ◌*◌, ◌/◌, ◌%◌, ◌<◌, ◌≤◌, Bool, true, false, not, ◌&&◌, cond, eqb, if◌then◌else◌, List, [], ◌∷◌, map, length, get_or, All, Some, None, ◌⊎◌, inl, inr, refl, sym, ap, ◌∙◌, subst, arith}
-use Rattle.std.specs.Prelude.{slice_get, Contains}
-use Rattle.std.specs.List.{range_with_len, filter, sum_by}
-use Rattle.std.specs.Option.{option_map}
-use Rattle.std.proofs.Math.Nat.{mod-lt, mod-eq_of_lt, mod-add-div, add-mul-mod_self_left, add-mod_right}
-use Rattle.std.proofs.lemmas.Bool.{cases_lt, cases_eq, ne_eqb, le-ltb}
-use Rattle.std.proofs.lemmas.Option.{slice_get-get_or}
-use Rattle.std.proofs.lemmas.List.Elements.{All-tail}
-use Rattle.std.proofs.lemmas.List.Sums.{sum_by-cons}
-use Rattle.std.proofs.lemmas.List.FromFn.{get_or-map-range_with_len, length-map-range_with_len, get_or-range_with_len, length-range_with_len}
-use Rattle.bench_types.specs.declared.entries.Entry.{Entry}
-use Rattle.bench_types.specs.declared.entries.Mark.{Mark}
-use Rattle.bench_types.specs.Mark.{mark_of, is_before, IsUpTo}
-use Rattle.bench_types.specs.Sums.{sum_below, most_below}
-use Rattle.bench_types.proofs.Marks.{before-no}
-use Rattle.scenario.specs.declared.choices.Peers.TheVariants.{Ring}
-use Rattle.scenario.specs.Settings.{Settings, IsLawfulScenario}
-use Rattle.model.specs.Table.{Table, entry_at, mark_at, greatest_version}
-use Rattle.model.specs.Tables.{table_of_node}
-use Rattle.model.specs.Figures.{writes_of_owner, generation_at, staleness_of, staleness_at, is_left_over, leftover_at, stale_count, rounds_behind, figures_of}
-use Rattle.model.specs.declared.writes.Write.{Write}
-use Rattle.model.specs.Writes.{write_of_entry, first_above}
-use Rattle.round_plan.specs.Generations.{generation_upto}
-use Rattle.round_plan.specs.Outages.{is_up}
-use Rattle.round_plan.specs.Peer.{ring_peer, peer_by, peer_of}
-use Rattle.round_plan.specs.Plan.{begins, exchange_of, round_list_of}
-use Rattle.round_plan.specs.Words.{word_of}
-use Rattle.round_plan.specs.Writes.{count_before, count_upto, own_write_at, writes_in, writes_upto}
-use Rattle.round_plan.proofs.Growth.{next-writes_upto}
-use Rattle.round_plan.proofs.Written.{written-writes_upto}
+use Rattle.simulation.proofs.Common.{◌≡◌, ◌≢◌, ℕ, zero, suc, ◌+◌, ◌-◌, ◌*◌, ◌/◌, ◌%◌, ◌<◌, ◌≤◌, Bool, true, false, not, ◌&&◌, cond, eqb, if◌then◌else◌, List, [], ◌∷◌, map, length, get_or, All, Some, None, ◌⊎◌, inl, inr, refl, sym, ap, ◌∙◌, subst, arith, slice_get, Contains, range_with_len, filter, sum_by, option_map, mod-lt, mod-eq_of_lt, mod-add-div, add-mul-mod_self_left, add-mod_right, cases_lt, cases_eq, ne_eqb, le-ltb, slice_get-get_or, All-tail, sum_by-cons, get_or-map-range_with_len, length-map-range_with_len, get_or-range_with_len, length-range_with_len, Entry, Mark, mark_of, is_before, IsUpTo, sum_below, most_below, before-no, Ring, Settings, IsLawfulScenario, Table, entry_at, mark_at, greatest_version, table_of_node, writes_of_owner, generation_at, staleness_of, staleness_at, is_left_over, leftover_at, stale_count, rounds_behind, figures_of, Write, write_of_entry, first_above, generation_upto, is_up, ring_peer, peer_by, peer_of, begins, exchange_of, round_list_of, word_of, count_before, count_upto, own_write_at, writes_in, writes_upto, next-writes_upto, written-writes_upto, HasOwnPart, IsFresh, HasAllOf, has_all, of_generation, not_behind}
 use Rattle.simulation.specs.Lists.{list_after, lists_after}
 use Rattle.simulation.specs.Rounds.{tables_after}
 use Rattle.simulation.specs.Soundness.{writes_by, AreSound}
-use Rattle.model.specs.Fresh.{HasOwnPart, IsFresh}
 use Rattle.simulation.specs.Healing.{Moment, IsUpToMoment, LeavesCopy, IsQuiet, HaveWrittenSince, IsHealed, QuietRingsHeal}
-use Rattle.model.proofs.Fresh.{HasAllOf, has_all, of_generation, not_behind}
 use Rattle.simulation.specs.Paths.{next_moment, record_at, HandsOn, own, stays, handed}
 use Rattle.simulation.proofs.Moments.{ended, recorded, sound}
 use Rattle.simulation.proofs.Paths.{exchanges_hand_on, paths_fresh}

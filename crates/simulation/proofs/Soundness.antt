@@ -1,35 +1,6 @@
 -- What holds of the tables along every run.
 -- Serves most of the crate.
-use Rattle.std.proofs.Common.{◌≡◌, ℕ, zero, suc, ◌+◌, ◌-◌, ◌<◌, ◌≤◌, true, false, if◌then◌else◌, List, ◌++◌, length, All, inl, inr, refl, sym, ap, ◌∙◌, subst, arith}
-use Rattle.std.proofs.Math.Seq.{take-length}
-use Rattle.std.proofs.lemmas.Bool.{cases_lt, both_ways}
-use Rattle.std.proofs.lemmas.List.{get_or_past}
-use Rattle.std.proofs.lemmas.List.FromFn.{length-map-range_with_len}
-use Rattle.bench_types.specs.declared.entries.Entry.{Entry}
-use Rattle.bench_types.specs.declared.entries.Mark.{Mark}
-use Rattle.bench_types.specs.declared.exchanges.Exchange.{Exchange}
-use Rattle.bench_types.specs.calls.Entry.{AreNextAfter}
-use Rattle.model.specs.Table.{Table, empty_table, entry_at, greatest_version, with_own_writes, without_others, without_all, IsProper}
-use Rattle.model.proofs.TableLaws.{entry_at-empty_table}
-use Rattle.model.proofs.MarkLaws.{greatest_mark-empty_table, greatest_mark-without_all, greatest_mark-without_others_own}
-use Rattle.round_plan.specs.Generations.{generation_upto}
-use Rattle.round_plan.specs.Outages.{forgets_now, restarts_now}
-use Rattle.round_plan.specs.Plan.{round_list_of}
-use Rattle.round_plan.specs.Writes.{count_upto, count_before, own_writes, written_upto}
-use Rattle.round_plan.proofs.Generations.{generation_upto-same, generation_upto-next, restarts-forgets}
-use Rattle.round_plan.proofs.Growth.{count_before-grown, count_upto-grown, keys-own_writes, next-own_writes, written_upto-grown}
-use Rattle.round_plan.proofs.Planned.{planned_list}
-use Rattle.scenario.specs.Settings.{Settings}
-use Rattle.bench_types.specs.calls.Exchange.{IsPlanned}
-use Rattle.model.specs.Clusters.{NoMarksFall}
-use Rattle.model.specs.Copies.{IsLastOf}
-use Rattle.model.specs.Tables.{table_of_node, AreTablesInOrder, AreProper}
-use Rattle.model.specs.Folds.{fold_of, tables_before}
-use Rattle.model.specs.ExchangeLaws.{NoMarkFalls}
-use Rattle.model.proofs.ExchangeLaws.{marks_stay, marks_then}
-use Rattle.model.proofs.BeginLaws.{IsBegun, begun_same, begun_forget, begun_restart, begun_then, begun_writes, counted_writes, generation-written, written_rises, empty_copies, empty_no_gap, begun_copies, begun_no_gap}
-use Rattle.model.proofs.Tables.{table_of_node-made}
-use Rattle.model.proofs.FoldLaws.{before_copies, before_no_gap, before_rises, before_keeps_own}
+use Rattle.simulation.proofs.Common.{◌≡◌, ℕ, zero, suc, ◌+◌, ◌-◌, ◌<◌, ◌≤◌, true, false, if◌then◌else◌, List, ◌++◌, length, All, inl, inr, refl, sym, ap, ◌∙◌, subst, arith, take-length, cases_lt, both_ways, get_or_past, length-map-range_with_len, Entry, Mark, Exchange, AreNextAfter, Table, empty_table, entry_at, greatest_version, with_own_writes, without_others, without_all, IsProper, entry_at-empty_table, greatest_mark-empty_table, greatest_mark-without_all, greatest_mark-without_others_own, generation_upto, forgets_now, restarts_now, round_list_of, count_upto, count_before, own_writes, written_upto, generation_upto-same, generation_upto-next, restarts-forgets, count_before-grown, count_upto-grown, keys-own_writes, next-own_writes, written_upto-grown, planned_list, Settings, IsPlanned, NoMarksFall, IsLastOf, table_of_node, AreTablesInOrder, AreProper, fold_of, tables_before, NoMarkFalls, marks_stay, marks_then, IsBegun, begun_same, begun_forget, begun_restart, begun_then, begun_writes, counted_writes, generation-written, written_rises, empty_copies, empty_no_gap, begun_copies, begun_no_gap, table_of_node-made, before_copies, before_no_gap, before_rises, before_keeps_own}
 use Rattle.simulation.specs.Rounds.{opening_tables, restarted, written_table, after_restart, begun, rules_of, round_of, tables_after}
 use Rattle.simulation.specs.Soundness.{writes_by, AreSound, OnlyRestartsLowerMarks, tables_within, IsSoundRun}
 use Rattle.simulation.proofs.Begun.{begun_at}

@@ -1,42 +1,12 @@
 -- What holds of all nodes at the beginning, and still holds after exchanges, restarts and writes.
 -- Serves the functions of `clusters`, `Playing` and `Soundness`.
-use Rattle.std.proofs.Common.{◌≡◌, ℕ, ◌+◌, ◌-◌, ◌<◌, ◌≤◌, true, false, if◌then◌else◌, All, List, [], ◌∷◌, ◌++◌, length, map, inl, inr, refl, sym, ap, ◌∙◌, subst, arith, length-append}
-use Rattle.std.specs.List.{range_with_len}
-use Rattle.std.specs.Prelude.{Contains}
-use Rattle.std.proofs.lemmas.Bool.{cases_lt}
-use Rattle.std.proofs.lemmas.List.{append_assoc, append-nil, get_or_past, length-map}
-use Rattle.std.proofs.lemmas.List.Elements.{All-nil}
-use Rattle.std.proofs.lemmas.List.FromFn.{length-map-range_with_len}
-use Rattle.bench_types.specs.declared.entries.Entry.{Entry}
-use Rattle.bench_types.specs.declared.entries.Mark.{Mark}
-use Rattle.bench_types.specs.calls.Entry.{AreNextAfter}
-use Rattle.bench_types.specs.declared.limits.TheConstants.{LEAST_KEYS, MOST_NODES, MOST_KEYS}
-use Rattle.model.specs.Table.{Table, empty_table, entry_at, greatest_mark, with_own_write, with_own_writes, without_others, without_all, IsProper}
-use Rattle.model.proofs.TableLaws.{entry_at-without_all, entry_at-without_others_own}
-use Rattle.model.proofs.MarkLaws.{greatest_mark-empty_table, greatest_mark-without_all, greatest_mark-without_others_own}
-use Rattle.model.proofs.ProperLaws.{proper-empty_table, proper-without_all, proper-without_others}
-use Rattle.round_plan.specs.declared.owners.OwnWrite.{OwnWrite}
-use Rattle.round_plan.specs.Generations.{generation_upto}
-use Rattle.round_plan.specs.Outages.{forgets_now}
-use Rattle.round_plan.specs.Writes.{count_before, own_writes, writes_upto, written_upto}
-use Rattle.round_plan.specs.calls.Writes.{born_in, writes_before}
-use Rattle.round_plan.proofs.Generations.{generation_upto-same, generation_upto-next}
-use Rattle.round_plan.proofs.Growth.{next-own_writes, length-writes_before, writes_before-grown, writes_upto-grown, written_upto-grown}
-use Rattle.scenario.specs.Settings.{Settings}
-use Rattle.model.specs.calls.OwnerListView.{OwnerListView, all_writes, entries_of, no_writes, begun_generation, list_of_owner}
-use Rattle.model.specs.Writes.{write_of_entry}
-use Rattle.model.proofs.OwnParts.{own_part-empty}
-use Rattle.model.specs.inner.Owns.{KeepsOwn, KeepOwnParts}
-use Rattle.round_tables.specs.Histories.{own_list, BirthsRise, AreWrittenBy, StandsBeside, StandsAmong}
+use Rattle.simulation.proofs.Common.{◌≡◌, ℕ, ◌+◌, ◌-◌, ◌<◌, ◌≤◌, true, false, if◌then◌else◌, All, List, [], ◌∷◌, ◌++◌, length, map, inl, inr, refl, sym, ap, ◌∙◌, subst, arith, length-append, range_with_len, Contains, cases_lt, append_assoc, append-nil, get_or_past, length-map, All-nil, length-map-range_with_len, Entry, Mark, AreNextAfter, LEAST_KEYS, MOST_NODES, MOST_KEYS, Table, empty_table, entry_at, greatest_mark, with_own_write, with_own_writes, without_others, without_all, IsProper, entry_at-without_all, entry_at-without_others_own, greatest_mark-empty_table, greatest_mark-without_all, greatest_mark-without_others_own, proper-empty_table, proper-without_all, proper-without_others, OwnWrite, generation_upto, forgets_now, count_before, own_writes, writes_upto, written_upto, born_in, writes_before, generation_upto-same, generation_upto-next, next-own_writes, length-writes_before, writes_before-grown, writes_upto-grown, written_upto-grown, Settings, OwnerListView, all_writes, entries_of, no_writes, begun_generation, list_of_owner, write_of_entry, own_part-empty, KeepsOwn, KeepOwnParts, own_list, BirthsRise, AreWrittenBy, StandsBeside, StandsAmong, table_of_node, AreProper, HoldsOfEach, generation-written, table_of_node-made, still_table_of}
 use Rattle.simulation.specs.Rounds.{opening_tables}
 use Rattle.simulation.specs.calls.Simulation.{MayWriteAll}
 use Rattle.simulation.specs.Soundness.{AreSound}
 use Rattle.simulation.proofs.Written.{born_upto, births_rise, may_write_each}
 use Rattle.simulation.specs.calls.Standing.{IsOwnerOf, IsOwner, StandAfterRound}
 use Rattle.simulation.specs.inner.Steps.{MayWriteEach, HasWritten, HasRestarted}
-use Rattle.model.specs.Tables.{table_of_node, AreProper, HoldsOfEach}
-use Rattle.model.proofs.BeginLaws.{generation-written}
-use Rattle.model.proofs.Tables.{table_of_node-made, still_table_of}
 
 -- own writes leave whose table it is, and its bounds
 node-with_own_writes : (t : Table) (es : List Entry) → (with_own_writes t es).node ≡ t.node

@@ -1,30 +1,17 @@
 -- A step that carries out the next round.
 -- Serves `Sim::step` and `Playing`.
-use Rattle.std.proofs.Common.{◌≡◌, ℕ, ◌<◌, ◌≤◌, List, [], length, map, get_or, sym, ◌∙◌, arith, suc, ◌+◌, ◌-◌, false, Option, Some, refl, ap, subst}
-use Rattle.std.proofs.lemmas.List.{ext_get_or}
-use Rattle.std.proofs.lemmas.List.FromFn.{get_or-map-range_with_len, length-map-range_with_len}
-use Rattle.model.specs.Table.{Table}
-use Rattle.scenario.specs.Settings.{Settings, IsLawfulScenario}
-use Rattle.model.specs.calls.OwnerListView.{OwnerListView, no_writes, lists_in}
-use Rattle.model.specs.Writes.{write_of_entry}
-use Rattle.model.proofs.Owners.{length-lists_in, list_read}
-use Rattle.model.specs.Figures.{figures_of}
+use Rattle.simulation.proofs.Common.{◌≡◌, ℕ, ◌<◌, ◌≤◌, List, [], length, map, get_or, sym, ◌∙◌, arith, suc, ◌+◌, ◌-◌, false, Option, Some, refl, ap, subst, ext_get_or, get_or-map-range_with_len, length-map-range_with_len, Table, Settings, IsLawfulScenario, OwnerListView, no_writes, lists_in, write_of_entry, length-lists_in, list_read, figures_of, is_none, IfSome, Folded, Entry, Record, round_list_of}
 use Rattle.simulation.specs.Rounds.{tables_after, round_of, records_in}
 use Rattle.simulation.specs.Lists.{list_after, lists_after}
 use Rattle.simulation.specs.Outcomes.{figures_in}
 use Rattle.simulation.specs.calls.Outcomes.{played_with}
 use Rattle.simulation.specs.calls.Standing.{StandAfterRound}
-use Rattle.std.specs.Prelude.{is_none, IfSome}
 use Rattle.simulation.specs.declared.clusters.Cluster.{Cluster}
 use Rattle.simulation.specs.calls.RoundView.{RoundView}
-use Rattle.model.specs.Folds.{Folded}
-use Rattle.bench_types.specs.declared.entries.Entry.{Entry}
-use Rattle.bench_types.specs.declared.exchanges.Record.{Record}
 use Rattle.simulation.specs.Soundness.{AreSound, OnlyRestartsLowerMarks}
 use Rattle.simulation.specs.inner.Insides.{IsInside, IsAfterRound, HasPlayed, simulation_of, tables_held, lists_held}
 use Rattle.simulation.specs.inner.Plans.{IsDrawnAfter}
 use Rattle.simulation.specs.calls.Simulation.{PlaysNext}
-use Rattle.round_plan.specs.Plan.{round_list_of}
 use Rattle.simulation.proofs.Soundness.{sound_run, round_rises}
 
 -- the lists are those of the definition

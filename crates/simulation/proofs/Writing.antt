@@ -1,26 +1,6 @@
 -- How far a node's writes of a round have been made.
 -- Serves `write_own`.
-use Rattle.std.proofs.Common.{◌≡◌, ℕ, ◌+◌, ◌^◌, ◌<◌, ◌≤◌, List, [], ◌∷◌, ◌++◌, All, length, map, take, get_or, refl, sym, ap, ◌∙◌, subst, arith, length-append}
-use Rattle.std.proofs.lemmas.List.Sums.{fold-append}
-use Rattle.std.proofs.lemmas.List.Elements.{All-push}
-use Rattle.std.proofs.lemmas.List.{append_assoc, get_or-map, length-map, length-take-le, map-append, take_more}
-use Rattle.bench_types.specs.declared.entries.Entry.{Entry}
-use Rattle.bench_types.specs.Entry.{next_version}
-use Rattle.bench_types.specs.calls.Entry.{IsNextAfter, AreNextAfter}
-use Rattle.model.specs.Table.{Table, greatest_version, with_own_write, with_own_writes, IsProper}
-use Rattle.model.proofs.ProperLaws.{proper-with_own_write}
-use Rattle.model.proofs.BeginLaws.{counted_write}
-use Rattle.round_plan.specs.declared.owners.OwnWrite.{OwnWrite}
-use Rattle.round_plan.specs.calls.Writes.{born_in}
-use Rattle.model.specs.declared.writes.Write.{Write}
-use Rattle.model.specs.calls.OwnerListView.{OwnerListView, all_writes, written, next_entry, with_write, list_of_owner, ListBecomes}
-use Rattle.model.specs.Writes.{write_of_entry}
-use Rattle.model.specs.calls.Writes.{AreBornBy}
-use Rattle.model.specs.inner.Writes.{next_write}
-use Rattle.model.proofs.Owners.{written_more}
-use Rattle.model.specs.calls.OwnParts.{OwnPartIsLastWrites}
-use Rattle.model.proofs.OwnParts.{own_part-written}
-use Rattle.round_tables.specs.Histories.{own_list, StandsBeside, MayWrite, AddsWrite}
+use Rattle.simulation.proofs.Common.{◌≡◌, ℕ, ◌+◌, ◌^◌, ◌<◌, ◌≤◌, List, [], ◌∷◌, ◌++◌, All, length, map, take, get_or, refl, sym, ap, ◌∙◌, subst, arith, length-append, fold-append, All-push, append_assoc, get_or-map, length-map, length-take-le, map-append, take_more, Entry, next_version, IsNextAfter, AreNextAfter, Table, greatest_version, with_own_write, with_own_writes, IsProper, proper-with_own_write, counted_write, OwnWrite, born_in, Write, OwnerListView, all_writes, written, next_entry, with_write, list_of_owner, ListBecomes, write_of_entry, AreBornBy, next_write, written_more, OwnPartIsLastWrites, own_part-written, own_list, StandsBeside, MayWrite, AddsWrite}
 use Rattle.simulation.specs.inner.Steps.{MayWriteEach, OthersStay}
 
 -- these entries are written

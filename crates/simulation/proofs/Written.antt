@@ -1,16 +1,6 @@
 -- All writes of an owner up to a round: when they were born, and by which numbers they stand among those of the run.
 -- Serves `Best` and `Standing`.
-use Rattle.std.proofs.Common.{◌≡◌, ℕ, zero, suc, ◌+◌, ◌-◌, ◌<◌, ◌≤◌, All, List, [], ◌∷◌, ◌++◌, length, get_or, Some, inl, inr, refl, sym, ap, ◌∙◌, arith, append_assoc, length-append, add-one}
-use Rattle.std.proofs.Math.ListN.{get_or-append}
-use Rattle.std.proofs.lemmas.Bool.{cases_eq, cases_lt}
-use Rattle.std.proofs.lemmas.List.{append-nil, get_or-append_right}
-use Rattle.std.proofs.lemmas.List.Elements.{All-nil, All-append, All-weaker}
-use Rattle.bench_types.specs.declared.entries.Entry.{Entry}
-use Rattle.model.specs.calls.Numbers.{write_from, write_numbered}
-use Rattle.round_plan.specs.Writes.{count_before, own_writes, written_upto}
-use Rattle.round_plan.proofs.Growth.{born-own_writes, written_upto-grown}
-use Rattle.scenario.specs.Settings.{Settings}
-use Rattle.round_tables.specs.Histories.{BirthsRise}
+use Rattle.simulation.proofs.Common.{◌≡◌, ℕ, zero, suc, ◌+◌, ◌-◌, ◌<◌, ◌≤◌, All, List, [], ◌∷◌, ◌++◌, length, get_or, Some, inl, inr, refl, sym, ap, ◌∙◌, arith, append_assoc, length-append, add-one, get_or-append, cases_eq, cases_lt, append-nil, get_or-append_right, All-nil, All-append, All-weaker, Entry, write_from, write_numbered, count_before, own_writes, written_upto, born-own_writes, written_upto-grown, Settings, BirthsRise}
 use Rattle.simulation.specs.calls.Simulation.{MayWriteAll}
 use Rattle.simulation.specs.inner.Steps.{MayWriteEach}
 

@@ -1,15 +1,6 @@
 -- What copies count for in their owner's generation.
 -- Serves `staleness_of`.
-use Rattle.std.proofs.Common.{◌≡◌, ◌≢◌, ℕ, ◌+◌, ◌-◌, ◌<◌, ◌≤◌, Bool, cond, eqb, ltb, ◌&&◌, List, [], ◌∷◌, length, get_or, Option, Some, None, All, option_map, inl, inr, refl, sym, ap, ◌∙◌, arith, lt-ltb, le-ltb, eq-eqb, ne_eqb}
-use Rattle.std.specs.List.{find}
-use Rattle.std.proofs.lemmas.Bool.{cases_lt}
-use Rattle.std.proofs.lemmas.List.Elements.{All-head, All-tail}
-use Rattle.bench_types.specs.declared.entries.Entry.{Entry}
-use Rattle.bench_types.specs.Mark.{mark_held, is_before}
-use Rattle.model.specs.declared.writes.Write.{Write}
-use Rattle.model.specs.calls.Writes.{IsNumbered}
-use Rattle.owner_lists.specs.Missed.{is_missed, first_missed}
-use Rattle.model.specs.Figures.{staleness_of}
+use Rattle.staleness.proofs.Common.{◌≡◌, ◌≢◌, ℕ, ◌+◌, ◌-◌, ◌<◌, ◌≤◌, Bool, cond, eqb, ltb, ◌&&◌, List, [], ◌∷◌, length, get_or, Option, Some, None, All, option_map, inl, inr, refl, sym, ap, ◌∙◌, arith, lt-ltb, le-ltb, eq-eqb, ne_eqb, find, cases_lt, All-head, All-tail, Entry, mark_held, is_before, Write, IsNumbered, is_missed, first_missed, staleness_of}
 use Rattle.staleness.specs.inner.Totals.{version_known}
 
 -- tests that agree on each element find the same

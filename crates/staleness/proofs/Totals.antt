@@ -1,19 +1,6 @@
 -- The figures of several parts together.
 -- Serves `figures`, `figures_of_copy` and `joined_all`.
-use Rattle.std.proofs.Common.{◌≡◌, ℕ, ◌+◌, ◌*◌, ◌<◌, ◌≤◌, Bool, true, false, eqb, List, length, get_or, All, if◌then◌else◌, inl, inr, ap, ◌∙◌, subst, arith}
-use Rattle.std.specs.Prelude.{is_some}
-use Rattle.std.specs.List.{range_with_len}
-use Rattle.std.proofs.lemmas.Bool.{cases_lt}
-use Rattle.std.proofs.lemmas.List.FromFn.{length-range_with_len}
-use Rattle.std.proofs.lemmas.Slice.Zip.{AllZip-long}
-use Rattle.bench_types.proofs.EqualParts.{at_place}
-use Rattle.bench_types.proofs.Sums.{sums, greatest, sum_below-most, fold_below-same}
-use Rattle.bench_types.specs.declared.limits.TheConstants.{MOST_NODES, MOST_KEYS}
-use Rattle.bench_types.specs.declared.rows.Figures.{Figures}
-use Rattle.model.specs.Figures.{generation_at, is_left_over, staleness_at, node_figures, figures_of}
-use Rattle.model.specs.Table.{Table, entry_at}
-use Rattle.model.specs.Tables.{table_of_node}
-use Rattle.model.specs.declared.writes.Write.{Write}
+use Rattle.staleness.proofs.Common.{◌≡◌, ℕ, ◌+◌, ◌*◌, ◌<◌, ◌≤◌, Bool, true, false, eqb, List, length, get_or, All, if◌then◌else◌, inl, inr, ap, ◌∙◌, subst, arith, is_some, range_with_len, cases_lt, length-range_with_len, AllZip-long, at_place, sums, greatest, sum_below-most, fold_below-same, MOST_NODES, MOST_KEYS, Figures, generation_at, is_left_over, staleness_at, node_figures, figures_of, Table, entry_at, table_of_node, Write}
 use Rattle.staleness.specs.inner.Totals.{total_below, triple_figures, found_at, AreFew, IsCounted, AreCounted}
 
 -- as many triples as parts times those of each

@@ -1,16 +1,6 @@
 -- A collector that has taken stamps of distinct exchanges.
 -- Serves `in_list_order` and `Ordered`.
-use Rattle.std.proofs.Common.{◌≡◌, ◌≢◌, ℕ, zero, suc, ◌+◌, ◌<◌, ◌≤◌, List, [], ◌∷◌, ◌++◌, length, map, take, get_or, set, All, inl, inr, refl, sym, ap, ◌∙◌, subst, arith, add-one, replicate}
-use Rattle.std.specs.Prelude.{Option, Some, None, slice_get}
-use Rattle.std.proofs.lemmas.Bool.{cases_eq, cases_lt}
-use Rattle.std.proofs.lemmas.List.{length-set, length-replicate, length-map, map-append, take_more, take_all}
-use Rattle.std.proofs.lemmas.List.Elements.{All-nil, All-cons, All-head, All-tail, All-append, All-weaker}
-use Rattle.std.proofs.lemmas.Option.{slice_get_within}
-use Rattle.bench_types.specs.declared.exchanges.Record.{Record}
-use Rattle.collector.specs.declared.collectors.Stamped.{Stamped}
-use Rattle.collector.specs.Outcomes.{Outcomes, no_outcomes, with_outcome, IsMissing}
-use Rattle.board.specs.Weights.{only, times}
-use Rattle.board.proofs.Sums.{total-append, only-same, only-other, upto, upto-sum, upto-none, upto-one}
+use Rattle.workers.proofs.Common.{◌≡◌, ◌≢◌, ℕ, zero, suc, ◌+◌, ◌<◌, ◌≤◌, List, [], ◌∷◌, ◌++◌, length, map, take, get_or, set, All, inl, inr, refl, sym, ap, ◌∙◌, subst, arith, add-one, replicate, Option, Some, None, slice_get, cases_eq, cases_lt, length-set, length-replicate, length-map, map-append, take_more, take_all, All-nil, All-cons, All-head, All-tail, All-append, All-weaker, slice_get_within, Record, Stamped, Outcomes, no_outcomes, with_outcome, IsMissing, only, times, total-append, only-same, only-other, upto, upto-sum, upto-none, upto-one}
 use Rattle.workers.specs.inner.Gathering.{IsEachOnce, AreInListOrder}
 
 abbrev pub indices : List Stamped → List ℕ

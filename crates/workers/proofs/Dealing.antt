@@ -1,11 +1,6 @@
 -- Indices that are dealt to workers in turn.
 -- Serves `Tasks::deal`.
-use Rattle.std.proofs.Common.{◌≡◌, ℕ, ◌+◌, ◌%◌, ◌<◌, ◌≤◌, List, [], ◌∷◌, ◌++◌, length, map, get_or, set, inl, inr, refl, sym, ap, ◌∙◌, subst, arith}
-use Rattle.std.specs.Prelude.{Contains}
-use Rattle.std.proofs.Math.Nat.{mod-lt}
-use Rattle.std.proofs.lemmas.Bool.{cases_eq}
-use Rattle.std.proofs.lemmas.List.{get_or-map, get_or-set_other, get_or-set_same, length-map, length-set, map-set}
-use Rattle.std.proofs.lemmas.List.Elements.{Contains-append_left, Contains-append_right}
+use Rattle.workers.proofs.Common.{◌≡◌, ℕ, ◌+◌, ◌%◌, ◌<◌, ◌≤◌, List, [], ◌∷◌, ◌++◌, length, map, get_or, set, inl, inr, refl, sym, ap, ◌∙◌, subst, arith, Contains, mod-lt, cases_eq, get_or-map, get_or-set_other, get_or-set_same, length-map, length-set, map-set, Contains-append_left, Contains-append_right}
 use Rattle.workers.specs.declared.deques.Tasks.{Tasks}
 use Rattle.workers.specs.inner.Pushes.{AreDealt, pushed}
 

@@ -1,31 +1,6 @@
 -- A hold of a shop's board: its exchange may be carried out, and what that leaves is put back.
 -- Serves `Workshop::carry_out`.
-use Rattle.std.proofs.Common.{◌≡◌, ℕ, ◌<◌, List, length, Option, None, Some, IfSome, inl, inr, refl, sym, ap, ◌∙◌, subst, arith}
-use Rattle.bench_types.specs.declared.exchanges.Exchange.{Exchange}
-use Rattle.bench_types.specs.declared.exchanges.Record.{Record}
-use Rattle.bench_types.specs.declared.exchanges.Rules.{Rules}
-use Rattle.bench_types.specs.calls.Exchange.{IsPlanned}
-use Rattle.model.specs.Table.{Table}
-use Rattle.model.specs.RoundLists.{RoundListView}
-use Rattle.model.specs.calls.RoundLists.{IsRoundPlan}
-use Rattle.model.specs.Exchanged.{Exchanged, exchanged}
-use Rattle.model.specs.calls.Exchanging.{MayBeExchanged, MakesOf, IsKeptByExchanges}
-use Rattle.model.specs.Tables.{table_of_node}
-use Rattle.model.specs.calls.Tables.{IsCluster}
-use Rattle.model.proofs.FoldLaws.{before_tables, before_keeps_each}
-use Rattle.dependencies.specs.Sharing.{exchange_at, no_exchange}
-use Rattle.dependencies.specs.Neighbours.{as_list, successors}
-use Rattle.board.specs.Weights.{Has, times, only}
-use Rattle.board.specs.SeatView.{SeatView}
-use Rattle.board.specs.Plan.{BoardPlan, table_at, initiator_of, responder_of, exchanged_at}
-use Rattle.board.specs.Boards.{plan_of, IsHoldOf, MayPutBack, Among, IsPutBack}
-use Rattle.board.specs.Laws.{IsCarriedOut}
-use Rattle.board.specs.declared.boards.Freed.{Freed}
-use Rattle.board.specs.declared.boards.Hold.{Hold}
-use Rattle.board.proofs.Meeting.{may_be_exchanged}
-use Rattle.board.proofs.Returning.{may_be_put_back}
-use Rattle.board.proofs.Releases.{successor_within}
-use Rattle.board.proofs.Sums.{total-append, only-same}
+use Rattle.workers.proofs.Common.{◌≡◌, ℕ, ◌<◌, List, length, Option, None, Some, IfSome, inl, inr, refl, sym, ap, ◌∙◌, subst, arith, Exchange, Record, Rules, IsPlanned, Table, RoundListView, IsRoundPlan, Exchanged, exchanged, MayBeExchanged, MakesOf, IsKeptByExchanges, table_of_node, IsCluster, before_tables, before_keeps_each, exchange_at, no_exchange, as_list, successors, Has, times, only, SeatView, BoardPlan, table_at, initiator_of, responder_of, exchanged_at, plan_of, IsHoldOf, MayPutBack, Among, IsPutBack, IsCarriedOut, Freed, Hold, may_be_exchanged, may_be_put_back, successor_within, total-append, only-same}
 use Rattle.workers.specs.inner.Workshops.{IsWorkshop}
 use Rattle.workers.specs.inner.Returns.{AreOfList}
 use Rattle.workers.specs.declared.workers.Workshop.{Workshop}

@@ -1,17 +1,6 @@
 -- Seats and records of workers, taken in one after another.
 -- Serves `join_all`.
-use Rattle.std.proofs.Common.{◌≡◌, ℕ, ◌≤◌, ◌⊎◌, Bool, true, false, ◌||◌, if◌then◌else◌, List, ◌∷◌, ◌++◌, length, map, All, inl, inr, refl, sym, ap, ◌∙◌, subst, arith, Result, Ok, Err, IfOk, Vec}
-use Rattle.std.specs.Prelude.{nat_le}
-use Rattle.std.specs.declared.alloc.Global.{Global}
-use Rattle.std.proofs.lemmas.Bool.Decides.{nat_tests}
-use Rattle.std.proofs.lemmas.List.{map-append}
-use Rattle.std.proofs.lemmas.List.Elements.{All-append, All-head, All-tail}
-use Rattle.std.specs.declared.thread.PromisedHandle.{PromisedHandle}
-use Rattle.bench_types.specs.declared.faults.Fault.{Fault}
-use Rattle.board.specs.SeatView.{SeatView, joined}
-use Rattle.board.specs.Plan.{BoardPlan, exchanged_at}
-use Rattle.board.specs.declared.boards.Board.{Board}
-use Rattle.collector.specs.declared.collectors.Stamped.{Stamped}
+use Rattle.workers.proofs.Common.{◌≡◌, ℕ, ◌≤◌, ◌⊎◌, Bool, true, false, ◌||◌, if◌then◌else◌, List, ◌∷◌, ◌++◌, length, map, All, inl, inr, refl, sym, ap, ◌∙◌, subst, arith, Result, Ok, Err, IfOk, Vec, nat_le, Global, nat_tests, map-append, All-append, All-head, All-tail, PromisedHandle, Fault, SeatView, joined, BoardPlan, exchanged_at, Board, Stamped}
 use Rattle.workers.specs.inner.Returns.{AreRecordsOf, HasNoMoreToDo}
 use Rattle.workers.specs.inner.Joined.{IsOfBoard, AreTogether, IsJoined}
 use Rattle.workers.specs.declared.threads.Back.{Back}

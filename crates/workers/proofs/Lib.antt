@@ -6,3 +6,4 @@ pub mod Collecting
 pub mod Joining
 pub mod Ordered
 pub mod Dealing
+pub mod Common

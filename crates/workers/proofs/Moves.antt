@@ -1,9 +1,6 @@
 -- A push of an index below the limit keeps the rule of a deque. What leaves at the front is below it, and so is what stays.
 -- Serves `Tasks::next`, `Tasks::push` and `Way::steal`.
-use Rattle.std.proofs.Common.{ℕ, List, [], ◌∷◌, ◌<◌, ◌++◌, length, refl, subst, arith}
-use lib.Seq.{take-append_seam, drop-append_seam}
-use Rattle.std.proofs.lemmas.List.Elements.{All-append, All-cons, All-take, All-drop}
-use Rattle.crossbeam_deque.specs.Tasks.{Pushes, Takes}
+use Rattle.workers.proofs.Common.{ℕ, List, [], ◌∷◌, ◌<◌, ◌++◌, length, refl, subst, arith, take-append_seam, drop-append_seam, All-append, All-cons, All-take, All-drop, Pushes, Takes}
 use Rattle.workers.specs.inner.Deques.{AllBelow, IsPushed, IsTaken}
 use Rattle.workers.specs.declared.push_logs.PushLog.{PushLog}
 

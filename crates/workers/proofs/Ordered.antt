@@ -1,27 +1,6 @@
 -- What a whole seat's records and tables come to.
 -- Serves `begin`, `end` and `exchange_in_threads`.
-use Rattle.std.proofs.Common.{◌≡◌, ℕ, ◌<◌, Bool, List, [], ◌∷◌, length, map, All, inl, inr, sym, ap, ◌∙◌, subst, arith}
-use Rattle.std.specs.Prelude.{Some, slice_get}
-use Rattle.std.specs.List.{range_with_len, filter}
-use Rattle.std.proofs.lemmas.List.{same_lists}
-use Rattle.std.proofs.lemmas.List.FromFn.{length-range_with_len, get_or-range_with_len}
-use Rattle.std.proofs.lemmas.List.Elements.{All-nil, All-cons, All-head, All-tail}
-use Rattle.std.proofs.lemmas.Option.{get_or_from_slice_get}
-use Rattle.std.proofs.lemmas.Bool.{cases_Bool}
-use Rattle.bench_types.specs.declared.exchanges.Exchange.{Exchange}
-use Rattle.bench_types.specs.declared.exchanges.Record.{Record}
-use Rattle.bench_types.specs.declared.exchanges.Rules.{Rules}
-use Rattle.model.specs.Table.{Table}
-use Rattle.model.specs.RoundLists.{RoundListView}
-use Rattle.model.specs.Folds.{fold_of}
-use Rattle.model.proofs.FoldLaws.{fold_counts_records}
-use Rattle.dependencies.specs.Neighbours.{is_first_ready, first_ready_of}
-use Rattle.dependencies.proofs.Moves.{record_kept}
-use Rattle.board.specs.SeatView.{SeatView}
-use Rattle.board.specs.Weights.{times}
-use Rattle.board.specs.Plan.{BoardPlan, exchanged_at}
-use Rattle.board.specs.Boards.{AreLeft, HasMadeAll, IsMadeOf}
-use Rattle.collector.specs.declared.collectors.Stamped.{Stamped}
+use Rattle.workers.proofs.Common.{◌≡◌, ℕ, ◌<◌, Bool, List, [], ◌∷◌, length, map, All, inl, inr, sym, ap, ◌∙◌, subst, arith, Some, slice_get, range_with_len, filter, same_lists, length-range_with_len, get_or-range_with_len, All-nil, All-cons, All-head, All-tail, get_or_from_slice_get, cases_Bool, Exchange, Record, Rules, Table, RoundListView, fold_of, fold_counts_records, is_first_ready, first_ready_of, record_kept, SeatView, times, BoardPlan, exchanged_at, AreLeft, HasMadeAll, IsMadeOf, Stamped}
 use Rattle.workers.specs.Carrying.{MayCarryOut}
 use Rattle.workers.specs.inner.Deques.{AllBelow}
 use Rattle.workers.specs.inner.Returns.{AreRecordsOf}

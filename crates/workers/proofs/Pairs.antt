@@ -1,15 +1,6 @@
 -- An exchange of two tables of a list that is split between them.
 -- Serves `exchange_pair`.
-use Rattle.std.proofs.Common.{◌≡◌, ◌≢◌, ℕ, zero, suc, ◌+◌, ◌-◌, ◌<◌, List, [], ◌∷◌, ◌++◌, length, map, get_or, set, refl, sym, ap, ◌∙◌, subst, arith}
-use Rattle.std.proofs.lemmas.List.{set-append_left, set-append_right, get_or_append_left, get_or-append-add, length-set, length-map, map-set, map-append}
-use Rattle.bench_types.specs.declared.exchanges.Exchange.{Exchange}
-use Rattle.bench_types.specs.declared.exchanges.Record.{Record}
-use Rattle.bench_types.specs.declared.exchanges.Rules.{Rules}
-use Rattle.model.specs.Table.{Table, empty_table}
-use Rattle.model.specs.Exchanged.{Exchanged, exchanged}
-use Rattle.model.specs.calls.Exchanging.{MayBeExchanged}
-use Rattle.model.specs.Tables.{table_of_node, IsTableOf, AreTablesInOrder, HoldsOfEach}
-use Rattle.model.specs.Folds.{Folded, exchange_in}
+use Rattle.workers.proofs.Common.{◌≡◌, ◌≢◌, ℕ, zero, suc, ◌+◌, ◌-◌, ◌<◌, List, [], ◌∷◌, ◌++◌, length, map, get_or, set, refl, sym, ap, ◌∙◌, subst, arith, set-append_left, set-append_right, get_or_append_left, get_or-append-add, length-set, length-map, map-set, map-append, Exchange, Record, Rules, Table, empty_table, Exchanged, exchanged, MayBeExchanged, table_of_node, IsTableOf, AreTablesInOrder, HoldsOfEach, Folded, exchange_in}
 
 -- to write on both sides of a split is to write twice
 set_both : {X : Type 0} (a b : List X) (m p : ℕ) (x y : X) → length a ≡ m → p < m → set a p x ++ set b 0 y ≡ set (set (a ++ b) p x) m y

@@ -1,16 +1,6 @@
 -- How far the exchanges of a round have been carried out.
 -- Serves `exchange_all`.
-use Rattle.std.proofs.Common.{◌≡◌, ℕ, ◌+◌, ◌<◌, List, [], ◌∷◌, ◌++◌, length, take, get_or, All, refl, ap, ◌∙◌, subst, length-append}
-use Rattle.std.proofs.lemmas.List.Sums.{fold_more}
-use Rattle.bench_types.specs.calls.Exchange.{IsPlanned}
-use Rattle.bench_types.specs.declared.exchanges.Exchange.{Exchange}
-use Rattle.bench_types.specs.declared.exchanges.Record.{Record}
-use Rattle.bench_types.specs.declared.exchanges.Rules.{Rules}
-use Rattle.model.specs.Table.{Table}
-use Rattle.model.specs.Tables.{AreTablesInOrder}
-use Rattle.model.specs.inner.Owns.{KeepOwnParts}
-use Rattle.model.specs.Folds.{Folded, exchange_in, fold_of}
-use Rattle.model.proofs.FoldLaws.{before_tables, before_keeps_own}
+use Rattle.workers.proofs.Common.{◌≡◌, ℕ, ◌+◌, ◌<◌, List, [], ◌∷◌, ◌++◌, length, take, get_or, All, refl, ap, ◌∙◌, subst, length-append, fold_more, IsPlanned, Exchange, Record, Rules, Table, AreTablesInOrder, KeepOwnParts, Folded, exchange_in, fold_of, before_tables, before_keeps_own}
 
 pub record IsTurned (rules : Rules) (es : List Exchange) (old new : List Table) (records : List Record) (i : ℕ) : Type 0 where
   pub folded : fold_of rules old (take i es) ≡ record { tables = new; records = records }

@@ -1,9 +1,4 @@
-use Rattle.std.proofs.Common.{arith, ap, sym, ◌∙◌, ◌∷◌, ◌++◌, [], ◌≡◌, ◌<◌, length, vec_capacity, take, set, get_or, get_or-set_same, get_or-set_other, false, inl, inr, ℕ, suc, ◌+◌}
-use Rattle.std.proofs.lemmas.Bool.{cases_eq}
-use Rattle.std.specs.Mem.Slots.{slots_filled, slots_counts}
-use Rattle.std.proofs.lemmas.List.{length_push}
-use Rattle.std.proofs.lemmas.Option.{same_Some}
-use lib.ListN.{get_elem?}
+use Rattle.board.proofs.Common.{arith, ap, sym, ◌∙◌, ◌∷◌, ◌++◌, [], ◌≡◌, ◌<◌, length, vec_capacity, take, set, get_or, get_or-set_same, get_or-set_other, false, inl, inr, ℕ, suc, ◌+◌, cases_eq, slots_filled, slots_counts, length_push, same_Some, get_elem?}
 use Rattle.board.proofs.Filling.{taken_next}
 use Rattle.board.proofs.boards.all_out.Goals as goal
 use Rattle.board.proofs.boards.all_out.Goals.{in-Some, in_default}

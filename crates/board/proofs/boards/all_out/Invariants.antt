@@ -1,7 +1,4 @@
-use Rattle.std.proofs.Common.{List, ◌≡◌, ◌<◌, ◌≤◌, ℕ, length, map, take, get_or, false, vec_capacity}
-use Rattle.std.specs.Mem.Slots.{slots_items, slots_filled, slots_len}
-use Rattle.std.specs.Mem.Slots.Ownership.{Filled}
-use Rattle.dependencies.specs.inner.Slots.{in_place}
+use Rattle.board.proofs.Common.{List, ◌≡◌, ◌<◌, ◌≤◌, ℕ, length, map, take, get_or, false, vec_capacity, slots_items, slots_filled, slots_len, Filled, in_place}
 use Rattle.board.proofs.boards.all_out.Given as goal
 
 abbrev pub invariant-loop-i : goal.invariant-loop-i

@@ -1,6 +1,4 @@
-use Rattle.std.proofs.Common.{arith, ap, sym, ◌∙◌, ◌∷◌, ◌++◌, []}
-use Rattle.std.proofs.lemmas.List.FromFn.{map-range_with_len_more}
-use Rattle.dependencies.specs.Neighbours.{pending_of}
+use Rattle.board.proofs.Common.{arith, ap, sym, ◌∙◌, ◌∷◌, ◌++◌, [], map-range_with_len_more, pending_of}
 use Rattle.board.proofs.boards.first_words.Goals as goal
 
 pub loop-i-preserved : goal.loop-i-preserved

@@ -1,6 +1,4 @@
-use Rattle.std.proofs.Common.{◌≡◌, ◌∷◌, map}
-use Rattle.std.specs.List.{range_with_len}
-use Rattle.dependencies.specs.Neighbours.{pending_of}
+use Rattle.board.proofs.Common.{◌≡◌, ◌∷◌, map, range_with_len, pending_of}
 use Rattle.board.proofs.boards.first_words.Given as goal
 
 abbrev pub invariant-loop-i : goal.invariant-loop-i

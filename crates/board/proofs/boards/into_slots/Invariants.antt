@@ -1,5 +1,4 @@
-use Rattle.std.proofs.Common.{◌≡◌, ◌+◌, ◌++◌, length, map, reverse, vec_capacity}
-use Rattle.dependencies.specs.inner.Slots.{in_place}
+use Rattle.board.proofs.Common.{◌≡◌, ◌+◌, ◌++◌, length, map, reverse, vec_capacity, in_place}
 use Rattle.board.proofs.boards.into_slots.Given as goal
 
 abbrev pub invariant-loop : goal.invariant-loop

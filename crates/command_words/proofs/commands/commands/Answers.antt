@@ -1,6 +1,4 @@
-use Rattle.std.proofs.Common.{ap, refl, ◌∙◌}
-use Rattle.std.proofs.lemmas.Result.{IfOk-weaker}
-use Rattle.clap.specs.Words.{with_subcommand}
+use Rattle.command_words.proofs.Common.{ap, refl, ◌∙◌, IfOk-weaker, with_subcommand}
 use Rattle.command_words.specs.Program.{check_command, compare_command, program, run_command}
 use Rattle.command_words.proofs.Additions.{subcommand_added}
 use Rattle.command_words.proofs.commands.commands.Goals as goal

@@ -1,7 +1,4 @@
-use Rattle.std.proofs.Common.{ap, refl, ◌∙◌, ◌≡◌, codes}
-use Rattle.std.proofs.lemmas.Result.{IfOk-weaker}
-use Rattle.clap.specs.Simple.{app_of_fields}
-use Rattle.clap.specs.Words.{App, app_of, new_app, with_rule}
+use Rattle.command_words.proofs.Common.{ap, refl, ◌∙◌, ◌≡◌, codes, IfOk-weaker, app_of_fields, App, app_of, new_app, with_rule}
 use Rattle.command_words.specs.Program.{workers_option}
 use Rattle.command_words.proofs.Additions.{arg_added}
 use Rattle.command_words.proofs.commands.compare.Goals as goal

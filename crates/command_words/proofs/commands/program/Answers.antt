@@ -1,6 +1,4 @@
-use Rattle.std.proofs.Common.{ap, ◌∙◌, ◌≡◌, codes, true}
-use Rattle.clap.specs.Simple.{app_of_fields, on_top}
-use Rattle.clap.specs.Words.{app_of, new_app}
+use Rattle.command_words.proofs.Common.{ap, ◌∙◌, ◌≡◌, codes, true, app_of_fields, on_top, app_of, new_app}
 use Rattle.command_words.proofs.commands.program.Goals as goal
 
 pub returns : goal.returns

@@ -1,6 +1,4 @@
-use Rattle.std.proofs.Common.{ap, ◌∙◌, ◌≡◌, codes, Option, Some, [], ◌∷◌, pos}
-use Rattle.clap.specs.Words.{Rule, new_rule, rule_of}
-use Rattle.clap.specs.declared.builder.value_parser.ValueParser.{ValueParser}
+use Rattle.command_words.proofs.Common.{ap, ◌∙◌, ◌≡◌, codes, Option, Some, [], ◌∷◌, pos, Rule, new_rule, rule_of, ValueParser}
 use Rattle.clap.specs.declared.builder.value_parser.ValueParser.TheVariants as is_value
 use Rattle.command_words.proofs.commands.workers.Goals as goal
 

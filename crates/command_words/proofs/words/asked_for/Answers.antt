@@ -1,6 +1,4 @@
-use Rattle.std.proofs.Common.{◌≡◌, codes, sym, ◌∙◌}
-use Rattle.clap.specs.Words.{found_of}
-use Rattle.clap.proofs.WalkLemmas.{first_value-rows}
+use Rattle.command_words.proofs.Common.{◌≡◌, codes, sym, ◌∙◌, found_of, first_value-rows}
 use Rattle.command_words.proofs.Reading.{command_met, asks_for_none}
 use Rattle.command_words.proofs.words.asked_for.Goals as goal
 

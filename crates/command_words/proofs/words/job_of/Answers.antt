@@ -1,4 +1,4 @@
-use Rattle.clap.specs.Words.{kind_of}
+use Rattle.command_words.proofs.Common.{kind_of}
 use Rattle.command_words.proofs.Faults.{no_job}
 use Rattle.command_words.proofs.words.job_of.Goals as goal
 

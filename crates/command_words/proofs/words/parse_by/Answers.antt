@@ -1,6 +1,4 @@
-use Rattle.std.proofs.Common.{map, inr, Ok, Err}
-use Rattle.clap.specs.Words.{app_of}
-use Rattle.clap.specs.declared.parser.matches.ArgMatches.{ArgMatches}
+use Rattle.command_words.proofs.Common.{map, inr, Ok, Err, app_of, ArgMatches}
 use Rattle.command_words.proofs.Faults.{command_is, faults_are, handed_on}
 use Rattle.command_words.proofs.words.parse_by.Goals as goal
 

@@ -1,5 +1,4 @@
-use Rattle.std.proofs.Common.{refl}
-use Rattle.clap.specs.Words.{found_of, rows_of}
+use Rattle.command_words.proofs.Common.{refl, found_of, rows_of}
 use Rattle.command_words.proofs.Reading.{other_number, workers_read}
 use Rattle.command_words.proofs.words.workers_of.Goals as goal
 

@@ -1,5 +1,4 @@
-use Rattle.std.proofs.Common.{None, ap, ◌∙◌, arith}
-use Rattle.std.proofs.lemmas.List.{get_or_read}
+use Rattle.dependencies.proofs.Common.{None, ap, ◌∙◌, arith, get_or_read}
 use Rattle.dependencies.specs.Sharing.{exchange_at, no_exchange}
 use Rattle.dependencies.specs.Neighbours.{unless_same}
 use Rattle.dependencies.proofs.Passes.{forward_more}

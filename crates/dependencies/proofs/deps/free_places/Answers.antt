@@ -1,5 +1,4 @@
-use Rattle.std.proofs.Common.{◌≡◌, ◌++◌, ◌<◌, None, length, ap, ◌∙◌, arith}
-use Rattle.std.specs.List.{range_with_len, filter}
+use Rattle.dependencies.proofs.Common.{◌≡◌, ◌++◌, ◌<◌, None, length, ap, ◌∙◌, arith, range_with_len, filter}
 use Rattle.dependencies.specs.declared.deps.Before.{Before}
 use Rattle.dependencies.specs.Neighbours.{as_list, predecessors_of, is_first_ready}
 use Rattle.dependencies.proofs.Passes.{free_kept, free_passed, length_each, each_at}

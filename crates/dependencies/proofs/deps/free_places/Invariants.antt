@@ -1,6 +1,4 @@
-use Rattle.std.proofs.Common.{◌≡◌, List, length, map}
-use Rattle.std.specs.List.{range_with_len, filter}
-use Rattle.bench_types.specs.declared.exchanges.Exchange.{Exchange}
+use Rattle.dependencies.proofs.Common.{◌≡◌, List, length, map, range_with_len, filter, Exchange}
 use Rattle.dependencies.specs.Neighbours.{predecessors_of, is_first_ready}
 use Rattle.dependencies.proofs.deps.free_places.Given as goal
 

@@ -1,6 +1,4 @@
-use Rattle.std.proofs.Common.{◌≡◌, ℕ, zero, suc, ◌<◌, ◌≤◌, true, not, List, length, ◌⊎◌, inl, inr, sym, subst, arith}
-use Rattle.std.proofs.lemmas.Bool.{cases_Bool, cases_eq, and_from, not_from_false}
-use Rattle.bench_types.specs.declared.exchanges.Exchange.{Exchange}
+use Rattle.dependencies.proofs.Common.{◌≡◌, ℕ, zero, suc, ◌<◌, ◌≤◌, true, not, List, length, ◌⊎◌, inl, inr, sym, subst, arith, cases_Bool, cases_eq, and_from, not_from_false, Exchange}
 use Rattle.dependencies.specs.declared.events.Event.{Event}
 use Rattle.dependencies.specs.Schedules.{is_started, is_finished}
 use Rattle.dependencies.specs.ListOrder.{CanGoOn}

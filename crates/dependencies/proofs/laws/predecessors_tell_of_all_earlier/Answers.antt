@@ -1,4 +1,4 @@
-use Rattle.std.proofs.Common.{◌≡◌, true}
+use Rattle.dependencies.proofs.Common.{◌≡◌, true}
 use Rattle.dependencies.specs.Schedules.{is_finished}
 use Rattle.dependencies.proofs.Predecessors.{predecessors_earlier, earlier_from_predecessors}
 use Rattle.dependencies.proofs.Histories.{history_of}

@@ -1,6 +1,4 @@
-use Rattle.std.proofs.Common.{◌≡◌, ◌+◌, length, set, get_or, sym, ap, subst, inl, inr, arith}
-use Rattle.std.proofs.Math.ListN.{drop_of_length-le}
-use Rattle.model.specs.inner.Items.{no_item}
+use Rattle.node_table.proofs.Common.{◌≡◌, ◌+◌, length, set, get_or, sym, ap, subst, inl, inr, arith, drop_of_length-le, no_item}
 use Rattle.node_table.specs.NodeTableView.{blocks_below}
 use Rattle.node_table.proofs.Room.{blocks-nil}
 use Rattle.node_table.proofs.Flags.{version_in, AreSet, set_none, set_one}

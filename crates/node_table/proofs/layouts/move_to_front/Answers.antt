@@ -1,8 +1,4 @@
-use Rattle.std.proofs.Common.{◌≡◌, ℕ, ◌+◌, ◌-◌, List, take, drop, ap, ◌∙◌, arith}
-use lib.Seq.{paste}
-use Rattle.std.proofs.lemmas.List.{take-take, length-drop}
-use Rattle.std.proofs.lemmas.List.Edits.{take-paste}
-use Rattle.bench_types.specs.declared.entries.Entry.{Entry}
+use Rattle.node_table.proofs.Common.{◌≡◌, ℕ, ◌+◌, ◌-◌, List, take, drop, ap, ◌∙◌, arith, paste, take-take, length-drop, take-paste, Entry}
 use Rattle.node_table.proofs.Laid.{len-le-keys}
 use Rattle.node_table.proofs.layouts.move_to_front.Goals as goal
 

@@ -1,8 +1,4 @@
-use Rattle.std.proofs.Common.{◌≡◌, ℕ, ◌+◌, ◌-◌, ◌<◌, List, ◌++◌, length, get_or, take, replicate, ap, ◌∙◌, arith}
-use Rattle.std.proofs.Math.Nat.{mul-le-mul_right, mul-le-mul_left}
-use Rattle.std.proofs.lemmas.List.{take_all, get_or_default}
-use Rattle.bench_types.specs.declared.entries.Entry.{Entry}
-use Rattle.bench_types.specs.declared.limits.TheConstants.{MOST_NODES}
+use Rattle.node_table.proofs.Common.{◌≡◌, ℕ, ◌+◌, ◌-◌, ◌<◌, List, ◌++◌, length, get_or, take, replicate, ap, ◌∙◌, arith, mul-le-mul_right, mul-le-mul_left, take_all, get_or_default, Entry, MOST_NODES}
 use Rattle.node_table.specs.declared.layouts.Row.{Row}
 use Rattle.node_table.proofs.Laid.{slots-le}
 use Rattle.node_table.proofs.Opened.{laid_open, renewed_open}

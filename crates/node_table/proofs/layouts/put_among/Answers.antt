@@ -1,6 +1,4 @@
-use Rattle.std.proofs.Common.{◌≡◌, ◌+◌, ◌-◌, take, drop, refl, sym, ◌∙◌, subst, arith, rules}
-use borrow.Rule.Slice.PartMut.{put_mid}
-use Rattle.std.proofs.lemmas.List.{take-take}
+use Rattle.node_table.proofs.Common.{◌≡◌, ◌+◌, ◌-◌, take, drop, refl, sym, ◌∙◌, subst, arith, rules, put_mid, take-take}
 use Rattle.node_table.specs.inner.Layouts.{entries_in_row, IsPut}
 use Rattle.node_table.proofs.Blocks.{take-block, take-outside, length-block}
 use Rattle.node_table.proofs.Laid.{len-le-keys}

@@ -1,4 +1,4 @@
-use Rattle.std.proofs.Common.{◌≡◌, ◌+◌, length, sym, subst, inl, inr, arith}
+use Rattle.node_table.proofs.Common.{◌≡◌, ◌+◌, length, sym, subst, inl, inr, arith}
 use Rattle.node_table.specs.declared.layouts.Row.{Row}
 use Rattle.node_table.proofs.Flags.{AreLeft, left_kept, left_cleared}
 use Rattle.node_table.proofs.layouts.unflag.Goals as goal

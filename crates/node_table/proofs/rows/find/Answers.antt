@@ -1,4 +1,4 @@
-use Rattle.std.proofs.Common.{sym}
+use Rattle.node_table.proofs.Common.{sym}
 use Rattle.node_table.proofs.InLayout.{entry_in-found, entry_in-absent}
 use Rattle.node_table.proofs.rows.find.Goals as goal
 

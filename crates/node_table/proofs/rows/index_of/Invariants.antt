@@ -1,5 +1,4 @@
-use Rattle.std.proofs.Common.{◌≢◌, ℕ, ◌<◌, get_or}
-use Rattle.bench_types.specs.declared.entries.Entry.{Entry}
+use Rattle.node_table.proofs.Common.{◌≢◌, ℕ, ◌<◌, get_or, Entry}
 use Rattle.node_table.proofs.rows.index_of.Given as goal
 
 abbrev pub invariant-loop-index : goal.invariant-loop-index

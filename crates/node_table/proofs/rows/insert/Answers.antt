@@ -1,5 +1,4 @@
-use Rattle.std.proofs.Common.{◌≡◌, ◌+◌, take, length, set, sym, ap, ◌∙◌, subst, arith}
-use Rattle.std.proofs.lemmas.List.{length-take-le, length-set}
+use Rattle.node_table.proofs.Common.{◌≡◌, ◌+◌, take, length, set, sym, ap, ◌∙◌, subst, arith, length-take-le, length-set}
 use Rattle.std.specs.List.{insert}
 use Rattle.node_table.specs.inner.Layouts.{IsPut}
 use Rattle.node_table.proofs.InRow.{room_for_key, put_at_rank}

@@ -1,8 +1,4 @@
-use Rattle.std.proofs.Common.{◌≡◌, ◌+◌, ◌<◌, not, length, get_or, set, sym, ap, subst, arith}
-use Rattle.std.proofs.lemmas.Bool.{eq-eqb, ne_eqb}
-use Rattle.std.proofs.lemmas.List.{get_or_default}
-use Rattle.std.proofs.lemmas.List.Filters.{FiltersInPlace, FiltersInPlace-more_set}
-use Rattle.bench_types.specs.declared.entries.Entry.{Entry}
+use Rattle.node_table.proofs.Common.{◌≡◌, ◌+◌, ◌<◌, not, length, get_or, set, sym, ap, subst, arith, eq-eqb, ne_eqb, get_or_default, FiltersInPlace, FiltersInPlace-more_set, Entry}
 use Rattle.node_table.specs.inner.Layouts.{has_other_key}
 use Rattle.node_table.proofs.InRow.{no_entry}
 use Rattle.node_table.proofs.Newest.{written_over}

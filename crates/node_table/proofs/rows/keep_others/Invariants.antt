@@ -1,4 +1,4 @@
-use Rattle.std.proofs.lemmas.List.Filters.{FiltersInPlace}
+use Rattle.node_table.proofs.Common.{FiltersInPlace}
 use Rattle.node_table.specs.inner.Layouts.{has_other_key}
 use Rattle.node_table.proofs.rows.keep_others.Given as goal
 

@@ -1,6 +1,4 @@
-use Rattle.std.proofs.Common.{◌≢◌, ◌-◌, All, take, ap, ◌∙◌, sym, subst, refl, arith}
-use Rattle.std.proofs.lemmas.List.{length-take-le}
-use Rattle.bench_types.specs.declared.entries.Entry.{Entry}
+use Rattle.node_table.proofs.Common.{◌≢◌, ◌-◌, All, take, ap, ◌∙◌, sym, subst, refl, arith, length-take-le, Entry}
 use Rattle.node_table.proofs.Blocks.{closed_up}
 use Rattle.node_table.proofs.InRow.{row_remove, absent_remove, put_over}
 use Rattle.node_table.proofs.rows.put_at_rank.Goals as goal

@@ -1,6 +1,4 @@
-use Rattle.std.proofs.Common.{◌≡◌, ◌-◌, ◌<◌, ◌≤◌, ℕ, List, ◌++◌, [], ◌∷◌, All, length, get_or, take, sym, ap, ◌∙◌, subst, arith}
-use Rattle.std.proofs.lemmas.List.{length-take-le, length-set, get_or-take, take_more_set}
-use Rattle.bench_types.specs.declared.entries.Entry.{Entry}
+use Rattle.node_table.proofs.Common.{◌≡◌, ◌-◌, ◌<◌, ◌≤◌, ℕ, List, ◌++◌, [], ◌∷◌, All, length, get_or, take, sym, ap, ◌∙◌, subst, arith, length-take-le, length-set, get_or-take, take_more_set, Entry}
 use Rattle.node_table.specs.inner.Layouts.{IsPut, IsRow}
 use Rattle.node_table.proofs.InRow.{no_entry}
 use Rattle.node_table.proofs.Newest.{lower_from_last, put_newest, newest_fits}

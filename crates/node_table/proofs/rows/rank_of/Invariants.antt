@@ -1,5 +1,4 @@
-use Rattle.std.proofs.Common.{ℕ, ◌<◌, ◌≤◌, length, get_or}
-use Rattle.bench_types.specs.declared.entries.Entry.{Entry}
+use Rattle.node_table.proofs.Common.{ℕ, ◌<◌, ◌≤◌, length, get_or, Entry}
 use Rattle.node_table.specs.Entries.{StandsBefore}
 use Rattle.node_table.proofs.rows.rank_of.Given as goal
 

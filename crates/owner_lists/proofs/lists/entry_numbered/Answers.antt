@@ -1,8 +1,4 @@
-use Rattle.std.proofs.Common.{◌≡◌, suc, Some, None, sym, ap, ◌∙◌, arith}
-use Rattle.std.specs.Option.{option_copied}
-use Rattle.std.specs.Slice.{IsGetResult}
-use Rattle.model.specs.calls.Numbers.{write_numbered}
-use Rattle.owner_writes.proofs.Numbered.{write_from-here, write_from-past}
+use Rattle.owner_lists.proofs.Common.{◌≡◌, suc, Some, None, sym, ap, ◌∙◌, arith, option_copied, IsGetResult, write_numbered, write_from-here, write_from-past}
 use Rattle.owner_lists.proofs.lists.entry_numbered.Goals as goal
 
 pub returns-in-Some : goal.returns-in-Some

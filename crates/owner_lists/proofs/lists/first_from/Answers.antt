@@ -1,6 +1,4 @@
-use Rattle.std.proofs.Common.{Some, get_or, sym, ◌∙◌}
-use Rattle.bench_types.specs.declared.entries.Entry.{Entry}
-use Rattle.model.specs.Writes.{write_of_entry}
+use Rattle.owner_lists.proofs.Common.{Some, get_or, sym, ◌∙◌, Entry, write_of_entry}
 use Rattle.owner_lists.proofs.Last.{first_here, first_later, first_nowhere}
 use Rattle.owner_lists.proofs.lists.first_from.Goals as goal
 

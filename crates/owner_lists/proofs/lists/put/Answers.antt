@@ -1,5 +1,4 @@
-use Rattle.std.proofs.Common.{◌≡◌, is_ok, if◌then◌else◌, sym, ap, ◌∙◌, subst}
-use Rattle.std.specs.List.{insert}
+use Rattle.owner_lists.proofs.Common.{◌≡◌, is_ok, if◌then◌else◌, sym, ap, ◌∙◌, subst, insert}
 use Rattle.owner_lists.specs.Latest.{keyed}
 use Rattle.owner_lists.specs.inner.Keys.{IsIndexOfKey, IsGapForKey}
 use Rattle.owner_lists.proofs.Rising.{put_at, put_gap}

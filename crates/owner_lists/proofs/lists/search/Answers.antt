@@ -1,6 +1,4 @@
-use Rattle.std.proofs.Common.{rules}
-use Rattle.std.proofs.lemmas.List.Sorted.{answers_always}
-use Rattle.model.specs.declared.writes.Write.{Write}
+use Rattle.owner_lists.proofs.Common.{rules, answers_always, Write}
 use Rattle.owner_lists.proofs.Rising.{searched}
 use Rattle.owner_lists.proofs.lists.search.Goals as goal
 

@@ -1,8 +1,4 @@
-use Rattle.std.proofs.Common.{◌≤◌, length, sym, ap, ◌∙◌, Some, rules, arith}
-use Rattle.std.proofs.lemmas.List.{get_or_default}
-use Rattle.std.proofs.lemmas.List.Sorted.{IsPartitionPoint-from_clause}
-use Rattle.bench_types.specs.Mark.{mark_of, is_before}
-use Rattle.bench_types.specs.declared.entries.Entry.{Entry}
+use Rattle.owner_lists.proofs.Common.{◌≤◌, length, sym, ap, ◌∙◌, Some, rules, arith, get_or_default, IsPartitionPoint-from_clause, mark_of, is_before, Entry}
 use Rattle.owner_lists.proofs.Marked.{same_mark, other_mark, parted, risen_here, risen_nowhere}
 use Rattle.owner_lists.proofs.lists.searched_entry.Goals as goal
 

@@ -1,5 +1,4 @@
-use Rattle.std.proofs.Common.{sym}
-use Rattle.model.specs.declared.writes.Write.{Write}
+use Rattle.owner_lists.proofs.Common.{sym, Write}
 use Rattle.owner_lists.proofs.Rising.{find-at, find-gap}
 use Rattle.owner_lists.proofs.lists.write_in.Goals as goal
 

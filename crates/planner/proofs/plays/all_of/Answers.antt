@@ -1,5 +1,4 @@
-use Rattle.std.proofs.Common.{◌∙◌, ap, sym, [], ◌∷◌, ◌++◌}
-use Rattle.std.specs.Vec.Iter.{into_iter_items}
+use Rattle.planner.proofs.Common.{◌∙◌, ap, sym, [], ◌∷◌, ◌++◌, into_iter_items}
 use Rattle.planner.proofs.Places.{left_more, standing_more, standing_same}
 use Rattle.planner.proofs.plays.all_of.Goals as goal
 

@@ -1,6 +1,4 @@
-use Rattle.std.proofs.Common.{◌≡◌, ◌++◌}
-use Rattle.std.specs.List.{filter_map}
-use Rattle.std.specs.Vec.Iter.{into_iter_items}
+use Rattle.planner.proofs.Common.{◌≡◌, ◌++◌, filter_map, into_iter_items}
 use Rattle.planner.specs.inner.Places.{itself}
 use Rattle.planner.proofs.plays.all_of.Given as goal
 

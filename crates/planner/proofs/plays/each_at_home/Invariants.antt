@@ -1,6 +1,4 @@
-use Rattle.std.proofs.Common.{◌≡◌, ◌++◌, map}
-use Rattle.std.specs.Vec.Iter.{into_iter_items}
-use Rattle.dependencies.specs.inner.Slots.{in_place}
+use Rattle.planner.proofs.Common.{◌≡◌, ◌++◌, map, into_iter_items, in_place}
 use Rattle.planner.proofs.plays.each_at_home.Given as goal
 
 abbrev pub invariant-loop-table : goal.invariant-loop-table

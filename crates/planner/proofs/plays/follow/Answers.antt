@@ -1,5 +1,4 @@
-use Rattle.std.proofs.Common.{sym, ap, subst, arith}
-use Rattle.dependencies.specs.declared.events.Event.{Event}
+use Rattle.planner.proofs.Common.{sym, ap, subst, arith, Event}
 use Rattle.planner.specs.Stages.{stage_in, runs}
 use Rattle.planner.specs.inner.Places.{ShowsEvent}
 use Rattle.planner.proofs.Standings.{begun_within, runs_begun}

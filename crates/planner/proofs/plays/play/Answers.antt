@@ -1,10 +1,4 @@
-use Rattle.std.proofs.Common.{take, subst, sym, arith}
-use Rattle.std.proofs.lemmas.List.{take_all}
-use Rattle.std.proofs.lemmas.Result.{err_from_is_err_and, IfOk-weaker}
-use Rattle.dependencies.specs.declared.events.Event.{Event}
-use Rattle.dependencies.specs.declared.events.Event.TheVariants.{Start}
-use Rattle.dependencies.specs.Schedules.{IsLawful, AreFinished}
-use Rattle.node_table.specs.NodeTableView.{tables_in}
+use Rattle.planner.proofs.Common.{take, subst, sym, arith, take_all, err_from_is_err_and, IfOk-weaker, Event, Start, IsLawful, AreFinished, tables_in}
 use Rattle.planner.specs.inner.Places.{StandIn}
 use Rattle.planner.specs.Plays.{ArePlayed}
 use Rattle.planner.proofs.Playing.{IsSoFar, so_far_none, so_far_in_place, so_far_more, event_refused, played}

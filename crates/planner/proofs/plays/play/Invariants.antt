@@ -1,5 +1,4 @@
-use Rattle.std.proofs.Common.{take}
-use Rattle.node_table.specs.NodeTableView.{tables_in}
+use Rattle.planner.proofs.Common.{take, tables_in}
 use Rattle.planner.proofs.Playing.{IsSoFar}
 use Rattle.planner.proofs.plays.play.Given as goal
 

@@ -1,6 +1,4 @@
-use Rattle.std.proofs.Common.{◌<◌, ◌∙◌, subst, sym, arith}
-use Rattle.bench_types.specs.calls.Exchange.{IsPlanned}
-use Rattle.dependencies.specs.Sharing.{exchange_at, no_exchange}
+use Rattle.planner.proofs.Common.{◌<◌, ◌∙◌, subst, sym, arith, IsPlanned, exchange_at, no_exchange}
 use Rattle.planner.proofs.Places.{come_back, taken_there, met}
 use Rattle.planner.proofs.plays.put_back.Goals as goal
 

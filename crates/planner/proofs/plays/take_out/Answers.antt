@@ -1,6 +1,4 @@
-use Rattle.std.proofs.Common.{set, subst, sym, arith}
-use Rattle.bench_types.specs.calls.Exchange.{IsPlanned}
-use Rattle.dependencies.specs.Sharing.{exchange_at, no_exchange}
+use Rattle.planner.proofs.Common.{set, subst, sym, arith, IsPlanned, exchange_at, no_exchange}
 use Rattle.planner.proofs.Places.{taken_out, read_through}
 use Rattle.planner.proofs.plays.take_out.Goals as goal
 

@@ -1,4 +1,4 @@
-use Rattle.std.proofs.Common.{◌≡◌, replicate}
+use Rattle.planner.proofs.Common.{◌≡◌, replicate}
 use Rattle.planner.specs.declared.schedules.Stage.TheVariants.{Waiting}
 use Rattle.planner.proofs.schedules.all_waiting.Given as goal
 

@@ -1,5 +1,4 @@
-use Rattle.std.proofs.Common.{◌+◌, ap, sym, ◌∙◌, subst}
-use Rattle.bench_types.specs.Mark.{absent}
+use Rattle.reconcile.proofs.Common.{◌+◌, ap, sym, ◌∙◌, subst, absent}
 use Rattle.reconcile.specs.inner.Newer.{AreCandidates}
 use Rattle.reconcile.proofs.Newer.{row-keys, newer-row, candidates-own, candidates-more}
 use Rattle.reconcile.proofs.candidates.candidates.Goals as goal

@@ -1,6 +1,4 @@
-use Rattle.std.proofs.Common.{[], ◌∷◌, take, get_or, sym, subst}
-use Rattle.std.proofs.lemmas.List.{take_more}
-use Rattle.model.specs.inner.Items.{no_item}
+use Rattle.reconcile.proofs.Common.{[], ◌∷◌, take, get_or, sym, subst, take_more, no_item}
 use Rattle.reconcile.specs.inner.Parcels.{AddsFitting}
 use Rattle.reconcile.proofs.Adding.{adds-append}
 use Rattle.reconcile.proofs.candidates.first_items.Goals as goal

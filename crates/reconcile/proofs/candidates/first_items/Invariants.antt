@@ -1,4 +1,4 @@
-use Rattle.std.proofs.Common.{take}
+use Rattle.reconcile.proofs.Common.{take}
 use Rattle.reconcile.specs.inner.Parcels.{AddsFitting}
 use Rattle.reconcile.proofs.candidates.first_items.Given as goal
 

@@ -1,15 +1,4 @@
-use Rattle.std.proofs.Common.{rules, ◌≡◌, ◌-◌, ◌<◌, ◌≤◌, ◌^◌, length, sym, ap, ◌∙◌, subst, arith}
-use Rattle.std.specs.Ordering.{is_lt}
-use Rattle.std.specs.List.Sorted.{IsSorted}
-use Rattle.std.proofs.lemmas.Fn.{always_returns_same}
-use Rattle.std.proofs.lemmas.List.Sorted.{length_permutation, ranks_by}
-use Rattle.bench_types.specs.declared.entries.Item.{Item}
-use Rattle.bench_types.specs.Budget.{amount_of}
-use Rattle.model.specs.Deltas.{item_share}
-use Rattle.model.specs.calls.DeltaLaws.{AreWithin}
-use Rattle.model.specs.Order.{sending_order}
-use Rattle.model.proofs.Levels.{sending_total}
-use Rattle.model.proofs.Fitting.{length-fitting-le, sum-fitting}
+use Rattle.reconcile.proofs.Common.{rules, ◌≡◌, ◌-◌, ◌<◌, ◌≤◌, ◌^◌, length, sym, ap, ◌∙◌, subst, arith, is_lt, IsSorted, always_returns_same, length_permutation, ranks_by, Item, amount_of, item_share, AreWithin, sending_order, sending_total, length-fitting-le, sum-fitting}
 use Rattle.reconcile.specs.inner.Parcels.{first_within}
 use Rattle.reconcile.proofs.Answering.{few-found, answer-found}
 use Rattle.reconcile.proofs.candidates.precise_delta.Goals as goal

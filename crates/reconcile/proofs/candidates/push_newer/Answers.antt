@@ -1,7 +1,4 @@
-use Rattle.std.proofs.Common.{◌≡◌, [], ◌∷◌, ◌++◌, true, false, get_or, sym, ap, ◌∙◌}
-use Rattle.std.proofs.lemmas.List.{append-nil}
-use Rattle.bench_types.specs.declared.entries.Entry.{Entry}
-use Rattle.bench_types.specs.Mark.{mark_of, is_before}
+use Rattle.reconcile.proofs.Common.{◌≡◌, [], ◌∷◌, ◌++◌, true, false, get_or, sym, ap, ◌∙◌, append-nil, Entry, mark_of, is_before}
 use Rattle.reconcile.specs.Digests.{told_mark_at}
 use Rattle.reconcile.specs.inner.Newer.{item_with}
 use Rattle.reconcile.proofs.Newer.{newer_items-more}

@@ -1,4 +1,4 @@
-use Rattle.std.proofs.Common.{◌≡◌, ◌++◌, take}
+use Rattle.reconcile.proofs.Common.{◌≡◌, ◌++◌, take}
 use Rattle.reconcile.specs.inner.Newer.{newer_items}
 use Rattle.reconcile.proofs.candidates.push_newer.Given as goal
 

@@ -1,5 +1,4 @@
-use Rattle.std.proofs.Common.{get_or, refl, sym, ◌∙◌, subst}
-use Rattle.node_table.specs.Entries.{AreGenerations}
+use Rattle.reconcile.proofs.Common.{get_or, refl, sym, ◌∙◌, subst, AreGenerations}
 use Rattle.reconcile.specs.Digests.{mark_with, version_index}
 use Rattle.reconcile.proofs.Dense.{marks_there}
 use Rattle.reconcile.proofs.digests.each_of_table.Goals as goal

@@ -1,5 +1,4 @@
-use Rattle.std.proofs.Common.{◌+◌, length, sym, ap, ◌∙◌, rules, subst}
-use Rattle.std.proofs.lemmas.List.{take_at}
+use Rattle.reconcile.proofs.Common.{◌+◌, length, sym, ap, ◌∙◌, rules, subst, take_at}
 use Rattle.reconcile.specs.inner.Inside.{with_row}
 use Rattle.reconcile.proofs.Dense.{AreFilled, row-fits, filled-more, length-with_row}
 use Rattle.reconcile.proofs.digests.each_version.Goals as goal

@@ -1,9 +1,4 @@
-use Rattle.std.proofs.Common.{◌≡◌, ℕ, suc, ◌+◌, ◌<◌, Bool, cond, List, [], ◌∷◌, length, get_or, refl, sym, ap, ◌∙◌, arith, ltb, rules, subst, tests}
-use Rattle.std.specs.Prelude.{count_by}
-use Rattle.std.specs.List.{range_with_len}
-use Rattle.std.proofs.lemmas.List.Sums.{sum_by-cons}
-use Rattle.model.specs.Table.{greatest_version}
-use Rattle.node_table.specs.Entries.{AreGenerations, AreGreatest}
+use Rattle.reconcile.proofs.Common.{◌≡◌, ℕ, suc, ◌+◌, ◌<◌, Bool, cond, List, [], ◌∷◌, length, get_or, refl, sym, ap, ◌∙◌, arith, ltb, rules, subst, tests, count_by, range_with_len, sum_by-cons, greatest_version, AreGenerations, AreGreatest}
 use Rattle.reconcile.proofs.digests.greatest_of_table.Goals as goal
 
 -- A count over a list is the count over its indices.

@@ -1,5 +1,4 @@
-use Rattle.std.proofs.Common.{◌≡◌, ◌+◌, ◌<◌, drop, length, All}
-use Rattle.bench_types.specs.declared.entries.Entry.{Entry}
+use Rattle.reconcile.proofs.Common.{◌≡◌, ◌+◌, ◌<◌, drop, length, All, Entry}
 use Rattle.reconcile.specs.inner.Inside.{with_row}
 use Rattle.reconcile.proofs.digests.set_row.Given as goal
 

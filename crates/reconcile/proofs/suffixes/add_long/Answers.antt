@@ -1,6 +1,4 @@
-use Rattle.std.proofs.Common.{◌≡◌, [], length, take, get_or, cond, sym, ap, subst, arith}
-use Rattle.std.specs.List.{flat_map}
-use Rattle.std.proofs.lemmas.Bool.{eq-eqb, ne_eqb}
+use Rattle.reconcile.proofs.Common.{◌≡◌, [], length, take, get_or, cond, sym, ap, subst, arith, flat_map, eq-eqb, ne_eqb}
 use Rattle.reconcile.specs.inner.Parcels.{AddsFitting}
 use Rattle.reconcile.specs.inner.Suffixes.{suffix_items, of_length}
 use Rattle.reconcile.proofs.Adding.{adds-none, adds-append}

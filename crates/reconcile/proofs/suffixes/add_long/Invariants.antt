@@ -1,4 +1,4 @@
-use Rattle.std.proofs.Common.{take}
+use Rattle.reconcile.proofs.Common.{take}
 use Rattle.reconcile.specs.inner.Suffixes.{of_length, AddsLayer}
 use Rattle.reconcile.proofs.suffixes.add_long.Given as goal
 

@@ -1,5 +1,4 @@
-use Rattle.std.proofs.Common.{map, take, get_or, subst}
-use Rattle.std.specs.List.{flat_map}
+use Rattle.reconcile.proofs.Common.{map, take, get_or, subst, flat_map}
 use Rattle.reconcile.specs.inner.Newer.{item_with}
 use Rattle.reconcile.specs.inner.Parcels.{AddsFitting}
 use Rattle.reconcile.specs.inner.Suffixes.{ranked}

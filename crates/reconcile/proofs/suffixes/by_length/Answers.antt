@@ -1,8 +1,4 @@
-use Rattle.std.proofs.Common.{◌≡◌, ◌+◌, ◌-◌, ◌<◌, ◌≤◌, All, ap, sym, ◌∙◌, subst, arith}
-use Rattle.std.specs.List.{flat_map}
-use Rattle.bench_types.specs.Budget.{amount_of}
-use Rattle.bench_types.specs.declared.entries.Item.{Item}
-use Rattle.model.specs.Deltas.{item_share}
+use Rattle.reconcile.proofs.Common.{◌≡◌, ◌+◌, ◌-◌, ◌<◌, ◌≤◌, All, ap, sym, ◌∙◌, subst, arith, flat_map, amount_of, Item, item_share}
 use Rattle.reconcile.specs.inner.Parcels.{first_within}
 use Rattle.reconcile.specs.inner.Suffixes.{items_of_suffixes, of_length, layer_of, layered, lengths_first, reversed}
 use Rattle.reconcile.proofs.Adding.{some_share, adds-under}

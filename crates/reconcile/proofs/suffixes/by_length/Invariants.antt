@@ -1,8 +1,5 @@
-use Rattle.std.proofs.Common.{◌≡◌}
-use Rattle.bench_types.specs.Budget.{amount_of}
-use Rattle.model.specs.Deltas.{item_share}
+use Rattle.reconcile.proofs.Common.{◌≡◌, amount_of, item_share, left_after}
 use Rattle.reconcile.specs.inner.Parcels.{first_within}
-use Rattle.model.specs.inner.Fitting.{left_after}
 use Rattle.reconcile.specs.inner.Suffixes.{items_of_suffixes, layered, lengths_first, reversed}
 use Rattle.reconcile.proofs.suffixes.by_length.Given as goal
 

@@ -1,11 +1,5 @@
-use Rattle.std.proofs.Common.{◌≡◌, ◌+◌, ◌-◌, ◌≤◌, ltb, length, All, ap, sym, ◌∙◌, subst, arith, rules}
-use Rattle.std.specs.Prelude.{filter}
-use Rattle.std.specs.List.{flat_map}
-use Rattle.std.proofs.lemmas.Fn.{filter_same}
-use Rattle.bench_types.specs.Budget.{amount_of}
-use Rattle.model.specs.Deltas.{item_share}
+use Rattle.reconcile.proofs.Common.{◌≡◌, ◌+◌, ◌-◌, ◌≤◌, ltb, length, All, ap, sym, ◌∙◌, subst, arith, rules, filter, flat_map, filter_same, amount_of, item_share, rank_among}
 use Rattle.reconcile.specs.inner.Parcels.{first_within}
-use Rattle.model.specs.Order.{rank_among}
 use Rattle.reconcile.specs.inner.Suffixes.{items_of_suffixes, AreSuffixes, ranked, layer_of, layered}
 use Rattle.reconcile.specs.declared.suffixes.Suffix.{Suffix}
 use Rattle.reconcile.proofs.Adding.{some_share, adds-under}

@@ -1,10 +1,5 @@
-use Rattle.std.proofs.Common.{◌≡◌, ℕ, ◌≤◌}
-use Rattle.std.specs.List.{flat_map}
-use Rattle.bench_types.specs.Budget.{amount_of}
-use Rattle.model.specs.Deltas.{item_share}
+use Rattle.reconcile.proofs.Common.{◌≡◌, ℕ, ◌≤◌, flat_map, amount_of, item_share, rank_among, left_after}
 use Rattle.reconcile.specs.inner.Parcels.{first_within}
-use Rattle.model.specs.Order.{rank_among}
-use Rattle.model.specs.inner.Fitting.{left_after}
 use Rattle.reconcile.specs.inner.Suffixes.{items_of_suffixes, AreSuffixes, ranked, layered}
 use Rattle.reconcile.proofs.suffixes.by_rank.Given as goal
 

@@ -1,4 +1,4 @@
-use Rattle.std.proofs.Common.{arith}
+use Rattle.reconcile.proofs.Common.{arith}
 use Rattle.reconcile.proofs.SuffixLayers.{no_suffix, length-suffix}
 use Rattle.reconcile.proofs.suffixes.count_of.Goals as goal
 

@@ -1,4 +1,4 @@
-use Rattle.std.proofs.Common.{◌≡◌, length, take}
+use Rattle.reconcile.proofs.Common.{◌≡◌, length, take}
 use Rattle.reconcile.specs.inner.Suffixes.{items_of_suffixes}
 use Rattle.reconcile.proofs.suffixes.count_of.Given as goal
 

@@ -1,4 +1,4 @@
-use Rattle.std.proofs.Common.{◌≡◌, ◌≢◌, ◌-◌, ◌⊎◌, ◌∙◌, ap, length, take, drop, get_or, inl, inr, arith, sym}
+use Rattle.reconcile.proofs.Common.{◌≡◌, ◌≢◌, ◌-◌, ◌⊎◌, ◌∙◌, ap, length, take, drop, get_or, inl, inr, arith, sym}
 use Rattle.reconcile.proofs.Ranked.{no_entry, ranked-beyond, ranked-tied, ranked-from}
 use Rattle.reconcile.proofs.suffixes.entries_ranked.Goals as goal
 use Rattle.reconcile.proofs.suffixes.entries_ranked.Goals.{Joined-else-rank-gt0, else-rank-gt0-via-then-rank-gt0+else-entries-rank, else-rank-gt0-via-else-rank-gt0}

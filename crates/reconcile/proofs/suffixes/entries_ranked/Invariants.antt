@@ -1,4 +1,4 @@
-use Rattle.std.proofs.Common.{◌≡◌, ℕ, ◌<◌, ◌≤◌, get_or}
+use Rattle.reconcile.proofs.Common.{◌≡◌, ℕ, ◌<◌, ◌≤◌, get_or}
 use Rattle.reconcile.proofs.Ranked.{no_entry}
 use Rattle.reconcile.proofs.suffixes.entries_ranked.Given as goal
 

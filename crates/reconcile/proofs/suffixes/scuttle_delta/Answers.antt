@@ -1,6 +1,4 @@
-use Rattle.std.proofs.Common.{◌≡◌, ◌<◌, ◌-◌, length, sym, ap, ◌∙◌, subst, arith}
-use Rattle.model.specs.calls.DeltaLaws.{AreWithin}
-use Rattle.model.specs.Order.{rank_among}
+use Rattle.reconcile.proofs.Common.{◌≡◌, ◌<◌, ◌-◌, length, sym, ap, ◌∙◌, subst, arith, AreWithin, rank_among}
 use Rattle.reconcile.specs.inner.Suffixes.{items_of_suffixes, AreSuffixes, AreLayered, lengths_first}
 use Rattle.reconcile.proofs.Answering.{few-turned, length-layered-le, within-layered, answer-turned}
 use Rattle.reconcile.proofs.Layers.{first_key}

@@ -1,8 +1,4 @@
-use Rattle.std.proofs.Common.{◌≡◌, ◌+◌, ◌<◌, get_or, refl, sym, ap, ◌∙◌, subst, arith, rules}
-use Rattle.std.proofs.lemmas.Bool.{eqb-true}
-use Rattle.bench_types.specs.declared.entries.Mark.{Mark}
-use Rattle.bench_types.specs.Mark.{IsUpTo}
-use Rattle.bench_types.proofs.Marks.{before-false}
+use Rattle.reconcile.proofs.Common.{◌≡◌, ◌+◌, ◌<◌, get_or, refl, sym, ap, ◌∙◌, subst, arith, rules, eqb-true, Mark, IsUpTo, before-false}
 use Rattle.reconcile.proofs.Found.{AreFound, none_there, told_alike, greatest_there, found-own, found-none, found-more}
 use Rattle.reconcile.proofs.suffixes.suffixes_above.Goals as goal
 use Rattle.reconcile.proofs.suffixes.suffixes_above.Goals.{then-owner-receiver+then-told-owner+in_ok-push, else-owner-receiver, else-owner-receiver-via-then-owner-receiver+else-told-owner, else-owner-receiver-via-else-owner-receiver}

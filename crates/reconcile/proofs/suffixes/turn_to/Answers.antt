@@ -1,5 +1,4 @@
-use Rattle.std.proofs.Common.{ltb, rules}
-use Rattle.std.proofs.lemmas.List.Sorted.{IsPartitionPoint-from_clause, IsPartitionedBy-ltb}
+use Rattle.reconcile.proofs.Common.{ltb, rules, IsPartitionPoint-from_clause, IsPartitionedBy-ltb}
 use Rattle.reconcile.specs.declared.suffixes.Suffix.{Suffix}
 use Rattle.reconcile.proofs.Turned.{rise-sorted, turned-at}
 use Rattle.reconcile.proofs.suffixes.turn_to.Goals as goal

@@ -1,7 +1,4 @@
-use Rattle.std.proofs.Common.{ap, ◌∙◌, rules, tests}
-use Rattle.std.specs.List.{list_any}
-use Rattle.std.proofs.lemmas.Iterator.{YieldsList-from_slice}
-use Rattle.std.proofs.lemmas.Iterator.Search.{any_from_yields_List}
+use Rattle.round_plan.proofs.Common.{ap, ◌∙◌, rules, tests, list_any, YieldsList-from_slice, any_from_yields_List}
 use Rattle.round_plan.specs.Outages.{forgets_now, forgets_in}
 use Rattle.round_plan.proofs.outages.forgets_now.Goals as goal
 

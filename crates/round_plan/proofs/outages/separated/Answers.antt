@@ -1,7 +1,4 @@
-use Rattle.std.proofs.Common.{◌≡◌, refl, sym, ap, subst, ◌∙◌, arith, length, get_or, [], true}
-use Rattle.std.specs.List.{list_any}
-use Rattle.std.proofs.lemmas.List.Recursion.{or_at, or_from_places}
-use Rattle.scenario.specs.declared.elements.Partition.{Partition}
+use Rattle.round_plan.proofs.Common.{◌≡◌, refl, sym, ap, subst, ◌∙◌, arith, length, get_or, [], true, list_any, or_at, or_from_places, Partition}
 use Rattle.round_plan.specs.Outages.{separates, separated}
 use Rattle.round_plan.proofs.outages.separated.Goals as goal
 

@@ -1,5 +1,4 @@
-use Rattle.std.proofs.Common.{◌≡◌, ℕ, ◌<◌, get_or, false}
-use Rattle.scenario.specs.declared.elements.Partition.{Partition}
+use Rattle.round_plan.proofs.Common.{◌≡◌, ℕ, ◌<◌, get_or, false, Partition}
 use Rattle.round_plan.specs.Outages.{separates}
 use Rattle.round_plan.proofs.outages.separated.Given as goal
 

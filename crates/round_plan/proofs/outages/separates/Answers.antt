@@ -1,13 +1,4 @@
-use Rattle.std.proofs.Common.{◌≡◌, ◌==◌, ℕ, zero, suc, ◌+◌, ◌-◌, ◌<◌, ◌≤◌, Bool, true, false, not, ◌&&◌, List, length, get_or, Result, MatchResult, is_ok, refl, sym, subst, inl, inr, arith, ap, ◌∙◌}
-use Rattle.std.specs.Prelude.{Ok, Err}
-use Rattle.std.specs.List.{list_any}
-use Rattle.std.specs.List.Sorted.{IsStrictlyIncreasing, IsBinarySearchResult}
-use Rattle.std.specs.Ordering.{nat_cmp}
-use Rattle.std.proofs.lemmas.Bool.{cases_lt}
-use Rattle.std.proofs.lemmas.Bool.Decides.{nat_tests}
-use Rattle.std.proofs.lemmas.List.Recursion.{or_at, or_from_places}
-use Rattle.std.proofs.lemmas.List.Sorted.{searched}
-use mathlib.Core.Bool.{xor, beq}
+use Rattle.round_plan.proofs.Common.{◌≡◌, ◌==◌, ℕ, zero, suc, ◌+◌, ◌-◌, ◌<◌, ◌≤◌, Bool, true, false, not, ◌&&◌, List, length, get_or, Result, MatchResult, is_ok, refl, sym, subst, inl, inr, arith, ap, ◌∙◌, Ok, Err, list_any, IsStrictlyIncreasing, IsBinarySearchResult, nat_cmp, cases_lt, nat_tests, or_at, or_from_places, searched, xor, beq}
 use Rattle.round_plan.specs.Outages.{separates, is_between, lists}
 use Rattle.round_plan.proofs.outages.separates.Goals as goal
 

@@ -1,6 +1,4 @@
-use Rattle.std.proofs.Common.{◌+◌, length, get_or, drop, sym, ap, ◌∙◌, arith, length-drop}
-use Rattle.std.proofs.lemmas.List.{get_or-drop, get_or-take, length-take-le}
-use Rattle.bench_types.specs.Entry.{next_version}
+use Rattle.round_plan.proofs.Common.{◌+◌, length, get_or, drop, sym, ap, ◌∙◌, arith, length-drop, get_or-drop, get_or-take, length-take-le, next_version}
 use Rattle.round_plan.specs.Words.{word_of}
 use Rattle.round_plan.specs.Writes.{number_by}
 use Rattle.round_plan.proofs.owners.numbers_by.Goals as goal

@@ -1,5 +1,4 @@
-use Rattle.std.proofs.Common.{◌≡◌, ℕ, ◌+◌, ◌<◌, length, get_or}
-use Rattle.bench_types.specs.declared.limits.TheConstants.{MOST_WRITES}
+use Rattle.round_plan.proofs.Common.{◌≡◌, ℕ, ◌+◌, ◌<◌, length, get_or, MOST_WRITES}
 use Rattle.round_plan.proofs.owners.numbers_by.Given as goal
 
 abbrev pub invariant-loop-place : goal.invariant-loop-place

@@ -1,10 +1,4 @@
-use Rattle.std.proofs.Common.{arith, ◌≡◌, ℕ, ◌+◌, ◌≤◌, ◌<◌, ◌++◌, ◌∷◌, [], List, All, length, take, map, if◌then◌else◌, true, subst, sym, ap, ◌∙◌}
-use Rattle.std.specs.List.{range_with_len}
-use Rattle.std.proofs.Math.ListN.{length-set}
-use Rattle.std.proofs.lemmas.List.{take_more_set, map-append}
-use Rattle.std.proofs.lemmas.List.FromFn.{map-range_with_len_more}
-use Rattle.bench_types.specs.declared.entries.Entry.{Entry}
-use Rattle.scenario.specs.Settings.{Settings}
+use Rattle.round_plan.proofs.Common.{arith, ◌≡◌, ℕ, ◌+◌, ◌≤◌, ◌<◌, ◌++◌, ◌∷◌, [], List, All, length, take, map, if◌then◌else◌, true, subst, sym, ap, ◌∙◌, range_with_len, length-set, take_more_set, map-append, map-range_with_len_more, Entry, Settings}
 use Rattle.round_plan.specs.declared.owners.OwnWrite.{OwnWrite}
 use Rattle.round_plan.specs.Outages.{is_up}
 use Rattle.round_plan.specs.Generations.{generation_upto}

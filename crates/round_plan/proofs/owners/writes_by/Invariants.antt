@@ -1,6 +1,4 @@
-use Rattle.std.proofs.Common.{◌≡◌, length, take, map}
-use Rattle.std.specs.List.{range_with_len}
-use Rattle.bench_types.specs.declared.limits.TheConstants.{MOST_WRITES}
+use Rattle.round_plan.proofs.Common.{◌≡◌, length, take, map, range_with_len, MOST_WRITES}
 use Rattle.round_plan.specs.Generations.{generation_upto}
 use Rattle.round_plan.specs.Writes.{own_write_at}
 use Rattle.round_plan.specs.calls.Writes.{born_in}

@@ -1,9 +1,4 @@
-use Rattle.std.proofs.Common.{ℕ, Bor, Option, reverse, unwrap_or, sym, ap, ◌∙◌, rules, tests}
-use Rattle.std.specs.Option.{option_map}
-use Rattle.std.specs.List.{find}
-use Rattle.std.proofs.lemmas.Iterator.Adapters.{YieldsList-from_rev_slice}
-use Rattle.std.proofs.lemmas.Iterator.Search.{find_from_yields_List}
-use Rattle.scenario.specs.declared.elements.Load.{Load}
+use Rattle.round_plan.proofs.Common.{ℕ, Bor, Option, reverse, unwrap_or, sym, ap, ◌∙◌, rules, tests, option_map, find, YieldsList-from_rev_slice, find_from_yields_List, Load}
 use Rattle.round_plan.specs.Writes.{writes_in, covers}
 use Rattle.round_plan.proofs.owners.writes_in.Goals as goal
 

@@ -1,6 +1,4 @@
-use Rattle.std.proofs.Common.{◌≡◌, sym, ap, ◌∙◌, arith}
-use Rattle.scenario.specs.declared.choices.Peers.{Peers}
-use Rattle.scenario.specs.declared.choices.Peers.TheVariants.{Random}
+use Rattle.round_plan.proofs.Common.{◌≡◌, sym, ap, ◌∙◌, arith, Peers, Random}
 use Rattle.round_plan.specs.Peer.{peer_by, random_peer}
 use Rattle.round_plan.specs.Words.{word_of}
 use Rattle.round_plan.proofs.Others.{other_below, other_above}

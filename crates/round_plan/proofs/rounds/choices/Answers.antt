@@ -1,13 +1,4 @@
-use Rattle.std.proofs.Common.{◌≡◌, ◌-◌, ℕ, List, [], ◌∷◌, All, map, subst, sym, ap, ◌∙◌, arith}
-use Rattle.std.specs.List.{range_with_len, AllZip}
-use Rattle.std.proofs.lemmas.List.Elements.{All-nil, All-cons}
-use Rattle.std.proofs.lemmas.Slice.Zip.{AllZip-map}
-use Rattle.bench_types.specs.declared.exchanges.Exchange.{Exchange}
-use Rattle.rayon.specs.Numbers.{nat_range}
-use Rattle.rayon.proofs.ListFacts.{IfOk-then, AllZip-weaken}
-use Rattle.rayon.proofs.ToStd.{nat_range-All}
-use Rattle.scenario.specs.Settings.{Settings}
-use Rattle.bench_types.specs.calls.Exchange.{IsPlanned}
+use Rattle.round_plan.proofs.Common.{◌≡◌, ◌-◌, ℕ, List, [], ◌∷◌, All, map, subst, sym, ap, ◌∙◌, arith, range_with_len, AllZip, All-nil, All-cons, AllZip-map, Exchange, nat_range, IfOk-then, AllZip-weaken, nat_range-All, Settings, IsPlanned}
 use Rattle.round_plan.specs.Plan.{exchange_of}
 use Rattle.round_plan.specs.inner.Rounds.{IsNodeInRound, AreChosen}
 use Rattle.round_plan.proofs.rounds.choices.Goals as goal

@@ -1,9 +1,6 @@
-use Rattle.std.proofs.Common.{◌≡◌, ◌+◌, true, false, All, length, get_or, sym, subst, ap, ◌∙◌, arith}
-use Rattle.bench_types.specs.declared.exchanges.Exchange.{Exchange}
+use Rattle.round_plan.proofs.Common.{◌≡◌, ◌+◌, true, false, All, length, get_or, sym, subst, ap, ◌∙◌, arith, Exchange, IsPlanned, round_list_view}
 use Rattle.round_plan.specs.Outages.{is_up}
-use Rattle.bench_types.specs.calls.Exchange.{IsPlanned}
 use Rattle.round_plan.specs.Plan.{exchange_of, reaches}
-use Rattle.model.specs.RoundLists.{round_list_view}
 use Rattle.round_plan.specs.inner.Rounds.{AreChosen}
 use Rattle.round_plan.proofs.Listed.{IsListed, chosen_at, length_chosen, listed_all, listed_begins, listed_unreached, listed_down}
 use Rattle.round_plan.proofs.rounds.round_list.Goals.{then-is_up+then-reaches+in_ok-push, then-is_up+else-reaches, else-is_up}

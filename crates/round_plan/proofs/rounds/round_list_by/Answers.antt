@@ -1,9 +1,6 @@
-use Rattle.std.proofs.Common.{◌≡◌, ◌+◌, ◌<◌, true, false, All, sym, subst, ap, ◌∙◌, arith}
-use Rattle.bench_types.specs.calls.Exchange.{IsPlanned}
-use Rattle.bench_types.specs.declared.exchanges.Exchange.{Exchange}
+use Rattle.round_plan.proofs.Common.{◌≡◌, ◌+◌, ◌<◌, true, false, All, sym, subst, ap, ◌∙◌, arith, IsPlanned, Exchange, round_list_view}
 use Rattle.round_plan.specs.Outages.{is_up}
 use Rattle.round_plan.specs.Plan.{reaches}
-use Rattle.model.specs.RoundLists.{round_list_view}
 use Rattle.round_plan.proofs.Listed.{IsListed, listed_all, listed_begins, listed_unreached, listed_down}
 use Rattle.round_plan.proofs.rounds.round_list_by.Goals.{then-is_up+then-reaches+in_ok-push, then-is_up+else-reaches, else-is_up}
 use Rattle.round_plan.proofs.rounds.round_list_by.Goals as goal

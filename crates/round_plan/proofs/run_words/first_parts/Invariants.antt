@@ -1,4 +1,4 @@
-use Rattle.std.proofs.Common.{◌≡◌, length}
+use Rattle.round_plan.proofs.Common.{◌≡◌, length}
 use Rattle.round_plan.specs.inner.Streams.{ArePartsOf}
 use Rattle.round_plan.proofs.run_words.first_parts.Given as goal
 

@@ -1,5 +1,4 @@
-use Rattle.std.proofs.Common.{ap, ◌∙◌}
-use Rattle.rand_chacha.specs.ChaCha.{next_word}
+use Rattle.round_plan.proofs.Common.{ap, ◌∙◌, next_word}
 use Rattle.round_plan.specs.Words.{word_by}
 use Rattle.round_plan.proofs.words.draw.Goals as goal
 

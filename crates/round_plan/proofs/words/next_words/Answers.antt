@@ -1,8 +1,4 @@
-use Rattle.std.proofs.Common.{◌≡◌, ◌<◌, ℕ, slice_index, ◌+◌, ◌%◌, ◌^◌, slice_set, ap, subst, ◌∙◌, sym, arith}
-use Rattle.std.proofs.Math.ListN.{length-set}
-use Rattle.std.proofs.Math.Nat.{mod-eq_of_lt}
-use Rattle.std.proofs.lemmas.List.Edits.{fill_by_more}
-use Rattle.rand_chacha.specs.ChaCha.{next_word, word_at}
+use Rattle.round_plan.proofs.Common.{◌≡◌, ◌<◌, ℕ, slice_index, ◌+◌, ◌%◌, ◌^◌, slice_set, ap, subst, ◌∙◌, sym, arith, length-set, mod-eq_of_lt, fill_by_more, next_word, word_at}
 use Rattle.round_plan.proofs.words.next_words.Goals as goal
 
 pub loop-place-preserved : goal.loop-place-preserved

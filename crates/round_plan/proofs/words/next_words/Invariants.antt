@@ -1,5 +1,4 @@
-use Rattle.std.proofs.Common.{◌≡◌, ◌+◌, ◌<◌, ℕ, slice_index, length}
-use Rattle.rand_chacha.specs.ChaCha.{word_at}
+use Rattle.round_plan.proofs.Common.{◌≡◌, ◌+◌, ◌<◌, ℕ, slice_index, length, word_at}
 use Rattle.round_plan.proofs.words.next_words.Given as goal
 
 abbrev pub invariant-loop-place : goal.invariant-loop-place

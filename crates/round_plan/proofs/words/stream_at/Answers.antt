@@ -1,6 +1,4 @@
-use Rattle.std.proofs.Common.{◌≡◌, ◌++◌, ◌%◌, ◌^◌, replicate, ap, ◌∙◌, arith}
-use Rattle.std.specs.Int.{w64, to_le_bytes}
-use Rattle.rand_chacha.specs.ChaCha.{ChaCha, key_of}
+use Rattle.round_plan.proofs.Common.{◌≡◌, ◌++◌, ◌%◌, ◌^◌, replicate, ap, ◌∙◌, arith, w64, to_le_bytes, ChaCha, key_of}
 use Rattle.round_plan.specs.Words.{position, seed_bytes}
 use Rattle.round_plan.proofs.words.stream_at.Goals as goal
 

@@ -1,5 +1,4 @@
-use Rattle.std.proofs.Common.{inr}
-use Rattle.std.proofs.lemmas.Result.{on_ok_weaker, IfErr-weaker}
+use Rattle.runs.proofs.Common.{inr, on_ok_weaker, IfErr-weaker}
 use Rattle.runs.proofs.Comparison.{compared_whole, header_of, own_mode, stops_behind_header}
 use Rattle.runs.proofs.Endings.{modes_tell}
 use Rattle.runs.proofs.comparing.compare.Goals as goal

@@ -1,4 +1,4 @@
-use Rattle.round_plan.specs.Writes.{written_upto}
+use Rattle.runs.proofs.Common.{written_upto}
 use Rattle.runs.proofs.comparing.compare.Given as goal
 
 abbrev pub ghosts-write_modes : goal.ghosts-write_modes

@@ -1,4 +1,4 @@
-use Rattle.std.proofs.Common.{inl, refl, subst, sym}
+use Rattle.runs.proofs.Common.{inl, refl, subst, sym}
 use Rattle.runs.specs.Comparisons.{IsFaultInRounds}
 use Rattle.runs.proofs.InputFacts.{at_fault}
 use Rattle.runs.proofs.Comparison.{nothing_written, stops_before}

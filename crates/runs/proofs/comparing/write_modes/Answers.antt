@@ -1,8 +1,4 @@
-use Rattle.std.proofs.Common.{◌≡◌, ℕ, List, sym, subst, ◌∙◌}
-use Rattle.bench_types.specs.declared.entries.Entry.{Entry}
-use Rattle.bench_types.specs.declared.exchanges.Mode.{Mode}
-use Rattle.scenario.specs.Settings.{Settings, with_mode}
-use Rattle.simulation.proofs.Modes.{written_under}
+use Rattle.runs.proofs.Common.{◌≡◌, ℕ, List, sym, subst, ◌∙◌, Entry, Mode, Settings, with_mode, written_under}
 use Rattle.runs.specs.inner.Writes.{AreWrittenIn}
 use Rattle.runs.proofs.InputFacts.{at_fault}
 use Rattle.runs.proofs.Comparison.{modes_more, stops_in_mode}

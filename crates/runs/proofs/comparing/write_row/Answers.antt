@@ -1,7 +1,4 @@
-use Rattle.std.proofs.Common.{inr, subst}
-use Rattle.std.proofs.lemmas.Result.{on_ok_weaker, IfErr-weaker}
-use Rattle.bench_types.specs.Output.{IsWriteFault}
-use Rattle.report.specs.Compare.{compare_line}
+use Rattle.runs.proofs.Common.{inr, subst, on_ok_weaker, IfErr-weaker, IsWriteFault, compare_line}
 use Rattle.runs.proofs.Comparison.{row_is_next}
 use Rattle.runs.proofs.comparing.write_row.Goals as goal
 

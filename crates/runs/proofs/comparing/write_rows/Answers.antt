@@ -1,4 +1,4 @@
-use Rattle.std.proofs.Common.{arith}
+use Rattle.runs.proofs.Common.{arith}
 use Rattle.runs.proofs.InputFacts.{at_fault}
 use Rattle.runs.proofs.Comparison.{rounds_more, stops_at_row}
 use Rattle.runs.proofs.comparing.write_rows.Goals as goal

@@ -1,7 +1,4 @@
-use Rattle.std.proofs.Common.{arith, ◌≡◌, ◌≤◌, ◌+◌, length, subst}
-use Rattle.std.proofs.lemmas.List.{length-take}
-use Rattle.bench_types.specs.declared.faults.Fault.TheVariants.{OutOfMemory}
-use Rattle.bench_types.specs.declared.limits.TheConstants.{MOST_BYTES}
+use Rattle.runs.proofs.Common.{arith, ◌≡◌, ◌≤◌, ◌+◌, length, subst, length-take, OutOfMemory, MOST_BYTES}
 use Rattle.runs.specs.Inputs.{Gave}
 use Rattle.runs.proofs.InputFacts.{at_fault, gave_more, gave_up_to, had_more, was_sound}
 use Rattle.runs.proofs.inputs.read_all.Goals as goal

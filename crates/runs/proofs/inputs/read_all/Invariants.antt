@@ -1,6 +1,4 @@
-use Rattle.std.proofs.Common.{◌≡◌, ◌≤◌, ◌+◌, ◌-◌, true, length}
-use Rattle.std.specs.Io.KnownBytes.{Consumes}
-use Rattle.bench_types.specs.declared.limits.TheConstants.{MOST_BYTES}
+use Rattle.runs.proofs.Common.{◌≡◌, ◌≤◌, ◌+◌, ◌-◌, true, length, Consumes, MOST_BYTES}
 use Rattle.runs.proofs.inputs.read_all.Given as goal
 
 abbrev pub invariant-loop-count : goal.invariant-loop-count

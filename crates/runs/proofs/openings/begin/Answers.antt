@@ -1,4 +1,4 @@
-use Rattle.std.proofs.Common.{◌+◌, arith}
+use Rattle.runs.proofs.Common.{◌+◌, arith}
 use Rattle.runs.proofs.Numbers.{may_write_all, below_more}
 use Rattle.runs.proofs.openings.begin.Goals as goal
 

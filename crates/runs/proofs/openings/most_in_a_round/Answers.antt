@@ -1,7 +1,4 @@
-use Rattle.std.proofs.Common.{◌≤◌, All, get_or, subst, ap, inl, inr, arith}
-use Rattle.std.proofs.lemmas.Bool.{cases_lt}
-use Rattle.std.proofs.lemmas.List.{get_or_default}
-use Rattle.scenario.specs.declared.elements.Load.{Load}
+use Rattle.runs.proofs.Common.{◌≤◌, All, get_or, subst, ap, inl, inr, arith, cases_lt, get_or_default, Load}
 use Rattle.runs.proofs.Numbers.{writes_in_at_most}
 use Rattle.runs.proofs.openings.most_in_a_round.Goals as goal
 

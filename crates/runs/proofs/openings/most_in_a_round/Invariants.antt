@@ -1,6 +1,4 @@
-use Rattle.std.proofs.Common.{ℕ, ◌<◌, ◌≤◌, get_or}
-use Rattle.bench_types.specs.declared.limits.TheConstants.{MOST_WRITES}
-use Rattle.scenario.specs.declared.elements.Load.{Load}
+use Rattle.runs.proofs.Common.{ℕ, ◌<◌, ◌≤◌, get_or, MOST_WRITES, Load}
 use Rattle.runs.proofs.openings.most_in_a_round.Given as goal
 
 abbrev pub invariant-loop-place : goal.invariant-loop-place

@@ -1,4 +1,4 @@
-use Rattle.std.proofs.Common.{subst, sym}
+use Rattle.runs.proofs.Common.{subst, sym}
 use Rattle.runs.specs.Inputs.{IsReadWhole}
 use Rattle.runs.proofs.InputFacts.{accepted, fault_of_check}
 use Rattle.runs.proofs.runs.check_input.Goals as goal

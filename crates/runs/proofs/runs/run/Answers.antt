@@ -1,4 +1,4 @@
-use Rattle.std.proofs.lemmas.Result.{IfErr-weaker}
+use Rattle.runs.proofs.Common.{IfErr-weaker}
 use Rattle.runs.proofs.Endings.{run_tells}
 use Rattle.runs.proofs.runs.run.Goals as goal
 

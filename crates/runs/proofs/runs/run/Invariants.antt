@@ -1,4 +1,4 @@
-use Rattle.round_plan.specs.Writes.{written_upto}
+use Rattle.runs.proofs.Common.{written_upto}
 use Rattle.runs.proofs.runs.run.Given as goal
 
 abbrev pub ghosts-write_run : goal.ghosts-write_run

@@ -1,8 +1,4 @@
-use Rattle.std.proofs.Common.{inl, inr, refl, subst}
-use Rattle.std.proofs.lemmas.Result.{on_ok_weaker, IfErr-weaker}
-use Rattle.bench_types.specs.Output.{IsWritten, IsWriteFault}
-use Rattle.report.specs.Report.{report_line}
-use Rattle.report.specs.Trace.{trace_lines}
+use Rattle.runs.proofs.Common.{inl, inr, refl, subst, on_ok_weaker, IfErr-weaker, IsWritten, IsWriteFault, report_line, trace_lines}
 use Rattle.runs.proofs.InputFacts.{at_fault}
 use Rattle.runs.proofs.Reporting.{texts_are_next}
 use Rattle.runs.proofs.runs.write_round.Goals as goal

@@ -1,4 +1,4 @@
-use Rattle.std.proofs.Common.{arith}
+use Rattle.runs.proofs.Common.{arith}
 use Rattle.runs.proofs.InputFacts.{at_fault}
 use Rattle.runs.proofs.Reporting.{all_written, one_more, stops_at_round}
 use Rattle.runs.proofs.runs.write_texts.Goals as goal

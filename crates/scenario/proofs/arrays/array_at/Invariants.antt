@@ -1,5 +1,4 @@
-use Rattle.std.proofs.Common.{◌≡◌, length, map, drop, All}
-use Rattle.toml.specs.View.{view}
+use Rattle.scenario.proofs.Common.{◌≡◌, length, map, drop, All, view}
 use Rattle.scenario.specs.inner.Elements.{each}
 use Rattle.scenario.proofs.Walks.{joined}
 use Rattle.scenario.proofs.arrays.array_at.Given as goal

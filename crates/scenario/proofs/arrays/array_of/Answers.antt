@@ -1,6 +1,4 @@
-use Rattle.std.proofs.Common.{Ok, map, ap, ◌∙◌, sym}
-use Rattle.toml.specs.View.{view}
-use Rattle.toml.proofs.Views.{view-Array}
+use Rattle.scenario.proofs.Common.{Ok, map, ap, ◌∙◌, sym, view, view-Array}
 use Rattle.scenario.specs.Elements.{array_of}
 use Rattle.scenario.proofs.Walks.{list_of-items_view}
 use Rattle.scenario.proofs.arrays.array_of.Goals as goal

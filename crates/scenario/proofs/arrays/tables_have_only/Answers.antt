@@ -1,7 +1,4 @@
-use Rattle.std.proofs.Common.{Some, ap, sym, ◌∙◌}
-use Rattle.std.specs.List.{list_all}
-use Rattle.toml.specs.View.{view}
-use Rattle.toml.proofs.Views.{view-Array}
+use Rattle.scenario.proofs.Common.{Some, ap, sym, ◌∙◌, list_all, view, view-Array}
 use Rattle.scenario.specs.Elements.{values_of, table_has_only}
 use Rattle.scenario.proofs.Walks.{list_all-items_view}
 use Rattle.scenario.proofs.arrays.tables_have_only.Goals as goal

@@ -1,4 +1,4 @@
-use Rattle.toml.proofs.Views.{table_get}
+use Rattle.scenario.proofs.Common.{table_get}
 use Rattle.scenario.proofs.fields.found.Goals as goal
 
 pub returns : goal.returns

@@ -1,12 +1,5 @@
-use Rattle.std.proofs.Common.{◌≡◌, List, [], ◌∷◌, ◌&&◌, string_bytes, refl, ap, rules, tests}
-use Rattle.std.specs.List.{list_all}
-use Rattle.std.specs.Map.{keys_of}
-use Rattle.bench_types.specs.declared.fields.Field.{Field}
-use Rattle.toml.specs.View.{members_view}
-use Rattle.toml.proofs.Views.{Entry}
+use Rattle.scenario.proofs.Common.{◌≡◌, List, [], ◌∷◌, ◌&&◌, string_bytes, refl, ap, rules, tests, list_all, keys_of, Field, members_view, Entry, all_from_yields_List, YieldsList-from_rest}
 use Rattle.scenario.specs.Fields.{has_only, is_among}
-use Rattle.std.proofs.lemmas.Iterator.Search.{all_from_yields_List}
-use Rattle.std.proofs.lemmas.Iterator.Consumers.{YieldsList-from_rest}
 use Rattle.scenario.proofs.fields.has_only.Goals as goal
 
 -- the members have only the fields where each key is among them

@@ -1,5 +1,5 @@
 -- One tactic at a goal that a wrong order of the checks makes false, so that the check says so quickly.
-use Rattle.std.proofs.Common.{rules}
+use Rattle.scenario.proofs.Common.{rules}
 use Rattle.scenario.proofs.parts.basics_at.Goals as goal
 
 pub returns-in_err-rounds-clause-answer : goal.returns-in_err-rounds-clause-answer

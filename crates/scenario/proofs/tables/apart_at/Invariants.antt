@@ -1,5 +1,4 @@
-use Rattle.std.proofs.Common.{◌≡◌, ◌-◌, map, drop}
-use Rattle.toml.specs.View.{view}
+use Rattle.scenario.proofs.Common.{◌≡◌, ◌-◌, map, drop, view}
 use Rattle.bench_types.specs.declared.fields.Field.TheVariants as field
 use Rattle.scenario.specs.inner.Elements.{ascending}
 use Rattle.scenario.proofs.Walks.{joined}

@@ -1,7 +1,4 @@
-use Rattle.std.proofs.Common.{◌≡◌, ℕ, Bool, true, false, List, Option, None, cond, IsUtf8, refl, ◌∙◌}
-use Rattle.std.specs.Str.{is_utf8}
-use Rattle.std.proofs.lemmas.Str.{IsUtf8-from_is_utf8, is_utf8-from_IsUtf8}
-use Rattle.toml.specs.Parse.{parse_document}
+use Rattle.scenario.proofs.Common.{◌≡◌, ℕ, Bool, true, false, List, Option, None, cond, IsUtf8, refl, ◌∙◌, is_utf8, IsUtf8-from_is_utf8, is_utf8-from_IsUtf8, parse_document}
 use Rattle.scenario.specs.Order.{document_of}
 use Rattle.scenario.proofs.texts.document.Goals as goal
 

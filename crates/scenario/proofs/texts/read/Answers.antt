@@ -1,4 +1,4 @@
-use Rattle.toml.specs.View.{table_view}
+use Rattle.scenario.proofs.Common.{table_view}
 use Rattle.scenario.proofs.OnlyFaultsOfCheck.{OnlyFaultsOfCheck-answer}
 use Rattle.scenario.proofs.Order.{first_of-answer, no_fault-answer}
 use Rattle.scenario.proofs.Sayings.{Says-answer}

@@ -1,4 +1,4 @@
-use Rattle.std.proofs.Common.{map, sym, ap, ◌∙◌, subst, arith}
+use Rattle.simulation.proofs.Common.{map, sym, ap, ◌∙◌, subst, arith}
 use Rattle.simulation.proofs.Begun.{begun_next, begun_all}
 use Rattle.simulation.proofs.Standing.{written_by}
 use Rattle.simulation.specs.calls.Standing.{StandAfterRound}

@@ -1,4 +1,4 @@
-use Rattle.std.proofs.Common.{◌-◌, map}
+use Rattle.simulation.proofs.Common.{◌-◌, map}
 use Rattle.simulation.proofs.Begun.{HaveBegun}
 use Rattle.simulation.proofs.clusters.begin.Given as goal
 

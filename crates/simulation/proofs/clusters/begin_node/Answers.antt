@@ -1,14 +1,4 @@
-use Rattle.std.proofs.Common.{All, ◌≡◌, ◌+◌, ◌-◌, ◌<◌, ◌^◌, ℕ, List, length, map, ap, sym, ◌∙◌, subst, arith}
-use Rattle.std.proofs.lemmas.Result.{on_ok_weaker}
-use Rattle.model.specs.Table.{with_own_writes}
-use Rattle.round_plan.specs.declared.owners.OwnWrite.{OwnWrite}
-use Rattle.round_plan.specs.Generations.{generation_upto}
-use Rattle.round_plan.specs.Writes.{count_before, own_writes}
-use Rattle.round_plan.specs.calls.Writes.{born_in}
-use Rattle.scenario.specs.Settings.{Settings}
-use Rattle.model.specs.calls.OwnerListView.{written, list_of_owner}
-use Rattle.model.specs.calls.Writes.{AreBornBy}
-use Rattle.model.proofs.OwnParts.{born-later}
+use Rattle.simulation.proofs.Common.{All, ◌≡◌, ◌+◌, ◌-◌, ◌<◌, ◌^◌, ℕ, List, length, map, ap, sym, ◌∙◌, subst, arith, on_ok_weaker, with_own_writes, OwnWrite, generation_upto, count_before, own_writes, born_in, Settings, written, list_of_owner, AreBornBy, born-later}
 use Rattle.simulation.specs.inner.Steps.{HasWritten}
 use Rattle.simulation.proofs.Standing.{beside_own, next_own, may_write_own, owner_written}
 use Rattle.simulation.proofs.clusters.begin_node.Goals as goal

@@ -1,9 +1,4 @@
-use Rattle.std.proofs.Common.{◌≡◌, [], ◌∷◌, ◌++◌, map, ap, sym, ◌∙◌, subst, arith}
-use Rattle.std.specs.List.{range_with_len}
-use Rattle.std.proofs.lemmas.List.{map-append}
-use Rattle.std.proofs.lemmas.List.FromFn.{map-range_with_len_more}
-use Rattle.model.specs.Table.{empty_table}
-use Rattle.model.specs.Tables.{AreProper}
+use Rattle.simulation.proofs.Common.{◌≡◌, [], ◌∷◌, ◌++◌, map, ap, sym, ◌∙◌, subst, arith, range_with_len, map-append, map-range_with_len_more, empty_table, AreProper}
 use Rattle.simulation.specs.Rounds.{opening_tables}
 use Rattle.simulation.proofs.Standing.{opening_proper}
 use Rattle.simulation.proofs.clusters.empty_tables.Goals as goal

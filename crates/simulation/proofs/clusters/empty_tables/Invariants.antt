@@ -1,6 +1,4 @@
-use Rattle.std.proofs.Common.{◌≡◌, map}
-use Rattle.std.specs.List.{range_with_len}
-use Rattle.model.specs.Table.{empty_table}
+use Rattle.simulation.proofs.Common.{◌≡◌, map, range_with_len, empty_table}
 use Rattle.simulation.proofs.clusters.empty_tables.Given as goal
 
 abbrev pub invariant-loop-node : goal.invariant-loop-node

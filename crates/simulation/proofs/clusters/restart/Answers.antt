@@ -1,7 +1,4 @@
-use Rattle.std.proofs.Common.{◌≡◌, ◌-◌, ap, sym, ◌∙◌, subst, arith}
-use Rattle.model.specs.Table.{without_all}
-use Rattle.model.specs.calls.OwnerListView.{begun_generation, list_of_owner}
-use Rattle.round_plan.proofs.Generations.{generation_upto_le}
+use Rattle.simulation.proofs.Common.{◌≡◌, ◌-◌, ap, sym, ◌∙◌, subst, arith, without_all, begun_generation, list_of_owner, generation_upto_le}
 use Rattle.simulation.specs.inner.Steps.{HasRestarted}
 use Rattle.simulation.proofs.Standing.{restarted_forgot, restarted_kept}
 use Rattle.simulation.proofs.clusters.restart.Goals as goal

@@ -1,5 +1,4 @@
-use Rattle.std.proofs.Common.{◌-◌, map, take}
-use Rattle.round_plan.specs.calls.Writes.{born_in}
+use Rattle.simulation.proofs.Common.{◌-◌, map, take, born_in}
 use Rattle.simulation.proofs.Writing.{IsWritingIn}
 use Rattle.simulation.proofs.clusters.write_own.Given as goal
 

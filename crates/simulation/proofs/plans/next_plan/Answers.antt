@@ -1,5 +1,4 @@
-use Rattle.std.proofs.Common.{◌≡◌, ◌+◌, ◌-◌, ap, ◌∙◌, arith}
-use Rattle.round_plan.specs.calls.Words.{RunWordsView, run_words_of}
+use Rattle.simulation.proofs.Common.{◌≡◌, ◌+◌, ◌-◌, ap, ◌∙◌, arith, RunWordsView, run_words_of}
 use Rattle.simulation.proofs.plans.next_plan.Goals as goal
 
 pub next_round-requires : goal.next_round-requires

@@ -1,4 +1,4 @@
-use Rattle.std.proofs.Common.{◌≡◌, rules}
+use Rattle.simulation.proofs.Common.{◌≡◌, rules}
 use Rattle.simulation.specs.Rows.{lost_count, entry_count, cut_total}
 use Rattle.simulation.proofs.rounds.row_of.Goals as goal
 

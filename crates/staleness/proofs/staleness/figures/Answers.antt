@@ -1,6 +1,4 @@
-use Rattle.std.proofs.Common.{length, ap, ◌∙◌}
-use Rattle.model.specs.calls.OwnerListView.{lists_in}
-use Rattle.node_table.specs.NodeTableView.{tables_in}
+use Rattle.staleness.proofs.Common.{length, ap, ◌∙◌, lists_in, tables_in}
 use Rattle.staleness.specs.inner.Totals.{total_below, found_at}
 use Rattle.staleness.proofs.Totals.{parts_few, parts_limit, figures_of_all}
 use Rattle.staleness.proofs.staleness.figures.Goals as goal

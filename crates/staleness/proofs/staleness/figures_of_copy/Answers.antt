@@ -1,10 +1,4 @@
-use Rattle.std.proofs.Common.{◌≡◌, ap, ◌∙◌, arith}
-use Rattle.bench_types.specs.declared.rows.Figures.{Figures}
-use Rattle.model.specs.calls.OwnerListView.{lists_in}
-use Rattle.model.specs.Table.{Table}
-use Rattle.model.specs.Tables.{table_of_node}
-use Rattle.node_table.specs.NodeTableView.{tables_in}
-use Rattle.node_table.proofs.InOrder.{table_indexed}
+use Rattle.staleness.proofs.Common.{◌≡◌, ap, ◌∙◌, arith, Figures, lists_in, Table, table_of_node, tables_in, table_indexed}
 use Rattle.staleness.specs.inner.Totals.{total_below, triple_figures}
 use Rattle.staleness.proofs.Totals.{total_few, triple_few}
 use Rattle.staleness.proofs.staleness.figures_of_copy.Goals as goal

@@ -1,6 +1,4 @@
-use Rattle.std.proofs.Common.{◌≡◌}
-use Rattle.model.specs.calls.OwnerListView.{lists_in}
-use Rattle.node_table.specs.NodeTableView.{tables_in}
+use Rattle.staleness.proofs.Common.{◌≡◌, lists_in, tables_in}
 use Rattle.staleness.specs.inner.Totals.{total_below, triple_figures}
 use Rattle.staleness.proofs.staleness.figures_of_copy.Given as goal
 

@@ -1,8 +1,4 @@
-use Rattle.std.proofs.Common.{◌≡◌, ◌*◌}
-use Rattle.bench_types.specs.declared.limits.TheConstants.{MOST_KEYS}
-use Rattle.model.specs.Figures.{copy_figures}
-use Rattle.model.specs.calls.OwnerListView.{lists_in}
-use Rattle.node_table.specs.NodeTableView.{tables_in}
+use Rattle.staleness.proofs.Common.{◌≡◌, ◌*◌, MOST_KEYS, copy_figures, lists_in, tables_in}
 use Rattle.staleness.specs.inner.Totals.{total_below, AreFew}
 use Rattle.staleness.proofs.staleness.figures_of_node.Given as goal
 

@@ -1,11 +1,4 @@
-use Rattle.std.proofs.Common.{◌≡◌, ℕ, ◌-◌, ◌<◌, List, length, ap, sym, ◌∙◌, subst, arith}
-use Rattle.std.specs.List.{AllZip, range_with_len}
-use Rattle.rayon.specs.Numbers.{nat_range}
-use Rattle.rayon.proofs.ListFacts.{IfOk-then}
-use Rattle.rayon.proofs.ToStd.{nat_range-All}
-use Rattle.model.specs.calls.OwnerListView.{lists_in}
-use Rattle.node_table.specs.NodeTableView.{tables_in}
-use Rattle.node_table.proofs.InOrder.{length-tables_in}
+use Rattle.staleness.proofs.Common.{◌≡◌, ℕ, ◌-◌, ◌<◌, List, length, ap, sym, ◌∙◌, subst, arith, AllZip, range_with_len, nat_range, IfOk-then, nat_range-All, lists_in, tables_in, length-tables_in}
 use Rattle.staleness.specs.inner.Totals.{IsCounted}
 use Rattle.staleness.proofs.staleness.figures_of_nodes.Goals as goal
 

@@ -1,8 +1,4 @@
-use Rattle.std.proofs.Common.{◌<◌, [], length, sym, ap, ◌∙◌, subst, arith}
-use Rattle.model.proofs.Owners.{length-lists_in, list_read}
-use Rattle.model.specs.calls.OwnerListView.{written}
-use Rattle.model.specs.calls.Writes.{AreBornBy}
-use Rattle.node_table.proofs.InOrder.{length-tables_in}
+use Rattle.staleness.proofs.Common.{◌<◌, [], length, sym, ap, ◌∙◌, subst, arith, length-lists_in, list_read, written, AreBornBy, length-tables_in}
 use Rattle.staleness.proofs.staleness.figures_of_triple.Goals as goal
 
 pub staleness_of-staleness-requires-clause-born : goal.staleness_of-staleness-requires-clause-born

@@ -1,5 +1,4 @@
-use Rattle.std.proofs.Common.{ap, arith}
-use Rattle.bench_types.specs.declared.rows.Figures.{Figures}
+use Rattle.staleness.proofs.Common.{ap, arith, Figures}
 use Rattle.staleness.specs.inner.Totals.{found_at}
 use Rattle.staleness.proofs.Totals.{total_few}
 use Rattle.staleness.proofs.staleness.joined_all.Goals as goal

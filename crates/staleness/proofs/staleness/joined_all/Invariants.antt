@@ -1,4 +1,4 @@
-use Rattle.std.proofs.Common.{◌≡◌}
+use Rattle.staleness.proofs.Common.{◌≡◌}
 use Rattle.staleness.specs.inner.Totals.{total_below, found_at}
 use Rattle.staleness.proofs.staleness.joined_all.Given as goal
 

@@ -1,10 +1,4 @@
-use Rattle.std.proofs.Common.{◌≡◌, ℕ, ◌+◌, ◌-◌, ◌≤◌, option_map, sym, ap, ◌∙◌, arith}
-use Rattle.bench_types.specs.Mark.{mark_held}
-use Rattle.model.specs.declared.writes.Write.{Write}
-use Rattle.model.specs.Figures.{staleness_of}
-use Rattle.model.specs.calls.OwnerListView.{written}
-use Rattle.owner_lists.specs.Missed.{is_missed, first_missed}
-use Rattle.owner_lists.proofs.Last.{All-find}
+use Rattle.staleness.proofs.Common.{◌≡◌, ℕ, ◌+◌, ◌-◌, ◌≤◌, option_map, sym, ap, ◌∙◌, arith, mark_held, Write, staleness_of, written, is_missed, first_missed, All-find}
 use Rattle.staleness.proofs.Known.{staleness_known}
 use Rattle.staleness.proofs.staleness.staleness_of.Goals as goal
 use Rattle.staleness.proofs.staleness.staleness_of.Goals.{After-first_missed}

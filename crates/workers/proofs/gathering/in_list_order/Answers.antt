@@ -1,7 +1,5 @@
-use Rattle.std.proofs.lemmas.Bool.{false≢true}
-use Rattle.std.proofs.Common.{[], sym, subst, take, ◌+◌}
+use Rattle.workers.proofs.Common.{false≢true, [], sym, subst, take, ◌+◌, Stamped}
 use Rattle.bench_types.specs.declared.exchanges.Fate.TheVariants as fate
-use Rattle.collector.specs.declared.collectors.Stamped.{Stamped}
 use Rattle.workers.proofs.Collecting.{IsCollected, collected_none, next_missing, next_collected, none_missing, collected_in_order}
 use Rattle.workers.proofs.gathering.in_list_order.Goals as goal
 

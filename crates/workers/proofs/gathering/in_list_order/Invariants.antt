@@ -1,4 +1,4 @@
-use Rattle.std.proofs.Common.{take}
+use Rattle.workers.proofs.Common.{take}
 use Rattle.workers.proofs.Collecting.{IsCollected}
 use Rattle.workers.proofs.gathering.in_list_order.Given as goal
 

@@ -1,11 +1,4 @@
-use Rattle.std.proofs.Common.{◌≡◌, ◌+◌, ◌<◌, ◌++◌, ◌∷◌, [], length, map, take, get_or, sym, ap, subst, ◌∙◌, arith}
-use Rattle.std.proofs.lemmas.List.{take_all, length-map}
-use Rattle.model.specs.Folds.{Folded, exchange_in, fold_of}
-use Rattle.model.specs.Tables.{table_of_node, HoldsOfEach}
-use Rattle.model.specs.calls.Tables.{IsCluster}
-use Rattle.model.proofs.Tables.{cluster_of}
-use Rattle.model.proofs.FoldLaws.{before_keeps_each}
-use Rattle.dependencies.specs.Sharing.{no_exchange}
+use Rattle.workers.proofs.Common.{◌≡◌, ◌+◌, ◌<◌, ◌++◌, ◌∷◌, [], length, map, take, get_or, sym, ap, subst, ◌∙◌, arith, take_all, length-map, Folded, exchange_in, fold_of, table_of_node, HoldsOfEach, IsCluster, cluster_of, before_keeps_each, no_exchange}
 use Rattle.workers.proofs.Turns.{IsTurned, turned_none, turned_more, still_tables}
 use Rattle.workers.proofs.in_order.exchange_all.Goals as goal
 

@@ -1,4 +1,4 @@
-use Rattle.std.proofs.Common.{map}
+use Rattle.workers.proofs.Common.{map}
 use Rattle.workers.proofs.Turns.{IsTurned}
 use Rattle.workers.proofs.in_order.exchange_all.Given as goal
 

@@ -1,6 +1,4 @@
-use Rattle.std.proofs.Common.{length, map, arith}
-use Rattle.std.proofs.lemmas.Result.{IfOk-weaker}
-use Rattle.model.specs.Tables.{table_of_node}
+use Rattle.workers.proofs.Common.{length, map, arith, IfOk-weaker, table_of_node}
 use Rattle.workers.proofs.Pairs.{front_table, back_table, front_fits, back_fits, may_be_exchanged, exchanged_low, exchanged_high}
 use Rattle.workers.proofs.in_order.exchange_pair.Goals as goal
 

@@ -1,4 +1,4 @@
-use Rattle.std.proofs.Common.{length}
+use Rattle.workers.proofs.Common.{length}
 use Rattle.workers.proofs.runs.run_list_with.Given as goal
 
 abbrev pub ghosts-exchange_in_threads : goal.ghosts-exchange_in_threads

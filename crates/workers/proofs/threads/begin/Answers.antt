@@ -1,6 +1,4 @@
-use Rattle.std.proofs.Common.{length, map, sym, ap, subst, ◌∙◌}
-use Rattle.model.specs.calls.Tables.{IsCluster}
-use Rattle.dependencies.specs.Neighbours.{first_ready_of}
+use Rattle.workers.proofs.Common.{length, map, sym, ap, subst, ◌∙◌, IsCluster, first_ready_of}
 use Rattle.workers.specs.inner.Deques.{AllBelow}
 use Rattle.workers.specs.inner.Pushes.{AreDealt, pushed}
 use Rattle.workers.specs.inner.Starts.{AreSeveral}

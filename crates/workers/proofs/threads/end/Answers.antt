@@ -1,5 +1,4 @@
-use Rattle.std.proofs.Common.{length, sym, ap, ◌∙◌}
-use Rattle.board.specs.Boards.{plan_of, seat_view}
+use Rattle.workers.proofs.Common.{length, sym, ap, ◌∙◌, plan_of, seat_view}
 use Rattle.workers.proofs.Ordered.{each_once, all_ended}
 use Rattle.workers.proofs.threads.end.Goals as goal
 

@@ -1,5 +1,4 @@
-use Rattle.std.proofs.Common.{sym, ap, subst}
-use Rattle.board.specs.Plan.{BoardPlan}
+use Rattle.workers.proofs.Common.{sym, ap, subst, BoardPlan}
 use Rattle.workers.specs.inner.Joined.{IsEndOf, HasSeenAll}
 use Rattle.workers.proofs.Ordered.{is_workshop}
 use Rattle.workers.proofs.threads.exchange_in_threads.Goals as goal

@@ -1,7 +1,4 @@
-use Rattle.std.proofs.Common.{◌-◌, sym, ap, subst, arith, IfOk}
-use Rattle.std.proofs.lemmas.Result.{MatchResult-weaker}
-use Rattle.std.specs.Vec.Iter.{into_iter_len, into_iter_items}
-use Rattle.board.specs.Boards.{plan_of, seat_view}
+use Rattle.workers.proofs.Common.{◌-◌, sym, ap, subst, arith, IfOk, MatchResult-weaker, into_iter_len, into_iter_items, plan_of, seat_view}
 use Rattle.workers.specs.inner.Joined.{IsJoined}
 use Rattle.workers.specs.inner.Returns.{IsReturned}
 use Rattle.workers.proofs.Joining.{first_of_board, joined_more}

@@ -1,7 +1,4 @@
-use Rattle.std.proofs.Common.{◌≡◌, ◌+◌, ◌-◌, ◌≤◌, All, IfOk, IfErr}
-use Rattle.std.specs.Vec.Iter.{into_iter_len, into_iter_items}
-use Rattle.bench_types.specs.declared.faults.Fault.TheVariants.{OutOfMemory}
-use Rattle.board.specs.Boards.{plan_of, seat_view, IsSeatOf}
+use Rattle.workers.proofs.Common.{◌≡◌, ◌+◌, ◌-◌, ◌≤◌, All, IfOk, IfErr, into_iter_len, into_iter_items, OutOfMemory, plan_of, seat_view, IsSeatOf}
 use Rattle.workers.specs.inner.Joined.{IsOfBoard, IsJoined}
 use Rattle.workers.proofs.threads.join_all.Given as goal
 

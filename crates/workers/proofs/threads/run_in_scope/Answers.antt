@@ -1,5 +1,4 @@
-use Rattle.std.proofs.Common.{ap}
-use Rattle.board.specs.SeatView.{SeatView}
+use Rattle.workers.proofs.Common.{ap, SeatView}
 use Rattle.workers.proofs.threads.run_in_scope.Goals as goal
 
 pub start_all-started-requires-clause-seat : goal.start_all-started-requires-clause-seat

@@ -1,5 +1,4 @@
-use Rattle.std.proofs.Common.{◌≡◌, length, vec_len, refl, sym, ap, subst, ◌∙◌, arith, All}
-use Rattle.std.proofs.lemmas.List.Elements.{All-push}
+use Rattle.workers.proofs.Common.{◌≡◌, length, vec_len, refl, sym, ap, subst, ◌∙◌, arith, All, All-push}
 use Rattle.workers.specs.inner.Joined.{IsOfBoard}
 use Rattle.workers.proofs.threads.start_all.Goals as goal
 

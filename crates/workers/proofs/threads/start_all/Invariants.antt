@@ -1,6 +1,4 @@
-use Rattle.std.proofs.Common.{◌≡◌, ◌+◌, All, vec_len, vec_capacity}
-use Rattle.std.specs.Vec.Iter.{into_iter_len}
-use Rattle.board.specs.Boards.{seat_view}
+use Rattle.workers.proofs.Common.{◌≡◌, ◌+◌, All, vec_len, vec_capacity, into_iter_len, seat_view}
 use Rattle.workers.specs.inner.Returns.{IsFreshSeat}
 use Rattle.workers.specs.inner.Joined.{IsOfBoard}
 use Rattle.workers.proofs.threads.start_all.Given as goal

@@ -1,4 +1,4 @@
-use Rattle.std.proofs.Common.{ap, ◌∙◌, ◌++◌}
+use Rattle.workers.proofs.Common.{ap, ◌∙◌, ◌++◌}
 use Rattle.workers.proofs.threads.with_more.Goals as goal
 
 pub returns : goal.returns

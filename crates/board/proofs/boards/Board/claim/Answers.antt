@@ -1,4 +1,4 @@
-use Rattle.std.proofs.Common.{rules, ◌∙◌, refl}
+use Rattle.board.proofs.Common.{rules, ◌∙◌, refl}
 use Rattle.board.specs.Boards.{plan_of}
 use Rattle.board.proofs.Steps.{claim_allowed}
 use Rattle.board.proofs.Calls.{at_rest, word_within, claim_won, claim_held, claim_taken, claim_refused}

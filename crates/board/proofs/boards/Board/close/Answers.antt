@@ -1,6 +1,4 @@
-use Rattle.std.proofs.Common.{rules, arith, ap, sym, ◌∙◌, refl, length, map, ◌≡◌, ◌/◌, get_or}
-use Rattle.std.specs.Mem.Slots.{slots_items, slots_counts}
-use Rattle.model.specs.RoundLists.{RoundListView}
+use Rattle.board.proofs.Common.{rules, arith, ap, sym, ◌∙◌, refl, length, map, ◌≡◌, ◌/◌, get_or, slots_items, slots_counts, RoundListView}
 use Rattle.board.specs.Boards.{plan_of, seat_view, exchanges_of}
 use Rattle.board.specs.Rule.{Orderly}
 use Rattle.board.specs.Models.{slot_model}

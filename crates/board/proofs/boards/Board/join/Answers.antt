@@ -1,5 +1,4 @@
-use Rattle.std.proofs.Common.{rules, arith, ap, ◌∙◌, inl, inr}
-use Rattle.std.proofs.lemmas.Bool.{cases_lt}
+use Rattle.board.proofs.Common.{rules, arith, ap, ◌∙◌, inl, inr, cases_lt}
 use Rattle.board.specs.Weights.{times, only}
 use Rattle.board.specs.SeatView.{joined}
 use Rattle.board.specs.Boards.{plan_of, seat_view}

@@ -1,10 +1,4 @@
-use Rattle.std.proofs.Common.{arith, ap, sym, ◌∙◌, length, ◌∷◌, map, subst}
-use Rattle.std.specs.List.{range_with_len}
-use Rattle.std.proofs.lemmas.List.{length-map}
-use Rattle.std.proofs.lemmas.List.FromFn.{length-map-range_with_len}
-use Rattle.model.specs.RoundLists.{RoundListView}
-use Rattle.dependencies.specs.Neighbours.{pending_of}
-use Rattle.dependencies.specs.inner.Slots.{in_place}
+use Rattle.board.proofs.Common.{arith, ap, sym, ◌∙◌, length, ◌∷◌, map, subst, range_with_len, length-map, length-map-range_with_len, RoundListView, pending_of, in_place}
 use Rattle.board.specs.Rule.{Orderly}
 use Rattle.board.specs.Keys.{IsBoardKey, key_plan}
 use Rattle.board.specs.Models.{slot_model}

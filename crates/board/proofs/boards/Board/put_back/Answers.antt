@@ -1,5 +1,4 @@
-use Rattle.std.proofs.Common.{◌≡◌, refl, ap, sym, ◌∙◌, ◌<◌, subst, length, IfSome}
-use Rattle.dependencies.specs.Neighbours.{successors}
+use Rattle.board.proofs.Common.{◌≡◌, refl, ap, sym, ◌∙◌, ◌<◌, subst, length, IfSome, successors}
 use Rattle.board.specs.Boards.{plan_of, seat_view, exchanges_of, IsSeatOf, IsPutBack}
 use Rattle.board.specs.declared.boards.Seat.{Seat}
 use Rattle.board.specs.inner.Plays.{OwesTo, IsReleased}

@@ -1,12 +1,9 @@
-use Rattle.std.proofs.Common.{ℕ, Option, rules, ap, ◌∙◌, refl, ◌∷◌, [], None, Some, ◌≡◌, ◌+◌}
-use mathlib.Core.Option.{none}
-use Rattle.atomic_table.specs.Table.{Me, step}
+use Rattle.board.proofs.Common.{ℕ, Option, rules, ap, ◌∙◌, refl, ◌∷◌, [], None, Some, ◌≡◌, ◌+◌, none, Me, step, exchange_at}
 use Rattle.board.specs.Boards.{plan_of}
 use Rattle.board.specs.Plan.{BoardPlan, initiator_of, responder_of}
 use Rattle.board.specs.SeatView.{SeatView, without_held}
 use Rattle.board.specs.declared.views.View.{View}
 use Rattle.board.specs.Seats.{view}
-use Rattle.dependencies.specs.Sharing.{exchange_at}
 use Rattle.board.proofs.Steps.{retake_allowed, finish_allowed}
 use Rattle.board.proofs.Calls.{word_zero, word_within, second_out, both_out, retaken_of, finished_of}
 use Rattle.board.proofs.boards.Board.put_in.Given as given

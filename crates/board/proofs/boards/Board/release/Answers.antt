@@ -1,6 +1,4 @@
-use Rattle.std.proofs.Common.{rules, sym, refl, None, Some, ◌≡◌, ◌<◌, ◌+◌, subst, length, IfSome}
-use mathlib.Core.Option.{none}
-use Rattle.atomic_table.specs.Table.{step}
+use Rattle.board.proofs.Common.{rules, sym, refl, None, Some, ◌≡◌, ◌<◌, ◌+◌, subst, length, IfSome, none, step}
 use Rattle.board.specs.Boards.{plan_of, exchanges_of}
 use Rattle.board.specs.inner.Plays.{OwesTo, IsReleased}
 use Rattle.board.proofs.Steps.{release_allowed}

@@ -1,4 +1,4 @@
-use Rattle.std.proofs.Common.{arith, refl}
+use Rattle.board.proofs.Common.{arith, refl}
 use Rattle.board.specs.Boards.{plan_of}
 use Rattle.board.proofs.Steps.{stop_allowed}
 use Rattle.board.proofs.Calls.{seat_rests, word_zero, rests_again}

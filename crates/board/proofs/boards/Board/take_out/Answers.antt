@@ -1,10 +1,7 @@
-use Rattle.std.proofs.Common.{rules, ap, ◌∙◌, refl, ◌∷◌, [], None, Some}
-use mathlib.Core.Option.{none}
-use Rattle.atomic_table.specs.Table.{step}
+use Rattle.board.proofs.Common.{rules, ap, ◌∙◌, refl, ◌∷◌, [], None, Some, none, step, exchange_at}
 use Rattle.board.specs.Boards.{plan_of}
 use Rattle.board.specs.Plan.{initiator_of, responder_of}
 use Rattle.board.specs.Seats.{view}
-use Rattle.dependencies.specs.Sharing.{exchange_at}
 use Rattle.board.proofs.Steps.{empty_allowed}
 use Rattle.board.proofs.Calls.{word_zero, first_out, second_out, both_out, emptied_of}
 use Rattle.board.proofs.boards.Board.take_out.Goals as goal

@@ -1,5 +1,4 @@
-use Rattle.std.proofs.Common.{ap, arith}
-use Rattle.model.specs.RoundLists.{RoundListView}
+use Rattle.dependencies.proofs.Common.{ap, arith, RoundListView}
 use Rattle.dependencies.specs.Neighbours.{predecessors_of}
 use Rattle.dependencies.proofs.Passes.{indexed}
 use Rattle.dependencies.proofs.deps.Deps.before.Goals as goal

@@ -1,4 +1,4 @@
-use Rattle.std.proofs.Common.{length, ap, arith}
+use Rattle.dependencies.proofs.Common.{length, ap, arith}
 use Rattle.dependencies.specs.Neighbours.{predecessors_of}
 use Rattle.dependencies.proofs.Passes.{length_each}
 use Rattle.dependencies.proofs.deps.Deps.new.Goals as goal

@@ -1,6 +1,4 @@
-use Rattle.std.proofs.Common.{◌≡◌, drop, subst, sym, ap, ◌∙◌, arith}
-use Rattle.std.proofs.lemmas.List.{take_rest}
-use Rattle.model.specs.Table.{generation_held}
+use Rattle.node_table.proofs.Common.{◌≡◌, drop, subst, sym, ap, ◌∙◌, arith, take_rest, generation_held}
 use Rattle.node_table.specs.Entries.{AreAbove}
 use Rattle.node_table.specs.inner.Layouts.{IsRankAbove, row_at, table_laid}
 use Rattle.node_table.proofs.InLayout.{above_older, above_rank}

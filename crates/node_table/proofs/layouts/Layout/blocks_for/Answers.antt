@@ -1,8 +1,4 @@
-use Rattle.std.proofs.Common.{◌≡◌, ℕ, List, length, sym, ap, ◌∙◌, subst, arith}
-use Rattle.std.specs.Vec.{with_items}
-use Rattle.std.proofs.lemmas.List.{with_items_is}
-use Rattle.bench_types.specs.declared.entries.Item.{Item}
-use Rattle.model.specs.Table.{greatest_version}
+use Rattle.node_table.proofs.Common.{◌≡◌, ℕ, List, length, sym, ap, ◌∙◌, subst, arith, with_items, with_items_is, Item, greatest_version}
 use Rattle.node_table.specs.Entries.{AreGreatest}
 use Rattle.node_table.specs.NodeTableView.{blocks_below, blocks_for}
 use Rattle.node_table.specs.inner.Flags.{AreFlagged, AreUnflagged}

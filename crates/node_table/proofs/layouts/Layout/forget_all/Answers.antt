@@ -1,6 +1,5 @@
-use Rattle.std.proofs.Common.{◌≡◌, ℕ, ◌+◌, replicate, refl, ap, ◌∙◌, arith}
+use Rattle.node_table.proofs.Common.{◌≡◌, ℕ, ◌+◌, replicate, refl, ap, ◌∙◌, arith, proper-without_all}
 use Rattle.node_table.specs.inner.Layouts.{table_laid}
-use Rattle.model.proofs.ProperLaws.{proper-without_all}
 use Rattle.node_table.proofs.Forgotten.{empty_row}
 use Rattle.node_table.proofs.Empty.{table_bare, layout_bare}
 use Rattle.node_table.proofs.layouts.Layout.forget_all.Goals as goal

@@ -1,13 +1,8 @@
-use Rattle.std.proofs.Common.{◌≡◌, ℕ, ◌<◌, ◌≤◌, List, length, get_or, set, take, replicate, sym, ap, ◌∙◌, subst, arith}
-use Rattle.std.proofs.lemmas.List.{get_or_read}
-use Rattle.bench_types.specs.declared.entries.Entry.{Entry}
+use Rattle.node_table.proofs.Common.{◌≡◌, ℕ, ◌<◌, ◌≤◌, List, length, get_or, set, take, replicate, sym, ap, ◌∙◌, subst, arith, get_or_read, Entry, Table, without_others, greatest_version, IsProper, held_by_lists, proper-without_others}
 use Rattle.node_table.specs.declared.layouts.Row.{Row}
 use Rattle.node_table.specs.declared.layouts.Layout.{Layout}
-use Rattle.model.specs.Table.{Table, without_others, greatest_version, IsProper}
 use Rattle.node_table.specs.Entries.{AreGenerations, AreGreatest}
-use Rattle.model.specs.calls.Held.{held_by_lists}
 use Rattle.node_table.specs.inner.Layouts.{entries_in_row, rows_of, row_at, table_laid, block_len, count_in_rows, IsInSlots, AreLaid, AreOthersKept, IsLayout}
-use Rattle.model.proofs.ProperLaws.{proper-without_others}
 use Rattle.node_table.proofs.Laid.{row_at-get_or, len-le-keys}
 use Rattle.node_table.proofs.Forgotten.{empty_row, one_row, laid_one, counted_one, row_at-one_own, row_at-one_other, table_one, greatest_one, generations_none, generations_one}
 use Rattle.node_table.proofs.layouts.Layout.forget_others.Goals as goal

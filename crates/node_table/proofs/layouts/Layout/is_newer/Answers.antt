@@ -1,12 +1,5 @@
-use Rattle.std.proofs.Common.{Option, sym, ap, ◌∙◌, arith}
-use Rattle.std.specs.Prelude.{nat_lt}
-use Rattle.std.proofs.lemmas.Bool.{lt-ltb}
-use Rattle.std.proofs.lemmas.List.{get_or_read}
-use Rattle.bench_types.specs.declared.entries.Entry.{Entry}
-use Rattle.bench_types.specs.Mark.{mark_held}
-use Rattle.model.specs.Table.{mark_at}
+use Rattle.node_table.proofs.Common.{Option, sym, ap, ◌∙◌, arith, nat_lt, lt-ltb, get_or_read, Entry, mark_held, mark_at, entry_in}
 use Rattle.node_table.specs.inner.Layouts.{table_laid}
-use Rattle.model.specs.inner.Held.{entry_in}
 use Rattle.node_table.proofs.Taking.{version-le-greatest}
 use Rattle.node_table.proofs.InLayout.{entry_at-in}
 use Rattle.node_table.proofs.layouts.Layout.is_newer.Goals as goal

@@ -1,12 +1,7 @@
-use Rattle.std.proofs.Common.{rules, ◌≡◌, ◌+◌, ◌-◌, ◌<◌, List, length, max, get_or, set, sym, ap, ◌∙◌, subst, arith}
-use Rattle.std.specs.Vec.{with_items}
-use Rattle.std.proofs.lemmas.List.{with_items_is, get_or_read, get_or-set_same}
-use Rattle.bench_types.specs.declared.entries.Entry.{Entry}
+use Rattle.node_table.proofs.Common.{rules, ◌≡◌, ◌+◌, ◌-◌, ◌<◌, List, length, max, get_or, set, sym, ap, ◌∙◌, subst, arith, with_items, with_items_is, get_or_read, get_or-set_same, Entry, Table, IsProper, proper-taking}
 use Rattle.node_table.specs.declared.layouts.Row.{Row}
-use Rattle.model.specs.Table.{Table, IsProper}
 use Rattle.node_table.specs.inner.Layouts.{entries_in_row, count_in_rows, table_laid, AreLaid, IsPlaced, IsPut, KeepOutside}
 use Rattle.node_table.specs.Entries.{AreGenerations, AreGreatest}
-use Rattle.model.proofs.ProperLaws.{proper-taking}
 use Rattle.node_table.proofs.Taking.{taken_put, version-taken_same, greatest_set, generations_same}
 use Rattle.node_table.proofs.Laid.{total-most, laid_put, placed_put}
 use Rattle.node_table.proofs.InLayout.{table_placed, count_placed}

@@ -1,13 +1,8 @@
-use Rattle.std.proofs.Common.{◌≡◌, ◌+◌, ◌<◌, List, [], length, get_or, set, sym, ap, ◌∙◌, subst, arith}
-use Rattle.bench_types.specs.declared.entries.Entry.{Entry}
-use Rattle.bench_types.specs.declared.entries.Item.{Item}
+use Rattle.node_table.proofs.Common.{◌≡◌, ◌+◌, ◌<◌, List, [], length, get_or, set, sym, ap, ◌∙◌, subst, arith, Entry, Item, Table, generation_held, taken, IsProper, held_by_lists, proper-taking}
 use Rattle.node_table.specs.declared.layouts.Layout.{Layout}
 use Rattle.node_table.specs.declared.layouts.Row.{Row}
-use Rattle.model.specs.Table.{Table, generation_held, taken, IsProper}
 use Rattle.node_table.specs.Entries.{AreGenerations, AreGreatest}
-use Rattle.model.specs.calls.Held.{held_by_lists}
 use Rattle.node_table.specs.inner.Layouts.{rows_of, row_at, table_laid, count_in_rows, AreLaid}
-use Rattle.model.proofs.ProperLaws.{proper-taking}
 use Rattle.node_table.proofs.Taking.{greatest_set, generations_same, generations_newer}
 use Rattle.node_table.proofs.Laid.{entries_in_row-empty, row_at-get_or, total-most}
 use Rattle.node_table.proofs.Opened.{generation_first, table_first, version_first}

@@ -1,13 +1,8 @@
-use Rattle.std.proofs.Common.{rules, ◌≡◌, ℕ, set, ◌+◌, ◌-◌, ◌<◌, ◌≤◌, List, [], ◌∷◌, length, get_or, inl, inr, refl, sym, ap, ◌∙◌, subst, arith}
-use Rattle.std.proofs.lemmas.List.{length-set, get_or_read}
-use Rattle.bench_types.specs.declared.entries.Entry.{Entry}
-use Rattle.bench_types.specs.declared.entries.Mark.{Mark}
+use Rattle.node_table.proofs.Common.{rules, ◌≡◌, ℕ, set, ◌+◌, ◌-◌, ◌<◌, ◌≤◌, List, [], ◌∷◌, length, get_or, inl, inr, refl, sym, ap, ◌∙◌, subst, arith, length-set, get_or_read, Entry, Mark, Table, IsProper, proper-taking}
 use Rattle.node_table.specs.declared.layouts.Row.{Row}
-use Rattle.model.specs.Table.{Table, IsProper}
 use Rattle.node_table.specs.inner.Layouts.{entries_in_row, count_in_rows, table_laid, IsRow, IsInSlots, AreLaid, IsRenewed, KeepOutside}
 use Rattle.node_table.specs.Entries.{AreGenerations, AreGreatest}
 use Rattle.node_table.proofs.Blocks.{take-set_outside, take-set_here}
-use Rattle.model.proofs.ProperLaws.{proper-taking}
 use Rattle.node_table.proofs.Taking.{mark-taken_newer, greatest_set, generations_newer}
 use Rattle.node_table.proofs.Laid.{total-most, laid_put, renewed_put}
 use Rattle.node_table.proofs.Opened.{one_row}

@@ -1,8 +1,5 @@
-use Rattle.std.proofs.Common.{sym, ◌∙◌, arith}
-use Rattle.std.proofs.lemmas.Bool.{ltb-false}
-use Rattle.model.specs.Table.{mark_at}
+use Rattle.node_table.proofs.Common.{sym, ◌∙◌, arith, ltb-false, mark_at, taken-older}
 use Rattle.node_table.specs.inner.Layouts.{table_laid}
-use Rattle.model.proofs.TableLaws.{taken-older}
 use Rattle.node_table.proofs.Taking.{taken_kept}
 use Rattle.node_table.proofs.InLayout.{none_held}
 use Rattle.node_table.proofs.layouts.Layout.take.Goals as goal

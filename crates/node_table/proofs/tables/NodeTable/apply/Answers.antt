@@ -1,16 +1,6 @@
-use Rattle.std.proofs.Common.{rules, ◌≡◌, ◌≢◌, ◌+◌, ◌*◌, ◌≤◌, List, ◌∷◌, drop, get_or, sym, ap, ◌∙◌, subst, inl, inr, arith}
-use Rattle.std.specs.Prelude.{vec_len, vec_capacity}
-use Rattle.std.specs.Result.{IsOk}
-use Rattle.std.proofs.lemmas.Bool.{cases_eq}
-use Rattle.std.proofs.lemmas.List.{drop_more}
-use Rattle.bench_types.specs.declared.entries.Item.{Item}
-use Rattle.model.specs.Table.{Table, greatest_version, taken, applied}
-use Rattle.model.specs.inner.Items.{no_item}
-use Rattle.model.specs.calls.Table.{IsItemInPlace}
+use Rattle.node_table.proofs.Common.{rules, ◌≡◌, ◌≢◌, ◌+◌, ◌*◌, ◌≤◌, List, ◌∷◌, drop, get_or, sym, ap, ◌∙◌, subst, inl, inr, arith, vec_len, vec_capacity, IsOk, cases_eq, drop_more, Item, Table, greatest_version, taken, applied, no_item, IsItemInPlace, frame-taken, proper-taken}
 use Rattle.node_table.specs.NodeTableView.{blocks_for}
 use Rattle.node_table.specs.inner.Layouts.{table_laid}
-use Rattle.model.proofs.TableLaws.{frame-taken}
-use Rattle.model.proofs.ProperLaws.{proper-taken}
 use Rattle.node_table.proofs.Room.{room-rest, room-first}
 use Rattle.node_table.proofs.tables.NodeTable.apply.Goals as goal
 

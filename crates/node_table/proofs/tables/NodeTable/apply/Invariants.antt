@@ -1,6 +1,4 @@
-use Rattle.std.proofs.Common.{◌≡◌, ◌+◌, ◌*◌, ◌≤◌, drop}
-use Rattle.std.specs.Prelude.{vec_len, vec_capacity}
-use Rattle.model.specs.Table.{applied}
+use Rattle.node_table.proofs.Common.{◌≡◌, ◌+◌, ◌*◌, ◌≤◌, drop, vec_len, vec_capacity, applied}
 use Rattle.node_table.specs.NodeTableView.{blocks_for}
 use Rattle.node_table.specs.inner.Layouts.{table_laid, IsLayout}
 use Rattle.node_table.proofs.tables.NodeTable.apply.Given as goal

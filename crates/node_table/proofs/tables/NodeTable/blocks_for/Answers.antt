@@ -1,7 +1,4 @@
-use Rattle.std.proofs.Common.{◌≡◌, ℕ, ◌+◌, ◌&&◌, cond, sym, ap, ◌∙◌, arith, add-one}
-use Rattle.std.proofs.lemmas.Bool.{eq-eqb, ne_eqb}
-use Rattle.bench_types.specs.declared.entries.Mark.{Mark}
-use Rattle.model.specs.Table.{greatest_version}
+use Rattle.node_table.proofs.Common.{◌≡◌, ℕ, ◌+◌, ◌&&◌, cond, sym, ap, ◌∙◌, arith, add-one, eq-eqb, ne_eqb, Mark, greatest_version}
 use Rattle.node_table.specs.NodeTableView.{NodeTableView, comes_in, needs_block, blocks_below}
 use Rattle.node_table.proofs.Room.{needs-le}
 use Rattle.node_table.proofs.tables.NodeTable.blocks_for.Goals as goal

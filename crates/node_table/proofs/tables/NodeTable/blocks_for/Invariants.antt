@@ -1,5 +1,4 @@
-use Rattle.std.proofs.Common.{◌≡◌, ◌≤◌}
-use Rattle.model.specs.Table.{greatest_version}
+use Rattle.node_table.proofs.Common.{◌≡◌, ◌≤◌, greatest_version}
 use Rattle.node_table.specs.NodeTableView.{blocks_below}
 use Rattle.node_table.proofs.tables.NodeTable.blocks_for.Given as goal
 

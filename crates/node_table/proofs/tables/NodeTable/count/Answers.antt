@@ -1,5 +1,4 @@
-use Rattle.std.proofs.Common.{sym, ap, ◌∙◌}
-use Rattle.model.specs.Table.{count_of}
+use Rattle.node_table.proofs.Common.{sym, ap, ◌∙◌, count_of}
 use Rattle.node_table.proofs.InLayout.{count_is}
 use Rattle.node_table.proofs.tables.NodeTable.count.Goals as goal
 

@@ -1,5 +1,4 @@
-use Rattle.std.proofs.Common.{subst, sym, ◌<◌}
-use Rattle.bench_types.specs.Mark.{absent}
+use Rattle.node_table.proofs.Common.{subst, sym, ◌<◌, absent}
 use Rattle.node_table.specs.Entries.{AreAbove}
 use Rattle.node_table.proofs.InLayout.{whole_row}
 use Rattle.node_table.proofs.tables.NodeTable.entries_of.Goals as goal

@@ -1,6 +1,4 @@
-use Rattle.std.proofs.Common.{sym, ap, ◌∙◌}
-use Rattle.model.specs.Table.{entry_at}
-use Rattle.model.specs.inner.Held.{entry_in}
+use Rattle.node_table.proofs.Common.{sym, ap, ◌∙◌, entry_at, entry_in}
 use Rattle.node_table.proofs.InLayout.{entry_at-in, row_past}
 use Rattle.node_table.proofs.tables.NodeTable.get.Goals as goal
 

@@ -1,5 +1,4 @@
-use Rattle.std.proofs.Common.{sym, ap, ◌∙◌}
-use Rattle.model.specs.Table.{greatest_mark}
+use Rattle.node_table.proofs.Common.{sym, ap, ◌∙◌, greatest_mark}
 use Rattle.node_table.proofs.InLayout.{greatest_past}
 use Rattle.node_table.proofs.tables.NodeTable.greatest.Goals as goal
 

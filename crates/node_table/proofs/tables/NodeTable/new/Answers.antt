@@ -1,5 +1,4 @@
-use Rattle.std.proofs.Common.{refl, arith}
-use Rattle.model.proofs.ProperLaws.{proper-empty_table}
+use Rattle.node_table.proofs.Common.{refl, arith, proper-empty_table}
 use Rattle.node_table.proofs.Empty.{table_bare, layout_bare}
 use Rattle.node_table.proofs.tables.NodeTable.new.Goals as goal
 

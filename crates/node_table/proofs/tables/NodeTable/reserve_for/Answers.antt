@@ -1,10 +1,5 @@
-use Rattle.std.proofs.Common.{◌≡◌, ◌-◌, ◌*◌, ◌<◌, ◌≤◌, List, sym, ap, ◌∙◌, arith}
-use Rattle.std.specs.Prelude.{vec_len, vec_capacity}
-use Rattle.std.proofs.lemmas.Nat.{le-div}
-use Rattle.bench_types.specs.declared.entries.Entry.{Entry}
-use Rattle.model.specs.Table.{Table}
+use Rattle.node_table.proofs.Common.{◌≡◌, ◌-◌, ◌*◌, ◌<◌, ◌≤◌, List, sym, ap, ◌∙◌, arith, vec_len, vec_capacity, le-div, Entry, Table, held_by_lists}
 use Rattle.node_table.specs.NodeTableView.{blocks_for}
-use Rattle.model.specs.calls.Held.{held_by_lists}
 use Rattle.node_table.specs.inner.Layouts.{rows_of}
 use Rattle.node_table.proofs.tables.NodeTable.reserve_for.Goals as goal
 

@@ -1,10 +1,4 @@
-use Rattle.std.proofs.Common.{◌≡◌, true, false, ◌+◌, ◌-◌, ◌/◌, ◌<◌, ◌≤◌, Result, Ok, Err, OnErr, sym, ap, ◌∙◌, subst, arith}
-use Rattle.std.specs.Prelude.{vec_len, vec_capacity}
-use Rattle.std.specs.Result.{IsOk}
-use Rattle.std.proofs.Math.Nat.{mul-le-mul_right}
-use Rattle.std.proofs.lemmas.List.{get_or_read}
-use Rattle.std.proofs.lemmas.Nat.{div-add-mod'}
-use Rattle.model.specs.Table.{greatest_version, taken, with_own_write}
+use Rattle.node_table.proofs.Common.{◌≡◌, true, false, ◌+◌, ◌-◌, ◌/◌, ◌<◌, ◌≤◌, Result, Ok, Err, OnErr, sym, ap, ◌∙◌, subst, arith, vec_len, vec_capacity, IsOk, mul-le-mul_right, get_or_read, div-add-mod', greatest_version, taken, with_own_write}
 use Rattle.node_table.specs.inner.Layouts.{table_laid}
 use Rattle.node_table.proofs.Taking.{taken-own_write}
 use Rattle.node_table.proofs.Room.{div-le-div}

@@ -1,7 +1,5 @@
-use Rattle.std.proofs.Common.{◌≡◌, length, ap, ◌∙◌, arith}
-use Rattle.model.specs.calls.OwnerListView.{begun_generation}
+use Rattle.owner_lists.proofs.Common.{◌≡◌, length, ap, ◌∙◌, arith, begun_generation, view_begun}
 use Rattle.owner_lists.specs.inner.Kept.{itself}
-use Rattle.owner_writes.proofs.Keeping.{view_begun}
 use Rattle.owner_lists.proofs.Keeping.{list_begun}
 use Rattle.owner_lists.proofs.lists.OwnerList.begin_generation.Goals as goal
 

@@ -1,8 +1,4 @@
-use Rattle.std.proofs.Common.{List, take, drop, sym, ap, ◌∙◌, subst}
-use Rattle.std.specs.List.{find}
-use Rattle.bench_types.specs.declared.entries.Entry.{Entry}
-use Rattle.model.specs.calls.Numbers.{write_numbered}
-use Rattle.model.specs.calls.OwnerListView.{OwnerListView, MarksRise}
+use Rattle.owner_lists.proofs.Common.{List, take, drop, sym, ap, ◌∙◌, subst, find, Entry, write_numbered, OwnerListView, MarksRise}
 use Rattle.owner_lists.specs.Marked.{has_mark, entry_of}
 use Rattle.owner_lists.specs.inner.Kept.{view_of}
 use Rattle.owner_lists.proofs.Marked.{rising_earlier, entry_current, entry_earlier}

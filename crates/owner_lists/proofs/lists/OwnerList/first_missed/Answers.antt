@@ -1,9 +1,4 @@
-use Rattle.std.proofs.Common.{◌≡◌, ◌≤◌, IfSome, None, List, find, map, drop, sym, ap, ◌∙◌, subst}
-use Rattle.bench_types.specs.declared.entries.Entry.{Entry}
-use Rattle.model.specs.declared.writes.Write.{Write}
-use Rattle.model.specs.calls.OwnerListView.{written, AreWrites}
-use Rattle.model.specs.Writes.{write_of_entry}
-use Rattle.model.specs.calls.Writes.{is_write_of, last_write, IsNumbered}
+use Rattle.owner_lists.proofs.Common.{◌≡◌, ◌≤◌, IfSome, None, List, find, map, drop, sym, ap, ◌∙◌, subst, Entry, Write, written, AreWrites, write_of_entry, is_write_of, last_write, IsNumbered}
 use Rattle.owner_lists.specs.Latest.{write_of}
 use Rattle.owner_lists.specs.Missed.{first_missed}
 use Rattle.owner_lists.proofs.Last.{first_missed-drop, fresh}

@@ -1,5 +1,4 @@
-use Rattle.std.proofs.Common.{sym, subst}
-use Rattle.model.specs.calls.OwnerListView.{written}
+use Rattle.owner_lists.proofs.Common.{sym, subst, written}
 use Rattle.owner_lists.specs.Latest.{IsLatest}
 use Rattle.owner_lists.proofs.lists.OwnerList.latest.Goals as goal
 

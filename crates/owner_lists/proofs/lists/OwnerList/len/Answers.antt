@@ -1,5 +1,4 @@
-use Rattle.std.proofs.Common.{subst}
-use Rattle.model.specs.calls.OwnerListView.{AreWrites}
+use Rattle.owner_lists.proofs.Common.{subst, AreWrites}
 use Rattle.owner_lists.proofs.Keeping.{numbered_kept}
 use Rattle.owner_lists.proofs.lists.OwnerList.len.Goals as goal
 

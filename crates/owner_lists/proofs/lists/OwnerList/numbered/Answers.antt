@@ -1,10 +1,6 @@
-use Rattle.std.proofs.Common.{List, sym, ap, ◌∙◌}
-use Rattle.bench_types.specs.declared.entries.Entry.{Entry}
-use Rattle.model.specs.calls.Numbers.{write_numbered}
-use Rattle.model.specs.calls.OwnerListView.{entries_of}
+use Rattle.owner_lists.proofs.Common.{List, sym, ap, ◌∙◌, Entry, write_numbered, entries_of, entries_whole}
 use Rattle.owner_lists.specs.inner.Kept.{itself}
 use Rattle.owner_lists.proofs.Keeping.{all_themselves}
-use Rattle.owner_writes.proofs.Keeping.{entries_whole}
 use Rattle.owner_lists.proofs.lists.OwnerList.numbered.Goals as goal
 
 pub returns : goal.returns

@@ -1,9 +1,4 @@
-use Rattle.std.proofs.Common.{◌≡◌, ◌+◌, length, sym, ap, ◌∙◌, subst, arith}
-use Rattle.std.specs.Ordering.{nat_cmp}
-use Rattle.std.specs.FinMap.{put}
-use Rattle.bench_types.specs.declared.entries.Entry.{Entry}
-use Rattle.model.specs.calls.OwnerListView.{OwnerListView, next_entry}
-use Rattle.model.specs.Writes.{write_of_entry}
+use Rattle.owner_lists.proofs.Common.{◌≡◌, ◌+◌, length, sym, ap, ◌∙◌, subst, arith, nat_cmp, put, Entry, OwnerListView, next_entry, write_of_entry}
 use Rattle.owner_lists.specs.Latest.{keyed}
 use Rattle.owner_lists.specs.inner.Kept.{view_of, IsKeptList}
 use Rattle.owner_lists.proofs.Keeping.{list_written}

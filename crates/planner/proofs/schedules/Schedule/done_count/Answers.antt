@@ -1,4 +1,4 @@
-use Rattle.std.proofs.Common.{subst}
+use Rattle.planner.proofs.Common.{subst}
 use Rattle.planner.specs.Stages.{HasSchedule}
 use Rattle.planner.proofs.Standings.{schedule_there}
 use Rattle.planner.proofs.schedules.Schedule.done_count.Goals as goal

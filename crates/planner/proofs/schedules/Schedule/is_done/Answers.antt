@@ -1,4 +1,4 @@
-use Rattle.std.proofs.Common.{refl}
+use Rattle.planner.proofs.Common.{refl}
 use Rattle.planner.specs.declared.schedules.Stage.TheVariants.{Done}
 use Rattle.planner.proofs.Standings.{schedule_there, stage_asked, over_begun}
 use Rattle.planner.proofs.schedules.Schedule.is_done.Goals as goal

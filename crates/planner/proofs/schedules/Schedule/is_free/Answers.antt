@@ -1,6 +1,4 @@
-use Rattle.std.proofs.Common.{sym, ap, ◌∙◌, subst}
-use Rattle.std.proofs.lemmas.Bool.{false≢true}
-use Rattle.dependencies.specs.Neighbours.{predecessors_of}
+use Rattle.planner.proofs.Common.{sym, ap, ◌∙◌, subst, false≢true, predecessors_of}
 use Rattle.planner.specs.Stages.{ScheduleView, IsSchedule}
 use Rattle.planner.proofs.Standings.{free_from_both, both_from_free}
 use Rattle.planner.proofs.schedules.Schedule.is_free.Goals as goal

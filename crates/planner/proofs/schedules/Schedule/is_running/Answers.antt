@@ -1,4 +1,4 @@
-use Rattle.std.proofs.Common.{refl}
+use Rattle.planner.proofs.Common.{refl}
 use Rattle.planner.specs.declared.schedules.Stage.TheVariants.{Running}
 use Rattle.planner.proofs.Standings.{schedule_there, stage_asked, runs_begun}
 use Rattle.planner.proofs.schedules.Schedule.is_running.Goals as goal

@@ -1,7 +1,4 @@
-use Rattle.std.proofs.Common.{◌<◌, length, Some, sym, ap, ◌∙◌, arith}
-use Rattle.std.specs.Option.{option_eq}
-use Rattle.std.proofs.lemmas.Bool.{false≢true}
-use Rattle.std.proofs.lemmas.Option.{slice_get_within}
+use Rattle.planner.proofs.Common.{◌<◌, length, Some, sym, ap, ◌∙◌, arith, option_eq, false≢true, slice_get_within}
 use Rattle.planner.specs.declared.schedules.Stage.TheVariants.{Waiting}
 use Rattle.planner.specs.contracts.schedules.StagePartialEq.TheImpl.{eq-value}
 use Rattle.planner.proofs.Standings.{schedule_there, told_stage, stage_told, stage_read, stage_there}

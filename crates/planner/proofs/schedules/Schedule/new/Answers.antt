@@ -1,5 +1,4 @@
-use Rattle.std.proofs.Common.{◌≡◌, List, [], ◌∷◌, length, map, replicate, refl, ap, ◌∙◌}
-use Rattle.bench_types.specs.declared.exchanges.Exchange.{Exchange}
+use Rattle.planner.proofs.Common.{◌≡◌, List, [], ◌∷◌, length, map, replicate, refl, ap, ◌∙◌, Exchange}
 use Rattle.planner.specs.declared.schedules.Stage.TheVariants.{Waiting}
 use Rattle.planner.specs.Stages.{standing_of, waiting_at_first}
 use Rattle.planner.proofs.schedules.Schedule.new.Goals as goal

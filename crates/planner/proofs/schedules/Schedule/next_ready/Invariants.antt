@@ -1,4 +1,4 @@
-use Rattle.std.proofs.Common.{ℕ, ◌<◌}
+use Rattle.planner.proofs.Common.{ℕ, ◌<◌}
 use Rattle.planner.specs.Stages.{CanStart}
 use Rattle.planner.proofs.schedules.Schedule.next_ready.Given as goal
 

@@ -1,4 +1,4 @@
-use Rattle.std.proofs.Common.{refl, sym, subst}
+use Rattle.planner.proofs.Common.{refl, sym, subst}
 use Rattle.planner.specs.Stages.{CanStart, standing_of}
 use Rattle.planner.proofs.Standings.{standing_started}
 use Rattle.planner.proofs.schedules.Schedule.start.Goals as goal

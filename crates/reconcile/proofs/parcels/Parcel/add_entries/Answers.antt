@@ -1,4 +1,4 @@
-use Rattle.std.proofs.Common.{[], ◌∷◌, map, take, get_or, subst}
+use Rattle.reconcile.proofs.Common.{[], ◌∷◌, map, take, get_or, subst}
 use Rattle.reconcile.specs.inner.Newer.{item_with}
 use Rattle.reconcile.specs.inner.Parcels.{AddsFitting}
 use Rattle.reconcile.proofs.Adding.{adds-append}

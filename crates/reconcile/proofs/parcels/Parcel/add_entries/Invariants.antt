@@ -1,4 +1,4 @@
-use Rattle.std.proofs.Common.{map, take}
+use Rattle.reconcile.proofs.Common.{map, take}
 use Rattle.reconcile.specs.inner.Newer.{item_with}
 use Rattle.reconcile.specs.inner.Parcels.{AddsFitting}
 use Rattle.reconcile.proofs.parcels.Parcel.add_entries.Given as goal

@@ -1,6 +1,4 @@
-use Rattle.std.proofs.Common.{◌≡◌, ◌+◌, ◌<◌, ◌≤◌, ◌++◌, ℕ, List, length, take, drop, append-nil, sym, subst, ap, ◌∙◌, arith}
-use Rattle.std.proofs.lemmas.List.{drop_all, take_all}
-use Rattle.bench_types.specs.declared.limits.TheConstants.{MOST_ROUNDS}
+use Rattle.round_plan.proofs.Common.{◌≡◌, ◌+◌, ◌<◌, ◌≤◌, ◌++◌, ℕ, List, length, take, drop, append-nil, sym, subst, ap, ◌∙◌, arith, drop_all, take_all, MOST_ROUNDS}
 use Rattle.round_plan.specs.calls.Words.{RunWordsView}
 use Rattle.round_plan.specs.inner.Streams.{ArePartsOf, HaveDrawn}
 use Rattle.round_plan.proofs.Streams.{parts_next}

@@ -1,4 +1,4 @@
-use Rattle.toml.specs.View.{table_view}
+use Rattle.scenario.proofs.Common.{table_view}
 use Rattle.scenario.proofs.Lawful.{apart_lawful}
 use Rattle.scenario.proofs.tables.PartitionsElements.of.Goals as goal
 

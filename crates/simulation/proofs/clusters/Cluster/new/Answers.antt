@@ -1,4 +1,4 @@
-use Rattle.std.proofs.Common.{map, ◌∙◌}
+use Rattle.simulation.proofs.Common.{map, ◌∙◌}
 use Rattle.simulation.specs.Rounds.{tables_after}
 use Rattle.simulation.proofs.Standing.{standing_opening}
 use Rattle.simulation.proofs.clusters.Cluster.new.Goals as goal

@@ -1,11 +1,4 @@
-use Rattle.std.proofs.Common.{map, subst, sym, ap, ◌∙◌, IfOk}
-use Rattle.bench_types.specs.calls.Budget.{IsLawfulBudget}
-use Rattle.bench_types.specs.declared.exchanges.Rules.{Rules}
-use Rattle.model.specs.calls.Tables.{IsCluster}
-use Rattle.model.specs.calls.OwnerListView.{lists_in}
-use Rattle.model.specs.Figures.{figures_of}
-use Rattle.model.specs.RoundLists.{RoundListView}
-use Rattle.model.specs.calls.RoundLists.{IsRoundPlan}
+use Rattle.simulation.proofs.Common.{map, subst, sym, ap, ◌∙◌, IfOk, IsLawfulBudget, Rules, IsCluster, lists_in, figures_of, RoundListView, IsRoundPlan}
 use Rattle.simulation.specs.inner.Plans.{IsDrawnAfter}
 use Rattle.simulation.proofs.Playing.{IsLeft, lawful_budget, is_left, each_begun, nodes_cluster, standing_cluster, one_list_each, one_record_each, round_is, played_is}
 use Rattle.simulation.proofs.Standing.{written_by}

@@ -1,4 +1,4 @@
-use Rattle.std.proofs.Common.{arith}
+use Rattle.simulation.proofs.Common.{arith}
 use Rattle.simulation.proofs.sims.Sim.of.Goals as goal
 
 pub invariant_of-result : goal.invariant_of-result

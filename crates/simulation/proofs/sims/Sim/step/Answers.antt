@@ -1,5 +1,4 @@
-use Rattle.std.proofs.Common.{◌+◌, Some, sym, ◌∙◌, subst, arith}
-use Rattle.scenario.specs.Settings.{IsLawfulScenario}
+use Rattle.simulation.proofs.Common.{◌+◌, Some, sym, ◌∙◌, subst, arith, IsLawfulScenario}
 use Rattle.simulation.specs.calls.Simulation.{SimView, MayStep, PlaysNext}
 use Rattle.simulation.specs.inner.Insides.{simulation_of}
 use Rattle.simulation.proofs.Stepping.{after_before, step_played}

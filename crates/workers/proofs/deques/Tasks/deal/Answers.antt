@@ -1,4 +1,4 @@
-use Rattle.std.proofs.Common.{rules, ◌≡◌, ◌∙◌, sym, length, map, subst, arith}
+use Rattle.workers.proofs.Common.{rules, ◌≡◌, ◌∙◌, sym, length, map, subst, arith}
 use Rattle.workers.specs.inner.Pushes.{AreDealt, pushed}
 use Rattle.workers.proofs.Dealing.{next_dealt}
 use Rattle.workers.proofs.deques.Tasks.deal.Goals as goal

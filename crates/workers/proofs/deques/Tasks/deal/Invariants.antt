@@ -1,4 +1,4 @@
-use Rattle.std.proofs.Common.{◌≡◌, map, vec_len}
+use Rattle.workers.proofs.Common.{◌≡◌, map, vec_len}
 use Rattle.workers.specs.inner.Pushes.{AreDealt, pushed}
 use Rattle.workers.proofs.deques.Tasks.deal.Given as goal
 

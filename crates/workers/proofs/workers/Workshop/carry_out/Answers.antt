@@ -1,6 +1,5 @@
-use Rattle.std.proofs.Common.{refl}
+use Rattle.workers.proofs.Common.{refl, plan_of, seat_view}
 use Rattle.workers.proofs.Holds.{hold_meets, hold_fits, hold_returns, sent_in_order, freed_in_list}
-use Rattle.board.specs.Boards.{plan_of, seat_view}
 use Rattle.workers.proofs.workers.Workshop.carry_out.Goals as goal
 
 pub exchange-requires-clause-tables : goal.exchange-requires-clause-tables

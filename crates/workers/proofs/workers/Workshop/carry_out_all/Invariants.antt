@@ -1,4 +1,4 @@
-use Rattle.board.specs.Boards.{plan_of, seat_view, IsSeatOf}
+use Rattle.workers.proofs.Common.{plan_of, seat_view, IsSeatOf}
 use Rattle.workers.specs.inner.Pushes.{PushesFreed, pushed}
 use Rattle.workers.specs.inner.Returns.{AreRecordsOf, StaysAtWork}
 use Rattle.workers.proofs.workers.Workshop.carry_out_all.Given as goal

@@ -1,15 +1,6 @@
-use Rattle.std.proofs.Common.{◌≡◌, ℕ, List, [], ◌∷◌, ◌++◌, map, All, sym, ap, ◌∙◌, subst, arith}
-use Rattle.std.proofs.lemmas.List.{append_assoc, map-append}
-use Rattle.std.proofs.lemmas.List.Elements.{All-append, All-cons}
-use Rattle.board.specs.SeatView.{SeatView}
-use Rattle.board.specs.Plan.{BoardPlan, exchanged_at}
-use Rattle.board.specs.declared.boards.Freed.{Freed}
-use Rattle.collector.specs.declared.collectors.Stamped.{Stamped}
-use Rattle.dependencies.specs.Neighbours.{as_list}
+use Rattle.workers.proofs.Common.{◌≡◌, ℕ, List, [], ◌∷◌, ◌++◌, map, All, sym, ap, ◌∙◌, subst, arith, append_assoc, map-append, All-append, All-cons, SeatView, BoardPlan, exchanged_at, Freed, Stamped, as_list, plan_of, seat_view, now_held}
 use Rattle.workers.specs.inner.Pushes.{pushed}
 use Rattle.workers.specs.inner.Returns.{HasDone, AreRecordsOf}
-use Rattle.board.specs.Boards.{plan_of, seat_view}
-use Rattle.board.proofs.Claimed.{now_held}
 use Rattle.workers.proofs.workers.Workshop.try_one.Goals as goal
 
 -- with one more, after a claim that leaves what was made

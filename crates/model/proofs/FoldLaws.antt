@@ -15,7 +15,7 @@ use Rattle.model.specs.inner.Copies.{AreLastOf, HasNoGap}
 use Rattle.model.specs.Clusters.{own_parts, generations_of, AreCopiesOf, HaveNoGap, NoMarksFall}
 use Rattle.model.specs.inner.Owns.{KeepOwnParts, KeepsOwn}
 use Rattle.model.proofs.Owns.{keeps_own_same, keeps_own_then, initiator_keeps_own, responder_keeps_own}
-use Rattle.model.proofs.Tables.{still_in_order}
+use Rattle.model.proofs.Tables.{still_in_order, table_of_node-set_same, table_of_node-set_other}
 use Rattle.model.proofs.ExchangeLaws.{marks_stay, marks_then, initiator_rises, responder_rises, initiator_proper, responder_proper, initiator_writes, responder_writes, initiator_no_gap, responder_no_gap}
 
 -- what holds of two tables that are written back and of the others holds of each
@@ -54,6 +54,21 @@ module _ (rules : Rules) (nodes keys : ℕ) (s : Folded) (e : Exchange) (planned
 
   abbrev done : Exchanged
   done = exchanged rules e p q
+
+  -- where they stand after it
+  pub initiator_is : table_of_node (exchange_in rules s e).tables e.initiator ≡ done.initiator
+  initiator_is =
+      table_of_node-set_other (set s.tables e.initiator done.initiator) e.responder e.initiator done.responder planned.apart
+      ∙ table_of_node-set_same s.tables e.initiator done.initiator (omega (arith, planned.initiator, tables.size))
+
+  pub responder_is : table_of_node (exchange_in rules s e).tables e.responder ≡ done.responder
+  responder_is =
+      table_of_node-set_same (set s.tables e.initiator done.initiator) e.responder done.responder (omega (arith, planned.responder, tables.size, length-set s.tables e.initiator done.initiator))
+
+  pub other_is : (n : ℕ) → n ≢ e.initiator → n ≢ e.responder → table_of_node (exchange_in rules s e).tables n ≡ table_of_node s.tables n
+  other_is n not_first not_second =
+      table_of_node-set_other (set s.tables e.initiator done.initiator) e.responder n done.responder not_second
+      ∙ table_of_node-set_other s.tables e.initiator n done.initiator not_first
 
   -- what holds of both tables after an exchange and of the others holds of each
   each : (P : ℕ → Table → Type 0) → P e.initiator done.initiator → P e.responder done.responder → ((n : ℕ) → P n (table_of_node s.tables n)) → (n : ℕ) → P n (table_of_node (exchange_in rules s e).tables n)

@@ -1,22 +1,21 @@
 -- Copies that are states through the exchanges of a list that cut nothing, beside those of another mode and budget.
 -- Serves `Spreads`, `StateFigures` and `simulation`.
-use Rattle.model.proofs.Common.{◌≡◌, ◌≢◌, ℕ, ◌<◌, List, [], ◌∷◌, set, fold, All, Some, None, inl, inr, refl, sym, ap, ◌∙◌, subst, arith, cases_eq, length-set, All-head, All-tail, Contains-append_left, Contains-append_right, Entry, Mark, Exchange, Fate, Record, Rules, IsPlanned, mark_of, mark_held, digest_kind, up_to-both}
+use Rattle.model.proofs.Common.{◌≡◌, ◌≢◌, ℕ, ◌<◌, List, [], ◌∷◌, fold, All, Some, None, inl, inr, refl, sym, ap, ◌∙◌, subst, arith, cases_eq, All-head, All-tail, Contains-append_left, Contains-append_right, Entry, Mark, Exchange, Fate, Record, Rules, IsPlanned, mark_of, mark_held, digest_kind, up_to-both}
 use Rattle.std.specs.Prelude.{Contains}
 use Rattle.bench_types.specs.declared.exchanges.Fate.TheVariants as fate
 use Rattle.model.specs.Table.{Table, applied, entry_at, mark_at, greatest_mark, generation_held, IsProper}
-use Rattle.model.specs.Tables.{table_of_node, AreTablesInOrder}
+use Rattle.model.specs.Tables.{table_of_node}
 use Rattle.model.specs.Clusters.{AreCopiesOf}
 use Rattle.model.specs.Copies.{WritesBy, IsLastOf, HoldsOf}
 use Rattle.model.specs.Deltas.{DeltaView, delta_between}
 use Rattle.model.specs.Digests.{digest_size}
-use Rattle.model.specs.Exchanged.{Exchanged, exchanged, fate_of, sent_until, initiator_after, responder_after}
+use Rattle.model.specs.Exchanged.{exchanged, fate_of, sent_until, initiator_after, responder_after}
 use Rattle.model.specs.Folds.{Folded, exchange_in}
 use Rattle.model.specs.States.{MissesNone}
-use Rattle.model.proofs.FoldLaws.{step_copies, step_keeps_own}
+use Rattle.model.proofs.FoldLaws.{step_copies, step_keeps_own, initiator_is, responder_is, other_is}
 use Rattle.model.proofs.Received.{received-either, received-proper}
 use Rattle.model.proofs.States.{HoldsAsMuchOf, as_much-then, as_much-either, own-misses, own-as_much, to-as_much, from-as_much, after-misses}
 use Rattle.model.proofs.TableLaws.{same_table}
-use Rattle.model.proofs.Tables.{table_of_node-set_same, table_of_node-set_other}
 
 -- an exchange cut nothing, and none of these did
 abbrev pub CutsNothing : Record → Type 0
@@ -60,31 +59,6 @@ responders_beside R fate.Lost1 d1 d2 q q' forth back' forth' none old new = old
 responders_beside R fate.Lost2 d1 d2 q q' forth back' forth' none old new = old
 responders_beside R fate.Lost3 d1 d2 q q' forth back' forth' none old new = old
 responders_beside R fate.Ok d1 d2 q q' forth back' forth' none old new = new none.1
-
--- where the tables of an exchange stand after it
-module _ (rules : Rules) (nodes keys : ℕ) (s : Folded) (e : Exchange) (planned : IsPlanned nodes e) (tables : AreTablesInOrder nodes keys s.tables) where
-  abbrev p : Table
-  p = table_of_node s.tables e.initiator
-
-  abbrev q : Table
-  q = table_of_node s.tables e.responder
-
-  abbrev done : Exchanged
-  done = exchanged rules e p q
-
-  pub initiator_is : table_of_node (exchange_in rules s e).tables e.initiator ≡ done.initiator
-  initiator_is =
-      table_of_node-set_other (set s.tables e.initiator done.initiator) e.responder e.initiator done.responder planned.apart
-      ∙ table_of_node-set_same s.tables e.initiator done.initiator (omega (arith, planned.initiator, tables.size))
-
-  pub responder_is : table_of_node (exchange_in rules s e).tables e.responder ≡ done.responder
-  responder_is =
-      table_of_node-set_same (set s.tables e.initiator done.initiator) e.responder done.responder (omega (arith, planned.responder, tables.size, length-set s.tables e.initiator done.initiator))
-
-  other_is : (n : ℕ) → n ≢ e.initiator → n ≢ e.responder → table_of_node (exchange_in rules s e).tables n ≡ table_of_node s.tables n
-  other_is n not_first not_second =
-      table_of_node-set_other (set s.tables e.initiator done.initiator) e.responder n done.responder not_second
-      ∙ table_of_node-set_other s.tables e.initiator n done.initiator not_first
 
 -- facts of one node's table among all
 module _ (writes : WritesBy) (nodes keys : ℕ) (ts : List Table) (copies : AreCopiesOf writes nodes keys ts) (n : ℕ) (lt : n < nodes) where

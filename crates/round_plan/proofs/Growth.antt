@@ -149,7 +149,7 @@ module _ (s : Settings) (owner most : ℕ) (limit : (t : ℕ) → writes_in s t 
   count_upto_le (suc t) =
       omega (arith, left_at_most (forgets_now s owner (suc t)) (count_upto s owner t) (most * t) (count_upto_le t), at_most (is_up s owner (suc t)) (writes_in s (suc t)) (limit (suc t)))
 
--- and in a lawful scenario the most is a constant
+-- the loads say how many a round adds, in a lawful scenario at most a constant
 found_at_most : (p : Load → Bool) (usual most : ℕ) (ls : List Load) → usual ≤ most → All (λ l. l.writes ≤ most) ls → unwrap_or (option_map (λ (l : Load). l.writes) (find p ls)) usual ≤ most
 found_at_most p usual most [] low all = low
 found_at_most p usual most (l ∷ ls) low all =
@@ -157,9 +157,12 @@ found_at_most p usual most (l ∷ ls) low all =
     (λ _. all 0 l (omega arith))
     (λ _. found_at_most p usual most ls low (All-tail (λ (l : Load). l.writes ≤ most) l ls all))
 
-pub writes_in_le : (s : Settings) → IsLawfulScenario s → (round : ℕ) → writes_in s round ≤ MOST_WRITES
+pub writes_in_at_most : (s : Settings) (most : ℕ) → s.writes ≤ most → All (λ l. l.writes ≤ most) s.loads → (round : ℕ) → writes_in s round ≤ most
 unfolding writes_in
-writes_in_le s lawful round =
-    found_at_most (covers round) s.writes MOST_WRITES (reverse s.loads) lawful.writes (λ k d lt.
+writes_in_at_most s most usual all round =
+    found_at_most (covers round) s.writes most (reverse s.loads) usual (λ k d lt.
     let within : k < length s.loads = omega (arith, lt, length-reverse s.loads) in
-    subst (λ (l : Load). l.writes ≤ MOST_WRITES) (sym (get_or-reverse s.loads k d within)) (lawful.loads.each (length s.loads - 1 - k) d (omega (arith, within))).writes)
+    subst (λ (l : Load). l.writes ≤ most) (sym (get_or-reverse s.loads k d within)) (all (length s.loads - 1 - k) d (omega (arith, within))))
+
+pub writes_in_le : (s : Settings) → IsLawfulScenario s → (round : ℕ) → writes_in s round ≤ MOST_WRITES
+writes_in_le s lawful round = writes_in_at_most s MOST_WRITES lawful.writes (λ k d lt. (lawful.loads.each k d lt).writes) round

@@ -24,7 +24,7 @@ pub use Rattle.model.specs.calls.Numbers.{write_from, write_numbered}
 pub use Rattle.report.specs.Compare.{compare_header_line, compare_line, compare_lines}
 pub use Rattle.report.specs.Report.{report_header_line, report_line, report_lines}
 pub use Rattle.report.specs.Trace.{trace_header_line, trace_lines}
-pub use Rattle.round_plan.proofs.Growth.{length-own_writes, writes_in_le}
+pub use Rattle.round_plan.proofs.Growth.{length-own_writes, writes_in_at_most, writes_in_le}
 pub use Rattle.round_plan.proofs.Written.{apart-written_upto}
 pub use Rattle.round_plan.specs.Outages.{is_up}
 pub use Rattle.round_plan.specs.Writes.{count_before, covers, own_writes, writes_in, written_upto}

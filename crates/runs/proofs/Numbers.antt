@@ -1,6 +1,6 @@
 -- What the owners of a scenario write may stand under numbers below a bound.
 -- Serves `begin`, `most_in_a_round` and `tests_of_runs`.
-use Rattle.runs.proofs.Common.{◌≡◌, ℕ, zero, suc, ◌-◌, ◌*◌, ◌<◌, ◌≤◌, Bool, true, false, cond, All, List, [], ◌∷◌, find, length, option_map, reverse, unwrap_or, sym, subst, ap, ◌∙◌, arith, length-append, Some, Contains, cond_both, length-reverse, get_or-reverse, All-tail, same_Some, Entry, MOST_WRITES, write_from, write_numbered, is_up, covers, writes_in, count_before, own_writes, written_upto, length-own_writes, writes_in_le, apart-written_upto, Load, Settings, IsLawfulScenario, MayWriteAll, IsWriteUnder}
+use Rattle.runs.proofs.Common.{◌≡◌, ℕ, zero, suc, ◌-◌, ◌*◌, ◌<◌, ◌≤◌, Bool, true, false, cond, List, [], ◌∷◌, length, sym, ap, ◌∙◌, arith, length-append, Some, Contains, same_Some, Entry, MOST_WRITES, write_from, write_numbered, is_up, writes_in, count_before, own_writes, written_upto, length-own_writes, writes_in_le, apart-written_upto, Settings, IsLawfulScenario, MayWriteAll, IsWriteUnder}
 use Rattle.runs.specs.inner.Writes.{AreWrittenIn, HasWritesBelow}
 
 up_to : (b : Bool) (n most : ℕ) → n ≤ most → cond b n 0 ≤ most
@@ -19,21 +19,6 @@ length-written_upto_le s owner most (suc round) limit =
       length-own_writes s owner (suc round) before,
       up_to (is_up s owner (suc round)) (writes_in s (suc round)) most (limit (suc round)),
     )
-
--- the loads say how many a round adds
-found_at_most : (p : Load → Bool) (usual most : ℕ) (ls : List Load) → usual ≤ most → All (λ l. l.writes ≤ most) ls → unwrap_or (option_map (λ (l : Load). l.writes) (find p ls)) usual ≤ most
-found_at_most p usual most [] low all = low
-found_at_most p usual most (l ∷ ls) low all =
-    cond_both (p l) (Some l) (find p ls) (λ o. unwrap_or (option_map (λ (l : Load). l.writes) o) usual ≤ most)
-    (λ _. all 0 l (omega arith))
-    (λ _. found_at_most p usual most ls low (All-tail (λ (l : Load). l.writes ≤ most) l ls all))
-
-pub writes_in_at_most : (s : Settings) (most : ℕ) → s.writes ≤ most → All (λ l. l.writes ≤ most) s.loads → (round : ℕ) → writes_in s round ≤ most
-unfolding writes_in
-writes_in_at_most s most usual all round =
-    found_at_most (covers round) s.writes most (reverse s.loads) usual (λ k d lt.
-    let within : k < length s.loads = omega (arith, lt, length-reverse s.loads) in
-    subst (λ (l : Load). l.writes ≤ most) (sym (get_or-reverse s.loads k d within)) (all (length s.loads - 1 - k) d (omega (arith, within))))
 
 -- fewer than a bound are fewer than a greater one
 pub below_more : (s : Settings) (most more : ℕ) → HasWritesBelow most s → most ≤ more → HasWritesBelow more s

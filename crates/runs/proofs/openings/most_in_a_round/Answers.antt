@@ -1,5 +1,4 @@
-use Rattle.runs.proofs.Common.{◌≤◌, All, get_or, subst, ap, inl, inr, arith, cases_lt, get_or_default, Load}
-use Rattle.runs.proofs.Numbers.{writes_in_at_most}
+use Rattle.runs.proofs.Common.{◌≤◌, All, get_or, subst, ap, inl, inr, arith, cases_lt, get_or_default, writes_in_at_most, Load}
 use Rattle.runs.proofs.openings.most_in_a_round.Goals as goal
 
 pub loop-place-init : goal.loop-place-init

@@ -29,6 +29,10 @@ INSTEAD = {
         "portable": "the one for `x86-64-v2`",
         "benchmark": "were measured too",
     },
+    "docs/testing.md": {
+        "top": "in a folder of your own, after `cp -r FOLDER/share/doc/gossip-bench/examples .`, where FOLDER is the "
+               "package's, and `/usr` for the .deb",
+    },
     "docs/study.md": {"folder": "a folder with a copy of `examples`", "checked": "was run, and printed that"},
 }
 # The section that names contracts, which a package leaves out: a parenthesis with a name of code.

@@ -5,14 +5,14 @@
     replay.py run [--trace FILE] [--sent FILE] [--tables FILE] < SCENARIO
     replay.py compare < SCENARIO
 
-It prints what `gossip_bench` prints, and writes the same trace, byte for byte. Two more files show what the program
-doesn't: --sent has a row for each entry that was sent, in the order of sending, and --tables has every table after each
-round, by holder, owner and key. It needs Python 3.11 or newer and nothing else. 64 nodes with 4 keys take some seconds
-for 30 rounds.
+From a scenario in TOML 1.0 it prints what `gossip_bench` prints, and writes the same trace, byte for byte. Two more
+files show what the program doesn't: --sent has a row for each entry that was sent, in the order of sending, and
+--tables has every table after each round, by holder, owner and key. It needs Python 3.11 or newer and nothing else. 64
+nodes with 4 keys take some seconds for 30 rounds.
 
 The status is 1 after a fault, and 2 where the words are refused. The line of a fault in the scenario is the program's,
 but where something is nested too deep it may be another. What only TOML 1.1 has, such as an inline table over several
-lines, is refused too, as Python reads TOML 1.0.
+lines, is refused, though the program takes it: Python reads TOML 1.0.
 """
 import _signal
 import sys

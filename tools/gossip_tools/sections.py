@@ -5,8 +5,8 @@ from gossip_tools.scenario import LIMITS
 
 RESTARTS = """gossip_restarts NODES EACH FROM TO DOWN [forget] [first=NODE] [every=ROUNDS]
 
-Prints a scenario's restarts: in each of the rounds FROM to TO the next EACH of NODES nodes restart, by ascending
-number, and are down for DOWN rounds. A scenario takes at most 1000.
+Prints a scenario's restarts: in each of the rounds FROM to TO the next EACH of NODES nodes restart, in ascending order
+of number, and are down for DOWN rounds. A scenario takes at most 1000.
 
   forget   they lose their own state too, which needs format 2
   first    the node that restarts first, 0 where it isn't given. To go on where an earlier call ended, give the number
@@ -15,7 +15,7 @@ number, and are down for DOWN rounds. A scenario takes at most 1000.
 """
 APART = """gossip_apart FIRST LAST FROM TO
 
-Prints a scenario's partition: the nodes FIRST to LAST, the first of all is 0, are apart in the rounds FROM to TO.
+Prints a scenario's partition: nodes FIRST to LAST, counted from 0, are apart in rounds FROM to TO.
 """
 ROUND = LIMITS["rounds"]
 NODE = 0, LIMITS["nodes"][1] - 1

@@ -1,7 +1,6 @@
 -- Writes by their numbers: which there are, and how their marks compare.
 -- Serves `delta_plans`, `version_lags` and `version_tables`.
-use Rattle.owner_writes.proofs.Common.{◌≡◌, ℕ, zero, suc, ◌<◌, ◌≤◌, List, [], ◌∷◌, length, get_or, Some, None, inl, inr, refl, sym, ap, ◌∙◌, subst, arith, nat_lt, cases_lt, lt-ltb, le-ltb, same_Some, Entry, mark_of, is_before, IsBefore, IsUpTo, before-yes, before-no, before-up_to, up_to-itself, write_from, write_numbered}
-use Rattle.owner_writes.specs.Numbered.{IsHistory}
+use Rattle.owner_writes.proofs.Common.{◌≡◌, ℕ, zero, suc, ◌<◌, ◌≤◌, List, [], ◌∷◌, length, get_or, Some, None, inl, inr, refl, sym, ap, ◌∙◌, subst, arith, nat_lt, cases_lt, lt-ltb, le-ltb, same_Some, Entry, mark_of, is_before, IsBefore, IsUpTo, before-yes, before-no, before-up_to, up_to-itself, write_from, write_numbered, IsHistory}
 
 -- what stands at a place
 pub write_from-at : (writes : List Entry) (place : ℕ) (e d : Entry) → write_from writes place ≡ Some e → (place < length writes) × (get_or writes place d ≡ e)

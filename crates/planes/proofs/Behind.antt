@@ -1,10 +1,7 @@
 -- The least of an owner's numbers that pass a test, key by key.
 -- Serves `count_behind`, `least_above` and `least_behind`.
-use Rattle.planes.proofs.Common.{◌≡◌, ℕ, zero, suc, ◌+◌, ◌<◌, ◌≤◌, Bool, true, cond, nat_lt, get_or, List, ◌⊎◌, inl, inr, sym, ap, ◌∙◌, subst, arith, cases_lt, cases_Bool, lt-ltb, ltb-true, both_ways, sum_below}
-use Rattle.planes.specs.inner.Answering.{IsLowered}
-use Rattle.planes.specs.Planes.{Cells, HasEach, HasNoneAbove, IsNextAbove}
+use Rattle.planes.proofs.Common.{◌≡◌, ℕ, zero, suc, ◌+◌, ◌<◌, ◌≤◌, Bool, true, cond, nat_lt, get_or, List, ◌⊎◌, inl, inr, sym, ap, ◌∙◌, subst, arith, cases_lt, cases_Bool, lt-ltb, ltb-true, both_ways, sum_below, IsLowered, Cells, HasEach, HasNoneAbove, IsNextAbove, IsLeastBehind}
 use Rattle.planes.proofs.Places.{plane_count}
-use Rattle.planes.specs.Lags.{IsLeastBehind}
 
 -- how many of a plane are behind
 pub plane-behind : (nodes n x : ℕ) (plane last : List ℕ) (cells lasts : ℕ → ℕ) → HasEach nodes (λ r m. m ≡ cells r) plane → HasEach nodes (λ r m. m ≡ lasts r) last → n ≡ nodes

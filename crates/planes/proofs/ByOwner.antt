@@ -1,7 +1,6 @@
 -- Tables whose owners are gone over one by one.
 -- Serves `merge_owners`, `raise_owner`, `take_owner`, `take_owners`, `total_owners_above` and `version_tables`.
-use Rattle.planes.proofs.Common.{◌≡◌, ◌≢◌, ℕ, zero, suc, Fits, w32, ◌+◌, ◌*◌, ◌<◌, ◌≤◌, ◌==◌, ◌&&◌, Bool, true, false, cond, List, length, get_or, set, map, nat_lt, nat_le, max, inl, inr, refl, sym, ap, ◌∙◌, subst, arith, mul-le-mul_right, cases_lt, cases_eq, eq-eqb, ne_eqb, lt-ltb, le-ltb, lt-leb, get_or-set_same, get_or-set_other, length-set, map-set, MOST_NODES, MOST_KEYS, sum_below, sum_below-same}
-use Rattle.planes.specs.Planes.{Cells, cell, count_above, number_raised, number_taken, HasNoneAbove, IsRaised, ArePlanesChanged, ArePlanesChangedUpto}
+use Rattle.planes.proofs.Common.{◌≡◌, ◌≢◌, ℕ, zero, suc, Fits, w32, ◌+◌, ◌*◌, ◌<◌, ◌≤◌, ◌==◌, ◌&&◌, Bool, true, false, cond, List, length, get_or, set, map, nat_lt, nat_le, max, inl, inr, refl, sym, ap, ◌∙◌, subst, arith, mul-le-mul_right, cases_lt, cases_eq, eq-eqb, ne_eqb, lt-ltb, le-ltb, lt-leb, get_or-set_same, get_or-set_other, length-set, map-set, MOST_NODES, MOST_KEYS, sum_below, sum_below-same, Cells, cell, count_above, number_raised, number_taken, HasNoneAbove, IsRaised, ArePlanesChanged, ArePlanesChangedUpto}
 use Rattle.planes.proofs.Counts.{count_le, sum_next}
 
 -- an owner of whom nothing is above its mark

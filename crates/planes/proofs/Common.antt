@@ -1,4 +1,5 @@
--- The names of other libraries that these proofs cite, passed on from one place. Declares nothing.
+-- The names that these proofs cite of other libraries and of this crate's definitions, passed on from one place.
+-- Declares nothing.
 pub use Rattle.std.proofs.Common.{Bool, Fits, List, [], ap, arith, cond, drop, false, get_or, if◌then◌else◌, inl, inr, length, map, max, min, nat_le, nat_lt, refl, replicate, rules, set, slice_index, subst, suc, sym, take, true, w32, zero, ℕ, ◌&&◌, ◌*◌, ◌++◌, ◌+◌, ◌-◌, ◌<◌, ◌==◌, ◌∙◌, ◌≡◌, ◌≢◌, ◌≤◌, ◌⊎◌}
 pub use Rattle.std.proofs.Math.Nat.{mul-le-mul_right}
 pub use Rattle.std.proofs.Math.Seq.{take-add, take-nil}
@@ -9,3 +10,8 @@ pub use borrow.Rule.Slice.PartMut.{post_of, put_mid}
 pub use Rattle.bench_types.proofs.Sums.{sum_below-most, sum_below-same, sum_below-turned}
 pub use Rattle.bench_types.specs.Sums.{sum_below}
 pub use Rattle.bench_types.specs.declared.limits.TheConstants.{MOST_KEYS, MOST_NODES}
+pub use Rattle.planes.specs.Elementwise.{AreChanged, AreChangedUpto}
+pub use Rattle.planes.specs.Lags.{IsLeastBehind}
+pub use Rattle.planes.specs.Planes.{ArePlanesChanged, ArePlanesChangedUpto, Cells, HasEach, HasNoneAbove, IsGrid, IsNextAbove, IsRaised, cell, count_above, number_ahead, number_raised, number_taken, numbers_taken, total_above, total_of}
+pub use Rattle.planes.specs.inner.Answering.{AnswersAs, IsLowered, IsMade, MakesAs}
+pub use Rattle.planes.specs.inner.Counting.{IsPartDone, IsPassed, count_less, count_passing}

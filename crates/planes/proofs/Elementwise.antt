@@ -1,10 +1,7 @@
 -- Lists that are changed element by element.
 -- Serves the functions of `grids`, `lags`, `merges`, `owners` and `planes`, `delta_plans`, `version_lags` and
 -- `version_tables`.
-use Rattle.planes.proofs.Common.{◌≡◌, ℕ, ◌+◌, ◌<◌, ◌≤◌, List, length, [], ◌++◌, ◌-◌, get_or, set, map, min, take, replicate, inl, inr, refl, sym, ap, ◌∙◌, subst, arith, take-nil, cases_eq, cases_lt, get_or-set_same, get_or-set_other, length-set, get_or-map, get_or-replicate, length-map, length-replicate, map-set}
-use Rattle.planes.specs.Planes.{HasEach}
-use Rattle.planes.specs.Elementwise.{AreChangedUpto, AreChanged}
-use Rattle.planes.specs.inner.Answering.{IsLowered, IsMade}
+use Rattle.planes.proofs.Common.{◌≡◌, ℕ, ◌+◌, ◌<◌, ◌≤◌, List, length, [], ◌++◌, ◌-◌, get_or, set, map, min, take, replicate, inl, inr, refl, sym, ap, ◌∙◌, subst, arith, take-nil, cases_eq, cases_lt, get_or-set_same, get_or-set_other, length-set, get_or-map, get_or-replicate, length-map, length-replicate, map-set, HasEach, AreChangedUpto, AreChanged, IsLowered, IsMade}
 
 -- what is read at an index, as a number
 pub number-at : {N : Type 0} (number : N → ℕ) (xs : List N) (r : ℕ) (x : N) → r < length xs → x ≡ get_or xs r x → number x ≡ get_or (map number xs) r 0

@@ -1,5 +1,4 @@
-use Rattle.planes.proofs.Common.{◌≡◌, map, sym, subst, ◌∙◌, with_items_is}
-use Rattle.planes.specs.Planes.{cell, total_above}
+use Rattle.planes.proofs.Common.{◌≡◌, map, sym, subst, ◌∙◌, with_items_is, cell, total_above}
 use Rattle.planes.proofs.Places.{total-kept}
 use Rattle.planes.proofs.grids.ahead.Goals as goal
 

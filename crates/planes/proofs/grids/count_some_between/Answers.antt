@@ -1,5 +1,4 @@
-use Rattle.planes.proofs.Common.{ℕ, ◌<◌, ◌≤◌, ◌+◌, ◌*◌, ◌-◌, ◌&&◌, length, get_or, nat_lt, nat_le, slice_index, ap, ◌∙◌, arith, rules, map, if◌then◌else◌, length-map}
-use Rattle.planes.specs.Planes.{cell}
+use Rattle.planes.proofs.Common.{ℕ, ◌<◌, ◌≤◌, ◌+◌, ◌*◌, ◌-◌, ◌&&◌, length, get_or, nat_lt, nat_le, slice_index, ap, ◌∙◌, arith, rules, map, if◌then◌else◌, length-map, cell}
 use Rattle.planes.proofs.Counts.{count_le, number_next}
 use Rattle.planes.proofs.Elementwise.{made-as, made-more}
 use Rattle.planes.proofs.Places.{each-next, plane-within, window-at, window-in}

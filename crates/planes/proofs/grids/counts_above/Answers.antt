@@ -1,5 +1,4 @@
-use Rattle.planes.proofs.Common.{◌≡◌, ℕ, ◌<◌, nat_lt, slice_index, sym, subst, ◌∙◌, arith, map, if◌then◌else◌, with_items_is, length-map}
-use Rattle.planes.specs.Planes.{cell, count_above, HasEach}
+use Rattle.planes.proofs.Common.{◌≡◌, ℕ, ◌<◌, nat_lt, slice_index, sym, subst, ◌∙◌, arith, map, if◌then◌else◌, with_items_is, length-map, cell, count_above, HasEach}
 use Rattle.planes.proofs.Counts.{count_le, number_next}
 use Rattle.planes.proofs.Elementwise.{made-more}
 use Rattle.planes.proofs.Places.{each-next, each-whole}

@@ -1,7 +1,4 @@
-use Rattle.planes.proofs.Common.{◌≡◌, ℕ, ◌+◌, ◌*◌, ◌-◌, ◌≤◌, nat_lt, max, slice_index, refl, ◌∙◌, arith, map, List, length, take, drop, if◌then◌else◌, length-map, length-take-le, length-drop, sum_below}
-use Rattle.planes.specs.Elementwise.{AreChanged}
-use Rattle.planes.specs.inner.Counting.{count_passing}
-use Rattle.planes.specs.Planes.{cell, number_ahead}
+use Rattle.planes.proofs.Common.{◌≡◌, ℕ, ◌+◌, ◌*◌, ◌-◌, ◌≤◌, nat_lt, max, slice_index, refl, ◌∙◌, arith, map, List, length, take, drop, if◌then◌else◌, length-map, length-take-le, length-drop, sum_below, AreChanged, count_passing, cell, number_ahead}
 use Rattle.planes.proofs.Counts.{sum_next}
 use Rattle.planes.proofs.Places.{plane-within, block-cells, plane_count, planes-none, planes-written, planes-all, total_fits, total_whole}
 use Rattle.planes.proofs.grids.keep_planes_ahead.Given as given

@@ -1,5 +1,4 @@
-use Rattle.planes.proofs.Common.{◌≡◌, nat_lt, max, slice_index, map, if◌then◌else◌, sum_below}
-use Rattle.planes.specs.Planes.{cell, number_ahead, ArePlanesChangedUpto}
+use Rattle.planes.proofs.Common.{◌≡◌, nat_lt, max, slice_index, map, if◌then◌else◌, sum_below, cell, number_ahead, ArePlanesChangedUpto}
 use Rattle.planes.proofs.grids.keep_planes_ahead.Given as goal
 
 abbrev pub invariant-loop-key : goal.invariant-loop-key

@@ -1,5 +1,4 @@
-use Rattle.planes.proofs.Common.{nat_lt, slice_index, map}
-use Rattle.planes.specs.Planes.{cell, HasEach}
+use Rattle.planes.proofs.Common.{nat_lt, slice_index, map, cell, HasEach}
 use Rattle.planes.proofs.Behind.{IsLeastPassing}
 use Rattle.planes.proofs.grids.least_above.Given as goal
 

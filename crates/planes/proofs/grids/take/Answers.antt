@@ -1,5 +1,4 @@
-use Rattle.planes.proofs.Common.{◌+◌, ◌*◌, ◌-◌, max, slice_index, ap, ◌∙◌, arith, map, length, length-map}
-use Rattle.planes.specs.Planes.{number_taken, numbers_taken, IsRaised}
+use Rattle.planes.proofs.Common.{◌+◌, ◌*◌, ◌-◌, max, slice_index, ap, ◌∙◌, arith, map, length, length-map, number_taken, numbers_taken, IsRaised}
 use Rattle.planes.proofs.Places.{plane-within, block-cells, planes-none, planes-written, planes-all, each-next, each-whole, raised-none, raised-next}
 use Rattle.planes.proofs.grids.take.Goals as goal
 

@@ -1,7 +1,4 @@
-use Rattle.planes.proofs.Common.{◌≡◌, ℕ, ◌+◌, ◌*◌, ◌-◌, min, nat_lt, slice_index, refl, sym, ap, ◌∙◌, arith, map, List, length, take, drop, if◌then◌else◌, length-map, sum_below}
-use Rattle.planes.specs.Elementwise.{AreChanged}
-use Rattle.planes.specs.inner.Counting.{count_less}
-use Rattle.planes.specs.Planes.{cell}
+use Rattle.planes.proofs.Common.{◌≡◌, ℕ, ◌+◌, ◌*◌, ◌-◌, min, nat_lt, slice_index, refl, sym, ap, ◌∙◌, arith, map, List, length, take, drop, if◌then◌else◌, length-map, sum_below, AreChanged, count_less, cell}
 use Rattle.planes.proofs.Counts.{sum_next}
 use Rattle.planes.proofs.Places.{plane-within, plane-cells, total_fits, total_whole, planes-none, planes-written, planes-all}
 use Rattle.planes.proofs.Behind.{plane-behind}

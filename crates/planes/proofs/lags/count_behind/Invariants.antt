@@ -1,5 +1,4 @@
-use Rattle.planes.proofs.Common.{◌≡◌, min, nat_lt, map, if◌then◌else◌, sum_below}
-use Rattle.planes.specs.Planes.{cell, ArePlanesChangedUpto}
+use Rattle.planes.proofs.Common.{◌≡◌, min, nat_lt, map, if◌then◌else◌, sum_below, cell, ArePlanesChangedUpto}
 use Rattle.planes.proofs.lags.count_behind.Given as goal
 
 abbrev pub invariant-loop-key : goal.invariant-loop-key

@@ -1,7 +1,4 @@
-use Rattle.planes.proofs.Common.{◌≡◌, nat_lt, sym, subst, ◌∙◌, map, if◌then◌else◌, with_items_is}
-use Rattle.planes.specs.inner.Answering.{IsLowered}
-use Rattle.planes.specs.Planes.{cell, HasEach}
-use Rattle.planes.specs.Lags.{IsLeastBehind}
+use Rattle.planes.proofs.Common.{◌≡◌, nat_lt, sym, subst, ◌∙◌, map, if◌then◌else◌, with_items_is, IsLowered, cell, HasEach, IsLeastBehind}
 use Rattle.planes.proofs.Elementwise.{lowered-to}
 use Rattle.planes.proofs.Places.{each-next, each-other, each-whole}
 use Rattle.planes.proofs.Behind.{IsLeastPassing, least-start, least-more, least_is-behind}

@@ -1,5 +1,4 @@
-use Rattle.planes.proofs.Common.{nat_lt, map}
-use Rattle.planes.specs.Planes.{cell, HasEach}
+use Rattle.planes.proofs.Common.{nat_lt, map, cell, HasEach}
 use Rattle.planes.proofs.Behind.{IsLeastPassing}
 use Rattle.planes.proofs.lags.least_behind.Given as goal
 

@@ -1,5 +1,4 @@
-use Rattle.planes.proofs.Common.{◌≡◌, ◌+◌, ◌*◌, ◌-◌, ◌<◌, ◌≤◌, ℕ, nat_lt, slice_index, refl, ◌∙◌, arith, map, length, take, drop, if◌then◌else◌, length-map, length-take-le, length-drop, sum_below}
-use Rattle.planes.specs.Planes.{cell, number_raised}
+use Rattle.planes.proofs.Common.{◌≡◌, ◌+◌, ◌*◌, ◌-◌, ◌<◌, ◌≤◌, ℕ, nat_lt, slice_index, refl, ◌∙◌, arith, map, length, take, drop, if◌then◌else◌, length-map, length-take-le, length-drop, sum_below, cell, number_raised}
 use Rattle.planes.proofs.Counts.{sum_next}
 use Rattle.planes.proofs.Places.{plane-within, block-cells, plane_count, planes-none, planes-written, planes-all, total_fits, total_whole}
 use Rattle.planes.proofs.merges.merge.Given as given

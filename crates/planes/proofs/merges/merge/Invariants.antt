@@ -1,5 +1,4 @@
-use Rattle.planes.proofs.Common.{◌≡◌, nat_lt, slice_index, map, if◌then◌else◌, sum_below}
-use Rattle.planes.specs.Planes.{cell, number_raised, ArePlanesChangedUpto}
+use Rattle.planes.proofs.Common.{◌≡◌, nat_lt, slice_index, map, if◌then◌else◌, sum_below, cell, number_raised, ArePlanesChangedUpto}
 use Rattle.planes.proofs.merges.merge.Given as goal
 
 abbrev pub invariant-loop-key : goal.invariant-loop-key

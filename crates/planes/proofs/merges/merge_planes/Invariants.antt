@@ -1,7 +1,4 @@
-use Rattle.planes.proofs.Common.{◌≡◌, ◌-◌, ◌≤◌, length, nat_lt, slice_index, map}
-use Rattle.planes.specs.Elementwise.{AreChangedUpto}
-use Rattle.planes.specs.inner.Counting.{count_passing}
-use Rattle.planes.specs.Planes.{number_raised}
+use Rattle.planes.proofs.Common.{◌≡◌, ◌-◌, ◌≤◌, length, nat_lt, slice_index, map, AreChangedUpto, count_passing, number_raised}
 use Rattle.planes.proofs.merges.merge_planes.Given as goal
 
 abbrev pub invariant-loop-first : goal.invariant-loop-first

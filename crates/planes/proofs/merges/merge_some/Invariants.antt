@@ -1,7 +1,4 @@
-use Rattle.planes.proofs.Common.{◌≡◌, ℕ, ◌+◌, ◌≤◌, List, nat_lt, slice_index, map}
-use Rattle.planes.specs.Elementwise.{AreChangedUpto}
-use Rattle.planes.specs.inner.Counting.{IsPartDone}
-use Rattle.planes.specs.Planes.{number_raised}
+use Rattle.planes.proofs.Common.{◌≡◌, ℕ, ◌+◌, ◌≤◌, List, nat_lt, slice_index, map, AreChangedUpto, IsPartDone, number_raised}
 use Rattle.planes.proofs.merges.merge_some.Given as goal
 
 abbrev pub invariant-loop-i : goal.invariant-loop-i

@@ -1,5 +1,4 @@
-use Rattle.planes.proofs.Common.{ℕ, ◌+◌, ◌≤◌, List, refl, slice_index, sym, subst, ◌∙◌, arith, map, ltb-false, ltb-true}
-use Rattle.planes.specs.Planes.{cell, number_raised, ArePlanesChanged}
+use Rattle.planes.proofs.Common.{ℕ, ◌+◌, ◌≤◌, List, refl, slice_index, sym, subst, ◌∙◌, arith, map, ltb-false, ltb-true, cell, number_raised, ArePlanesChanged}
 use Rattle.planes.proofs.Elementwise.{number-at}
 use Rattle.planes.proofs.ByOwner.{owners_changed, owners-none, raise-fits, owner_counted, owner_passed, raise-next, raise-count, raise-passed}
 use Rattle.planes.proofs.owners.merge_owners.Goals as goal

@@ -1,5 +1,4 @@
-use Rattle.planes.proofs.Common.{◌≡◌, slice_index, map, sum_below}
-use Rattle.planes.specs.Planes.{cell, count_above, number_raised, ArePlanesChanged}
+use Rattle.planes.proofs.Common.{◌≡◌, slice_index, map, sum_below, cell, count_above, number_raised, ArePlanesChanged}
 use Rattle.planes.proofs.ByOwner.{owners_changed}
 use Rattle.planes.proofs.owners.merge_owners.Given as goal
 

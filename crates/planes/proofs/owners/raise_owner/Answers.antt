@@ -1,5 +1,4 @@
-use Rattle.planes.proofs.Common.{◌≡◌, ℕ, ◌+◌, ◌*◌, ◌<◌, ◌≤◌, nat_lt, max, refl, sym, ◌∙◌, arith, rules, map, length, if◌then◌else◌, length-map, get_or-map}
-use Rattle.planes.specs.Planes.{cell, count_above, number_raised}
+use Rattle.planes.proofs.Common.{◌≡◌, ℕ, ◌+◌, ◌*◌, ◌<◌, ◌≤◌, nat_lt, max, refl, sym, ◌∙◌, arith, rules, map, length, if◌then◌else◌, length-map, get_or-map, cell, count_above, number_raised}
 use Rattle.planes.proofs.Elementwise.{number-at}
 use Rattle.planes.proofs.Counts.{count_le, sum_next}
 use Rattle.planes.proofs.Places.{plane-within, planes-none, planes-all}

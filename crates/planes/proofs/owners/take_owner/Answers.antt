@@ -1,5 +1,4 @@
-use Rattle.planes.proofs.Common.{◌≡◌, ℕ, ◌+◌, ◌*◌, ◌<◌, ◌≤◌, ◌&&◌, nat_lt, nat_le, max, sym, ap, subst, ◌∙◌, arith, rules, map, length, length-map, get_or-map}
-use Rattle.planes.specs.Planes.{cell, number_taken, ArePlanesChangedUpto, IsRaised}
+use Rattle.planes.proofs.Common.{◌≡◌, ℕ, ◌+◌, ◌*◌, ◌<◌, ◌≤◌, ◌&&◌, nat_lt, nat_le, max, sym, ap, subst, ◌∙◌, arith, rules, map, length, length-map, get_or-map, cell, number_taken, ArePlanesChangedUpto, IsRaised}
 use Rattle.planes.proofs.Elementwise.{number-at}
 use Rattle.planes.proofs.Places.{plane-within, planes-none, planes-all, raised-none, raised-next}
 use Rattle.planes.proofs.ByOwner.{owner_changed, owner-next, owner-stays, raised-past, taken-none, taken-some}

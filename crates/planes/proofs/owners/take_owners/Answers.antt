@@ -1,6 +1,4 @@
-use Rattle.planes.proofs.Common.{ℕ, ◌+◌, ◌≤◌, slice_index, sym, subst, ◌∙◌, arith, map, ltb-false, length-map}
-use Rattle.planes.specs.Elementwise.{AreChangedUpto}
-use Rattle.planes.specs.Planes.{cell, number_taken, numbers_taken, ArePlanesChanged, IsRaised}
+use Rattle.planes.proofs.Common.{ℕ, ◌+◌, ◌≤◌, slice_index, sym, subst, ◌∙◌, arith, map, ltb-false, length-map, AreChangedUpto, cell, number_taken, numbers_taken, ArePlanesChanged, IsRaised}
 use Rattle.planes.proofs.Elementwise.{changed_none, number-at, left_next, written_next}
 use Rattle.planes.proofs.ByOwner.{owners_changed, owner-waits, owners-none, owners-next, owners-stay, owners-all, raised-same, raised-stays, taken-passed}
 use Rattle.planes.proofs.owners.take_owners.Goals as goal

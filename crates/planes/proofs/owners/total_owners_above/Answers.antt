@@ -1,5 +1,4 @@
-use Rattle.planes.proofs.Common.{sym, slice_index, ◌∙◌, arith, map, ltb-false}
-use Rattle.planes.specs.Planes.{cell}
+use Rattle.planes.proofs.Common.{sym, slice_index, ◌∙◌, arith, map, ltb-false, cell}
 use Rattle.planes.proofs.Elementwise.{number-at}
 use Rattle.planes.proofs.ByOwner.{owner_counted, owner_passed, owners-fit}
 use Rattle.planes.proofs.owners.total_owners_above.Goals as goal

@@ -1,7 +1,4 @@
-use Rattle.planes.proofs.Common.{◌≡◌, ℕ, ◌-◌, ◌≤◌, Bool, length, slice_index, map}
-use Rattle.planes.specs.Elementwise.{AreChangedUpto}
-use Rattle.planes.specs.inner.Answering.{MakesAs}
-use Rattle.planes.specs.inner.Counting.{count_passing}
+use Rattle.planes.proofs.Common.{◌≡◌, ℕ, ◌-◌, ◌≤◌, Bool, length, slice_index, map, AreChangedUpto, MakesAs, count_passing}
 use Rattle.planes.proofs.planes.change_counting.Given as goal
 
 abbrev pub invariant-loop-numbers : goal.invariant-loop-numbers

@@ -1,7 +1,4 @@
-use Rattle.planes.proofs.Common.{◌≡◌, ℕ, ◌+◌, ◌≤◌, Bool, List, length, slice_index, map}
-use Rattle.planes.specs.Elementwise.{AreChangedUpto}
-use Rattle.planes.specs.inner.Answering.{MakesAs}
-use Rattle.planes.specs.inner.Counting.{IsPartDone}
+use Rattle.planes.proofs.Common.{◌≡◌, ℕ, ◌+◌, ◌≤◌, Bool, List, length, slice_index, map, AreChangedUpto, MakesAs, IsPartDone}
 use Rattle.planes.proofs.planes.change_some_counting.Given as goal
 
 abbrev pub invariant-loop-i : goal.invariant-loop-i

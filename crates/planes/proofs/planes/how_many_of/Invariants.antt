@@ -1,6 +1,4 @@
-use Rattle.planes.proofs.Common.{ℕ, ◌+◌, ◌≤◌, Bool, length, slice_index, map}
-use Rattle.planes.specs.inner.Answering.{AnswersAs}
-use Rattle.planes.specs.inner.Counting.{IsPassed}
+use Rattle.planes.proofs.Common.{ℕ, ◌+◌, ◌≤◌, Bool, length, slice_index, map, AnswersAs, IsPassed}
 use Rattle.planes.proofs.planes.how_many_of.Given as goal
 
 abbrev pub invariant-loop-i : goal.invariant-loop-i

@@ -1,5 +1,4 @@
-use Rattle.planes.proofs.Common.{◌≡◌, ◌&&◌, nat_lt, nat_le, max, get_or, ◌∙◌, arith, map, if◌then◌else◌, length-map}
-use Rattle.planes.specs.Planes.{number_taken}
+use Rattle.planes.proofs.Common.{◌≡◌, ◌&&◌, nat_lt, nat_le, max, get_or, ◌∙◌, arith, map, if◌then◌else◌, length-map, number_taken}
 use Rattle.planes.proofs.Elementwise.{number-at, number-waits, changed_none, changed_all, written_next}
 use Rattle.planes.proofs.planes.take_plane.Given as given
 use Rattle.planes.proofs.planes.take_plane.Goals as goal

@@ -1,6 +1,6 @@
 -- Tables whose owners are gone over one by one.
 -- Serves `merge_owners`, `raise_owner`, `take_owner`, `take_owners`, `total_owners_above` and `version_tables`.
-use Rattle.planes.proofs.Common.{◌≡◌, ◌≢◌, ℕ, zero, suc, Fits, w32, ◌+◌, ◌*◌, ◌<◌, ◌≤◌, ◌==◌, ◌&&◌, Bool, true, false, cond, List, length, get_or, set, map, nat_lt, nat_le, max, inl, inr, refl, sym, ap, ◌∙◌, subst, arith, mul-le-mul_right, cases_lt, cases_eq, eq-eqb, ne_eqb, lt-ltb, le-ltb, lt-leb, get_or-set_same, get_or-set_other, length-set, map-set, MOST_NODES, MOST_KEYS, sum_below, sum_below-same, Cells, cell, count_above, number_raised, number_taken, HasNoneAbove, IsRaised, ArePlanesChanged, ArePlanesChangedUpto}
+use Rattle.planes.proofs.Common.{◌≡◌, ◌≢◌, ℕ, zero, suc, Fits, w32, ◌+◌, ◌*◌, ◌<◌, ◌≤◌, ◌==◌, ◌&&◌, Bool, true, false, cond, List, length, get_or, set, map, nat_lt, nat_le, max, inl, inr, refl, sym, ap, ◌∙◌, subst, arith, mul-le-mul_right, cases_lt, cases_eq, eq-eqb, ne_eqb, lt-ltb, le-ltb, lt-leb, get_or-set_same, get_or-set_other, length-set, map-set, MOST_NODES, MOST_KEYS, sum_below, sum_below-same, Cells, cell, count_above, number_raised, number_taken, HasNoneAbove, IsRaised, ArePlanesChanged, ArePlanesChangedUpto, IsGrid}
 use Rattle.planes.proofs.Counts.{count_le, sum_next}
 
 -- an owner of whom nothing is above its mark
@@ -29,10 +29,8 @@ counts_le : (cells : Cells) (keys owners : ℕ) (low : ℕ → ℕ) → keys ≤
 counts_le cells keys zero low few = omega arith
 counts_le cells keys (suc owners) low few = omega (arith, counts_le cells keys owners low few, count_le keys (λ k. nat_lt (low owners) (cells owners k)), few)
 
-pub owners-fit : (cells : Cells) (nodes keys : ℕ) (low : ℕ → ℕ) (owner total count mark : ℕ) → nodes ≤ MOST_NODES → keys ≤ MOST_KEYS → owner < nodes
-    → total ≡ sum_below owner (λ r. count_above cells keys r (low r)) → count ≡ count_above cells keys owner mark → Fits w32 (total + count)
-owners-fit cells nodes keys low owner total count mark few_nodes few_keys lt is now =
-    omega (arith, is, now, lt, few_nodes, few_keys, counts_le cells keys owner low few_keys, count_le keys (λ k. nat_lt mark (cells owner k)))
+pub owners-fit : (cells : Cells) (nodes keys size : ℕ) (low : ℕ → ℕ) (owner total : ℕ) → IsGrid nodes keys size → owner < nodes → total ≡ sum_below (owner + 1) (λ r. count_above cells keys r (low r)) → Fits w32 total
+owners-fit cells nodes keys size low owner total grid lt is = omega (arith, is, lt, grid.few_nodes, counts_le cells keys (owner + 1) low grid.few_keys)
 
 -- nothing is taken that isn't above one mark and up to another
 pub taken-none : (x sent low high : ℕ) → (nat_lt low sent && nat_le sent high) ≡ false → number_taken x sent low high ≡ x
@@ -143,20 +141,6 @@ module _ (to : ℕ → ℕ → ℕ → ℕ) (nodes keys : ℕ) (old : List ℕ) 
   owner-waits bound mid before k in_node in_key =
       before.each bound k in_node in_key ∙ ap (λ b. cond b (to bound k (cell old nodes bound k)) (cell old nodes bound k)) (le-ltb bound bound (omega arith))
 
--- a greatest number above all stays, where a number that is no greater comes
-pub raised-past : (cells : Cells) (key owner x y : ℕ) → IsRaised cells key owner x y → cells owner key ≤ x → IsRaised cells (key + 1) owner x y
-raised-past cells key owner x y before le = record {
-  rises = before.rises;
-  upto = λ k lt. elim (cases_lt k key) [
-    | inl earlier ↦ before.upto k earlier
-    | inr not_earlier ↦ subst (λ j. cells owner j ≤ y) {x = key} {y = k} (omega (arith, lt, not_earlier)) (omega (arith, le, before.rises))
-  ];
-  from = elim before.from [
-    | inl old ↦ inl old
-    | inr (k, lt, is) ↦ inr (k, omega (arith, lt), is)
-  ];
-}
-
 pub raised-stays : (cells : Cells) (keys owner x : ℕ) → HasNoneAbove cells keys owner x → IsRaised cells keys owner x x
 raised-stays cells keys owner x covered = record { rises = omega arith; upto = covered; from = inl refl }
 
@@ -164,39 +148,42 @@ pub raised-same : (one other : Cells) (keys owner x y : ℕ) → ((k : ℕ) → 
 raised-same one other keys owner x y same is = record {
   rises = is.rises;
   upto = λ k lt. subst (λ n. n ≤ y) (same k lt) (is.upto k lt);
-  from = elim is.from [
-    | inl old ↦ inl old
-    | inr (k, lt, e) ↦ inr (k, lt, sym (same k lt) ∙ e)
-  ];
+  from = elim is.from [ inl old ↦ inl old | inr (k, lt, e) ↦ inr (k, lt, sym (same k lt) ∙ e) ];
 }
 
 -- nothing is raised where nothing is above the mark
 pub raised-none_above : (x other low : ℕ) → other ≤ low → number_raised x other low ≡ x
 raised-none_above x other low le = ap (λ b. max x (cond b other 0)) (le-ltb low other le) ∙ omega arith
 
--- an owner's numbers that come from another table
-module _ (nodes keys : ℕ) (cells others : List ℕ) (low : ℕ → ℕ) (owner : ℕ) (in_nodes : owner < nodes) where
+-- of the owners below a bound each number is raised to another table's, where that is above the owner's mark, and so many are
+pub record HaveCome (nodes keys : ℕ) (others : List ℕ) (low : ℕ → ℕ) (old new : List ℕ) (bound raised : ℕ) : Type 0 where
+  pub cells : ArePlanesChanged (owners_changed (λ r k x. number_raised x (cell others nodes r k) (low r)) bound) nodes keys old new
+  pub count : raised ≡ sum_below bound (λ r. count_above (cell others nodes) keys r (low r))
+
+module _ (nodes keys : ℕ) (others : List ℕ) (low : ℕ → ℕ) (old : List ℕ) where
   abbrev raised_in : ℕ → ℕ → ℕ → ℕ
   raised_in r k x = number_raised x (cell others nodes r k) (low r)
 
-  -- they come, and the other table still has that owner's as they were
-  pub raise-next : (mid others_mid new : List ℕ) (mark : ℕ) (to_others : ℕ → ℕ → ℕ → ℕ) → ArePlanesChanged (owners_changed raised_in owner) nodes keys cells mid → ArePlanesChanged (owners_changed to_others owner) nodes keys others others_mid → mark ≡ low owner
-      → ArePlanesChanged (λ r k x y. y ≡ cond (r == owner) (number_raised x (cell others_mid nodes r k) mark) x) nodes keys mid new
-      → ArePlanesChanged (owners_changed raised_in (owner + 1)) nodes keys cells new
-  raise-next mid others_mid new mark to_others before waits same now = owners_turned raised_in nodes keys cells owner (λ r k y. number_raised y (cell others_mid nodes r k) mark) mid new before now
-      (λ k x lt i. number_raised x (owner-waits to_others nodes keys others owner others_mid waits k in_nodes lt i) (same i))
+  pub come-none : HaveCome nodes keys others low old old 0 0
+  come-none = record { cells = owners-none raised_in nodes keys old; count = refl }
 
-  -- so many
-  pub raise-count : (others_mid : List ℕ) (mark count : ℕ) (to_others : ℕ → ℕ → ℕ → ℕ) → ArePlanesChanged (owners_changed to_others owner) nodes keys others others_mid → count ≡ count_above (cell others_mid nodes) keys owner mark
-      → count ≡ count_above (cell others nodes) keys owner mark
-  raise-count others_mid mark count to_others waits now =
-      now ∙ sum_below-same keys _ _ (λ k lt. ap (λ n. cond (nat_lt mark n) 1 0) (owner-waits to_others nodes keys others owner others_mid waits k in_nodes lt))
+  -- an owner's numbers come, while the other table still has them as they were
+  pub come-next : (owner : ℕ) (low_of_others : ℕ → ℕ) (others_mid mid new : List ℕ) (came count more mark : ℕ) → owner < nodes → HaveCome nodes keys old low_of_others others others_mid owner came → HaveCome nodes keys others low old mid owner count → mark ≡ low owner
+      → ArePlanesChanged (λ r k x y. y ≡ cond (r == owner) (number_raised x (cell others_mid nodes r k) mark) x) nodes keys mid new → more ≡ count_above (cell others_mid nodes) keys owner mark
+      → HaveCome nodes keys others low old new (owner + 1) (count + more)
+  come-next owner low_of_others others_mid mid new came count more mark lt waits before same now is =
+      let there = owner-waits (λ r k x. number_raised x (cell old nodes r k) (low_of_others r)) nodes keys others owner others_mid waits.cells in
+      record {
+        cells = owners_turned raised_in nodes keys old owner (λ r k y. number_raised y (cell others_mid nodes r k) mark) mid new before.cells now (λ k x in_keys i. number_raised x (there k lt in_keys i) (same i));
+        count = owner_counted (cell others nodes) keys low owner count more mark before.count (is ∙ sum_below-same keys _ _ (λ k in_keys. ap (λ n. cond (nat_lt mark n) 1 0) (there k lt in_keys))) same;
+      }
 
-  pub raise-fits : (others_mid : List ℕ) (mark total count : ℕ) (to_others : ℕ → ℕ → ℕ → ℕ) → nodes ≤ MOST_NODES → keys ≤ MOST_KEYS → total ≡ sum_below owner (λ r. count_above (cell others nodes) keys r (low r))
-      → ArePlanesChanged (owners_changed to_others owner) nodes keys others others_mid → count ≡ count_above (cell others_mid nodes) keys owner mark → Fits w32 (total + count)
-  raise-fits others_mid mark total count to_others few_nodes few_keys so_far waits now =
-      owners-fit (cell others nodes) nodes keys low owner total count mark few_nodes few_keys in_nodes so_far (raise-count others_mid mark count to_others waits now)
+  -- or none comes
+  pub come-passed : (owner : ℕ) (mid : List ℕ) (count high : ℕ) → HaveCome nodes keys others low old mid owner count → HasNoneAbove (cell others nodes) keys owner high → high ≤ low owner → HaveCome nodes keys others low old mid (owner + 1) count
+  come-passed owner mid count high before covered le = record {
+    cells = owners-stay raised_in nodes keys old owner mid before.cells (λ k x lt. raised-none_above x (cell others nodes owner k) (low owner) (omega (arith, covered k lt, le)));
+    count = owner_passed (cell others nodes) keys low owner count high before.count covered le;
+  }
 
-  -- none comes
-  pub raise-passed : (mid : List ℕ) (high : ℕ) → ArePlanesChanged (owners_changed raised_in owner) nodes keys cells mid → HasNoneAbove (cell others nodes) keys owner high → high ≤ low owner → ArePlanesChanged (owners_changed raised_in (owner + 1)) nodes keys cells mid
-  raise-passed mid high before covered le = owners-stay raised_in nodes keys cells owner mid before (λ k x lt. raised-none_above x (cell others nodes owner k) (low owner) (omega (arith, covered k lt, le)))
+  pub come-fits : (owner : ℕ) (new : List ℕ) (size count : ℕ) → IsGrid nodes keys size → owner < nodes → HaveCome nodes keys others low old new (owner + 1) count → Fits w32 count
+  come-fits owner new size count grid lt is = owners-fit (cell others nodes) nodes keys size low owner count grid lt is.count

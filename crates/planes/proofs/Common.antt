@@ -6,6 +6,7 @@ pub use Rattle.std.proofs.Math.Seq.{take-add, take-nil}
 pub use Rattle.std.proofs.lemmas.Bool.{both_ways, cases_Bool, cases_eq, cases_lt, eq-eqb, le-ltb, lt-leb, lt-ltb, ltb-false, ltb-true, ne_eqb}
 pub use Rattle.std.proofs.lemmas.List.{get_or-append_right, get_or-drop, get_or-map, get_or-replicate, get_or-set_other, get_or-set_same, get_or-take, get_or_append_left, length-append, length-drop, length-map, length-replicate, length-set, length-take-le, map-append, map-set, take-map, with_items_is}
 pub use Rattle.std.specs.List.{drop-map}
+pub use borrow.Author.Count.{below_more}
 pub use borrow.Rule.Slice.PartMut.{post_of, put_mid}
 pub use Rattle.bench_types.proofs.Sums.{sum_below-most, sum_below-same, sum_below-turned}
 pub use Rattle.bench_types.specs.Sums.{sum_below}
@@ -14,4 +15,4 @@ pub use Rattle.planes.specs.Elementwise.{AreChanged, AreChangedUpto}
 pub use Rattle.planes.specs.Lags.{IsLeastBehind}
 pub use Rattle.planes.specs.Planes.{ArePlanesChanged, ArePlanesChangedUpto, Cells, HasEach, HasNoneAbove, IsGrid, IsNextAbove, IsRaised, cell, count_above, number_ahead, number_raised, number_taken, numbers_taken, total_above, total_of}
 pub use Rattle.planes.specs.inner.Answering.{AnswersAs, IsLowered, IsMade, MakesAs}
-pub use Rattle.planes.specs.inner.Counting.{IsPartDone, IsPassed, count_less, count_passing}
+pub use Rattle.planes.specs.inner.Counting.{AreCountedUpto, AreRaisedUpto, count_less, count_passing}

@@ -1,7 +1,8 @@
 -- Lists that are changed element by element.
 -- Serves the functions of `grids`, `lags`, `merges`, `owners` and `planes`, `delta_plans`, `version_lags` and
 -- `version_tables`.
-use Rattle.planes.proofs.Common.{◌≡◌, ℕ, ◌+◌, ◌<◌, ◌≤◌, List, length, [], ◌++◌, ◌-◌, get_or, set, map, min, take, replicate, inl, inr, refl, sym, ap, ◌∙◌, subst, arith, take-nil, cases_eq, cases_lt, get_or-set_same, get_or-set_other, length-set, get_or-map, get_or-replicate, length-map, length-replicate, map-set, HasEach, AreChangedUpto, AreChanged, IsLowered, IsMade}
+use Rattle.planes.proofs.Common.{◌≡◌, ℕ, ◌+◌, ◌<◌, ◌≤◌, List, length, [], ◌++◌, ◌-◌, get_or, set, map, min, take, replicate, inl, inr, refl, sym, ap, ◌∙◌, subst, arith, take-nil, cases_eq, cases_lt, get_or-set_same, get_or-set_other, length-set, get_or-map, get_or-replicate, length-map, length-replicate, map-set, Bool, cond, HasEach, AreChangedUpto, AreChanged, IsLowered, IsMade, AreCountedUpto, count_passing}
+use Rattle.planes.proofs.Counts.{count_next, count_same}
 
 -- what is read at an index, as a number
 pub number-at : {N : Type 0} (number : N → ℕ) (xs : List N) (r : ℕ) (x : N) → r < length xs → x ≡ get_or xs r x → number x ≡ get_or (map number xs) r 0
@@ -61,16 +62,22 @@ module _ (changed : ℕ → ℕ → ℕ → Type 0) (old : List ℕ) where
   written_next number new bound x is lt now =
       subst (λ xs. AreChangedUpto changed old xs (bound + 1)) (sym (map-set number new bound x)) (changed_next (map number new) bound (number x) is lt now)
 
-  -- a loop over a part writes from where the part begins
-  pub part-begun : (new : List ℕ) (from : ℕ) → AreChangedUpto changed old new from → AreChangedUpto changed old new (from + 0)
-  part-begun new from = subst (AreChangedUpto changed old new) {x = from} {y = from + 0} (omega arith)
+  -- those that pass a test are counted
+  module _ (test : ℕ → Bool) where
+    pub counted_none : AreCountedUpto changed test old old 0 0
+    counted_none = record { numbers = changed_none; count = refl }
 
-  pub part-written : {N : Type 0} (number : N → ℕ) (new : List N) (from i : ℕ) (x : N) → AreChangedUpto changed old (map number new) (from + i) → from + i < length old → changed (from + i) (get_or old (from + i) 0) (number x)
-      → AreChangedUpto changed old (map number (set new (from + i) x)) (from + (i + 1))
-  part-written number new from i x is lt now = subst (AreChangedUpto changed old (map number (set new (from + i) x))) {x = from + i + 1} {y = from + (i + 1)} (omega arith) (written_next number new (from + i) x is lt now)
+    pub counted_next : {N : Type 0} (number : N → ℕ) (new : List N) (bound to before passed now more : ℕ) (x : N) → AreCountedUpto changed test old (map number new) bound (before + passed) → bound < length new → bound + 1 ≡ to
+        → changed bound (get_or old bound 0) (number x) → now ≡ passed + more → more ≡ cond (test bound) 1 0 → AreCountedUpto changed test old (map number (set new bound x)) to (before + now)
+    counted_next number new bound to before passed now more x is lt next made plus one = record {
+      numbers = subst (AreChangedUpto changed old (map number (set new bound x))) next
+          (written_next number new bound x is.numbers (omega (arith, lt, is.numbers.size, length-map new number)) made);
+      count = count_next test bound to before passed now is.count next plus one;
+    }
 
-  pub part-whole : (new : List ℕ) (from i size : ℕ) → AreChangedUpto changed old new (from + i) → size ≤ i → i ≤ size → AreChangedUpto changed old new (from + size)
-  part-whole new from i size is le ge = subst (AreChangedUpto changed old new) {x = from + i} {y = from + size} (omega (arith, le, ge)) is
+    -- a loop over a part begins where the part before it ends
+    pub counted-same : (new : List ℕ) (bound to count now : ℕ) → AreCountedUpto changed test old new bound count → bound ≡ to → count ≡ now → AreCountedUpto changed test old new to now
+    counted-same new bound to count now is at same = record { numbers = subst (AreChangedUpto changed old new) at is.numbers; count = count_same test bound to count now is.count at same }
 
 -- what calls make of numbers, where each makes what a function does
 pub made-as : {N : Type 0} (number : N → ℕ) (makes : ℕ → N → N → Type 0) (r x y : ℕ) (f : ℕ → ℕ) → IsMade number makes r x y → ((n m : N) → makes r n m → number m ≡ f (number n)) → y ≡ f x

@@ -1,12 +1,16 @@
 -- The numbers of a table's planes, one after another.
 -- Serves the functions of `ends`, `grids`, `lags`, `merges` and `owners`, `Behind`, `delta_plans` and
 -- `version_tables`.
-use Rattle.planes.proofs.Common.{◌≡◌, ℕ, zero, suc, Fits, w32, ◌+◌, ◌*◌, ◌-◌, ◌<◌, ◌≤◌, Bool, cond, List, ◌++◌, length, get_or, map, take, drop, nat_lt, max, inl, inr, refl, sym, ap, ◌∙◌, subst, arith, mul-le-mul_right, cases_lt, lt-ltb, le-ltb, get_or-take, get_or-drop, length-map, length-append, length-drop, length-take-le, get_or_append_left, get_or-append_right, map-append, take-map, drop-map, put_mid, post_of, MOST_NODES, MOST_KEYS, sum_below, sum_below-same, sum_below-turned, AreChanged, Cells, IsRaised, cell, number_ahead, total_above, total_of, IsGrid, HasEach, ArePlanesChangedUpto, ArePlanesChanged}
-use Rattle.planes.proofs.Counts.{count_le}
+use Rattle.planes.proofs.Common.{◌≡◌, ℕ, zero, suc, Fits, w32, ◌+◌, ◌*◌, ◌-◌, ◌<◌, ◌≤◌, Bool, cond, List, ◌++◌, length, get_or, map, take, drop, nat_lt, max, inl, inr, refl, sym, ap, ◌∙◌, subst, arith, mul-le-mul_right, below_more, cases_lt, lt-ltb, le-ltb, get_or-take, get_or-drop, length-map, length-append, length-drop, length-take-le, get_or_append_left, get_or-append_right, map-append, take-map, drop-map, put_mid, post_of, MOST_NODES, MOST_KEYS, sum_below, sum_below-same, sum_below-turned, AreChanged, Cells, IsRaised, cell, number_ahead, total_above, total_of, IsGrid, HasEach, ArePlanesChangedUpto, ArePlanesChanged, AreCountedUpto, AreRaisedUpto, number_raised}
+use Rattle.planes.proofs.Elementwise.{changed_all}
+use Rattle.planes.proofs.Counts.{count_le, sum_next}
 
 -- a key's plane lies within the planes
 pub plane-within : (nodes keys size key : ℕ) → IsGrid nodes keys size → key < keys → key * nodes + nodes ≤ size
 plane-within nodes keys size key grid lt = omega (arith, grid.whole, mul-le-mul_right {m = key + 1} {n = keys} nodes (omega (arith, lt)))
+
+pub grid-within : {N : Type 0} (number : N → ℕ) (nodes keys key : ℕ) (xs : List N) → IsGrid nodes keys (length xs) → key < keys → key * nodes + nodes ≤ length (map number xs)
+grid-within number nodes keys key xs grid lt = omega (arith, length-map xs number, plane-within nodes keys (length xs) key grid lt)
 
 -- one more plane is counted
 pub each-next : (nodes : ℕ) (is next : ℕ → ℕ → Type 0) (changed : ℕ → ℕ → ℕ → Type 0) (old new : List ℕ) → HasEach nodes is old → AreChanged changed old new
@@ -23,9 +27,6 @@ plane_count nodes one other n x size is same = is ∙ ap (λ m. sum_below m (λ 
 sums_le : (nodes keys : ℕ) (test : ℕ → ℕ → Bool) → nodes ≤ MOST_NODES → sum_below keys (λ k. sum_below nodes (λ r. cond (test r k) 1 0)) ≤ keys * MOST_NODES
 sums_le nodes zero test few = omega arith
 sums_le nodes (suc keys) test few = omega (arith, sums_le nodes keys test few, count_le nodes (λ r. test r keys), few)
-
-pub total_fits : (nodes keys key : ℕ) (test : ℕ → ℕ → Bool) (x z : ℕ) → nodes ≤ MOST_NODES → keys ≤ MOST_KEYS → key < keys → x ≡ sum_below key (λ k. sum_below nodes (λ r. cond (test r k) 1 0)) → z ≡ sum_below nodes (λ r. cond (test r key) 1 0) → Fits w32 (x + z)
-total_fits nodes keys key test x z few_nodes few_keys lt is now = omega (arith, is, now, lt, few_nodes, few_keys, sums_le nodes key test few_nodes, count_le nodes (λ r. test r key))
 
 pub total_whole : (nodes keys key : ℕ) (test : ℕ → ℕ → Bool) (x : ℕ) → x ≡ sum_below key (λ k. sum_below nodes (λ r. cond (test r k) 1 0)) → keys ≤ key → key ≤ keys → x ≡ total_of nodes keys test
 total_whole nodes keys key test x is le ge =
@@ -187,12 +188,54 @@ planes-written changed nodes old number xs ys key n in_block is before within no
     (planes-next changed nodes old number xs ys key before within (now.size ∙ block.size)
     (λ r lt. step r _ _ lt (subst (λ x. in_block r x (get_or (map number ys) r 0)) (block.each r lt ∙ before.from (key * nodes + r) (omega arith)) (now.each r (omega (arith, lt, block.size))))))
 
+-- the planes of the keys below a bound are changed, and so many places of them pass a test
+pub record ArePlanesCounted (changed : ℕ → ℕ → ℕ → ℕ → Type 0) (test : ℕ → ℕ → Bool) (nodes : ℕ) (old new : List ℕ) (bound passed : ℕ) : Type 0 where
+  pub planes : ArePlanesChangedUpto changed nodes old new bound
+  pub count : passed ≡ sum_below bound (λ k. sum_below nodes (λ r. cond (test r k) 1 0))
+
+module _ (changed : ℕ → ℕ → ℕ → ℕ → Type 0) (test : ℕ → ℕ → Bool) (nodes : ℕ) (old : List ℕ) where
+  pub planes_counted-none : ArePlanesCounted changed test nodes old old 0 0
+  planes_counted-none = record { planes = planes-none changed nodes old; count = refl }
+
+  pub planes_counted-next : {N : Type 0} (number : N → ℕ) (xs ys : List N) (key n count more : ℕ) (in_block : ℕ → ℕ → ℕ → Type 0) (passes : ℕ → Bool)
+      → n ≡ nodes → ArePlanesCounted changed test nodes old (map number xs) key count → key * nodes + nodes ≤ length old
+      → AreCountedUpto in_block passes (map number (take n (drop (key * nodes) xs))) (map number ys) (length (take n (drop (key * nodes) xs))) more
+      → ((r x y : ℕ) → r < nodes → in_block r x y → changed r key x y) → ((r : ℕ) → r < nodes → passes r ≡ test r key)
+      → ArePlanesCounted changed test nodes old (map number (put_mid (key * nodes) n xs ys)) (key + 1) (count + more)
+  planes_counted-next number xs ys key n count more in_block passes is before within now step same =
+      let block = take n (drop (key * nodes) xs) in
+      let size = length-map block number in
+      let cells = plane-cells number nodes key n xs is (omega (arith, within, before.planes.size, length-map xs number)) in
+      record {
+        planes = planes-written changed nodes old number xs ys key n in_block is before.planes within (changed_all in_block (map number block) (map number ys) (length block) now.numbers (omega (arith, size))) step;
+        count = sum_next _ key count more before.count (plane_count nodes passes (λ r. test r key) (length block) more (sym size ∙ cells.size) now.count same);
+      }
+
+  pub planes_counted-fits : (new : List ℕ) (keys key size count : ℕ) → IsGrid nodes keys size → key < keys → ArePlanesCounted changed test nodes old new (key + 1) count → Fits w32 count
+  planes_counted-fits new keys key size count grid lt is = omega (arith, is.count, lt, grid.few_keys, sums_le nodes (key + 1) test grid.few_nodes)
+
+  pub planes_counted-all : (new : List ℕ) (keys key count : ℕ) → ArePlanesCounted changed test nodes old new key count → keys ≤ key → key ≤ keys → ArePlanesChanged changed nodes keys old new × (count ≡ total_of nodes keys test)
+  planes_counted-all new keys key count is le ge = (planes-all changed nodes old new keys key is.planes le, total_whole nodes keys key test count is.count le ge)
+
+-- each number of these planes is raised to another table's, where that is above its mark, and so many are
+abbrev pub AreMergedUpto : ℕ → List ℕ → List ℕ → List ℕ → List ℕ → ℕ → ℕ → Type 0
+AreMergedUpto nodes others low old new bound count =
+    ArePlanesCounted (λ r k x y. y ≡ number_raised x (cell others nodes r k) (get_or low r 0)) (λ r k. nat_lt (get_or low r 0) (cell others nodes r k)) nodes old new bound count
+
+-- of two tables that take of each other one takes a plane more
+pub merged-next : {N : Type 0} (number : N → ℕ) (nodes key n : ℕ) (others low passed old : List ℕ) (zs xs ys : List N) (came count more : ℕ)
+    → n ≡ nodes → AreMergedUpto nodes old passed others (map number zs) key came → AreMergedUpto nodes others low old (map number xs) key count
+    → key * nodes + nodes ≤ length others → key * nodes + nodes ≤ length old
+    → AreRaisedUpto (map number (take n (drop (key * nodes) zs))) low (map number (take n (drop (key * nodes) xs))) (map number ys) (length (take n (drop (key * nodes) xs))) more
+    → AreMergedUpto nodes others low old (map number (put_mid (key * nodes) n xs ys)) (key + 1) (count + more)
+merged-next number nodes key n others low passed old zs xs ys came count more is waits before behind within now =
+    let block = block-cells _ nodes others number zs key n is waits.planes behind in
+    planes_counted-next _ _ nodes old number xs ys key n count more _ _ is before within now
+    (λ r x y lt made. made ∙ (λ i. number_raised x (block r lt i) (get_or low r 0))) (λ r lt i. nat_lt (get_or low r 0) (block r lt i))
+
 -- a loop over keys has come to its end
 pub each-whole : (is : ℕ → ℕ → ℕ → Type 0) (nodes key keys : ℕ) (xs : List ℕ) → keys ≤ key → key ≤ keys → HasEach nodes (is key) xs → HasEach nodes (is keys) xs
 each-whole is nodes key keys xs le ge before = subst (λ k. HasEach nodes (is k) xs) {x = key} {y = keys} (omega (arith, le, ge)) before
-
-pub each-other : (nodes : ℕ) (is other : ℕ → ℕ → Type 0) (xs : List ℕ) → ((r n : ℕ) → is r n → other r n) → HasEach nodes is xs → HasEach nodes other xs
-each-other nodes is other xs step before = record { size = before.size; each = λ r lt. step r _ (before.each r lt) }
 
 -- a mark raised to one number more
 pub raised-none : (cells : Cells) (owner x : ℕ) → IsRaised cells 0 owner x x
@@ -201,17 +244,11 @@ raised-none cells owner x = record { rises = omega arith; upto = λ k lt. absurd
 pub raised-next : (cells : Cells) (key owner x y z : ℕ) → IsRaised cells key owner x y → z ≡ max y (cells owner key) → IsRaised cells (key + 1) owner x z
 raised-next cells key owner x y z before now = record {
   rises = omega (arith, before.rises, now);
-  upto = λ k lt. elim (cases_lt k key) [
-    | inl earlier ↦ omega (arith, before.upto k earlier, now)
-    | inr not_earlier ↦ subst (λ j. cells owner j ≤ z) {x = key} {y = k} (omega (arith, lt, not_earlier)) (omega (arith, now))
-  ];
+  upto = below_more (λ k. cells owner k ≤ z) key (λ k lt. omega (arith, before.upto k lt, now)) (omega (arith, now));
   from = elim (cases_lt y (cells owner key)) [
     | inl lower ↦ inr (key, omega arith, omega (arith, now, lower))
     | inr not_lower ↦
         let same : z ≡ y = omega (arith, now, not_lower) in
-        elim before.from [
-          | inl old ↦ inl (same ∙ old)
-          | inr (k, lt, is) ↦ inr (k, omega (arith, lt), is ∙ sym same)
-        ]
+        elim before.from [ inl old ↦ inl (same ∙ old) | inr (k, lt, is) ↦ inr (k, omega (arith, lt), is ∙ sym same) ]
   ];
 }

@@ -6,8 +6,11 @@ use Rattle.planes.proofs.owners.total_owners_above.Goals.{then-is_above, else-is
 
 pub overflow_add-total : goal.overflow_add-total
 overflow_add-total g c =
-    owners-fit (cell (map g.N.Number.number c.args.cells.now) c.args.nodes) c.args.nodes c.args.keys (slice_index (map g.N.Number.number c.args.low.now)) c.loop-owner.owner c.loop-owner.total c.owner_above-total.result _
-    c.requires.grid.few_nodes c.requires.grid.few_keys c.loop-owner-test.true c.loop-owner.invariant c.owner_above-total.ensures
+    let number = g.N.Number.number in
+    let at_low = number-at number c.args.low.now c.loop-owner.owner c.index-low-owner.result (omega (arith, c.loop-owner-test.true, c.requires.low)) c.index-low-owner.is in
+    let low = slice_index (map number c.args.low.now) in
+    owners-fit _ c.args.nodes c.args.keys _ low c.loop-owner.owner _ c.requires.grid c.loop-owner-test.true
+    (owner_counted (cell (map number c.args.cells.now) c.args.nodes) c.args.keys low c.loop-owner.owner c.loop-owner.total c.owner_above-total.result _ c.loop-owner.invariant c.owner_above-total.ensures at_low)
 
 pub loop-owner-preserved : goal.loop-owner-preserved
 loop-owner-preserved g c =

@@ -1,16 +1,7 @@
 -- Tables whose owners are gone over one by one.
 -- Serves `merge_owners`, `raise_owner`, `take_owner`, `take_owners`, `total_owners_above` and `version_tables`.
-use Rattle.planes.proofs.Common.{◌≡◌, ◌≢◌, ℕ, zero, suc, Fits, w32, ◌+◌, ◌*◌, ◌<◌, ◌≤◌, ◌==◌, ◌&&◌, Bool, true, false, cond, List, length, get_or, set, map, nat_lt, nat_le, max, inl, inr, refl, sym, ap, ◌∙◌, subst, arith, mul-le-mul_right, cases_lt, cases_eq, eq-eqb, ne_eqb, lt-ltb, le-ltb, lt-leb, get_or-set_same, get_or-set_other, length-set, map-set, MOST_NODES, MOST_KEYS, sum_below, sum_below-same, Cells, cell, count_above, number_raised, number_taken, HasNoneAbove, IsRaised, ArePlanesChanged, ArePlanesChangedUpto, IsGrid}
+use Rattle.planes.proofs.Common.{◌≡◌, ◌≢◌, ℕ, zero, suc, Fits, w32, ◌+◌, ◌*◌, ◌<◌, ◌≤◌, ◌==◌, ◌&&◌, Bool, true, false, cond, List, length, get_or, set, map, nat_lt, nat_le, max, inl, inr, refl, sym, ap, ◌∙◌, subst, arith, below_more, nat_tests, sum_below-most, mul-le-mul_right, cases_lt, cases_eq, eq-eqb, ne_eqb, lt-ltb, le-ltb, lt-leb, get_or-set_same, get_or-set_other, length-set, map-set, MOST_NODES, MOST_KEYS, sum_below, sum_below-same, Cells, cell, count_above, number_raised, number_taken, HasNoneAbove, IsRaised, ArePlanesChanged, ArePlanesChangedUpto, IsGrid}
 use Rattle.planes.proofs.Counts.{count_le, sum_next}
-
--- an owner of whom nothing is above its mark
-none_below : (keys : ℕ) (test : ℕ → Bool) → ((k : ℕ) → k < keys → test k ≡ false) → sum_below keys (λ k. cond (test k) 1 0) ≡ 0
-none_below zero test none = refl
-none_below (suc keys) test none = (λ i. none_below keys test (λ k lt. none k (omega (arith, lt))) i + cond (none keys (omega arith) i) 1 0)
-
-pub count-none : (cells : Cells) (keys owner low high : ℕ) → HasNoneAbove cells keys owner high → high ≤ low → count_above cells keys owner low ≡ 0
-count-none cells keys owner low high covered le =
-    none_below keys (λ k. nat_lt low (cells owner k)) (λ k lt. le-ltb low (cells owner k) (omega (arith, covered k lt, le)))
 
 -- the numbers of one owner more are counted
 pub owner_counted : (cells : Cells) (keys : ℕ) (low : ℕ → ℕ) (owner total count mark : ℕ) → total ≡ sum_below owner (λ r. count_above cells keys r (low r)) → count ≡ count_above cells keys owner mark → mark ≡ low owner
@@ -22,15 +13,13 @@ owner_counted cells keys low owner total count mark is now same =
 pub owner_passed : (cells : Cells) (keys : ℕ) (low : ℕ → ℕ) (owner total high : ℕ) → total ≡ sum_below owner (λ r. count_above cells keys r (low r)) → HasNoneAbove cells keys owner high → high ≤ low owner
     → total ≡ sum_below (owner + 1) (λ r. count_above cells keys r (low r))
 owner_passed cells keys low owner total high is covered le =
-    let one_more = sum_next (λ r. count_above cells keys r (low r)) owner total 0 is (sym (count-none cells keys owner (low owner) high covered le)) in
+    let none = sum_below-most (λ k. cond (nat_lt (low owner) (cells owner k)) 1 0) keys 0 (λ k lt. omega (arith, ap {B = ℕ} (λ b. cond b 1 0) (le-ltb (low owner) (cells owner k) (omega (arith, covered k lt, le))))) in
+    let one_more = sum_next (λ r. count_above cells keys r (low r)) owner total 0 is (omega (arith, none)) in
     omega (arith, one_more)
 
-counts_le : (cells : Cells) (keys owners : ℕ) (low : ℕ → ℕ) → keys ≤ MOST_KEYS → sum_below owners (λ r. count_above cells keys r (low r)) ≤ owners * MOST_KEYS
-counts_le cells keys zero low few = omega arith
-counts_le cells keys (suc owners) low few = omega (arith, counts_le cells keys owners low few, count_le keys (λ k. nat_lt (low owners) (cells owners k)), few)
-
 pub owners-fit : (cells : Cells) (nodes keys size : ℕ) (low : ℕ → ℕ) (owner total : ℕ) → IsGrid nodes keys size → owner < nodes → total ≡ sum_below (owner + 1) (λ r. count_above cells keys r (low r)) → Fits w32 total
-owners-fit cells nodes keys size low owner total grid lt is = omega (arith, is, lt, grid.few_nodes, counts_le cells keys (owner + 1) low grid.few_keys)
+owners-fit cells nodes keys size low owner total grid lt is =
+    omega (arith, is, lt, grid.few_nodes, sum_below-most (λ r. count_above cells keys r (low r)) (owner + 1) MOST_KEYS (λ r _. omega (arith, grid.few_keys, count_le keys (λ k. nat_lt (low r) (cells r k)))))
 
 -- nothing is taken that isn't above one mark and up to another
 pub taken-none : (x sent low high : ℕ) → (nat_lt low sent && nat_le sent high) ≡ false → number_taken x sent low high ≡ x
@@ -39,14 +28,8 @@ taken-none x sent low high outside = ap (λ b. max x (cond b sent 0)) outside �
 pub taken-some : (x sent low high : ℕ) → (nat_lt low sent && nat_le sent high) ≡ true → number_taken x sent low high ≡ max x sent
 taken-some x sent low high inside = ap (λ b. max x (cond b sent 0)) inside
 
-none_between : (sent low high : ℕ) → high ≤ low → (nat_lt low sent && nat_le sent high) ≡ false
-none_between sent low high le = elim (cases_lt low sent) [
-  | inl above ↦ (λ i. lt-ltb low sent above i && lt-leb sent high (omega (arith, above, le)) i)
-  | inr not_above ↦ ap (λ b. b && nat_le sent high) (le-ltb low sent (omega (arith, not_above)))
-]
-
 pub taken-passed : (x sent low high : ℕ) → high ≤ low → number_taken x sent low high ≡ x
-taken-passed x sent low high le = taken-none x sent low high (none_between sent low high le)
+taken-passed x sent low high le = grind (arith, nat_tests)
 
 -- numbers of one owner are changed
 abbrev pub owner_changed : (ℕ → ℕ → ℕ → ℕ) → ℕ → ℕ → ℕ → ℕ → ℕ → Type 0
@@ -58,20 +41,16 @@ module _ (to : ℕ → ℕ → ℕ → ℕ) (owner nodes : ℕ) (old : List ℕ)
       → ((i : ℕ) → i ≢ key * nodes + owner → get_or ys i 0 ≡ get_or xs i 0) → ArePlanesChangedUpto (owner_changed to owner) nodes old ys (key + 1)
   owner_more xs ys key before size now others = record {
     size = size ∙ before.size;
-    below = λ r k in_node lt. elim (cases_lt k key) [
-      | inl earlier ↦ others (k * nodes + r) (λ e. omega (arith, e, in_node, mul-le-mul_right {m = k + 1} {n = key} nodes (omega (arith, earlier)))) ∙ before.below r k in_node earlier
-      | inr not_earlier ↦ subst (λ j. owner_changed to owner r j (cell old nodes r j) (cell ys nodes r j)) {x = key} {y = k} (omega (arith, lt, not_earlier)) (here r in_node)
-    ];
+    below = λ r k in_node. below_more (λ j. owner_changed to owner r j (cell old nodes r j) (cell ys nodes r j)) key
+        (λ j lt. others (j * nodes + r) (λ e. omega (arith, e, in_node, mul-le-mul_right {m = j + 1} {n = key} nodes (omega (arith, lt)))) ∙ before.below r j in_node lt) (here r in_node) k;
     from = λ i le. others i (λ e. omega (arith, e, le, in_nodes)) ∙ before.from i (omega (arith, le));
   }
     where
       here : (r : ℕ) → r < nodes → owner_changed to owner r key (cell old nodes r key) (cell ys nodes r key)
-      here r in_node = elim (cases_eq r owner) [
-        | inl same ↦ subst (λ o. owner_changed to owner o key (cell old nodes o key) (cell ys nodes o key)) (sym same) (now ∙ ap (λ b. cond b (to owner key (cell old nodes owner key)) (cell old nodes owner key)) (sym (eq-eqb owner owner refl)))
-        | inr other ↦
-            others (key * nodes + r) (λ e. other (omega (arith, e))) ∙ before.from (key * nodes + r) (omega arith)
-            ∙ ap (λ b. cond b (to r key (cell old nodes r key)) (cell old nodes r key)) (sym (ne_eqb r owner other))
-      ]
+      here r in_node =
+          let kept = others (key * nodes + r) in
+          let was = before.from (key * nodes + r) (omega arith) in
+          grind (arith, nat_tests)
 
   -- it is written
   pub owner-next : {N : Type 0} (number : N → ℕ) (xs : List N) (key : ℕ) (x : N) → ArePlanesChangedUpto (owner_changed to owner) nodes old (map number xs) key → key * nodes + nodes ≤ length old
@@ -97,18 +76,7 @@ module _ (to : ℕ → ℕ → ℕ → ℕ) (nodes keys : ℕ) (old : List ℕ) 
 
   -- what an owner's turn makes of a number, where those before it were changed already
   owner_turn : (bound r : ℕ) (now : ℕ → ℕ) (k x y z : ℕ) → owners_changed to bound r k x y → z ≡ cond (r == bound) (now y) y → (r ≡ bound → now x ≡ to r k x) → owners_changed to (bound + 1) r k x z
-  owner_turn bound r now k x y z before after same = elim (cases_eq r bound) [
-    | inl here ↦
-        let still : y ≡ x = before ∙ ap (λ b. cond b (to r k x) x) (le-ltb r bound (omega (arith, here))) in
-        after ∙ ap (λ b. cond b (now y) y) (eq-eqb r bound here) ∙ ap now still ∙ same here
-        ∙ ap (λ b. cond b (to r k x) x) (sym (lt-ltb r (bound + 1) (omega (arith, here))))
-    | inr other ↦
-        after ∙ ap (λ b. cond b (now y) y) (ne_eqb r bound other) ∙ before
-        ∙ ap (λ b. cond b (to r k x) x) (elim (cases_lt r bound) [
-          | inl earlier ↦ lt-ltb r bound earlier ∙ sym (lt-ltb r (bound + 1) (omega (arith, earlier)))
-          | inr later ↦ le-ltb r bound (omega (arith, later)) ∙ sym (le-ltb r (bound + 1) (omega (arith, later, other)))
-        ])
-  ]
+  owner_turn bound r now k x y z before after same = grind (arith, nat_tests)
 
   owners_turned : (bound : ℕ) (now : ℕ → ℕ → ℕ → ℕ) (mid new : List ℕ) → ArePlanesChanged (owners_changed to bound) nodes keys old mid → ArePlanesChanged (owner_changed now bound) nodes keys mid new
       → ((k x : ℕ) → k < keys → now bound k x ≡ to bound k x) → ArePlanesChanged (owners_changed to (bound + 1)) nodes keys old new
@@ -124,11 +92,7 @@ module _ (to : ℕ → ℕ → ℕ → ℕ) (nodes keys : ℕ) (old : List ℕ) 
   owners-next bound now mid new before after same = owners_turned bound now mid new before after (λ k x _. same k x)
 
   pub owners-stay : (bound : ℕ) (mid : List ℕ) → ArePlanesChanged (owners_changed to bound) nodes keys old mid → ((k x : ℕ) → k < keys → to bound k x ≡ x) → ArePlanesChanged (owners_changed to (bound + 1)) nodes keys old mid
-  owners-stay bound mid before same = owners_turned bound (λ r k y. y) mid mid before (record { size = refl; each = λ r k _ _. either_same (r == bound) (cell mid nodes r k) }) (λ k x lt. sym (same k x lt))
-    where
-      either_same : (b : Bool) (y : ℕ) → y ≡ cond b y y
-      either_same true y = refl
-      either_same false y = refl
+  owners-stay bound mid before same = owners_turned bound (λ r k y. y) mid mid before (record { size = refl; each = λ r k _ _. grind (arith, nat_tests) }) (λ k x lt. sym (same k x lt))
 
   pub owners-all : (bound : ℕ) (mid : List ℕ) → nodes ≤ bound → ArePlanesChanged (owners_changed to bound) nodes keys old mid → ArePlanesChanged (λ r k x y. y ≡ to r k x) nodes keys old mid
   owners-all bound mid le before = record {
@@ -153,7 +117,7 @@ raised-same one other keys owner x y same is = record {
 
 -- nothing is raised where nothing is above the mark
 pub raised-none_above : (x other low : ℕ) → other ≤ low → number_raised x other low ≡ x
-raised-none_above x other low le = ap (λ b. max x (cond b other 0)) (le-ltb low other le) ∙ omega arith
+raised-none_above x other low le = grind (arith, nat_tests)
 
 -- of the owners below a bound each number is raised to another table's, where that is above the owner's mark, and so many are
 pub record HaveCome (nodes keys : ℕ) (others : List ℕ) (low : ℕ → ℕ) (old new : List ℕ) (bound raised : ℕ) : Type 0 where

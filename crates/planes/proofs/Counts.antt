@@ -1,15 +1,14 @@
 -- Sums that a loop counts.
 -- Serves the functions of `grids`, `lags`, `merges`, `owners` and `planes`, `ByOwner`, `Places`, `delta_plans` and
 -- `version_lags`.
-use Rattle.planes.proofs.Common.{◌≡◌, ℕ, zero, suc, ◌+◌, ◌-◌, ◌≤◌, Bool, true, false, cond, ap, ◌∙◌, arith, sum_below, count_passing}
+use Rattle.planes.proofs.Common.{◌≡◌, ℕ, zero, suc, ◌+◌, ◌-◌, ◌≤◌, Bool, true, false, cond, ap, ◌∙◌, arith, sum_below, sum_below-most, count_passing}
 
 pub one_le : (b : Bool) → cond b 1 0 ≤ 1
 one_le true = omega arith
 one_le false = omega arith
 
 pub count_le : (n : ℕ) (test : ℕ → Bool) → sum_below n (λ r. cond (test r) 1 0) ≤ n
-count_le zero test = omega arith
-count_le (suc n) test = omega (arith, count_le n test, one_le (test n))
+count_le n test = omega (arith, sum_below-most (λ r. cond (test r) 1 0) n 1 (λ r _. one_le (test r)))
 
 pub sum_next : (f : ℕ → ℕ) (r count x : ℕ) → count ≡ sum_below r f → x ≡ f r → count + x ≡ sum_below (r + 1) f
 sum_next f r count x is now = (λ i. is i + now i) ∙ ap (λ n. sum_below n f) {x = suc r} {y = r + 1} (omega arith)

@@ -1,7 +1,7 @@
 -- Lists that are changed element by element.
 -- Serves the functions of `grids`, `lags`, `merges`, `owners` and `planes`, `delta_plans`, `version_lags` and
 -- `version_tables`.
-use Rattle.planes.proofs.Common.{◌≡◌, ℕ, ◌+◌, ◌<◌, ◌≤◌, List, length, [], ◌++◌, ◌-◌, get_or, set, map, min, take, replicate, inl, inr, refl, sym, ap, ◌∙◌, subst, arith, take-nil, cases_eq, cases_lt, get_or-set_same, get_or-set_other, length-set, get_or-map, get_or-replicate, length-map, length-replicate, map-set, Bool, cond, HasEach, AreChangedUpto, AreChanged, IsLowered, IsMade, AreCountedUpto, count_passing}
+use Rattle.planes.proofs.Common.{◌≡◌, ℕ, ◌+◌, ◌<◌, ◌≤◌, List, length, [], ◌++◌, ◌-◌, get_or, set, map, min, take, replicate, inl, inr, refl, sym, ap, ◌∙◌, subst, arith, below_more, take-nil, cases_eq, cases_lt, get_or-set_same, get_or-set_other, length-set, get_or-map, get_or-replicate, length-map, length-replicate, map-set, Bool, cond, HasEach, AreChangedUpto, AreChanged, IsLowered, IsMade, AreCountedUpto, count_passing}
 use Rattle.planes.proofs.Counts.{count_next, count_same}
 
 -- what is read at an index, as a number
@@ -34,11 +34,9 @@ module _ (changed : ℕ → ℕ → ℕ → Type 0) (old : List ℕ) where
   changed_next : (new : List ℕ) (bound x : ℕ) → AreChangedUpto changed old new bound → bound < length old → changed bound (get_or old bound 0) x → AreChangedUpto changed old (set new bound x) (bound + 1)
   changed_next new bound x is lt now = record {
     size = length-set new bound x ∙ is.size;
-    below = λ r below. elim (cases_eq r bound) [
-      | inl here ↦ subst (λ k. changed k (get_or old k 0) (get_or (set new bound x) k 0)) (sym here)
-          (subst (changed bound (get_or old bound 0)) (sym (get_or-set_same new bound x 0 (omega (arith, lt, is.size)))) now)
-      | inr other ↦ subst (changed r (get_or old r 0)) (sym (get_or-set_other new bound r x 0 other)) (is.below r (omega (arith, below, other)))
-    ];
+    below = below_more (λ k. changed k (get_or old k 0) (get_or (set new bound x) k 0)) bound
+        (λ r below. subst (changed r (get_or old r 0)) (sym (get_or-set_other new bound r x 0 (λ e. omega (arith, e, below)))) (is.below r below))
+        (subst (changed bound (get_or old bound 0)) (sym (get_or-set_same new bound x 0 (omega (arith, lt, is.size)))) now);
     from = λ r le. get_or-set_other new bound r x 0 (λ e. omega (arith, e, le)) ∙ is.from r (omega (arith, le));
   }
 
@@ -49,11 +47,7 @@ module _ (changed : ℕ → ℕ → ℕ → Type 0) (old : List ℕ) where
   pub left_next : (new : List ℕ) (bound : ℕ) → AreChangedUpto changed old new bound → changed bound (get_or old bound 0) (get_or old bound 0) → AreChangedUpto changed old new (bound + 1)
   left_next new bound is same = record {
     size = is.size;
-    below = λ r lt. elim (cases_lt r bound) [
-      | inl earlier ↦ is.below r earlier
-      | inr not_earlier ↦ subst (λ k. changed k (get_or old k 0) (get_or new k 0)) {x = bound} {y = r} (omega (arith, lt, not_earlier))
-          (subst (changed bound (get_or old bound 0)) (sym (is.from bound (omega arith))) same)
-    ];
+    below = below_more (λ k. changed k (get_or old k 0) (get_or new k 0)) bound is.below (subst (changed bound (get_or old bound 0)) (sym (is.from bound (omega arith))) same);
     from = λ r le. is.from r (omega (arith, le));
   }
 

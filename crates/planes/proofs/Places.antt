@@ -1,7 +1,7 @@
 -- The numbers of a table's planes, one after another.
 -- Serves the functions of `ends`, `grids`, `lags`, `merges` and `owners`, `Behind`, `delta_plans` and
 -- `version_tables`.
-use Rattle.planes.proofs.Common.{◌≡◌, ℕ, zero, suc, Fits, w32, ◌+◌, ◌*◌, ◌-◌, ◌<◌, ◌≤◌, Bool, cond, List, ◌++◌, length, get_or, map, take, drop, nat_lt, max, inl, inr, refl, sym, ap, ◌∙◌, subst, arith, mul-le-mul_right, below_more, cases_lt, lt-ltb, le-ltb, get_or-take, get_or-drop, length-map, length-append, length-drop, length-take-le, get_or_append_left, get_or-append_right, map-append, take-map, drop-map, put_mid, post_of, MOST_NODES, MOST_KEYS, sum_below, sum_below-same, sum_below-turned, AreChanged, Cells, IsRaised, cell, number_ahead, total_above, total_of, IsGrid, HasEach, ArePlanesChangedUpto, ArePlanesChanged, AreCountedUpto, AreRaisedUpto, number_raised}
+use Rattle.planes.proofs.Common.{◌≡◌, ℕ, zero, suc, Fits, w32, ◌+◌, ◌*◌, ◌-◌, ◌<◌, ◌≤◌, Bool, cond, nat_tests, List, ◌++◌, length, get_or, map, take, drop, nat_lt, max, inl, inr, refl, sym, ap, ◌∙◌, subst, arith, mul-le-mul_right, below_more, cases_lt, lt-ltb, le-ltb, get_or-take, get_or-drop, length-map, length-append, length-drop, length-take-le, get_or_append_left, get_or-append_right, map-append, take-map, drop-map, put_mid, post_of, MOST_NODES, MOST_KEYS, sum_below, sum_below-most, sum_below-same, sum_below-turned, AreChanged, Cells, IsRaised, cell, number_ahead, total_above, total_of, IsGrid, HasEach, ArePlanesChangedUpto, ArePlanesChanged, AreCountedUpto, AreRaisedUpto, number_raised}
 use Rattle.planes.proofs.Elementwise.{changed_all}
 use Rattle.planes.proofs.Counts.{count_le, sum_next}
 
@@ -24,10 +24,6 @@ each-next nodes is next changed old new before now step = record {
 pub plane_count : (nodes : ℕ) (one other : ℕ → Bool) (n x : ℕ) → n ≡ nodes → x ≡ sum_below n (λ r. cond (one r) 1 0) → ((r : ℕ) → r < nodes → one r ≡ other r) → x ≡ sum_below nodes (λ r. cond (other r) 1 0)
 plane_count nodes one other n x size is same = is ∙ ap (λ m. sum_below m (λ r. cond (one r) 1 0)) size ∙ sum_below-same nodes _ _ (λ r lt. ap (λ b. cond b 1 0) (same r lt))
 
-sums_le : (nodes keys : ℕ) (test : ℕ → ℕ → Bool) → nodes ≤ MOST_NODES → sum_below keys (λ k. sum_below nodes (λ r. cond (test r k) 1 0)) ≤ keys * MOST_NODES
-sums_le nodes zero test few = omega arith
-sums_le nodes (suc keys) test few = omega (arith, sums_le nodes keys test few, count_le nodes (λ r. test r keys), few)
-
 pub total_whole : (nodes keys key : ℕ) (test : ℕ → ℕ → Bool) (x : ℕ) → x ≡ sum_below key (λ k. sum_below nodes (λ r. cond (test r k) 1 0)) → keys ≤ key → key ≤ keys → x ≡ total_of nodes keys test
 total_whole nodes keys key test x is le ge =
     is
@@ -39,14 +35,7 @@ total-same nodes keys one other same = sum_below-same nodes _ _ (λ r in_nodes. 
 
 -- a number that is kept is above the mark, and 0 isn't
 pub kept-above : (number peer low : ℕ) → nat_lt (max peer low) number ≡ nat_lt low (number_ahead number peer low)
-kept-above number peer low = elim (cases_lt (max peer low) number) [
-  | inl ahead ↦
-      lt-ltb (max peer low) number ahead ∙ sym (lt-ltb low number (omega (arith, ahead)))
-      ∙ ap (nat_lt low) (sym (ap (λ b. cond b number 0) (lt-ltb (max peer low) number ahead)))
-  | inr not_ahead ↦
-      le-ltb (max peer low) number (omega (arith, not_ahead)) ∙ sym (le-ltb low 0 (omega arith))
-      ∙ ap (nat_lt low) (sym (ap (λ b. cond b number 0) (le-ltb (max peer low) number (omega (arith, not_ahead)))))
-]
+kept-above number peer low = grind (arith, nat_tests)
 
 -- how many are kept
 pub total-kept : (nodes keys : ℕ) (peer : ℕ → ℕ → ℕ) (low old new : List ℕ) (count : ℕ) → count ≡ total_of nodes keys (λ r k. nat_lt (max (peer r k) (get_or low r 0)) (cell old nodes r k))
@@ -121,14 +110,10 @@ module _ (changed : ℕ → ℕ → ℕ → ℕ → Type 0) (nodes : ℕ) (old :
       → ArePlanesChangedUpto changed nodes old (put_mid (key * nodes) nodes xs ys) (key + 1)
   planes_step xs ys key before within size now = record {
     size = laid-length (key * nodes) nodes xs ys room size ∙ before.size;
-    below = λ r k lt below. elim (cases_lt k key) [
-      | inl earlier ↦
-          let inside : k * nodes + r < key * nodes = omega (arith, lt, mul-le-mul_right {m = k + 1} {n = key} nodes (omega (arith, earlier))) in
-          subst (changed r k (cell old nodes r k)) (sym (laid-before (key * nodes) nodes xs ys room size (k * nodes + r) inside)) (before.below r k lt earlier)
-      | inr not_earlier ↦
-          subst (λ j. changed r j (cell old nodes r j) (cell (put_mid (key * nodes) nodes xs ys) nodes r j)) {x = key} {y = k} (omega (arith, below, not_earlier))
-          (subst (changed r key (cell old nodes r key)) (sym (laid-here (key * nodes) nodes xs ys room size r lt)) (now r lt))
-    ];
+    below = λ r k lt. below_more (λ j. changed r j (cell old nodes r j) (cell (put_mid (key * nodes) nodes xs ys) nodes r j)) key
+        (λ j earlier. subst (changed r j (cell old nodes r j))
+        (sym (laid-before (key * nodes) nodes xs ys room size (j * nodes + r) (omega (arith, lt, mul-le-mul_right {m = j + 1} {n = key} nodes (omega (arith, earlier)))))) (before.below r j lt earlier))
+        (subst (changed r key (cell old nodes r key)) (sym (laid-here (key * nodes) nodes xs ys room size r lt)) (now r lt)) k;
     from = λ i le. laid-behind (key * nodes) nodes xs ys room size i (omega (arith, le)) ∙ before.from i (omega (arith, le));
   }
     where
@@ -212,7 +197,8 @@ module _ (changed : ℕ → ℕ → ℕ → ℕ → Type 0) (test : ℕ → ℕ 
       }
 
   pub planes_counted-fits : (new : List ℕ) (keys key size count : ℕ) → IsGrid nodes keys size → key < keys → ArePlanesCounted changed test nodes old new (key + 1) count → Fits w32 count
-  planes_counted-fits new keys key size count grid lt is = omega (arith, is.count, lt, grid.few_keys, sums_le nodes (key + 1) test grid.few_nodes)
+  planes_counted-fits new keys key size count grid lt is =
+      omega (arith, is.count, lt, grid.few_keys, sum_below-most (λ k. sum_below nodes (λ r. cond (test r k) 1 0)) (key + 1) MOST_NODES (λ k _. omega (arith, grid.few_nodes, count_le nodes (λ r. test r k))))
 
   pub planes_counted-all : (new : List ℕ) (keys key count : ℕ) → ArePlanesCounted changed test nodes old new key count → keys ≤ key → key ≤ keys → ArePlanesChanged changed nodes keys old new × (count ≡ total_of nodes keys test)
   planes_counted-all new keys key count is le ge = (planes-all changed nodes old new keys key is.planes le, total_whole nodes keys key test count is.count le ge)

@@ -1,8 +1,11 @@
-use Rattle.planes.proofs.Common.{◌-◌, min, ◌∙◌, arith, length}
+use Rattle.planes.proofs.Common.{◌≡◌, ℕ, Fits, w32, ◌+◌, ◌-◌, ◌<◌, ◌≤◌, min, ◌∙◌, arith, length, MOST_NODES, MOST_KEYS, sum_below, sum_below-most}
 use Rattle.planes.proofs.Elementwise.{number-at}
 use Rattle.planes.proofs.Counts.{sum_next, sum_whole}
-use Rattle.planes.proofs.Leads.{lead-fits}
 use Rattle.planes.proofs.merges.most_ahead.Goals as goal
+
+lead-fits : (keys : ℕ) (numbers others : ℕ → ℕ) (r sum lead : ℕ) → sum ≡ sum_below r (λ k. min keys (numbers k - others k)) → lead ≤ keys → r < MOST_NODES → keys ≤ MOST_KEYS → Fits w32 (sum + lead)
+lead-fits keys numbers others r sum lead is le few_nodes few_keys =
+    omega (arith, is, le, few_nodes, few_keys, sum_below-most (λ k. min keys (numbers k - others k)) r MOST_KEYS (λ k lt. omega (arith, few_keys)))
 
 pub overflow_add-to_first : goal.overflow_add-to_first
 overflow_add-to_first g c = lead-fits c.args.keys _ _ c.loop-r.r c.loop-r.to_first c.lead-to_first.result c.loop-r.invariant.to_first (omega (arith, c.lead-to_first.ensures)) (omega (arith, c.loop-r-test.true, c.requires.nodes)) c.requires.keys

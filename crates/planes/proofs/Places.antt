@@ -1,7 +1,7 @@
 -- The numbers of a table's planes, one after another.
 -- Serves the functions of `ends`, `grids`, `lags`, `merges` and `owners`, `Behind`, `delta_plans` and
 -- `version_tables`.
-use Rattle.planes.proofs.Common.{◌≡◌, ℕ, zero, suc, Fits, w32, ◌+◌, ◌*◌, ◌-◌, ◌<◌, ◌≤◌, Bool, cond, nat_tests, List, ◌++◌, length, get_or, map, take, drop, nat_lt, max, inl, inr, refl, sym, ap, ◌∙◌, subst, arith, mul-le-mul_right, below_more, cases_lt, lt-ltb, le-ltb, get_or-take, get_or-drop, length-map, length-append, length-drop, length-take-le, get_or_append_left, get_or-append_right, map-append, take-map, drop-map, put_mid, post_of, MOST_NODES, MOST_KEYS, sum_below, sum_below-most, sum_below-same, sum_below-turned, AreChanged, Cells, IsRaised, cell, number_ahead, total_above, total_of, IsGrid, HasEach, ArePlanesChangedUpto, ArePlanesChanged, AreCountedUpto, AreRaisedUpto, number_raised}
+use Rattle.planes.proofs.Common.{◌≡◌, ℕ, zero, suc, Fits, w32, ◌+◌, ◌*◌, ◌-◌, ◌<◌, ◌≤◌, Bool, cond, nat_tests, List, ◌++◌, length, get_or, map, take, drop, nat_lt, max, inl, inr, refl, sym, ap, ◌∙◌, subst, arith, rules, places, mul-le-mul_right, below_more, cases_lt, lt-ltb, le-ltb, get_or-take, get_or-drop, length-map, length-append, length-drop, length-take-le, get_or_append_left, get_or-append_right, map-append, take-map, drop-map, put_mid, post_of, MOST_NODES, MOST_KEYS, sum_below, sum_below-most, sum_below-same, sum_below-turned, AreChanged, Cells, IsRaised, cell, number_ahead, total_above, total_of, IsGrid, HasEach, ArePlanesChangedUpto, ArePlanesChanged, AreCountedUpto, AreRaisedUpto, number_raised}
 use Rattle.planes.proofs.Elementwise.{changed_all}
 use Rattle.planes.proofs.Counts.{count_le, sum_next}
 
@@ -49,30 +49,19 @@ module _ (start nodes : ℕ) (xs ys : List ℕ) (within : start + nodes ≤ leng
   front = length-take-le start xs (omega (arith, within))
 
   laid-before : (i : ℕ) → i < start → get_or (put_mid start nodes xs ys) i 0 ≡ get_or xs i 0
-  laid-before i lt = get_or_append_left (take start xs) (ys ++ post_of start nodes xs) 0 i (omega (arith, lt, front)) ∙ get_or-take start xs i 0 lt
+  laid-before i lt = search (rules, places)
 
   laid-here : (r : ℕ) → r < nodes → get_or (put_mid start nodes xs ys) (start + r) 0 ≡ get_or ys r 0
-  laid-here r lt =
-      get_or-append_right (take start xs) (ys ++ post_of start nodes xs) start (start + r) 0 front (omega arith)
-      ∙ ap (λ j. get_or (ys ++ post_of start nodes xs) j 0) {x = start + r - start} {y = r} (omega arith)
-      ∙ get_or_append_left ys (post_of start nodes xs) 0 r (omega (arith, lt, size))
+  laid-here r lt = search (rules, places)
 
   laid-behind : (i : ℕ) → start + nodes ≤ i → get_or (put_mid start nodes xs ys) i 0 ≡ get_or xs i 0
-  laid-behind i le =
-      get_or-append_right (take start xs) (ys ++ post_of start nodes xs) start i 0 front (omega (arith, le))
-      ∙ get_or-append_right ys (post_of start nodes xs) nodes (i - start) 0 size (omega (arith, le))
-      ∙ get_or-drop nodes (drop start xs) (i - start - nodes) 0
-      ∙ get_or-drop start xs (nodes + (i - start - nodes)) 0
-      ∙ ap (λ j. get_or xs j 0) {x = start + (nodes + (i - start - nodes))} {y = i} (omega (arith, le))
+  laid-behind i le = search (rules, places)
 
   laid-length : length (put_mid start nodes xs ys) ≡ length xs
   laid-length = omega (arith, length-append (take start xs) (ys ++ post_of start nodes xs), length-append ys (post_of start nodes xs), length-drop nodes (drop start xs), length-drop start xs, front, size, within)
 
 map-put_mid : {N : Type 0} (number : N → ℕ) (start nodes : ℕ) (xs ys : List N) → map number (put_mid start nodes xs ys) ≡ put_mid start nodes (map number xs) (map number ys)
-map-put_mid number start nodes xs ys =
-    map-append number (take start xs) (ys ++ post_of start nodes xs)
-    ∙ (λ i. sym (take-map number start xs) i ++ map-append number ys (post_of start nodes xs) i)
-    ∙ (λ i. take start (map number xs) ++ (map number ys ++ (sym (drop-map number nodes (drop start xs)) ∙ ap (drop nodes) (sym (drop-map number start xs))) i))
+map-put_mid number start nodes xs ys = simp (map-append, take-map, drop-map)
 
 -- a part of numbers is written anew
 module _ {N : Type 0} (number : N → ℕ) (start n : ℕ) (xs ys : List N) (within : start + n ≤ length xs) (size : length ys ≡ n) where
@@ -105,10 +94,10 @@ module _ (changed : ℕ → ℕ → ℕ → ℕ → Type 0) (nodes : ℕ) (old :
   pub planes-none : ArePlanesChangedUpto changed nodes old old 0
   planes-none = record { size = refl; below = λ r k lt below. absurd (omega (arith, below)); from = λ i le. refl }
 
-  planes_step : (xs ys : List ℕ) (key : ℕ) → ArePlanesChangedUpto changed nodes old xs key → key * nodes + nodes ≤ length old
+  planes-next : (xs ys : List ℕ) (key : ℕ) → ArePlanesChangedUpto changed nodes old xs key → key * nodes + nodes ≤ length old
       → length ys ≡ nodes → ((r : ℕ) → r < nodes → changed r key (cell old nodes r key) (get_or ys r 0))
       → ArePlanesChangedUpto changed nodes old (put_mid (key * nodes) nodes xs ys) (key + 1)
-  planes_step xs ys key before within size now = record {
+  planes-next xs ys key before within size now = record {
     size = laid-length (key * nodes) nodes xs ys room size ∙ before.size;
     below = λ r k lt. below_more (λ j. changed r j (cell old nodes r j) (cell (put_mid (key * nodes) nodes xs ys) nodes r j)) key
         (λ j earlier. subst (changed r j (cell old nodes r j))
@@ -120,38 +109,23 @@ module _ (changed : ℕ → ℕ → ℕ → ℕ → Type 0) (nodes : ℕ) (old :
       room : key * nodes + nodes ≤ length xs
       room = omega (arith, within, before.size)
 
-  pub planes-next : {N : Type 0} (number : N → ℕ) (xs ys : List N) (key : ℕ) → ArePlanesChangedUpto changed nodes old (map number xs) key → key * nodes + nodes ≤ length old
-      → length (map number ys) ≡ nodes → ((r : ℕ) → r < nodes → changed r key (cell old nodes r key) (get_or (map number ys) r 0))
-      → ArePlanesChangedUpto changed nodes old (map number (put_mid (key * nodes) nodes xs ys)) (key + 1)
-  planes-next number xs ys key before within size now =
-      subst (λ zs. ArePlanesChangedUpto changed nodes old zs (key + 1)) (sym (map-put_mid number (key * nodes) nodes xs ys)) (planes_step (map number xs) (map number ys) key before within size now)
-
   pub planes-all : (xs : List ℕ) (keys key : ℕ) → ArePlanesChangedUpto changed nodes old xs key → keys ≤ key → ArePlanesChanged changed nodes keys old xs
   planes-all xs keys key is le = record { size = is.size; each = λ r k lt below. is.below r k lt (omega (arith, below, le)) }
-
--- a plane of planes
-plane_cells : {N : Type 0} (number : N → ℕ) (nodes key : ℕ) (xs : List N) → key * nodes + nodes ≤ length xs → HasEach nodes (λ r n. n ≡ cell (map number xs) nodes r key) (map number (take nodes (drop (key * nodes) xs)))
-plane_cells number nodes key xs within = record {
-  size = length-map (take nodes (drop (key * nodes) xs)) number ∙ length-take-le nodes (drop (key * nodes) xs) (omega (arith, length-drop (key * nodes) xs, within));
-  each = λ r lt.
-      ap (λ zs. get_or zs r 0) (sym (ap (take nodes) (drop-map number (key * nodes) xs) ∙ take-map number nodes (drop (key * nodes) xs)))
-      ∙ get_or-take nodes (drop (key * nodes) (map number xs)) r 0 lt
-      ∙ get_or-drop (key * nodes) (map number xs) r 0;
-}
 
 -- a part of a list
 pub window-at : {N : Type 0} (number : N → ℕ) (start count n : ℕ) (xs : List N) → n ≡ count → (r : ℕ) → r < count → get_or (map number (take n (drop start xs))) r 0 ≡ get_or (map number xs) (start + r) 0
 window-at number start count n xs is r lt =
-    ap (λ zs. get_or zs r 0) (sym (ap (take n) (drop-map number start xs) ∙ take-map number n (drop start xs)))
-    ∙ get_or-take n (drop start (map number xs)) r 0 (omega (arith, lt, is))
-    ∙ get_or-drop start (map number xs) r 0
+    rw (← take-map number n (drop start xs), ← drop-map number start xs, get_or-take n (drop start (map number xs)) r 0 (omega (arith, lt, is))) (get_or-drop start (map number xs) r 0)
 
 pub window-in : {N : Type 0} (start count n r : ℕ) (xs : List N) → n ≡ count → start + count ≤ length xs → r < count → r < length (take n (drop start xs))
 window-in start count n r xs is within lt = omega (arith, is, lt, length-take-le n (drop start xs) (omega (arith, is, within, length-drop start xs)))
 
+-- a plane of planes
 pub plane-cells : {N : Type 0} (number : N → ℕ) (nodes key n : ℕ) (xs : List N) → n ≡ nodes → key * nodes + nodes ≤ length xs → HasEach nodes (λ r m. m ≡ cell (map number xs) nodes r key) (map number (take n (drop (key * nodes) xs)))
-plane-cells number nodes key n xs is within =
-    subst (λ k. HasEach nodes (λ r m. m ≡ cell (map number xs) nodes r key) (map number (take k (drop (key * nodes) xs)))) (sym is) (plane_cells number nodes key xs within)
+plane-cells number nodes key n xs is within = record {
+  size = omega (arith, is, length-map (take n (drop (key * nodes) xs)) number, length-take-le n (drop (key * nodes) xs) (omega (arith, is, within, length-drop (key * nodes) xs)));
+  each = window-at number (key * nodes) nodes n xs is;
+}
 
 -- the numbers of a block before it is changed
 pub block-cells : (changed : ℕ → ℕ → ℕ → ℕ → Type 0) (nodes : ℕ) (old : List ℕ) {N : Type 0} (number : N → ℕ) (xs : List N) (key n : ℕ)
@@ -169,8 +143,8 @@ pub planes-written : (changed : ℕ → ℕ → ℕ → ℕ → Type 0) (nodes :
 planes-written changed nodes old number xs ys key n in_block is before within now step =
     let room : key * nodes + nodes ≤ length xs = omega (arith, within, before.size, length-map xs number) in
     let block = plane-cells number nodes key n xs is room in
-    subst (λ k. ArePlanesChangedUpto changed nodes old (map number (put_mid (key * nodes) k xs ys)) (key + 1)) (sym is)
-    (planes-next changed nodes old number xs ys key before within (now.size ∙ block.size)
+    rw (is, map-put_mid number (key * nodes) nodes xs ys)
+    (planes-next changed nodes old (map number xs) (map number ys) key before within (now.size ∙ block.size)
     (λ r lt. step r _ _ lt (subst (λ x. in_block r x (get_or (map number ys) r 0)) (block.each r lt ∙ before.from (key * nodes + r) (omega arith)) (now.each r (omega (arith, lt, block.size))))))
 
 -- the planes of the keys below a bound are changed, and so many places of them pass a test

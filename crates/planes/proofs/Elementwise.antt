@@ -1,7 +1,7 @@
 -- Lists that are changed element by element.
 -- Serves the functions of `grids`, `lags`, `merges`, `owners` and `planes`, `delta_plans`, `version_lags` and
 -- `version_tables`.
-use Rattle.planes.proofs.Common.{◌≡◌, ℕ, ◌+◌, ◌<◌, ◌≤◌, List, length, [], ◌++◌, ◌-◌, get_or, set, map, min, take, replicate, inl, inr, refl, sym, ap, ◌∙◌, subst, arith, below_more, take-nil, cases_eq, cases_lt, get_or-set_same, get_or-set_other, length-set, get_or-map, get_or-replicate, length-map, length-replicate, map-set, Bool, cond, HasEach, AreChangedUpto, AreChanged, IsLowered, IsMade, AreCountedUpto, count_passing}
+use Rattle.planes.proofs.Common.{◌≡◌, ℕ, ◌+◌, ◌<◌, ◌≤◌, List, length, [], ◌++◌, ◌-◌, get_or, set, map, min, take, replicate, inl, inr, refl, sym, ap, ◌∙◌, subst, arith, rules, places, below_more, take-nil, cases_eq, cases_lt, get_or-set_same, get_or-set_other, length-set, get_or-map, get_or-replicate, length-map, length-replicate, map-set, Bool, cond, HasEach, AreChangedUpto, AreChanged, IsLowered, IsMade, AreCountedUpto, count_passing}
 use Rattle.planes.proofs.Counts.{count_next, count_same}
 
 -- what is read at an index, as a number
@@ -10,18 +10,14 @@ number-at number xs r x lt is = ap number is ∙ sym (get_or-map number xs r x 0
 
 -- an empty vector that is filled up
 pub filled : {N : Type 0} (count : ℕ) (x : N) (old new : List N) (len : ℕ) → old ≡ [] → len ≡ 0 → new ≡ take count old ++ replicate (count - len) x → new ≡ replicate count x
-filled count x old new len none empty is =
-    is ∙ ap (λ xs. take count xs ++ replicate (count - len) x) none ∙ ap (λ xs. xs ++ replicate (count - len) x) (take-nil count)
-    ∙ ap (λ n. replicate n x) {x = count - len} {y = count} (omega (arith, empty))
+filled count x old new len none empty is = rw (is, none, take-nil) (ap (λ n. replicate n x) {x = count - len} {y = count} (omega (arith, empty)))
 
 -- the same number again and again
 pub all-same : {N : Type 0} (number : N → ℕ) (count : ℕ) (x : N) (xs : List N) → xs ≡ replicate count x → HasEach count (λ r n. n ≡ number x) (map number xs)
-all-same number count x xs is = record {
-  size = length-map xs number ∙ ap length is ∙ length-replicate count x;
-  each = λ r lt.
-      get_or-map number xs r x 0 (omega (arith, lt, ap length is, length-replicate count x))
-      ∙ ap number (ap (λ ys. get_or ys r x) is ∙ get_or-replicate count r x x lt);
-}
+all-same number count x xs is = rw is (record {
+  size = omega (arith, length-map (replicate count x) number, length-replicate count x);
+  each = λ r lt. get_or-map number (replicate count x) r x 0 (omega (arith, lt, length-replicate count x)) ∙ ap number (get_or-replicate count r x x lt);
+})
 
 module _ (changed : ℕ → ℕ → ℕ → Type 0) (old : List ℕ) where
   pub changed_none : AreChangedUpto changed old old 0

@@ -1,7 +1,7 @@
 -- What an owner's writes keep through the calls that change them.
 -- Serves `OwnerWrites::begin_generation`, `OwnerWrites::numbered`, `OwnerWrites::write`, `owner_lists` and
 -- `version_tables`.
-use Rattle.owner_writes.proofs.Common.{◌≡◌, ℕ, ◌+◌, ◌-◌, ◌^◌, ◌<◌, List, [], ◌∷◌, ◌++◌, length, get_or, map, take, drop, inl, inr, refl, sym, ap, ◌∙◌, subst, arith, length-append, cases_lt, length-drop, length-map, map-append, append_assoc, append-nil, get_or_append_left, get_or-append_right, get_or_push, take-append-drop, take-append-le, drop-append-le, take_all, drop_all, All-append, Entry, IsNextAfter, AreNextAfter, mark_of, IsBefore, OwnerListView, entries_of, MarksRise, AreWrites, next_entry, with_write, begun_generation, view_by, IsKept}
+use Rattle.owner_writes.proofs.Common.{◌≡◌, ℕ, ◌+◌, ◌-◌, ◌^◌, ◌<◌, List, [], ◌∷◌, ◌++◌, length, get_or, map, take, drop, inl, inr, refl, sym, ap, ◌∙◌, subst, arith, length-append, cases_lt, length-drop, length-map, map-append, append_assoc, append-nil, get_or_append_left, get_or-append_right, get_or_push, take-append-drop, take-append-le, drop-append-le, take_all, drop_all, All-append, Entry, AreNextAfter, mark_of, IsBefore, OwnerListView, entries_of, MarksRise, AreWrites, next_entry, with_write, begun_generation, view_by, IsKept}
 
 -- marks stay in order where one is added above all
 rising_push : (es : List Entry) (e : Entry) → MarksRise es → ((i : ℕ) (d : Entry) → i < length es → IsBefore (mark_of (get_or es i d)) (mark_of e)) → MarksRise (es ++ e ∷ [])

@@ -1,6 +1,6 @@
 -- The least of an owner's numbers that pass a test, key by key.
 -- Serves `least_above` and `least_behind`.
-use Rattle.planes.proofs.Common.{◌≡◌, ℕ, zero, suc, ◌+◌, ◌<◌, ◌≤◌, Bool, true, cond, nat_lt, List, ◌⊎◌, inl, inr, sym, ap, ◌∙◌, subst, arith, below_more, cases_lt, cases_Bool, lt-ltb, ltb-true, AreChanged, IsLeastBehind, IsLowered, IsMade, Cells, HasEach, HasNoneAbove, IsNextAbove}
+use Rattle.planes.proofs.Common.{◌≡◌, ℕ, zero, suc, ◌+◌, ◌<◌, ◌≤◌, Bool, true, cond, nat_lt, List, ◌⊎◌, inl, inr, sym, ap, ◌∙◌, arith, below_more, cases_lt, cases_Bool, lt-ltb, ltb-true, AreChanged, IsLeastBehind, IsLowered, IsMade, Cells, HasEach, HasNoneAbove, IsNextAbove}
 use Rattle.planes.proofs.Elementwise.{lowered-to}
 use Rattle.planes.proofs.Places.{each-next, each-whole}
 

@@ -1,6 +1,6 @@
 -- Tables whose owners are gone over one by one.
 -- Serves `merge_owners`, `raise_owner`, `take_owner`, `take_owners`, `total_owners_above` and `version_tables`.
-use Rattle.planes.proofs.Common.{◌≡◌, ◌≢◌, ℕ, zero, suc, Fits, w32, ◌+◌, ◌*◌, ◌<◌, ◌≤◌, ◌==◌, ◌&&◌, Bool, true, false, cond, List, length, get_or, set, map, nat_lt, nat_le, max, inl, inr, refl, sym, ap, ◌∙◌, subst, arith, below_more, nat_tests, sum_below-most, mul-le-mul_right, cases_lt, cases_eq, eq-eqb, ne_eqb, lt-ltb, le-ltb, lt-leb, get_or-set_same, get_or-set_other, length-set, map-set, MOST_NODES, MOST_KEYS, sum_below, sum_below-same, Cells, cell, count_above, number_raised, number_taken, HasNoneAbove, IsRaised, ArePlanesChanged, ArePlanesChangedUpto, IsGrid}
+use Rattle.planes.proofs.Common.{◌≡◌, ◌≢◌, ℕ, Fits, w32, ◌+◌, ◌*◌, ◌<◌, ◌≤◌, ◌==◌, ◌&&◌, true, false, cond, List, length, get_or, set, map, nat_lt, nat_le, max, inl, inr, refl, sym, ap, ◌∙◌, subst, arith, below_more, nat_tests, sum_below-most, mul-le-mul_right, lt-ltb, le-ltb, get_or-set_same, get_or-set_other, length-set, map-set, MOST_KEYS, sum_below, sum_below-same, Cells, cell, count_above, number_raised, number_taken, HasNoneAbove, IsRaised, ArePlanesChanged, ArePlanesChangedUpto, IsGrid}
 use Rattle.planes.proofs.Counts.{count_le, sum_next}
 
 -- the numbers of one owner more are counted
@@ -56,8 +56,7 @@ module _ (to : ℕ → ℕ → ℕ → ℕ) (owner nodes : ℕ) (old : List ℕ)
   pub owner-next : {N : Type 0} (number : N → ℕ) (xs : List N) (key : ℕ) (x : N) → ArePlanesChangedUpto (owner_changed to owner) nodes old (map number xs) key → key * nodes + nodes ≤ length old
       → number x ≡ to owner key (cell old nodes owner key) → ArePlanesChangedUpto (owner_changed to owner) nodes old (map number (set xs (key * nodes + owner) x)) (key + 1)
   owner-next number xs key x before within is =
-      subst (λ ys. ArePlanesChangedUpto (owner_changed to owner) nodes old ys (key + 1)) (sym (map-set number xs (key * nodes + owner) x))
-      (owner_more (map number xs) _ key before (length-set (map number xs) (key * nodes + owner) (number x))
+      rw (map-set number xs (key * nodes + owner) x) (owner_more (map number xs) _ key before (length-set (map number xs) (key * nodes + owner) (number x))
       (get_or-set_same (map number xs) (key * nodes + owner) (number x) 0 (omega (arith, before.size, within, in_nodes)) ∙ is)
       (λ i other. get_or-set_other (map number xs) (key * nodes + owner) i (number x) 0 other))
 

@@ -1,7 +1,7 @@
 -- Lists that are changed element by element.
--- Serves the functions of `grids`, `lags`, `merges`, `owners` and `planes`, `delta_plans`, `version_lags` and
--- `version_tables`.
-use Rattle.planes.proofs.Common.{◌≡◌, ℕ, ◌+◌, ◌<◌, ◌≤◌, List, length, [], ◌++◌, ◌-◌, get_or, set, map, min, take, replicate, inl, inr, refl, sym, ap, ◌∙◌, subst, arith, rules, places, below_more, take-nil, cases_eq, cases_lt, get_or-set_same, get_or-set_other, length-set, get_or-map, get_or-replicate, length-map, length-replicate, map-set, Bool, cond, HasEach, AreChangedUpto, AreChanged, IsLowered, IsMade, AreCountedUpto, count_passing}
+-- Serves the functions of `grids`, `lags`, `merges`, `owners` and `planes`, `Behind`, `Places`, `delta_plans`,
+-- `version_lags` and `version_tables`.
+use Rattle.planes.proofs.Common.{◌≡◌, ℕ, ◌+◌, ◌<◌, ◌≤◌, List, length, [], ◌++◌, ◌-◌, get_or, set, map, min, take, replicate, refl, sym, ap, ◌∙◌, subst, arith, below_more, take-nil, get_or-set_same, get_or-set_other, length-set, get_or-map, get_or-replicate, length-map, length-replicate, map-set, Bool, cond, HasEach, AreChangedUpto, AreChanged, IsLowered, IsMade, AreCountedUpto}
 use Rattle.planes.proofs.Counts.{count_next, count_same}
 
 -- what is read at an index, as a number
@@ -31,8 +31,7 @@ module _ (changed : ℕ → ℕ → ℕ → Type 0) (old : List ℕ) where
   changed_next new bound x is lt now = record {
     size = length-set new bound x ∙ is.size;
     below = below_more (λ k. changed k (get_or old k 0) (get_or (set new bound x) k 0)) bound
-        (λ r below. subst (changed r (get_or old r 0)) (sym (get_or-set_other new bound r x 0 (λ e. omega (arith, e, below)))) (is.below r below))
-        (subst (changed bound (get_or old bound 0)) (sym (get_or-set_same new bound x 0 (omega (arith, lt, is.size)))) now);
+        (λ r below. rw (get_or-set_other new bound r x 0 (λ e. omega (arith, e, below))) (is.below r below)) (rw (get_or-set_same new bound x 0 (omega (arith, lt, is.size))) now);
     from = λ r le. get_or-set_other new bound r x 0 (λ e. omega (arith, e, le)) ∙ is.from r (omega (arith, le));
   }
 
@@ -43,14 +42,14 @@ module _ (changed : ℕ → ℕ → ℕ → Type 0) (old : List ℕ) where
   pub left_next : (new : List ℕ) (bound : ℕ) → AreChangedUpto changed old new bound → changed bound (get_or old bound 0) (get_or old bound 0) → AreChangedUpto changed old new (bound + 1)
   left_next new bound is same = record {
     size = is.size;
-    below = below_more (λ k. changed k (get_or old k 0) (get_or new k 0)) bound is.below (subst (changed bound (get_or old bound 0)) (sym (is.from bound (omega arith))) same);
+    below = below_more (λ k. changed k (get_or old k 0) (get_or new k 0)) bound is.below (rw (is.from bound (omega arith)) same);
     from = λ r le. is.from r (omega (arith, le));
   }
 
   -- one more number is written
   pub written_next : {N : Type 0} (number : N → ℕ) (new : List N) (bound : ℕ) (x : N) → AreChangedUpto changed old (map number new) bound → bound < length old → changed bound (get_or old bound 0) (number x) → AreChangedUpto changed old (map number (set new bound x)) (bound + 1)
   written_next number new bound x is lt now =
-      subst (λ xs. AreChangedUpto changed old xs (bound + 1)) (sym (map-set number new bound x)) (changed_next (map number new) bound (number x) is lt now)
+      rw (map-set number new bound x) (changed_next (map number new) bound (number x) is lt now)
 
   -- those that pass a test are counted
   module _ (test : ℕ → Bool) where
@@ -60,8 +59,7 @@ module _ (changed : ℕ → ℕ → ℕ → Type 0) (old : List ℕ) where
     pub counted_next : {N : Type 0} (number : N → ℕ) (new : List N) (bound to before passed now more : ℕ) (x : N) → AreCountedUpto changed test old (map number new) bound (before + passed) → bound < length new → bound + 1 ≡ to
         → changed bound (get_or old bound 0) (number x) → now ≡ passed + more → more ≡ cond (test bound) 1 0 → AreCountedUpto changed test old (map number (set new bound x)) to (before + now)
     counted_next number new bound to before passed now more x is lt next made plus one = record {
-      numbers = subst (AreChangedUpto changed old (map number (set new bound x))) next
-          (written_next number new bound x is.numbers (omega (arith, lt, is.numbers.size, length-map new number)) made);
+      numbers = rw (← next) (written_next number new bound x is.numbers (omega (arith, lt, is.numbers.size, length-map new number)) made);
       count = count_next test bound to before passed now is.count next plus one;
     }
 

@@ -1,7 +1,7 @@
 -- The numbers of a table's planes, one after another.
 -- Serves the functions of `ends`, `grids`, `lags`, `merges` and `owners`, `Behind`, `delta_plans` and
 -- `version_tables`.
-use Rattle.planes.proofs.Common.{◌≡◌, ℕ, zero, suc, Fits, w32, ◌+◌, ◌*◌, ◌-◌, ◌<◌, ◌≤◌, Bool, cond, nat_tests, List, ◌++◌, length, get_or, map, take, drop, nat_lt, max, inl, inr, refl, sym, ap, ◌∙◌, subst, arith, rules, places, mul-le-mul_right, below_more, cases_lt, lt-ltb, le-ltb, get_or-take, get_or-drop, length-map, length-append, length-drop, length-take-le, get_or_append_left, get_or-append_right, map-append, take-map, drop-map, put_mid, post_of, MOST_NODES, MOST_KEYS, sum_below, sum_below-most, sum_below-same, sum_below-turned, AreChanged, Cells, IsRaised, cell, number_ahead, total_above, total_of, IsGrid, HasEach, ArePlanesChangedUpto, ArePlanesChanged, AreCountedUpto, AreRaisedUpto, number_raised}
+use Rattle.planes.proofs.Common.{◌≡◌, ℕ, Fits, w32, ◌+◌, ◌*◌, ◌-◌, ◌<◌, ◌≤◌, Bool, cond, nat_tests, List, ◌++◌, length, get_or, map, take, drop, nat_lt, max, inl, inr, refl, sym, ap, ◌∙◌, subst, arith, rules, places, mul-le-mul_right, below_more, cases_lt, get_or-take, get_or-drop, length-map, length-append, length-drop, length-take-le, map-append, take-map, drop-map, put_mid, post_of, MOST_NODES, sum_below, sum_below-most, sum_below-same, sum_below-turned, AreChanged, Cells, IsRaised, cell, number_ahead, total_above, total_of, IsGrid, HasEach, ArePlanesChangedUpto, ArePlanesChanged, AreCountedUpto, AreRaisedUpto, number_raised}
 use Rattle.planes.proofs.Elementwise.{changed_all}
 use Rattle.planes.proofs.Counts.{count_le, sum_next}
 
@@ -75,16 +75,16 @@ module _ {N : Type 0} (number : N → ℕ) (start n : ℕ) (xs ys : List N) (wit
   part-here r lt = ap (λ zs. get_or zs (start + r) 0) (map-put_mid number start n xs ys) ∙ laid-here start n (map number xs) (map number ys) room_for size_of r lt
 
   pub part-written : (nodes : ℕ) (is : ℕ → ℕ → Type 0) → HasEach nodes is (map number xs) → ((r : ℕ) → r < n → is (start + r) (get_or (map number ys) r 0)) → HasEach nodes is (map number (put_mid start n xs ys))
-  part-written nodes is before now = subst (HasEach nodes is) (sym (map-put_mid number start n xs ys)) (record {
+  part-written nodes is before now = rw (map-put_mid number start n xs ys) (record {
     size = laid-length start n (map number xs) (map number ys) room_for size_of ∙ before.size;
     each = λ r lt. elim (cases_lt r start) [
-      | inl front ↦ subst (is r) (sym (laid-before start n (map number xs) (map number ys) room_for size_of r front)) (before.each r lt)
+      | inl front ↦ rw (laid-before start n (map number xs) (map number ys) room_for size_of r front) (before.each r lt)
       | inr not_front ↦ elim (cases_lt r (start + n)) [
-        | inr behind ↦ subst (is r) (sym (laid-behind start n (map number xs) (map number ys) room_for size_of r (omega (arith, behind)))) (before.each r lt)
+        | inr behind ↦ rw (laid-behind start n (map number xs) (map number ys) room_for size_of r (omega (arith, behind))) (before.each r lt)
         | inl here ↦
             let inside : r - start < n = omega (arith, not_front, here) in
             subst (λ j. is j (get_or (put_mid start n (map number xs) (map number ys)) j 0)) {x = start + (r - start)} {y = r} (omega (arith, not_front))
-            (subst (is (start + (r - start))) (sym (laid-here start n (map number xs) (map number ys) room_for size_of (r - start) inside)) (now (r - start) inside))
+            (rw (laid-here start n (map number xs) (map number ys) room_for size_of (r - start) inside) (now (r - start) inside))
       ]
     ];
   })
@@ -100,9 +100,8 @@ module _ (changed : ℕ → ℕ → ℕ → ℕ → Type 0) (nodes : ℕ) (old :
   planes-next xs ys key before within size now = record {
     size = laid-length (key * nodes) nodes xs ys room size ∙ before.size;
     below = λ r k lt. below_more (λ j. changed r j (cell old nodes r j) (cell (put_mid (key * nodes) nodes xs ys) nodes r j)) key
-        (λ j earlier. subst (changed r j (cell old nodes r j))
-        (sym (laid-before (key * nodes) nodes xs ys room size (j * nodes + r) (omega (arith, lt, mul-le-mul_right {m = j + 1} {n = key} nodes (omega (arith, earlier)))))) (before.below r j lt earlier))
-        (subst (changed r key (cell old nodes r key)) (sym (laid-here (key * nodes) nodes xs ys room size r lt)) (now r lt)) k;
+        (λ j earlier. rw (laid-before (key * nodes) nodes xs ys room size (j * nodes + r) (omega (arith, lt, mul-le-mul_right {m = j + 1} {n = key} nodes (omega (arith, earlier))))) (before.below r j lt earlier))
+        (rw (laid-here (key * nodes) nodes xs ys room size r lt) (now r lt)) k;
     from = λ i le. laid-behind (key * nodes) nodes xs ys room size i (omega (arith, le)) ∙ before.from i (omega (arith, le));
   }
     where

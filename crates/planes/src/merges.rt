@@ -5,6 +5,7 @@ ghost use Rattle.bench_types.specs.declared.limits.TheConstants.{MOST_NODES, MOS
 ghost use Rattle.planes.specs.Elementwise.{AreChanged};
 ghost use Rattle.planes.specs.Planes.{most_ahead, AreBothCovered, AreBothRaised};
 ghost use Rattle.planes.specs.inner.Counting.{AreRaisedUpto};
+ghost use Rattle.planes.specs.inner.Sizes.{AreBothMarked, IsPart};
 
 use crate::numbers::Number;
 use crate::owners::FEW_TO_CHANGE;
@@ -63,9 +64,7 @@ fn merge_planes<N: Number>(
     first_low: &[N],
     second_low: &[N],
 ) -> BothCounts
-    requires second { length second.old ≡ length first.old }
-    requires first_low { length first_low.now ≡ length first.old }
-    requires second_low { length second_low.now ≡ length first.old }
+    requires marked { AreBothMarked first.old second.old first_low.now second_low.now }
     requires room { length first.old ≤ MOST_NODES }
     ensures first { AreRaisedUpto (map N.number second.old) (map N.number first_low.now)
         (map N.number first.old) (map N.number first.new) (length first.old) result.first }
@@ -98,11 +97,8 @@ fn merge_some<N: Number>(
     from: usize,
     size: usize,
 ) -> BothCounts
-    requires second { length second.old ≡ length first.old }
-    requires first_low { length first_low.now ≡ length first.old }
-    requires second_low { length second_low.now ≡ length first.old }
-    requires within { from + size ≤ length first.old }
-    requires few { size ≤ N.most }
+    requires marked { AreBothMarked first.old second.old first_low.now second_low.now }
+    requires part { IsPart N.most (length first.old) from size }
     ensures first_upto { result.first ≤ size }
     ensures second_upto { result.second ≤ size }
     ensures done { (one other : List ℕ) (to_first to_second : ℕ)

@@ -5,6 +5,7 @@ ghost use Rattle.bench_types.specs.declared.limits.TheConstants.{MOST_NODES};
 ghost use Rattle.planes.specs.Elementwise.{AreChanged};
 ghost use Rattle.planes.specs.inner.Answering.{AnswersAs, IsMade, MakesAs};
 ghost use Rattle.planes.specs.inner.Counting.{count_less, count_passing, AreCountedUpto};
+ghost use Rattle.planes.specs.inner.Sizes.{IsPart, IsSentPlane};
 ghost use Rattle.planes.specs.Planes.{number_taken};
 
 use crate::numbers::Number;
@@ -68,8 +69,7 @@ fn change_some_counting<N: Number, F: Fn(usize, N) -> (N, bool)>(
     size: usize,
     to: F,
 ) -> u32
-    requires within { from + size ≤ length numbers.old }
-    requires few { size ≤ N.most }
+    requires part { IsPart N.most (length numbers.old) from size }
     requires to { (r : ℕ) (n : N) → r < length numbers.old → F.pre to r n }
     ensures upto { result ≤ size }
     ensures done { (made : ℕ → ℕ → ℕ) (test : ℕ → ℕ → Bool)
@@ -92,10 +92,7 @@ fn change_some_counting<N: Number, F: Fn(usize, N) -> (N, bool)>(
 /// Raises the numbers of a plane to those sent that are above one mark and up to another, and each owner's greatest
 /// number to its number then.
 pub fn take_plane<N: Number>(plane: &mut [N], greatest: &mut [N], sent: &[N], low: &[N], high: &[N])
-    requires greatest { length greatest.old ≡ length plane.old }
-    requires sent { length sent.now ≡ length plane.old }
-    requires low { length low.now ≡ length plane.old }
-    requires high { length high.now ≡ length plane.old }
+    requires sent { IsSentPlane plane.old greatest.old sent.now low.now high.now }
     ensures plane { AreChanged
         (λ r x y. y ≡ number_taken x (slice_index (map N.number sent.now) r) (slice_index (map N.number low.now) r)
         (slice_index (map N.number high.now) r))
@@ -141,8 +138,7 @@ fn how_many_of<N: Number, F: Fn(usize, N) -> bool>(
     size: usize,
     passes: F,
 ) -> u32
-    requires within { from + size ≤ length plane.now }
-    requires few { size ≤ N.most }
+    requires part { IsPart N.most (length plane.now) from size }
     requires passes { (r : ℕ) (n : N) → r < length plane.now → F.pre passes r n }
     ensures upto { result ≤ size }
     ensures count { (test : ℕ → ℕ → Bool) → AnswersAs N.number (F.post passes) (length plane.now) test

@@ -1,4 +1,4 @@
-use Rattle.planes.proofs.Common.{◌≡◌, ℕ, ◌<◌, nat_lt, slice_index, ◌∙◌, arith, map, if◌then◌else◌, with_items_is, length-map, cell, count_above}
+use Rattle.planes.proofs.Common.{◌≡◌, ◌<◌, nat_lt, slice_index, ◌∙◌, arith, map, if◌then◌else◌, with_items_is, length-map, cell, count_above}
 use Rattle.planes.proofs.Counts.{count_le, number_next}
 use Rattle.planes.proofs.Elementwise.{made-more}
 use Rattle.planes.proofs.Places.{each-next, each-whole}

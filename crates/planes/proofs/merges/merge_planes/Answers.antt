@@ -29,5 +29,5 @@ returns g c =
     let parts = c.merge_some-both-2.ensures.done _ _ _ _ held.first held.second in
     record {
       first = counted-same _ _ _ _ _ _ _ _ parts.0 (omega (arith, held.within, c.loop-first.auto.first)) refl;
-      second = counted-same _ _ _ _ _ _ _ _ parts.1 (omega (arith, held.within, c.requires.second, c.loop-first.auto.first)) refl;
+      second = counted-same _ _ _ _ _ _ _ _ parts.1 (omega (arith, held.within, c.requires.marked.second, c.loop-first.auto.first)) refl;
     }

@@ -17,10 +17,10 @@ pub loop-i-preserved : goal.loop-i-preserved
 loop-i-preserved g c =
     let number = g.N.Number.number in
     let at : ℕ = c.args.from + c.loop-i.i in
-    let within : at < length c.args.first.now = omega (arith, c.requires.within, c.loop-i-test.true) in
-    let behind : at < length c.loop-i.second = omega (arith, within, c.requires.second, c.loop-i.auto.second) in
-    let first_low = number-at number c.args.first_low.now at c.index-first_low-r.result (omega (arith, within, c.requires.first_low)) c.index-first_low-r.is in
-    let second_low = number-at number c.args.second_low.now at c.index-second_low-r.result (omega (arith, within, c.requires.second_low)) c.index-second_low-r.is in
+    let within : at < length c.args.first.now = omega (arith, c.requires.part.within, c.loop-i-test.true) in
+    let behind : at < length c.loop-i.second = omega (arith, within, c.requires.marked.second, c.loop-i.auto.second) in
+    let first_low = number-at number c.args.first_low.now at c.index-first_low-r.result (omega (arith, within, c.requires.marked.first_low)) c.index-first_low-r.is in
+    let second_low = number-at number c.args.second_low.now at c.index-second_low-r.result (omega (arith, within, c.requires.marked.second_low)) c.index-second_low-r.is in
     record {
       first_upto = omega (arith, c.plus-to_first.ensures, c.loop-i.invariant.first_upto, one_le c.is_above-comes.result);
       second_upto = omega (arith, c.plus-to_second.ensures, c.loop-i.invariant.second_upto, one_le c.is_above-goes.result);

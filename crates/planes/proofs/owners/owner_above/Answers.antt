@@ -1,4 +1,4 @@
-use Rattle.planes.proofs.Common.{◌≡◌, ℕ, ◌+◌, ◌*◌, nat_lt, ◌∙◌, arith, rules, map, length, if◌then◌else◌, cell}
+use Rattle.planes.proofs.Common.{◌≡◌, ◌+◌, ◌*◌, nat_lt, ◌∙◌, arith, rules, map, length, if◌then◌else◌, cell}
 use Rattle.planes.proofs.Elementwise.{number-at}
 use Rattle.planes.proofs.Counts.{count_le, sum_next}
 use Rattle.planes.proofs.Places.{plane-within}

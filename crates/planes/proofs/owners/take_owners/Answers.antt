@@ -1,4 +1,4 @@
-use Rattle.planes.proofs.Common.{ℕ, ◌+◌, ◌≤◌, slice_index, sym, subst, ◌∙◌, arith, map, ltb-false, length-map, cell, number_taken, numbers_taken, IsRaised}
+use Rattle.planes.proofs.Common.{ℕ, ◌≤◌, slice_index, sym, subst, ◌∙◌, arith, map, ltb-false, length-map, cell, number_taken, numbers_taken, IsRaised}
 use Rattle.planes.proofs.Elementwise.{changed_none, number-at, number-waits, left_next, written_next}
 use Rattle.planes.proofs.ByOwner.{owner-waits, owners-none, owners-next, owners-stay, owners-all, raised-same, raised-stays, taken-passed}
 use Rattle.planes.proofs.owners.take_owners.Goals as goal
@@ -35,8 +35,8 @@ loop-owner-preserved g c =
       | else-is_above w ↦
           let at_low = number-at number c.args.sent.low.now owner c.index-low-owner.result (omega (arith, lt, c.requires.may.low_count)) c.index-low-owner.is in
           let at_high = number-at number c.args.sent.high.now owner c.index-high-owner.result (omega (arith, lt, c.requires.may.high_count)) c.index-high-owner.is in
-          let le = ltb-false (number c.index-low-owner.result) (number c.index-high-owner.result) (sym c.is_above.ensures ∙ w.if-is_above.false) in
-          let none = (λ (k x : ℕ). taken-passed x (sent owner k) (low owner) (high owner) (omega (arith, at_low, at_high, le))) in
+          let le : high owner ≤ low owner = omega (arith, at_low, at_high, ltb-false _ _ (sym c.is_above.ensures ∙ w.if-is_above.false)) in
+          let none = (λ (k x : ℕ). taken-passed x (sent owner k) (low owner) (high owner) le) in
           rw (w.cells-is, w.greatest-is) (record {
             cells = owners-stay to nodes keys old owner _ held.cells (λ k x in_keys. none k x);
             greatest = left_next raised (map number c.args.greatest.now) (map number c.loop-owner.greatest) owner held.greatest
@@ -45,10 +45,7 @@ loop-owner-preserved g c =
     ]
 
 pub loop-owner-init : goal.loop-owner-init
-loop-owner-init g c = record {
-  cells = owners-none _ c.args.sent.nodes c.args.sent.keys (map g.N.Number.number c.args.cells.now);
-  greatest = changed_none _ (map g.N.Number.number c.args.greatest.now);
-}
+loop-owner-init g c = record { cells = owners-none _ _ _ _; greatest = changed_none _ _ }
 
 pub take_owner-requires-clause-covered : goal.take_owner-requires-clause-covered
 take_owner-requires-clause-covered g c k in_keys =

@@ -9,7 +9,7 @@ loop-i-init g c = record { upto = omega (arith, c.zero-count.ensures); count = �
 pub loop-i-preserved : goal.loop-i-preserved
 loop-i-preserved g c =
     let at : ℕ = c.args.from + c.loop-i.i in
-    let within : at < length c.args.plane.now = omega (arith, c.requires.within, c.loop-i-test.true) in
+    let within : at < length c.args.plane.now = omega (arith, c.requires.part.within, c.loop-i-test.true) in
     record {
       upto = omega (arith, c.plus-count.ensures, c.loop-i.invariant.upto, one_le c.passes.result);
       count = λ test is count before.

@@ -1,4 +1,4 @@
-use Rattle.owner_writes.proofs.Common.{◌≡◌, length, ap, ◌∙◌, arith, begun_generation, entry_kept}
+use Rattle.owner_writes.proofs.Common.{ap, ◌∙◌, arith, begun_generation, entry_kept}
 use Rattle.owner_writes.proofs.Keeping.{view_begun, kept_begun}
 use Rattle.owner_writes.proofs.writes.OwnerWrites.begin_generation.Goals as goal
 

@@ -73,17 +73,16 @@ module _ (to : ℕ → ℕ → ℕ → ℕ) (nodes keys : ℕ) (old : List ℕ) 
   pub owners-none : ArePlanesChanged (owners_changed to 0) nodes keys old old
   owners-none = record { size = refl; each = λ r k in_node in_key. ap (λ b. cond b (to r k (cell old nodes r k)) (cell old nodes r k)) (sym (le-ltb r 0 (omega arith))) }
 
-  -- what an owner's turn makes of a number, where those before it were changed already
-  owner_turn : (bound r : ℕ) (now : ℕ → ℕ) (k x y z : ℕ) → owners_changed to bound r k x y → z ≡ cond (r == bound) (now y) y → (r ≡ bound → now x ≡ to r k x) → owners_changed to (bound + 1) r k x z
-  owner_turn bound r now k x y z before after same = grind (arith, nat_tests)
-
+  -- an owner's turn comes, where those before it were changed already
   owners_turned : (bound : ℕ) (now : ℕ → ℕ → ℕ → ℕ) (mid new : List ℕ) → ArePlanesChanged (owners_changed to bound) nodes keys old mid → ArePlanesChanged (owner_changed now bound) nodes keys mid new
       → ((k x : ℕ) → k < keys → now bound k x ≡ to bound k x) → ArePlanesChanged (owners_changed to (bound + 1)) nodes keys old new
   owners_turned bound now mid new before after same = record {
     size = after.size ∙ before.size;
     each = λ r k in_node in_key.
-        owner_turn bound r (now r k) k (cell old nodes r k) (cell mid nodes r k) (cell new nodes r k) (before.each r k in_node in_key) (after.each r k in_node in_key)
-        (λ here. ap (λ o. now o k (cell old nodes r k)) here ∙ same k (cell old nodes r k) in_key ∙ ap (λ o. to o k (cell old nodes r k)) (sym here));
+        let was = before.each r k in_node in_key in
+        let then = after.each r k in_node in_key in
+        let here = same k (cell old nodes r k) in_key in
+        grind (arith, nat_tests);
   }
 
   pub owners-next : (bound : ℕ) (now : ℕ → ℕ → ℕ → ℕ) (mid new : List ℕ) → ArePlanesChanged (owners_changed to bound) nodes keys old mid → ArePlanesChanged (owner_changed now bound) nodes keys mid new
@@ -103,9 +102,6 @@ module _ (to : ℕ → ℕ → ℕ → ℕ) (nodes keys : ℕ) (old : List ℕ) 
   pub owner-waits : (bound : ℕ) (mid : List ℕ) → ArePlanesChanged (owners_changed to bound) nodes keys old mid → (k : ℕ) → bound < nodes → k < keys → cell mid nodes bound k ≡ cell old nodes bound k
   owner-waits bound mid before k in_node in_key =
       before.each bound k in_node in_key ∙ ap (λ b. cond b (to bound k (cell old nodes bound k)) (cell old nodes bound k)) (le-ltb bound bound (omega arith))
-
-pub raised-stays : (cells : Cells) (keys owner x : ℕ) → HasNoneAbove cells keys owner x → IsRaised cells keys owner x x
-raised-stays cells keys owner x covered = record { rises = omega arith; upto = covered; from = inl refl }
 
 pub raised-same : (one other : Cells) (keys owner x y : ℕ) → ((k : ℕ) → k < keys → one owner k ≡ other owner k) → IsRaised one keys owner x y → IsRaised other keys owner x y
 raised-same one other keys owner x y same is = record {

@@ -33,15 +33,11 @@ total_whole nodes keys key test x is le ge =
 pub total-same : (nodes keys : ℕ) (one other : ℕ → ℕ → Bool) → ((r k : ℕ) → r < nodes → k < keys → one r k ≡ other r k) → total_of nodes keys one ≡ total_of nodes keys other
 total-same nodes keys one other same = sum_below-same nodes _ _ (λ r in_nodes. sum_below-same keys _ _ (λ k in_keys. ap (λ b. cond b 1 0) (same r k in_nodes in_keys)))
 
--- a number that is kept is above the mark, and 0 isn't
-pub kept-above : (number peer low : ℕ) → nat_lt (max peer low) number ≡ nat_lt low (number_ahead number peer low)
-kept-above number peer low = grind (arith, nat_tests)
-
--- how many are kept
+-- how many are kept: such a number is above the mark, and 0 isn't
 pub total-kept : (nodes keys : ℕ) (peer : ℕ → ℕ → ℕ) (low old new : List ℕ) (count : ℕ) → count ≡ total_of nodes keys (λ r k. nat_lt (max (peer r k) (get_or low r 0)) (cell old nodes r k))
     → ArePlanesChanged (λ r k x y. y ≡ number_ahead x (peer r k) (get_or low r 0)) nodes keys old new → count ≡ total_above nodes keys new low
 total-kept nodes keys peer low old new count is kept =
-    is ∙ total-same nodes keys _ _ (λ r k in_nodes in_keys. kept-above (cell old nodes r k) (peer r k) (get_or low r 0) ∙ ap (nat_lt (get_or low r 0)) (sym (kept.each r k in_nodes in_keys)))
+    is ∙ total-same nodes keys _ _ (λ r k in_nodes in_keys. let now = kept.each r k in_nodes in_keys in grind (arith, nat_tests))
 
 -- a block that is written among planes
 module _ (start nodes : ℕ) (xs ys : List ℕ) (within : start + nodes ≤ length xs) (size : length ys ≡ nodes) where

@@ -1,6 +1,6 @@
-use Rattle.planes.proofs.Common.{ℕ, ◌≤◌, slice_index, sym, subst, ◌∙◌, arith, map, ltb-false, length-map, cell, number_taken, numbers_taken, IsRaised}
+use Rattle.planes.proofs.Common.{ℕ, ◌≤◌, slice_index, sym, inl, refl, subst, ◌∙◌, arith, map, ltb-false, length-map, cell, number_taken, numbers_taken, IsRaised}
 use Rattle.planes.proofs.Elementwise.{changed_none, number-at, number-waits, left_next, written_next}
-use Rattle.planes.proofs.ByOwner.{owner-waits, owners-none, owners-next, owners-stay, owners-all, raised-same, raised-stays, taken-passed}
+use Rattle.planes.proofs.ByOwner.{owner-waits, owners-none, owners-next, owners-stay, owners-all, raised-same, taken-passed}
 use Rattle.planes.proofs.owners.take_owners.Goals as goal
 use Rattle.planes.proofs.owners.take_owners.Goals.{then-is_above, else-is_above}
 
@@ -40,7 +40,7 @@ loop-owner-preserved g c =
           rw (w.cells-is, w.greatest-is) (record {
             cells = owners-stay to nodes keys old owner _ held.cells (λ k x in_keys. none k x);
             greatest = left_next raised (map number c.args.greatest.now) (map number c.loop-owner.greatest) owner held.greatest
-                (raised-same cells taken keys owner _ _ (λ k in_keys. sym (none k (cells owner k))) (raised-stays cells keys owner _ (c.requires.may.covered owner lt)));
+                (record { rises = omega arith; upto = λ k in_keys. omega (arith, none k (cells owner k), c.requires.may.covered owner lt k in_keys); from = inl refl });
           })
     ]
 

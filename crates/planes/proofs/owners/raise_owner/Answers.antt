@@ -1,4 +1,4 @@
-use Rattle.planes.proofs.Common.{◌≡◌, ℕ, ◌+◌, ◌*◌, ◌<◌, nat_lt, max, refl, sym, ◌∙◌, arith, rules, map, length, if◌then◌else◌, length-map, get_or-map, cell, number_raised}
+use Rattle.planes.proofs.Common.{◌≡◌, ℕ, ◌+◌, ◌*◌, ◌<◌, nat_lt, max, refl, sym, ◌∙◌, arith, rules, map, length, if◌then◌else◌, length-map, get_or-map, cell}
 use Rattle.planes.proofs.Elementwise.{number-at}
 use Rattle.planes.proofs.Counts.{count_le, sum_next}
 use Rattle.planes.proofs.Places.{plane-within, planes-none, planes-all}
@@ -6,7 +6,7 @@ use Rattle.planes.proofs.ByOwner.{owner-next}
 use Rattle.planes.proofs.owners.raise_owner.Goals as goal
 
 pub loop-key-init : goal.loop-key-init
-loop-key-init g c = record { cells = planes-none _ c.args.nodes (map g.N.Number.number c.args.cells.now); count = refl }
+loop-key-init g c = record { cells = planes-none _ _ _; count = refl }
 
 pub offset_bounds-cells-key : goal.offset_bounds-cells-key
 offset_bounds-cells-key g c =
@@ -18,7 +18,6 @@ pub loop-key-preserved : goal.loop-key-preserved
 loop-key-preserved g c =
     let number = g.N.Number.number in
     let low = number c.args.low in
-    let others = cell (map number c.args.others.now) c.args.nodes c.args.owner in
     let place : ℕ = c.loop-key.key * c.args.nodes + c.args.owner in
     let within = plane-within c.args.nodes c.args.keys (length c.args.cells.now) c.loop-key.key c.requires.grid c.loop-key-test.true in
     let other = number-at number c.args.others.now place c.index-others-key.result (omega (arith, within, c.requires.owner, c.requires.others)) c.index-others-key.is in
@@ -27,9 +26,9 @@ loop-key-preserved g c =
     let bit : c.from-count.result ≡ (if c.is_above-is_above.result then 1 else 0) = search rules in
     record {
       cells =
-          owner-next (λ r k x. number_raised x (cell (map number c.args.others.now) c.args.nodes r k) low) c.args.owner c.args.nodes (map number c.args.cells.now) c.requires.owner number c.loop-key.cells c.loop-key.key c.raised_to.result c.loop-key.invariant.cells
-          (omega (arith, within, length-map c.args.cells.now number)) (c.raised_to.ensures ∙ (λ i. max (at_cell i) (if above i then other i else 0)));
-      count = sum_next (λ k. if nat_lt low (others k) then 1 else 0) c.loop-key.key c.loop-key.count c.from-count.result c.loop-key.invariant.count (bit ∙ (λ i. if above i then 1 else 0));
+          owner-next _ _ _ _ c.requires.owner number _ c.loop-key.key c.raised_to.result c.loop-key.invariant.cells (omega (arith, within, length-map c.args.cells.now number))
+          (c.raised_to.ensures ∙ (λ i. max (at_cell i) (if above i then other i else 0)));
+      count = sum_next _ c.loop-key.key c.loop-key.count c.from-count.result c.loop-key.invariant.count (bit ∙ (λ i. if above i then 1 else 0));
     }
 
 pub overflow_add-count : goal.overflow_add-count

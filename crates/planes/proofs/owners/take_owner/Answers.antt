@@ -14,40 +14,35 @@ offset_bounds-cells-key g c =
 pub loop-key-preserved : goal.loop-key-preserved
 loop-key-preserved g c =
     let number = g.N.Number.number in
-    let nodes = c.args.sent.nodes in
-    let owner = c.args.owner in
     let key = c.loop-key.key in
     let low = number c.args.low in
     let high = number c.args.high in
-    let old = map number c.args.cells.now in
-    let cells = cell old nodes in
-    let sent = cell (map number c.args.sent.cells.now) nodes in
-    let place : ℕ = key * nodes + owner in
-    let within = plane-within nodes c.args.sent.keys (length c.args.cells.now) key c.requires.grid c.loop-key-test.true in
-    let to = (λ (r k x : ℕ). number_taken x (sent r k) low high) in
-    let taken = (λ (r k : ℕ). number_taken (cells r k) (sent r k) low high) in
+    let was = cell (map number c.args.cells.now) c.args.sent.nodes c.args.owner key in
+    let sent = cell (map number c.args.sent.cells.now) c.args.sent.nodes c.args.owner key in
+    let place : ℕ = key * c.args.sent.nodes + c.args.owner in
+    let within = plane-within c.args.sent.nodes c.args.sent.keys (length c.args.cells.now) key c.requires.grid c.loop-key-test.true in
     let at_sent = number-at number c.args.sent.cells.now place c.index-numbers-key.result (omega (arith, within, c.requires.owner, c.requires.sent)) c.index-numbers-key.is in
     let between = sym (c.is_between.ensures ∙ (λ i. nat_lt low (at_sent i) && nat_le (at_sent i) high)) in
     elim c.if-is_between.branch [
       | then-is_between w ↦
           let at_cell = sym (get_or-map number c.loop-key.cells place w.index-cells-key.result 0 (omega (arith, within, c.requires.owner, c.loop-key.auto.cells))) ∙ c.loop-key.invariant.cells.from place (omega arith) in
-          let raised = w.max_with-raised.ensures ∙ (λ i. max (at_cell i) (at_sent i)) ∙ sym (taken-some (cells owner key) (sent owner key) low high (between ∙ w.if-is_between.true)) in
+          let raised = w.max_with-raised.ensures ∙ (λ i. max (at_cell i) (at_sent i)) ∙ sym (taken-some was sent low high (between ∙ w.if-is_between.true)) in
           rw (w.cells-is, w.greatest-is) (record {
-            cells = owner-next to owner nodes old c.requires.owner number c.loop-key.cells key w.max_with-raised.result c.loop-key.invariant.cells (omega (arith, within, length-map c.args.cells.now number)) raised;
-            greatest = raised-next taken key owner _ _ _ c.loop-key.invariant.greatest (w.max_with-greatest.ensures ∙ ap (max (number c.loop-key.greatest)) raised);
+            cells = owner-next _ _ _ _ c.requires.owner number _ key w.max_with-raised.result c.loop-key.invariant.cells (omega (arith, within, length-map c.args.cells.now number)) raised;
+            greatest = raised-next _ key _ _ _ _ c.loop-key.invariant.greatest (w.max_with-greatest.ensures ∙ ap (max (number c.loop-key.greatest)) raised);
           })
       | else-is_between w ↦
-          let none = taken-none (cells owner key) (sent owner key) low high (between ∙ w.if-is_between.false) in
+          let none = taken-none was sent low high (between ∙ w.if-is_between.false) in
           rw (w.cells-is, w.greatest-is) (record {
-            cells = owner-stays to owner nodes old c.requires.owner (map number c.loop-key.cells) key c.loop-key.invariant.cells none;
-            greatest = raised-next taken key owner _ _ _ c.loop-key.invariant.greatest (omega (arith, none, c.requires.covered key c.loop-key-test.true, c.loop-key.invariant.greatest.rises));
+            cells = owner-stays _ _ _ _ c.requires.owner _ key c.loop-key.invariant.cells none;
+            greatest = raised-next _ key _ _ _ _ c.loop-key.invariant.greatest (omega (arith, none, c.requires.covered key c.loop-key-test.true, c.loop-key.invariant.greatest.rises));
           })
     ]
 
 pub loop-key-init : goal.loop-key-init
-loop-key-init g c = record { cells = planes-none _ c.args.sent.nodes (map g.N.Number.number c.args.cells.now); greatest = raised-none _ c.args.owner (g.N.Number.number c.args.had) }
+loop-key-init g c = record { cells = planes-none _ _ _; greatest = raised-none _ _ _ }
 
 pub returns : goal.returns
 returns g c =
     let all : c.loop-key.key ≡ c.args.sent.keys = omega (arith, c.loop-key-test.false, c.loop-key.auto.key-end) in
-    record { cells = planes-all _ c.args.sent.nodes _ _ c.args.sent.keys c.loop-key.key c.loop-key.invariant.cells c.loop-key-test.false; greatest = rw (← all) c.loop-key.invariant.greatest }
+    record { cells = planes-all _ _ _ _ c.args.sent.keys c.loop-key.key c.loop-key.invariant.cells c.loop-key-test.false; greatest = rw (← all) c.loop-key.invariant.greatest }

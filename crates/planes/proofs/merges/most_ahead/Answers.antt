@@ -1,4 +1,4 @@
-use Rattle.planes.proofs.Common.{◌≡◌, ℕ, Fits, w32, ◌+◌, ◌-◌, ◌<◌, ◌≤◌, min, ◌∙◌, arith, length, MOST_NODES, MOST_KEYS, sum_below, sum_below-most}
+use Rattle.planes.proofs.Common.{◌≡◌, ℕ, Fits, w32, ◌+◌, ◌-◌, ◌<◌, ◌≤◌, min, ◌∙◌, arith, MOST_NODES, MOST_KEYS, sum_below, sum_below-most}
 use Rattle.planes.proofs.Elementwise.{number-at}
 use Rattle.planes.proofs.Counts.{sum_next, sum_whole}
 use Rattle.planes.proofs.merges.most_ahead.Goals as goal
@@ -22,8 +22,8 @@ loop-r-preserved g c =
       to_second = sum_next _ c.loop-r.r c.loop-r.to_second c.lead-to_second.result c.loop-r.invariant.to_second (c.lead-to_second.ensures ∙ (λ i. min c.args.keys (first i - second i)));
     }
 
-pub returns-clause-first : goal.returns-clause-first
-returns-clause-first g c = sum_whole _ c.loop-r.r (length c.args.first.now) c.loop-r.to_first c.loop-r.invariant.to_first c.loop-r-test.false c.loop-r.auto.r-end
-
-pub returns-clause-second : goal.returns-clause-second
-returns-clause-second g c = sum_whole _ c.loop-r.r (length c.args.first.now) c.loop-r.to_second c.loop-r.invariant.to_second c.loop-r-test.false c.loop-r.auto.r-end
+pub returns : goal.returns
+returns g c = record {
+  first = sum_whole _ c.loop-r.r _ _ c.loop-r.invariant.to_first c.loop-r-test.false c.loop-r.auto.r-end;
+  second = sum_whole _ c.loop-r.r _ _ c.loop-r.invariant.to_second c.loop-r-test.false c.loop-r.auto.r-end;
+}

@@ -1,6 +1,6 @@
 -- Tables whose owners are gone over one by one.
 -- Serves `merge_owners`, `raise_owner`, `take_owner`, `take_owners`, `total_owners_above` and `version_tables`.
-use Rattle.planes.proofs.Common.{◌≡◌, ◌≢◌, ℕ, Fits, w32, ◌+◌, ◌*◌, ◌<◌, ◌≤◌, ◌==◌, ◌&&◌, true, false, cond, List, length, get_or, set, map, nat_lt, nat_le, max, inl, inr, refl, sym, ap, ◌∙◌, subst, arith, below_more, nat_tests, sum_below-most, mul-le-mul_right, lt-ltb, le-ltb, get_or-set_same, get_or-set_other, length-set, map-set, MOST_KEYS, sum_below, sum_below-same, Cells, cell, count_above, number_raised, number_taken, HasNoneAbove, IsRaised, ArePlanesChanged, ArePlanesChangedUpto, IsGrid}
+use Rattle.planes.proofs.Common.{◌≡◌, ◌≢◌, ℕ, Fits, w32, ◌+◌, ◌*◌, ◌<◌, ◌≤◌, ◌==◌, ◌&&◌, true, false, cond, List, length, get_or, set, map, nat_lt, nat_le, max, inl, inr, refl, sym, ap, ◌∙◌, subst, arith, below_more, nat_tests, sum_below-most, mul-le-mul_right, lt-ltb, le-ltb, get_or-set_same, get_or-set_other, length-set, map-set, MOST_KEYS, sum_below, sum_below-same, Cells, cell, count_above, number_raised, number_taken, HasNoneAbove, IsRaised, ArePlanesChanged, ArePlanesChangedUpto, IsGrid, HasRaisedOwner}
 use Rattle.planes.proofs.Counts.{count_le, sum_next}
 
 -- the numbers of one owner more are counted
@@ -110,10 +110,6 @@ raised-same one other keys owner x y same is = record {
   from = elim is.from [ inl old ↦ inl old | inr (k, lt, e) ↦ inr (k, lt, sym (same k lt) ∙ e) ];
 }
 
--- nothing is raised where nothing is above the mark
-pub raised-none_above : (x other low : ℕ) → other ≤ low → number_raised x other low ≡ x
-raised-none_above x other low le = grind (arith, nat_tests)
-
 -- of the owners below a bound each number is raised to another table's, where that is above the owner's mark, and so many are
 pub record HaveCome (nodes keys : ℕ) (others : List ℕ) (low : ℕ → ℕ) (old new : List ℕ) (bound raised : ℕ) : Type 0 where
   pub cells : ArePlanesChanged (owners_changed (λ r k x. number_raised x (cell others nodes r k) (low r)) bound) nodes keys old new
@@ -127,20 +123,24 @@ module _ (nodes keys : ℕ) (others : List ℕ) (low : ℕ → ℕ) (old : List 
   come-none = record { cells = owners-none raised_in nodes keys old; count = refl }
 
   -- an owner's numbers come, while the other table still has them as they were
-  pub come-next : (owner : ℕ) (low_of_others : ℕ → ℕ) (others_mid mid new : List ℕ) (came count more mark : ℕ) → owner < nodes → HaveCome nodes keys old low_of_others others others_mid owner came → HaveCome nodes keys others low old mid owner count → mark ≡ low owner
-      → ArePlanesChanged (λ r k x y. y ≡ cond (r == owner) (number_raised x (cell others_mid nodes r k) mark) x) nodes keys mid new → more ≡ count_above (cell others_mid nodes) keys owner mark
-      → HaveCome nodes keys others low old new (owner + 1) (count + more)
-  come-next owner low_of_others others_mid mid new came count more mark lt waits before same now is =
-      let there = owner-waits (λ r k x. number_raised x (cell old nodes r k) (low_of_others r)) nodes keys others owner others_mid waits.cells in
+  pub come-next : {N : Type 0} (number : N → ℕ) (owner : ℕ) (low_of_others : ℕ → ℕ) (others_mid mid new : List N) (came count more : ℕ) (mark : N) → owner < nodes
+      → HaveCome nodes keys old low_of_others others (map number others_mid) owner came → HaveCome nodes keys others low old (map number mid) owner count
+      → number mark ≡ low owner → HasRaisedOwner number nodes keys owner others_mid mark mid new more → HaveCome nodes keys others low old (map number new) (owner + 1) (count + more)
+  come-next number owner low_of_others others_mid mid new came count more mark lt waits before same now =
+      let there = owner-waits (λ r k x. number_raised x (cell old nodes r k) (low_of_others r)) nodes keys others owner (map number others_mid) waits.cells in
       record {
-        cells = owners_turned raised_in nodes keys old owner (λ r k y. number_raised y (cell others_mid nodes r k) mark) mid new before.cells now (λ k x in_keys i. number_raised x (there k lt in_keys i) (same i));
-        count = owner_counted (cell others nodes) keys low owner count more mark before.count (is ∙ sum_below-same keys _ _ (λ k in_keys. ap (λ n. cond (nat_lt mark n) 1 0) (there k lt in_keys))) same;
+        cells =
+            owners_turned raised_in nodes keys old owner (λ r k y. number_raised y (cell (map number others_mid) nodes r k) (number mark)) (map number mid) (map number new) before.cells now.cells
+            (λ k x in_keys i. number_raised x (there k lt in_keys i) (same i));
+        count =
+            owner_counted (cell others nodes) keys low owner count more (number mark) before.count
+            (now.count ∙ sum_below-same keys _ _ (λ k in_keys. ap (λ n. cond (nat_lt (number mark) n) 1 0) (there k lt in_keys))) same;
       }
 
   -- or none comes
   pub come-passed : (owner : ℕ) (mid : List ℕ) (count high : ℕ) → HaveCome nodes keys others low old mid owner count → HasNoneAbove (cell others nodes) keys owner high → high ≤ low owner → HaveCome nodes keys others low old mid (owner + 1) count
   come-passed owner mid count high before covered le = record {
-    cells = owners-stay raised_in nodes keys old owner mid before.cells (λ k x lt. raised-none_above x (cell others nodes owner k) (low owner) (omega (arith, covered k lt, le)));
+    cells = owners-stay raised_in nodes keys old owner mid before.cells (λ k x lt. let none = covered k lt in grind (arith, nat_tests));
     count = owner_passed (cell others nodes) keys low owner count high before.count covered le;
   }
 

@@ -8,7 +8,7 @@ use Rattle.planes.proofs.owners.take_owner.Goals.{then-is_between, else-is_betwe
 pub offset_bounds-cells-key : goal.offset_bounds-cells-key
 offset_bounds-cells-key g c =
     let inside : c.loop-key.key * c.args.sent.nodes + c.args.owner < length c.loop-key.cells =
-    omega (arith, c.requires.owner, c.loop-key.auto.cells, plane-within c.args.sent.nodes c.args.sent.keys (length c.args.cells.now) c.loop-key.key c.requires.grid c.loop-key-test.true) in
+    omega (arith, c.requires.place.within, c.loop-key.auto.cells, plane-within c.args.sent.nodes c.args.sent.keys (length c.args.cells.now) c.loop-key.key c.requires.place.grid c.loop-key-test.true) in
     search rules fits 10000
 
 pub loop-key-preserved : goal.loop-key-preserved
@@ -20,21 +20,21 @@ loop-key-preserved g c =
     let was = cell (map number c.args.cells.now) c.args.sent.nodes c.args.owner key in
     let sent = cell (map number c.args.sent.cells.now) c.args.sent.nodes c.args.owner key in
     let place : ℕ = key * c.args.sent.nodes + c.args.owner in
-    let within = plane-within c.args.sent.nodes c.args.sent.keys (length c.args.cells.now) key c.requires.grid c.loop-key-test.true in
-    let at_sent = number-at number c.args.sent.cells.now place c.index-numbers-key.result (omega (arith, within, c.requires.owner, c.requires.sent)) c.index-numbers-key.is in
+    let within = plane-within c.args.sent.nodes c.args.sent.keys (length c.args.cells.now) key c.requires.place.grid c.loop-key-test.true in
+    let at_sent = number-at number c.args.sent.cells.now place c.index-numbers-key.result (omega (arith, within, c.requires.place.within, c.requires.sent)) c.index-numbers-key.is in
     let between = sym (c.is_between.ensures ∙ (λ i. nat_lt low (at_sent i) && nat_le (at_sent i) high)) in
     elim c.if-is_between.branch [
       | then-is_between w ↦
-          let at_cell = sym (get_or-map number c.loop-key.cells place w.index-cells-key.result 0 (omega (arith, within, c.requires.owner, c.loop-key.auto.cells))) ∙ c.loop-key.invariant.cells.from place (omega arith) in
+          let at_cell = sym (get_or-map number c.loop-key.cells place w.index-cells-key.result 0 (omega (arith, within, c.requires.place.within, c.loop-key.auto.cells))) ∙ c.loop-key.invariant.cells.from place (omega arith) in
           let raised = w.max_with-raised.ensures ∙ (λ i. max (at_cell i) (at_sent i)) ∙ sym (taken-some was sent low high (between ∙ w.if-is_between.true)) in
           rw (w.cells-is, w.greatest-is) (record {
-            cells = owner-next _ _ _ _ c.requires.owner number _ key w.max_with-raised.result c.loop-key.invariant.cells (omega (arith, within, length-map c.args.cells.now number)) raised;
+            cells = owner-next _ _ _ _ c.requires.place.within number _ key w.max_with-raised.result c.loop-key.invariant.cells (omega (arith, within, length-map c.args.cells.now number)) raised;
             greatest = raised-next _ key _ _ _ _ c.loop-key.invariant.greatest (w.max_with-greatest.ensures ∙ ap (max (number c.loop-key.greatest)) raised);
           })
       | else-is_between w ↦
           let none = taken-none was sent low high (between ∙ w.if-is_between.false) in
           rw (w.cells-is, w.greatest-is) (record {
-            cells = owner-stays _ _ _ _ c.requires.owner _ key c.loop-key.invariant.cells none;
+            cells = owner-stays _ _ _ _ c.requires.place.within _ key c.loop-key.invariant.cells none;
             greatest = raised-next _ key _ _ _ _ c.loop-key.invariant.greatest (omega (arith, none, c.requires.covered key c.loop-key-test.true, c.loop-key.invariant.greatest.rises));
           })
     ]

@@ -3,8 +3,8 @@
 
 ghost use Rattle.std.specs.Prelude.{◌≡◌, ◌≤◌, length, map};
 ghost use Rattle.bench_types.specs.declared.limits.TheConstants.{MOST_NODES};
-ghost use Rattle.planes.specs.Planes.{cell, count_above, total_above, AreBothCovered, AreBothRaised, AreCovered, AreSentTaken, HasNoneAbove, IsGrid, MayTake};
-ghost use Rattle.planes.specs.inner.Owners.{HasRaisedOwner, HasTakenOwner, IsOwnerOf};
+ghost use Rattle.planes.specs.Planes.{cell, count_above, total_above, AreBothCovered, AreBothRaised, AreSentTaken, HasNoneAbove, MayTake};
+ghost use Rattle.planes.specs.inner.Owners.{HasRaisedOwner, HasTakenOwner, IsMarked, IsOwnerOf};
 
 use crate::grids::Sent;
 use crate::merges::{BothCounts, BothMarks};
@@ -48,10 +48,7 @@ pub(crate) fn total_owners_above<N: Number>(
     low: &[N],
     high: &[N],
 ) -> u32
-    requires grid { IsGrid nodes keys (length cells.now) }
-    requires low { length low.now ≡ nodes }
-    requires high { length high.now ≡ nodes }
-    requires covered { AreCovered nodes keys (map N.number cells.now) (map N.number high.now) }
+    requires marked { IsMarked N.number nodes keys cells.now low.now high.now }
     ensures { result ≡ total_above nodes keys (map N.number cells.now) (map N.number low.now) }
 {
     let mut total = 0;

@@ -1,4 +1,5 @@
--- The names of other libraries that these proofs cite, passed on from one place. Declares nothing.
+-- What these proofs cite of other libraries and of this crate's definitions, passed on from one place.
+-- Serves the functions of `writes`, `Keeping`, `Numbered` and `Numbers`.
 pub use Rattle.std.proofs.Common.{List, None, Some, [], ap, arith, drop, get_or, inl, inr, length, length-append, map, refl, subst, suc, sym, take, zero, ℕ, ◌++◌, ◌+◌, ◌-◌, ◌<◌, ◌^◌, ◌∙◌, ◌∷◌, ◌≡◌, ◌≤◌}
 pub use Rattle.std.proofs.lemmas.Bool.{cases_lt, le-ltb, lt-ltb}
 pub use Rattle.std.proofs.lemmas.List.{append-nil, append_assoc, drop-append-le, drop_all, get_or-append_right, get_or-map, get_or_append_left, get_or_push, length-drop, length-map, map-append, take-append-drop, take-append-le, take_all}
@@ -8,7 +9,10 @@ pub use Rattle.std.specs.Prelude.{MatchOption, nat_lt}
 pub use Rattle.std.specs.Slice.{IsGetResult}
 pub use Rattle.bench_types.proofs.Marks.{before-no, before-up_to, before-yes, up_to-itself}
 pub use Rattle.bench_types.specs.Mark.{IsBefore, IsUpTo, is_before, mark_of}
-pub use Rattle.bench_types.specs.calls.Entry.{AreNextAfter, IsNextAfter}
+pub use Rattle.bench_types.specs.calls.Entry.{AreNextAfter}
 pub use Rattle.bench_types.specs.declared.entries.Entry.{Entry}
 pub use Rattle.model.specs.calls.Numbers.{write_from, write_numbered}
 pub use Rattle.model.specs.calls.OwnerListView.{AreWrites, MarksRise, OwnerListView, begun_generation, entries_of, next_entry, with_write}
+pub use Rattle.owner_writes.specs.Kept.{entry_kept}
+pub use Rattle.owner_writes.specs.Numbered.{IsHistory}
+pub use Rattle.owner_writes.specs.inner.Views.{IsKept, view_by}

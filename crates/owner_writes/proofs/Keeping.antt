@@ -1,16 +1,14 @@
 -- What an owner's writes keep through the calls that change them.
 -- Serves `OwnerWrites::begin_generation`, `OwnerWrites::numbered`, `OwnerWrites::write`, `owner_lists` and
 -- `version_tables`.
-use Rattle.owner_writes.proofs.Common.{◌≡◌, ℕ, ◌+◌, ◌-◌, ◌^◌, ◌<◌, List, [], ◌∷◌, ◌++◌, length, get_or, map, take, drop, inl, inr, refl, sym, ap, ◌∙◌, subst, arith, length-append, cases_lt, length-drop, length-map, map-append, append_assoc, append-nil, get_or_append_left, get_or-append_right, get_or_push, take-append-drop, take-append-le, drop-append-le, take_all, drop_all, All-append, Entry, IsNextAfter, AreNextAfter, mark_of, IsBefore, OwnerListView, entries_of, MarksRise, AreWrites, next_entry, with_write, begun_generation}
-use Rattle.owner_writes.specs.inner.Views.{view_by, IsKept}
+use Rattle.owner_writes.proofs.Common.{◌≡◌, ℕ, ◌+◌, ◌-◌, ◌^◌, ◌<◌, List, [], ◌∷◌, ◌++◌, length, get_or, map, take, drop, inl, inr, refl, sym, ap, ◌∙◌, subst, arith, length-append, cases_lt, length-drop, length-map, map-append, append_assoc, append-nil, get_or_append_left, get_or-append_right, get_or_push, take-append-drop, take-append-le, drop-append-le, take_all, drop_all, All-append, Entry, AreNextAfter, mark_of, IsBefore, OwnerListView, entries_of, MarksRise, AreWrites, next_entry, with_write, begun_generation, view_by, IsKept}
 
 -- marks stay in order where one is added above all
 rising_push : (es : List Entry) (e : Entry) → MarksRise es → ((i : ℕ) (d : Entry) → i < length es → IsBefore (mark_of (get_or es i d)) (mark_of e)) → MarksRise (es ++ e ∷ [])
 rising_push es e rising above i j d lt in_range =
-    let front : get_or (es ++ e ∷ []) i d ≡ get_or es i d = get_or_append_left es (e ∷ []) d i (omega (arith, length-append es (e ∷ []))) in
-    subst (λ x. IsBefore (mark_of x) (mark_of (get_or (es ++ e ∷ []) j d))) (sym front) (elim (cases_lt j (length es)) [
-      | inl before ↦ subst (λ x. IsBefore (mark_of (get_or es i d)) (mark_of x)) (sym (get_or_append_left es (e ∷ []) d j before)) (rising i j d lt before)
-      | inr last ↦ subst (λ x. IsBefore (mark_of (get_or es i d)) (mark_of x)) (sym (get_or_push es e d j (omega (arith, length-append es (e ∷ []))))) (above i d (omega (arith, length-append es (e ∷ []))))
+    rw (get_or_append_left es (e ∷ []) d i (omega (arith, length-append es (e ∷ [])))) (elim (cases_lt j (length es)) [
+      | inl before ↦ rw (get_or_append_left es (e ∷ []) d j before) (rising i j d lt before)
+      | inr last ↦ rw (get_or_push es e d j (omega (arith, length-append es (e ∷ [])))) (above i d (omega (arith, length-append es (e ∷ []))))
     ])
 
 -- one more write
@@ -22,14 +20,11 @@ module _ (v : OwnerListView) (is : AreWrites v) (key value born : ℕ) where
   below i d lt = elim (cases_lt i (length v.earlier)) [
     | inl before ↦
         let older = is.earlier i d before in
-        subst (λ (x : Entry). IsBefore (mark_of x) (mark_of e)) (sym (get_or_append_left v.earlier v.current d i before))
-        (record { generation = grind (arith, older); version = λ same. absurd (grind (arith, older, same)) })
+        rw (get_or_append_left v.earlier v.current d i before) (record { generation = grind (arith, older); version = λ same. absurd (grind (arith, older, same)) })
     | inr behind ↦
-        let at = i - length v.earlier in
-        let within : at < length v.current = omega (arith, lt, behind, length-append v.earlier v.current) in
-        let here = is.current at d within in
-        subst (λ (x : Entry). IsBefore (mark_of x) (mark_of e)) (sym (get_or-append_right v.earlier v.current (length v.earlier) i d refl behind))
-        (record { generation = grind (arith, here.0); version = λ _. grind (arith, here.1, within) })
+        let within : i - length v.earlier < length v.current = omega (arith, lt, behind, length-append v.earlier v.current) in
+        let here = is.current (i - length v.earlier) d within in
+        rw (get_or-append_right v.earlier v.current (length v.earlier) i d refl behind) (record { generation = grind (arith, here.0); version = λ _. grind (arith, here.1, within) })
   ]
 
   pub writes_more : AreWrites (with_write v key value born)
@@ -41,10 +36,10 @@ module _ (v : OwnerListView) (is : AreWrites v) (key value born : ℕ) where
     where
       numbered : AreNextAfter v.generation 0 (v.current ++ e ∷ [])
       numbered i d lt = elim (cases_lt i (length v.current)) [
-        | inl before ↦ subst (IsNextAfter v.generation (0 + i)) (sym (get_or_append_left v.current (e ∷ []) d i before)) (is.current i d before)
+        | inl before ↦ rw (get_or_append_left v.current (e ∷ []) d i before) (is.current i d before)
         | inr behind ↦
             let last : length v.current ≡ i = omega (arith, length-append v.current (e ∷ [])) in
-            subst (IsNextAfter v.generation (0 + i)) (sym (get_or_push v.current e d i last)) (refl, omega (arith, last))
+            rw (get_or_push v.current e d i last) (refl, omega (arith, last))
       ]
 
 -- the next generation
@@ -65,17 +60,11 @@ module _ {X : Type 0} (entry : X → Entry) (kept : List X) (n g : ℕ) where
   entries_whole = sym (map-append entry (take n kept) (drop n kept)) ∙ ap (map entry) (take-append-drop n kept)
 
   pub view_begun : (m : ℕ) → m ≡ length kept → view_by entry kept m (g + 1) ≡ begun_generation (view_by entry kept n g)
-  view_begun m all = λ i. record { earlier = taken i; current = dropped i; generation = g + 1 }
-    where
-      taken : map entry (take m kept) ≡ map entry (take n kept) ++ map entry (drop n kept)
-      taken = ap (map entry) (take_all m kept (omega (arith, all))) ∙ sym entries_whole
-
-      dropped : map entry (drop m kept) ≡ []
-      dropped = ap (map entry) (drop_all m kept (omega (arith, all)))
-
-  pub view_written : (kept' : List X) (key value born : ℕ) → take n kept' ≡ take n kept → map entry (drop n kept') ≡ map entry (drop n kept) ++ next_entry (view_by entry kept n g) key value born ∷ []
-      → view_by entry kept' n g ≡ with_write (view_by entry kept n g) key value born
-  view_written kept' key value born same added = λ i. record { earlier = map entry (same i); current = added i; generation = g }
+  view_begun m all = λ i. record {
+    earlier = (ap (map entry) (take_all m kept (omega (arith, all))) ∙ sym entries_whole) i;
+    current = map entry (drop_all m kept (omega (arith, all)) i);
+    generation = g + 1;
+  }
 
   module _ (is : IsKept entry kept n g) where
     pub kept_begun : (m : ℕ) → m ≡ length kept → IsKept entry kept m (g + 1)
@@ -88,8 +77,11 @@ module _ {X : Type 0} (entry : X → Entry) (kept : List X) (n g : ℕ) where
     -- one more
     module _ (x : X) (key value born : ℕ) (next : entry x ≡ next_entry (view_by entry kept n g) key value born) where
       pub view_pushed : view_by entry (kept ++ x ∷ []) n g ≡ with_write (view_by entry kept n g) key value born
-      view_pushed = view_written (kept ++ x ∷ []) key value born (take-append-le n kept (x ∷ []) is.within)
-          (ap (map entry) (drop-append-le n kept (x ∷ []) is.within) ∙ map-append entry (drop n kept) (x ∷ []) ∙ ap (λ e. map entry (drop n kept) ++ e ∷ []) next)
+      view_pushed = λ i. record {
+        earlier = map entry (take-append-le n kept (x ∷ []) is.within i);
+        current = (ap (map entry) (drop-append-le n kept (x ∷ []) is.within) ∙ map-append entry (drop n kept) (x ∷ []) ∙ ap (λ e. map entry (drop n kept) ++ e ∷ []) next) i;
+        generation = g;
+      }
 
       pub kept_pushed : length v.current + 1 < 2 ^ 32 → IsKept entry (kept ++ x ∷ []) n g
       kept_pushed few = record {

@@ -1,7 +1,6 @@
 -- Writes by their numbers: which there are, and how their marks compare.
 -- Serves `delta_plans`, `version_lags` and `version_tables`.
-use Rattle.owner_writes.proofs.Common.{◌≡◌, ℕ, zero, suc, ◌<◌, ◌≤◌, List, [], ◌∷◌, length, get_or, Some, None, inl, inr, refl, sym, ap, ◌∙◌, subst, arith, nat_lt, cases_lt, lt-ltb, le-ltb, same_Some, Entry, mark_of, is_before, IsBefore, IsUpTo, before-yes, before-no, before-up_to, up_to-itself, write_from, write_numbered}
-use Rattle.owner_writes.specs.Numbered.{IsHistory}
+use Rattle.owner_writes.proofs.Common.{◌≡◌, ℕ, zero, suc, ◌<◌, ◌≤◌, List, [], ◌∷◌, length, get_or, Some, None, inl, inr, refl, sym, ap, ◌∙◌, subst, arith, nat_lt, cases_lt, lt-ltb, le-ltb, same_Some, Entry, mark_of, is_before, IsBefore, IsUpTo, before-yes, before-no, before-up_to, up_to-itself, write_from, write_numbered, IsHistory}
 
 -- what stands at a place
 pub write_from-at : (writes : List Entry) (place : ℕ) (e d : Entry) → write_from writes place ≡ Some e → (place < length writes) × (get_or writes place d ≡ e)
@@ -30,9 +29,16 @@ pub numbers-before : (writes : List Entry) (history : IsHistory writes) (m n : �
 numbers-before writes history m n d e is_d is_e lt =
     let first = numbered-placed writes m d is_d in
     let second = numbered-placed writes n e is_e in
-    subst (λ x. IsBefore (mark_of x) (mark_of e)) (first.there d)
-    (subst (λ x. IsBefore (mark_of (get_or writes first.place d)) (mark_of x)) (second.there d)
-    (history.rise first.place second.place d (omega (arith, lt, first.is, second.is)) second.within))
+    rw (first.there d, second.there d) at (history.rise first.place second.place d (omega (arith, lt, first.is, second.is)) second.within)
+
+module _ (writes : List Entry) (history : IsHistory writes) (m n : ℕ) (d e : Entry) (is_d : write_numbered writes m ≡ Some d) (is_e : write_numbered writes n ≡ Some e) where
+  pub numbers-up_to : m ≤ n → IsUpTo (mark_of d) (mark_of e)
+  numbers-up_to le = elim (cases_lt m n) [
+    | inl before ↦ before-up_to (mark_of d) (mark_of e) (numbers-before writes history m n d e is_d is_e before)
+    | inr not_before ↦
+        let one : Some d ≡ Some e = sym is_d ∙ ap (write_numbered writes) {x = m} {y = n} (omega (arith, le, not_before)) ∙ is_e in
+        subst (λ x. IsUpTo (mark_of d) (mark_of x)) (same_Some d e one) (up_to-itself (mark_of d))
+  ]
 
 -- of one generation, numbers compare as versions
 module _ (writes : List Entry) (history : IsHistory writes) (m n : ℕ) (d e : Entry) (is_d : write_numbered writes m ≡ Some d) (is_e : write_numbered writes n ≡ Some e) (alike : d.generation ≡ e.generation) where
@@ -42,12 +48,7 @@ module _ (writes : List Entry) (history : IsHistory writes) (m n : ℕ) (d e : E
   pub number-of_version : d.version < e.version → m < n
   number-of_version lt = elim (cases_lt m n) [
     | inl before ↦ before
-    | inr not_before ↦ elim (cases_lt n m) [
-      | inl behind ↦ absurd (omega (arith, lt, (numbers-before writes history n m e d is_e is_d behind).version (sym alike)))
-      | inr same ↦
-          let one : Some d ≡ Some e = sym is_d ∙ ap (write_numbered writes) {x = m} {y = n} (omega (arith, not_before, same)) ∙ is_e in
-          absurd (omega (arith, lt, ap (λ (x : Entry). x.version) (same_Some d e one)))
-    ]
+    | inr not_before ↦ absurd (omega (arith, lt, (numbers-up_to writes history n m e d is_e is_d not_before).version (sym alike)))
   ]
 
 -- there is a write at each place below the count
@@ -63,25 +64,14 @@ numbered-some writes (suc place) some le = write_from-some writes place (omega (
 -- a number up to the count of which there is no write is 0
 pub numbered-none : (writes : List Entry) (number : ℕ) → number ≤ length writes → write_numbered writes number ≡ None → number ≡ 0
 numbered-none writes zero le none = refl
-numbered-none [] (suc place) le none = absurd (omega (arith, le))
-numbered-none (e ∷ es) (suc place) le none =
-    let there = write_from-some (e ∷ es) place (omega (arith, le)) in
-    let bad = there.1 in
+numbered-none writes (suc place) le none =
+    let there = (write_from-some writes place (omega (arith, le))).1 in
     absurd (cc)
 
 -- a write has a number from 1 up to the count
 pub numbered-within : (writes : List Entry) (number : ℕ) (e : Entry) → write_numbered writes number ≡ Some e → (0 < number) × (number ≤ length writes)
 numbered-within writes zero e is = absurd (cc)
 numbered-within writes (suc place) e is = let at = write_from-at writes place e e is in (omega arith, omega (arith, at.0))
-
-module _ (writes : List Entry) (history : IsHistory writes) (m n : ℕ) (d e : Entry) (is_d : write_numbered writes m ≡ Some d) (is_e : write_numbered writes n ≡ Some e) where
-  pub numbers-up_to : m ≤ n → IsUpTo (mark_of d) (mark_of e)
-  numbers-up_to le = elim (cases_lt m n) [
-    | inl before ↦ before-up_to (mark_of d) (mark_of e) (numbers-before writes history m n d e is_d is_e before)
-    | inr not_before ↦
-        let one : Some d ≡ Some e = sym is_d ∙ ap (write_numbered writes) {x = m} {y = n} (omega (arith, le, not_before)) ∙ is_e in
-        subst (λ x. IsUpTo (mark_of d) (mark_of x)) (same_Some d e one) (up_to-itself (mark_of d))
-  ]
 
 -- marks compare as numbers
 pub numbers-compare : (writes : List Entry) (history : IsHistory writes) (m n : ℕ) (d e : Entry) → write_numbered writes m ≡ Some d → write_numbered writes n ≡ Some e → is_before (mark_of d) (mark_of e) ≡ nat_lt m n

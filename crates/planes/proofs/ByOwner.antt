@@ -1,17 +1,7 @@
 -- Tables whose owners are gone over one by one.
 -- Serves `merge_owners`, `raise_owner`, `take_owner`, `take_owners`, `total_owners_above` and `version_tables`.
-use Rattle.planes.proofs.Common.{◌≡◌, ◌≢◌, ℕ, zero, suc, Fits, w32, ◌+◌, ◌*◌, ◌<◌, ◌≤◌, ◌==◌, ◌&&◌, Bool, true, false, cond, List, length, get_or, set, map, nat_lt, nat_le, max, inl, inr, refl, sym, ap, ◌∙◌, subst, arith, mul-le-mul_right, cases_lt, cases_eq, eq-eqb, ne_eqb, lt-ltb, le-ltb, lt-leb, get_or-set_same, get_or-set_other, length-set, map-set, MOST_NODES, MOST_KEYS, sum_below, sum_below-same}
-use Rattle.planes.specs.Planes.{Cells, cell, count_above, number_raised, number_taken, HasNoneAbove, IsRaised, ArePlanesChanged, ArePlanesChangedUpto}
+use Rattle.planes.proofs.Common.{◌≡◌, ◌≢◌, ℕ, Fits, w32, ◌+◌, ◌*◌, ◌<◌, ◌≤◌, ◌==◌, ◌&&◌, true, false, cond, List, length, get_or, set, map, nat_lt, nat_le, max, inl, inr, refl, sym, ap, ◌∙◌, subst, arith, below_more, nat_tests, sum_below-most, mul-le-mul_right, lt-ltb, le-ltb, get_or-set_same, get_or-set_other, length-set, map-set, MOST_KEYS, sum_below, sum_below-same, Cells, cell, count_above, number_raised, number_taken, HasNoneAbove, IsRaised, ArePlanesChanged, ArePlanesChangedUpto, IsGrid, HasRaisedOwner}
 use Rattle.planes.proofs.Counts.{count_le, sum_next}
-
--- an owner of whom nothing is above its mark
-none_below : (keys : ℕ) (test : ℕ → Bool) → ((k : ℕ) → k < keys → test k ≡ false) → sum_below keys (λ k. cond (test k) 1 0) ≡ 0
-none_below zero test none = refl
-none_below (suc keys) test none = (λ i. none_below keys test (λ k lt. none k (omega (arith, lt))) i + cond (none keys (omega arith) i) 1 0)
-
-pub count-none : (cells : Cells) (keys owner low high : ℕ) → HasNoneAbove cells keys owner high → high ≤ low → count_above cells keys owner low ≡ 0
-count-none cells keys owner low high covered le =
-    none_below keys (λ k. nat_lt low (cells owner k)) (λ k lt. le-ltb low (cells owner k) (omega (arith, covered k lt, le)))
 
 -- the numbers of one owner more are counted
 pub owner_counted : (cells : Cells) (keys : ℕ) (low : ℕ → ℕ) (owner total count mark : ℕ) → total ≡ sum_below owner (λ r. count_above cells keys r (low r)) → count ≡ count_above cells keys owner mark → mark ≡ low owner
@@ -23,17 +13,13 @@ owner_counted cells keys low owner total count mark is now same =
 pub owner_passed : (cells : Cells) (keys : ℕ) (low : ℕ → ℕ) (owner total high : ℕ) → total ≡ sum_below owner (λ r. count_above cells keys r (low r)) → HasNoneAbove cells keys owner high → high ≤ low owner
     → total ≡ sum_below (owner + 1) (λ r. count_above cells keys r (low r))
 owner_passed cells keys low owner total high is covered le =
-    let one_more = sum_next (λ r. count_above cells keys r (low r)) owner total 0 is (sym (count-none cells keys owner (low owner) high covered le)) in
+    let none = sum_below-most (λ k. cond (nat_lt (low owner) (cells owner k)) 1 0) keys 0 (λ k lt. omega (arith, ap {B = ℕ} (λ b. cond b 1 0) (le-ltb (low owner) (cells owner k) (omega (arith, covered k lt, le))))) in
+    let one_more = sum_next (λ r. count_above cells keys r (low r)) owner total 0 is (omega (arith, none)) in
     omega (arith, one_more)
 
-counts_le : (cells : Cells) (keys owners : ℕ) (low : ℕ → ℕ) → keys ≤ MOST_KEYS → sum_below owners (λ r. count_above cells keys r (low r)) ≤ owners * MOST_KEYS
-counts_le cells keys zero low few = omega arith
-counts_le cells keys (suc owners) low few = omega (arith, counts_le cells keys owners low few, count_le keys (λ k. nat_lt (low owners) (cells owners k)), few)
-
-pub owners-fit : (cells : Cells) (nodes keys : ℕ) (low : ℕ → ℕ) (owner total count mark : ℕ) → nodes ≤ MOST_NODES → keys ≤ MOST_KEYS → owner < nodes
-    → total ≡ sum_below owner (λ r. count_above cells keys r (low r)) → count ≡ count_above cells keys owner mark → Fits w32 (total + count)
-owners-fit cells nodes keys low owner total count mark few_nodes few_keys lt is now =
-    omega (arith, is, now, lt, few_nodes, few_keys, counts_le cells keys owner low few_keys, count_le keys (λ k. nat_lt mark (cells owner k)))
+pub owners-fit : (cells : Cells) (nodes keys size : ℕ) (low : ℕ → ℕ) (owner total : ℕ) → IsGrid nodes keys size → owner < nodes → total ≡ sum_below (owner + 1) (λ r. count_above cells keys r (low r)) → Fits w32 total
+owners-fit cells nodes keys size low owner total grid lt is =
+    omega (arith, is, lt, grid.few_nodes, sum_below-most (λ r. count_above cells keys r (low r)) (owner + 1) MOST_KEYS (λ r _. omega (arith, grid.few_keys, count_le keys (λ k. nat_lt (low r) (cells r k)))))
 
 -- nothing is taken that isn't above one mark and up to another
 pub taken-none : (x sent low high : ℕ) → (nat_lt low sent && nat_le sent high) ≡ false → number_taken x sent low high ≡ x
@@ -42,14 +28,8 @@ taken-none x sent low high outside = ap (λ b. max x (cond b sent 0)) outside �
 pub taken-some : (x sent low high : ℕ) → (nat_lt low sent && nat_le sent high) ≡ true → number_taken x sent low high ≡ max x sent
 taken-some x sent low high inside = ap (λ b. max x (cond b sent 0)) inside
 
-none_between : (sent low high : ℕ) → high ≤ low → (nat_lt low sent && nat_le sent high) ≡ false
-none_between sent low high le = elim (cases_lt low sent) [
-  | inl above ↦ (λ i. lt-ltb low sent above i && lt-leb sent high (omega (arith, above, le)) i)
-  | inr not_above ↦ ap (λ b. b && nat_le sent high) (le-ltb low sent (omega (arith, not_above)))
-]
-
 pub taken-passed : (x sent low high : ℕ) → high ≤ low → number_taken x sent low high ≡ x
-taken-passed x sent low high le = taken-none x sent low high (none_between sent low high le)
+taken-passed x sent low high le = grind (arith, nat_tests)
 
 -- numbers of one owner are changed
 abbrev pub owner_changed : (ℕ → ℕ → ℕ → ℕ) → ℕ → ℕ → ℕ → ℕ → ℕ → Type 0
@@ -61,27 +41,22 @@ module _ (to : ℕ → ℕ → ℕ → ℕ) (owner nodes : ℕ) (old : List ℕ)
       → ((i : ℕ) → i ≢ key * nodes + owner → get_or ys i 0 ≡ get_or xs i 0) → ArePlanesChangedUpto (owner_changed to owner) nodes old ys (key + 1)
   owner_more xs ys key before size now others = record {
     size = size ∙ before.size;
-    below = λ r k in_node lt. elim (cases_lt k key) [
-      | inl earlier ↦ others (k * nodes + r) (λ e. omega (arith, e, in_node, mul-le-mul_right {m = k + 1} {n = key} nodes (omega (arith, earlier)))) ∙ before.below r k in_node earlier
-      | inr not_earlier ↦ subst (λ j. owner_changed to owner r j (cell old nodes r j) (cell ys nodes r j)) {x = key} {y = k} (omega (arith, lt, not_earlier)) (here r in_node)
-    ];
+    below = λ r k in_node. below_more (λ j. owner_changed to owner r j (cell old nodes r j) (cell ys nodes r j)) key
+        (λ j lt. others (j * nodes + r) (λ e. omega (arith, e, in_node, mul-le-mul_right {m = j + 1} {n = key} nodes (omega (arith, lt)))) ∙ before.below r j in_node lt) (here r in_node) k;
     from = λ i le. others i (λ e. omega (arith, e, le, in_nodes)) ∙ before.from i (omega (arith, le));
   }
     where
       here : (r : ℕ) → r < nodes → owner_changed to owner r key (cell old nodes r key) (cell ys nodes r key)
-      here r in_node = elim (cases_eq r owner) [
-        | inl same ↦ subst (λ o. owner_changed to owner o key (cell old nodes o key) (cell ys nodes o key)) (sym same) (now ∙ ap (λ b. cond b (to owner key (cell old nodes owner key)) (cell old nodes owner key)) (sym (eq-eqb owner owner refl)))
-        | inr other ↦
-            others (key * nodes + r) (λ e. other (omega (arith, e))) ∙ before.from (key * nodes + r) (omega arith)
-            ∙ ap (λ b. cond b (to r key (cell old nodes r key)) (cell old nodes r key)) (sym (ne_eqb r owner other))
-      ]
+      here r in_node =
+          let kept = others (key * nodes + r) in
+          let was = before.from (key * nodes + r) (omega arith) in
+          grind (arith, nat_tests)
 
   -- it is written
   pub owner-next : {N : Type 0} (number : N → ℕ) (xs : List N) (key : ℕ) (x : N) → ArePlanesChangedUpto (owner_changed to owner) nodes old (map number xs) key → key * nodes + nodes ≤ length old
       → number x ≡ to owner key (cell old nodes owner key) → ArePlanesChangedUpto (owner_changed to owner) nodes old (map number (set xs (key * nodes + owner) x)) (key + 1)
   owner-next number xs key x before within is =
-      subst (λ ys. ArePlanesChangedUpto (owner_changed to owner) nodes old ys (key + 1)) (sym (map-set number xs (key * nodes + owner) x))
-      (owner_more (map number xs) _ key before (length-set (map number xs) (key * nodes + owner) (number x))
+      rw (map-set number xs (key * nodes + owner) x) (owner_more (map number xs) _ key before (length-set (map number xs) (key * nodes + owner) (number x))
       (get_or-set_same (map number xs) (key * nodes + owner) (number x) 0 (omega (arith, before.size, within, in_nodes)) ∙ is)
       (λ i other. get_or-set_other (map number xs) (key * nodes + owner) i (number x) 0 other))
 
@@ -98,28 +73,16 @@ module _ (to : ℕ → ℕ → ℕ → ℕ) (nodes keys : ℕ) (old : List ℕ) 
   pub owners-none : ArePlanesChanged (owners_changed to 0) nodes keys old old
   owners-none = record { size = refl; each = λ r k in_node in_key. ap (λ b. cond b (to r k (cell old nodes r k)) (cell old nodes r k)) (sym (le-ltb r 0 (omega arith))) }
 
-  -- what an owner's turn makes of a number, where those before it were changed already
-  owner_turn : (bound r : ℕ) (now : ℕ → ℕ) (k x y z : ℕ) → owners_changed to bound r k x y → z ≡ cond (r == bound) (now y) y → (r ≡ bound → now x ≡ to r k x) → owners_changed to (bound + 1) r k x z
-  owner_turn bound r now k x y z before after same = elim (cases_eq r bound) [
-    | inl here ↦
-        let still : y ≡ x = before ∙ ap (λ b. cond b (to r k x) x) (le-ltb r bound (omega (arith, here))) in
-        after ∙ ap (λ b. cond b (now y) y) (eq-eqb r bound here) ∙ ap now still ∙ same here
-        ∙ ap (λ b. cond b (to r k x) x) (sym (lt-ltb r (bound + 1) (omega (arith, here))))
-    | inr other ↦
-        after ∙ ap (λ b. cond b (now y) y) (ne_eqb r bound other) ∙ before
-        ∙ ap (λ b. cond b (to r k x) x) (elim (cases_lt r bound) [
-          | inl earlier ↦ lt-ltb r bound earlier ∙ sym (lt-ltb r (bound + 1) (omega (arith, earlier)))
-          | inr later ↦ le-ltb r bound (omega (arith, later)) ∙ sym (le-ltb r (bound + 1) (omega (arith, later, other)))
-        ])
-  ]
-
+  -- an owner's turn comes, where those before it were changed already
   owners_turned : (bound : ℕ) (now : ℕ → ℕ → ℕ → ℕ) (mid new : List ℕ) → ArePlanesChanged (owners_changed to bound) nodes keys old mid → ArePlanesChanged (owner_changed now bound) nodes keys mid new
       → ((k x : ℕ) → k < keys → now bound k x ≡ to bound k x) → ArePlanesChanged (owners_changed to (bound + 1)) nodes keys old new
   owners_turned bound now mid new before after same = record {
     size = after.size ∙ before.size;
     each = λ r k in_node in_key.
-        owner_turn bound r (now r k) k (cell old nodes r k) (cell mid nodes r k) (cell new nodes r k) (before.each r k in_node in_key) (after.each r k in_node in_key)
-        (λ here. ap (λ o. now o k (cell old nodes r k)) here ∙ same k (cell old nodes r k) in_key ∙ ap (λ o. to o k (cell old nodes r k)) (sym here));
+        let was = before.each r k in_node in_key in
+        let then = after.each r k in_node in_key in
+        let here = same k (cell old nodes r k) in_key in
+        grind (arith, nat_tests);
   }
 
   pub owners-next : (bound : ℕ) (now : ℕ → ℕ → ℕ → ℕ) (mid new : List ℕ) → ArePlanesChanged (owners_changed to bound) nodes keys old mid → ArePlanesChanged (owner_changed now bound) nodes keys mid new
@@ -127,11 +90,7 @@ module _ (to : ℕ → ℕ → ℕ → ℕ) (nodes keys : ℕ) (old : List ℕ) 
   owners-next bound now mid new before after same = owners_turned bound now mid new before after (λ k x _. same k x)
 
   pub owners-stay : (bound : ℕ) (mid : List ℕ) → ArePlanesChanged (owners_changed to bound) nodes keys old mid → ((k x : ℕ) → k < keys → to bound k x ≡ x) → ArePlanesChanged (owners_changed to (bound + 1)) nodes keys old mid
-  owners-stay bound mid before same = owners_turned bound (λ r k y. y) mid mid before (record { size = refl; each = λ r k _ _. either_same (r == bound) (cell mid nodes r k) }) (λ k x lt. sym (same k x lt))
-    where
-      either_same : (b : Bool) (y : ℕ) → y ≡ cond b y y
-      either_same true y = refl
-      either_same false y = refl
+  owners-stay bound mid before same = owners_turned bound (λ r k y. y) mid mid before (record { size = refl; each = λ r k _ _. grind (arith, nat_tests) }) (λ k x lt. sym (same k x lt))
 
   pub owners-all : (bound : ℕ) (mid : List ℕ) → nodes ≤ bound → ArePlanesChanged (owners_changed to bound) nodes keys old mid → ArePlanesChanged (λ r k x y. y ≡ to r k x) nodes keys old mid
   owners-all bound mid le before = record {
@@ -144,60 +103,46 @@ module _ (to : ℕ → ℕ → ℕ → ℕ) (nodes keys : ℕ) (old : List ℕ) 
   owner-waits bound mid before k in_node in_key =
       before.each bound k in_node in_key ∙ ap (λ b. cond b (to bound k (cell old nodes bound k)) (cell old nodes bound k)) (le-ltb bound bound (omega arith))
 
--- a greatest number above all stays, where a number that is no greater comes
-pub raised-past : (cells : Cells) (key owner x y : ℕ) → IsRaised cells key owner x y → cells owner key ≤ x → IsRaised cells (key + 1) owner x y
-raised-past cells key owner x y before le = record {
-  rises = before.rises;
-  upto = λ k lt. elim (cases_lt k key) [
-    | inl earlier ↦ before.upto k earlier
-    | inr not_earlier ↦ subst (λ j. cells owner j ≤ y) {x = key} {y = k} (omega (arith, lt, not_earlier)) (omega (arith, le, before.rises))
-  ];
-  from = elim before.from [
-    | inl old ↦ inl old
-    | inr (k, lt, is) ↦ inr (k, omega (arith, lt), is)
-  ];
-}
-
-pub raised-stays : (cells : Cells) (keys owner x : ℕ) → HasNoneAbove cells keys owner x → IsRaised cells keys owner x x
-raised-stays cells keys owner x covered = record { rises = omega arith; upto = covered; from = inl refl }
-
 pub raised-same : (one other : Cells) (keys owner x y : ℕ) → ((k : ℕ) → k < keys → one owner k ≡ other owner k) → IsRaised one keys owner x y → IsRaised other keys owner x y
 raised-same one other keys owner x y same is = record {
   rises = is.rises;
   upto = λ k lt. subst (λ n. n ≤ y) (same k lt) (is.upto k lt);
-  from = elim is.from [
-    | inl old ↦ inl old
-    | inr (k, lt, e) ↦ inr (k, lt, sym (same k lt) ∙ e)
-  ];
+  from = elim is.from [ inl old ↦ inl old | inr (k, lt, e) ↦ inr (k, lt, sym (same k lt) ∙ e) ];
 }
 
--- nothing is raised where nothing is above the mark
-pub raised-none_above : (x other low : ℕ) → other ≤ low → number_raised x other low ≡ x
-raised-none_above x other low le = ap (λ b. max x (cond b other 0)) (le-ltb low other le) ∙ omega arith
+-- of the owners below a bound each number is raised to another table's, where that is above the owner's mark, and so many are
+pub record HaveCome (nodes keys : ℕ) (others : List ℕ) (low : ℕ → ℕ) (old new : List ℕ) (bound raised : ℕ) : Type 0 where
+  pub cells : ArePlanesChanged (owners_changed (λ r k x. number_raised x (cell others nodes r k) (low r)) bound) nodes keys old new
+  pub count : raised ≡ sum_below bound (λ r. count_above (cell others nodes) keys r (low r))
 
--- an owner's numbers that come from another table
-module _ (nodes keys : ℕ) (cells others : List ℕ) (low : ℕ → ℕ) (owner : ℕ) (in_nodes : owner < nodes) where
+module _ (nodes keys : ℕ) (others : List ℕ) (low : ℕ → ℕ) (old : List ℕ) where
   abbrev raised_in : ℕ → ℕ → ℕ → ℕ
   raised_in r k x = number_raised x (cell others nodes r k) (low r)
 
-  -- they come, and the other table still has that owner's as they were
-  pub raise-next : (mid others_mid new : List ℕ) (mark : ℕ) (to_others : ℕ → ℕ → ℕ → ℕ) → ArePlanesChanged (owners_changed raised_in owner) nodes keys cells mid → ArePlanesChanged (owners_changed to_others owner) nodes keys others others_mid → mark ≡ low owner
-      → ArePlanesChanged (λ r k x y. y ≡ cond (r == owner) (number_raised x (cell others_mid nodes r k) mark) x) nodes keys mid new
-      → ArePlanesChanged (owners_changed raised_in (owner + 1)) nodes keys cells new
-  raise-next mid others_mid new mark to_others before waits same now = owners_turned raised_in nodes keys cells owner (λ r k y. number_raised y (cell others_mid nodes r k) mark) mid new before now
-      (λ k x lt i. number_raised x (owner-waits to_others nodes keys others owner others_mid waits k in_nodes lt i) (same i))
+  pub come-none : HaveCome nodes keys others low old old 0 0
+  come-none = record { cells = owners-none raised_in nodes keys old; count = refl }
 
-  -- so many
-  pub raise-count : (others_mid : List ℕ) (mark count : ℕ) (to_others : ℕ → ℕ → ℕ → ℕ) → ArePlanesChanged (owners_changed to_others owner) nodes keys others others_mid → count ≡ count_above (cell others_mid nodes) keys owner mark
-      → count ≡ count_above (cell others nodes) keys owner mark
-  raise-count others_mid mark count to_others waits now =
-      now ∙ sum_below-same keys _ _ (λ k lt. ap (λ n. cond (nat_lt mark n) 1 0) (owner-waits to_others nodes keys others owner others_mid waits k in_nodes lt))
+  -- an owner's numbers come, while the other table still has them as they were
+  pub come-next : {N : Type 0} (number : N → ℕ) (owner : ℕ) (low_of_others : ℕ → ℕ) (others_mid mid new : List N) (came count more : ℕ) (mark : N) → owner < nodes
+      → HaveCome nodes keys old low_of_others others (map number others_mid) owner came → HaveCome nodes keys others low old (map number mid) owner count
+      → number mark ≡ low owner → HasRaisedOwner number nodes keys owner others_mid mark mid new more → HaveCome nodes keys others low old (map number new) (owner + 1) (count + more)
+  come-next number owner low_of_others others_mid mid new came count more mark lt waits before same now =
+      let there = owner-waits (λ r k x. number_raised x (cell old nodes r k) (low_of_others r)) nodes keys others owner (map number others_mid) waits.cells in
+      record {
+        cells =
+            owners_turned raised_in nodes keys old owner (λ r k y. number_raised y (cell (map number others_mid) nodes r k) (number mark)) (map number mid) (map number new) before.cells now.cells
+            (λ k x in_keys i. number_raised x (there k lt in_keys i) (same i));
+        count =
+            owner_counted (cell others nodes) keys low owner count more (number mark) before.count
+            (now.count ∙ sum_below-same keys _ _ (λ k in_keys. ap (λ n. cond (nat_lt (number mark) n) 1 0) (there k lt in_keys))) same;
+      }
 
-  pub raise-fits : (others_mid : List ℕ) (mark total count : ℕ) (to_others : ℕ → ℕ → ℕ → ℕ) → nodes ≤ MOST_NODES → keys ≤ MOST_KEYS → total ≡ sum_below owner (λ r. count_above (cell others nodes) keys r (low r))
-      → ArePlanesChanged (owners_changed to_others owner) nodes keys others others_mid → count ≡ count_above (cell others_mid nodes) keys owner mark → Fits w32 (total + count)
-  raise-fits others_mid mark total count to_others few_nodes few_keys so_far waits now =
-      owners-fit (cell others nodes) nodes keys low owner total count mark few_nodes few_keys in_nodes so_far (raise-count others_mid mark count to_others waits now)
+  -- or none comes
+  pub come-passed : (owner : ℕ) (mid : List ℕ) (count high : ℕ) → HaveCome nodes keys others low old mid owner count → HasNoneAbove (cell others nodes) keys owner high → high ≤ low owner → HaveCome nodes keys others low old mid (owner + 1) count
+  come-passed owner mid count high before covered le = record {
+    cells = owners-stay raised_in nodes keys old owner mid before.cells (λ k x lt. let none = covered k lt in grind (arith, nat_tests));
+    count = owner_passed (cell others nodes) keys low owner count high before.count covered le;
+  }
 
-  -- none comes
-  pub raise-passed : (mid : List ℕ) (high : ℕ) → ArePlanesChanged (owners_changed raised_in owner) nodes keys cells mid → HasNoneAbove (cell others nodes) keys owner high → high ≤ low owner → ArePlanesChanged (owners_changed raised_in (owner + 1)) nodes keys cells mid
-  raise-passed mid high before covered le = owners-stay raised_in nodes keys cells owner mid before (λ k x lt. raised-none_above x (cell others nodes owner k) (low owner) (omega (arith, covered k lt, le)))
+  pub come-fits : (owner : ℕ) (new : List ℕ) (size count : ℕ) → IsGrid nodes keys size → owner < nodes → HaveCome nodes keys others low old new (owner + 1) count → Fits w32 count
+  come-fits owner new size count grid lt is = owners-fit (cell others nodes) nodes keys size low owner count grid lt is.count

@@ -1,10 +1,8 @@
 -- Lists that are changed element by element.
--- Serves the functions of `grids`, `lags`, `merges`, `owners` and `planes`, `delta_plans`, `version_lags` and
--- `version_tables`.
-use Rattle.planes.proofs.Common.{◌≡◌, ℕ, ◌+◌, ◌<◌, ◌≤◌, List, length, [], ◌++◌, ◌-◌, get_or, set, map, min, take, replicate, inl, inr, refl, sym, ap, ◌∙◌, subst, arith, take-nil, cases_eq, cases_lt, get_or-set_same, get_or-set_other, length-set, get_or-map, get_or-replicate, length-map, length-replicate, map-set}
-use Rattle.planes.specs.Planes.{HasEach}
-use Rattle.planes.specs.Elementwise.{AreChangedUpto, AreChanged}
-use Rattle.planes.specs.inner.Answering.{IsLowered, IsMade}
+-- Serves the functions of `grids`, `lags`, `merges`, `owners` and `planes`, `Behind`, `Places`, `delta_plans`,
+-- `version_lags` and `version_tables`.
+use Rattle.planes.proofs.Common.{◌≡◌, ℕ, ◌+◌, ◌<◌, ◌≤◌, List, length, [], ◌++◌, ◌-◌, get_or, set, map, min, take, replicate, refl, sym, ap, ◌∙◌, subst, arith, below_more, take-nil, get_or-set_same, get_or-set_other, length-set, get_or-map, get_or-replicate, length-map, length-replicate, map-set, Bool, cond, HasEach, AreChangedUpto, AreChanged, IsLowered, IsMade, AreCountedUpto}
+use Rattle.planes.proofs.Counts.{count_next, count_same}
 
 -- what is read at an index, as a number
 pub number-at : {N : Type 0} (number : N → ℕ) (xs : List N) (r : ℕ) (x : N) → r < length xs → x ≡ get_or xs r x → number x ≡ get_or (map number xs) r 0
@@ -12,18 +10,14 @@ number-at number xs r x lt is = ap number is ∙ sym (get_or-map number xs r x 0
 
 -- an empty vector that is filled up
 pub filled : {N : Type 0} (count : ℕ) (x : N) (old new : List N) (len : ℕ) → old ≡ [] → len ≡ 0 → new ≡ take count old ++ replicate (count - len) x → new ≡ replicate count x
-filled count x old new len none empty is =
-    is ∙ ap (λ xs. take count xs ++ replicate (count - len) x) none ∙ ap (λ xs. xs ++ replicate (count - len) x) (take-nil count)
-    ∙ ap (λ n. replicate n x) {x = count - len} {y = count} (omega (arith, empty))
+filled count x old new len none empty is = rw (is, none, take-nil) (ap (λ n. replicate n x) {x = count - len} {y = count} (omega (arith, empty)))
 
 -- the same number again and again
 pub all-same : {N : Type 0} (number : N → ℕ) (count : ℕ) (x : N) (xs : List N) → xs ≡ replicate count x → HasEach count (λ r n. n ≡ number x) (map number xs)
-all-same number count x xs is = record {
-  size = length-map xs number ∙ ap length is ∙ length-replicate count x;
-  each = λ r lt.
-      get_or-map number xs r x 0 (omega (arith, lt, ap length is, length-replicate count x))
-      ∙ ap number (ap (λ ys. get_or ys r x) is ∙ get_or-replicate count r x x lt);
-}
+all-same number count x xs is = rw is (record {
+  size = omega (arith, length-map (replicate count x) number, length-replicate count x);
+  each = λ r lt. get_or-map number (replicate count x) r x 0 (omega (arith, lt, length-replicate count x)) ∙ ap number (get_or-replicate count r x x lt);
+})
 
 module _ (changed : ℕ → ℕ → ℕ → Type 0) (old : List ℕ) where
   pub changed_none : AreChangedUpto changed old old 0
@@ -36,11 +30,8 @@ module _ (changed : ℕ → ℕ → ℕ → Type 0) (old : List ℕ) where
   changed_next : (new : List ℕ) (bound x : ℕ) → AreChangedUpto changed old new bound → bound < length old → changed bound (get_or old bound 0) x → AreChangedUpto changed old (set new bound x) (bound + 1)
   changed_next new bound x is lt now = record {
     size = length-set new bound x ∙ is.size;
-    below = λ r below. elim (cases_eq r bound) [
-      | inl here ↦ subst (λ k. changed k (get_or old k 0) (get_or (set new bound x) k 0)) (sym here)
-          (subst (changed bound (get_or old bound 0)) (sym (get_or-set_same new bound x 0 (omega (arith, lt, is.size)))) now)
-      | inr other ↦ subst (changed r (get_or old r 0)) (sym (get_or-set_other new bound r x 0 other)) (is.below r (omega (arith, below, other)))
-    ];
+    below = below_more (λ k. changed k (get_or old k 0) (get_or (set new bound x) k 0)) bound
+        (λ r below. rw (get_or-set_other new bound r x 0 (λ e. omega (arith, e, below))) (is.below r below)) (rw (get_or-set_same new bound x 0 (omega (arith, lt, is.size))) now);
     from = λ r le. get_or-set_other new bound r x 0 (λ e. omega (arith, e, le)) ∙ is.from r (omega (arith, le));
   }
 
@@ -51,29 +42,30 @@ module _ (changed : ℕ → ℕ → ℕ → Type 0) (old : List ℕ) where
   pub left_next : (new : List ℕ) (bound : ℕ) → AreChangedUpto changed old new bound → changed bound (get_or old bound 0) (get_or old bound 0) → AreChangedUpto changed old new (bound + 1)
   left_next new bound is same = record {
     size = is.size;
-    below = λ r lt. elim (cases_lt r bound) [
-      | inl earlier ↦ is.below r earlier
-      | inr not_earlier ↦ subst (λ k. changed k (get_or old k 0) (get_or new k 0)) {x = bound} {y = r} (omega (arith, lt, not_earlier))
-          (subst (changed bound (get_or old bound 0)) (sym (is.from bound (omega arith))) same)
-    ];
+    below = below_more (λ k. changed k (get_or old k 0) (get_or new k 0)) bound is.below (rw (is.from bound (omega arith)) same);
     from = λ r le. is.from r (omega (arith, le));
   }
 
   -- one more number is written
   pub written_next : {N : Type 0} (number : N → ℕ) (new : List N) (bound : ℕ) (x : N) → AreChangedUpto changed old (map number new) bound → bound < length old → changed bound (get_or old bound 0) (number x) → AreChangedUpto changed old (map number (set new bound x)) (bound + 1)
   written_next number new bound x is lt now =
-      subst (λ xs. AreChangedUpto changed old xs (bound + 1)) (sym (map-set number new bound x)) (changed_next (map number new) bound (number x) is lt now)
+      rw (map-set number new bound x) (changed_next (map number new) bound (number x) is lt now)
 
-  -- a loop over a part writes from where the part begins
-  pub part-begun : (new : List ℕ) (from : ℕ) → AreChangedUpto changed old new from → AreChangedUpto changed old new (from + 0)
-  part-begun new from = subst (AreChangedUpto changed old new) {x = from} {y = from + 0} (omega arith)
+  -- those that pass a test are counted
+  module _ (test : ℕ → Bool) where
+    pub counted_none : AreCountedUpto changed test old old 0 0
+    counted_none = record { numbers = changed_none; count = refl }
 
-  pub part-written : {N : Type 0} (number : N → ℕ) (new : List N) (from i : ℕ) (x : N) → AreChangedUpto changed old (map number new) (from + i) → from + i < length old → changed (from + i) (get_or old (from + i) 0) (number x)
-      → AreChangedUpto changed old (map number (set new (from + i) x)) (from + (i + 1))
-  part-written number new from i x is lt now = subst (AreChangedUpto changed old (map number (set new (from + i) x))) {x = from + i + 1} {y = from + (i + 1)} (omega arith) (written_next number new (from + i) x is lt now)
+    pub counted_next : {N : Type 0} (number : N → ℕ) (new : List N) (bound to before passed now more : ℕ) (x : N) → AreCountedUpto changed test old (map number new) bound (before + passed) → bound < length new → bound + 1 ≡ to
+        → changed bound (get_or old bound 0) (number x) → now ≡ passed + more → more ≡ cond (test bound) 1 0 → AreCountedUpto changed test old (map number (set new bound x)) to (before + now)
+    counted_next number new bound to before passed now more x is lt next made plus one = record {
+      numbers = rw (← next) (written_next number new bound x is.numbers (omega (arith, lt, is.numbers.size, length-map new number)) made);
+      count = count_next test bound to before passed now is.count next plus one;
+    }
 
-  pub part-whole : (new : List ℕ) (from i size : ℕ) → AreChangedUpto changed old new (from + i) → size ≤ i → i ≤ size → AreChangedUpto changed old new (from + size)
-  part-whole new from i size is le ge = subst (AreChangedUpto changed old new) {x = from + i} {y = from + size} (omega (arith, le, ge)) is
+    -- a loop over a part begins where the part before it ends
+    pub counted-same : (new : List ℕ) (bound to count now : ℕ) → AreCountedUpto changed test old new bound count → bound ≡ to → count ≡ now → AreCountedUpto changed test old new to now
+    counted-same new bound to count now is at same = record { numbers = subst (AreChangedUpto changed old new) at is.numbers; count = count_same test bound to count now is.count at same }
 
 -- what calls make of numbers, where each makes what a function does
 pub made-as : {N : Type 0} (number : N → ℕ) (makes : ℕ → N → N → Type 0) (r x y : ℕ) (f : ℕ → ℕ) → IsMade number makes r x y → ((n m : N) → makes r n m → number m ≡ f (number n)) → y ≡ f x

@@ -3,5 +3,4 @@ pub mod Counts
 pub mod Places
 pub mod Behind
 pub mod ByOwner
-pub mod Leads
 pub mod Common

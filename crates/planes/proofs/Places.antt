@@ -1,14 +1,16 @@
 -- The numbers of a table's planes, one after another.
 -- Serves the functions of `ends`, `grids`, `lags`, `merges` and `owners`, `Behind`, `delta_plans` and
 -- `version_tables`.
-use Rattle.planes.proofs.Common.{◌≡◌, ℕ, zero, suc, Fits, w32, ◌+◌, ◌*◌, ◌-◌, ◌<◌, ◌≤◌, Bool, cond, List, ◌++◌, length, get_or, map, take, drop, nat_lt, max, inl, inr, refl, sym, ap, ◌∙◌, subst, arith, mul-le-mul_right, cases_lt, lt-ltb, le-ltb, get_or-take, get_or-drop, length-map, length-append, length-drop, length-take-le, get_or_append_left, get_or-append_right, map-append, take-map, drop-map, put_mid, post_of, MOST_NODES, MOST_KEYS, sum_below, sum_below-same, sum_below-turned}
-use Rattle.planes.specs.Elementwise.{AreChanged}
-use Rattle.planes.specs.Planes.{Cells, IsRaised, cell, number_ahead, total_above, total_of, IsGrid, HasEach, ArePlanesChangedUpto, ArePlanesChanged}
-use Rattle.planes.proofs.Counts.{count_le}
+use Rattle.planes.proofs.Common.{◌≡◌, ℕ, Fits, w32, ◌+◌, ◌*◌, ◌-◌, ◌<◌, ◌≤◌, Bool, cond, nat_tests, List, ◌++◌, length, get_or, map, take, drop, nat_lt, max, inl, inr, refl, sym, ap, ◌∙◌, subst, arith, rules, places, mul-le-mul_right, below_more, cases_lt, get_or-take, get_or-drop, length-map, length-append, length-drop, length-take-le, map-append, take-map, drop-map, put_mid, post_of, MOST_NODES, sum_below, sum_below-most, sum_below-same, sum_below-turned, AreChanged, Cells, IsRaised, cell, number_ahead, total_above, total_of, IsGrid, HasEach, ArePlanesChangedUpto, ArePlanesChanged, AreCountedUpto, AreRaisedUpto, number_raised}
+use Rattle.planes.proofs.Elementwise.{changed_all}
+use Rattle.planes.proofs.Counts.{count_le, sum_next}
 
 -- a key's plane lies within the planes
 pub plane-within : (nodes keys size key : ℕ) → IsGrid nodes keys size → key < keys → key * nodes + nodes ≤ size
 plane-within nodes keys size key grid lt = omega (arith, grid.whole, mul-le-mul_right {m = key + 1} {n = keys} nodes (omega (arith, lt)))
+
+pub grid-within : {N : Type 0} (number : N → ℕ) (nodes keys key : ℕ) (xs : List N) → IsGrid nodes keys (length xs) → key < keys → key * nodes + nodes ≤ length (map number xs)
+grid-within number nodes keys key xs grid lt = omega (arith, length-map xs number, plane-within nodes keys (length xs) key grid lt)
 
 -- one more plane is counted
 pub each-next : (nodes : ℕ) (is next : ℕ → ℕ → Type 0) (changed : ℕ → ℕ → ℕ → Type 0) (old new : List ℕ) → HasEach nodes is old → AreChanged changed old new
@@ -22,13 +24,6 @@ each-next nodes is next changed old new before now step = record {
 pub plane_count : (nodes : ℕ) (one other : ℕ → Bool) (n x : ℕ) → n ≡ nodes → x ≡ sum_below n (λ r. cond (one r) 1 0) → ((r : ℕ) → r < nodes → one r ≡ other r) → x ≡ sum_below nodes (λ r. cond (other r) 1 0)
 plane_count nodes one other n x size is same = is ∙ ap (λ m. sum_below m (λ r. cond (one r) 1 0)) size ∙ sum_below-same nodes _ _ (λ r lt. ap (λ b. cond b 1 0) (same r lt))
 
-sums_le : (nodes keys : ℕ) (test : ℕ → ℕ → Bool) → nodes ≤ MOST_NODES → sum_below keys (λ k. sum_below nodes (λ r. cond (test r k) 1 0)) ≤ keys * MOST_NODES
-sums_le nodes zero test few = omega arith
-sums_le nodes (suc keys) test few = omega (arith, sums_le nodes keys test few, count_le nodes (λ r. test r keys), few)
-
-pub total_fits : (nodes keys key : ℕ) (test : ℕ → ℕ → Bool) (x z : ℕ) → nodes ≤ MOST_NODES → keys ≤ MOST_KEYS → key < keys → x ≡ sum_below key (λ k. sum_below nodes (λ r. cond (test r k) 1 0)) → z ≡ sum_below nodes (λ r. cond (test r key) 1 0) → Fits w32 (x + z)
-total_fits nodes keys key test x z few_nodes few_keys lt is now = omega (arith, is, now, lt, few_nodes, few_keys, sums_le nodes key test few_nodes, count_le nodes (λ r. test r key))
-
 pub total_whole : (nodes keys key : ℕ) (test : ℕ → ℕ → Bool) (x : ℕ) → x ≡ sum_below key (λ k. sum_below nodes (λ r. cond (test r k) 1 0)) → keys ≤ key → key ≤ keys → x ≡ total_of nodes keys test
 total_whole nodes keys key test x is le ge =
     is
@@ -38,22 +33,11 @@ total_whole nodes keys key test x is le ge =
 pub total-same : (nodes keys : ℕ) (one other : ℕ → ℕ → Bool) → ((r k : ℕ) → r < nodes → k < keys → one r k ≡ other r k) → total_of nodes keys one ≡ total_of nodes keys other
 total-same nodes keys one other same = sum_below-same nodes _ _ (λ r in_nodes. sum_below-same keys _ _ (λ k in_keys. ap (λ b. cond b 1 0) (same r k in_nodes in_keys)))
 
--- a number that is kept is above the mark, and 0 isn't
-pub kept-above : (number peer low : ℕ) → nat_lt (max peer low) number ≡ nat_lt low (number_ahead number peer low)
-kept-above number peer low = elim (cases_lt (max peer low) number) [
-  | inl ahead ↦
-      lt-ltb (max peer low) number ahead ∙ sym (lt-ltb low number (omega (arith, ahead)))
-      ∙ ap (nat_lt low) (sym (ap (λ b. cond b number 0) (lt-ltb (max peer low) number ahead)))
-  | inr not_ahead ↦
-      le-ltb (max peer low) number (omega (arith, not_ahead)) ∙ sym (le-ltb low 0 (omega arith))
-      ∙ ap (nat_lt low) (sym (ap (λ b. cond b number 0) (le-ltb (max peer low) number (omega (arith, not_ahead)))))
-]
-
--- how many are kept
+-- how many are kept: such a number is above the mark, and 0 isn't
 pub total-kept : (nodes keys : ℕ) (peer : ℕ → ℕ → ℕ) (low old new : List ℕ) (count : ℕ) → count ≡ total_of nodes keys (λ r k. nat_lt (max (peer r k) (get_or low r 0)) (cell old nodes r k))
     → ArePlanesChanged (λ r k x y. y ≡ number_ahead x (peer r k) (get_or low r 0)) nodes keys old new → count ≡ total_above nodes keys new low
 total-kept nodes keys peer low old new count is kept =
-    is ∙ total-same nodes keys _ _ (λ r k in_nodes in_keys. kept-above (cell old nodes r k) (peer r k) (get_or low r 0) ∙ ap (nat_lt (get_or low r 0)) (sym (kept.each r k in_nodes in_keys)))
+    is ∙ total-same nodes keys _ _ (λ r k in_nodes in_keys. let now = kept.each r k in_nodes in_keys in grind (arith, nat_tests))
 
 -- a block that is written among planes
 module _ (start nodes : ℕ) (xs ys : List ℕ) (within : start + nodes ≤ length xs) (size : length ys ≡ nodes) where
@@ -61,30 +45,19 @@ module _ (start nodes : ℕ) (xs ys : List ℕ) (within : start + nodes ≤ leng
   front = length-take-le start xs (omega (arith, within))
 
   laid-before : (i : ℕ) → i < start → get_or (put_mid start nodes xs ys) i 0 ≡ get_or xs i 0
-  laid-before i lt = get_or_append_left (take start xs) (ys ++ post_of start nodes xs) 0 i (omega (arith, lt, front)) ∙ get_or-take start xs i 0 lt
+  laid-before i lt = search (rules, places)
 
   laid-here : (r : ℕ) → r < nodes → get_or (put_mid start nodes xs ys) (start + r) 0 ≡ get_or ys r 0
-  laid-here r lt =
-      get_or-append_right (take start xs) (ys ++ post_of start nodes xs) start (start + r) 0 front (omega arith)
-      ∙ ap (λ j. get_or (ys ++ post_of start nodes xs) j 0) {x = start + r - start} {y = r} (omega arith)
-      ∙ get_or_append_left ys (post_of start nodes xs) 0 r (omega (arith, lt, size))
+  laid-here r lt = search (rules, places)
 
   laid-behind : (i : ℕ) → start + nodes ≤ i → get_or (put_mid start nodes xs ys) i 0 ≡ get_or xs i 0
-  laid-behind i le =
-      get_or-append_right (take start xs) (ys ++ post_of start nodes xs) start i 0 front (omega (arith, le))
-      ∙ get_or-append_right ys (post_of start nodes xs) nodes (i - start) 0 size (omega (arith, le))
-      ∙ get_or-drop nodes (drop start xs) (i - start - nodes) 0
-      ∙ get_or-drop start xs (nodes + (i - start - nodes)) 0
-      ∙ ap (λ j. get_or xs j 0) {x = start + (nodes + (i - start - nodes))} {y = i} (omega (arith, le))
+  laid-behind i le = search (rules, places)
 
   laid-length : length (put_mid start nodes xs ys) ≡ length xs
   laid-length = omega (arith, length-append (take start xs) (ys ++ post_of start nodes xs), length-append ys (post_of start nodes xs), length-drop nodes (drop start xs), length-drop start xs, front, size, within)
 
 map-put_mid : {N : Type 0} (number : N → ℕ) (start nodes : ℕ) (xs ys : List N) → map number (put_mid start nodes xs ys) ≡ put_mid start nodes (map number xs) (map number ys)
-map-put_mid number start nodes xs ys =
-    map-append number (take start xs) (ys ++ post_of start nodes xs)
-    ∙ (λ i. sym (take-map number start xs) i ++ map-append number ys (post_of start nodes xs) i)
-    ∙ (λ i. take start (map number xs) ++ (map number ys ++ (sym (drop-map number nodes (drop start xs)) ∙ ap (drop nodes) (sym (drop-map number start xs))) i))
+map-put_mid number start nodes xs ys = simp (map-append, take-map, drop-map)
 
 -- a part of numbers is written anew
 module _ {N : Type 0} (number : N → ℕ) (start n : ℕ) (xs ys : List N) (within : start + n ≤ length xs) (size : length ys ≡ n) where
@@ -98,16 +71,16 @@ module _ {N : Type 0} (number : N → ℕ) (start n : ℕ) (xs ys : List N) (wit
   part-here r lt = ap (λ zs. get_or zs (start + r) 0) (map-put_mid number start n xs ys) ∙ laid-here start n (map number xs) (map number ys) room_for size_of r lt
 
   pub part-written : (nodes : ℕ) (is : ℕ → ℕ → Type 0) → HasEach nodes is (map number xs) → ((r : ℕ) → r < n → is (start + r) (get_or (map number ys) r 0)) → HasEach nodes is (map number (put_mid start n xs ys))
-  part-written nodes is before now = subst (HasEach nodes is) (sym (map-put_mid number start n xs ys)) (record {
+  part-written nodes is before now = rw (map-put_mid number start n xs ys) (record {
     size = laid-length start n (map number xs) (map number ys) room_for size_of ∙ before.size;
     each = λ r lt. elim (cases_lt r start) [
-      | inl front ↦ subst (is r) (sym (laid-before start n (map number xs) (map number ys) room_for size_of r front)) (before.each r lt)
+      | inl front ↦ rw (laid-before start n (map number xs) (map number ys) room_for size_of r front) (before.each r lt)
       | inr not_front ↦ elim (cases_lt r (start + n)) [
-        | inr behind ↦ subst (is r) (sym (laid-behind start n (map number xs) (map number ys) room_for size_of r (omega (arith, behind)))) (before.each r lt)
+        | inr behind ↦ rw (laid-behind start n (map number xs) (map number ys) room_for size_of r (omega (arith, behind))) (before.each r lt)
         | inl here ↦
             let inside : r - start < n = omega (arith, not_front, here) in
             subst (λ j. is j (get_or (put_mid start n (map number xs) (map number ys)) j 0)) {x = start + (r - start)} {y = r} (omega (arith, not_front))
-            (subst (is (start + (r - start))) (sym (laid-here start n (map number xs) (map number ys) room_for size_of (r - start) inside)) (now (r - start) inside))
+            (rw (laid-here start n (map number xs) (map number ys) room_for size_of (r - start) inside) (now (r - start) inside))
       ]
     ];
   })
@@ -117,57 +90,37 @@ module _ (changed : ℕ → ℕ → ℕ → ℕ → Type 0) (nodes : ℕ) (old :
   pub planes-none : ArePlanesChangedUpto changed nodes old old 0
   planes-none = record { size = refl; below = λ r k lt below. absurd (omega (arith, below)); from = λ i le. refl }
 
-  planes_step : (xs ys : List ℕ) (key : ℕ) → ArePlanesChangedUpto changed nodes old xs key → key * nodes + nodes ≤ length old
+  planes-next : (xs ys : List ℕ) (key : ℕ) → ArePlanesChangedUpto changed nodes old xs key → key * nodes + nodes ≤ length old
       → length ys ≡ nodes → ((r : ℕ) → r < nodes → changed r key (cell old nodes r key) (get_or ys r 0))
       → ArePlanesChangedUpto changed nodes old (put_mid (key * nodes) nodes xs ys) (key + 1)
-  planes_step xs ys key before within size now = record {
+  planes-next xs ys key before within size now = record {
     size = laid-length (key * nodes) nodes xs ys room size ∙ before.size;
-    below = λ r k lt below. elim (cases_lt k key) [
-      | inl earlier ↦
-          let inside : k * nodes + r < key * nodes = omega (arith, lt, mul-le-mul_right {m = k + 1} {n = key} nodes (omega (arith, earlier))) in
-          subst (changed r k (cell old nodes r k)) (sym (laid-before (key * nodes) nodes xs ys room size (k * nodes + r) inside)) (before.below r k lt earlier)
-      | inr not_earlier ↦
-          subst (λ j. changed r j (cell old nodes r j) (cell (put_mid (key * nodes) nodes xs ys) nodes r j)) {x = key} {y = k} (omega (arith, below, not_earlier))
-          (subst (changed r key (cell old nodes r key)) (sym (laid-here (key * nodes) nodes xs ys room size r lt)) (now r lt))
-    ];
+    below = λ r k lt. below_more (λ j. changed r j (cell old nodes r j) (cell (put_mid (key * nodes) nodes xs ys) nodes r j)) key
+        (λ j earlier. rw (laid-before (key * nodes) nodes xs ys room size (j * nodes + r) (omega (arith, lt, mul-le-mul_right {m = j + 1} {n = key} nodes (omega (arith, earlier))))) (before.below r j lt earlier))
+        (rw (laid-here (key * nodes) nodes xs ys room size r lt) (now r lt)) k;
     from = λ i le. laid-behind (key * nodes) nodes xs ys room size i (omega (arith, le)) ∙ before.from i (omega (arith, le));
   }
     where
       room : key * nodes + nodes ≤ length xs
       room = omega (arith, within, before.size)
 
-  pub planes-next : {N : Type 0} (number : N → ℕ) (xs ys : List N) (key : ℕ) → ArePlanesChangedUpto changed nodes old (map number xs) key → key * nodes + nodes ≤ length old
-      → length (map number ys) ≡ nodes → ((r : ℕ) → r < nodes → changed r key (cell old nodes r key) (get_or (map number ys) r 0))
-      → ArePlanesChangedUpto changed nodes old (map number (put_mid (key * nodes) nodes xs ys)) (key + 1)
-  planes-next number xs ys key before within size now =
-      subst (λ zs. ArePlanesChangedUpto changed nodes old zs (key + 1)) (sym (map-put_mid number (key * nodes) nodes xs ys)) (planes_step (map number xs) (map number ys) key before within size now)
-
   pub planes-all : (xs : List ℕ) (keys key : ℕ) → ArePlanesChangedUpto changed nodes old xs key → keys ≤ key → ArePlanesChanged changed nodes keys old xs
   planes-all xs keys key is le = record { size = is.size; each = λ r k lt below. is.below r k lt (omega (arith, below, le)) }
-
--- a plane of planes
-plane_cells : {N : Type 0} (number : N → ℕ) (nodes key : ℕ) (xs : List N) → key * nodes + nodes ≤ length xs → HasEach nodes (λ r n. n ≡ cell (map number xs) nodes r key) (map number (take nodes (drop (key * nodes) xs)))
-plane_cells number nodes key xs within = record {
-  size = length-map (take nodes (drop (key * nodes) xs)) number ∙ length-take-le nodes (drop (key * nodes) xs) (omega (arith, length-drop (key * nodes) xs, within));
-  each = λ r lt.
-      ap (λ zs. get_or zs r 0) (sym (ap (take nodes) (drop-map number (key * nodes) xs) ∙ take-map number nodes (drop (key * nodes) xs)))
-      ∙ get_or-take nodes (drop (key * nodes) (map number xs)) r 0 lt
-      ∙ get_or-drop (key * nodes) (map number xs) r 0;
-}
 
 -- a part of a list
 pub window-at : {N : Type 0} (number : N → ℕ) (start count n : ℕ) (xs : List N) → n ≡ count → (r : ℕ) → r < count → get_or (map number (take n (drop start xs))) r 0 ≡ get_or (map number xs) (start + r) 0
 window-at number start count n xs is r lt =
-    ap (λ zs. get_or zs r 0) (sym (ap (take n) (drop-map number start xs) ∙ take-map number n (drop start xs)))
-    ∙ get_or-take n (drop start (map number xs)) r 0 (omega (arith, lt, is))
-    ∙ get_or-drop start (map number xs) r 0
+    rw (← take-map number n (drop start xs), ← drop-map number start xs, get_or-take n (drop start (map number xs)) r 0 (omega (arith, lt, is))) (get_or-drop start (map number xs) r 0)
 
 pub window-in : {N : Type 0} (start count n r : ℕ) (xs : List N) → n ≡ count → start + count ≤ length xs → r < count → r < length (take n (drop start xs))
 window-in start count n r xs is within lt = omega (arith, is, lt, length-take-le n (drop start xs) (omega (arith, is, within, length-drop start xs)))
 
+-- a plane of planes
 pub plane-cells : {N : Type 0} (number : N → ℕ) (nodes key n : ℕ) (xs : List N) → n ≡ nodes → key * nodes + nodes ≤ length xs → HasEach nodes (λ r m. m ≡ cell (map number xs) nodes r key) (map number (take n (drop (key * nodes) xs)))
-plane-cells number nodes key n xs is within =
-    subst (λ k. HasEach nodes (λ r m. m ≡ cell (map number xs) nodes r key) (map number (take k (drop (key * nodes) xs)))) (sym is) (plane_cells number nodes key xs within)
+plane-cells number nodes key n xs is within = record {
+  size = omega (arith, is, length-map (take n (drop (key * nodes) xs)) number, length-take-le n (drop (key * nodes) xs) (omega (arith, is, within, length-drop (key * nodes) xs)));
+  each = window-at number (key * nodes) nodes n xs is;
+}
 
 -- the numbers of a block before it is changed
 pub block-cells : (changed : ℕ → ℕ → ℕ → ℕ → Type 0) (nodes : ℕ) (old : List ℕ) {N : Type 0} (number : N → ℕ) (xs : List N) (key n : ℕ)
@@ -185,16 +138,59 @@ pub planes-written : (changed : ℕ → ℕ → ℕ → ℕ → Type 0) (nodes :
 planes-written changed nodes old number xs ys key n in_block is before within now step =
     let room : key * nodes + nodes ≤ length xs = omega (arith, within, before.size, length-map xs number) in
     let block = plane-cells number nodes key n xs is room in
-    subst (λ k. ArePlanesChangedUpto changed nodes old (map number (put_mid (key * nodes) k xs ys)) (key + 1)) (sym is)
-    (planes-next changed nodes old number xs ys key before within (now.size ∙ block.size)
+    rw (is, map-put_mid number (key * nodes) nodes xs ys)
+    (planes-next changed nodes old (map number xs) (map number ys) key before within (now.size ∙ block.size)
     (λ r lt. step r _ _ lt (subst (λ x. in_block r x (get_or (map number ys) r 0)) (block.each r lt ∙ before.from (key * nodes + r) (omega arith)) (now.each r (omega (arith, lt, block.size))))))
+
+-- the planes of the keys below a bound are changed, and so many places of them pass a test
+pub record ArePlanesCounted (changed : ℕ → ℕ → ℕ → ℕ → Type 0) (test : ℕ → ℕ → Bool) (nodes : ℕ) (old new : List ℕ) (bound passed : ℕ) : Type 0 where
+  pub planes : ArePlanesChangedUpto changed nodes old new bound
+  pub count : passed ≡ sum_below bound (λ k. sum_below nodes (λ r. cond (test r k) 1 0))
+
+module _ (changed : ℕ → ℕ → ℕ → ℕ → Type 0) (test : ℕ → ℕ → Bool) (nodes : ℕ) (old : List ℕ) where
+  pub planes_counted-none : ArePlanesCounted changed test nodes old old 0 0
+  planes_counted-none = record { planes = planes-none changed nodes old; count = refl }
+
+  pub planes_counted-next : {N : Type 0} (number : N → ℕ) (xs ys : List N) (key n count more : ℕ) (in_block : ℕ → ℕ → ℕ → Type 0) (passes : ℕ → Bool)
+      → n ≡ nodes → ArePlanesCounted changed test nodes old (map number xs) key count → key * nodes + nodes ≤ length old
+      → AreCountedUpto in_block passes (map number (take n (drop (key * nodes) xs))) (map number ys) (length (take n (drop (key * nodes) xs))) more
+      → ((r x y : ℕ) → r < nodes → in_block r x y → changed r key x y) → ((r : ℕ) → r < nodes → passes r ≡ test r key)
+      → ArePlanesCounted changed test nodes old (map number (put_mid (key * nodes) n xs ys)) (key + 1) (count + more)
+  planes_counted-next number xs ys key n count more in_block passes is before within now step same =
+      let block = take n (drop (key * nodes) xs) in
+      let size = length-map block number in
+      let cells = plane-cells number nodes key n xs is (omega (arith, within, before.planes.size, length-map xs number)) in
+      record {
+        planes = planes-written changed nodes old number xs ys key n in_block is before.planes within (changed_all in_block (map number block) (map number ys) (length block) now.numbers (omega (arith, size))) step;
+        count = sum_next _ key count more before.count (plane_count nodes passes (λ r. test r key) (length block) more (sym size ∙ cells.size) now.count same);
+      }
+
+  pub planes_counted-fits : (new : List ℕ) (keys key size count : ℕ) → IsGrid nodes keys size → key < keys → ArePlanesCounted changed test nodes old new (key + 1) count → Fits w32 count
+  planes_counted-fits new keys key size count grid lt is =
+      omega (arith, is.count, lt, grid.few_keys, sum_below-most (λ k. sum_below nodes (λ r. cond (test r k) 1 0)) (key + 1) MOST_NODES (λ k _. omega (arith, grid.few_nodes, count_le nodes (λ r. test r k))))
+
+  pub planes_counted-all : (new : List ℕ) (keys key count : ℕ) → ArePlanesCounted changed test nodes old new key count → keys ≤ key → key ≤ keys → ArePlanesChanged changed nodes keys old new × (count ≡ total_of nodes keys test)
+  planes_counted-all new keys key count is le ge = (planes-all changed nodes old new keys key is.planes le, total_whole nodes keys key test count is.count le ge)
+
+-- each number of these planes is raised to another table's, where that is above its mark, and so many are
+abbrev pub AreMergedUpto : ℕ → List ℕ → List ℕ → List ℕ → List ℕ → ℕ → ℕ → Type 0
+AreMergedUpto nodes others low old new bound count =
+    ArePlanesCounted (λ r k x y. y ≡ number_raised x (cell others nodes r k) (get_or low r 0)) (λ r k. nat_lt (get_or low r 0) (cell others nodes r k)) nodes old new bound count
+
+-- of two tables that take of each other one takes a plane more
+pub merged-next : {N : Type 0} (number : N → ℕ) (nodes key n : ℕ) (others low passed old : List ℕ) (zs xs ys : List N) (came count more : ℕ)
+    → n ≡ nodes → AreMergedUpto nodes old passed others (map number zs) key came → AreMergedUpto nodes others low old (map number xs) key count
+    → key * nodes + nodes ≤ length others → key * nodes + nodes ≤ length old
+    → AreRaisedUpto (map number (take n (drop (key * nodes) zs))) low (map number (take n (drop (key * nodes) xs))) (map number ys) (length (take n (drop (key * nodes) xs))) more
+    → AreMergedUpto nodes others low old (map number (put_mid (key * nodes) n xs ys)) (key + 1) (count + more)
+merged-next number nodes key n others low passed old zs xs ys came count more is waits before behind within now =
+    let block = block-cells _ nodes others number zs key n is waits.planes behind in
+    planes_counted-next _ _ nodes old number xs ys key n count more _ _ is before within now
+    (λ r x y lt made. made ∙ (λ i. number_raised x (block r lt i) (get_or low r 0))) (λ r lt i. nat_lt (get_or low r 0) (block r lt i))
 
 -- a loop over keys has come to its end
 pub each-whole : (is : ℕ → ℕ → ℕ → Type 0) (nodes key keys : ℕ) (xs : List ℕ) → keys ≤ key → key ≤ keys → HasEach nodes (is key) xs → HasEach nodes (is keys) xs
 each-whole is nodes key keys xs le ge before = subst (λ k. HasEach nodes (is k) xs) {x = key} {y = keys} (omega (arith, le, ge)) before
-
-pub each-other : (nodes : ℕ) (is other : ℕ → ℕ → Type 0) (xs : List ℕ) → ((r n : ℕ) → is r n → other r n) → HasEach nodes is xs → HasEach nodes other xs
-each-other nodes is other xs step before = record { size = before.size; each = λ r lt. step r _ (before.each r lt) }
 
 -- a mark raised to one number more
 pub raised-none : (cells : Cells) (owner x : ℕ) → IsRaised cells 0 owner x x
@@ -203,17 +199,11 @@ raised-none cells owner x = record { rises = omega arith; upto = λ k lt. absurd
 pub raised-next : (cells : Cells) (key owner x y z : ℕ) → IsRaised cells key owner x y → z ≡ max y (cells owner key) → IsRaised cells (key + 1) owner x z
 raised-next cells key owner x y z before now = record {
   rises = omega (arith, before.rises, now);
-  upto = λ k lt. elim (cases_lt k key) [
-    | inl earlier ↦ omega (arith, before.upto k earlier, now)
-    | inr not_earlier ↦ subst (λ j. cells owner j ≤ z) {x = key} {y = k} (omega (arith, lt, not_earlier)) (omega (arith, now))
-  ];
+  upto = below_more (λ k. cells owner k ≤ z) key (λ k lt. omega (arith, before.upto k lt, now)) (omega (arith, now));
   from = elim (cases_lt y (cells owner key)) [
     | inl lower ↦ inr (key, omega arith, omega (arith, now, lower))
     | inr not_lower ↦
         let same : z ≡ y = omega (arith, now, not_lower) in
-        elim before.from [
-          | inl old ↦ inl (same ∙ old)
-          | inr (k, lt, is) ↦ inr (k, omega (arith, lt), is ∙ sym same)
-        ]
+        elim before.from [ inl old ↦ inl (same ∙ old) | inr (k, lt, is) ↦ inr (k, omega (arith, lt), is ∙ sym same) ]
   ];
 }

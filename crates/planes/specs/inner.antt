@@ -1,3 +1,4 @@
 pub mod Answering
 pub mod Counting
 pub mod Owners
+pub mod Sizes

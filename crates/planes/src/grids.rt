@@ -36,7 +36,6 @@ pub struct Sent<'a, N: Number> {
 // The plane of a key.
 pub(crate) fn plane_of<N: Number>(cells: &[N], nodes: usize, key: usize) -> &[N]
     requires within { key * nodes + nodes ≤ length cells.now }
-    requires room { length cells.now ≤ MOST_KEYS * MOST_NODES }
     ensures { HasEach nodes (λ r n. n ≡ cell (map N.number cells.now) nodes r key) (map N.number result.now) }
 {
     let start = key * nodes;
@@ -211,7 +210,6 @@ fn keep_planes_ahead<N: Number>(
 const COPIED: usize = 1024;
 
 fn copied<N: Number>(alloc: Global, cells: &[N]) -> Result<Vec<N>, Fault>
-    requires room { length cells.now ≤ MOST_KEYS * MOST_NODES }
     ensures copy { IfOk result (λ v. v.items ≡ cells.now) }
     ensures only { IsOkUnless result OutOfMemory }
 {

@@ -3,9 +3,8 @@
 ghost use Rattle.std.specs.Prelude.{◌≡◌, ℕ, ◌+◌, ◌<◌, ◌≤◌, List, length, map, min, nat_lt, slice_index, IfOk, IsOkUnless, if◌then◌else◌};
 ghost use Rattle.bench_types.specs.declared.faults.Fault.TheVariants.{OutOfMemory};
 ghost use Rattle.bench_types.specs.declared.limits.TheConstants.{MOST_NODES};
-ghost use Rattle.planes.specs.Elementwise.{AreChanged, AreChangedUpto};
+ghost use Rattle.planes.specs.Elementwise.{AreChanged};
 ghost use Rattle.planes.specs.Lags.{IsLeastBehind};
-ghost use Rattle.planes.specs.inner.Counting.{count_less, IsPartDone};
 ghost use Rattle.planes.specs.Planes.{cell, total_of, ArePlanesChanged, HasEach, IsGrid};
 ghost use Rattle.planes.specs.inner.Answering.{IsLowered};
 

@@ -2,9 +2,10 @@
 
 ghost use Rattle.std.specs.Prelude.{◌≡◌, ℕ, ◌+◌, ◌-◌, ◌≤◌, List, length, map, max, min, nat_lt, slice_index};
 ghost use Rattle.bench_types.specs.declared.limits.TheConstants.{MOST_NODES, MOST_KEYS};
-ghost use Rattle.planes.specs.Elementwise.{AreChanged, AreChangedUpto};
-ghost use Rattle.planes.specs.Planes.{most_ahead, number_raised, AreBothCovered, AreBothRaised};
-ghost use Rattle.planes.specs.inner.Counting.{count_less, IsPartDone};
+ghost use Rattle.planes.specs.Elementwise.{AreChanged};
+ghost use Rattle.planes.specs.Planes.{most_ahead, AreBothCovered, AreBothRaised};
+ghost use Rattle.planes.specs.inner.Counting.{AreRaisedUpto};
+ghost use Rattle.planes.specs.inner.Sizes.{AreBothMarked, IsPart};
 
 use crate::numbers::Number;
 use crate::owners::FEW_TO_CHANGE;
@@ -63,18 +64,12 @@ fn merge_planes<N: Number>(
     first_low: &[N],
     second_low: &[N],
 ) -> BothCounts
-    requires second { length second.old ≡ length first.old }
-    requires first_low { length first_low.now ≡ length first.old }
-    requires second_low { length second_low.now ≡ length first.old }
+    requires marked { AreBothMarked first.old second.old first_low.now second_low.now }
     requires room { length first.old ≤ MOST_NODES }
-    ensures first { AreChanged (λ r x y. y ≡ number_raised x (slice_index (map N.number second.old) r)
-        (slice_index (map N.number first_low.now) r)) (map N.number first.old) (map N.number first.new) }
-    ensures second { AreChanged (λ r x y. y ≡ number_raised x (slice_index (map N.number first.old) r)
-        (slice_index (map N.number second_low.now) r)) (map N.number second.old) (map N.number second.new) }
-    ensures first_count { result.first ≡ count_less (length first.old)
-        (map N.number first_low.now) (map N.number second.old) }
-    ensures second_count { result.second ≡ count_less (length first.old)
-        (map N.number second_low.now) (map N.number first.old) }
+    ensures first { AreRaisedUpto (map N.number second.old) (map N.number first_low.now)
+        (map N.number first.old) (map N.number first.new) (length first.old) result.first }
+    ensures second { AreRaisedUpto (map N.number first.old) (map N.number second_low.now)
+        (map N.number second.old) (map N.number second.new) (length second.old) result.second }
 {
     let size = N::at_a_time();
     let mut to_first = 0;
@@ -102,26 +97,17 @@ fn merge_some<N: Number>(
     from: usize,
     size: usize,
 ) -> BothCounts
-    requires second { length second.old ≡ length first.old }
-    requires first_low { length first_low.now ≡ length first.old }
-    requires second_low { length second_low.now ≡ length first.old }
-    requires within { from + size ≤ length first.old }
-    requires few { size ≤ N.most }
+    requires marked { AreBothMarked first.old second.old first_low.now second_low.now }
+    requires part { IsPart N.most (length first.old) from size }
     ensures first_upto { result.first ≤ size }
     ensures second_upto { result.second ≤ size }
-    ensures done { (one other : List ℕ)
-        → AreChangedUpto (λ r x y. y ≡ number_raised x (slice_index other r)
-        (slice_index (map N.number first_low.now) r)) one (map N.number first.old) from
-        → AreChangedUpto (λ r x y. y ≡ number_raised x (slice_index one r)
-        (slice_index (map N.number second_low.now) r)) other (map N.number second.old) from
-        → IsPartDone (λ r x y. y ≡ number_raised x (slice_index other r)
-        (slice_index (map N.number first_low.now) r))
-        (λ r. nat_lt (slice_index (map N.number first_low.now) r) (slice_index other r)) one
-        (map N.number first.new) from (from + size) result.first
-        × IsPartDone (λ r x y. y ≡ number_raised x (slice_index one r)
-        (slice_index (map N.number second_low.now) r))
-        (λ r. nat_lt (slice_index (map N.number second_low.now) r) (slice_index one r)) other
-        (map N.number second.new) from (from + size) result.second }
+    ensures done { (one other : List ℕ) (to_first to_second : ℕ)
+        → AreRaisedUpto other (map N.number first_low.now) one (map N.number first.old) from to_first
+        → AreRaisedUpto one (map N.number second_low.now) other (map N.number second.old) from to_second
+        → AreRaisedUpto other (map N.number first_low.now) one (map N.number first.new)
+        (from + size) (to_first + result.first)
+        × AreRaisedUpto one (map N.number second_low.now) other (map N.number second.new)
+        (from + size) (to_second + result.second) }
 {
     let mut to_first = N::zero();
     let mut to_second = N::zero();

@@ -1,10 +1,10 @@
 //! Loops over a few owners of a table, each over all of its keys. The others have nothing above one mark and up to
 //! another, and are passed over.
 
-ghost use Rattle.std.specs.Prelude.{◌≡◌, ◌<◌, ◌≤◌, ◌==◌, length, map, if◌then◌else◌};
+ghost use Rattle.std.specs.Prelude.{◌≡◌, ◌≤◌, length, map};
 ghost use Rattle.bench_types.specs.declared.limits.TheConstants.{MOST_NODES};
-ghost use Rattle.planes.specs.Planes.{cell, count_above, number_raised, total_above, AreBothCovered, AreBothRaised, AreCovered, ArePlanesChanged, AreSentTaken, HasNoneAbove, IsGrid, MayTake};
-ghost use Rattle.planes.specs.inner.Owners.{HasTakenOwner};
+ghost use Rattle.planes.specs.Planes.{cell, count_above, total_above, AreBothCovered, AreBothRaised, AreSentTaken, HasNoneAbove, MayTake};
+ghost use Rattle.planes.specs.inner.Owners.{HasRaisedOwner, HasTakenOwner, IsMarked, IsOwnerOf};
 
 use crate::grids::Sent;
 use crate::merges::{BothCounts, BothMarks};
@@ -29,8 +29,7 @@ pub(crate) fn are_few<N: Number>(keys: usize, low: &[N], high: &[N], few: usize)
 }
 
 fn owner_above<N: Number>(cells: &[N], nodes: usize, keys: usize, owner: usize, low: N) -> u32
-    requires grid { IsGrid nodes keys (length cells.now) }
-    requires owner { owner < nodes }
+    requires place { IsOwnerOf nodes keys owner (length cells.now) }
     ensures { result ≡ count_above (cell (map N.number cells.now) nodes) keys owner (N.number low) }
 {
     let mut count = 0;
@@ -49,10 +48,7 @@ pub(crate) fn total_owners_above<N: Number>(
     low: &[N],
     high: &[N],
 ) -> u32
-    requires grid { IsGrid nodes keys (length cells.now) }
-    requires low { length low.now ≡ nodes }
-    requires high { length high.now ≡ nodes }
-    requires covered { AreCovered nodes keys (map N.number cells.now) (map N.number high.now) }
+    requires marked { IsMarked N.number nodes keys cells.now low.now high.now }
     ensures { result ≡ total_above nodes keys (map N.number cells.now) (map N.number low.now) }
 {
     let mut total = 0;
@@ -68,8 +64,7 @@ pub(crate) fn total_owners_above<N: Number>(
 // Raises an owner's numbers to those sent that are above one mark and up to another. It answers the greatest number
 // that the owner has then, and is given the one that it had.
 fn take_owner<N: Number>(cells: &mut [N], sent: Sent<N>, owner: usize, low: N, high: N, had: N) -> N
-    requires grid { IsGrid sent.nodes sent.keys (length cells.old) }
-    requires owner { owner < sent.nodes }
+    requires place { IsOwnerOf sent.nodes sent.keys owner (length cells.old) }
     requires sent { length sent.cells.now ≡ length cells.old }
     requires covered { HasNoneAbove (cell (map N.number cells.old) sent.nodes) sent.keys owner (N.number had) }
     ensures { HasTakenOwner N.number sent.entry owner low high cells.old had cells.new result }
@@ -127,13 +122,9 @@ fn raise_owner<N: Number>(
     owner: usize,
     low: N,
 ) -> u32
-    requires grid { IsGrid nodes keys (length cells.old) }
-    requires owner { owner < nodes }
+    requires place { IsOwnerOf nodes keys owner (length cells.old) }
     requires others { length others.now ≡ length cells.old }
-    ensures cells { ArePlanesChanged (λ r k x y. y ≡ (if r == owner then number_raised x
-        (cell (map N.number others.now) nodes r k) (N.number low) else x)) nodes keys
-        (map N.number cells.old) (map N.number cells.new) }
-    ensures count { result ≡ count_above (cell (map N.number others.now) nodes) keys owner (N.number low) }
+    ensures { HasRaisedOwner N.number nodes keys owner others.now low cells.old cells.new result }
 {
     let mut count = 0;
     for key in 0..keys {

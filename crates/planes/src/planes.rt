@@ -2,9 +2,10 @@
 
 ghost use Rattle.std.specs.Prelude.{◌≡◌, ℕ, ◌+◌, ◌<◌, ◌≤◌, ◌&&◌, Bool, List, length, map, max, nat_le, nat_lt, slice_index, if◌then◌else◌};
 ghost use Rattle.bench_types.specs.declared.limits.TheConstants.{MOST_NODES};
-ghost use Rattle.planes.specs.Elementwise.{AreChanged, AreChangedUpto};
+ghost use Rattle.planes.specs.Elementwise.{AreChanged};
 ghost use Rattle.planes.specs.inner.Answering.{AnswersAs, IsMade, MakesAs};
-ghost use Rattle.planes.specs.inner.Counting.{count_less, count_passing, IsPassed, IsPartDone};
+ghost use Rattle.planes.specs.inner.Counting.{count_less, count_passing, AreCountedUpto};
+ghost use Rattle.planes.specs.inner.Sizes.{IsPart, IsSentPlane};
 ghost use Rattle.planes.specs.Planes.{number_taken};
 
 use crate::numbers::Number;
@@ -47,8 +48,8 @@ pub fn change_counting<N: Number, F: Fn(usize, N) -> (N, bool)>(numbers: &mut [N
     ensures upto { result ≤ length numbers.old }
     ensures done { (made : ℕ → ℕ → ℕ) (test : ℕ → ℕ → Bool)
         → MakesAs N.number (F.post to) (length numbers.old) made test
-        → AreChanged (λ r x y. y ≡ made r x) (map N.number numbers.old) (map N.number numbers.new)
-        × (result ≡ count_passing (length numbers.old) (λ r. test r (slice_index (map N.number numbers.old) r))) }
+        → AreCountedUpto (λ r x y. y ≡ made r x) (λ r. test r (slice_index (map N.number numbers.old) r))
+        (map N.number numbers.old) (map N.number numbers.new) (length numbers.old) result }
 {
     let size = N::at_a_time();
     let mut count = 0;
@@ -68,15 +69,15 @@ fn change_some_counting<N: Number, F: Fn(usize, N) -> (N, bool)>(
     size: usize,
     to: F,
 ) -> u32
-    requires within { from + size ≤ length numbers.old }
-    requires few { size ≤ N.most }
+    requires part { IsPart N.most (length numbers.old) from size }
     requires to { (r : ℕ) (n : N) → r < length numbers.old → F.pre to r n }
     ensures upto { result ≤ size }
     ensures done { (made : ℕ → ℕ → ℕ) (test : ℕ → ℕ → Bool)
         → MakesAs N.number (F.post to) (length numbers.old) made test
-        → (old : List ℕ) → AreChangedUpto (λ r x y. y ≡ made r x) old (map N.number numbers.old) from
-        → IsPartDone (λ r x y. y ≡ made r x) (λ r. test r (slice_index old r)) old
-        (map N.number numbers.new) from (from + size) result }
+        → (old : List ℕ) (count : ℕ) → AreCountedUpto (λ r x y. y ≡ made r x) (λ r. test r (slice_index old r))
+        old (map N.number numbers.old) from count
+        → AreCountedUpto (λ r x y. y ≡ made r x) (λ r. test r (slice_index old r))
+        old (map N.number numbers.new) (from + size) (count + result) }
 {
     let mut count = N::zero();
     for i in 0..size {
@@ -91,10 +92,7 @@ fn change_some_counting<N: Number, F: Fn(usize, N) -> (N, bool)>(
 /// Raises the numbers of a plane to those sent that are above one mark and up to another, and each owner's greatest
 /// number to its number then.
 pub fn take_plane<N: Number>(plane: &mut [N], greatest: &mut [N], sent: &[N], low: &[N], high: &[N])
-    requires greatest { length greatest.old ≡ length plane.old }
-    requires sent { length sent.now ≡ length plane.old }
-    requires low { length low.now ≡ length plane.old }
-    requires high { length high.now ≡ length plane.old }
+    requires sent { IsSentPlane plane.old greatest.old sent.now low.now high.now }
     ensures plane { AreChanged
         (λ r x y. y ≡ number_taken x (slice_index (map N.number sent.now) r) (slice_index (map N.number low.now) r)
         (slice_index (map N.number high.now) r))
@@ -140,12 +138,12 @@ fn how_many_of<N: Number, F: Fn(usize, N) -> bool>(
     size: usize,
     passes: F,
 ) -> u32
-    requires within { from + size ≤ length plane.now }
-    requires few { size ≤ N.most }
+    requires part { IsPart N.most (length plane.now) from size }
     requires passes { (r : ℕ) (n : N) → r < length plane.now → F.pre passes r n }
     ensures upto { result ≤ size }
     ensures count { (test : ℕ → ℕ → Bool) → AnswersAs N.number (F.post passes) (length plane.now) test
-        → IsPassed (λ r. test r (slice_index (map N.number plane.now) r)) from (from + size) result }
+        → (count : ℕ) → count ≡ count_passing from (λ r. test r (slice_index (map N.number plane.now) r))
+        → count + result ≡ count_passing (from + size) (λ r. test r (slice_index (map N.number plane.now) r)) }
 {
     let mut count = N::zero();
     for i in 0..size {

@@ -2,6 +2,7 @@
 use Rattle.std.specs.Prelude.{◌≡◌, ℕ, ◌+◌, nat_lt, Bool, List, slice_index, if◌then◌else◌}
 use Rattle.bench_types.specs.Sums.{sum_below}
 use Rattle.planes.specs.Elementwise.{AreChangedUpto}
+use Rattle.planes.specs.Planes.{number_raised}
 
 -- of those below a bound
 abbrev pub count_passing : ℕ → (ℕ → Bool) → ℕ
@@ -11,11 +12,13 @@ count_passing bound test = sum_below bound (λ r. if test r then 1 else 0)
 abbrev pub count_less : ℕ → List ℕ → List ℕ → ℕ
 count_less bound xs ys = count_passing bound (λ r. nat_lt (slice_index xs r) (slice_index ys r))
 
--- so many more pass below one bound than below another
-abbrev pub IsPassed : (ℕ → Bool) → ℕ → ℕ → ℕ → Type 0
-IsPassed test from to count = count_passing from test + count ≡ count_passing to test
+-- the numbers below a bound are changed, and so many of them pass a test
+pub record AreCountedUpto (changed : ℕ → ℕ → ℕ → Type 0) (test : ℕ → Bool) (old new : List ℕ) (bound passed : ℕ) : Type 0 where
+  pub numbers : AreChangedUpto changed old new bound
+  pub count : passed ≡ count_passing bound test
 
--- numbers are changed up to a bound, and from an earlier one on so many pass
-pub record IsPartDone (changed : ℕ → ℕ → ℕ → Type 0) (test : ℕ → Bool) (old new : List ℕ) (from to passed : ℕ) : Type 0 where
-  pub numbers : AreChangedUpto changed old new to
-  pub count : IsPassed test from to passed
+-- the numbers below a bound are raised to others, where these are above their marks, and so many of them are
+abbrev pub AreRaisedUpto : List ℕ → List ℕ → List ℕ → List ℕ → ℕ → ℕ → Type 0
+AreRaisedUpto others low old new bound count =
+    AreCountedUpto (λ r x y. y ≡ number_raised x (slice_index others r) (slice_index low r))
+    (λ r. nat_lt (slice_index low r) (slice_index others r)) old new bound count

@@ -1,4 +1,4 @@
-use Rattle.planes.proofs.Common.{◌≡◌, ◌+◌, ◌-◌, ◌++◌, take, drop, sym, ap, ◌∙◌, arith, take-add}
+use Rattle.planes.proofs.Common.{◌≡◌, ◌+◌, ◌-◌, take, ap, arith, take-add}
 use Rattle.planes.proofs.grids.copied.Goals as goal
 
 pub loop-start-preserved : goal.loop-start-preserved
@@ -7,10 +7,6 @@ loop-start-preserved g c =
     let end = c.min-end.result in
     let whole : start + (end - start) ≡ end = omega (arith, c.min-end.ensures, c.loop-start-test.true) in
     record {
-      copy =
-          c.in_ok-extend_from_slice.ensures.items
-          ∙ (λ i. c.loop-start.invariant.copy i ++ take (end - start) (drop start c.args.cells.now))
-          ∙ sym (take-add start (end - start) c.args.cells.now)
-          ∙ ap (λ n. take n c.args.cells.now) whole;
+      copy = rw (c.in_ok-extend_from_slice.ensures.items, c.loop-start.invariant.copy, ← take-add start (end - start) c.args.cells.now) (ap (λ n. take n c.args.cells.now) whole);
       within = omega (arith, c.min-end.ensures);
     }

@@ -1,5 +1,4 @@
-use Rattle.planes.proofs.Common.{ℕ, ◌<◌, ◌≤◌, ◌+◌, ◌*◌, ◌-◌, ◌&&◌, length, get_or, nat_lt, nat_le, slice_index, ap, ◌∙◌, arith, rules, map, if◌then◌else◌, length-map}
-use Rattle.planes.specs.Planes.{cell}
+use Rattle.planes.proofs.Common.{slice_index, cell, ℕ, ◌<◌, ◌≤◌, ◌+◌, ◌*◌, ◌-◌, ◌&&◌, length, get_or, nat_lt, nat_le, ap, ◌∙◌, arith, rules, map, if◌then◌else◌, length-map}
 use Rattle.planes.proofs.Counts.{count_le, number_next}
 use Rattle.planes.proofs.Elementwise.{made-as, made-more}
 use Rattle.planes.proofs.Places.{each-next, plane-within, window-at, window-in}
@@ -19,6 +18,7 @@ change-requires-in-loop-key g c =
     let low = slice_index (map number c.args.low.now) in
     let high = slice_index (map number c.args.high.now) in
     let cells = cell (map number c.args.cells.now) c.args.nodes in
+    let few = (λ (r : ℕ). count_le c.loop-key.key (λ k. nat_lt (low r) (cells r k) && nat_le (cells r k) (high r))) in
     let part : first + size ≤ c.args.nodes = omega (arith, c.requires.part, c.change.ensures.size, length-map c.args.counts.now number, length-map c.change.new.numbers number) in
     let plane = plane-within c.args.nodes c.args.keys (length c.args.cells.now) c.loop-key.key c.requires.grid c.loop-key-test.true in
     record {
@@ -27,15 +27,7 @@ change-requires-in-loop-key g c =
             window-in (c.loop-key.key * c.args.nodes + first) size _ r c.args.cells.now (omega arith) (omega (arith, part, plane)) in_part,
             window-in first size _ r c.args.low.now (omega arith) (omega (arith, part, c.requires.low)) in_part,
             window-in first size _ r c.args.high.now (omega arith) (omega (arith, part, c.requires.high)) in_part,
-            omega (
-              arith,
-              is,
-              c.loop-key.invariant.each r in_part,
-              count_le c.loop-key.key (λ k. nat_lt (low (first + r)) (cells (first + r) k) && nat_le (cells (first + r) k) (high (first + r))),
-              c.loop-key-test.true,
-              c.requires.grid.few_keys,
-              g.met.N.Number.counts_keys,
-            ),
+            omega (arith, is, c.loop-key.invariant.each r in_part, few (first + r), c.loop-key-test.true, c.requires.grid.few_keys, g.met.N.Number.counts_keys),
           );
     }
 

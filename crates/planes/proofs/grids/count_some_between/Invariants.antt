@@ -1,5 +1,4 @@
-use Rattle.planes.proofs.Common.{◌≡◌, ◌+◌, ◌&&◌, length, nat_lt, nat_le, slice_index, map, if◌then◌else◌, sum_below}
-use Rattle.planes.specs.Planes.{cell, HasEach}
+use Rattle.planes.proofs.Common.{◌≡◌, ◌+◌, ◌&&◌, length, nat_lt, nat_le, slice_index, map, if◌then◌else◌, sum_below, cell, HasEach}
 use Rattle.planes.proofs.grids.count_some_between.Given as goal
 
 abbrev pub invariant-loop-key : goal.invariant-loop-key

@@ -1,5 +1,4 @@
-use Rattle.planes.proofs.Common.{◌≡◌, slice_index, map}
-use Rattle.planes.specs.Planes.{cell, count_above, HasEach}
+use Rattle.planes.proofs.Common.{◌≡◌, slice_index, map, cell, count_above, HasEach}
 use Rattle.planes.proofs.grids.counts_above.Given as goal
 
 abbrev pub invariant-loop-key : goal.invariant-loop-key

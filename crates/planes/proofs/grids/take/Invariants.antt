@@ -1,5 +1,4 @@
-use Rattle.planes.proofs.Common.{◌≡◌, slice_index, map}
-use Rattle.planes.specs.Planes.{cell, number_taken, numbers_taken, ArePlanesChangedUpto, HasEach, IsRaised}
+use Rattle.planes.proofs.Common.{◌≡◌, slice_index, map, cell, number_taken, numbers_taken, ArePlanesChangedUpto, HasEach, IsRaised}
 use Rattle.planes.proofs.grids.take.Given as goal
 
 abbrev pub invariant-loop-key : goal.invariant-loop-key

@@ -1,5 +1,4 @@
-use Rattle.planes.proofs.Common.{◌≡◌, sym, ◌∙◌, ap, arith, length, map, length-map}
-use Rattle.planes.specs.Planes.{cell}
+use Rattle.planes.proofs.Common.{◌≡◌, sym, ◌∙◌, ap, arith, length, map, length-map, cell}
 use Rattle.planes.proofs.Counts.{sum_next}
 use Rattle.planes.proofs.Places.{plane_count, total_whole}
 use Rattle.planes.proofs.grids.total.Goals as goal

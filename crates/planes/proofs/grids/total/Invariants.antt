@@ -1,6 +1,4 @@
-use Rattle.planes.proofs.Common.{◌≡◌, ℕ, ◌*◌, ◌≤◌, Bool, map, if◌then◌else◌, sum_below}
-use Rattle.planes.specs.Planes.{cell}
-use Rattle.planes.specs.inner.Answering.{AnswersAs}
+use Rattle.planes.proofs.Common.{◌≡◌, ℕ, ◌*◌, ◌≤◌, Bool, map, if◌then◌else◌, sum_below, cell, AnswersAs}
 use Rattle.planes.proofs.grids.total.Given as goal
 
 abbrev pub invariant-loop-key : goal.invariant-loop-key

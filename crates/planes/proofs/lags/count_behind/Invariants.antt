@@ -1,9 +1,9 @@
-use Rattle.planes.proofs.Common.{◌≡◌, min, nat_lt, map, if◌then◌else◌, sum_below}
-use Rattle.planes.specs.Planes.{cell, ArePlanesChangedUpto}
+use Rattle.planes.proofs.Common.{◌≡◌, min, nat_lt, map, cell}
+use Rattle.planes.proofs.Places.{ArePlanesCounted}
 use Rattle.planes.proofs.lags.count_behind.Given as goal
 
 abbrev pub invariant-loop-key : goal.invariant-loop-key
-invariant-loop-key g l = record {
-  count : l.count ≡ sum_below l.key (λ k. sum_below l.nodes (λ r. if nat_lt (cell (map g.N.Number.number l.cells) l.nodes r k) (cell (map g.N.Number.number l.last) l.nodes r k) then 1 else 0));
-  least : ArePlanesChangedUpto (λ r k x y. y ≡ min x (cell (map g.N.Number.number l.cells) l.nodes r k)) l.nodes (map g.N.Number.number l.initial.least) (map g.N.Number.number l.least) l.key;
-}
+invariant-loop-key g l =
+    let cells = cell (map g.N.Number.number l.cells) l.nodes in
+    let last = cell (map g.N.Number.number l.last) l.nodes in
+    ArePlanesCounted (λ r k x y. y ≡ min x (cells r k)) (λ r k. nat_lt (cells r k) (last r k)) l.nodes (map g.N.Number.number l.initial.least) (map g.N.Number.number l.least) l.key l.count

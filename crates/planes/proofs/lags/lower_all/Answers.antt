@@ -1,5 +1,5 @@
-use Rattle.planes.proofs.Common.{◌+◌, ◌*◌, ◌-◌, min, ap, ◌∙◌, arith, map, length, length-map}
-use Rattle.planes.proofs.Places.{plane-within, planes-none, planes-written, planes-all}
+use Rattle.planes.proofs.Common.{min, ap, ◌∙◌, arith, map}
+use Rattle.planes.proofs.Places.{grid-within, planes-none, planes-written, planes-all}
 use Rattle.planes.proofs.lags.lower_all.Goals as goal
 
 pub loop-key-init : goal.loop-key-init
@@ -8,10 +8,8 @@ loop-key-init g c = planes-none _ c.args.nodes (map g.N.Number.number c.args.lea
 pub loop-key-preserved : goal.loop-key-preserved
 loop-key-preserved g c =
     planes-written _ c.args.nodes (map g.N.Number.number c.args.least.now) g.N.Number.number c.loop-key.least c.lower.new.least c.loop-key.key
-    (c.loop-key.key * c.args.nodes + c.args.nodes - c.loop-key.key * c.args.nodes) _ (omega arith) c.loop-key.invariant
-    (omega (arith, length-map c.args.least.now g.N.Number.number, plane-within c.args.nodes c.args.keys (length c.args.least.now) c.loop-key.key c.requires.grid c.loop-key-test.true))
-    c.lower.ensures.least
-    (λ r x y lt is. is ∙ ap (min x) (c.plane_of-plane.ensures.each r lt))
+    _ _ (omega arith) c.loop-key.invariant (grid-within g.N.Number.number c.args.nodes c.args.keys c.loop-key.key c.args.least.now c.requires.grid c.loop-key-test.true)
+    c.lower.ensures.least (λ r x y lt is. is ∙ ap (min x) (c.plane_of-plane.ensures.each r lt))
 
 pub returns : goal.returns
 returns g c = record {

@@ -1,5 +1,4 @@
-use Rattle.planes.proofs.Common.{◌≡◌, min, map}
-use Rattle.planes.specs.Planes.{cell, ArePlanesChangedUpto}
+use Rattle.planes.proofs.Common.{◌≡◌, min, map, cell, ArePlanesChangedUpto}
 use Rattle.planes.proofs.lags.lower_all.Given as goal
 
 abbrev pub invariant-loop-key : goal.invariant-loop-key

@@ -1,17 +1,15 @@
-use Rattle.planes.proofs.Common.{◌≡◌, ℕ, ◌+◌, ◌≤◌, List, nat_lt, slice_index, map}
-use Rattle.planes.specs.Elementwise.{AreChangedUpto}
-use Rattle.planes.specs.inner.Counting.{IsPartDone}
-use Rattle.planes.specs.Planes.{number_raised}
+use Rattle.planes.proofs.Common.{ℕ, ◌+◌, ◌≤◌, List, map, AreRaisedUpto}
 use Rattle.planes.proofs.merges.merge_some.Given as goal
 
 abbrev pub invariant-loop-i : goal.invariant-loop-i
-invariant-loop-i g l = record {
-  first_upto : g.N.Number.number l.to_first ≤ l.i;
-  second_upto : g.N.Number.number l.to_second ≤ l.i;
-  done : (one other : List ℕ) → AreChangedUpto (λ r x y. y ≡ number_raised x (slice_index other r) (slice_index (map g.N.Number.number l.first_low) r)) one (map g.N.Number.number l.initial.first) l.from
-      → AreChangedUpto (λ r x y. y ≡ number_raised x (slice_index one r) (slice_index (map g.N.Number.number l.second_low) r)) other (map g.N.Number.number l.initial.second) l.from
-      → IsPartDone (λ r x y. y ≡ number_raised x (slice_index other r) (slice_index (map g.N.Number.number l.first_low) r))
-      (λ r. nat_lt (slice_index (map g.N.Number.number l.first_low) r) (slice_index other r)) one (map g.N.Number.number l.first) l.from (l.from + l.i) (g.N.Number.number l.to_first)
-      × IsPartDone (λ r x y. y ≡ number_raised x (slice_index one r) (slice_index (map g.N.Number.number l.second_low) r))
-      (λ r. nat_lt (slice_index (map g.N.Number.number l.second_low) r) (slice_index one r)) other (map g.N.Number.number l.second) l.from (l.from + l.i) (g.N.Number.number l.to_second);
-}
+invariant-loop-i g l =
+    let number = g.N.Number.number in
+    record {
+      first_upto : number l.to_first ≤ l.i;
+      second_upto : number l.to_second ≤ l.i;
+      done : (one other : List ℕ) (to_first to_second : ℕ)
+          → AreRaisedUpto other (map number l.first_low) one (map number l.initial.first) l.from to_first
+          → AreRaisedUpto one (map number l.second_low) other (map number l.initial.second) l.from to_second
+          → AreRaisedUpto other (map number l.first_low) one (map number l.first) (l.from + l.i) (to_first + number l.to_first)
+          × AreRaisedUpto one (map number l.second_low) other (map number l.second) (l.from + l.i) (to_second + number l.to_second);
+    }

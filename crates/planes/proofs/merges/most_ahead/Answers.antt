@@ -1,8 +1,11 @@
-use Rattle.planes.proofs.Common.{◌-◌, min, ◌∙◌, arith, length}
+use Rattle.planes.proofs.Common.{◌≡◌, ℕ, Fits, w32, ◌+◌, ◌-◌, ◌<◌, ◌≤◌, min, ◌∙◌, arith, MOST_NODES, MOST_KEYS, sum_below, sum_below-most}
 use Rattle.planes.proofs.Elementwise.{number-at}
 use Rattle.planes.proofs.Counts.{sum_next, sum_whole}
-use Rattle.planes.proofs.Leads.{lead-fits}
 use Rattle.planes.proofs.merges.most_ahead.Goals as goal
+
+lead-fits : (keys : ℕ) (numbers others : ℕ → ℕ) (r sum lead : ℕ) → sum ≡ sum_below r (λ k. min keys (numbers k - others k)) → lead ≤ keys → r < MOST_NODES → keys ≤ MOST_KEYS → Fits w32 (sum + lead)
+lead-fits keys numbers others r sum lead is le few_nodes few_keys =
+    omega (arith, is, le, few_nodes, few_keys, sum_below-most (λ k. min keys (numbers k - others k)) r MOST_KEYS (λ k lt. omega (arith, few_keys)))
 
 pub overflow_add-to_first : goal.overflow_add-to_first
 overflow_add-to_first g c = lead-fits c.args.keys _ _ c.loop-r.r c.loop-r.to_first c.lead-to_first.result c.loop-r.invariant.to_first (omega (arith, c.lead-to_first.ensures)) (omega (arith, c.loop-r-test.true, c.requires.nodes)) c.requires.keys
@@ -19,8 +22,8 @@ loop-r-preserved g c =
       to_second = sum_next _ c.loop-r.r c.loop-r.to_second c.lead-to_second.result c.loop-r.invariant.to_second (c.lead-to_second.ensures ∙ (λ i. min c.args.keys (first i - second i)));
     }
 
-pub returns-clause-first : goal.returns-clause-first
-returns-clause-first g c = sum_whole _ c.loop-r.r (length c.args.first.now) c.loop-r.to_first c.loop-r.invariant.to_first c.loop-r-test.false c.loop-r.auto.r-end
-
-pub returns-clause-second : goal.returns-clause-second
-returns-clause-second g c = sum_whole _ c.loop-r.r (length c.args.first.now) c.loop-r.to_second c.loop-r.invariant.to_second c.loop-r-test.false c.loop-r.auto.r-end
+pub returns : goal.returns
+returns g c = record {
+  first = sum_whole _ c.loop-r.r _ _ c.loop-r.invariant.to_first c.loop-r-test.false c.loop-r.auto.r-end;
+  second = sum_whole _ c.loop-r.r _ _ c.loop-r.invariant.to_second c.loop-r-test.false c.loop-r.auto.r-end;
+}

@@ -1,5 +1,4 @@
-use Rattle.planes.proofs.Common.{◌≡◌, max, slice_index, map}
-use Rattle.planes.specs.Elementwise.{AreChangedUpto}
+use Rattle.planes.proofs.Common.{◌≡◌, max, slice_index, map, AreChangedUpto}
 use Rattle.planes.proofs.merges.raise_both.Given as goal
 
 abbrev pub invariant-loop-r : goal.invariant-loop-r

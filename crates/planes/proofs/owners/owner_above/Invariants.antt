@@ -1,5 +1,4 @@
-use Rattle.planes.proofs.Common.{◌≡◌, map}
-use Rattle.planes.specs.Planes.{cell, count_above}
+use Rattle.planes.proofs.Common.{◌≡◌, map, cell, count_above}
 use Rattle.planes.proofs.owners.owner_above.Given as goal
 
 abbrev pub invariant-loop-key : goal.invariant-loop-key

@@ -1,5 +1,4 @@
-use Rattle.planes.proofs.Common.{◌≡◌, map}
-use Rattle.planes.specs.Planes.{cell, count_above, number_raised, ArePlanesChangedUpto}
+use Rattle.planes.proofs.Common.{◌≡◌, map, cell, count_above, number_raised, ArePlanesChangedUpto}
 use Rattle.planes.proofs.ByOwner.{owner_changed}
 use Rattle.planes.proofs.owners.raise_owner.Given as goal
 

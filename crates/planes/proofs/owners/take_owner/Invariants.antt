@@ -1,5 +1,4 @@
-use Rattle.planes.proofs.Common.{map}
-use Rattle.planes.specs.Planes.{cell, number_taken, ArePlanesChangedUpto, IsRaised}
+use Rattle.planes.proofs.Common.{map, cell, number_taken, ArePlanesChangedUpto, IsRaised}
 use Rattle.planes.proofs.ByOwner.{owner_changed}
 use Rattle.planes.proofs.owners.take_owner.Given as goal
 

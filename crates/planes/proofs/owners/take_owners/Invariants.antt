@@ -1,6 +1,4 @@
-use Rattle.planes.proofs.Common.{slice_index, map}
-use Rattle.planes.specs.Elementwise.{AreChangedUpto}
-use Rattle.planes.specs.Planes.{cell, number_taken, numbers_taken, ArePlanesChanged, IsRaised}
+use Rattle.planes.proofs.Common.{slice_index, map, AreChangedUpto, cell, number_taken, numbers_taken, ArePlanesChanged, IsRaised}
 use Rattle.planes.proofs.ByOwner.{owners_changed}
 use Rattle.planes.proofs.owners.take_owners.Given as goal
 

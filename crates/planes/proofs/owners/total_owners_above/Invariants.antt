@@ -1,5 +1,4 @@
-use Rattle.planes.proofs.Common.{◌≡◌, slice_index, map, sum_below}
-use Rattle.planes.specs.Planes.{cell, count_above}
+use Rattle.planes.proofs.Common.{◌≡◌, slice_index, map, sum_below, cell, count_above}
 use Rattle.planes.proofs.owners.total_owners_above.Given as goal
 
 abbrev pub invariant-loop-owner : goal.invariant-loop-owner

@@ -1,6 +1,4 @@
-use Rattle.planes.proofs.Common.{map}
-use Rattle.planes.specs.Elementwise.{AreChangedUpto}
-use Rattle.planes.specs.inner.Answering.{IsMade}
+use Rattle.planes.proofs.Common.{map, AreChangedUpto, IsMade}
 use Rattle.planes.proofs.planes.change.Given as goal
 
 abbrev pub invariant-loop-r : goal.invariant-loop-r

@@ -1,7 +1,4 @@
-use Rattle.planes.proofs.Common.{◌≡◌, ℕ, ◌-◌, ◌≤◌, Bool, length, slice_index, map}
-use Rattle.planes.specs.Elementwise.{AreChangedUpto}
-use Rattle.planes.specs.inner.Answering.{MakesAs}
-use Rattle.planes.specs.inner.Counting.{count_passing}
+use Rattle.planes.proofs.Common.{ℕ, ◌≡◌, ◌-◌, ◌≤◌, Bool, length, slice_index, map, MakesAs, AreCountedUpto}
 use Rattle.planes.proofs.planes.change_counting.Given as goal
 
 abbrev pub invariant-loop-numbers : goal.invariant-loop-numbers
@@ -9,8 +6,7 @@ invariant-loop-numbers g l = record {
   within : l.from ≤ length l.initial.numbers;
   upto : l.count ≤ l.from;
   done : (made : ℕ → ℕ → ℕ) (test : ℕ → ℕ → Bool) → MakesAs g.N.Number.number (goal.F-post g l.to) (length l.initial.numbers) made test
-      → AreChangedUpto (λ r x y. y ≡ made r x) (map g.N.Number.number l.initial.numbers) (map g.N.Number.number l.numbers) l.from
-      × (l.count ≡ count_passing l.from (λ r. test r (slice_index (map g.N.Number.number l.initial.numbers) r)));
+      → AreCountedUpto (λ r x y. y ≡ made r x) (λ r. test r (slice_index (map g.N.Number.number l.initial.numbers) r)) (map g.N.Number.number l.initial.numbers) (map g.N.Number.number l.numbers) l.from l.count;
 }
 
 abbrev pub decreases-loop-numbers : goal.decreases-loop-numbers

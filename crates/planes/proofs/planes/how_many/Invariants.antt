@@ -1,6 +1,4 @@
-use Rattle.planes.proofs.Common.{◌≡◌, ℕ, ◌-◌, ◌≤◌, Bool, length, slice_index, map}
-use Rattle.planes.specs.inner.Answering.{AnswersAs}
-use Rattle.planes.specs.inner.Counting.{count_passing}
+use Rattle.planes.proofs.Common.{◌≡◌, ℕ, ◌-◌, ◌≤◌, Bool, length, slice_index, map, AnswersAs, count_passing}
 use Rattle.planes.proofs.planes.how_many.Given as goal
 
 abbrev pub invariant-loop-from : goal.invariant-loop-from

@@ -1,6 +1,4 @@
-use Rattle.planes.proofs.Common.{◌≡◌, max, slice_index, map}
-use Rattle.planes.specs.Elementwise.{AreChangedUpto}
-use Rattle.planes.specs.Planes.{number_taken}
+use Rattle.planes.proofs.Common.{◌≡◌, max, slice_index, map, AreChangedUpto, number_taken}
 use Rattle.planes.proofs.planes.take_plane.Given as goal
 
 abbrev pub invariant-loop-r : goal.invariant-loop-r

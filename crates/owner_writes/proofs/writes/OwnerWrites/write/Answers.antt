@@ -1,6 +1,4 @@
-use Rattle.owner_writes.proofs.Common.{◌≡◌, ◌+◌, length, ap, subst, sym, ◌∙◌, arith, OwnerListView, next_entry}
-use Rattle.owner_writes.specs.Kept.{entry_kept}
-use Rattle.owner_writes.specs.inner.Views.{view_by, IsKept}
+use Rattle.owner_writes.proofs.Common.{◌≡◌, ◌+◌, length, ap, subst, sym, ◌∙◌, arith, OwnerListView, next_entry, entry_kept, view_by, IsKept}
 use Rattle.owner_writes.proofs.Keeping.{kept_pushed}
 use Rattle.owner_writes.proofs.writes.OwnerWrites.write.Goals as goal
 

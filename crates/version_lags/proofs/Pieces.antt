@@ -1,6 +1,6 @@
 -- What is counted of tables of versions comes to the figures of the tables that they are.
 -- Serves `Parts` and `Whole`.
-use Rattle.version_lags.proofs.Common.{◌≡◌, ℕ, zero, suc, ◌+◌, ◌<◌, min, max, Bool, true, false, ◌&&◌, List, [], length, Some, None, if◌then◌else◌, inl, inr, refl, sym, ap, ◌∙◌, subst, arith, nat_lt, nat_le, cases_lt, cases_eq, le-ltb, eq-eqb, ne_eqb, lt-leb, Entry, mark_held, Table, entry_at, mark_at, IsProper, table_of_node, OwnerListView, entries_of, list_of_owner, lists_in, no_writes, AreWrites, write_numbered, list_read, sum_below, most_below, cell, total_of, ArePlanesChanged, sum_next, most_below-same, sum_below-same, BirthsRise, StandsBeside, writes_of_owner, generation_at, staleness_of, staleness_at, is_left_over, leftover_at, stale_count, rounds_behind, node_figures}
+use Rattle.version_lags.proofs.Common.{◌≡◌, ℕ, suc, ◌+◌, ◌<◌, min, max, Bool, true, false, ◌&&◌, List, [], length, Some, None, if◌then◌else◌, inl, inr, refl, sym, ap, ◌∙◌, subst, arith, nat_lt, nat_le, cases_lt, cases_eq, le-ltb, eq-eqb, ne_eqb, lt-leb, Entry, mark_held, Table, entry_at, mark_at, IsProper, table_of_node, OwnerListView, entries_of, list_of_owner, lists_in, no_writes, AreWrites, write_numbered, list_read, sum_below, most_below, cell, total_of, ArePlanesChanged, sum_next, most_below-same, sum_below-same, sums, greatest, fold_below-join, BirthsRise, StandsBeside, writes_of_owner, generation_at, staleness_of, staleness_at, is_left_over, leftover_at, stale_count, rounds_behind, node_figures}
 use Rattle.version_lags.specs.Missed.{base_of, IsNumberAt, number_staleness, IsLastNumber}
 use Rattle.version_lags.specs.Pieces.{keys_in, StandTogether, MayBeCounted, AreLastNumbers, AreNumbersAt, IsLeastHeld, IsPiece}
 use Rattle.version_lags.proofs.Lagging.{last_fresh, stale_by_number, lag-least, left_over-by_number, own_is_last, key_held}
@@ -18,13 +18,13 @@ module _ (tables : List Table) (lists : List OwnerListView) (are : StandTogether
   -- an owner's own number is its last one
   pub own_last : (r k c : ℕ) → r < length tables → IsNumberAt lists (table_of_node tables r) r k c → IsLastNumber (list_of_owner lists r) k c
   own_last r k c lt at =
-      own_is_last 0 (list_of_owner lists r) (are.writes r) (table_of_node tables r) (proper-is r lt) (beside r lt) k c
+      own_is_last (list_of_owner lists r) (are.writes r) (table_of_node tables r) (proper-is r lt) (beside r lt) k c
       (ap (λ o. entry_at (table_of_node tables r) o k) (node-is r lt) ∙ at.held) at.written
 
   -- each key that an owner wrote is one of the keys
   pub key_within : (r m : ℕ) (e : Entry) → r < length tables → write_numbered (entries_of (list_of_owner lists r)) m ≡ Some e → base_of (list_of_owner lists r) < m → e.key < keys_in tables
   key_within r m e lt is current =
-      omega (arith, key_held 0 (list_of_owner lists r) (are.writes r) (table_of_node tables r) (proper-is r lt) (beside r lt) m e is current, (are.cluster.tables r lt).keys)
+      omega (arith, key_held (list_of_owner lists r) (are.writes r) (table_of_node tables r) (proper-is r lt) (beside r lt) m e is current, (are.cluster.tables r lt).keys)
 
 module _ (round : ℕ) (tables : List Table) (lists : List OwnerListView) (are : MayBeCounted round tables lists) where
   abbrev n : ℕ
@@ -57,14 +57,14 @@ module _ (round : ℕ) (tables : List Table) (lists : List OwnerListView) (are :
     place_staleness = elim (cases_eq p r) [
       | inl same ↦
           ap (λ b. if b then None else staleness_of round (generation_at tables r) (writes_of_owner (lists_in lists) r) k (mark_at (table_of_node tables p) r k)) (eq-eqb p r same)
-          ∙ sym (last_fresh round (list r) (writes r) k c c (at_own same) (omega arith) at.written)
+          ∙ sym (last_fresh (list r) (writes r) (births r) round k c c (at_own same) (omega arith) at.written)
       | inr other ↦
           ap (λ b. if b then None else staleness_of round (generation_at tables r) (writes_of_owner (lists_in lists) r) k (mark_at (table_of_node tables p) r k)) (ne_eqb p r other)
           ∙ (λ i. staleness_of round ((beside tables lists are.together r in_r).generation i) (list_read lists r no_writes [] (omega (arith, in_r, are.together.one_list_each)) i) k (mark_held (at.held i)))
     ]
 
     pub place_stale : (last : ℕ) → IsLastNumber (list r) k last → stale_count (staleness_at round tables (lists_in lists) p r k) ≡ (if nat_lt c last then 1 else 0)
-    place_stale last is = ap stale_count place_staleness ∙ stale_by_number round (list r) (writes r) k last c is at.written
+    place_stale last is = ap stale_count place_staleness ∙ stale_by_number (list r) (writes r) (births r) round k last c is at.written
 
     -- of a node's own part nothing is left over
     own_stays : p ≡ r → (nat_lt 0 c && nat_le c (base_of (list r))) ≡ false
@@ -86,7 +86,7 @@ module _ (round : ℕ) (tables : List Table) (lists : List OwnerListView) (are :
           ∙ sym (ap {B = ℕ} (λ b. if b then 1 else 0) (own_stays same))
       | inr other ↦
           ap {B = ℕ} (λ b. if b then 0 else (if is_left_over (generation_at tables r) (entry_at (table_of_node tables p) r k) then 1 else 0)) (ne_eqb p r other)
-          ∙ ap {B = ℕ} (λ b. if b then 1 else 0) ((λ i. is_left_over ((beside tables lists are.together r in_r).generation i) (at.held i)) ∙ left_over-by_number round (list r) (writes r) c at.written)
+          ∙ ap {B = ℕ} (λ b. if b then 1 else 0) ((λ i. is_left_over ((beside tables lists are.together r in_r).generation i) (at.held i)) ∙ left_over-by_number (list r) (writes r) c at.written)
     ]
 
   module _ (p : ℕ) (in_p : p < n) (cells : List ℕ) (at : AreNumbersAt tables lists p cells) where
@@ -106,7 +106,7 @@ module _ (round : ℕ) (tables : List Table) (lists : List OwnerListView) (are :
 
   -- before any table, and after one more
   least-none : (from r k last : ℕ) → IsLastNumber (list r) k last → IsLeastHeld round tables lists from 0 r k last
-  least-none from r k last is = record { written = is.written; most = sym (ap rounds_behind (last_fresh round (list r) (writes r) k last last is (omega arith) is.written)) }
+  least-none from r k last is = record { written = is.written; most = sym (ap rounds_behind (last_fresh (list r) (writes r) (births r) round k last last is (omega arith) is.written)) }
 
   least-more : (from count r k x c : ℕ) → from + count < n → r < n → IsLeastHeld round tables lists from count r k x → IsNumberAt lists (table_of_node tables (from + count)) r k c → IsLeastHeld round tables lists from (count + 1) r k (min x c)
   least-more from count r k x c in_p in_r before at = record {
@@ -114,16 +114,8 @@ module _ (round : ℕ) (tables : List Table) (lists : List OwnerListView) (are :
     most =
         ap (λ m. most_below m (λ i. behind (from + i) r k)) {x = count + 1} {y = suc count} (omega arith)
         ∙ (λ i. max (before.most i) (rounds_behind (place_staleness (from + count) r k c in_p in_r at i)))
-        ∙ lag-least round (list r) (writes r) k (births r) x c before.written at.written;
+        ∙ lag-least (list r) (writes r) (births r) round k x c before.written at.written;
   }
-
-  most_below-joined : (f : ℕ → ℕ) (a b : ℕ) → max (most_below a f) (most_below b (λ k. f (a + k))) ≡ most_below (a + b) f
-  most_below-joined f a zero = let same : a ≡ a + 0 = omega arith in omega (arith, ap (λ m. most_below m f) same)
-  most_below-joined f a (suc b) = let same : suc (a + b) ≡ a + suc b = omega arith in omega (arith, most_below-joined f a b, ap (λ m. most_below m f) same)
-
-  sum_below-joined : (f : ℕ → ℕ) (a b : ℕ) → sum_below a f + sum_below b (λ k. f (a + k)) ≡ sum_below (a + b) f
-  sum_below-joined f a zero = let same : a ≡ a + 0 = omega arith in omega (arith, ap (λ m. sum_below m f) same)
-  sum_below-joined f a (suc b) = let same : suc (a + b) ≡ a + suc b = omega arith in omega (arith, sum_below-joined f a b, ap (λ m. sum_below m f) same)
 
   moved : (f : ℕ → ℕ) (from a : ℕ) (k : ℕ) → f (from + (a + k)) ≡ f (from + a + k)
   moved f from a k = ap f {x = from + (a + k)} {y = from + a + k} (omega arith)
@@ -133,10 +125,10 @@ module _ (round : ℕ) (tables : List Table) (lists : List OwnerListView) (are :
   least-joined from a b r k x y one other = record {
     written = omega (arith, one.written);
     most =
-        sym (most_below-joined (λ i. behind (from + i) r k) a b)
+        sym (fold_below-join greatest (λ i. behind (from + i) r k) a b)
         ∙ ap (max (most_below a (λ i. behind (from + i) r k))) (most_below-same _ _ b (λ i lt. moved (λ p. behind p r k) from a i))
         ∙ (λ i. max (one.most i) (other.most i))
-        ∙ lag-least round (list r) (writes r) k (births r) x y one.written other.written;
+        ∙ lag-least (list r) (writes r) (births r) round k x y one.written other.written;
   }
 
   pub piece-none : (from : ℕ) (last : List ℕ) → AreLastNumbers tables lists last → IsPiece round tables lists from 0 0 0 last
@@ -167,11 +159,11 @@ module _ (round : ℕ) (tables : List Table) (lists : List OwnerListView) (are :
     stale_is =
         (λ i. one.stale_is i + two.stale_is i)
         ∙ ap (λ m. sum_below a (λ i. (node_figures round tables (lists_in lists) (from + i)).stale) + m) (sym (sum_below-same b _ _ (λ i lt. moved (λ p. (node_figures round tables (lists_in lists) p).stale) from a i)))
-        ∙ sum_below-joined (λ i. (node_figures round tables (lists_in lists) (from + i)).stale) a b;
+        ∙ fold_below-join sums (λ i. (node_figures round tables (lists_in lists) (from + i)).stale) a b;
     leftover_is =
         (λ i. one.leftover_is i + two.leftover_is i)
         ∙ ap (λ m. sum_below a (λ i. (node_figures round tables (lists_in lists) (from + i)).leftover) + m) (sym (sum_below-same b _ _ (λ i lt. moved (λ p. (node_figures round tables (lists_in lists) p).leftover) from a i)))
-        ∙ sum_below-joined (λ i. (node_figures round tables (lists_in lists) (from + i)).leftover) a b;
+        ∙ fold_below-join sums (λ i. (node_figures round tables (lists_in lists) (from + i)).leftover) a b;
     least_is = record {
       size = changed.size ∙ one.least_is.size;
       each = λ r k in_r in_k.

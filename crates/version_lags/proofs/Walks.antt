@@ -1,9 +1,10 @@
 -- The first write of an owner that some copy misses has been missed for longest.
 -- Serves `greatest_lag` and `lag_of_owner`.
-use Rattle.version_lags.proofs.Common.{◌≡◌, ℕ, zero, suc, ◌+◌, ◌-◌, ◌*◌, ◌<◌, ◌≤◌, max, List, length, Some, inl, inr, refl, sym, ap, ◌∙◌, subst, arith, mul-le-mul_right, cases_lt, same_Some, Entry, OwnerListView, entries_of, list_of_owner, AreWrites, write_numbered, cell, BirthsRise, most_below, rounds_behind, IsRoundMark, numbered-placed, numbered-within}
-use Rattle.version_lags.specs.Missed.{base_of, number_staleness, IsMissed, IsLastNumber, NonePassUpto}
+use Rattle.version_lags.proofs.Common.{◌≡◌, ℕ, zero, suc, ◌+◌, ◌-◌, ◌*◌, ◌<◌, ◌≤◌, max, List, length, Some, inl, inr, refl, sym, ap, ◌∙◌, subst, arith, mul-le-mul_right, cases_lt, Entry, OwnerListView, entries_of, list_of_owner, AreWrites, write_numbered, cell, BirthsRise, most_below, rounds_behind, IsRoundMark, numbered-placed, numbered-within}
+use Rattle.version_lags.specs.Missed.{base_of, number_staleness, IsLastNumber, NonePassUpto}
 use Rattle.version_lags.specs.Pieces.{MayWalk, WalksFrom, most_lag}
-use Rattle.version_lags.proofs.Missed.{numbers-born, missed_cases}
+use Rattle.version_lags.proofs.Missed.{numbers-born}
+use Rattle.version_lags.proofs.Lagging.{lag-upto, lag-since}
 
 most_below-le : (f : ℕ → ℕ) (m x : ℕ) → ((k : ℕ) → k < m → f k ≤ x) → most_below m f ≤ x
 most_below-le f zero x le = omega arith
@@ -15,9 +16,6 @@ most_below-has f (suc m) k lt = elim (cases_lt k m) [
   | inl before ↦ omega (arith, most_below-has f m k before)
   | inr not_before ↦ let same : m ≡ k = omega (arith, lt, not_before) in omega (arith, ap f same)
 ]
-
-most_below-is : (f : ℕ → ℕ) (m k x : ℕ) → k < m → f k ≡ x → ((j : ℕ) → j < m → f j ≤ x) → most_below m f ≡ x
-most_below-is f m k x lt is le = omega (arith, most_below-has f m k lt, is, most_below-le f m x le)
 
 module _ (v : OwnerListView) (least : ℕ → ℕ) where
   abbrev all : List Entry
@@ -45,50 +43,28 @@ module _ (v : OwnerListView) (least : ℕ → ℕ) where
     | inr before ↦ none m e is current before
   ]
 
-  module _ (round keys : ℕ) (are : AreWrites v) (within : (k : ℕ) → k < keys → least k ≤ length all) where
+  -- no copy has been behind for longer than the writes behind a place
+  module _ (are : AreWrites v) (rise : BirthsRise all) (round keys : ℕ) (within : (k : ℕ) → k < keys → least k ≤ length all) where
     abbrev lag : ℕ → ℕ
     lag k = rounds_behind (number_staleness round v k (least k))
 
+    pub walk-upto : (place most : ℕ) → NonePassUpto v least place → ((m : ℕ) (e : Entry) → place < m → write_numbered all m ≡ Some e → round - e.born + 1 ≤ most) → most_below keys lag ≤ most
+    walk-upto place most none upto = most_below-le lag keys most (λ k in_keys. lag-upto v are rise round k (least k) most (within k in_keys) (λ m e missed.
+        elim (cases_lt place m) [
+          | inl behind ↦ upto m e behind missed.written
+          | inr before ↦ absurd (omega (arith, missed.over, none m e missed.written missed.current before, ap least missed.keyed))
+        ]))
+
     pub walk-none : (place : ℕ) → NonePassUpto v least place → length all ≤ place → most_below keys lag ≡ 0
-    walk-none place none past = omega (
+    walk-none place none past = omega (arith, walk-upto place 0 none (λ m e behind is. absurd (omega (arith, past, behind, (numbered-within all m e is).1))))
+
+    pub walk-found : (place : ℕ) (e : Entry) → NonePassUpto v least place → base_of v ≤ place → write_numbered all (place + 1) ≡ Some e → e.key < keys → least e.key ≤ place → most_below keys lag ≡ round - e.born + 1
+    walk-found place e none current is in_keys over = omega (
       arith,
-      most_below-le lag keys 0 (λ k in_keys. elim (missed_cases v are k (least k) (within k in_keys) round) [
-        | inl nothing ↦ omega (arith, ap rounds_behind nothing.1)
-        | inr found ↦
-            let missed = found.1.1.0.missed in
-            absurd (omega (arith, missed.over, none found.0 found.1.0 missed.written missed.current (omega (arith, past, (numbered-within all found.0 found.1.0 missed.written).1)), ap least missed.keyed))
-      ]),
+      walk-upto place (round - e.born + 1) none (λ m d behind is_d. omega (arith, numbers-born all rise (place + 1) m e d is is_d (omega (arith, behind)))),
+      most_below-has lag keys e.key in_keys,
+      lag-since v are rise round e.key (least e.key) (place + 1) e (within e.key in_keys) (record { written = is; current = omega (arith, current); keyed = refl; over = omega (arith, over) }),
     )
-
-    pub walk-found : BirthsRise all → (place : ℕ) (e : Entry) → NonePassUpto v least place → base_of v ≤ place → write_numbered all (place + 1) ≡ Some e → e.key < keys → least e.key ≤ place → most_below keys lag ≡ round - e.born + 1
-    walk-found rise place e none current is in_keys over = most_below-is lag keys e.key (round - e.born + 1) in_keys here upto
-      where
-        behind : (k m : ℕ) (d : Entry) → IsMissed v k (least k) m d → place + 1 ≤ m
-        behind k m d missed = elim (cases_lt place m) [
-          | inl next ↦ omega (arith, next)
-          | inr before ↦ absurd (omega (arith, missed.over, none m d missed.written missed.current before, ap least missed.keyed))
-        ]
-
-        upto : (k : ℕ) → k < keys → lag k ≤ round - e.born + 1
-        upto k lt = elim (missed_cases v are k (least k) (within k lt) round) [
-          | inl nothing ↦ omega (arith, ap rounds_behind nothing.1)
-          | inr found ↦
-              let missed = found.1.1.0.missed in
-              omega (arith, ap rounds_behind found.1.1.1, numbers-born all rise (place + 1) found.0 e found.1.0 is missed.written (behind k found.0 found.1.0 missed))
-        ]
-
-        itself : IsMissed v e.key (least e.key) (place + 1) e
-        itself = record { written = is; current = omega (arith, current); keyed = refl; over = omega (arith, over) }
-
-        here : lag e.key ≡ round - e.born + 1
-        here = elim (missed_cases v are e.key (least e.key) (within e.key in_keys) round) [
-          | inl nothing ↦ absurd (nothing.0 (place + 1) e itself)
-          | inr found ↦
-              let missed = found.1.1.0.missed in
-              let same : found.0 ≡ place + 1 = omega (arith, behind e.key found.0 found.1.0 missed, found.1.1.0.first (place + 1) e itself) in
-              ap rounds_behind found.1.1.1
-              ∙ ap (λ (x : Entry). round - x.born + 1) (same_Some found.1.0 e (sym missed.written ∙ ap (write_numbered all) same ∙ is))
-        ]
 
 -- no write is of a later round
 born-upto : {round most nodes keys owner : ℕ} {v : OwnerListView} {least : List ℕ} → MayWalk round most nodes keys owner v least → (m : ℕ) (e : Entry) → write_numbered (entries_of v) m ≡ Some e → e.born ≤ round
@@ -108,25 +84,11 @@ module _ {round most nodes keys owner first : ℕ} {v : OwnerListView} {least : 
   walk-born = born-upto walks.may (place + 1) e is
 
 -- where all behind the number was written after a round, no copy has been behind for longer than since then
-pub lag-since : (round most nodes keys owner first : ℕ) (v : OwnerListView) (least : List ℕ) → WalksFrom round most nodes keys owner first v least
+pub lag-recent : (round most nodes keys owner first : ℕ) (v : OwnerListView) (least : List ℕ) → WalksFrom round most nodes keys owner first v least
     → (since mark greatest : ℕ) → IsRoundMark (entries_of v) 0 since mark → mark ≤ first → round ≤ since + greatest → most_lag round nodes keys owner v least ≤ greatest
-lag-since round most nodes keys owner first v least walks since mark greatest marked upto_first recent =
-    most_below-le _ keys greatest (λ k in_keys. elim (missed_cases v walks.may.writes k (cell least nodes owner k) (walks.may.written k in_keys) round) [
-      | inl nothing ↦ omega (arith, ap rounds_behind nothing.1)
-      | inr found ↦
-          let missed = found.1.1.0.missed in
-          let start = max (base_of v) first in
-          elim (cases_lt start found.0) [
-            | inl past ↦ omega (
-              arith,
-              ap rounds_behind found.1.1.1,
-              marked.above found.0 found.1.0 (omega (arith, past)) missed.written (omega (arith, upto_first, past)),
-              born-upto walks.may found.0 found.1.0 missed.written,
-              recent,
-            )
-            | inr before ↦ absurd (omega (arith, missed.over, walks.start found.0 found.1.0 missed.written missed.current before, ap (cell least nodes owner) missed.keyed))
-          ]
-    ])
+lag-recent round most nodes keys owner first v least walks since mark greatest marked upto_first recent =
+    walk-upto v (cell least nodes owner) walks.may.writes walks.may.in_order round keys walks.may.written (max (base_of v) first) greatest walks.start
+    (λ m e past is. omega (arith, marked.above m e (omega (arith, past)) is (omega (arith, upto_first, past)), born-upto walks.may m e is, recent))
 
 -- an owner's list among those of all
 pub walks-from : (round most nodes keys r first : ℕ) (lists : List OwnerListView) (v : OwnerListView) (least last : List ℕ) → v ≡ list_of_owner lists r → MayWalk round most nodes keys r (list_of_owner lists r) least

@@ -1,6 +1,6 @@
 use Rattle.version_lags.proofs.Common.{rules, ◌≡◌, ◌+◌, ◌≤◌, max, length, map, refl, ap, ◌∙◌, arith, length-map, get_or_default, list_of_owner, no_writes, cell, number-at}
 use Rattle.version_lags.specs.Pieces.{most_lag}
-use Rattle.version_lags.proofs.Walks.{walks-from, lag-since, most-next, most-stays}
+use Rattle.version_lags.proofs.Walks.{walks-from, lag-recent, most-next, most-stays}
 use Rattle.version_lags.proofs.lags.greatest_lag.Goals as goal
 
 pub lag_of_owner-lag-requires : goal.lag_of_owner-lag-requires
@@ -50,5 +50,5 @@ loop-owner-preserved-then-is_after g c =
     let after = c.is_after.ensures.0 c.if-is_after.true in
     let recent : c.args.round ≤ since + c.loop-owner.greatest = omega (arith, c.saturating_sub.ensures) in
     most-stays (λ q. most_lag c.args.round (length lists) c.args.numbers.now.keys q (list_of_owner lists q) least) r c.loop-owner.greatest c.loop-owner.invariant
-    (lag-since c.args.round g.N.Number.most (length lists) c.args.numbers.now.keys r (number c.index-first.result.now) (list_of_owner lists r) least walks since (cell (map number ends.numbers.now) (length lists) r since) c.loop-owner.greatest
+    (lag-recent c.args.round g.N.Number.most (length lists) c.args.numbers.now.keys r (number c.index-first.result.now) (list_of_owner lists r) least walks since (cell (map number ends.numbers.now) (length lists) r since) c.loop-owner.greatest
     (c.requires.ends.are_ends.parts r since lt after.0) after.1 recent)

@@ -8,7 +8,7 @@ pub returns-then-widen : goal.returns-then-widen
 returns-then-widen g c keys walks =
     let v = c.args.list.now in
     let numbers = map g.N.Number.number c.args.least.now in
-    sym (walk-none v (cell numbers c.args.nodes c.args.owner) c.args.round keys walks.may.writes walks.may.written (max (base_of v) (g.N.Number.number c.args.first)) walks.start
+    sym (walk-none v (cell numbers c.args.nodes c.args.owner) walks.may.writes walks.may.in_order c.args.round keys walks.may.written (max (base_of v) (g.N.Number.number c.args.first)) walks.start
     (omega (arith, walks.may.few_writes, c.if-widen.true, c.widen.ensures, c.widen-2.ensures, c.greatest.ensures)))
 
 pub bounds-least-write : goal.bounds-least-write
@@ -32,7 +32,7 @@ returns-then-widen-place g c keys walks =
     let current : base_of v ≤ place = omega (arith, c.loop-place.auto.place, c.max-from.ensures, c.earlier_count.ensures) in
     let index = walk-index walks place e current is in
     let here = number-at g.N.Number.number c.args.least.now (e.key * c.args.nodes + c.args.owner) c.index-least-write.result (omega (arith, index, length-map c.args.least.now g.N.Number.number)) c.index-least-write.is in
-    sym (walk-found v (cell numbers c.args.nodes c.args.owner) c.args.round keys walks.may.writes walks.may.written walks.may.in_order place e c.loop-place.invariant current is
+    sym (walk-found v (cell numbers c.args.nodes c.args.owner) walks.may.writes walks.may.in_order c.args.round keys walks.may.written place e c.loop-place.invariant current is
     (walk-keyed walks place e current is)
     (omega (arith, c.if-widen-place.true, c.widen-in-Some.ensures, here)))
 
@@ -61,4 +61,4 @@ pub returns : goal.returns
 returns g c keys walks =
     let v = c.args.list.now in
     let numbers = map g.N.Number.number c.args.least.now in
-    sym (walk-none v (cell numbers c.args.nodes c.args.owner) c.args.round keys walks.may.writes walks.may.written c.loop-place.place c.loop-place.invariant (omega (arith, c.loop-place-test.false, c.count-place-end.ensures)))
+    sym (walk-none v (cell numbers c.args.nodes c.args.owner) walks.may.writes walks.may.in_order c.args.round keys walks.may.written c.loop-place.place c.loop-place.invariant (omega (arith, c.loop-place-test.false, c.count-place-end.ensures)))

@@ -11,7 +11,7 @@ pub use Rattle.std.specs.Borrow.{Bor}
 pub use Rattle.std.specs.List.{position_or_len}
 pub use Rattle.std.specs.Prelude.{MatchOption, nat_le, nat_lt}
 pub use Rattle.bench_types.proofs.Marks.{before-yes}
-pub use Rattle.bench_types.proofs.Sums.{fold_below-join, greatest, most_below-same, sum_below-most, sum_below-same, sums}
+pub use Rattle.bench_types.proofs.Sums.{most_below-same, sum_below-most, sum_below-same}
 pub use Rattle.bench_types.specs.Mark.{absent, is_before, mark_held, mark_of}
 pub use Rattle.bench_types.specs.Sums.{most_below, sum_below}
 pub use Rattle.bench_types.specs.declared.entries.Entry.{Entry}
@@ -21,12 +21,12 @@ pub use Rattle.model.proofs.Figures.{most_by_owner}
 pub use Rattle.model.proofs.Owners.{list_read}
 pub use Rattle.model.proofs.Picked.{find_passes}
 unfoldable pub use Rattle.model.specs.Figures.{figures_of}
-pub use Rattle.model.specs.Figures.{generation_at, is_left_over, leftover_at, node_figures, rounds_behind, stale_count, staleness_at, staleness_of, writes_of_owner}
+pub use Rattle.model.specs.Figures.{generation_at, is_left_over, leftover_at, rounds_behind, stale_count, staleness_at, staleness_of, writes_of_owner}
 pub use Rattle.model.specs.Table.{IsProper, Table, entry_at, mark_at}
 pub use Rattle.model.specs.Tables.{table_of_node}
 pub use Rattle.model.specs.Writes.{write_of_entry}
 pub use Rattle.model.specs.calls.Numbers.{write_numbered}
-pub use Rattle.model.specs.calls.OwnerListView.{AreWrites, OwnerListView, all_writes, entries_of, list_of_owner, lists_in, no_writes, written}
+pub use Rattle.model.specs.calls.OwnerListView.{AreWrites, OwnerListView, entries_of, list_of_owner, lists_in, no_writes, written}
 pub use Rattle.model.specs.calls.Writes.{IsNumbered, is_write_of, last_write}
 pub use Rattle.model.specs.declared.writes.Write.{Write}
 pub use Rattle.owner_writes.proofs.Numbered.{write_from-here}
@@ -36,5 +36,6 @@ pub use Rattle.owner_writes.specs.Numbered.{IsRoundMark}
 pub use Rattle.owner_writes.specs.declared.writes.Kept.{Kept}
 pub use Rattle.planes.proofs.Counts.{count_le, sum_next}
 pub use Rattle.planes.proofs.Elementwise.{number-at}
-pub use Rattle.planes.specs.Planes.{ArePlanesChanged, Cells, HasEachPlace, IsGrid, cell, total_of}
+pub use Rattle.planes.specs.Lags.{IsLeastBehind}
+pub use Rattle.planes.specs.Planes.{ArePlanesChanged, Cells, HasEach, HasEachPlace, cell, total_of}
 pub use Rattle.round_tables.specs.Histories.{BirthsRise, StandsBeside}

@@ -1,7 +1,8 @@
 -- How long copies have been behind, by the numbers that they hold: the least number has been longest.
 -- Serves `Pieces` and `Walks`.
-use Rattle.version_lags.proofs.Common.{◌≡◌, ℕ, zero, suc, ◌+◌, ◌-◌, ◌<◌, ◌≤◌, min, max, ◌&&◌, List, length, get_or, Some, None, if◌then◌else◌, option_map, inl, inr, refl, sym, ap, ◌∙◌, arith, nat_lt, nat_le, cases_lt, lt-ltb, le-ltb, le-leb, lt-leb, length-map, get_or_append_left, same_Some, get_or-map, Entry, Table, entry_at, IsProper, Write, write_of_entry, last_write, OwnerListView, entries_of, written, AreWrites, write_numbered, BirthsRise, StandsBeside, is_left_over, stale_count, rounds_behind, write_from-here, numbered-placed, numbered-none}
+use Rattle.version_lags.proofs.Common.{◌≡◌, ℕ, zero, suc, ◌+◌, ◌-◌, ◌<◌, ◌≤◌, min, max, ◌&&◌, List, length, get_or, Some, None, if◌then◌else◌, option_map, inl, inr, refl, sym, ap, ◌∙◌, arith, nat_lt, nat_le, cases_lt, lt-ltb, le-ltb, le-leb, lt-leb, length-map, get_or_append_left, same_Some, get_or-map, Entry, Table, entry_at, IsProper, Write, write_of_entry, last_write, OwnerListView, entries_of, written, AreWrites, write_numbered, BirthsRise, StandsBeside, is_left_over, most_below, stale_count, rounds_behind, write_from-here, numbered-placed, numbered-none}
 use Rattle.version_lags.specs.Missed.{base_of, number_staleness, IsMissed, IsLastNumber}
+use Rattle.version_lags.specs.Pieces.{least_below}
 use Rattle.version_lags.proofs.Missed.{numbers-born, current-numbered, last_write-after, last_write-keyed, missed_cases}
 
 module _ (v : OwnerListView) (are : AreWrites v) where
@@ -54,11 +55,18 @@ module _ (v : OwnerListView) (are : AreWrites v) where
         lag-since c m e (omega (arith, le, within)) (record { written = missed.written; current = missed.current; keyed = missed.keyed; over = omega (arith, missed.over, le) }))
 
     -- so the lesser of two has been longest
-    pub lag-least : (c d : ℕ) → c ≤ length all → d ≤ length all → max (lag c) (lag d) ≡ lag (min c d)
+    lag-least : (c d : ℕ) → c ≤ length all → d ≤ length all → max (lag c) (lag d) ≡ lag (min c d)
     lag-least c d in_c in_d = elim (cases_lt c d) [
       | inl lt ↦ let is : min c d ≡ c = omega arith in omega (arith, lag-falls c d (omega arith) in_d, ap lag is)
       | inr ge ↦ let is : min c d ≡ d = omega arith in omega (arith, lag-falls d c ge in_c, ap lag is)
     ]
+
+    pub lag-least_below : (f : ℕ → ℕ) (last n : ℕ) → IsLastNumber v key last → ((p : ℕ) → p < n → f p ≤ length all) → (least_below n f last ≤ length all) × (most_below n (λ p. lag (f p)) ≡ lag (least_below n f last))
+    lag-least_below f last zero is within = (is.written, sym (ap rounds_behind (last_fresh last last is (omega arith) is.written)))
+    lag-least_below f last (suc n) is within =
+        let before = lag-least_below f last n is (λ p lt. within p (omega (arith, lt))) in
+        let here = within n (omega arith) in
+        (omega (arith, before.0), ap (λ m. max m (lag (f n))) before.1 ∙ lag-least (least_below n f last) (f n) before.0 here)
 
   -- what is of an earlier generation
   pub left_over-by_number : (c : ℕ) → c ≤ length all → is_left_over v.generation (write_numbered all c) ≡ (nat_lt 0 c && nat_le c (base_of v))

@@ -1,9 +1,9 @@
 -- How long copies have been behind, by the numbers that they hold: the least number has been longest.
 -- Serves `Pieces` and `Walks`.
-use Rattle.version_lags.proofs.Common.{◌≡◌, ℕ, zero, suc, ◌+◌, ◌-◌, ◌<◌, ◌≤◌, min, max, ◌&&◌, List, length, get_or, Some, None, if◌then◌else◌, option_map, inl, inr, refl, sym, ap, ◌∙◌, arith, nat_lt, nat_le, cases_lt, lt-ltb, le-ltb, le-leb, lt-leb, length-map, get_or_append_left, same_Some, get_or-map, Entry, Table, entry_at, IsProper, Write, write_of_entry, last_write, OwnerListView, entries_of, written, AreWrites, write_numbered, BirthsRise, StandsBeside, is_left_over, most_below, stale_count, rounds_behind, write_from-here, numbered-placed, numbered-none}
+use Rattle.version_lags.proofs.Common.{◌≡◌, ℕ, zero, suc, ◌+◌, ◌-◌, ◌<◌, ◌≤◌, min, max, ◌&&◌, List, length, get_or, Some, None, if◌then◌else◌, option_map, inl, inr, refl, sym, ap, ◌∙◌, arith, nat_lt, nat_le, cases_lt, lt-ltb, le-ltb, le-leb, lt-leb, reverse, is_write_of, position_or_len, find_at, find_passes, fails_before_first, slice_get-get_or, both_ways, eq-eqb, eqb-true, get_or-reverse, length-reverse, length-map, get_or_append_left, same_Some, get_or-map, Entry, Table, entry_at, IsProper, Write, write_of_entry, last_write, OwnerListView, entries_of, written, AreWrites, write_numbered, BirthsRise, StandsBeside, is_left_over, most_below, stale_count, rounds_behind, write_from-here, numbered-placed, numbered-some}
 use Rattle.version_lags.specs.Missed.{base_of, number_staleness, IsMissed, IsLastNumber}
 use Rattle.version_lags.specs.Pieces.{least_below}
-use Rattle.version_lags.proofs.Missed.{numbers-born, current-numbered, last_write-after, last_write-keyed, missed_cases}
+use Rattle.version_lags.proofs.Missed.{numbers-born, current-numbered, missed_cases}
 
 module _ (v : OwnerListView) (are : AreWrites v) where
   abbrev all : List Entry
@@ -89,14 +89,21 @@ module _ (v : OwnerListView) (are : AreWrites v) where
   last-from : (m : ℕ) (e : Entry) → write_numbered all m ≡ Some e → base_of v < m → (w : Write) × ((last_write (written v) e.key ≡ Some w) × (m ≤ base_of v + w.version))
   last-from m e is current =
       let at = current-numbered v are m e is current in
-      let last = last_write-after (written v) e.key at.place (write_of_entry e) numbered at.within (ap (λ (w : Write). w.key) (at.there (write_of_entry e))) in
-      (last.0, (last.1.0, omega (arith, at.is, last.1.1)))
-    where
-      numbered : (i : ℕ) (w : Write) → i < length (written v) → (get_or (written v) i w).version ≡ i + 1
-      numbered i w lt =
-          let d : Entry = record { key = 0; generation = 0; version = 0; value = 0; born = 0 } in
-          let within : i < length v.current = omega (arith, lt, length-map v.current write_of_entry) in
-          omega (arith, ap (λ (x : Write). x.version) (get_or-map write_of_entry v.current i d w within), (are.current i d within).1)
+      let ws = written v in
+      let d = write_of_entry e in
+      let test = is_write_of e.key in
+      let back = reverse ws in
+      let first = position_or_len test back in
+      let turned = length ws - 1 - at.place in
+      let same : length ws - 1 - turned ≡ at.place = omega (arith, at.within) in
+      let passes = eq-eqb (get_or back turned d).key e.key (ap (λ (w : Write). w.key) (get_or-reverse ws turned d (omega (arith, at.within)) ∙ ap (λ k. get_or ws k d) same ∙ at.there d)) in
+      let upto : first ≤ turned = elim (cases_lt turned first) [ inl before ↦ absurd (both_ways (test (get_or back turned d)) (fails_before_first test back turned d before) passes) | inr le ↦ le ] in
+      let place = length ws - 1 - first in
+      let within : place < length v.current = omega (arith, upto, at.within, length-map v.current write_of_entry) in
+      let version = ap (λ (w : Write). w.version) (get_or-reverse ws first d (omega (arith, upto, at.within)) ∙ get_or-map write_of_entry v.current place e d within) in (
+        get_or back first d,
+        (find_at test back ∙ slice_get-get_or back first d (omega (arith, upto, at.within, length-reverse ws)), omega (arith, at.is, upto, at.within, version, (are.current place e within).1)),
+      )
 
   -- a table that has the last writes
   module _ (t : Table) (proper : IsProper t) (beside : StandsBeside t v) where
@@ -112,27 +119,26 @@ module _ (v : OwnerListView) (are : AreWrites v) where
 
     -- the owner's own number is that of its last write of the key
     pub own_is_last : (key c : ℕ) → entry_at t t.node key ≡ write_numbered all c → c ≤ length all → IsLastNumber v key c
-    own_is_last key c held within = elim (write_numbered all c) as (λ o. write_numbered all c ≡ o → IsLastNumber v key c) [
-      | None ↦ λ none. record {
-        written = within;
-        last = λ m d missed.
-            let last = last-from m d missed.written missed.current in
-            let no : None ≡ Some last.0 = ap (option_map write_of_entry) (sym none) ∙ found ∙ ap (last_write (written v)) (sym missed.keyed) ∙ last.1.0 in
-            cc;
-        there = λ below lt. absurd (omega (arith, lt, numbered-none all c within none));
-      }
-      | Some e ↦ λ is.
-          let is_found : Some (write_of_entry e) ≡ last_write (written v) key = ap (option_map write_of_entry) (sym is) ∙ found in
-          let current = newer e is in
-          record {
-            written = within;
-            last = λ m d missed.
-                let last = last-from m d missed.written missed.current in
-                let same = same_Some (write_of_entry e) last.0 (is_found ∙ ap (last_write (written v)) (sym missed.keyed) ∙ last.1.0) in
-                omega (arith, missed.over, last.1.1, ap (λ (w : Write). w.version) same, (current-numbered v are c e is current).version);
-            there = λ below lt. (e, record { written = is; current = current; keyed = last_write-keyed (written v) key (write_of_entry e) (sym is_found); over = lt });
-          }
-    ] refl
+    own_is_last key c held within = record {
+      written = within;
+      last = λ m d missed.
+          let last = last-from m d missed.written missed.current in
+          let same : option_map write_of_entry (write_numbered all c) ≡ Some last.0 = found ∙ ap (last_write (written v)) (sym missed.keyed) ∙ last.1.0 in
+          elim (cases_lt 0 c) [
+            | inl some ↦
+                let here = numbered-some all c some within in
+                let one = same_Some (write_of_entry here.0) last.0 (ap (option_map write_of_entry) (sym here.1) ∙ same) in
+                omega (arith, missed.over, last.1.1, ap (λ (w : Write). w.version) one, (current-numbered v are c here.0 here.1 (newer here.0 here.1)).version)
+            | inr none ↦
+                let zero : 0 ≡ c = omega (arith, none) in
+                let no : None ≡ Some last.0 = ap (λ n. option_map write_of_entry (write_numbered all n)) zero ∙ same in
+                absurd (cc)
+          ];
+      there = λ below lt.
+          let here = numbered-some all c (omega (arith, lt)) within in
+          let passes = find_passes (is_write_of key) (reverse (written v)) (write_of_entry here.0) (sym found ∙ ap (option_map write_of_entry) here.1) in
+          (here.0, record { written = here.1; current = newer here.0 here.1; keyed = eqb-true here.0.key key passes; over = lt });
+    }
       where
         found : option_map write_of_entry (write_numbered all c) ≡ last_write (written v) key
         found = ap (option_map write_of_entry) (sym held) ∙ beside.own_part key

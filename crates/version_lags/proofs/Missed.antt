@@ -1,6 +1,6 @@
 -- The first write that a copy misses, by numbers.
 -- Serves `Lagging` and `Walks`.
-use Rattle.version_lags.proofs.Common.{◌≡◌, ℕ, zero, suc, ◌+◌, ◌-◌, ◌<◌, ◌≤◌, Bool, true, eqb, ltb, ◌&&◌, List, length, get_or, reverse, Some, None, ◌⊎◌, option_map, inl, inr, refl, sym, ap, ◌∙◌, arith, length-append, position_or_len, find_at, fails_before_first, passes_at_first, slice_get_cases, slice_get-get_or, cases_lt, lt-ltb, ltb-true, eq-eqb, eqb-true, and_parts, both_ways, get_or-append_right, get_or-map, length-map, get_or-reverse, length-reverse, Entry, absent, mark_of, mark_held, is_before, before-yes, Write, write_of_entry, IsNumbered, is_write_of, last_write, OwnerListView, entries_of, written, AreWrites, write_numbered, find_passes, write_from-here, BirthsRise, numbered-placed, numbered-within, numbers-compare}
+use Rattle.version_lags.proofs.Common.{◌≡◌, ℕ, zero, suc, ◌+◌, ◌-◌, ◌<◌, ◌≤◌, Bool, true, eqb, ltb, ◌&&◌, List, length, get_or, Some, None, ◌⊎◌, option_map, inl, inr, refl, sym, ap, ◌∙◌, arith, length-append, position_or_len, find_at, fails_before_first, passes_at_first, slice_get_cases, cases_lt, lt-ltb, ltb-true, eq-eqb, eqb-true, and_parts, both_ways, get_or-append_right, get_or-map, length-map, Entry, absent, mark_of, mark_held, is_before, before-yes, Write, write_of_entry, OwnerListView, entries_of, written, AreWrites, write_numbered, write_from-here, BirthsRise, numbered-placed, numbered-within, numbers-compare}
 use Rattle.version_lags.specs.Missed.{base_of, number_staleness, IsMissed, IsFirstMissed, HasNoneMissed}
 
 -- births don't fall with the numbers
@@ -10,40 +10,6 @@ numbers-born writes rise m n d e is_d is_e le =
     let second = numbered-placed writes n e is_e in
     let born = λ (x : Entry). x.born in
     omega (arith, rise first.place second.place d (omega (arith, le, first.is, second.is)) second.within, ap born (first.there d), ap born (second.there d))
-
--- a key that was written has a last write, which stands no earlier
-pub last_write-after : (ws : List Write) (key i : ℕ) (d : Write) → IsNumbered ws → i < length ws → (get_or ws i d).key ≡ key → (w : Write) × ((last_write ws key ≡ Some w) × (i < w.version))
-last_write-after ws key i d numbered lt here = (get_or back at d, (find_at test back ∙ slice_get-get_or back at d within, later))
-  where
-    test : Write → Bool
-    test = is_write_of key
-
-    back : List Write
-    back = reverse ws
-
-    at : ℕ
-    at = position_or_len test back
-
-    passes : test (get_or back (length ws - 1 - i) d) ≡ true
-    passes =
-        let same : length ws - 1 - (length ws - 1 - i) ≡ i = omega arith in
-        eq-eqb (get_or back (length ws - 1 - i) d).key key
-        (ap (λ (w : Write). w.key) (get_or-reverse ws (length ws - 1 - i) d (omega arith) ∙ ap (λ j. get_or ws j d) same) ∙ here)
-
-    upto : at ≤ length ws - 1 - i
-    upto = elim (cases_lt (length ws - 1 - i) at) [
-      | inl before ↦ absurd (both_ways (test (get_or back (length ws - 1 - i) d)) (fails_before_first test back (length ws - 1 - i) d before) passes)
-      | inr le ↦ le
-    ]
-
-    within : at < length back
-    within = omega (arith, upto, length-reverse ws)
-
-    later : i < (get_or back at d).version
-    later = omega (arith, ap (λ (w : Write). w.version) (get_or-reverse ws at d (omega (arith, within, length-reverse ws))), numbered (length ws - 1 - at) d (omega arith), upto)
-
-pub last_write-keyed : (ws : List Write) (key : ℕ) (w : Write) → last_write ws key ≡ Some w → w.key ≡ key
-last_write-keyed ws key w is = eqb-true w.key key (find_passes (is_write_of key) (reverse ws) w is)
 
 module _ (v : OwnerListView) (are : AreWrites v) where
   abbrev base : ℕ

@@ -1,8 +1,8 @@
 -- Pieces of tables as code counts them, table by table and part by part.
 -- Serves `+rest`, `Numbers::piece_of`, `figures` and `Whole`.
-use Rattle.version_lags.proofs.Common.{◌≡◌, ℕ, zero, suc, ◌+◌, ◌*◌, ◌<◌, ◌≤◌, min, Bool, cond, ◌&&◌, List, [], length, get_or, map, sym, ap, ◌∙◌, arith, slice_index, nat_lt, nat_le, Bor, get_or-map, length-map, MOST_NODES, MOST_KEYS, Table, sum_below, total_of, ArePlanesChanged, sum_below-most, count_le, sum_next}
+use Rattle.version_lags.proofs.Common.{◌≡◌, ℕ, zero, suc, ◌+◌, ◌*◌, ◌<◌, ◌≤◌, min, Bool, cond, List, [], length, get_or, map, sym, ap, ◌∙◌, arith, Bor, get_or-map, length-map, MOST_NODES, MOST_KEYS, Table, sum_below, total_of, ArePlanesChanged, sum_below-most, count_le, sum_next}
 use Rattle.version_lags.specs.declared.lags.RoundNumbers.{RoundNumbers}
-use Rattle.version_lags.specs.Pieces.{StandTogether, numbers_at, numbers_in, table_at, cells_in, last_cells, stale_of, left_of, AreGrids, AreNumbersOf, IsSumOf, least_below, CountsPiece}
+use Rattle.version_lags.specs.Pieces.{StandTogether, numbers_in, table_at, cells_in, last_cells, is_stale, is_left, total_below, AreGrids, AreNumbersOf, IsTotal, least_below, CountsPiece}
 
 -- the numbers of tables make grids
 pub grids-of : {N : Type 0} (number : N → ℕ) (numbers : RoundNumbers N) (tables : List Table) → StandTogether tables numbers.lists.now
@@ -26,9 +26,8 @@ least_below-le (suc n) f most = omega (arith, least_below-le n f most)
 
 -- before any table, with one more, and two pieces, one behind the other
 module _ {N : Type 0} (number : N → ℕ) (numbers : RoundNumbers N) (grids : AreGrids number numbers) where
-  sum-of : (test : ℕ → ℕ → ℕ → Bool) (from to sum : ℕ) → sum_below from (λ p. total_of (length numbers.lists.now) numbers.keys (test p)) + sum ≡ sum_below to (λ p. total_of (length numbers.lists.now) numbers.keys (test p))
-      → IsSumOf (λ p. total_of (length numbers.lists.now) numbers.keys (test p)) from to sum
-  sum-of test from to sum is = record { few = omega (arith, is, sum_below-most _ to (MOST_NODES * MOST_KEYS) (λ p lt. few p)); is = is }
+  total-is : (test : ℕ → ℕ → ℕ → Bool) (from to total : ℕ) → total_below numbers test from + total ≡ total_below numbers test to → IsTotal numbers test from to total
+  total-is test from to total is = record { few = omega (arith, is, sum_below-most _ to (MOST_NODES * MOST_KEYS) (λ p lt. few p)); is = is }
     where
       few : (p : ℕ) → total_of (length numbers.lists.now) numbers.keys (test p) ≤ MOST_NODES * MOST_KEYS
       few p = omega (
@@ -37,27 +36,27 @@ module _ {N : Type 0} (number : N → ℕ) (numbers : RoundNumbers N) (grids : A
         sum_below-most (λ r. sum_below numbers.keys (λ k. cond (test p r k) 1 0)) (length numbers.lists.now) MOST_KEYS (λ r lt. omega (arith, grids.grid.few_keys, count_le numbers.keys (test p r))),
       )
 
-  abbrev stale : ℕ → ℕ → ℕ → Bool
-  stale p r k = nat_lt (cells_in numbers (table_at number numbers p) r k) (last_cells number numbers r k)
-
-  abbrev left : ℕ → ℕ → ℕ → Bool
-  left p r k = nat_lt 0 (cells_in numbers (table_at number numbers p) r k) && nat_le (cells_in numbers (table_at number numbers p) r k) (slice_index (map number numbers.bases.now) r)
+  -- a table's numbers as code reads them
+  pub table-read : (p : ℕ) (d : Bor (List N)) → p < length numbers.lists.now → (map number (get_or numbers.cells.now p d).now ≡ table_at number numbers p) × (length (get_or numbers.cells.now p d).now ≡ length numbers.last.now)
+  table-read p d lt =
+      let read = sym (get_or-map (λ y. map number y.now) numbers.cells.now p d [] (omega (arith, lt, grids.count))) in
+      (read, sym (length-map (get_or numbers.cells.now p d).now number) ∙ ap length read ∙ grids.alike p lt)
 
   pub counts-none : (from : ℕ) → CountsPiece number numbers from from 0 0 (map number numbers.last.now)
   counts-none from = record {
-    stale_is = sum-of stale from from 0 (omega arith);
-    leftover_is = sum-of left from from 0 (omega arith);
+    stale_is = total-is _ from from 0 (omega arith);
+    leftover_is = total-is _ from from 0 (omega arith);
     least_is = record {
       size = length-map numbers.last.now number ∙ grids.grid.whole;
       each = λ r k in_r in_k. record { upto = omega arith; is = omega (arith, least_below-le from (λ p. cells_in numbers (table_at number numbers p) r k) (last_cells number numbers r k)) };
     };
   }
 
-  pub counts-more : (from at sum rest x y : ℕ) (old new here : List ℕ) → CountsPiece number numbers from at sum rest old → here ≡ table_at number numbers at → x ≡ stale_of number numbers here → y ≡ left_of number numbers here
+  pub counts-more : (from at sum rest x y : ℕ) (old new here : List ℕ) → CountsPiece number numbers from at sum rest old → here ≡ table_at number numbers at → x ≡ total_of (length numbers.lists.now) numbers.keys (is_stale number numbers here) → y ≡ total_of (length numbers.lists.now) numbers.keys (is_left number numbers here)
       → ArePlanesChanged (λ r k a b. b ≡ min a (cells_in numbers here r k)) (length numbers.lists.now) numbers.keys old new → CountsPiece number numbers from (at + 1) (sum + x) (rest + y) new
   counts-more from at sum rest x y old new here before is x_is y_is changed = record {
-    stale_is = sum-of stale from (at + 1) (sum + x) (omega (arith, sum_next _ at _ x before.stale_is.is (x_is ∙ ap (stale_of number numbers) is)));
-    leftover_is = sum-of left from (at + 1) (rest + y) (omega (arith, sum_next _ at _ y before.leftover_is.is (y_is ∙ ap (left_of number numbers) is)));
+    stale_is = total-is _ from (at + 1) (sum + x) (omega (arith, sum_next _ at _ x before.stale_is.is (x_is ∙ ap (λ h. total_of (length numbers.lists.now) numbers.keys (is_stale number numbers h)) is)));
+    leftover_is = total-is _ from (at + 1) (rest + y) (omega (arith, sum_next _ at _ y before.leftover_is.is (y_is ∙ ap (λ h. total_of (length numbers.lists.now) numbers.keys (is_left number numbers h)) is)));
     least_is = record {
       size = changed.size ∙ before.least_is.size;
       each = λ r k in_r in_k.
@@ -72,8 +71,8 @@ module _ {N : Type 0} (number : N → ℕ) (numbers : RoundNumbers N) (grids : A
   pub counts-joined : (from mid to sum rest x y : ℕ) (old new other : List ℕ) → CountsPiece number numbers from mid sum rest old → CountsPiece number numbers mid to x y other
       → ArePlanesChanged (λ r k a b. b ≡ min a (cells_in numbers other r k)) (length numbers.lists.now) numbers.keys old new → CountsPiece number numbers from to (sum + x) (rest + y) new
   counts-joined from mid to sum rest x y old new other one two changed = record {
-    stale_is = sum-of stale from to (sum + x) (omega (arith, one.stale_is.is, two.stale_is.is));
-    leftover_is = sum-of left from to (rest + y) (omega (arith, one.leftover_is.is, two.leftover_is.is));
+    stale_is = total-is _ from to (sum + x) (omega (arith, one.stale_is.is, two.stale_is.is));
+    leftover_is = total-is _ from to (rest + y) (omega (arith, one.leftover_is.is, two.leftover_is.is));
     least_is = record {
       size = changed.size ∙ one.least_is.size;
       each = λ r k in_r in_k.
@@ -82,7 +81,3 @@ module _ {N : Type 0} (number : N → ℕ) (numbers : RoundNumbers N) (grids : A
           record { upto = omega (arith, lowered, first.upto); is = omega (arith, lowered, first.is, (two.least_is.each r k in_r in_k).is) };
     };
   }
-
--- a table's numbers as code reads them
-pub cells-read : {N : Type 0} (number : N → ℕ) (cells : List (Bor (List N))) (p : ℕ) (x : Bor (List N)) → p < length cells → x ≡ get_or cells p x → map number x.now ≡ numbers_at (numbers_in number cells) p
-cells-read number cells p x lt is = ap (λ y. map number y.now) is ∙ sym (get_or-map (λ y. map number y.now) cells p x [] lt)

@@ -112,9 +112,6 @@ module _ {N : Type 0} {number : N → ℕ} {most owner first : ℕ} {lags : Lags
             (record { written = is; current = omega (arith, current); keyed = refl; over = omega (arith, over) }),
       )
 
--- one more owner that has been behind for no longer, and one more at all
-pub most-stays : (f : ℕ → ℕ) (r x : ℕ) → x ≡ most_below r f → f r ≤ x → x ≡ most_below (r + 1) f
-most-stays f r x is le = omega (arith, is, le) ∙ ap (λ m. most_below m f) {x = suc r} {y = r + 1} (omega arith)
-
+-- one more owner
 pub most-next : (f : ℕ → ℕ) (r x y z : ℕ) → x ≡ most_below r f → z ≡ max x y → y ≡ f r → z ≡ most_below (r + 1) f
 most-next f r x y z is joined now = joined ∙ (λ i. max (is i) (now i)) ∙ ap (λ m. most_below m f) {x = suc r} {y = r + 1} (omega arith)

@@ -1,9 +1,9 @@
 -- What is counted of all tables comes to the figures of a round.
 -- Serves `figures`.
-use Rattle.version_lags.proofs.Common.{◌≡◌, ℕ, ◌<◌, Bool, cond, ◌&&◌, List, length, map, slice_index, nat_lt, nat_le, sym, ap, ◌∙◌, subst, arith, Figures, Table, OwnerListView, list_of_owner, lists_in, sum_below, most_below, HasEachPlace, total_of, sum_below-same, most_below-same, leftover_at, stale_count, staleness_at, rounds_behind, figures_of, most_by_owner, table_of_node, length-map}
+use Rattle.version_lags.proofs.Common.{◌≡◌, ℕ, ◌<◌, Bool, cond, ◌&&◌, List, length, map, nat_lt, nat_le, sym, ap, ◌∙◌, subst, arith, Figures, Table, OwnerListView, list_of_owner, lists_in, sum_below, most_below, HasEachPlace, total_of, sum_below-same, most_below-same, leftover_at, stale_count, staleness_at, rounds_behind, figures_of, most_by_owner, table_of_node, length-map}
 use Rattle.version_lags.specs.Missed.{number_staleness, IsNumberAt, IsLastNumber}
 use Rattle.version_lags.specs.declared.lags.Lags.{Lags}
-use Rattle.version_lags.specs.Pieces.{keys_in, cells_in, last_cells, table_at, least_below, AreGrids, AreRoundNumbers, CountsPiece, IsSumOf, MayWalk, most_lag}
+use Rattle.version_lags.specs.Pieces.{keys_in, cells_in, last_cells, table_at, is_stale, is_left, least_below, AreGrids, AreRoundNumbers, CountsPiece, IsTotal, MayWalk, most_lag}
 use Rattle.version_lags.proofs.Lagging.{lag-least_below}
 use Rattle.version_lags.proofs.Parts.{grids-of, least_below-le}
 use Rattle.version_lags.proofs.Pieces.{place_staleness, place_stale, place_left}
@@ -63,9 +63,9 @@ module _ {N : Type 0} (number : N → ℕ) (most : ℕ) (lags : Lags N) (tables 
       grids = grids-of number lags.numbers tables are.may.together are.are
 
   -- what is counted place by place is summed up over all of them
-  summed : (f : ℕ → ℕ → ℕ → ℕ) (test : ℕ → ℕ → ℕ → Bool) (sum : ℕ) → ((p r k : ℕ) → p < nodes → r < nodes → k < keys → f p r k ≡ cond (test p r k) 1 0)
-      → IsSumOf (λ p. total_of nodes keys (test p)) 0 nodes sum → sum ≡ sum_below (length tables) (λ p. sum_below (length tables) (λ r. sum_below (table_of_node tables p).keys (f p r)))
-  summed f test sum each is =
+  summed : (f : ℕ → ℕ → ℕ → ℕ) (test : ℕ → ℕ → ℕ → Bool) (total : ℕ) → ((p r k : ℕ) → p < nodes → r < nodes → k < keys → f p r k ≡ cond (test p r k) 1 0)
+      → IsTotal lags.numbers test 0 nodes total → total ≡ sum_below (length tables) (λ p. sum_below (length tables) (λ r. sum_below (table_of_node tables p).keys (f p r)))
+  summed f test total each is =
       omega (arith, is.is)
       ∙ sum_below-same nodes (λ p. total_of nodes keys (test p)) (λ p. sum_below (length tables) (λ r. sum_below (table_of_node tables p).keys (f p r))) (λ p in_p.
       sum_below-same nodes _ _ (λ r in_r. sum_below-same keys _ _ (λ k in_k. sym (each p r k in_p in_r in_k)))
@@ -87,10 +87,10 @@ module _ {N : Type 0} (number : N → ℕ) (most : ℕ) (lags : Lags N) (tables 
   unfolding figures_of behind
   figures-are greatest is =
       let stale_all : stale ≡ (figures_of lags.round tables (lists_in lists)).stale =
-      summed (λ p r k. stale_count (staleness_at lags.round tables (lists_in lists) p r k)) (λ p r k. nat_lt (held p r k) (last r k)) stale
+      summed (λ p r k. stale_count (staleness_at lags.round tables (lists_in lists) p r k)) (λ p. is_stale number lags.numbers (table_at number lags.numbers p)) stale
       (λ p r k in_p in_r in_k. place_stale lags.round tables lists are.may p r k (held p r k) (in_tables p in_p) (in_tables r in_r) (number_at p r k in_p in_r in_k) (last r k) (last_at r k in_r in_k)) whole.stale_is in
       let leftover_all : leftover ≡ (figures_of lags.round tables (lists_in lists)).leftover =
-      summed (leftover_at tables) (λ p r k. nat_lt 0 (held p r k) && nat_le (held p r k) (slice_index (map number lags.numbers.bases.now) r)) leftover
+      summed (leftover_at tables) (λ p. is_left number lags.numbers (table_at number lags.numbers p)) leftover
       (λ p r k in_p in_r in_k. place_left lags.round tables lists are.may p r k (held p r k) (in_tables p in_p) (in_tables r in_r) (number_at p r k in_p in_r in_k)
       ∙ (λ i. cond (nat_lt 0 (held p r k) && nat_le (held p r k) (sym (are.are.based.each r in_r) i)) 1 0)) whole.leftover_is in
       let greatest_all : greatest ≡ (figures_of lags.round tables (lists_in lists)).greatest =

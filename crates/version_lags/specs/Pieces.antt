@@ -1,5 +1,5 @@
 -- What is counted of some of the tables at the end of a round. Source: this project.
-use Rattle.std.specs.Prelude.{◌≡◌, ℕ, zero, suc, ◌+◌, ◌*◌, ◌<◌, ◌≤◌, ◌&&◌, min, max, All, List, [], length, map, slice_index, slice_index_or, nat_lt, nat_le, IfOk, IsFalse, IsOkUnless, Result, Some}
+use Rattle.std.specs.Prelude.{◌≡◌, ℕ, zero, suc, ◌+◌, ◌*◌, ◌<◌, ◌≤◌, ◌&&◌, min, max, All, Bool, List, [], length, map, slice_index, slice_index_or, nat_lt, nat_le, IfOk, IsFalse, IsOkUnless, Result, Some}
 use Rattle.std.specs.Borrow.{Bor}
 use Rattle.bench_types.specs.declared.entries.Entry.{Entry}
 use Rattle.bench_types.specs.declared.faults.Fault.{Fault}
@@ -74,14 +74,16 @@ table_at number numbers p = numbers_at (numbers_in number numbers.cells.now) p
 abbrev pub last_cells : {N : Type 0} → (N → ℕ) → RoundNumbers N → Cells
 last_cells number numbers = cells_in numbers (map number numbers.last.now)
 
--- how many numbers of a table are below the last ones, and how many are of an earlier generation
-abbrev pub stale_of : {N : Type 0} → (N → ℕ) → RoundNumbers N → List ℕ → ℕ
-stale_of number numbers table = total_of (length numbers.lists.now) numbers.keys (λ r k. nat_lt (cells_in numbers table r k) (last_cells number numbers r k))
+-- a number of a table is below the last one, or of an earlier generation
+abbrev pub is_stale : {N : Type 0} → (N → ℕ) → RoundNumbers N → List ℕ → ℕ → ℕ → Bool
+is_stale number numbers table r k = nat_lt (cells_in numbers table r k) (last_cells number numbers r k)
 
-abbrev pub left_of : {N : Type 0} → (N → ℕ) → RoundNumbers N → List ℕ → ℕ
-left_of number numbers table =
-    total_of (length numbers.lists.now) numbers.keys
-    (λ r k. nat_lt 0 (cells_in numbers table r k) && nat_le (cells_in numbers table r k) (slice_index (map number numbers.bases.now) r))
+abbrev pub is_left : {N : Type 0} → (N → ℕ) → RoundNumbers N → List ℕ → ℕ → ℕ → Bool
+is_left number numbers table r k = nat_lt 0 (cells_in numbers table r k) && nat_le (cells_in numbers table r k) (slice_index (map number numbers.bases.now) r)
+
+-- how many places of the tables below one pass a test
+abbrev pub total_below : {N : Type 0} → RoundNumbers N → (ℕ → ℕ → ℕ → Bool) → ℕ → ℕ
+total_below numbers test to = sum_below to (λ p. total_of (length numbers.lists.now) numbers.keys (test p))
 
 -- the numbers of all tables make grids
 pub record AreGrids {N : Type 0} (number : N → ℕ) (numbers : RoundNumbers N) : Type 0 where
@@ -95,10 +97,10 @@ abbrev pub least_below : ℕ → (ℕ → ℕ) → ℕ → ℕ
 least_below zero f most = most
 least_below (suc n) f most = min (least_below n f most) (f n)
 
--- a sum, and a least number, of what f gives from one table on up to another: with what is before, that up to there
-pub record IsSumOf (f : ℕ → ℕ) (from to sum : ℕ) : Type 0 where
-  pub few : sum ≤ to * (MOST_NODES * MOST_KEYS)
-  pub is : sum_below from f + sum ≡ sum_below to f
+-- a total, and a least number, from one table on up to another: with what is before, that up to there
+pub record IsTotal {N : Type 0} (numbers : RoundNumbers N) (test : ℕ → ℕ → ℕ → Bool) (from to total : ℕ) : Type 0 where
+  pub few : total ≤ to * (MOST_NODES * MOST_KEYS)
+  pub is : total_below numbers test from + total ≡ total_below numbers test to
 
 pub record IsLeastOf (f : ℕ → ℕ) (most from to least : ℕ) : Type 0 where
   pub upto : least ≤ most
@@ -106,8 +108,8 @@ pub record IsLeastOf (f : ℕ → ℕ) (most from to least : ℕ) : Type 0 where
 
 -- what is counted of the tables from one on up to another
 pub record CountsPiece {N : Type 0} (number : N → ℕ) (numbers : RoundNumbers N) (from to stale leftover : ℕ) (least : List ℕ) : Type 0 where
-  pub stale_is : IsSumOf (λ p. stale_of number numbers (table_at number numbers p)) from to stale
-  pub leftover_is : IsSumOf (λ p. left_of number numbers (table_at number numbers p)) from to leftover
+  pub stale_is : IsTotal numbers (λ p. is_stale number numbers (table_at number numbers p)) from to stale
+  pub leftover_is : IsTotal numbers (λ p. is_left number numbers (table_at number numbers p)) from to leftover
   pub least_is : HasEachPlace (length numbers.lists.now) numbers.keys
       (λ r k. IsLeastOf (λ p. cells_in numbers (table_at number numbers p) r k) (last_cells number numbers r k) from to) least
 

@@ -5,10 +5,10 @@ ghost use Rattle.bench_types.specs.declared.faults.Fault.TheVariants.{OutOfMemor
 ghost use Rattle.model.specs.Table.{Table};
 ghost use Rattle.model.specs.calls.OwnerListView.{list_of_owner, lists_in};
 ghost use Rattle.planes.specs.Lags.{IsLeastBehind};
-ghost use Rattle.planes.specs.Planes.{cell, HasEach};
+ghost use Rattle.planes.specs.Planes.{cell, total_of, HasEach};
 ghost use Rattle.bench_types.specs.Sums.{most_below};
 ghost use Rattle.model.specs.Figures.{figures_of};
-ghost use Rattle.version_lags.specs.Pieces.{AreGrids, AreRoundNumbers, Counts, IsCount, MayCount, MayWalk, WalksFrom, left_of, most_lag};
+ghost use Rattle.version_lags.specs.Pieces.{AreGrids, AreRoundNumbers, Counts, IsCount, MayCount, MayWalk, WalksFrom, is_left, most_lag};
 
 use bench_types::{Fault, Figures};
 use owner_writes::OwnerWrites;
@@ -64,16 +64,12 @@ impl<'a, N: Number + Send + Sync> Numbers<'a, N> {
     fn left_over(&self, table: &[N]) -> u32
         requires is { IsCount N.number self.now }
         requires table { length table.now ≡ length self.now.numbers.last.now }
-        ensures { result ≡ left_of N.number self.now.numbers (map N.number table.now) }
+        ensures { result ≡ total_of (length self.now.numbers.lists.now) self.now.numbers.keys
+            (is_left N.number self.now.numbers (map N.number table.now)) }
     {
         if self.forgot {
-            let RoundNumbers {
-                keys,
-                lists,
-                bases,
-                ..
-            } = self.numbers;
-            total_upto(table, lists.len(), keys, bases)
+            let numbers = self.numbers;
+            total_upto(table, numbers.lists.len(), numbers.keys, numbers.bases)
         } else {
             0
         }
@@ -83,20 +79,14 @@ impl<'a, N: Number + Send + Sync> Numbers<'a, N> {
         requires { MayCount N.number self.now from to }
         ensures { Counts N.number self.now.numbers from to result }
     {
-        let RoundNumbers {
-            cells,
-            keys,
-            lists,
-            last,
-            ..
-        } = self.numbers;
-        let nodes = lists.len();
+        let numbers = self.numbers;
+        let nodes = numbers.lists.len();
         let mut stale = 0;
         let mut leftover = 0;
-        let mut least = Vec::from_slice(alloc, last)?;
+        let mut least = Vec::from_slice(alloc, numbers.last)?;
         for at in from..to {
-            let here = cells[at];
-            let behind = count_behind(&mut least, here, last, nodes, keys);
+            let here = numbers.cells[at];
+            let behind = count_behind(&mut least, here, numbers.last, nodes, numbers.keys);
             stale += u64::from(behind);
             leftover += u64::from(self.left_over(here));
         }
@@ -157,12 +147,9 @@ impl<'a, N: Number> Lags<'a, N> {
         requires { WalksFrom N.number N.most self.now owner (N.number first) list.now }
         ensures { result ≡ most_lag N.number self.now owner list.now }
     {
-        let Lags {
-            numbers,
-            least,
-            round,
-        } = *self;
-        let nodes = numbers.lists.len();
+        let least = self.least;
+        let round = self.round;
+        let nodes = self.numbers.lists.len();
         if first.widen() == N::greatest().widen() {
             return 0;
         }
@@ -200,21 +187,16 @@ impl<'a, N: Number> Lags<'a, N> {
             (λ r. most_lag N.number self.now r (list_of_owner self.now.numbers.lists.now r))) }
         ensures only { IsOkUnless result OutOfMemory }
     {
-        let RoundNumbers {
-            keys,
-            lists,
-            last,
-            ..
-        } = self.numbers;
-        let nodes = lists.len();
-        let firsts = least_behind(alloc, self.least, last, nodes, keys)?;
+        let numbers = self.numbers;
+        let nodes = numbers.lists.len();
+        let firsts = least_behind(alloc, self.least, numbers.last, nodes, numbers.keys)?;
         let mut greatest = 0;
         for owner in 0..nodes {
             let first = firsts[owner];
             if self.is_after(owner, first, self.round.saturating_sub(greatest)) {
                 continue;
             }
-            let lag = self.lag_of_owner(&lists[owner], owner, first);
+            let lag = self.lag_of_owner(&numbers.lists[owner], owner, first);
             greatest = greatest.max(lag);
         }
         Ok(greatest)

@@ -1,38 +1,41 @@
 -- The names of other libraries that these proofs cite, passed on from one place. Declares nothing.
-pub use Rattle.std.proofs.Common.{Bool, List, None, Option, Some, [], ap, arith, below_more, cond, eqb, false, get_or, if◌then◌else◌, inl, inr, length, length-append, ltb, map, max, min, option_map, refl, reverse, rules, slice_index, subst, suc, sym, true, zero, ℕ, ◌&&◌, ◌*◌, ◌+◌, ◌-◌, ◌<◌, ◌∙◌, ◌∷◌, ◌≡◌, ◌≤◌, ◌⊎◌}
+pub use Rattle.std.proofs.Common.{Bool, List, None, Option, Some, [], ap, arith, below_more, cond, eqb, false, get_or, if◌then◌else◌, inl, inr, length, length-append, ltb, map, max, min, option_map, refl, reverse, rules, slice_index, subst, suc, sym, true, zero, ℕ, ◌&&◌, ◌*◌, ◌+◌, ◌-◌, ◌<◌, ◌∙◌, ◌≡◌, ◌≤◌, ◌⊎◌}
 pub use Rattle.std.proofs.Math.Nat.{mul-le-mul_right}
-pub use Rattle.std.proofs.lemmas.Bool.{and_parts, both_ways, cases_Bool, cases_eq, cases_lt, eq-eqb, eqb-true, le-leb, le-ltb, lt-leb, lt-ltb, ltb-true, ne_eqb}
+pub use Rattle.std.proofs.lemmas.Bool.{and_parts, both_ways, cases_eq, cases_lt, eq-eqb, eqb-true, le-leb, le-ltb, lt-leb, lt-ltb, ltb-false, ltb-true, ne_eqb}
 pub use Rattle.std.proofs.lemmas.List.{get_or-append_right, get_or-map, get_or-reverse, get_or_append_left, get_or_default, length-map, length-reverse, with_items_is}
-pub use Rattle.std.proofs.lemmas.Option.{same_Some}
+pub use Rattle.std.proofs.lemmas.List.Folds.{find_at}
+pub use Rattle.std.proofs.lemmas.List.Sums.{fails_before_first, passes_at_first}
+pub use Rattle.std.proofs.lemmas.Option.{same_Some, slice_get-get_or, slice_get_cases}
 pub use Rattle.std.proofs.lemmas.Result.{IfOk-at_ok}
 pub use Rattle.std.specs.Borrow.{Bor}
-pub use Rattle.std.specs.List.{find}
-pub use Rattle.std.specs.Prelude.{IfSome, MatchOption, nat_le, nat_lt}
-pub use Rattle.bench_types.proofs.Marks.{before-no, before-up_to, before-yes, up_to-itself}
+pub use Rattle.std.specs.List.{position_or_len}
+pub use Rattle.std.specs.Prelude.{MatchOption, nat_le, nat_lt}
+pub use Rattle.bench_types.proofs.Marks.{before-yes}
 pub use Rattle.bench_types.proofs.Sums.{most_below-same, sum_below-most, sum_below-same}
-pub use Rattle.bench_types.specs.Mark.{IsBefore, IsUpTo, absent, is_before, mark_held, mark_of}
+pub use Rattle.bench_types.specs.Mark.{absent, is_before, mark_held, mark_of}
 pub use Rattle.bench_types.specs.Sums.{most_below, sum_below}
 pub use Rattle.bench_types.specs.declared.entries.Entry.{Entry}
-pub use Rattle.bench_types.specs.declared.entries.Mark.{Mark}
 pub use Rattle.bench_types.specs.declared.limits.TheConstants.{MOST_KEYS, MOST_NODES}
 pub use Rattle.bench_types.specs.declared.rows.Figures.{Figures}
 pub use Rattle.model.proofs.Figures.{most_by_owner}
 pub use Rattle.model.proofs.Owners.{list_read}
-pub use Rattle.model.proofs.Picked.{find_none, find_passes}
-pub use Rattle.model.specs.Figures.{figures_of, generation_at, is_left_over, leftover_at, node_figures, rounds_behind, stale_count, staleness_at, staleness_of, writes_of_owner}
-pub use Rattle.model.specs.Table.{IsProper, Table, entry_at, mark_at}
+pub use Rattle.model.proofs.Picked.{find_passes}
+unfoldable pub use Rattle.model.specs.Figures.{figures_of}
+pub use Rattle.model.specs.Figures.{generation_at, is_left_over, leftover_at, rounds_behind, stale_count, staleness_at, staleness_of}
+pub use Rattle.model.specs.Table.{IsProper, Table, entry_at}
 pub use Rattle.model.specs.Tables.{table_of_node}
 pub use Rattle.model.specs.Writes.{write_of_entry}
 pub use Rattle.model.specs.calls.Numbers.{write_numbered}
-pub use Rattle.model.specs.calls.OwnerListView.{AreWrites, OwnerListView, all_writes, entries_of, list_of_owner, lists_in, no_writes, written}
-pub use Rattle.model.specs.calls.Writes.{IsNumbered, is_write_of, last_write}
+pub use Rattle.model.specs.calls.OwnerListView.{AreWrites, OwnerListView, entries_of, list_of_owner, lists_in, no_writes, written}
+pub use Rattle.model.specs.calls.Writes.{is_write_of, last_write}
 pub use Rattle.model.specs.declared.writes.Write.{Write}
 pub use Rattle.owner_writes.proofs.Numbered.{write_from-here}
-pub use Rattle.owner_writes.proofs.Numbers.{numbered-placed, numbered-within, write_from-at}
+pub use Rattle.owner_writes.proofs.Numbers.{numbered-placed, numbered-some, numbered-within, numbers-compare}
 pub use Rattle.owner_writes.specs.Kept.{entry_kept}
 pub use Rattle.owner_writes.specs.Numbered.{IsRoundMark}
 pub use Rattle.owner_writes.specs.declared.writes.Kept.{Kept}
 pub use Rattle.planes.proofs.Counts.{count_le, sum_next}
 pub use Rattle.planes.proofs.Elementwise.{number-at}
-pub use Rattle.planes.specs.Planes.{ArePlanesChanged, Cells, HasEachPlace, IsGrid, cell, total_of}
+pub use Rattle.planes.specs.Lags.{IsLeastBehind}
+pub use Rattle.planes.specs.Planes.{ArePlanesChanged, HasEach, HasEachPlace, cell, total_of}
 pub use Rattle.round_tables.specs.Histories.{BirthsRise, StandsBeside}

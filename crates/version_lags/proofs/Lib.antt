@@ -2,7 +2,6 @@ pub mod Missed
 pub mod Lagging
 pub mod Pieces
 pub mod Walks
-pub mod Counted
 pub mod Parts
 pub mod Whole
 pub mod Common

@@ -1,73 +1,83 @@
 -- Pieces of tables as code counts them, table by table and part by part.
--- Serves `+rest`, `Numbers::piece_of` and `figures`.
-use Rattle.version_lags.proofs.Common.{◌≡◌, ℕ, ◌+◌, ◌*◌, ◌<◌, ◌≤◌, min, Bool, cond, ◌&&◌, List, [], length, get_or, map, refl, sym, ap, ◌∙◌, subst, arith, slice_index, nat_lt, nat_le, Bor, get_or-map, length-map, MOST_NODES, MOST_KEYS, Table, OwnerListView, list_of_owner, sum_below, cell, total_of, ArePlanesChanged, sum_below-same, sum_below-most, count_le}
-use Rattle.version_lags.specs.Missed.{base_of}
-use Rattle.version_lags.specs.Pieces.{keys_in, StandTogether, numbers_at, numbers_in, AreGrids, AreNumbersAt, AreNumbersOf, CountsPiece}
-use Rattle.version_lags.proofs.Pieces.{piece-none, piece-more, piece-joined}
-
-pub total_le : (nodes keys : ℕ) (test : ℕ → ℕ → Bool) → nodes ≤ MOST_NODES → keys ≤ MOST_KEYS → total_of nodes keys test ≤ MOST_NODES * MOST_KEYS
-total_le nodes keys test few_nodes few_keys =
-    omega (arith, few_nodes, sum_below-most (λ r. sum_below keys (λ k. cond (test r k) 1 0)) nodes MOST_KEYS (λ r lt. omega (arith, few_keys, count_le keys (test r))))
+-- Serves `+rest`, `Numbers::piece_of`, `figures` and `Whole`.
+use Rattle.version_lags.proofs.Common.{◌≡◌, ℕ, zero, suc, ◌+◌, ◌*◌, ◌<◌, ◌≤◌, min, Bool, cond, List, [], length, get_or, map, sym, ap, ◌∙◌, arith, Bor, get_or-map, length-map, MOST_NODES, MOST_KEYS, Table, sum_below, total_of, ArePlanesChanged, sum_below-most, count_le, sum_next}
+use Rattle.version_lags.specs.declared.lags.RoundNumbers.{RoundNumbers}
+use Rattle.version_lags.specs.Pieces.{StandTogether, numbers_in, table_at, cells_in, last_cells, is_stale, is_left, total_below, AreGrids, AreNumbersOf, IsTotal, least_below, CountsPiece}
 
 -- the numbers of tables make grids
-pub grids-of : (tables : List Table) (lists : List OwnerListView) → StandTogether tables lists → (nodes keys : ℕ) (cells : List (List ℕ)) (bases last : List ℕ) → AreNumbersOf tables lists nodes keys cells bases last → AreGrids nodes keys cells bases last
-grids-of tables lists together nodes keys cells bases last are = record {
-  grid = record {
-    whole = are.lasts.size ∙ (λ i. sym are.keys_are i * sym are.nodes_are i);
-    few_nodes = omega (arith, together.few_nodes, are.nodes_are);
-    few_keys = omega (arith, together.few_keys, are.keys_are);
-  };
-  count = are.count;
-  based = are.based.size;
-  alike = λ p lt. (are.cells_are p lt).size ∙ sym are.lasts.size;
-}
+pub grids-of : {N : Type 0} (number : N → ℕ) (numbers : RoundNumbers N) (tables : List Table) → StandTogether tables numbers.lists.now
+    → AreNumbersOf tables numbers.lists.now (length numbers.lists.now) numbers.keys (numbers_in number numbers.cells.now) (map number numbers.bases.now) (map number numbers.last.now) → AreGrids number numbers
+grids-of number numbers tables together are =
+    let last = length-map numbers.last.now number in
+    record {
+      grid = record {
+        whole = sym last ∙ are.lasts.size ∙ (λ i. sym are.keys_are i * sym are.nodes_are i);
+        few_nodes = omega (arith, together.few_nodes, are.nodes_are);
+        few_keys = omega (arith, together.few_keys, are.keys_are);
+      };
+      count = sym (length-map numbers.cells.now (λ x. map number x.now)) ∙ are.count;
+      based = sym (length-map numbers.bases.now number) ∙ are.based.size;
+      alike = λ p lt. (are.cells_are p lt).size ∙ sym are.lasts.size ∙ last;
+    }
 
--- before any table, and with one more
-module _ (nodes keys : ℕ) (cells : List (List ℕ)) (bases last : List ℕ) where
-  pub counts-none : (from : ℕ) → CountsPiece nodes keys cells bases last from 0 0 0 last
+pub least_below-le : (n : ℕ) (f : ℕ → ℕ) (most : ℕ) → least_below n f most ≤ most
+least_below-le zero f most = omega arith
+least_below-le (suc n) f most = omega (arith, least_below-le n f most)
+
+-- before any table, with one more, and two pieces, one behind the other
+module _ {N : Type 0} (number : N → ℕ) (numbers : RoundNumbers N) (grids : AreGrids number numbers) where
+  total-is : (test : ℕ → ℕ → ℕ → Bool) (from to total : ℕ) → total_below numbers test from + total ≡ total_below numbers test to → IsTotal numbers test from to total
+  total-is test from to total is = record { few = omega (arith, is, sum_below-most _ to (MOST_NODES * MOST_KEYS) (λ p lt. few p)); is = is }
+    where
+      few : (p : ℕ) → total_of (length numbers.lists.now) numbers.keys (test p) ≤ MOST_NODES * MOST_KEYS
+      few p = omega (
+        arith,
+        grids.grid.few_nodes,
+        sum_below-most (λ r. sum_below numbers.keys (λ k. cond (test p r k) 1 0)) (length numbers.lists.now) MOST_KEYS (λ r lt. omega (arith, grids.grid.few_keys, count_le numbers.keys (test p r))),
+      )
+
+  -- a table's numbers as code reads them
+  pub table-read : (p : ℕ) (d : Bor (List N)) → p < length numbers.lists.now → (map number (get_or numbers.cells.now p d).now ≡ table_at number numbers p) × (length (get_or numbers.cells.now p d).now ≡ length numbers.last.now)
+  table-read p d lt =
+      let read = sym (get_or-map (λ y. map number y.now) numbers.cells.now p d [] (omega (arith, lt, grids.count))) in
+      (read, sym (length-map (get_or numbers.cells.now p d).now number) ∙ ap length read ∙ grids.alike p lt)
+
+  pub counts-none : (from : ℕ) → CountsPiece number numbers from from 0 0 (map number numbers.last.now)
   counts-none from = record {
-    few_stale = omega arith;
-    few_leftover = omega arith;
-    size = refl;
-    pieces = λ round tables lists may are. piece-none round tables lists may from last are.lasts;
+    stale_is = total-is _ from from 0 (omega arith);
+    leftover_is = total-is _ from from 0 (omega arith);
+    least_is = record {
+      size = length-map numbers.last.now number ∙ grids.grid.whole;
+      each = λ r k in_r in_k. record { upto = omega arith; is = omega (arith, least_below-le from (λ p. cells_in numbers (table_at number numbers p) r k) (last_cells number numbers r k)) };
+    };
   }
 
-  -- the sizes of all tables
-  whole : (tables : List Table) (lists : List OwnerListView) → AreNumbersOf tables lists nodes keys cells bases last → (P : ℕ → ℕ → Type 0) → P nodes keys → P (length tables) (keys_in tables)
-  whole tables lists are P p = subst (λ m. P m (keys_in tables)) are.nodes_are (subst (P nodes) are.keys_are p)
-
-  pub counts-more : (from count stale leftover x y : ℕ) (old new here : List ℕ) → AreGrids nodes keys cells bases last → from + count < nodes → here ≡ numbers_at cells (from + count)
-      → x ≡ total_of nodes keys (λ r k. nat_lt (cell here nodes r k) (cell last nodes r k)) → y ≡ total_of nodes keys (λ r k. nat_lt 0 (cell here nodes r k) && nat_le (cell here nodes r k) (slice_index bases r))
-      → ArePlanesChanged (λ r k a b. b ≡ min a (cell here nodes r k)) nodes keys old new
-      → CountsPiece nodes keys cells bases last from count stale leftover old → CountsPiece nodes keys cells bases last from (count + 1) (stale + x) (leftover + y) new
-  counts-more from count stale leftover x y old new here grids in_nodes is x_is y_is changed before = record {
-    few_stale = omega (arith, before.few_stale, x_is, total_le nodes keys (λ r k. nat_lt (cell here nodes r k) (cell last nodes r k)) grids.grid.few_nodes grids.grid.few_keys);
-    few_leftover = omega (arith, before.few_leftover, y_is, total_le nodes keys (λ r k. nat_lt 0 (cell here nodes r k) && nat_le (cell here nodes r k) (slice_index bases r)) grids.grid.few_nodes grids.grid.few_keys);
-    size = changed.size ∙ before.size;
-    pieces = λ round tables lists may are.
-        piece-more round tables lists may from count stale leftover x y old new here last (omega (arith, in_nodes, are.nodes_are)) are.lasts
-        (subst (AreNumbersAt tables lists (from + count)) (sym is) (are.cells_are (from + count) in_nodes))
-        (whole tables lists are (λ m ks. x ≡ total_of m ks (λ r k. nat_lt (cell here m r k) (cell last m r k))) x_is)
-        (whole tables lists are (λ m ks. y ≡ total_of m ks (λ r k. nat_lt 0 (cell here m r k) && nat_le (cell here m r k) (base_of (list_of_owner lists r))))
-        (y_is ∙ sum_below-same nodes _ _ (λ r in_r. sum_below-same keys _ _ (λ k in_k i. cond (nat_lt 0 (cell here nodes r k) && nat_le (cell here nodes r k) (are.based.each r in_r i)) 1 0))))
-        (whole tables lists are (λ m ks. ArePlanesChanged (λ r k a b. b ≡ min a (cell here m r k)) m ks old new) changed)
-        (before.pieces round tables lists may are);
+  pub counts-more : (from at sum rest x y : ℕ) (old new here : List ℕ) → CountsPiece number numbers from at sum rest old → here ≡ table_at number numbers at → x ≡ total_of (length numbers.lists.now) numbers.keys (is_stale number numbers here) → y ≡ total_of (length numbers.lists.now) numbers.keys (is_left number numbers here)
+      → ArePlanesChanged (λ r k a b. b ≡ min a (cells_in numbers here r k)) (length numbers.lists.now) numbers.keys old new → CountsPiece number numbers from (at + 1) (sum + x) (rest + y) new
+  counts-more from at sum rest x y old new here before is x_is y_is changed = record {
+    stale_is = total-is _ from (at + 1) (sum + x) (omega (arith, sum_next _ at _ x before.stale_is.is (x_is ∙ ap (λ h. total_of (length numbers.lists.now) numbers.keys (is_stale number numbers h)) is)));
+    leftover_is = total-is _ from (at + 1) (rest + y) (omega (arith, sum_next _ at _ y before.leftover_is.is (y_is ∙ ap (λ h. total_of (length numbers.lists.now) numbers.keys (is_left number numbers h)) is)));
+    least_is = record {
+      size = changed.size ∙ before.least_is.size;
+      each = λ r k in_r in_k.
+          let f = λ (p : ℕ). cells_in numbers (table_at number numbers p) r k in
+          let one = before.least_is.each r k in_r in_k in
+          let next = ap (λ n. least_below n f (last_cells number numbers r k)) {x = suc at} {y = at + 1} (omega arith) in
+          let lowered = changed.each r k in_r in_k ∙ ap (λ h. min (cells_in numbers old r k) (cells_in numbers h r k)) is in
+          record { upto = omega (arith, lowered, one.upto); is = omega (arith, lowered, one.is, next) };
+    };
   }
 
-  -- two pieces, one behind the other
-  pub counts-joined : (from a b stale leftover x y : ℕ) (old new other : List ℕ) → CountsPiece nodes keys cells bases last from a stale leftover old → CountsPiece nodes keys cells bases last (from + a) b x y other
-      → ArePlanesChanged (λ r k c d. d ≡ min c (cell other nodes r k)) nodes keys old new → CountsPiece nodes keys cells bases last from (a + b) (stale + x) (leftover + y) new
-  counts-joined from a b stale leftover x y old new other one two changed = record {
-    few_stale = omega (arith, one.few_stale, two.few_stale);
-    few_leftover = omega (arith, one.few_leftover, two.few_leftover);
-    size = changed.size ∙ one.size;
-    pieces = λ round tables lists may are.
-        piece-joined round tables lists may from a b stale leftover x y old new other (one.pieces round tables lists may are) (two.pieces round tables lists may are)
-        (whole tables lists are (λ m ks. ArePlanesChanged (λ r k c d. d ≡ min c (cell other m r k)) m ks old new) changed);
+  pub counts-joined : (from mid to sum rest x y : ℕ) (old new other : List ℕ) → CountsPiece number numbers from mid sum rest old → CountsPiece number numbers mid to x y other
+      → ArePlanesChanged (λ r k a b. b ≡ min a (cells_in numbers other r k)) (length numbers.lists.now) numbers.keys old new → CountsPiece number numbers from to (sum + x) (rest + y) new
+  counts-joined from mid to sum rest x y old new other one two changed = record {
+    stale_is = total-is _ from to (sum + x) (omega (arith, one.stale_is.is, two.stale_is.is));
+    leftover_is = total-is _ from to (rest + y) (omega (arith, one.leftover_is.is, two.leftover_is.is));
+    least_is = record {
+      size = changed.size ∙ one.least_is.size;
+      each = λ r k in_r in_k.
+          let first = one.least_is.each r k in_r in_k in
+          let lowered = changed.each r k in_r in_k in
+          record { upto = omega (arith, lowered, first.upto); is = omega (arith, lowered, first.is, (two.least_is.each r k in_r in_k).is) };
+    };
   }
-
--- a table's numbers as code reads them
-pub cells-read : {N : Type 0} (number : N → ℕ) (cells : List (Bor (List N))) (p : ℕ) (x : Bor (List N)) → p < length (numbers_in number cells) → x ≡ get_or cells p x → map number x.now ≡ numbers_at (numbers_in number cells) p
-cells-read number cells p x lt is =
-    ap (λ y. map number y.now) is
-    ∙ sym (get_or-map (λ y. map number y.now) cells p x [] (omega (arith, lt, length-map cells (λ y. map number y.now))))

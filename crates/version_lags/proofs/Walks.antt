@@ -1,9 +1,12 @@
 -- The first write of an owner that some copy misses has been missed for longest.
--- Serves `greatest_lag` and `lag_of_owner`.
-use Rattle.version_lags.proofs.Common.{◌≡◌, ℕ, zero, suc, ◌+◌, ◌-◌, ◌*◌, ◌<◌, ◌≤◌, max, List, length, Some, inl, inr, refl, sym, ap, ◌∙◌, subst, arith, mul-le-mul_right, cases_lt, same_Some, Entry, OwnerListView, entries_of, list_of_owner, AreWrites, write_numbered, cell, BirthsRise, most_below, rounds_behind, IsRoundMark, numbered-placed, numbered-within}
-use Rattle.version_lags.specs.Missed.{base_of, number_staleness, IsMissed, IsLastNumber, NonePassUpto}
-use Rattle.version_lags.specs.Pieces.{MayWalk, WalksFrom, most_lag}
-use Rattle.version_lags.proofs.Missed.{numbers-born, missed_cases}
+-- Serves `Lags::greatest` and `Lags::lag_of_owner`.
+use Rattle.version_lags.proofs.Common.{◌≡◌, ℕ, zero, suc, ◌+◌, ◌-◌, ◌*◌, ◌<◌, ◌≤◌, max, List, length, map, get_or, Some, inl, inr, refl, sym, ap, ◌∙◌, subst, arith, mul-le-mul_right, cases_lt, Entry, OwnerListView, entries_of, list_of_owner, write_numbered, most_below, rounds_behind, IsRoundMark, numbered-placed, numbered-within, length-map, number-at, HasEach, IsLeastBehind}
+use Rattle.version_lags.specs.declared.lags.Lags.{Lags}
+use Rattle.version_lags.specs.Missed.{base_of, number_staleness, NonePassUpto}
+use Rattle.version_lags.specs.Pieces.{MayWalk, WalksFrom, cells_in, last_cells, most_lag}
+use Rattle.version_lags.proofs.Missed.{numbers-born}
+use Rattle.version_lags.proofs.Lagging.{lag-upto, lag-since}
+use Rattle.version_lags.proofs.Pieces.{key_within}
 
 most_below-le : (f : ℕ → ℕ) (m x : ℕ) → ((k : ℕ) → k < m → f k ≤ x) → most_below m f ≤ x
 most_below-le f zero x le = omega arith
@@ -16,131 +19,98 @@ most_below-has f (suc m) k lt = elim (cases_lt k m) [
   | inr not_before ↦ let same : m ≡ k = omega (arith, lt, not_before) in omega (arith, ap f same)
 ]
 
-most_below-is : (f : ℕ → ℕ) (m k x : ℕ) → k < m → f k ≡ x → ((j : ℕ) → j < m → f j ≤ x) → most_below m f ≡ x
-most_below-is f m k x lt is le = omega (arith, most_below-has f m k lt, is, most_below-le f m x le)
+-- an owner's list, from the least number that is behind on
+pub walks-from : {N : Type 0} (number : N → ℕ) (most : ℕ) (lags : Lags N) (may : MayWalk number most lags) (firsts : List N)
+    → HasEach (length lags.numbers.lists.now) (λ r n. IsLeastBehind most (cells_in lags.numbers (map number lags.least.now)) (last_cells number lags.numbers) lags.numbers.keys r n) (map number firsts)
+    → (owner : ℕ) (first : N) (list : OwnerListView) → owner < length lags.numbers.lists.now → first ≡ get_or firsts owner first → list ≡ list_of_owner lags.numbers.lists.now owner → WalksFrom number most lags owner (number first) list
+walks-from number most lags may firsts behind owner first list among is list_is = subst (WalksFrom number most lags owner (number first)) (sym list_is) (record {
+  among = among;
+  grid = may.grid;
+  round_limit = may.are.may.round_limit;
+  writes = may.are.may.together.writes owner;
+  few = may.are.few owner;
+  born = may.are.may.written.born owner;
+  in_order = may.are.may.written.in_order owner;
+  keyed = keyed;
+  written = λ k in_k. may.written owner k among in_k;
+  start = λ m e there current le.
+      let in_keys = keyed m e there current in
+      let last = may.lasts.each owner e.key among in_keys in
+      elim (cases_lt (cells_in lags.numbers (map number lags.least.now) owner e.key) (last_cells number lags.numbers owner e.key)) [
+        | inl before ↦
+            let read = number-at number firsts owner first (omega (arith, among, behind.size, length-map firsts number)) is in
+            omega (arith, le, current, read, (behind.each owner among).no_less e.key in_keys before)
+        | inr not_before ↦ elim (cases_lt (last_cells number lags.numbers owner e.key) m) [
+          | inl over ↦ absurd (last.last m e (record { written = there; current = current; keyed = refl; over = over }))
+          | inr not_over ↦ omega (arith, not_over, not_before)
+        ]
+      ];
+})
+  where
+    keyed : (m : ℕ) (e : Entry) → write_numbered (entries_of (list_of_owner lags.numbers.lists.now owner)) m ≡ Some e → base_of (list_of_owner lags.numbers.lists.now owner) < m → e.key < lags.numbers.keys
+    keyed m e there current =
+        omega (arith, key_within may.tables lags.numbers.lists.now may.are.may.together owner m e (omega (arith, among, may.are.may.together.one_list_each)) there current, may.are.are.keys_are)
 
-module _ (v : OwnerListView) (least : ℕ → ℕ) where
+module _ {N : Type 0} {number : N → ℕ} {most owner first : ℕ} {lags : Lags N} {list : OwnerListView} (walks : WalksFrom number most lags owner first list) where
   abbrev all : List Entry
-  all = entries_of v
+  all = entries_of list
 
-  -- the walk begins at the least number that is behind, or at the generation
-  pub walk-start : (keys first : ℕ) (last : ℕ → ℕ) → ((m : ℕ) (e : Entry) → write_numbered all m ≡ Some e → base_of v < m → e.key < keys)
-      → ((k : ℕ) → k < keys → IsLastNumber v k (last k)) → ((k : ℕ) → k < keys → least k < last k → first ≤ least k) → NonePassUpto v least (max (base_of v) first)
-  walk-start keys first last keyed lasts upto m e is current le =
-      let in_keys = keyed m e is current in
-      elim (cases_lt (least e.key) (last e.key)) [
-        | inl behind ↦ omega (arith, le, current, upto e.key in_keys behind)
-        | inr not_behind ↦ elim (cases_lt (last e.key) m) [
-          | inl over ↦ absurd ((lasts e.key in_keys).last m e (record { written = is; current = current; keyed = refl; over = over }))
-          | inr not_over ↦ omega (arith, not_over, not_behind)
-        ]
-      ]
+  abbrev least : ℕ → ℕ
+  least = cells_in lags.numbers (map number lags.least.now) owner
 
-  -- one more write doesn't pass
-  pub walk-next : (place : ℕ) → NonePassUpto v least place → ((e : Entry) → write_numbered all (place + 1) ≡ Some e → place + 1 ≤ least e.key) → NonePassUpto v least (place + 1)
-  walk-next place none here m e is current le = elim (cases_lt place m) [
-    | inl next ↦
-        let same : m ≡ place + 1 = omega (arith, next, le) in
-        omega (arith, here e (sym (ap (write_numbered all) same) ∙ is), same)
-    | inr before ↦ none m e is current before
-  ]
+  -- no copy has been behind for longer than since the writes behind a place
+  walk-upto : (place longest : ℕ) → NonePassUpto list least place → ((m : ℕ) (e : Entry) → place < m → write_numbered all m ≡ Some e → lags.round - e.born + 1 ≤ longest) → most_lag number lags owner list ≤ longest
+  walk-upto place longest none upto = most_below-le _ lags.numbers.keys longest (λ k in_keys. lag-upto list walks.writes walks.in_order lags.round k (least k) longest (walks.written k in_keys) (λ m e missed.
+      elim (cases_lt place m) [
+        | inl behind ↦ upto m e behind missed.written
+        | inr before ↦ absurd (omega (arith, missed.over, none m e missed.written missed.current before, ap least missed.keyed))
+      ]))
 
-  module _ (round keys : ℕ) (are : AreWrites v) (within : (k : ℕ) → k < keys → least k ≤ length all) where
-    abbrev lag : ℕ → ℕ
-    lag k = rounds_behind (number_staleness round v k (least k))
+  pub walk-none : (place : ℕ) → NonePassUpto list least place → length all ≤ place → 0 ≡ most_lag number lags owner list
+  walk-none place none past = omega (arith, walk-upto place 0 none (λ m e behind is. absurd (omega (arith, past, behind, (numbered-within all m e is).1))))
 
-    pub walk-none : (place : ℕ) → NonePassUpto v least place → length all ≤ place → most_below keys lag ≡ 0
-    walk-none place none past = omega (
-      arith,
-      most_below-le lag keys 0 (λ k in_keys. elim (missed_cases v are k (least k) (within k in_keys) round) [
-        | inl nothing ↦ omega (arith, ap rounds_behind nothing.1)
-        | inr found ↦
-            let missed = found.1.1.0.missed in
-            absurd (omega (arith, missed.over, none found.0 found.1.0 missed.written missed.current (omega (arith, past, (numbered-within all found.0 found.1.0 missed.written).1)), ap least missed.keyed))
-      ]),
-    )
+  -- no write is of a later round
+  born-upto : (m : ℕ) (e : Entry) → write_numbered all m ≡ Some e → e.born ≤ lags.round
+  born-upto m e is =
+      let at = numbered-placed all m e is in
+      omega (arith, walks.born at.place e at.within, ap (λ (x : Entry). x.born) (at.there e))
 
-    pub walk-found : BirthsRise all → (place : ℕ) (e : Entry) → NonePassUpto v least place → base_of v ≤ place → write_numbered all (place + 1) ≡ Some e → e.key < keys → least e.key ≤ place → most_below keys lag ≡ round - e.born + 1
-    walk-found rise place e none current is in_keys over = most_below-is lag keys e.key (round - e.born + 1) in_keys here upto
-      where
-        behind : (k m : ℕ) (d : Entry) → IsMissed v k (least k) m d → place + 1 ≤ m
-        behind k m d missed = elim (cases_lt place m) [
-          | inl next ↦ omega (arith, next)
-          | inr before ↦ absurd (omega (arith, missed.over, none m d missed.written missed.current before, ap least missed.keyed))
-        ]
+  -- where all behind the number was written after a round, none has been behind for longer than since then
+  pub lag-recent : (since mark longest : ℕ) → IsRoundMark all 0 since mark → mark ≤ first → lags.round ≤ since + longest → most_lag number lags owner list ≤ longest
+  lag-recent since mark longest marked upto_first recent = walk-upto (max (base_of list) first) longest walks.start (λ m e past is.
+      omega (arith, marked.above m e (omega (arith, past)) is (omega (arith, upto_first, past)), born-upto m e is, recent))
 
-        upto : (k : ℕ) → k < keys → lag k ≤ round - e.born + 1
-        upto k lt = elim (missed_cases v are k (least k) (within k lt) round) [
-          | inl nothing ↦ omega (arith, ap rounds_behind nothing.1)
-          | inr found ↦
-              let missed = found.1.1.0.missed in
-              omega (arith, ap rounds_behind found.1.1.1, numbers-born all rise (place + 1) found.0 e found.1.0 is missed.written (behind k found.0 found.1.0 missed))
-        ]
+  -- what a walk reads next, where no write up to a place passes
+  module _ (place : ℕ) (current : base_of list ≤ place) where
+    pub walk-next : NonePassUpto list least place → ((e : Entry) → write_numbered all (place + 1) ≡ Some e → place < least e.key) → NonePassUpto list least (place + 1)
+    walk-next none here m e is later le = elim (cases_lt place m) [
+      | inl next ↦
+          let same : m ≡ place + 1 = omega (arith, next, le) in
+          omega (arith, here e (sym (ap (write_numbered all) same) ∙ is), same)
+      | inr before ↦ none m e is later before
+    ]
 
-        itself : IsMissed v e.key (least e.key) (place + 1) e
-        itself = record { written = is; current = omega (arith, current); keyed = refl; over = omega (arith, over) }
+    module _ (e : Entry) (is : write_numbered all (place + 1) ≡ Some e) where
+      in_keys : e.key < lags.numbers.keys
+      in_keys = walks.keyed (place + 1) e is (omega (arith, current))
 
-        here : lag e.key ≡ round - e.born + 1
-        here = elim (missed_cases v are e.key (least e.key) (within e.key in_keys) round) [
-          | inl nothing ↦ absurd (nothing.0 (place + 1) e itself)
-          | inr found ↦
-              let missed = found.1.1.0.missed in
-              let same : found.0 ≡ place + 1 = omega (arith, behind e.key found.0 found.1.0 missed, found.1.1.0.first (place + 1) e itself) in
-              ap rounds_behind found.1.1.1
-              ∙ ap (λ (x : Entry). round - x.born + 1) (same_Some found.1.0 e (sym missed.written ∙ ap (write_numbered all) same ∙ is))
-        ]
+      pub walk-born : e.born ≤ lags.round
+      walk-born = born-upto (place + 1) e is
 
--- no write is of a later round
-born-upto : {round most nodes keys owner : ℕ} {v : OwnerListView} {least : List ℕ} → MayWalk round most nodes keys owner v least → (m : ℕ) (e : Entry) → write_numbered (entries_of v) m ≡ Some e → e.born ≤ round
-born-upto {round = round} {v = v} may m e is =
-    let at = numbered-placed (entries_of v) m e is in
-    subst (λ (x : Entry). x.born ≤ round) (at.there e) (may.born at.place e at.within)
+      pub walk-index : e.key * length lags.numbers.lists.now + owner < length lags.least.now
+      walk-index = omega (arith, walks.grid.whole, walks.among, mul-le-mul_right {m = e.key + 1} {n = lags.numbers.keys} (length lags.numbers.lists.now) (omega (arith, in_keys)))
 
--- what a walk reads
-module _ {round most nodes keys owner first : ℕ} {v : OwnerListView} {least : List ℕ} (walks : WalksFrom round most nodes keys owner first v least) (place : ℕ) (e : Entry) (current : base_of v ≤ place) (is : write_numbered (entries_of v) (place + 1) ≡ Some e) where
-  pub walk-keyed : e.key < keys
-  walk-keyed = walks.may.keyed (place + 1) e is (omega (arith, current))
+      pub walk-read : (x : N) → x ≡ get_or lags.least.now (e.key * length lags.numbers.lists.now + owner) x → number x ≡ least e.key
+      walk-read x read = number-at number lags.least.now (e.key * length lags.numbers.lists.now + owner) x walk-index read
 
-  pub walk-index : e.key * nodes + owner < length least
-  walk-index = omega (arith, walks.may.size, walks.may.among, mul-le-mul_right {m = e.key + 1} {n = keys} nodes (omega (arith, walk-keyed)))
-
-  pub walk-born : e.born ≤ round
-  walk-born = born-upto walks.may (place + 1) e is
-
--- where all behind the number was written after a round, no copy has been behind for longer than since then
-pub lag-since : (round most nodes keys owner first : ℕ) (v : OwnerListView) (least : List ℕ) → WalksFrom round most nodes keys owner first v least
-    → (since mark greatest : ℕ) → IsRoundMark (entries_of v) 0 since mark → mark ≤ first → round ≤ since + greatest → most_lag round nodes keys owner v least ≤ greatest
-lag-since round most nodes keys owner first v least walks since mark greatest marked upto_first recent =
-    most_below-le _ keys greatest (λ k in_keys. elim (missed_cases v walks.may.writes k (cell least nodes owner k) (walks.may.written k in_keys) round) [
-      | inl nothing ↦ omega (arith, ap rounds_behind nothing.1)
-      | inr found ↦
-          let missed = found.1.1.0.missed in
-          let start = max (base_of v) first in
-          elim (cases_lt start found.0) [
-            | inl past ↦ omega (
-              arith,
-              ap rounds_behind found.1.1.1,
-              marked.above found.0 found.1.0 (omega (arith, past)) missed.written (omega (arith, upto_first, past)),
-              born-upto walks.may found.0 found.1.0 missed.written,
-              recent,
-            )
-            | inr before ↦ absurd (omega (arith, missed.over, walks.start found.0 found.1.0 missed.written missed.current before, ap (cell least nodes owner) missed.keyed))
-          ]
-    ])
-
--- an owner's list among those of all
-pub walks-from : (round most nodes keys r first : ℕ) (lists : List OwnerListView) (v : OwnerListView) (least last : List ℕ) → v ≡ list_of_owner lists r → MayWalk round most nodes keys r (list_of_owner lists r) least
-    → ((k : ℕ) → k < keys → IsLastNumber (list_of_owner lists r) k (cell last nodes r k))
-    → ((k : ℕ) → k < keys → cell least nodes r k < cell last nodes r k → first ≤ cell least nodes r k) → WalksFrom round most nodes keys r first v least
-walks-from round most nodes keys r first lists v least last is may lasts upto =
-    subst (λ w. WalksFrom round most nodes keys r first w least) (sym is) (record {
-      may = may;
-      start = walk-start (list_of_owner lists r) (cell least nodes r) keys first (cell last nodes r) may.keyed lasts upto;
-    })
-
--- one more owner that has been behind for no longer
-pub most-stays : (f : ℕ → ℕ) (r x : ℕ) → x ≡ most_below r f → f r ≤ x → x ≡ most_below (r + 1) f
-most-stays f r x is le = omega (arith, is, le) ∙ ap (λ m. most_below m f) {x = suc r} {y = r + 1} (omega arith)
+      pub walk-found : NonePassUpto list least place → least e.key ≤ place → lags.round - e.born + 1 ≡ most_lag number lags owner list
+      walk-found none over = omega (
+        arith,
+        walk-upto place (lags.round - e.born + 1) none (λ m d behind is_d. omega (arith, numbers-born all walks.in_order (place + 1) m e d is is_d (omega (arith, behind)))),
+        most_below-has (λ k. rounds_behind (number_staleness lags.round list k (least k))) lags.numbers.keys e.key in_keys,
+        lag-since list walks.writes walks.in_order lags.round e.key (least e.key) (place + 1) e (walks.written e.key in_keys)
+            (record { written = is; current = omega (arith, current); keyed = refl; over = omega (arith, over) }),
+      )
 
 -- one more owner
 pub most-next : (f : ℕ → ℕ) (r x y z : ℕ) → x ≡ most_below r f → z ≡ max x y → y ≡ f r → z ≡ most_below (r + 1) f

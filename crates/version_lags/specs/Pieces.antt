@@ -1,17 +1,20 @@
 -- What is counted of some of the tables at the end of a round. Source: this project.
-use Rattle.std.specs.Prelude.{◌≡◌, ℕ, ◌+◌, ◌*◌, ◌<◌, ◌≤◌, max, All, List, [], length, map, slice_index, slice_index_or, IsFalse, Some}
+use Rattle.std.specs.Prelude.{◌≡◌, ℕ, zero, suc, ◌+◌, ◌*◌, ◌<◌, ◌≤◌, ◌&&◌, min, max, All, Bool, List, [], length, map, slice_index, slice_index_or, nat_lt, nat_le, IfOk, IsFalse, IsOkUnless, Result, Some}
 use Rattle.std.specs.Borrow.{Bor}
 use Rattle.bench_types.specs.declared.entries.Entry.{Entry}
+use Rattle.bench_types.specs.declared.faults.Fault.{Fault}
+use Rattle.bench_types.specs.declared.faults.Fault.TheVariants.{OutOfMemory}
 use Rattle.bench_types.specs.declared.limits.TheConstants.{MOST_NODES, MOST_KEYS, MOST_ROUNDS}
 use Rattle.model.specs.Table.{Table}
 use Rattle.model.specs.Tables.{table_of_node, HoldsOfEach}
 use Rattle.model.specs.calls.Tables.{IsCluster}
-use Rattle.model.specs.calls.OwnerListView.{OwnerListView, all_writes, entries_of, list_of_owner, lists_in, AreWrites}
+use Rattle.model.specs.calls.OwnerListView.{OwnerListView, all_writes, entries_of, list_of_owner, AreWrites}
 use Rattle.model.specs.calls.Numbers.{write_numbered}
 use Rattle.bench_types.specs.Sums.{sum_below, most_below}
-use Rattle.planes.specs.Planes.{cell, HasEach, HasEachPlace, IsGrid}
+use Rattle.planes.specs.Planes.{cell, total_of, Cells, HasEach, HasEachPlace, IsGrid}
 use Rattle.round_tables.specs.Histories.{BirthsRise, AreWrittenBy, StandsAmong}
-use Rattle.model.specs.Figures.{staleness_at, rounds_behind, node_figures}
+use Rattle.model.specs.Figures.{rounds_behind}
+use Rattle.version_lags.specs.declared.lags.Lags.{Lags}
 use Rattle.version_lags.specs.declared.lags.Numbers.{Numbers}
 use Rattle.version_lags.specs.declared.lags.Piece.{Piece}
 use Rattle.version_lags.specs.declared.lags.RoundNumbers.{RoundNumbers}
@@ -41,31 +44,12 @@ pub record MayBeCounted (round : ℕ) (tables : List Table) (lists : List OwnerL
 abbrev pub AreLastNumbers : List Table → List OwnerListView → List ℕ → Type 0
 AreLastNumbers tables lists last = HasEachPlace (length tables) (keys_in tables) (λ owner key number. IsLastNumber (list_of_owner lists owner) key number) last
 
--- of so many tables from one on, none holds an owner's key that has been behind for longer than a number is
-pub record IsLeastHeld (round : ℕ) (tables : List Table) (lists : List OwnerListView) (from count owner key least : ℕ) : Type 0 where
-  pub written : least ≤ length (entries_of (list_of_owner lists owner))
-  pub most : most_below count (λ at. rounds_behind (staleness_at round tables (lists_in lists) (from + at) owner key))
-      ≡ rounds_behind (number_staleness round (list_of_owner lists owner) key least)
-
--- what is counted of so many tables from one on
-pub record IsPiece (round : ℕ) (tables : List Table) (lists : List OwnerListView) (from count stale leftover : ℕ) (least : List ℕ) : Type 0 where
-  pub stale_is : stale ≡ sum_below count (λ at. (node_figures round tables (lists_in lists) (from + at)).stale)
-  pub leftover_is : leftover ≡ sum_below count (λ at. (node_figures round tables (lists_in lists) (from + at)).leftover)
-  pub least_is : HasEachPlace (length tables) (keys_in tables) (IsLeastHeld round tables lists from count) least
-
 -- the numbers of tables, as code has them
 abbrev pub numbers_in : {N : Type 0} → (N → ℕ) → List (Bor (List N)) → List (List ℕ)
 numbers_in number cells = map (λ x. map number x.now) cells
 
 abbrev pub numbers_at : List (List ℕ) → ℕ → List ℕ
 numbers_at cells p = slice_index_or cells p []
-
--- so many tables' numbers, each of as many nodes and keys
-pub record AreGrids (nodes keys : ℕ) (cells : List (List ℕ)) (bases last : List ℕ) : Type 0 where
-  pub grid : IsGrid nodes keys (length last)
-  pub count : length cells ≡ nodes
-  pub based : length bases ≡ nodes
-  pub alike : (p : ℕ) → p < nodes → length (numbers_at cells p) ≡ length last
 
 -- the numbers of what a node's table holds
 abbrev pub AreNumbersAt : List Table → List OwnerListView → ℕ → List ℕ → Type 0
@@ -80,39 +64,71 @@ pub record AreNumbersOf (tables : List Table) (lists : List OwnerListView) (node
   pub based : HasEach nodes (λ r n. n ≡ base_of (list_of_owner lists r)) bases
   pub lasts : AreLastNumbers tables lists last
 
--- a piece of all tables that have these numbers
-pub record CountsPiece (nodes keys : ℕ) (cells : List (List ℕ)) (bases last : List ℕ) (from count stale leftover : ℕ) (least : List ℕ) : Type 0 where
-  pub few_stale : stale ≤ count * (MOST_NODES * MOST_KEYS)
-  pub few_leftover : leftover ≤ count * (MOST_NODES * MOST_KEYS)
-  pub size : length least ≡ length last
-  pub pieces : (round : ℕ) (tables : List Table) (lists : List OwnerListView) → MayBeCounted round tables lists
-      → AreNumbersOf tables lists nodes keys cells bases last → IsPiece round tables lists from count stale leftover least
+-- the numbers of a table, and the last ones, by owner and key
+abbrev pub cells_in : {N : Type 0} → RoundNumbers N → List ℕ → Cells
+cells_in numbers table = cell table (length numbers.lists.now)
 
--- no write is of an earlier generation
-abbrev pub AreZero : List ℕ → ℕ → Type 0
-AreZero bases nodes = (r : ℕ) → r < nodes → slice_index bases r ≡ 0
+abbrev pub table_at : {N : Type 0} → (N → ℕ) → RoundNumbers N → ℕ → List ℕ
+table_at number numbers p = numbers_at (numbers_in number numbers.cells.now) p
 
--- grids of numbers, and no write is of an earlier generation where no node has forgotten
-pub record AreCountedGrids {N : Type 0} (number : N → ℕ) (numbers : Numbers N) : Type 0 where
-  pub grids : AreGrids numbers.nodes numbers.keys (numbers_in number numbers.cells.now) (map number numbers.bases.now) (map number numbers.last.now)
-  pub forgot : IsFalse numbers.forgot → AreZero (map number numbers.bases.now) numbers.nodes
+abbrev pub last_cells : {N : Type 0} → (N → ℕ) → RoundNumbers N → Cells
+last_cells number numbers = cells_in numbers (map number numbers.last.now)
 
--- what is counted of so many tables from one on
-abbrev pub CountsPieceOf : {N : Type 0} → (N → ℕ) → Numbers N → ℕ → ℕ → Piece N → Type 0
-CountsPieceOf number numbers from count piece =
-    CountsPiece numbers.nodes numbers.keys (numbers_in number numbers.cells.now) (map number numbers.bases.now) (map number numbers.last.now)
-    from count piece.stale piece.leftover (map number piece.least.items)
+-- a number of a table is below the last one, or of an earlier generation
+abbrev pub is_stale : {N : Type 0} → (N → ℕ) → RoundNumbers N → List ℕ → ℕ → ℕ → Bool
+is_stale number numbers table r k = nat_lt (cells_in numbers table r k) (last_cells number numbers r k)
+
+abbrev pub is_left : {N : Type 0} → (N → ℕ) → RoundNumbers N → List ℕ → ℕ → ℕ → Bool
+is_left number numbers table r k = nat_lt 0 (cells_in numbers table r k) && nat_le (cells_in numbers table r k) (slice_index (map number numbers.bases.now) r)
+
+-- how many places of the tables below one pass a test
+abbrev pub total_below : {N : Type 0} → RoundNumbers N → (ℕ → ℕ → ℕ → Bool) → ℕ → ℕ
+total_below numbers test to = sum_below to (λ p. total_of (length numbers.lists.now) numbers.keys (test p))
 
 -- the numbers of all tables make grids
-abbrev pub AreRoundGrids : {N : Type 0} → (N → ℕ) → RoundNumbers N → Type 0
-AreRoundGrids number numbers =
-    AreGrids (length numbers.lists.now) numbers.keys (numbers_in number numbers.cells.now) (map number numbers.bases.now) (map number numbers.last.now)
+pub record AreGrids {N : Type 0} (number : N → ℕ) (numbers : RoundNumbers N) : Type 0 where
+  pub grid : IsGrid (length numbers.lists.now) numbers.keys (length numbers.last.now)
+  pub count : length numbers.cells.now ≡ length numbers.lists.now
+  pub based : length numbers.bases.now ≡ length numbers.lists.now
+  pub alike : (p : ℕ) → p < length numbers.lists.now → length (table_at number numbers p) ≡ length numbers.last.now
 
--- what is counted of all of them
-abbrev pub CountsWhole : {N : Type 0} → (N → ℕ) → RoundNumbers N → Piece N → Type 0
-CountsWhole number numbers piece =
-    CountsPiece (length numbers.lists.now) numbers.keys (numbers_in number numbers.cells.now) (map number numbers.bases.now) (map number numbers.last.now)
-    0 (length numbers.lists.now) piece.stale piece.leftover (map number piece.least.items)
+-- the least of a most number and of what f gives below a bound
+abbrev pub least_below : ℕ → (ℕ → ℕ) → ℕ → ℕ
+least_below zero f most = most
+least_below (suc n) f most = min (least_below n f most) (f n)
+
+-- a total, and a least number, from one table on up to another: with what is before, that up to there
+pub record IsTotal {N : Type 0} (numbers : RoundNumbers N) (test : ℕ → ℕ → ℕ → Bool) (from to total : ℕ) : Type 0 where
+  pub few : total ≤ to * (MOST_NODES * MOST_KEYS)
+  pub is : total_below numbers test from + total ≡ total_below numbers test to
+
+pub record IsLeastOf (f : ℕ → ℕ) (most from to least : ℕ) : Type 0 where
+  pub upto : least ≤ most
+  pub is : min (least_below from f most) least ≡ least_below to f most
+
+-- what is counted of the tables from one on up to another
+pub record CountsPiece {N : Type 0} (number : N → ℕ) (numbers : RoundNumbers N) (from to stale leftover : ℕ) (least : List ℕ) : Type 0 where
+  pub stale_is : IsTotal numbers (λ p. is_stale number numbers (table_at number numbers p)) from to stale
+  pub leftover_is : IsTotal numbers (λ p. is_left number numbers (table_at number numbers p)) from to leftover
+  pub least_is : HasEachPlace (length numbers.lists.now) numbers.keys
+      (λ r k. IsLeastOf (λ p. cells_in numbers (table_at number numbers p) r k) (last_cells number numbers r k) from to) least
+
+-- it is counted, unless memory is refused
+abbrev pub Counts : {N : Type 0} → (N → ℕ) → RoundNumbers N → ℕ → ℕ → Result (Piece N) Fault → Type 0
+Counts number numbers from to result =
+    IfOk result (λ piece. CountsPiece number numbers from to piece.stale piece.leftover (map number piece.least.items)) × IsOkUnless result OutOfMemory
+
+-- grids, and no write is of an earlier generation where no node has forgotten
+pub record IsCount {N : Type 0} (number : N → ℕ) (count : Numbers N) : Type 0 where
+  pub grids : AreGrids number count.numbers
+  pub forgot : IsFalse count.forgot → (r : ℕ) → r < length count.numbers.lists.now → slice_index (map number count.numbers.bases.now) r ≡ 0
+  pub some : 1 ≤ count.size
+
+-- and there are tables from one on up to another
+pub record MayCount {N : Type 0} (number : N → ℕ) (count : Numbers N) (from to : ℕ) : Type 0 where
+  pub is : IsCount number count
+  pub rises : from ≤ to
+  pub within : to ≤ length count.numbers.lists.now
 
 -- where rounds end in the owners' lists
 pub record AreRoundEnds {N : Type 0} (number : N → ℕ) (numbers : RoundNumbers N) : Type 0 where
@@ -128,26 +144,28 @@ pub record AreRoundNumbers {N : Type 0} (number : N → ℕ) (most round : ℕ) 
       (map number numbers.bases.now) (map number numbers.last.now)
   pub ends : AreRoundEnds number numbers
 
--- an owner's list may be walked over beside the least numbers held of its keys
-pub record MayWalk (round most nodes keys owner : ℕ) (list : OwnerListView) (least : List ℕ) : Type 0 where
-  pub among : owner < nodes
-  pub few_nodes : nodes ≤ MOST_NODES
-  pub few_keys : keys ≤ MOST_KEYS
-  pub round_limit : round ≤ MOST_ROUNDS
-  pub writes : AreWrites list
-  pub few_writes : length (entries_of list) < most
-  pub born : All (λ e. e.born ≤ round) (entries_of list)
-  pub in_order : BirthsRise (entries_of list)
-  pub keyed : (m : ℕ) (e : Entry) → write_numbered (entries_of list) m ≡ Some e → base_of list < m → e.key < keys
-  pub size : length least ≡ keys * nodes
-  pub written : (key : ℕ) → key < keys → cell least nodes owner key ≤ length (entries_of list)
+-- beside the least numbers held, the owners' lists may be walked over
+pub record MayWalk {N : Type 0} (number : N → ℕ) (most : ℕ) (lags : Lags N) : Type 0 where
+  pub tables : List Table
+  pub are : AreRoundNumbers number most lags.round lags.numbers tables
+  pub grid : IsGrid (length lags.numbers.lists.now) lags.numbers.keys (length lags.least.now)
+  pub lasts : HasEachPlace (length lags.numbers.lists.now) lags.numbers.keys (λ r k y. IsLastNumber (list_of_owner lags.numbers.lists.now r) k y) (map number lags.numbers.last.now)
+  pub written : (r k : ℕ) → r < length lags.numbers.lists.now → k < lags.numbers.keys → cells_in lags.numbers (map number lags.least.now) r k ≤ length (all_writes lags.numbers.lists.now r)
 
--- from a number on
-pub record WalksFrom (round most nodes keys owner first : ℕ) (list : OwnerListView) (least : List ℕ) : Type 0 where
-  pub may : MayWalk round most nodes keys owner list least
-  pub start : NonePassUpto list (cell least nodes owner) (max (base_of list) first)
+-- an owner's list, from a number on
+pub record WalksFrom {N : Type 0} (number : N → ℕ) (most : ℕ) (lags : Lags N) (owner first : ℕ) (list : OwnerListView) : Type 0 where
+  pub among : owner < length lags.numbers.lists.now
+  pub grid : IsGrid (length lags.numbers.lists.now) lags.numbers.keys (length lags.least.now)
+  pub round_limit : lags.round ≤ MOST_ROUNDS
+  pub writes : AreWrites list
+  pub few : length (entries_of list) < most
+  pub born : All (λ e. e.born ≤ lags.round) (entries_of list)
+  pub in_order : BirthsRise (entries_of list)
+  pub keyed : (m : ℕ) (e : Entry) → write_numbered (entries_of list) m ≡ Some e → base_of list < m → e.key < lags.numbers.keys
+  pub written : (k : ℕ) → k < lags.numbers.keys → cells_in lags.numbers (map number lags.least.now) owner k ≤ length (entries_of list)
+  pub start : NonePassUpto list (cells_in lags.numbers (map number lags.least.now) owner) (max (base_of list) first)
 
 -- the most rounds that a copy of an owner's keys has been behind
-abbrev pub most_lag : ℕ → ℕ → ℕ → ℕ → OwnerListView → List ℕ → ℕ
-most_lag round nodes keys owner list least =
-    most_below keys (λ key. rounds_behind (number_staleness round list key (cell least nodes owner key)))
+abbrev pub most_lag : {N : Type 0} → (N → ℕ) → Lags N → ℕ → OwnerListView → ℕ
+most_lag number lags owner list =
+    most_below lags.numbers.keys (λ k. rounds_behind (number_staleness lags.round list k (cells_in lags.numbers (map number lags.least.now) owner k)))

@@ -1,16 +1,14 @@
 //! How far the copies lag behind their owners, told by numbers of writes: the figures of a round.
 
-ghost use Rattle.std.specs.Prelude.{◌≡◌, ℕ, ◌+◌, ◌-◌, ◌*◌, ◌/◌, ◌^◌, ◌<◌, ◌≤◌, ◌&&◌, ◌↔◌, List, map, length, nat_lt, nat_le, slice_index, IfOk, IsFalse, IsTrue, IsOkUnless};
+ghost use Rattle.std.specs.Prelude.{◌≡◌, ℕ, ◌+◌, ◌-◌, ◌*◌, ◌/◌, ◌^◌, ◌<◌, ◌≤◌, ◌↔◌, List, map, length, slice_index, IfOk, IsFalse, IsTrue, IsOkUnless};
 ghost use Rattle.bench_types.specs.declared.faults.Fault.TheVariants.{OutOfMemory};
-ghost use Rattle.bench_types.specs.declared.limits.TheConstants.{MOST_NODES, MOST_KEYS, MOST_ROUNDS};
 ghost use Rattle.model.specs.Table.{Table};
 ghost use Rattle.model.specs.calls.OwnerListView.{list_of_owner, lists_in};
 ghost use Rattle.planes.specs.Lags.{IsLeastBehind};
-ghost use Rattle.planes.specs.Planes.{cell, total_of, HasEach, HasEachPlace, IsGrid};
+ghost use Rattle.planes.specs.Planes.{cell, total_of, HasEach};
 ghost use Rattle.bench_types.specs.Sums.{most_below};
 ghost use Rattle.model.specs.Figures.{figures_of};
-ghost use Rattle.version_lags.specs.Missed.{IsLastNumber};
-ghost use Rattle.version_lags.specs.Pieces.{AreCountedGrids, AreRoundEnds, AreRoundGrids, AreRoundNumbers, CountsPieceOf, CountsWhole, MayWalk, WalksFrom, most_lag};
+ghost use Rattle.version_lags.specs.Pieces.{AreGrids, AreRoundNumbers, Counts, IsCount, MayCount, MayWalk, WalksFrom, is_left, most_lag};
 
 use bench_types::{Fault, Figures};
 use owner_writes::OwnerWrites;
@@ -54,58 +52,43 @@ fn has_forgotten<N: Number>(bases: &[N]) -> bool
     false
 }
 
-fn left_over<N: Number>(cells: &[N], bases: &[N], nodes: usize, keys: usize, forgot: bool) -> u32
-    requires grid { IsGrid nodes keys (length cells.now) }
-    requires bases { length bases.now ≡ nodes }
-    requires forgot { IsFalse forgot → (r : ℕ) → r < nodes
-        → slice_index (map N.number bases.now) r ≡ 0 }
-    ensures { result ≡ total_of nodes keys
-        (λ r k. nat_lt 0 (cell (map N.number cells.now) nodes r k)
-        && nat_le (cell (map N.number cells.now) nodes r k)
-        (slice_index (map N.number bases.now) r)) }
-{
-    if forgot {
-        total_upto(cells, nodes, keys, bases)
-    } else {
-        0
-    }
-}
-
-// The numbers of all tables, how many writes each owner made before its generation and the last number of each key,
-// and whether a node has forgotten.
+// The numbers of all tables, whether a node has forgotten, and how many tables a thread gets.
 #[derive(Clone, Copy)]
 struct Numbers<'a, N: Number> {
-    cells: &'a [&'a [N]],
-    bases: &'a [N],
-    last: &'a [N],
-    nodes: usize,
-    keys: usize,
+    numbers: RoundNumbers<'a, N>,
     forgot: bool,
+    size: usize,
 }
 
 impl<'a, N: Number + Send + Sync> Numbers<'a, N> {
-    fn piece_of(&self, alloc: Global, from: usize, count: usize) -> Result<Piece<N>, Fault>
-        requires numbers { AreCountedGrids N.number self.now }
-        requires within { from + count ≤ self.now.nodes }
-        ensures piece { IfOk result (CountsPieceOf N.number self.now from count) }
-        ensures only { IsOkUnless result OutOfMemory }
+    fn left_over(&self, table: &[N]) -> u32
+        requires is { IsCount N.number self.now }
+        requires table { length table.now ≡ length self.now.numbers.last.now }
+        ensures { result ≡ total_of (length self.now.numbers.lists.now) self.now.numbers.keys
+            (is_left N.number self.now.numbers (map N.number table.now)) }
     {
-        let Numbers {
-            cells,
-            bases,
-            last,
-            nodes,
-            keys,
-            forgot,
-        } = *self;
+        if self.forgot {
+            let numbers = self.numbers;
+            total_upto(table, numbers.lists.len(), numbers.keys, numbers.bases)
+        } else {
+            0
+        }
+    }
+
+    fn piece_of(&self, alloc: Global, from: usize, to: usize) -> Result<Piece<N>, Fault>
+        requires { MayCount N.number self.now from to }
+        ensures { Counts N.number self.now.numbers from to result }
+    {
+        let numbers = self.numbers;
+        let nodes = numbers.lists.len();
         let mut stale = 0;
         let mut leftover = 0;
-        let mut least = Vec::from_slice(alloc, last)?;
-        for at in 0..count {
-            let here = cells[from + at];
-            let behind = count_behind(&mut least, here, last, nodes, keys);
+        let mut least = Vec::from_slice(alloc, numbers.last)?;
+        for at in from..to {
+            let here = numbers.cells[at];
+            let behind = count_behind(&mut least, here, numbers.last, nodes, numbers.keys);
             stale += u64::from(behind);
-            leftover += u64::from(left_over(here, bases, nodes, keys, forgot));
+            leftover += u64::from(self.left_over(here));
         }
         Ok(Piece {
             stale,
@@ -121,125 +104,103 @@ impl<'a, N: Number + Send + Sync> Numbers<'a, N> {
         &self,
         rt: &(impl Threads + Sync),
         alloc: Global,
-        size: usize,
         from: usize,
     ) -> Result<Piece<N>, Fault>
-        requires numbers { AreCountedGrids N.number self.now }
-        requires some { 1 ≤ size }
-        requires within { from ≤ self.now.nodes }
-        ensures piece { IfOk result (CountsPieceOf N.number self.now from (self.now.nodes - from)) }
-        ensures only { IsOkUnless result OutOfMemory }
+        requires { MayCount N.number self.now from (length self.now.numbers.lists.now) }
+        ensures { Counts N.number self.now.numbers from (length self.now.numbers.lists.now) result }
     {
-        let rest = self.nodes - from;
-        if rest <= size {
-            return self.piece_of(alloc, from, rest);
+        let nodes = self.numbers.lists.len();
+        if nodes - from <= self.size {
+            return self.piece_of(alloc, from, nodes);
         }
+        let to = from + self.size;
         let first = || -> Result<Piece<N>, Fault>
-            requires { AreCountedGrids N.number self.now × (from + size ≤ self.now.nodes) }
-            ensures piece { IfOk result (CountsPieceOf N.number self.entry.now from size) }
-            ensures only { IsOkUnless result OutOfMemory }
-        { self.piece_of(alloc, from, size) };
+            requires { MayCount N.number self.now from to }
+            ensures { Counts N.number self.entry.now.numbers from to result }
+        { self.piece_of(alloc, from, to) };
         let others = || -> Result<Piece<N>, Fault>
-            requires { AreCountedGrids N.number self.now × (1 ≤ size) × (from + size ≤ self.now.nodes) }
-            ensures piece { IfOk result
-                (CountsPieceOf N.number self.entry.now (from + size) (self.entry.now.nodes - (from + size))) }
-            ensures only { IsOkUnless result OutOfMemory }
-        { self.rest_from(rt, alloc, size, from + size) };
+            requires { MayCount N.number self.now to (length self.now.numbers.lists.now) }
+            ensures { Counts N.number self.entry.now.numbers to (length self.entry.now.numbers.lists.now) result }
+        { self.rest_from(rt, alloc, to) };
         let (first, others) = join(rt, first, others);
         let mut piece = first?;
         let others = others?;
         piece.stale += others.stale;
         piece.leftover += others.leftover;
-        lower_all(&mut piece.least, &others.least, self.nodes, self.keys);
+        lower_all(&mut piece.least, &others.least, nodes, self.numbers.keys);
         Ok(piece)
     }
 }
 
-// For how many rounds a copy of an owner has missed a write at most: since the first one that some copy misses,
-// which stands behind a number, the greatest where there is none.
-fn lag_of_owner<N: Number>(
-    list: &OwnerWrites,
-    owner: usize,
-    first: N,
-    least: &[N],
-    nodes: usize,
+// The numbers of all tables, and of each owner's key the least that one of them holds.
+#[derive(Clone, Copy)]
+struct Lags<'a, N: Number> {
+    numbers: RoundNumbers<'a, N>,
+    least: &'a [N],
     round: u32,
-) -> u32
-    requires { (keys : ℕ)
-        × WalksFrom round N.most nodes keys owner (N.number first) list.now
-        (map N.number least.now) }
-    ensures { (keys : ℕ)
-        → WalksFrom round N.most nodes keys owner (N.number first) list.now (map N.number least.now)
-        → result ≡ most_lag round nodes keys owner list.now (map N.number least.now) }
-{
-    if first.widen() == N::greatest().widen() {
-        return 0;
-    }
-    let from = list.earlier_count().max(first.widen() as usize);
-    for place in from..list.count() {
-        if let Some(write) = list.numbered(place as u32 + 1) {
-            if least[write.key as usize * nodes + owner].widen() <= place as u32 {
-                return round - write.born + 1;
+}
+
+impl<'a, N: Number> Lags<'a, N> {
+    // For how many rounds a copy of an owner has missed a write at most: since the first one that some copy misses,
+    // which stands behind a number, the greatest where there is none.
+    fn lag_of_owner(&self, list: &OwnerWrites, owner: usize, first: N) -> u32
+        requires { WalksFrom N.number N.most self.now owner (N.number first) list.now }
+        ensures { result ≡ most_lag N.number self.now owner list.now }
+    {
+        let least = self.least;
+        let round = self.round;
+        let nodes = self.numbers.lists.len();
+        if first.widen() == N::greatest().widen() {
+            return 0;
+        }
+        let from = list.earlier_count().max(first.widen() as usize);
+        for place in from..list.count() {
+            if let Some(write) = list.numbered(place as u32 + 1) {
+                if least[write.key as usize * nodes + owner].widen() <= place as u32 {
+                    return round - write.born + 1;
+                }
             }
         }
+        0
     }
-    0
-}
 
-fn is_after<N: Number>(ends: Ends<N>, nodes: usize, owner: usize, number: N, round: u32) -> bool
-    requires nodes { nodes ≤ MOST_NODES }
-    requires ends { length ends.numbers.now ≡ (ends.rounds + 1) * nodes }
-    requires owner { owner < nodes }
-    ensures { IsTrue result ↔ ((round ≤ ends.entry.rounds)
-        × (cell (map N.number ends.entry.numbers.now) nodes owner round ≤ N.number number)) }
-{
-    if ends.rounds < round {
-        return false;
-    }
-    let row = ends.row(nodes, round);
-    row[owner].is_upto(number)
-}
-
-// The most rounds that a copy of any owner has missed a write. An owner's list is read only where that may be more than
-// of the owners before it.
-fn greatest_lag<N: Number>(
-    alloc: Global,
-    numbers: &RoundNumbers<N>,
-    least: &[N],
-    round: u32,
-) -> Result<u32, Fault>
-    requires grid { IsGrid (length numbers.now.lists.now) numbers.now.keys (length least.now) }
-    requires walk { (r : ℕ) → r < length numbers.now.lists.now
-        → MayWalk round N.most (length numbers.now.lists.now) numbers.now.keys r
-        (list_of_owner numbers.now.lists.now r) (map N.number least.now) }
-    requires last { HasEachPlace (length numbers.now.lists.now) numbers.now.keys
-        (λ r k y. IsLastNumber (list_of_owner numbers.now.lists.now r) k y)
-        (map N.number numbers.now.last.now) }
-    requires ends { AreRoundEnds N.number numbers.now }
-    ensures lag { IfOk result (λ x. x ≡ most_below (length numbers.now.lists.now)
-        (λ r. most_lag round (length numbers.now.lists.now) numbers.now.keys r
-        (list_of_owner numbers.now.lists.now r) (map N.number least.now))) }
-    ensures only { IsOkUnless result OutOfMemory }
-{
-    let RoundNumbers {
-        keys,
-        lists,
-        last,
-        ends,
-        ..
-    } = *numbers;
-    let nodes = lists.len();
-    let firsts = least_behind(alloc, least, last, nodes, keys)?;
-    let mut greatest = 0;
-    for owner in 0..nodes {
-        let first = firsts[owner];
-        if is_after(ends, nodes, owner, first, round.saturating_sub(greatest)) {
-            continue;
+    fn is_after(&self, owner: usize, number: N, round: u32) -> bool
+        requires may { MayWalk N.number N.most self.now }
+        requires owner { owner < length self.now.numbers.lists.now }
+        ensures { IsTrue result ↔ ((round ≤ self.now.numbers.ends.rounds)
+            × (cell (map N.number self.now.numbers.ends.numbers.now) (length self.now.numbers.lists.now) owner round
+            ≤ N.number number)) }
+    {
+        let RoundNumbers { lists, ends, .. } = self.numbers;
+        if ends.rounds < round {
+            return false;
         }
-        let lag = lag_of_owner(&lists[owner], owner, first, least, nodes, round);
-        greatest = greatest.max(lag);
+        let row = ends.row(lists.len(), round);
+        row[owner].is_upto(number)
     }
-    Ok(greatest)
+
+    // The most rounds that a copy of any owner has missed a write. An owner's list is read only where that may be more
+    // than of the owners before it.
+    fn greatest(&self, alloc: Global) -> Result<u32, Fault>
+        requires { MayWalk N.number N.most self.now }
+        ensures lag { IfOk result (λ x. x ≡ most_below (length self.now.numbers.lists.now)
+            (λ r. most_lag N.number self.now r (list_of_owner self.now.numbers.lists.now r))) }
+        ensures only { IsOkUnless result OutOfMemory }
+    {
+        let numbers = self.numbers;
+        let nodes = numbers.lists.len();
+        let firsts = least_behind(alloc, self.least, numbers.last, nodes, numbers.keys)?;
+        let mut greatest = 0;
+        for owner in 0..nodes {
+            let first = firsts[owner];
+            if self.is_after(owner, first, self.round.saturating_sub(greatest)) {
+                continue;
+            }
+            let lag = self.lag_of_owner(&numbers.lists[owner], owner, first);
+            greatest = greatest.max(lag);
+        }
+        Ok(greatest)
+    }
 }
 
 // To start a thread for fewer bytes of numbers takes longer than it saves.
@@ -270,30 +231,17 @@ fn counted<N: Number + Send + Sync>(
     numbers: &RoundNumbers<N>,
     hands: Hands,
 ) -> Result<Piece<N>, Fault>
-    requires grids { AreRoundGrids N.number numbers.now }
-    ensures piece { IfOk result (CountsWhole N.number numbers.now) }
-    ensures only { IsOkUnless result OutOfMemory }
+    requires grids { AreGrids N.number numbers.now }
+    ensures { Counts N.number numbers.now 0 (length numbers.now.lists.now) result }
 {
-    let RoundNumbers {
-        cells,
-        keys,
-        lists,
-        bases,
-        last,
-        ..
-    } = *numbers;
-    let nodes = lists.len();
     let size = tables_of_a_thread(numbers, hands);
-    let forgot = has_forgotten(bases);
+    let forgot = has_forgotten(numbers.bases);
     let numbers = Numbers {
-        cells,
-        bases,
-        last,
-        nodes,
-        keys,
+        numbers: *numbers,
         forgot,
+        size,
     };
-    numbers.rest_from(rt, alloc, size, 0)
+    numbers.rest_from(rt, alloc, 0)
 }
 
 /// The figures of the tables at the end of a round, down nodes included: how many keys of copies are below the last
@@ -320,7 +268,12 @@ pub fn figures<N: Number + Send + Sync>(
     ensures only { IsOkUnless result OutOfMemory }
 {
     let whole = counted(rt, alloc, numbers, hands)?;
-    let greatest = greatest_lag(alloc, numbers, &whole.least, round)?;
+    let lags = Lags {
+        numbers: *numbers,
+        least: &whole.least,
+        round,
+    };
+    let greatest = lags.greatest(alloc)?;
     Ok(Figures {
         stale: whole.stale,
         greatest,

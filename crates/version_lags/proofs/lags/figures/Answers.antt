@@ -1,32 +1,26 @@
-use Rattle.version_lags.proofs.Common.{◌≡◌, ℕ, ◌<◌, length, map, sym, subst, most_below, list_of_owner}
-use Rattle.version_lags.specs.Pieces.{numbers_in, MayWalk, most_lag}
+use Rattle.version_lags.proofs.Common.{map, ap, sym}
+use Rattle.version_lags.specs.declared.lags.Lags.{Lags}
 use Rattle.version_lags.proofs.Parts.{grids-of}
 use Rattle.version_lags.proofs.Whole.{may-walk, figures-are}
 use Rattle.version_lags.proofs.lags.figures.Goals as goal
 
 pub counted-requires-clause-grids : goal.counted-requires-clause-grids
 counted-requires-clause-grids g c κs within =
-    let number = g.N.Number.number in
     let numbers = c.args.numbers.now in
     let are = c.requires.are.1 in
-    grids-of c.requires.are.0 numbers.lists.now are.may.together (length numbers.lists.now) numbers.keys (numbers_in number numbers.cells.now) (map number numbers.bases.now) (map number numbers.last.now) are.are
+    grids-of g.N.Number.number numbers c.requires.are.0 are.may.together are.are
 
-pub greatest_lag-requires-clause-walk : goal.greatest_lag-requires-clause-walk
-greatest_lag-requires-clause-walk g c =
+pub greatest-requires : goal.greatest-requires
+greatest-requires g c =
     let number = g.N.Number.number in
-    let numbers = c.args.numbers.now in
-    let lists = numbers.lists.now in
     let whole = c.in_ok-whole.whole in
-    let tables = c.requires.are.0 in
     let are = c.requires.are.1 in
-    subst (λ xs. (r : ℕ) → r < length lists → MayWalk c.args.round g.N.Number.most (length lists) numbers.keys r (list_of_owner lists r) (map number xs)) (sym c.deref.ensures.value)
-    (may-walk tables lists c.args.round whole.stale whole.leftover (map number whole.least.items) are.may (c.in_ok-whole.ensures.piece.pieces c.args.round tables lists are.may are.are) numbers.keys are.are.keys_are g.N.Number.most are.few)
+    let lags : Lags g.row.N.Denot = record { numbers = c.args.numbers.now; least = c.deref.result; round = c.args.round } in
+    may-walk number g.N.Number.most lags c.requires.are.0 are whole.stale whole.leftover (map number whole.least.items) (ap (map number) (sym c.deref.ensures.value)) c.in_ok-whole.ensures.0
 
 pub returns-clause-figures : goal.returns-clause-figures
 returns-clause-figures g c tables are =
     let number = g.N.Number.number in
-    let numbers = c.args.numbers.now in
-    let lists = numbers.lists.now in
     let whole = c.in_ok-whole.whole in
-    let greatest = subst (λ xs. c.in_ok-greatest.greatest ≡ most_below (length lists) (λ r. most_lag c.args.round (length lists) numbers.keys r (list_of_owner lists r) (map number xs))) c.deref.ensures.value c.in_ok-greatest.ensures.lag in
-    figures-are tables lists c.args.round whole.stale whole.leftover (map number whole.least.items) are.may (c.in_ok-whole.ensures.piece.pieces c.args.round tables lists are.may are.are) numbers.keys are.are.keys_are c.in_ok-greatest.greatest greatest
+    let lags : Lags g.row.N.Denot = record { numbers = c.args.numbers.now; least = c.deref.result; round = c.args.round } in
+    figures-are number g.N.Number.most lags tables are whole.stale whole.leftover (map number whole.least.items) (ap (map number) (sym c.deref.ensures.value)) c.in_ok-whole.ensures.0 c.in_ok-greatest.greatest c.in_ok-greatest.ensures.lag

@@ -1,0 +1,9 @@
+use Rattle.version_lags.proofs.Common.{◌≤◌, map, cell}
+use Rattle.version_lags.specs.Missed.{base_of, NonePassUpto}
+use Rattle.version_lags.proofs.lags.Lags.lag_of_owner.Given as goal
+
+abbrev pub invariant-loop-place : goal.invariant-loop-place
+invariant-loop-place g l = record {
+  current : base_of l.list ≤ l.place;
+  none : NonePassUpto l.list (cell (map g.N.Number.number l.least) l.nodes l.owner) l.place;
+}

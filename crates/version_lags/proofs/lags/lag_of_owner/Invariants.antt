@@ -1,6 +1,0 @@
-use Rattle.version_lags.proofs.Common.{map, cell}
-use Rattle.version_lags.specs.Missed.{NonePassUpto}
-use Rattle.version_lags.proofs.lags.lag_of_owner.Given as goal
-
-abbrev pub invariant-loop-place : goal.invariant-loop-place
-invariant-loop-place g l = NonePassUpto l.list (cell (map g.N.Number.number l.least) l.nodes l.owner) l.place

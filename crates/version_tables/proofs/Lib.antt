@@ -2,14 +2,12 @@ pub mod TakenEntries
 pub mod Told
 pub mod Delivered
 pub mod Laid
-pub mod TakenCells
 pub mod Fitting
 pub mod Generations
 pub mod OwnCalls
 pub mod NextWrites
 pub mod Standing
 pub mod Clearing
-pub mod TakenNumbers
 pub mod TakenByOwner
 pub mod TakenViews
 pub mod ExchangedViews

@@ -1,5 +1,5 @@
 -- Tables beside the histories: the numbers that they hold are of writes made so far.
--- Serves `Delivered`, `ExchangedViews`, `Merged`, `NextWrites`, `Standing`, `Told` and the files on what is taken.
+-- Serves most of the crate.
 use Rattle.version_tables.proofs.Common.{◌≡◌, ℕ, zero, suc, ◌<◌, ◌≤◌, List, [], ◌∷◌, length, Some, inl, inr, sym, ap, ◌∙◌, arith, Contains, cases_lt, Entry, Exchange, Rules, entry_at, write_from, all_writes, Cells, cell, HasCells, numbered-some}
 use Rattle.version_tables.specs.Views.{VersionTableView, HistoriesView, table_in, IsKept}
 use Rattle.version_tables.specs.inner.Deltas.{AreLaidBoth}

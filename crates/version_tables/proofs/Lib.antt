@@ -14,5 +14,4 @@ pub mod ExchangedViews
 pub mod Merged
 pub mod DigestSizes
 pub mod HistoryCalls
-pub mod Carried
 pub mod Common

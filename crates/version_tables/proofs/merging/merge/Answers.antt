@@ -1,5 +1,6 @@
 use Rattle.version_tables.proofs.Common.{◌≡◌, ℕ, map, refl, ap, sym, ◌∙◌, transport, with_items, with_items_is}
 use Rattle.version_tables.specs.Views.{VersionTableView}
+use Rattle.version_tables.specs.inner.Deltas.{AreOfOneSize}
 use Rattle.version_tables.specs.inner.Merged.{IsMerged, StaysMerged}
 use Rattle.version_tables.proofs.Laid.{seen}
 use Rattle.version_tables.proofs.merging.merge.Given as given
@@ -15,11 +16,8 @@ module _ (g : given.Over) (c : goal.After-responder-2-1 g) where
   abbrev q : VersionTableView
   q = seen c.responder.view_is
 
-  nodes : p.nodes ≡ q.nodes
-  nodes = ap (λ (v : VersionTableView). v.nodes) c.initiator.view_is ∙ c.requires.size.nodes ∙ sym (ap (λ (v : VersionTableView). v.nodes) c.responder.view_is)
-
-  keys : p.keys ≡ q.keys
-  keys = ap (λ (v : VersionTableView). v.keys) c.initiator.view_is ∙ c.requires.size.keys ∙ sym (ap (λ (v : VersionTableView). v.keys) c.responder.view_is)
+  size : AreOfOneSize p q
+  size = rw (c.initiator.view_is, c.responder.view_is) c.requires.size
 
   abbrev p' : VersionTableView
   p' = record p { cells = map number (with_items c.initiator.inside.cells c.merge-came.new.first).items; greatest = map number (with_items c.initiator.inside.greatest c.raise_both.new.first).items }
@@ -41,7 +39,7 @@ module _ (g : given.Over) (c : goal.After-responder-2-1 g) where
       let cells = with_items_is c.responder.inside.cells c.merge-came.new.second (c.merge-came.auto.second ∙ c.deref_mut-2.ensures.len) in
       let greatest = with_items_is c.responder.inside.greatest c.raise_both.new.second (c.raise_both.auto.second ∙ c.deref_mut-4.ensures.len) in
       record {
-        numbers = rw (c.deref_mut.ensures.value, c.deref-2.ensures.value, c.deref_mut-2.ensures.value, ← cells, nodes, keys) at c.merge-came.ensures.second;
+        numbers = rw (c.deref_mut.ensures.value, c.deref-2.ensures.value, c.deref_mut-2.ensures.value, ← cells, size.nodes, size.keys) at c.merge-came.ensures.second;
         most = rw (c.deref_mut-3.ensures.value, c.deref_mut-4.ensures.value, ← greatest) at c.raise_both.ensures.second;
       }
 
@@ -55,11 +53,10 @@ invariant_of-responder g c =
 
 pub returns : goal.returns
 returns g c =
-    let nodes = nodes g c in
-    let keys = keys g c in
+    let size = size g c in
     rw (← c.initiator.view_is, ← c.responder.view_is) (record {
       first = record { merged = came g c; rest = refl };
       second = record { merged = went g c; rest = refl };
-      back = rw (c.deref_mut-2.ensures.value, c.deref.ensures.value, nodes, keys) at c.merge-came.ensures.first_count;
+      back = rw (c.deref_mut-2.ensures.value, c.deref.ensures.value, size.nodes, size.keys) at c.merge-came.ensures.first_count;
       forth = rw (c.deref_mut.ensures.value, c.deref-2.ensures.value) at c.merge-came.ensures.second_count;
     })

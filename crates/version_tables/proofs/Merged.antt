@@ -20,31 +20,21 @@ whole-marks Newest low high P are = are
 
 -- of numbers that differ no more are between two marks than these are apart
 module _ (cells : Cells) (owner : ℕ) where
-  one-between : (keys low : ℕ) → NumbersDiffer cells keys owner → count_between cells keys owner low (low + 1) ≤ 1
-  one-between zero low differ = omega arith
-  one-between (suc keys) low differ = elim (part-cases (λ _. 1) low (low + 1) (cells owner keys)) [
-    | inr none ↦ omega (arith, none, one-between keys low (λ k l k_lt l_lt. differ k l (omega (arith, k_lt)) (omega (arith, l_lt))))
+  one-between : (keys low high : ℕ) → high ≤ low + 1 → NumbersDiffer cells keys owner → count_between cells keys owner low high ≤ 1
+  one-between zero low high le differ = omega arith
+  one-between (suc keys) low high le differ = elim (part-cases (λ _. 1) low high (cells owner keys)) [
+    | inr none ↦ omega (arith, none, one-between keys low high le (λ k l k_lt l_lt. differ k l (omega (arith, k_lt)) (omega (arith, l_lt))))
     | inl here ↦
-        let none : count_between cells keys owner low (low + 1) ≡ 0 = sum_below-none keys (λ key. part (λ _. 1) low (low + 1) (cells owner key)) (λ key lt. elim (part-cases (λ _. 1) low (low + 1) (cells owner key)) [
-          | inr nothing ↦ nothing
-          | inl there ↦ absurd (omega (arith, lt, differ key keys (omega (arith, lt)) (omega arith) (omega (arith, there.0)) (omega (arith, there.0, there.1, here.0, here.1))))
-        ]) in
-        omega (arith, here.2, none)
+        omega (arith, here.2, sum_below-none keys (λ key. part (λ _. 1) low high (cells owner key)) (λ key lt. let apart = differ key keys (omega (arith, lt)) (omega arith) in grind (arith, nat_tests)))
   ]
 
-  apart-between : (keys low apart : ℕ) → NumbersDiffer cells keys owner → count_between cells keys owner low (low + apart) ≤ apart
-  apart-between keys low zero differ = omega (arith, weight_of-none (λ _. 1) cells keys owner low (low + zero) (omega arith))
-  apart-between keys low (suc apart) differ =
-      let parts = weight_of-split (λ _. 1) cells keys owner low (low + apart) (low + apart + 1) (omega arith) (omega arith) in
-      let same = ap (count_between cells keys owner low) {x = low + suc apart} {y = low + apart + 1} (omega arith) in
-      omega (arith, same, parts, apart-between keys low apart differ, one-between keys (low + apart) differ)
-
-  few-between : (keys low high : ℕ) → NumbersDiffer cells keys owner → count_between cells keys owner low high ≤ min keys (high - low)
-  few-between keys low high differ = elim (cases_lt low high) [
+  few-upto : (keys apart low high : ℕ) → high ≤ low + apart → NumbersDiffer cells keys owner → count_between cells keys owner low high ≤ apart
+  few-upto keys zero low high le differ = omega (arith, weight_of-none (λ _. 1) cells keys owner low high (omega (arith, le)))
+  few-upto keys (suc apart) low high le differ = elim (cases_lt low high) [
     | inr not_below ↦ omega (arith, weight_of-none (λ _. 1) cells keys owner low high (omega (arith, not_below)))
     | inl below ↦
-        let same = ap (count_between cells keys owner low) {x = high} {y = low + (high - low)} (omega (arith, below)) in
-        omega (arith, same, apart-between keys low (high - low) differ, count_between-most cells keys owner low high)
+        let parts = weight_of-split (λ _. 1) cells keys owner low (high - 1) high (omega (arith, below)) (omega arith) in
+        omega (arith, parts, few-upto keys apart low (high - 1) (omega (arith, le)) differ, one-between keys (high - 1) high (omega arith) differ)
   ]
 
 -- no write takes more than the largest share
@@ -101,7 +91,7 @@ module _ (rules : Rules) (rotation : ℕ) {written : ℕ → List Entry} {most :
   count = count_all_between cells from.nodes from.keys low high
 
   count-few : count ≤ most_ahead from.nodes from.keys from.greatest to.greatest
-  count-few = sum_below-le from.nodes _ _ (λ r lt. few-between cells r from.keys (low r) (high r) (simp map-id at (is-offer.differ r lt)))
+  count-few = sum_below-le from.nodes _ _ (λ r lt. omega (arith, few-upto cells r from.keys (high r - low r) (low r) (high r) (omega arith) (simp map-id at (is-offer.differ r lt)), count_between-most cells from.keys r (low r) (high r)))
 
   same-total : total_above from.nodes from.keys from.cells to.greatest ≡ count
   same-total = simp map-id at (count-newest id most all is-offer (low_in id all))

@@ -4,6 +4,7 @@ pub use Rattle.std.proofs.Math.Bool.{and-true}
 pub use Rattle.std.proofs.Math.Nat.{mul-le-mul_right}
 pub use Rattle.std.proofs.Math.Path.{transport}
 pub use Rattle.std.proofs.lemmas.Bool.{and_left, and_parts, both_ways, cases_eq, cases_lt, eq-eqb, eqb-true, le-leb, le-ltb, leb-true, lt-leb, lt-ltb, ltb-false, ltb-true, ne_eqb}
+pub use Rattle.std.proofs.lemmas.Bool.Decides.{nat_tests}
 pub use Rattle.std.proofs.lemmas.List.{append-nil, append_assoc, get_or-append-add, get_or-append_right, get_or-map, get_or-set_other, get_or-set_same, get_or-take, get_or_append_left, get_or_at, get_or_default, get_or_past, get_or_push, length-map, length-set, length-take-le, map-append, map-id, map-set, set-get_or, take-map, with_items_is}
 pub use Rattle.std.proofs.lemmas.List.FromFn.{get_or-map-range_with_len, length-map-range_with_len}
 pub use Rattle.std.proofs.lemmas.List.Sums.{sum_by-cons}
@@ -53,7 +54,7 @@ pub use Rattle.delta_plans.specs.Offers.{AreSent, HasCells, Offers, is_lacked, o
 pub use Rattle.delta_plans.specs.Plans.{weight_on}
 pub use Rattle.delta_plans.specs.SentSets.{HasSet}
 pub use Rattle.delta_plans.specs.Told.{AreKnown}
-pub use Rattle.delta_plans.specs.Weights.{number_shares, one_each, share_or_none, weight_between, weight_through}
+pub use Rattle.delta_plans.specs.Weights.{count_all_between, number_shares, one_each, share_or_none, weight_between, weight_through}
 pub use Rattle.delta_plans.specs.declared.offers.Offer.{Offer}
 pub use Rattle.delta_plans.specs.declared.told_marks.Owners.{Owners}
 pub use Rattle.model.proofs.DeltaLaws.{sent-candidate}
@@ -86,7 +87,8 @@ pub use Rattle.planes.proofs.ByOwner.{owner-next, owner_changed, owners-all, own
 pub use Rattle.planes.proofs.Elementwise.{number-at, written_next}
 pub use Rattle.planes.proofs.Places.{plane-within, planes-written, total-same}
 pub use Rattle.planes.specs.Elementwise.{AreChanged, AreChangedUpto}
-pub use Rattle.planes.specs.Planes.{AreCovered, ArePlanesChanged, ArePlanesChangedUpto, AreRaised, AreTaken, Cells, HasEach, HasEachPlace, HasNoneAbove, cell, count_between, most_ahead, number_ahead, number_raised, number_taken, numbers_taken, total_above, total_of}
+pub use Rattle.planes.specs.declared.merges.BothCounts.{BothCounts}
+pub use Rattle.planes.specs.Planes.{AreCovered, ArePlanesChanged, ArePlanesChangedUpto, AreRaised, AreTaken, Cells, HasEach, HasEachPlace, HasNoneAbove, IsRaised, cell, count_between, most_ahead, number_ahead, number_raised, number_taken, numbers_taken, total_above, total_of}
 pub use Rattle.round_tables.specs.Histories.{AreWrittenBy, StandsAmong}
 pub use Rattle.version_lags.specs.Missed.{IsLastNumber, IsNumberAt, base_of}
 pub use Rattle.version_lags.specs.Pieces.{AreNumbersAt, AreNumbersOf, AreRoundNumbers, MayBeCounted, StandTogether, keys_in, numbers_at, numbers_in}

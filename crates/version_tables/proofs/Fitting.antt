@@ -1,8 +1,10 @@
 -- Tables beside the histories: the numbers that they hold are of writes made so far.
--- Serves `Delivered`, `NextWrites`, `Standing` and `TakenViews`.
-use Rattle.version_tables.proofs.Common.{◌≡◌, ℕ, zero, suc, ◌<◌, ◌≤◌, List, [], ◌∷◌, length, Some, inl, inr, sym, ap, ◌∙◌, arith, Contains, cases_lt, Entry, entry_at, write_from, all_writes, Cells, cell, HasCells, numbered-some}
+-- Serves most of the crate.
+use Rattle.version_tables.proofs.Common.{◌≡◌, ℕ, zero, suc, ◌<◌, ◌≤◌, List, [], ◌∷◌, length, Some, inl, inr, sym, ap, ◌∙◌, arith, Contains, cases_lt, Entry, Exchange, Rules, mark_held, entry_at, generation_held, write_from, write_numbered, all_writes, Cells, cell, HasCells, numbered-some}
 use Rattle.version_tables.specs.Views.{VersionTableView, HistoriesView, table_in, IsKept}
-use Rattle.version_tables.specs.inner.Histories.{IsBeginning, IsWrittenSoFar, FitsHistories}
+use Rattle.version_tables.specs.inner.Deltas.{AreLaidBoth}
+use Rattle.version_tables.specs.inner.Histories.{IsBeginning, IsReadyExchange}
+use Rattle.version_tables.specs.Laid.{AreNumbers}
 use Rattle.version_tables.proofs.Laid.{has_cells}
 
 -- what is contained has a place
@@ -32,16 +34,57 @@ module _ (written : ℕ → List Entry) (v : VersionTableView) (kept : IsKept wr
         ]
   ]
 
-  -- and so of one beside the histories
-  module _ (most : ℕ) (h : HistoriesView) (so_far : (owner : ℕ) → IsWrittenSoFar (written owner) most h.rounds (all_writes h.lists owner)) (fits : FitsHistories h (table_in written v)) where
-    pub fits-upto : (owner key : ℕ) → owner < v.nodes → key < v.keys → cells owner key ≤ length (all_writes h.lists owner)
-    fits-upto owner = so-far-upto (all_writes h.lists owner) owner (so_far owner).begins (fits.holds owner)
+-- the generation of a number's write
+abbrev pub generation_of : List Entry → ℕ → ℕ
+generation_of writes number = (mark_held (write_numbered writes number)).generation
 
-    pub fits-below : (owner key : ℕ) → owner < v.nodes → key < v.keys → cells owner key < most
-    fits-below owner key in_nodes in_keys = omega (arith, fits-upto owner key in_nodes in_keys, (so_far owner).few)
+-- two tables beside the histories
+module _ {written : ℕ → List Entry} {most : ℕ} {h : HistoriesView} {from to : VersionTableView} (two : AreLaidBoth written most h from to) where
+  pub turned : AreLaidBoth written most h to from
+  turned = record {
+    known = two.known;
+    both = record {
+      size = record { nodes = sym two.both.size.nodes; keys = sym two.both.size.keys };
+      first = two.both.second;
+      second = two.both.first;
+    };
+    first = two.second;
+    second = two.first;
+  }
 
-    -- it holds the writes of these numbers
-    pub fits-cells : HasCells (all_writes h.lists) cells (table_in written v)
-    fits-cells owner key in_nodes in_keys =
-        has_cells written v.node v.nodes v.keys v.generation cells kept.numbers owner key in_nodes in_keys
-        ∙ sym ((so_far owner).begins (cells owner key) (fits-upto owner key in_nodes in_keys))
+  abbrev numbers : Cells
+  numbers = cell from.cells from.nodes
+
+  first-upto : (owner key : ℕ) → owner < from.nodes → key < from.keys → numbers owner key ≤ length (all_writes h.lists owner)
+  first-upto owner = so-far-upto written from two.first (all_writes h.lists owner) owner (two.known.so_far owner).begins (two.both.first.holds owner)
+
+  -- the first one holds the writes of its numbers
+  pub first-cells : HasCells (all_writes h.lists) numbers (table_in written from)
+  first-cells owner key in_nodes in_keys =
+      has_cells written from.node from.nodes from.keys from.generation numbers two.first.numbers owner key in_nodes in_keys
+      ∙ sym ((two.known.so_far owner).begins (numbers owner key) (first-upto owner key in_nodes in_keys))
+
+  -- these are of writes so far
+  pub first-numbers : AreNumbers (all_writes h.lists) from.nodes from.keys numbers
+  first-numbers = record {
+    written = first-upto;
+    keyed = λ owner key e in_nodes in_keys is. (two.first.proper.in_place owner key e (first-cells owner key in_nodes in_keys ∙ is)).keyed;
+  }
+
+  -- one that isn't 0 is of a write that it holds, of its copy's generation
+  pub first-held : (owner key : ℕ) → owner < from.nodes → key < from.keys → 0 < numbers owner key
+      → (e : Entry) × (write_numbered (all_writes h.lists owner) (numbers owner key) ≡ Some e) × (entry_at (table_in written from) owner key ≡ Some e) × (generation_of (all_writes h.lists owner) (numbers owner key) ≡ generation_held (table_in written from) owner)
+  first-held owner key in_nodes in_keys some =
+      let there = numbered-some (all_writes h.lists owner) (numbers owner key) some (first-upto owner key in_nodes in_keys) in
+      let held = first-cells owner key in_nodes in_keys ∙ there.1 in
+      (there.0, there.1, held, ap (λ o. (mark_held o).generation) there.1 ∙ two.first.proper.copies owner key there.0 held)
+
+-- two such tables of which an exchange may be made
+pub ready : {written : ℕ → List Entry} {most : ℕ} {rules : Rules} {plan : Exchange} {h : HistoriesView} {p q : VersionTableView}
+    → IsReadyExchange written most rules plan h (table_in written p) (table_in written q) → IsKept written p → IsKept written q → AreLaidBoth written most h p q
+ready is p_kept q_kept = record {
+  known = is.known;
+  both = record { size = record { nodes = is.tables.nodes; keys = is.tables.keys }; first = is.initiator_fits; second = is.responder_fits };
+  first = p_kept;
+  second = q_kept;
+}

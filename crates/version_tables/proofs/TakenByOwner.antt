@@ -1,241 +1,198 @@
 -- One owner's numbers once what was sent is taken and what is of older generations is dropped.
 -- Serves `TakenViews`.
-use Rattle.version_tables.proofs.Common.{◌≡◌, ℕ, ◌+◌, ◌<◌, ◌≤◌, ◌&&◌, Bool, true, false, cond, nat_lt, nat_le, List, length, Some, None, ◌⊎◌, inl, inr, refl, sym, ap, ◌∙◌, arith, cases_lt, lt-ltb, le-leb, ltb-true, leb-true, and_parts, Entry, Table, entry_at, generation_held, IsProper, write_numbered, IsHistory, IsNumberedHistory, start_before, start_of, numbered-some, numbers-up_to}
-use Rattle.version_tables.specs.inner.Taken.{SendsNoNewer, SendsNewer, drop_start, number_kept}
-use Rattle.version_tables.proofs.TakenNumbers.{kept-above, kept-none, kept-zero}
+use Rattle.version_tables.proofs.Common.{◌≡◌, ℕ, ◌<◌, ◌≤◌, Bool, true, false, List, length, Some, ◌⊎◌, inl, inr, refl, sym, ap, ◌∙◌, subst, get_or, arith, cases_lt, nat_tests, Entry, mark_held, Table, entry_at, generation_held, write_numbered, OwnerListView, all_writes, entries_of, list_of_owner, AreWrites, cell, numbers_taken, IsRaised, start_before, start_of, numbered-some, numbered-within, numbers-up_to}
+use Rattle.version_tables.specs.Laid.{IsGreatest}
+use Rattle.version_tables.specs.Views.{VersionTableView, HistoriesView, table_in}
+use Rattle.version_tables.specs.inner.Deltas.{is_taken_at, AreLaidBoth}
+use Rattle.version_tables.specs.inner.Histories.{bases_in, IsWrittenSoFar}
+use Rattle.version_tables.specs.inner.Taken.{SendsNoNewer, SendsNewer, drop_start, number_kept, IsTaken}
+use Rattle.version_tables.proofs.Fitting.{generation_of, turned, first-held}
+use Rattle.version_tables.proofs.Generations.{current-at, generation-upto}
 
--- of a copy, numbers of writes up to where a generation starts are of older ones, and the others aren't
-module _ (writes : List Entry) (history : IsHistory writes) (numbered : IsNumberedHistory writes) where
-  pub start-older : (x n : ℕ) (d e : Entry) → write_numbered writes x ≡ Some d → write_numbered writes n ≡ Some e → x ≤ start_of writes n → d.generation < e.generation
-  start-older x n d e is_d is_e le =
-      let counted = numbered.counted n e is_e in
-      numbered.older x n d e is_d is_e (omega (arith, le, ap (start_before n) is_e, counted.1))
+module _ {all writes : List Entry} {most rounds : ℕ} (so_far : IsWrittenSoFar all most rounds writes) (m n : ℕ) (some : 0 < m) (le : m ≤ n) (within : n ≤ length writes) where
+  write-of : (number : ℕ) → 0 < number → number ≤ n → (e : Entry) × (write_numbered writes number ≡ Some e) × (generation_of writes number ≡ e.generation)
+  write-of number some' le' =
+      let there = numbered-some writes number some' (omega (arith, le', within)) in
+      (there.0, there.1, ap (λ o. (mark_held o).generation) there.1)
 
-  pub start-not_older : (x n : ℕ) (d e : Entry) → write_numbered writes x ≡ Some d → write_numbered writes n ≡ Some e → x ≤ n → d.generation < e.generation → x ≤ start_of writes n
-  start-not_older x n d e is_d is_e le older = elim (cases_lt n (x + e.version)) [
-    | inl within ↦ absurd (omega (arith, older, numbered.alike x n d e is_d is_e le within))
-    | inr beyond ↦ omega (arith, beyond, ap (start_before n) is_e)
-  ]
+  first : (e : Entry) × (write_numbered writes m ≡ Some e) × (generation_of writes m ≡ e.generation)
+  first = write-of m some le
 
-  -- and it starts below its numbers
-  pub start-below : (n : ℕ) → 0 < n → start_of writes n < n
-  start-below n some = elim (write_numbered writes n) as (λ o. write_numbered writes n ≡ o → start_of writes n < n) [
-    | None ↦ λ none. omega (arith, some, ap (start_before n) none)
-    | Some e ↦ λ is. omega (arith, numbered.counted n e is, ap (start_before n) is)
-  ] refl
+  second : (e : Entry) × (write_numbered writes n ≡ Some e) × (generation_of writes n ≡ e.generation)
+  second = write-of n (omega (arith, some, le)) (omega arith)
 
-  -- a write of a newer generation has a greater number
-  pub newer-above : (m n : ℕ) (d e : Entry) → write_numbered writes m ≡ Some d → write_numbered writes n ≡ Some e → d.generation < e.generation → m < n
-  newer-above m n d e is_d is_e newer = elim (cases_lt m n) [
-    | inl below ↦ below
-    | inr not_below ↦ absurd (omega (arith, newer, (numbers-up_to writes history n m e d is_e is_d (omega (arith, not_below))).generation))
-  ]
+  rise : generation_of writes m ≤ generation_of writes n
+  rise = omega (arith, first.2, second.2, (numbers-up_to writes so_far.history m n first.0 second.0 first.1 second.1 le).generation)
 
--- up to where numbers are dropped
-pub drop-cases : (writes : List Entry) (old base new : ℕ) → (drop_start writes old base new ≡ 0) ⊎ ((0 < old) × (old ≤ base) × (old < new) × (drop_start writes old base new ≡ start_of writes new))
-drop-cases writes old base new = elim ((nat_lt 0 old && nat_le old base) && nat_lt old new) as
-    (λ b. ((nat_lt 0 old && nat_le old base) && nat_lt old new) ≡ b → (cond b (start_of writes new) 0 ≡ 0) ⊎ ((0 < old) × (old ≤ base) × (old < new) × (cond b (start_of writes new) 0 ≡ start_of writes new))) [
-      | false ↦ λ _. inl refl
-      | true ↦ λ yes'.
-          let parts = and_parts (nat_lt 0 old && nat_le old base) (nat_lt old new) yes' in
-          let first = and_parts (nat_lt 0 old) (nat_le old base) parts.0 in
-          inr (ltb-true 0 old first.0, leb-true old base first.1, ltb-true old new parts.1, refl)
-    ] refl
+  -- up to where a generation starts numbers are of older ones, and the others aren't
+  older : m ≤ start_of writes n → generation_of writes m < generation_of writes n
+  older upto = omega (arith, first.2, second.2, so_far.numbered.older m n first.0 second.0 first.1 second.1 (omega (arith, upto, ap (start_before n) second.1, (so_far.numbered.counted n second.0 second.1).1)))
 
-pub drop-here : (writes : List Entry) (old base new : ℕ) → 0 < old → old ≤ base → old < new → drop_start writes old base new ≡ start_of writes new
-drop-here writes old base new some upto lt = (λ i. cond (((lt-ltb 0 old some) i && (le-leb old base upto) i) && (lt-ltb old new lt) i) (start_of writes new) 0)
+  alike : start_of writes n < m → generation_of writes m ≡ generation_of writes n
+  alike above = omega (arith, first.2, second.2, so_far.numbered.alike m n first.0 second.0 first.1 second.1 le (omega (arith, above, ap (start_before n) second.1)))
 
--- of one owner: what is sent comes, the rest stays or is dropped where something newer came, and the greatest number stands
-pub record AreNumbersTaken (from to : Table) (sent : ℕ → ℕ → Bool) (owner : ℕ) (sender receiver taken : ℕ → ℕ) (greatest : ℕ) : Type 0 where
-  pub came : (key : ℕ) → key < to.keys → sent owner key ≡ true → taken key ≡ sender key
-  pub others : (key : ℕ) → key < to.keys → sent owner key ≡ false
-      → (SendsNoNewer from to sent owner × (taken key ≡ receiver key)) ⊎ (SendsNewer from to sent owner × (taken key ≡ 0))
-  pub upto : (key : ℕ) → key < to.keys → taken key ≤ greatest
-  pub held : (greatest ≡ 0) ⊎ ((key : ℕ) × (key < to.keys) × (taken key ≡ greatest))
+  -- numbers above those of earlier generations are of the newest one
+  newest : (list : OwnerListView) → AreWrites list → entries_of list ≡ writes → length list.earlier < m → generation_of writes n ≤ generation_of writes m
+  newest list are is over =
+      let list_first = ap (λ ws. write_numbered ws m) is ∙ first.1 in
+      let list_second = ap (λ ws. write_numbered ws n) is ∙ second.1 in
+      omega (arith, first.2, second.2, generation-upto list are n second.0 list_second, (current-at list are m first.0 list_first over).0)
 
-module _ (from to : Table) (from_proper : IsProper from) (to_proper : IsProper to) (keys : from.keys ≡ to.keys) (owner : ℕ)
-    (writes : List Entry) (history : IsHistory writes) (numbered : IsNumberedHistory writes) (base : ℕ)
-    (newest : (m n : ℕ) (d e : Entry) → write_numbered writes m ≡ Some d → write_numbered writes n ≡ Some e → base < n → d.generation ≤ e.generation)
-    (sent : ℕ → ℕ → Bool) (sender receiver y taken : ℕ → ℕ)
-    (has_sender : (key : ℕ) → key < to.keys → entry_at from owner key ≡ write_numbered writes (sender key))
-    (has_receiver : (key : ℕ) → key < to.keys → entry_at to owner key ≡ write_numbered writes (receiver key))
-    (sender_upto : (key : ℕ) → key < to.keys → sender key ≤ length writes) (receiver_upto : (key : ℕ) → key < to.keys → receiver key ≤ length writes)
-    (above : (key : ℕ) → key < to.keys → sent owner key ≡ true → receiver key < sender key)
-    (y_sent : (key : ℕ) → key < to.keys → sent owner key ≡ true → y key ≡ sender key) (y_stays : (key : ℕ) → key < to.keys → sent owner key ≡ false → y key ≡ receiver key)
-    (old new : ℕ) (old_upto : (key : ℕ) → key < to.keys → receiver key ≤ old) (old_from : (old ≡ 0) ⊎ ((key : ℕ) × (key < to.keys) × (receiver key ≡ old)))
-    (rises : old ≤ new) (new_upto : (key : ℕ) → key < to.keys → y key ≤ new) (new_from : (new ≡ old) ⊎ ((key : ℕ) × (key < to.keys) × (y key ≡ new)))
-    (kept_is : (key : ℕ) → key < to.keys → taken key ≡ number_kept (drop_start writes old base new) (y key)) where
+-- by numbers that are taken from the sender as it was, or as it is now
+module _ {written : ℕ → List Entry} {most : ℕ} {h : HistoriesView} {from to : VersionTableView} {low high now cells greatest : List ℕ} (two : AreLaidBoth written most h from to)
+    (same : (owner key : ℕ) → owner < to.nodes → key < to.keys → numbers_taken to.nodes to.cells now low high owner key ≡ numbers_taken to.nodes to.cells from.cells low high owner key)
+    (taken : IsTaken (all_writes h.lists) (bases_in h.lists) to.nodes to.keys to.cells to.greatest now low high cells greatest) (owner : ℕ) (in_nodes : owner < to.nodes) where
+  abbrev F : Table
+  F = table_in written from
+
+  abbrev T : Table
+  T = table_in written to
+
+  abbrev writes : List Entry
+  writes = all_writes h.lists owner
+
+  abbrev sent : ℕ → Bool
+  sent = is_taken_at from to low high owner
+
+  abbrev sender : ℕ → ℕ
+  sender = cell from.cells from.nodes owner
+
+  abbrev receiver : ℕ → ℕ
+  receiver = cell to.cells to.nodes owner
+
+  abbrev y : ℕ → ℕ
+  y = numbers_taken to.nodes to.cells now low high owner
+
+  abbrev old : ℕ
+  old = get_or to.greatest owner 0
+
+  abbrev new : ℕ
+  new = get_or greatest owner 0
+
   abbrev start : ℕ
-  start = drop_start writes old base new
+  start = drop_start writes old (bases_in h.lists owner) new
 
-  held_to : (key : ℕ) → key < to.keys → 0 < receiver key → (e : Entry) × (write_numbered writes (receiver key) ≡ Some e) × (e.generation ≡ generation_held to owner)
-  held_to key lt some =
-      let there = numbered-some writes (receiver key) some (receiver_upto key lt) in
-      (there.0, there.1, to_proper.copies owner key there.0 (has_receiver key lt ∙ there.1))
+  before : IsGreatest (cell to.cells to.nodes) to.keys owner old
+  before = two.second.most owner in_nodes
 
-  held_from : (key : ℕ) → key < to.keys → 0 < sender key → (e : Entry) × (write_numbered writes (sender key) ≡ Some e) × (e.generation ≡ generation_held from owner) × (entry_at from owner key ≡ Some e)
-  held_from key lt some =
-      let there = numbered-some writes (sender key) some (sender_upto key lt) in
-      (there.0, there.1, from_proper.copies owner key there.0 (has_sender key lt ∙ there.1), has_sender key lt ∙ there.1)
+  raised : IsRaised (numbers_taken to.nodes to.cells now low high) to.keys owner old new
+  raised = taken.raised owner in_nodes
+
+  sent_above : (key : ℕ) → sent key ≡ true → receiver key < sender key
+  sent_above key yes' = grind (arith, nat_tests)
+
+  y_sent : (key : ℕ) → key < to.keys → sent key ≡ true → y key ≡ sender key
+  y_sent key lt yes' = same owner key in_nodes lt ∙ (let there : cell from.cells to.nodes owner key ≡ sender key = ap (λ n. cell from.cells n owner key) (sym two.both.size.nodes) in grind (arith, nat_tests))
+
+  y_stays : (key : ℕ) → key < to.keys → sent key ≡ false → y key ≡ receiver key
+  y_stays key lt no' = same owner key in_nodes lt ∙ (let there : cell from.cells to.nodes owner key ≡ sender key = ap (λ n. cell from.cells n owner key) (sym two.both.size.nodes) in grind (arith, nat_tests))
+
+  of_sender : (key : ℕ) → key < to.keys → 0 < sender key → (e : Entry) × (write_numbered writes (sender key) ≡ Some e) × (entry_at F owner key ≡ Some e) × (generation_of writes (sender key) ≡ generation_held F owner)
+  of_sender key lt some = first-held two owner key (omega (arith, in_nodes, two.both.size.nodes)) (omega (arith, lt, two.both.size.keys)) some
+
+  of_old : 0 < old → (generation_of writes old ≡ generation_held T owner) × (old ≤ length writes)
+  of_old some = elim before.held [
+    | inl none ↦ absurd (omega (arith, none, some))
+    | inr (key, lt, is) ↦
+        let e = first-held (turned two) owner key in_nodes lt (omega (arith, is, some)) in
+        (subst (λ n. generation_of writes n ≡ generation_held T owner) is e.3, omega (arith, is, numbered-within writes (receiver key) e.0 e.1))
+  ]
 
   -- where the greatest number was raised it is a sent one
-  raised_sent : old < new → (key : ℕ) × (key < to.keys) × (sent owner key ≡ true) × (sender key ≡ new)
-  raised_sent lt = elim new_from [
-    | inl same ↦ absurd (omega (arith, lt, same))
-    | inr (key, in_keys, is) ↦ elim (sent owner key) as (λ b. sent owner key ≡ b → (key : ℕ) × (key < to.keys) × (sent owner key ≡ true) × (sender key ≡ new)) [
-      | true ↦ λ yes'. (key, in_keys, yes', sym (y_sent key in_keys yes') ∙ is)
-      | false ↦ λ no'. absurd (omega (arith, lt, is, y_stays key in_keys no', old_upto key in_keys))
+  of_new : old < new → (key : ℕ) × (e : Entry) × (sent key ≡ true) × (entry_at F owner key ≡ Some e) × (generation_of writes new ≡ generation_held F owner) × (new ≤ length writes)
+  of_new lt = elim raised.from [
+    | inl stays ↦ absurd (omega (arith, lt, stays))
+    | inr (key, in_keys, is) ↦ elim (sent key) as (λ b. sent key ≡ b → (key : ℕ) × (e : Entry) × (sent key ≡ true) × (entry_at F owner key ≡ Some e) × (generation_of writes new ≡ generation_held F owner) × (new ≤ length writes)) [
+      | true ↦ λ yes'.
+          let at : sender key ≡ new = sym (y_sent key in_keys yes') ∙ is in
+          let e = of_sender key in_keys (omega (arith, at, lt)) in
+          (key, e.0, yes', e.2, subst (λ n. generation_of writes n ≡ generation_held F owner) at e.3, omega (arith, at, numbered-within writes (sender key) e.0 e.1))
+      | false ↦ λ no'. absurd (omega (arith, lt, is, y_stays key in_keys no', before.upto key in_keys))
     ] refl
   ]
 
-  of_new : old < new → (key : ℕ) × (e : Entry) × (write_numbered writes new ≡ Some e) × (e.generation ≡ generation_held from owner) × (sent owner key ≡ true) × (entry_at from owner key ≡ Some e)
-  of_new lt =
-      let at = raised_sent lt in
-      let there = held_from at.0 at.1 (omega (arith, at.3, lt)) in
-      (at.0, there.0, ap (write_numbered writes) (sym at.3) ∙ there.1, there.2, at.2, there.3)
+  -- what isn't of an older generation than what comes is kept
+  stands : (x : ℕ) → 0 < x → x ≤ new → (old < new → generation_held F owner ≤ generation_of writes x) → start < x
+  stands x some le no_older =
+      let at = λ (lt : old < new). (of_new lt).4 in
+      let before_start = λ (lt : old < new). older (two.known.so_far owner) x new some le (of_new lt).5 in
+      grind (arith, nat_tests)
 
   -- what is sent comes
-  came_number : (key : ℕ) → key < to.keys → sent owner key ≡ true → taken key ≡ sender key
+  pub came_number : (key : ℕ) → key < to.keys → sent key ≡ true → cell cells to.nodes owner key ≡ sender key
   came_number key lt yes' =
-      kept_is key lt
-      ∙ ap (number_kept start) (y_sent key lt yes')
-      ∙ kept-above start (sender key) (elim (drop-cases writes old base new) [
-        | inl none ↦ omega (arith, none, above key lt yes')
-        | inr (some, upto, raised, is) ↦ elim (cases_lt start (sender key)) [
-          | inl below ↦ below
-          | inr not_below ↦
-              let at = of_new raised in
-              let here = held_from key lt (omega (arith, above key lt yes')) in
-              absurd (omega (arith, start-older writes history numbered (sender key) new here.0 at.1 here.1 at.2 (omega (arith, not_below, is)), here.2, at.3))
-        ]
-      ])
+      let is = taken.kept owner key in_nodes lt in
+      let at = y_sent key lt yes' in
+      let some : 0 < sender key = omega (arith, sent_above key yes') in
+      let below = stands (sender key) some (omega (arith, at, raised.upto key lt)) (λ _. omega (arith, (of_sender key lt some).3)) in
+      grind (arith, nat_tests)
 
-  -- the write of the greatest number before
-  held_old : 0 < old → (e : Entry) × (write_numbered writes old ≡ Some e) × (e.generation ≡ generation_held to owner)
-  held_old some = elim old_from [
-    | inl none ↦ absurd (omega (arith, none, some))
-    | inr (key, in_keys, is) ↦ let last = held_to key in_keys (omega (arith, is, some)) in (last.0, ap (write_numbered writes) (sym is) ∙ last.1, last.2)
-  ]
-
-  -- it is raised where something newer is sent
-  module _ (newer : SendsNewer from to sent owner) where
-    newer_in : newer.key < to.keys
-    newer_in = omega (arith, (from_proper.in_place owner newer.key newer.entry newer.held).key_below, keys)
-
-    newer_is : write_numbered writes (sender newer.key) ≡ Some newer.entry
-    newer_is = sym (has_sender newer.key newer_in) ∙ newer.held
-
-    newer_raises : old < new
-    newer_raises =
-        let upto : sender newer.key ≤ new = omega (arith, y_sent newer.key newer_in newer.is_sent, new_upto newer.key newer_in) in
-        elim (cases_lt 0 old) [
-          | inr none ↦ omega (arith, none, above newer.key newer_in newer.is_sent, upto)
-          | inl some ↦
-              let last = held_old some in
-              omega (arith, upto, newer-above writes history numbered old (sender newer.key) last.0 newer.entry last.1 newer_is (omega (arith, last.2, newer.newer)))
-        ]
+  -- where it is of a newer generation the greatest number is raised
+  rises : (key : ℕ) (e : Entry) → entry_at F owner key ≡ Some e → sent key ≡ true → generation_held T owner < generation_held F owner → old < new
+  rises key e held yes' newer =
+      let lt : key < to.keys = omega (arith, (two.first.proper.in_place owner key e held).key_below, two.both.size.keys) in
+      let some : 0 < sender key = omega (arith, sent_above key yes') in
+      elim (cases_lt old new) [
+        | inl raises ↦ raises
+        | inr stays ↦
+            let le : sender key ≤ old = omega (arith, stays, y_sent key lt yes', raised.upto key lt) in
+            let at = of_old (omega (arith, some, le)) in
+            absurd (omega (arith, newer, at.0, (of_sender key lt some).3, rise (two.known.so_far owner) (sender key) old some le at.1))
+      ]
 
   -- so something newer is sent, or nothing is
-  newer_or_not : SendsNoNewer from to sent owner ⊎ SendsNewer from to sent owner
-  newer_or_not = elim (cases_lt old new) [
-    | inr stays ↦ inl (λ key e held yes'. elim (cases_lt (generation_held to owner) e.generation) [
-      | inr not_newer ↦ omega (arith, not_newer)
-      | inl newer ↦ absurd (omega (arith, stays, newer_raises (record { key = key; entry = e; held = held; is_sent = yes'; newer = newer })))
-    ])
-    | inl raised ↦
-        let at = of_new raised in
-        elim (cases_lt (generation_held to owner) (generation_held from owner)) [
-          | inr not_newer ↦ inl (λ key e held yes'. omega (arith, not_newer, from_proper.copies owner key e held))
-          | inl newer ↦ inr (record { key = at.0; entry = at.1; held = at.5; is_sent = at.4; newer = omega (arith, newer, at.3) })
-        ]
-  ]
-
-  -- where nothing newer comes, other numbers stay
-  stays_number : SendsNoNewer from to sent owner → (key : ℕ) → key < to.keys → sent owner key ≡ false → taken key ≡ receiver key
-  stays_number no_newer key lt no' =
-      kept_is key lt
-      ∙ ap (number_kept start) (y_stays key lt no')
-      ∙ elim (cases_lt 0 (receiver key)) [
-        | inr none ↦ ap (number_kept start) {x = receiver key} {y = 0} (omega (arith, none)) ∙ kept-zero start ∙ omega (arith, none)
-        | inl some ↦ kept-above start (receiver key) (elim (drop-cases writes old base new) [
-          | inl none ↦ omega (arith, none, some)
-          | inr (some_old, upto, raised, is) ↦ elim (cases_lt start (receiver key)) [
-            | inl below ↦ below
-            | inr not_below ↦
-                let at = of_new raised in
-                let here = held_to key lt some in
-                absurd (omega (arith, start-older writes history numbered (receiver key) new here.0 at.1 here.1 at.2 (omega (arith, not_below, is)), here.2, no_newer at.0 at.1 at.5 at.4))
-          ]
-        ])
-      ]
-
-  -- and where something does, they are dropped
-  drops_number : SendsNewer from to sent owner → (key : ℕ) → key < to.keys → sent owner key ≡ false → taken key ≡ 0
-  drops_number newer key lt no' =
-      kept_is key lt
-      ∙ ap (number_kept start) (y_stays key lt no')
-      ∙ elim (cases_lt 0 (receiver key)) [
-        | inr none ↦ ap (number_kept start) {x = receiver key} {y = 0} (omega (arith, none)) ∙ kept-zero start
-        | inl some ↦ kept-none start (receiver key) (upto_start some)
-      ]
-    where
-      upto_start : 0 < receiver key → receiver key ≤ start
-      upto_start some =
-          let some_old : 0 < old = omega (arith, some, old_upto key lt) in
-          let last = held_old some_old in
-          let raised = newer_raises newer in
-          let upto : old ≤ base = elim (cases_lt base old) [
-            | inl over ↦ absurd (omega (arith, newest (sender newer.key) old newer.entry last.0 (newer_is newer) last.1 over, last.2, newer.newer))
-            | inr not_over ↦ omega (arith, not_over)
-          ] in
-          let at = of_new raised in
-          let here = held_to key lt some in
-          omega (
-            arith,
-            drop-here writes old base new some_old upto raised,
-            start-not_older writes history numbered (receiver key) new here.0 at.1 here.1 at.2 (omega (arith, old_upto key lt, raised))
-                (omega (arith, here.2, newer.newer, at.3, from_proper.copies owner newer.key newer.entry newer.held)),
-          )
-
-  other_number : (key : ℕ) → key < to.keys → sent owner key ≡ false → (SendsNoNewer from to sent owner × (taken key ≡ receiver key)) ⊎ (SendsNewer from to sent owner × (taken key ≡ 0))
-  other_number key lt no' = elim newer_or_not [
-    | inl none ↦ inl (none, stays_number none key lt no')
-    | inr newer ↦ inr (newer, drops_number newer key lt no')
-  ]
-
-  -- the greatest number stands
-  taken_upto : (n : ℕ) → number_kept start n ≤ n
-  taken_upto n = elim (cases_lt start n) [
-    | inl above ↦ omega (arith, kept-above start n above)
-    | inr not_above ↦ omega (arith, kept-none start n (omega (arith, not_above)))
-  ]
-
-  start_below : 0 < new → start < new
-  start_below some = elim (drop-cases writes old base new) [
-    | inl none ↦ omega (arith, none, some)
-    | inr (_, _, _, is) ↦ omega (arith, is, start-below writes history numbered new some)
-  ]
-
-  greatest_upto : (key : ℕ) → key < to.keys → taken key ≤ new
-  greatest_upto key lt = omega (arith, kept_is key lt, taken_upto (y key), new_upto key lt)
-
-  greatest_from : (new ≡ 0) ⊎ ((key : ℕ) × (key < to.keys) × (taken key ≡ new))
-  greatest_from = elim (cases_lt 0 new) [
-    | inr none ↦ inl (omega (arith, none))
-    | inl some ↦ elim new_from [
-      | inr (key, lt, is) ↦ inr (key, lt, kept_is key lt ∙ ap (number_kept start) is ∙ kept-above start new (start_below some))
-      | inl same ↦ elim old_from [
-        | inl none ↦ absurd (omega (arith, none, same, some))
-        | inr (key, lt, is) ↦
-            let no_less : receiver key ≤ y key = elim (sent owner key) as (λ b. sent owner key ≡ b → receiver key ≤ y key) [
-              | true ↦ λ yes'. omega (arith, y_sent key lt yes', above key lt yes')
-              | false ↦ λ no'. omega (arith, y_stays key lt no')
-            ] refl in
-            let here : y key ≡ new = omega (arith, no_less, is, same, new_upto key lt) in
-            inr (key, lt, kept_is key lt ∙ ap (number_kept start) here ∙ kept-above start new (start_below some))
-      ]
+  newer_or_not : SendsNoNewer F T (is_taken_at from to low high) owner ⊎ SendsNewer F T (is_taken_at from to low high) owner
+  newer_or_not = elim (cases_lt (generation_held T owner) (generation_held F owner)) [
+    | inr not_newer ↦ inl (λ key e held _. omega (arith, not_newer, two.first.proper.copies owner key e held))
+    | inl newer ↦ elim (cases_lt old new) [
+      | inr stays ↦ inl (λ key e held yes'. absurd (omega (arith, stays, rises key e held yes' newer)))
+      | inl lt ↦ let at = of_new lt in inr (record { key = at.0; entry = at.1; held = at.3; is_sent = at.2; newer = omega (arith, newer, two.first.proper.copies owner at.0 at.1 at.3) })
     ]
   ]
 
-  pub are_numbers_taken : AreNumbersTaken from to sent owner sender receiver taken new
-  are_numbers_taken = record { came = came_number; others = other_number; upto = greatest_upto; held = greatest_from }
+  -- where nothing newer comes other numbers stay, and where something does they are dropped
+  pub other_number : (key : ℕ) → key < to.keys → sent key ≡ false
+      → (SendsNoNewer F T (is_taken_at from to low high) owner × (cell cells to.nodes owner key ≡ receiver key)) ⊎ (SendsNewer F T (is_taken_at from to low high) owner × (cell cells to.nodes owner key ≡ 0))
+  other_number key lt no' = elim newer_or_not [ inl none ↦ inl (none, stays none) | inr newer ↦ inr (newer, dropped newer) ]
+    where
+      is : cell cells to.nodes owner key ≡ number_kept start (receiver key)
+      is = taken.kept owner key in_nodes lt ∙ ap (number_kept start) (y_stays key lt no')
+
+      here : 0 < receiver key → generation_of writes (receiver key) ≡ generation_held T owner
+      here some = (first-held (turned two) owner key in_nodes lt some).3
+
+      stays : SendsNoNewer F T (is_taken_at from to low high) owner → cell cells to.nodes owner key ≡ receiver key
+      stays none =
+          let below = λ (some : 0 < receiver key). stands (receiver key) some (omega (arith, before.upto key lt, raised.rises)) (λ raises.
+          let at = of_new raises in
+          omega (arith, here some, none at.0 at.1 at.3 at.2, two.first.proper.copies owner at.0 at.1 at.3)) in
+          is ∙ grind (arith, nat_tests)
+
+      dropped : SendsNewer F T (is_taken_at from to low high) owner → cell cells to.nodes owner key ≡ 0
+      dropped newer =
+          let le = before.upto key lt in
+          let is_newer = newer.newer in
+          let copy = two.first.proper.copies owner newer.key newer.entry newer.held in
+          let raises = rises newer.key newer.entry newer.held newer.is_sent (omega (arith, is_newer, copy)) in
+          let at = of_new raises in
+          let current = λ (some : 0 < old). newest (two.known.so_far owner) old new some (omega (arith, raises)) at.5 (list_of_owner h.lists owner) (two.known.writes owner) refl in
+          let behind = λ (some : 0 < receiver key). alike (two.known.so_far owner) (receiver key) new some (omega (arith, le, raises)) at.5 in
+          is ∙ grind (arith, nat_tests, of_old, here)
+
+  -- the greatest number stands
+  pub top_number : IsGreatest (cell cells to.nodes) to.keys owner new
+  top_number = record {
+    upto = λ key lt. let is = taken.kept owner key in_nodes lt in let le = raised.upto key lt in grind (arith, nat_tests);
+    held = elim (cases_lt 0 new) [
+      | inr none ↦ inl (omega (arith, none))
+      | inl some ↦
+          let at : (key : ℕ) × (key < to.keys) × (y key ≡ new) = elim raised.from [
+            | inr raises ↦ raises
+            | inl stays ↦ elim before.held [ inl none ↦ absurd (omega (arith, none, stays, some)) | inr (key, lt, is) ↦ (key, lt, omega (arith, is, stays, raised.upto key lt)) ]
+          ] in
+          let same_number = at.2 in
+          let is = taken.kept owner at.0 in_nodes at.1 in
+          let below = stands new some (omega arith) (λ lt. omega (arith, (of_new lt).4)) in
+          inr (at.0, at.1, grind (arith, nat_tests))
+    ];
+  }

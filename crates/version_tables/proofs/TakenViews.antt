@@ -1,187 +1,142 @@
 -- A table that took a delta by marks is the model's table that took its items.
 -- Serves `ExchangedViews` and `Merged`.
-use Rattle.version_tables.proofs.Common.{◌≡◌, ℕ, ◌<◌, ◌≤◌, Bool, true, false, max, nat_lt, nat_le, List, length, Some, inl, inr, refl, sym, ap, ◌∙◌, subst, arith, slice_index, le-ltb, ltb-true, and_left, and_parts, none-some, Entry, Rules, Table, applied, IsProper, KeepsFrame, frame-applied, received-proper, write_numbered, OwnerListView, all_writes, list_of_owner, AreWrites, Cells, cell, number_taken, numbers_taken, HasCells, AreSent}
-use Rattle.version_tables.specs.Views.{VersionTableView, HistoriesView, table_in, IsKept}
-use Rattle.version_tables.specs.inner.Deltas.{delta_of_views, is_taken_at}
-use Rattle.version_tables.specs.inner.Histories.{bases_in, IsWrittenSoFar, FitsHistories}
+use Rattle.version_tables.proofs.Common.{◌≡◌, ◌≢◌, ℕ, ◌<◌, ◌≤◌, true, false, List, length, Some, inl, inr, refl, sym, ap, ◌∙◌, subst, arith, both_ways, none-some, nat_tests, Entry, Rules, Table, entry_at, IsProper, KeepsFrame, frame-applied, received-proper, write_numbered, all_writes, cell, numbers_taken, HasCells}
+use Rattle.version_tables.specs.Views.{VersionTableView, HistoriesView, table_in}
+use Rattle.version_tables.specs.inner.Deltas.{delta_of_views, is_taken_at, AreLaidBoth, AreMarksOf}
+use Rattle.version_tables.specs.inner.Histories.{bases_in}
 use Rattle.version_tables.specs.Laid.{table_of_cells, AreNumbers, IsFirst, IsVersionTable}
-use Rattle.version_tables.specs.inner.Taken.{is_taken, SendsNewer, AreTakenCells, IsTaken}
-use Rattle.version_tables.proofs.Fitting.{fits-upto, fits-cells}
-use Rattle.version_tables.proofs.Generations.{current-at, generation-upto}
+use Rattle.version_tables.specs.inner.Taken.{SendsNewer, AreTakenCells, IsTaken}
+use Rattle.version_tables.proofs.Fitting.{turned, first-cells, first-numbers}
 use Rattle.version_tables.proofs.Laid.{cells_table}
-use Rattle.version_tables.proofs.TakenCells.{taken_cells}
-use Rattle.version_tables.proofs.TakenNumbers.{taken-number, stays-number}
-use Rattle.version_tables.proofs.TakenEntries.{came-lacked}
-use Rattle.version_tables.proofs.TakenByOwner.{AreNumbersTaken, are_numbers_taken}
+use Rattle.version_tables.proofs.TakenByOwner.{came_number, other_number, top_number}
+use Rattle.version_tables.proofs.TakenEntries.{after, Comes, after-sent, after-kept, after-dropped, came-held, came-lacked}
 
--- numbers above those of earlier generations are of the newest one
-newest_in : (lists : List OwnerListView) (owner : ℕ) → AreWrites (list_of_owner lists owner) → (m n : ℕ) (d e : Entry) → write_numbered (all_writes lists owner) m ≡ Some d → write_numbered (all_writes lists owner) n ≡ Some e → bases_in lists owner < n → d.generation ≤ e.generation
-newest_in lists owner are m n d e is_d is_e lt =
-    omega (arith, generation-upto (list_of_owner lists owner) are m d is_d, (current-at (list_of_owner lists owner) are n e is_e lt).0)
+-- by numbers that are taken from the sender as it was, or as it is now
+module _ {rules : Rules} {rotation : ℕ} {written : ℕ → List Entry} {most : ℕ} {h : HistoriesView} {from to : VersionTableView} {low high : List ℕ} {count cut : ℕ} {now cells greatest : List ℕ}
+    (two : AreLaidBoth written most h from to) (delta : AreMarksOf rules rotation written from to low high count cut)
+    (same : (owner key : ℕ) → owner < to.nodes → key < to.keys → numbers_taken to.nodes to.cells now low high owner key ≡ numbers_taken to.nodes to.cells from.cells low high owner key)
+    (taken : IsTaken (all_writes h.lists) (bases_in h.lists) to.nodes to.keys to.cells to.greatest now low high cells greatest) where
+  abbrev F : Table
+  F = table_in written from
 
-module _ (rules : Rules) (rotation : ℕ) (written : ℕ → List Entry) (most : ℕ) (h : HistoriesView)
-    (so_far : (owner : ℕ) → IsWrittenSoFar (written owner) most h.rounds (all_writes h.lists owner)) (are : (owner : ℕ) → AreWrites (list_of_owner h.lists owner))
-    (from to : VersionTableView) (from_kept : IsKept written from) (to_kept : IsKept written to) (from_fits : FitsHistories h (table_in written from)) (to_fits : FitsHistories h (table_in written to))
-    (nodes : from.nodes ≡ to.nodes) (keys : from.keys ≡ to.keys) (low high : List ℕ)
-    (marks : AreSent (table_in written from) (delta_of_views rules rotation written from to).items (is_taken_at from to low high)) where
-  abbrev sender : Cells
-  sender = cell from.cells from.nodes
+  abbrev T : Table
+  T = table_in written to
 
-  abbrev receiver : Cells
-  receiver = cell to.cells to.nodes
-
-  abbrev sent : ℕ → ℕ → Bool
-  sent = is_taken_at from to low high
-
-  abbrev y : Cells
-  y = numbers_taken to.nodes to.cells from.cells low high
+  abbrev received : Table
+  received = after rules rotation two
 
   in_sender : (owner : ℕ) → owner < to.nodes → owner < from.nodes
-  in_sender owner lt = omega (arith, lt, nodes)
+  in_sender owner lt = omega (arith, lt, two.both.size.nodes)
 
   in_sender_keys : (key : ℕ) → key < to.keys → key < from.keys
-  in_sender_keys key lt = omega (arith, lt, keys)
+  in_sender_keys key lt = omega (arith, lt, two.both.size.keys)
 
-  pub sent_above : (owner key : ℕ) → sent owner key ≡ true → receiver owner key < sender owner key
-  sent_above owner key yes' =
-      let parts = and_parts (nat_lt (max (receiver owner key) (slice_index low owner)) (sender owner key)) (nat_le (sender owner key) (slice_index high owner)) yes' in
-      omega (arith, ltb-true (max (receiver owner key) (slice_index low owner)) (sender owner key) parts.0)
+  pub are_taken : AreTakenCells F T (is_taken_at from to low high) (cell from.cells from.nodes) (cell to.cells to.nodes) (cell cells to.nodes)
+  are_taken = record {
+    came = λ owner key in_nodes in_keys. came_number two same taken owner in_nodes key in_keys;
+    others = λ owner key in_nodes in_keys. other_number two same taken owner in_nodes key in_keys;
+  }
 
-  same_test : (owner key : ℕ) → is_taken (receiver owner key) (cell from.cells to.nodes owner key) (slice_index low owner) (slice_index high owner) ≡ sent owner key
-  same_test owner key = ap (λ n. is_taken (receiver owner key) (cell from.cells n owner key) (slice_index low owner) (slice_index high owner)) (sym nodes)
+  -- each number is the sender's, the receiver's or 0
+  by_number : (P : ℕ → Type 0) (owner key : ℕ) → owner < to.nodes → key < to.keys → P 0 → P (cell to.cells to.nodes owner key) → P (cell from.cells from.nodes owner key) → P (cell cells to.nodes owner key)
+  by_number P owner key in_nodes in_keys none held came = elim (is_taken_at from to low high owner key) as (λ b. is_taken_at from to low high owner key ≡ b → P (cell cells to.nodes owner key)) [
+    | true ↦ λ yes'. subst P (sym (are_taken.came owner key in_nodes in_keys yes')) came
+    | false ↦ λ no'. elim (are_taken.others owner key in_nodes in_keys no') [ inl stays ↦ subst P (sym stays.1) held | inr gone ↦ subst P (sym gone.1) none ]
+  ] refl
 
-  y_sent : (owner key : ℕ) → sent owner key ≡ true → y owner key ≡ sender owner key
-  y_sent owner key yes' =
-      taken-number (receiver owner key) (cell from.cells to.nodes owner key) (slice_index low owner) (slice_index high owner) (same_test owner key ∙ yes')
-      ∙ ap (λ n. cell from.cells n owner key) (sym nodes)
+  numbers_here : AreNumbers written to.nodes to.keys (cell cells to.nodes)
+  numbers_here = record {
+    written = λ owner key in_nodes in_keys. by_number (λ n. n ≤ length (written owner)) owner key in_nodes in_keys (omega arith) (two.second.numbers.written owner key in_nodes in_keys)
+        (two.first.numbers.written owner key (in_sender owner in_nodes) (in_sender_keys key in_keys));
+    keyed = λ owner key e in_nodes in_keys. by_number (λ n. write_numbered (written owner) n ≡ Some e → e.key ≡ key) owner key in_nodes in_keys (λ is. absurd (none-some e is)) (two.second.numbers.keyed owner key e in_nodes in_keys)
+        (two.first.numbers.keyed owner key e (in_sender owner in_nodes) (in_sender_keys key in_keys));
+  }
 
-  y_stays : (owner key : ℕ) → sent owner key ≡ false → y owner key ≡ receiver owner key
-  y_stays owner key no' = stays-number (receiver owner key) (cell from.cells to.nodes owner key) (slice_index low owner) (slice_index high owner) (same_test owner key ∙ no')
+  frame : KeepsFrame T received
+  frame = frame-applied T (delta_of_views rules rotation written from to).items
 
-  has_sender : HasCells (all_writes h.lists) sender (table_in written from)
-  has_sender = fits-cells written from from_kept most h so_far from_fits
+  received_proper : IsProper received
+  received_proper = received-proper rules rotation F T two.first.proper two.both.size.nodes two.both.size.keys two.second.proper
 
-  has_receiver : HasCells (all_writes h.lists) receiver (table_in written to)
-  has_receiver = fits-cells written to to_kept most h so_far to_fits
+  -- what comes is held by the sender, and marked
+  held_there : (owner : ℕ) (d : Entry) → Comes rules rotation two owner d → (entry_at F owner d.key ≡ Some d) × (is_taken_at from to low high owner d.key ≡ true)
+  held_there owner d comes = let held = came-held rules rotation two owner d comes in (held, (delta.marks.members owner d.key d held).1 comes)
 
-  sender_upto : (owner key : ℕ) → owner < to.nodes → key < to.keys → sender owner key ≤ length (all_writes h.lists owner)
-  sender_upto owner key in_nodes in_keys = fits-upto written from from_kept most h so_far from_fits owner key (in_sender owner in_nodes) (in_sender_keys key in_keys)
+  -- the cells hold what the model's table does
+  taken_cells : (owner key : ℕ) → owner < to.nodes → key < to.keys → entry_at received owner key ≡ write_numbered (all_writes h.lists owner) (cell cells to.nodes owner key)
+  taken_cells owner key in_nodes in_keys =
+      elim (is_taken_at from to low high owner key) as (λ b. is_taken_at from to low high owner key ≡ b → entry_at received owner key ≡ write_numbered (all_writes h.lists owner) (cell cells to.nodes owner key)) [
+        | true ↦ λ yes'.
+            let there = delta.marks.held owner key (in_sender owner in_nodes) (in_sender_keys key in_keys) yes' in
+            let comes = (delta.marks.members owner key there.0 there.1).0 yes' in
+            subst (λ k. entry_at received owner k ≡ Some there.0) (two.first.proper.in_place owner key there.0 there.1).keyed (after-sent rules rotation two owner there.0 comes)
+            ∙ sym there.1
+            ∙ first-cells two owner key (in_sender owner in_nodes) (in_sender_keys key in_keys)
+            ∙ ap (write_numbered (all_writes h.lists owner)) (sym (are_taken.came owner key in_nodes in_keys yes'))
+        | false ↦ λ no'. elim (are_taken.others owner key in_nodes in_keys no') [
+          | inl stays ↦
+              after-kept rules rotation two owner key (elsewhere no') (λ d comes. let there = held_there owner d comes in stays.0 d.key d there.0 there.1)
+              ∙ first-cells (turned two) owner key in_nodes in_keys
+              ∙ ap (write_numbered (all_writes h.lists owner)) (sym stays.1)
+          | inr gone ↦
+              after-dropped rules rotation two owner key gone.0.entry ((delta.marks.members owner gone.0.key gone.0.entry gone.0.held).0 gone.0.is_sent) gone.0.newer (elsewhere no')
+              ∙ ap (write_numbered (all_writes h.lists owner)) (sym gone.1)
+        ]
+      ] refl
+    where
+      elsewhere : is_taken_at from to low high owner key ≡ false → (d : Entry) → Comes rules rotation two owner d → d.key ≢ key
+      elsewhere no' d comes is = both_ways (is_taken_at from to low high owner key) no' (subst (λ k. is_taken_at from to low high owner k ≡ true) is (held_there owner d comes).1)
 
-  receiver_upto : (owner key : ℕ) → owner < to.nodes → key < to.keys → receiver owner key ≤ length (all_writes h.lists owner)
-  receiver_upto owner key in_nodes in_keys = fits-upto written to to_kept most h so_far to_fits owner key in_nodes in_keys
+  has_received : HasCells written (cell cells to.nodes) received
+  has_received owner key in_nodes in_keys =
+      let in_node : owner < to.nodes = omega (arith, in_nodes, frame.nodes) in
+      let in_key : key < to.keys = omega (arith, in_keys, frame.keys) in
+      taken_cells owner key in_node in_key
+      ∙ (two.known.so_far owner).begins (cell cells to.nodes owner key) (by_number (λ n. n ≤ length (all_writes h.lists owner)) owner key in_node in_key (omega arith)
+      ((first-numbers (turned two)).written owner key in_node in_key) ((first-numbers two).written owner key (in_sender owner in_node) (in_sender_keys key in_key)))
 
-  -- by numbers that are taken from the sender as it was, or as it is now
-  module _ (now cells greatest : List ℕ)
-      (same : (owner key : ℕ) → owner < to.nodes → key < to.keys → numbers_taken to.nodes to.cells now low high owner key ≡ y owner key)
-      (taken : IsTaken (all_writes h.lists) (bases_in h.lists) to.nodes to.keys to.cells to.greatest now low high cells greatest) where
-    numbers : (owner : ℕ) → owner < to.nodes → AreNumbersTaken (table_in written from) (table_in written to) sent owner (sender owner) (receiver owner) (cell cells to.nodes owner) (slice_index greatest owner)
-    numbers owner in_nodes =
-        let raised = taken.raised owner in_nodes in
-        are_numbers_taken (table_in written from) (table_in written to) from_kept.proper to_kept.proper keys owner (all_writes h.lists owner) (so_far owner).history (so_far owner).numbered (bases_in h.lists owner)
-        (newest_in h.lists owner (are owner)) sent (sender owner) (receiver owner) (numbers_taken to.nodes to.cells now low high owner) (cell cells to.nodes owner)
-        (λ k k_lt. has_sender owner k (in_sender owner in_nodes) (in_sender_keys k k_lt)) (λ k k_lt. has_receiver owner k in_nodes k_lt)
-        (λ k k_lt. sender_upto owner k in_nodes k_lt) (λ k k_lt. receiver_upto owner k in_nodes k_lt)
-        (λ k k_lt. sent_above owner k) (λ k k_lt yes'. same owner k in_nodes k_lt ∙ y_sent owner k yes') (λ k k_lt no'. same owner k in_nodes k_lt ∙ y_stays owner k no')
-        (slice_index to.greatest owner) (slice_index greatest owner) (to_kept.most owner in_nodes).upto (to_kept.most owner in_nodes).held raised.rises raised.upto raised.from (λ k k_lt. taken.kept owner k in_nodes k_lt)
+  -- the table is the model's
+  pub becomes_applied : table_of_cells written to.node to.nodes to.keys to.generation (cell cells to.nodes) ≡ received
+  becomes_applied =
+      (λ i. table_of_cells written (sym frame.node i) (sym frame.nodes i) (sym frame.keys i) (sym frame.generation i) (cell cells to.nodes))
+      ∙ cells_table written (cell cells to.nodes) received received_proper
+      (subst (λ n. AreNumbers written n received.keys (cell cells to.nodes)) (sym frame.nodes) (subst (λ k. AreNumbers written to.nodes k (cell cells to.nodes)) (sym frame.keys) numbers_here))
+      has_received
 
-    pub are_taken : AreTakenCells (table_in written from) (table_in written to) sent sender receiver (cell cells to.nodes)
-    are_taken = record {
-      came = λ owner key in_nodes in_keys. (numbers owner in_nodes).came key in_keys;
-      others = λ owner key in_nodes in_keys. (numbers owner in_nodes).others key in_keys;
-    }
-
-    -- each number is the sender's, the receiver's or 0
-    by_number : (P : ℕ → Type 0) (owner key : ℕ) → owner < to.nodes → key < to.keys → P 0 → P (receiver owner key) → P (sender owner key) → P (cell cells to.nodes owner key)
-    by_number P owner key in_nodes in_keys none held came = elim (sent owner key) as (λ b. sent owner key ≡ b → P (cell cells to.nodes owner key)) [
-      | true ↦ λ yes'. subst P (sym ((numbers owner in_nodes).came key in_keys yes')) came
-      | false ↦ λ no'. elim ((numbers owner in_nodes).others key in_keys no') [
-        | inl stays ↦ subst P (sym stays.1) held
-        | inr gone ↦ subst P (sym gone.1) none
-      ]
-    ] refl
-
-    numbers_here : AreNumbers written to.nodes to.keys (cell cells to.nodes)
-    numbers_here = record {
-      written = λ owner key in_nodes in_keys. by_number (λ n. n ≤ length (written owner)) owner key in_nodes in_keys (omega arith) (to_kept.numbers.written owner key in_nodes in_keys)
-          (from_kept.numbers.written owner key (in_sender owner in_nodes) (in_sender_keys key in_keys));
-      keyed = λ owner key e in_nodes in_keys. by_number (λ n. write_numbered (written owner) n ≡ Some e → e.key ≡ key) owner key in_nodes in_keys (λ is. absurd (none-some e is)) (to_kept.numbers.keyed owner key e in_nodes in_keys)
-          (from_kept.numbers.keyed owner key e (in_sender owner in_nodes) (in_sender_keys key in_keys));
-    }
-
-    abbrev after : Table
-    after = applied (table_in written to) (delta_of_views rules rotation written from to).items
-
-    frame : KeepsFrame (table_in written to) after
-    frame = frame-applied (table_in written to) (delta_of_views rules rotation written from to).items
-
-    after_proper : IsProper after
-    after_proper = received-proper rules rotation (table_in written from) (table_in written to) from_kept.proper nodes keys to_kept.proper
-
-    has_after : HasCells written (cell cells to.nodes) after
-    has_after owner key in_nodes in_keys =
-        let in_node : owner < to.nodes = omega (arith, in_nodes, frame.nodes) in
-        let in_key : key < to.keys = omega (arith, in_keys, frame.keys) in
-        taken_cells rules rotation (table_in written from) (table_in written to) from_kept.proper to_kept.proper nodes keys (all_writes h.lists) sender receiver (cell cells to.nodes) has_sender has_receiver sent marks are_taken owner key in_nodes in_keys
-        ∙ (so_far owner).begins (cell cells to.nodes owner key)
-        (by_number (λ n. n ≤ length (all_writes h.lists owner)) owner key in_node in_key (omega arith) (receiver_upto owner key in_node in_key) (sender_upto owner key in_node in_key))
-
-    -- the table is the model's
-    pub becomes_applied : table_of_cells written to.node to.nodes to.keys to.generation (cell cells to.nodes) ≡ after
-    becomes_applied =
-        (λ i. table_of_cells written (sym frame.node i) (sym frame.nodes i) (sym frame.keys i) (sym frame.generation i) (cell cells to.nodes))
-        ∙ cells_table written (cell cells to.nodes) after after_proper
-        (subst (λ n. AreNumbers written n after.keys (cell cells to.nodes)) (sym frame.nodes) (subst (λ k. AreNumbers written to.nodes k (cell cells to.nodes)) (sym frame.keys) numbers_here))
-        has_after
-
-    pub becomes_one : IsVersionTable written to.node to.nodes to.keys to.generation cells greatest
-    becomes_one = record {
-      proper = subst IsProper (sym becomes_applied) after_proper;
-      cell_count = taken.cell_count ∙ to_kept.cell_count;
-      greatest_count = taken.greatest_count;
-      numbers = numbers_here;
-      first = λ owner key in_nodes in_keys. by_number (IsFirst (written owner)) owner key in_nodes in_keys (λ m lt. absurd (omega (arith, lt))) (to_kept.first owner key in_nodes in_keys)
-          (from_kept.first owner key (in_sender owner in_nodes) (in_sender_keys key in_keys));
-      most = λ owner in_nodes. record { upto = (numbers owner in_nodes).upto; held = (numbers owner in_nodes).held };
-    }
-
--- a number that isn't above the receiver's isn't taken
-pub not_above : (x s low high : ℕ) → s ≤ x → number_taken x s low high ≡ x
-not_above x s low high le = stays-number x s low high (and_left (nat_lt (max x low) s) (nat_le s high) (le-ltb (max x low) s (omega (arith, le))))
+  pub becomes_one : IsVersionTable written to.node to.nodes to.keys to.generation cells greatest
+  becomes_one = record {
+    proper = subst IsProper (sym becomes_applied) received_proper;
+    cell_count = taken.cell_count ∙ two.second.cell_count;
+    greatest_count = taken.greatest_count;
+    numbers = numbers_here;
+    first = λ owner key in_nodes in_keys. by_number (IsFirst (written owner)) owner key in_nodes in_keys (λ m lt. absurd (omega (arith, lt))) (two.second.first owner key in_nodes in_keys)
+        (two.first.first owner key (in_sender owner in_nodes) (in_sender_keys key in_keys));
+    most = top_number two same taken;
+  }
 
 -- what came back to the sender changes nothing of what is taken of it: q sent p, and p sends q
-module _ (rules : Rules) (rotation : ℕ) (written : ℕ → List Entry) (p q : VersionTableView) (p_proper : IsProper (table_in written p)) (q_proper : IsProper (table_in written q))
-    (nodes : p.nodes ≡ q.nodes) (keys : p.keys ≡ q.keys) (low high : List ℕ) (marks : AreSent (table_in written p) (delta_of_views rules rotation written p q).items (is_taken_at p q low high))
-    (back : ℕ → ℕ → Bool) (back_above : (owner key : ℕ) → back owner key ≡ true → cell p.cells p.nodes owner key < cell q.cells q.nodes owner key)
-    (now : List ℕ) (are_taken : AreTakenCells (table_in written q) (table_in written p) back (cell q.cells q.nodes) (cell p.cells p.nodes) (cell now p.nodes)) where
-  not_sent : (owner key : ℕ) → SendsNewer (table_in written q) (table_in written p) back owner → owner < q.nodes → key < q.keys → is_taken_at p q low high owner key ≡ false
+module _ {rules : Rules} {rotation : ℕ} {written : ℕ → List Entry} {most : ℕ} {h : HistoriesView} {p q : VersionTableView} {low high : List ℕ} {count cut : ℕ}
+    (two : AreLaidBoth written most h p q) (delta : AreMarksOf rules rotation written p q low high count cut) (low' high' now : List ℕ)
+    (came : AreTakenCells (table_in written q) (table_in written p) (is_taken_at q p low' high') (cell q.cells q.nodes) (cell p.cells p.nodes) (cell now p.nodes)) where
+  not_sent : (owner key : ℕ) → SendsNewer (table_in written q) (table_in written p) (is_taken_at q p low' high') owner → owner < p.nodes → key < p.keys → is_taken_at p q low high owner key ≡ false
   not_sent owner key newer in_nodes in_keys = elim (is_taken_at p q low high owner key) as (λ b. is_taken_at p q low high owner key ≡ b → b ≡ false) [
     | false ↦ λ _. refl
     | true ↦ λ yes'.
-        let there = marks.held owner key (omega (arith, in_nodes, nodes)) (omega (arith, in_keys, keys)) yes' in
-        let comes = (marks.members owner key there.0 there.1).0 yes' in
-        let lacked = came-lacked rules rotation (table_in written p) (table_in written q) p_proper q_proper nodes keys owner there.0 comes in
-        absurd (omega (arith, lacked.0, p_proper.copies owner key there.0 there.1, newer.newer, q_proper.copies owner newer.key newer.entry newer.held))
+        let there = delta.marks.held owner key in_nodes in_keys yes' in
+        let lacked = came-lacked rules rotation two owner there.0 ((delta.marks.members owner key there.0 there.1).0 yes') in
+        absurd (omega (arith, lacked.0, two.first.proper.copies owner key there.0 there.1, newer.newer, two.second.proper.copies owner newer.key newer.entry newer.held))
   ] refl
 
   pub same_taken : (owner key : ℕ) → owner < q.nodes → key < q.keys → numbers_taken q.nodes q.cells now low high owner key ≡ numbers_taken q.nodes q.cells p.cells low high owner key
   same_taken owner key in_nodes in_keys =
-      subst (λ n. number_taken (cell q.cells q.nodes owner key) (cell now n owner key) (slice_index low owner) (slice_index high owner) ≡ number_taken (cell q.cells q.nodes owner key) (cell p.cells n owner key) (slice_index low owner) (slice_index high owner)) nodes at
-    where
-      in_node : owner < p.nodes
-      in_node = omega (arith, in_nodes, nodes)
-
-      in_key : key < p.keys
-      in_key = omega (arith, in_keys, keys)
-
-      at : number_taken (cell q.cells q.nodes owner key) (cell now p.nodes owner key) (slice_index low owner) (slice_index high owner) ≡ number_taken (cell q.cells q.nodes owner key) (cell p.cells p.nodes owner key) (slice_index low owner) (slice_index high owner)
-      at = elim (back owner key) as (λ b. back owner key ≡ b → number_taken (cell q.cells q.nodes owner key) (cell now p.nodes owner key) (slice_index low owner) (slice_index high owner) ≡ number_taken (cell q.cells q.nodes owner key) (cell p.cells p.nodes owner key) (slice_index low owner) (slice_index high owner)) [
-        | true ↦ λ yes'.
-            not_above (cell q.cells q.nodes owner key) (cell now p.nodes owner key) (slice_index low owner) (slice_index high owner) (omega (arith, are_taken.came owner key in_node in_key yes'))
-            ∙ sym (not_above (cell q.cells q.nodes owner key) (cell p.cells p.nodes owner key) (slice_index low owner) (slice_index high owner) (omega (arith, back_above owner key yes')))
-        | false ↦ λ no'. elim (are_taken.others owner key in_node in_key no') [
-          | inl stays ↦ ap (λ s. number_taken (cell q.cells q.nodes owner key) s (slice_index low owner) (slice_index high owner)) stays.1
-          | inr gone ↦
-              not_above (cell q.cells q.nodes owner key) (cell now p.nodes owner key) (slice_index low owner) (slice_index high owner) (omega (arith, gone.1))
-              ∙ sym (stays-number (cell q.cells q.nodes owner key) (cell p.cells p.nodes owner key) (slice_index low owner) (slice_index high owner) (not_sent owner key gone.0 in_nodes in_keys))
+      let now_at : cell now q.nodes owner key ≡ cell now p.nodes owner key = ap (λ n. cell now n owner key) (sym two.both.size.nodes) in
+      let then_at : cell p.cells q.nodes owner key ≡ cell p.cells p.nodes owner key = ap (λ n. cell p.cells n owner key) (sym two.both.size.nodes) in
+      let in_node : owner < p.nodes = omega (arith, in_nodes, two.both.size.nodes) in
+      let in_key : key < p.keys = omega (arith, in_keys, two.both.size.keys) in
+      elim (is_taken_at q p low' high' owner key) as (λ b. is_taken_at q p low' high' owner key ≡ b → numbers_taken q.nodes q.cells now low high owner key ≡ numbers_taken q.nodes q.cells p.cells low high owner key) [
+        | true ↦ λ yes'. let is = came.came owner key in_node in_key yes' in grind (arith, nat_tests)
+        | false ↦ λ no'. elim (came.others owner key in_node in_key no') [
+          | inl stays ↦ let is = stays.1 in grind (arith, nat_tests)
+          | inr gone ↦ let is = gone.1 in let none = not_sent owner key gone.0 in_node in_key in grind (arith, nat_tests)
         ]
       ] refl

@@ -5,11 +5,11 @@ ghost use Rattle.bench_types.specs.declared.exchanges.DigestKind.TheVariants.{Pr
 ghost use Rattle.bench_types.specs.declared.faults.Fault.TheVariants.{OutOfMemory};
 ghost use Rattle.bench_types.specs.Mode.{digest_kind};
 ghost use Rattle.delta_plans.specs.LevelMarks.{first_sent};
-ghost use Rattle.version_tables.specs.Views.{table_in, IsKept};
-ghost use Rattle.version_tables.specs.inner.Deltas.{AreMarksOf, MaySend};
+ghost use Rattle.version_tables.specs.Views.{table_in};
+ghost use Rattle.version_tables.specs.inner.Deltas.{AreMarksOf, AreOfOneSize, MaySend};
 ghost use Rattle.version_tables.specs.inner.Histories.{FitsHistories};
 ghost use Rattle.delta_plans.specs.Firsts.{by_first};
-ghost use Rattle.version_tables.specs.inner.Offered.{AreAhead, AreTold, IsOffered};
+ghost use Rattle.version_tables.specs.inner.Offered.{AreAhead, AreMarksBy, AreTold, IsOffered};
 
 use crate::histories::Histories;
 use crate::tables::{VersionTable, Written};
@@ -68,9 +68,8 @@ fn marks_sent<N: Number, H: Written>(
     rotation: u32,
 ) -> Result<Marked<N>, Fault>
     requires may { MaySend rules.now rotation H.lists histories.now sender.now receiver.now }
-    requires kept { IsKept H.lists receiver.now }
-    requires low { AreTold N.number N.most
-        (digest_kind rules.now.mode) receiver.now histories.now offered.low.now }
+    requires low { AreTold N.number N.most H.lists (digest_kind rules.now.mode) receiver.now
+        histories.now offered.low.now }
     requires offered { IsOffered N.number
         (digest_kind rules.now.mode) sender.now receiver.now offered }
     ensures marks { IfOk result (λ m. AreMarksOf rules.now rotation H.lists sender.now receiver.now
@@ -109,8 +108,7 @@ fn told_to<N: Number, H: Written>(
 ) -> Result<Vec<N>, Fault>
     requires receiver { FitsHistories histories.now (table_in H.lists receiver.now) }
     ensures told { IfOk result
-        (λ v. AreTold N.number N.most kind receiver.now histories.now v.items) }
-    ensures kept { IfOk result (λ _. IsKept H.lists receiver.now) }
+        (λ v. AreTold N.number N.most H.lists kind receiver.now histories.now v.items) }
     ensures only { IsOkUnless result OutOfMemory }
 {
     let node = receiver.node() as usize;
@@ -134,8 +132,7 @@ fn ahead_of<N: Number, H: Written>(
     kind: DigestKind,
     low: &[N],
 ) -> Result<Masked<N>, Fault>
-    requires nodes { sender.now.nodes ≡ receiver.now.nodes }
-    requires keys { sender.now.keys ≡ receiver.now.keys }
+    requires size { AreOfOneSize sender.now receiver.now }
     requires low { length low.now ≡ sender.now.nodes }
     ensures ahead { kind ≡ Precise
         → IfOk result (AreAhead N.number sender.now receiver.now low.now) }
@@ -191,11 +188,7 @@ fn marks_of<N: Number>(
     high: &[N],
     marked: Marked<N>,
 ) -> Result<DeltaMarks<N>, Fault>
-    ensures low { IfOk result (λ d. map N.number d.low.items
-        ≡ by_first first (map N.number low.items) (map N.number marked.mark.items)) }
-    ensures high { IfOk result (λ d. map N.number d.high.items
-        ≡ by_first first (map N.number marked.mark.items) (map N.number high.now)) }
-    ensures counts { IfOk result (λ d. d.counts ≡ marked.counts) }
+    ensures marks { IfOk result (AreMarksBy N.number first low.items high.now marked) }
     ensures only { IsOkUnless result OutOfMemory }
 {
     let Marked { mark, counts } = marked;

@@ -1,11 +1,10 @@
 //! The exchange of an initiator and a responder whose tables keep versions alone.
 
-ghost use Rattle.std.specs.Prelude.{◌≡◌, ◌==◌, IfOk, OnOk, OnErr, IsOkUnless, false};
+ghost use Rattle.std.specs.Prelude.{◌≡◌, ◌==◌, IfOk, OnOk, OnErr, IsOkUnless};
 ghost use Rattle.bench_types.specs.declared.faults.Fault.TheVariants.{OutOfMemory};
-ghost use Rattle.bench_types.specs.Mode.{digest_kind};
 ghost use Rattle.model.specs.calls.Exchanging.{MakesOf};
-ghost use Rattle.version_tables.specs.Views.{table_in, IsKept};
-ghost use Rattle.model.specs.Digests.{digest_size};
+ghost use Rattle.version_tables.specs.Views.{table_in};
+ghost use Rattle.version_tables.specs.inner.Deltas.{HasCome};
 ghost use Rattle.version_tables.specs.inner.Histories.{IsReadyExchange};
 ghost use Rattle.version_tables.specs.inner.Taken.{BothStay, HaveTakenBoth, MayTakeBoth};
 
@@ -56,8 +55,7 @@ pub(crate) fn exchange<N: Number, H: Written>(
 }
 
 fn all_sent(count: u32) -> DeltaCounts
-    ensures sent { result.sent ≡ count }
-    ensures cut { result.cut ≡ 0 }
+    ensures { result ≡ record { sent = count; cut = 0 } }
 {
     DeltaCounts {
         sent: count,
@@ -75,13 +73,8 @@ fn exchange_deltas<N: Number, H: Written>(
     plan: &Exchange,
     rules: &Rules,
 ) -> Result<Record, Fault>
-    requires came { plan.now.lost1 ≡ false }
-    requires kept { IsKept H.lists initiator.old }
-    requires digest1 { digest1 ≡ digest_size (digest_kind rules.now.mode)
-        (table_in H.lists initiator.old) }
-    requires may { IsReadyExchange H.lists N.most rules.now plan.now histories.now
-        (table_in H.lists initiator.old)
-        (table_in H.lists responder.old) }
+    requires { HasCome H.lists N.most rules.now plan.now histories.now digest1 initiator.old
+        responder.old }
     ensures ok { IfOk result
         (MakesOf (table_in H.lists) rules.now plan.now initiator.old responder.old
         initiator.new responder.new) }

@@ -6,8 +6,9 @@ ghost use Rattle.bench_types.specs.Budget.{amount_of, largest_share};
 ghost use Rattle.bench_types.specs.declared.limits.TheConstants.{MOST_NODES, MOST_KEYS};
 ghost use Rattle.planes.specs.Planes.{most_ahead};
 ghost use Rattle.version_tables.specs.Views.{table_in};
+ghost use Rattle.version_tables.specs.inner.Deltas.{AreOfOneSize, FitBoth};
 ghost use Rattle.version_tables.specs.inner.Histories.{bases_in, FitsHistories};
-ghost use Rattle.version_tables.specs.inner.Merged.{count_ahead, AreCurrent, AreOfOneSize, HasMerged, HasNoNewer, MayMerge, StaysMerged, SurelyFits};
+ghost use Rattle.version_tables.specs.inner.Merged.{AreCurrent, BothStayMerged, HasNoNewer, HaveMerged, MayMerge, SurelyFits};
 
 use crate::histories::Histories;
 use crate::tables::{VersionTable, Written};
@@ -78,8 +79,7 @@ fn are_current<N: Number, H: Written>(
     responder: &VersionTable<N, H>,
     histories: &Histories<N, H>,
 ) -> bool
-    requires initiator { FitsHistories histories.now (table_in H.lists initiator.now) }
-    requires responder { FitsHistories histories.now (table_in H.lists responder.now) }
+    requires { FitBoth H.lists histories.now initiator.now responder.now }
     ensures { IsTrue result ↔ (AreCurrent (bases_in histories.now.lists) initiator.now
         × AreCurrent (bases_in histories.now.lists) responder.now) }
 {
@@ -109,9 +109,7 @@ pub(crate) fn may_merge<N: Number, H: Written>(
     histories: &Histories<N, H>,
     rules: &Rules,
 ) -> bool
-    requires size { AreOfOneSize initiator.now responder.now }
-    requires initiator { FitsHistories histories.now (table_in H.lists initiator.now) }
-    requires responder { FitsHistories histories.now (table_in H.lists responder.now) }
+    requires { FitBoth H.lists histories.now initiator.now responder.now }
     ensures { IsTrue result ↔ MayMerge rules.now histories.now initiator.now responder.now }
 {
     match rules.mode.digest_kind() {
@@ -130,15 +128,8 @@ pub(crate) fn merge<N: Number, H: Written>(
     initiator: &mut VersionTable<N, H>,
     responder: &mut VersionTable<N, H>,
 ) -> BothCounts
-    requires size { AreOfOneSize initiator.old responder.old }
-    requires initiator { StaysMerged H.lists initiator.old responder.old.cells
-        responder.old.greatest }
-    requires responder { StaysMerged H.lists responder.old initiator.old.cells
-        initiator.old.greatest }
-    ensures initiator { HasMerged responder.old initiator.old initiator.new }
-    ensures responder { HasMerged initiator.old responder.old responder.new }
-    ensures back { result.first ≡ count_ahead responder.old initiator.old }
-    ensures forth { result.second ≡ count_ahead initiator.old responder.old }
+    requires { BothStayMerged H.lists initiator.old responder.old }
+    ensures { HaveMerged initiator.old responder.old initiator.new responder.new result }
 {
     let marks = BothMarks {
         first: &initiator.greatest,

@@ -1,11 +1,10 @@
 //! What a table holds once it has taken a delta.
 
-ghost use Rattle.std.specs.Prelude.{◌≡◌, ◌<◌, length, map, slice_index};
+ghost use Rattle.std.specs.Prelude.{◌≡◌, ◌<◌, length, map};
 ghost use Rattle.model.specs.calls.OwnerListView.{all_writes, entries_of};
 ghost use Rattle.planes.specs.Planes.{ArePlanesChanged, IsGrid};
 ghost use Rattle.owner_writes.specs.Numbered.{IsNumberedHistory};
-ghost use Rattle.version_tables.specs.inner.Histories.{AreOwners};
-ghost use Rattle.version_tables.specs.inner.Taken.{drop_start, number_kept, HasArrived, IsOwnerKept, MayArrive};
+ghost use Rattle.version_tables.specs.inner.Taken.{drop_start, drop_starts, number_kept, HasArrived, IsOwnerKept, MayArrive, MayDrop};
 
 use crate::deltas::DeltaMarks;
 use crate::tables::{VersionTable, Written};
@@ -66,16 +65,11 @@ fn drop_older<N: Number>(
     greatest: &[N],
     owners: Owners<N>,
 )
-    requires grid { IsGrid nodes keys (length cells.old) }
-    requires before { length before.now ≡ nodes }
-    requires greatest { length greatest.now ≡ nodes }
-    requires owners { AreOwners N.number nodes owners }
+    requires { MayDrop N.number nodes keys cells.old before.now greatest.now owners }
     ensures { ArePlanesChanged (λ r k x y. y ≡ number_kept
-        (drop_start (all_writes owners.entry.lists.now r)
-        (slice_index (map N.number before.now) r)
-        (slice_index (map N.number owners.entry.bases.now) r)
-        (slice_index (map N.number greatest.now) r)) x) nodes keys (map N.number cells.old)
-        (map N.number cells.new) }
+        (drop_starts (all_writes owners.entry.lists.now) (map N.number before.now)
+        (map N.number owners.entry.bases.now) (map N.number greatest.now) r) x) nodes keys
+        (map N.number cells.old) (map N.number cells.new) }
 {
     let Owners { lists, bases } = owners;
     if planes::total_upto(before, nodes, 1, bases) == 0 {

@@ -1,12 +1,15 @@
 -- A delta as marks for each owner. Source: this project.
-use Rattle.std.specs.Prelude.{◌≡◌, ℕ, ◌<◌, Bool, List, length, slice_index}
+use Rattle.std.specs.Prelude.{◌≡◌, ℕ, ◌<◌, Bool, false, List, length, slice_index}
 use Rattle.bench_types.specs.declared.entries.Entry.{Entry}
+use Rattle.bench_types.specs.declared.exchanges.Exchange.{Exchange}
 use Rattle.bench_types.specs.declared.exchanges.Rules.{Rules}
+use Rattle.bench_types.specs.Mode.{digest_kind}
 use Rattle.bench_types.specs.calls.Budget.{IsLawfulBudget}
 use Rattle.planes.specs.Planes.{cell}
 use Rattle.model.specs.Deltas.{DeltaView, delta_between}
-use Rattle.version_tables.specs.Views.{VersionTableView, HistoriesView, table_in}
-use Rattle.version_tables.specs.inner.Histories.{FitsHistories}
+use Rattle.model.specs.Digests.{digest_size}
+use Rattle.version_tables.specs.Views.{VersionTableView, HistoriesView, table_in, IsKept}
+use Rattle.version_tables.specs.inner.Histories.{AreKnown, FitsHistories, IsReadyExchange}
 use Rattle.delta_plans.specs.Offers.{AreSent}
 use Rattle.version_tables.specs.inner.Taken.{is_taken}
 
@@ -19,14 +22,29 @@ abbrev pub is_taken_at : VersionTableView → VersionTableView → List ℕ → 
 is_taken_at from to low high owner key =
     is_taken (cell to.cells to.nodes owner key) (cell from.cells from.nodes owner key) (slice_index low owner) (slice_index high owner)
 
--- two tables of one size, which fit the histories, and of which one may send the other a delta
+-- two tables with as many nodes and keys
+pub record AreOfOneSize (one other : VersionTableView) : Type 0 where
+  pub nodes : one.nodes ≡ other.nodes
+  pub keys : one.keys ≡ other.keys
+
+-- which both fit the histories
+pub record FitBoth (written : ℕ → List Entry) (h : HistoriesView) (from to : VersionTableView) : Type 0 where
+  pub size : AreOfOneSize from to
+  pub first : FitsHistories h (table_in written from)
+  pub second : FitsHistories h (table_in written to)
+
+-- and of which one may send the other a delta
 pub record MaySend (rules : Rules) (turn : ℕ) (written : ℕ → List Entry) (h : HistoriesView) (from to : VersionTableView) : Type 0 where
   pub budget : IsLawfulBudget rules.budget
-  pub nodes : from.nodes ≡ to.nodes
-  pub keys : from.keys ≡ to.keys
   pub rotation : turn < from.nodes
-  pub sender : FitsHistories h (table_in written from)
-  pub receiver : FitsHistories h (table_in written to)
+  pub both : FitBoth written h from to
+
+-- what is known of both, beside what is known of all owners' writes
+pub record AreLaidBoth (written : ℕ → List Entry) (most : ℕ) (h : HistoriesView) (from to : VersionTableView) : Type 0 where
+  pub known : AreKnown written most h
+  pub both : FitBoth written h from to
+  pub first : IsKept written from
+  pub second : IsKept written to
 
 -- marks that let the receiver take what a delta has
 pub record AreMarksOf (rules : Rules) (rotation : ℕ) (written : ℕ → List Entry) (from to : VersionTableView) (low high : List ℕ) (sent cut : ℕ) : Type 0 where
@@ -35,3 +53,11 @@ pub record AreMarksOf (rules : Rules) (rotation : ℕ) (written : ℕ → List E
   pub marks : AreSent (table_in written from) (delta_of_views rules rotation written from to).items (is_taken_at from to low high)
   pub count : sent ≡ length (delta_of_views rules rotation written from to).items
   pub left : cut ≡ (delta_of_views rules rotation written from to).cut
+
+-- an exchange of which the first message came, with a digest of this size
+pub record HasCome (written : ℕ → List Entry) (most : ℕ) (rules : Rules) (plan : Exchange) (h : HistoriesView)
+    (digest1 : ℕ) (initiator responder : VersionTableView) : Type 0 where
+  pub came : plan.lost1 ≡ false
+  pub kept : IsKept written initiator
+  pub size : digest1 ≡ digest_size (digest_kind rules.mode) (table_in written initiator)
+  pub ready : IsReadyExchange written most rules plan h (table_in written initiator) (table_in written responder)

@@ -7,15 +7,12 @@ use Rattle.bench_types.specs.declared.exchanges.Rules.{Rules}
 use Rattle.bench_types.specs.Budget.{amount_of, largest_share}
 use Rattle.bench_types.specs.Mode.{digest_kind}
 use Rattle.planes.specs.Elementwise.{AreChanged}
+use Rattle.planes.specs.declared.merges.BothCounts.{BothCounts}
 use Rattle.planes.specs.Planes.{cell, most_ahead, number_raised, total_above, ArePlanesChanged}
 use Rattle.version_tables.specs.Views.{VersionTableView, HistoriesView}
 use Rattle.version_tables.specs.Laid.{IsVersionTable}
 use Rattle.version_tables.specs.inner.Histories.{bases_in}
-
--- two tables with as many nodes and keys
-pub record AreOfOneSize (one other : VersionTableView) : Type 0 where
-  pub nodes : one.nodes ≡ other.nodes
-  pub keys : one.keys ≡ other.keys
+use Rattle.version_tables.specs.inner.Deltas.{AreOfOneSize}
 
 -- nothing that is held is of an earlier generation than its owner's, which has so many writes before it
 abbrev pub AreCurrent : (ℕ → ℕ) → VersionTableView → Type 0
@@ -65,3 +62,16 @@ StaysMerged written to sent sent_greatest =
 pub record HasMerged (from to new : VersionTableView) : Type 0 where
   pub merged : IsMerged to.nodes to.keys to.cells to.greatest from.cells from.greatest new.cells new.greatest
   pub rest : new ≡ record to { cells = new.cells; greatest = new.greatest }
+
+-- both tables stay tables where each takes all of the other
+pub record BothStayMerged (written : ℕ → List Entry) (initiator responder : VersionTableView) : Type 0 where
+  pub size : AreOfOneSize initiator responder
+  pub first : StaysMerged written initiator responder.cells responder.greatest
+  pub second : StaysMerged written responder initiator.cells initiator.greatest
+
+-- and each has taken it, so many numbers
+pub record HaveMerged (initiator responder new_initiator new_responder : VersionTableView) (came : BothCounts) : Type 0 where
+  pub first : HasMerged responder initiator new_initiator
+  pub second : HasMerged initiator responder new_responder
+  pub back : came.first ≡ count_ahead responder initiator
+  pub forth : came.second ≡ count_ahead initiator responder

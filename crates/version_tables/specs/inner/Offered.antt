@@ -1,17 +1,23 @@
 -- What is offered from one table to another, in memory. Source: this project.
 use Rattle.std.specs.Prelude.{◌≡◌, ◌≢◌, ℕ, ◌*◌, ◌<◌, ◌≤◌, List, length, map, slice_index}
+use Rattle.bench_types.specs.declared.entries.Entry.{Entry}
 use Rattle.bench_types.specs.declared.exchanges.DigestKind.{DigestKind}
 use Rattle.model.specs.calls.OwnerListView.{all_writes}
 use Rattle.planes.specs.Planes.{cell, number_ahead, total_above, HasEach, HasEachPlace}
 use Rattle.planes.specs.declared.grids.Masked.{Masked}
-use Rattle.version_tables.specs.Views.{VersionTableView, HistoriesView}
+use Rattle.version_tables.specs.Views.{VersionTableView, HistoriesView, IsKept}
+use Rattle.version_tables.specs.declared.deltas.DeltaMarks.{DeltaMarks}
 use Rattle.version_tables.specs.declared.deltas.Offered.{Offered}
+use Rattle.delta_plans.specs.declared.marked.First.{First}
+use Rattle.delta_plans.specs.declared.marked.Marked.{Marked}
+use Rattle.delta_plans.specs.Firsts.{by_first}
 use Rattle.delta_plans.specs.Offers.{offered_by, told_by, told_number}
 
--- the marks that a receiver tells
-abbrev pub AreTold : {N : Type 0} → (N → ℕ) → ℕ → DigestKind → VersionTableView → HistoriesView → List N → Type 0
-AreTold number most kind to h low =
-    HasEach (length h.lists) (λ r n. n ≡ told_number kind most to.node (all_writes h.lists) (slice_index to.greatest) r) (map number low)
+-- the marks that a receiver tells, whose table is one
+pub record AreTold {N : Type 0} (number : N → ℕ) (most : ℕ) (written : ℕ → List Entry) (kind : DigestKind)
+    (to : VersionTableView) (h : HistoriesView) (low : List N) : Type 0 where
+  pub kept : IsKept written to
+  pub told : HasEach (length h.lists) (λ r n. n ≡ told_number kind most to.node (all_writes h.lists) (slice_index to.greatest) r) (map number low)
 
 -- low marks above which a receiver lacks what a sender has: what is told of other owners, and of itself no less than
 -- both have
@@ -40,3 +46,9 @@ pub record AreOffered (kind : DigestKind) (from to : VersionTableView) (low cell
 pub record IsOffered {N : Type 0} (number : N → ℕ) (kind : DigestKind) (from to : VersionTableView) (offered : Offered N) : Type 0 where
   pub cells : AreOffered kind from to (map number offered.low.now) (map number offered.cells.now)
   pub found : offered.found ≡ total_above from.nodes from.keys (map number offered.cells.now) (map number offered.low.now)
+
+-- marks of a delta, from those that are told and those that a plan has, by what goes first
+pub record AreMarksBy {N : Type 0} (number : N → ℕ) (first : First) (low high : List N) (marked : Marked N) (d : DeltaMarks N) : Type 0 where
+  pub low_is : map number d.low.items ≡ by_first first (map number low) (map number marked.mark.items)
+  pub high_is : map number d.high.items ≡ by_first first (map number marked.mark.items) (map number high)
+  pub counts : d.counts ≡ marked.counts

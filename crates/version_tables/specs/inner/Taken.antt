@@ -2,7 +2,7 @@
 use Rattle.std.specs.Prelude.{◌≡◌, ℕ, ◌<◌, ◌≤◌, ◌⊎◌, ◌==◌, ◌&&◌, Bool, true, false, max, nat_lt, nat_le, List, length, map, slice_index, Some, if◌then◌else◌}
 use Rattle.bench_types.specs.declared.entries.Entry.{Entry}
 use Rattle.model.specs.Table.{Table, entry_at, generation_held}
-use Rattle.planes.specs.Planes.{Cells, cell, numbers_taken, ArePlanesChanged, IsRaised}
+use Rattle.planes.specs.Planes.{Cells, cell, numbers_taken, ArePlanesChanged, IsGrid, IsRaised}
 use Rattle.version_tables.specs.Views.{VersionTableView}
 use Rattle.version_tables.specs.Laid.{IsVersionTable}
 use Rattle.model.specs.calls.OwnerListView.{all_writes}
@@ -43,6 +43,18 @@ drop_start writes old base new =
 -- a number that is above a mark, else 0
 abbrev pub number_kept : ℕ → ℕ → ℕ
 number_kept start number = if nat_le number start then 0 else number
+
+-- up to where the numbers of each owner are dropped
+abbrev pub drop_starts : (ℕ → List Entry) → List ℕ → List ℕ → List ℕ → ℕ → ℕ
+drop_starts lists before bases greatest owner =
+    drop_start (lists owner) (slice_index before owner) (slice_index bases owner) (slice_index greatest owner)
+
+-- as many numbers before, and greatest ones, as there are owners, whose planes these are
+pub record MayDrop {N : Type 0} (number : N → ℕ) (nodes keys : ℕ) (cells before greatest : List N) (owners : Owners N) : Type 0 where
+  pub grid : IsGrid nodes keys (length cells)
+  pub before_count : length before ≡ nodes
+  pub greatest_count : length greatest ≡ nodes
+  pub known : AreOwners number nodes owners
 
 -- so it is of an owner's numbers, and the others stay
 abbrev pub IsOwnerKept : {N : Type 0} → (N → ℕ) → ℕ → ℕ → ℕ → ℕ → List N → List N → Type 0

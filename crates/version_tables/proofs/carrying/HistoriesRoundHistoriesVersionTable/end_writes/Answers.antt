@@ -1,11 +1,22 @@
-use Rattle.version_tables.proofs.Common.{sym, subst, arith, on_ok_weaker, AreWrittenBy}
-use Rattle.version_tables.proofs.Carried.{standing-fits}
+use Rattle.version_tables.proofs.Common.{ap, arith, on_ok_weaker, Entry, numbered-placed, all_writes}
 use Rattle.version_tables.proofs.carrying.HistoriesRoundHistoriesVersionTable.end_writes.Goals as goal
 
 pub returns-clause-fits : goal.returns-clause-fits
 returns-clause-fits g c =
-    on_ok_weaker c.end_round.result
-    (λ ended. standing-fits g.H.Written.lists g.N.Number.most c.args._round c.end_round.new.self c.end_round.ensures.known
-    (omega (arith, ended, c.requires.ended, c.requires.first))
-    (subst (AreWrittenBy c.args._round) (sym c.end_round.ensures.lists) c.requires.written))
-    c.end_round.ensures.ok
+    let h = c.end_round.new.self in
+    let known = c.end_round.ensures.known in
+    let written = rw (← c.end_round.ensures.lists) at c.requires.written in
+    on_ok_weaker c.end_round.result (λ ended t standing. record {
+      known = known;
+      among = record {
+        proper = standing.proper;
+        nodes = standing.nodes;
+        holds = λ owner key e held. (standing.holds owner key e held).0;
+        made = λ owner. record {
+          first = (known.so_far owner).made.first;
+          last = λ number e is.
+              let at = numbered-placed (all_writes h.lists owner) number e is in
+              omega (arith, ended, c.requires.ended, c.requires.first, written.born owner at.place e at.within, ap (λ (x : Entry). x.born) (at.there e));
+        };
+      };
+    }) c.end_round.ensures.ok

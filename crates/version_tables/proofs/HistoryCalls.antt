@@ -1,8 +1,8 @@
 -- What the calls of the histories make of all that is kept of the owners' writes.
--- Serves `Histories::begin_generation`, `Histories::bases`, `Histories::end_round`, `Histories::ends`,
--- `Histories::lasts`, `Histories::new` and `Histories::write`.
-use Rattle.version_tables.proofs.Common.{◌≡◌, ◌≢◌, ℕ, zero, suc, ◌+◌, ◌*◌, ◌<◌, ◌≤◌, ◌==◌, cond, List, [], ◌∷◌, ◌++◌, length, get_or, set, map, take, Some, ◌⊎◌, inl, inr, refl, sym, ap, ◌∙◌, subst, transport, arith, length-append, mul-le-mul_right, cases_lt, cases_eq, eq-eqb, ne_eqb, get_or-set_same, get_or-set_other, get_or_append_left, get_or_push, length-set, get_or-append-add, get_or_default, length-map, length-take-le, get_or-take, take-map, map-append, map-set, append_assoc, append-nil, same_Some, number-at, Entry, MOST_KEYS, MOST_NODES, write_from, write_numbered, OwnerListView, all_writes, entries_of, list_of_owner, no_writes, next_entry, with_write, begun_generation, AreWrites, ListBecomes, writes_more, writes_begun, HasEach, HasEachPlace, ArePlanesChanged, cell, AreMadeBy, IsHistory, IsNumberedHistory, IsRoundMark, IsLastNumber, write_from-some, numbered-within, write_from-at}
-use Rattle.version_tables.specs.inner.Histories.{AreHistories, IsBeginning, IsCounted, IsWrittenSoFar, IsWriteUnder}
+-- Serves `Histories::begin_generation`, `Histories::end_round`, `Histories::lasts`, `Histories::new` and
+-- `Histories::write`.
+use Rattle.version_tables.proofs.Common.{◌≡◌, ◌≢◌, ℕ, zero, suc, ◌+◌, ◌*◌, ◌<◌, ◌≤◌, ◌==◌, cond, List, [], ◌∷◌, ◌++◌, length, get_or, set, map, take, Some, inl, inr, refl, sym, ap, ◌∙◌, subst, transport, arith, length-append, mul-le-mul_right, cases_lt, cases_eq, eq-eqb, ne_eqb, get_or-set_same, get_or-set_other, get_or_append_left, get_or_push, length-set, get_or-append-add, get_or_default, length-map, length-take-le, get_or-take, take-map, map-append, map-set, append_assoc, append-nil, same_Some, number-at, Entry, MOST_KEYS, MOST_NODES, write_from, write_numbered, OwnerListView, all_writes, entries_of, list_of_owner, no_writes, next_entry, with_write, begun_generation, AreWrites, ListBecomes, writes_more, writes_begun, HasEach, HasEachPlace, ArePlanesChanged, cell, AreMadeBy, IsHistory, IsNumberedHistory, IsRoundMark, IsLastNumber, write_from-some, numbered-within, write_from-at}
+use Rattle.version_tables.specs.inner.Histories.{AreHistories, AreNoWrites, IsBeginning, IsCounted, IsWrittenSoFar, IsWriteUnder}
 use Rattle.version_tables.proofs.Generations.{current-at, earlier-at}
 use Rattle.version_tables.proofs.OwnCalls.{other-place, place-within}
 
@@ -329,22 +329,22 @@ so_far-none all most some = record {
     begins (suc place) le = absurd (omega (arith, le))
 
 -- before the first round
-pub histories-empty : (written : ℕ → List Entry) (most nodes : ℕ) (lists : List OwnerListView) (counts bases lasts ends : List ℕ) → 0 < most → nodes ≤ MOST_NODES → length lists ≡ nodes → ((owner : ℕ) → list_of_owner lists owner ≡ no_writes)
+pub histories-empty : (written : ℕ → List Entry) (most nodes : ℕ) (lists : List OwnerListView) (counts bases lasts ends : List ℕ) → 0 < most → nodes ≤ MOST_NODES → AreNoWrites nodes lists
     → HasEach nodes (λ r n. n ≡ 0) counts → HasEach nodes (λ r n. n ≡ 0) bases → HasEach (MOST_KEYS * nodes) (λ r n. n ≡ 0) lasts → HasEach nodes (λ r n. n ≡ 0) ends → AreHistories written most lists counts bases lasts ends 0
-histories-empty written most nodes lists counts bases lasts ends some few count empty no_counts no_bases no_lasts no_ends = record {
-  few_nodes = omega (arith, few, count);
-  counts_size = no_counts.size ∙ sym count;
-  bases_size = no_bases.size ∙ sym count;
-  lasts_size = no_lasts.size ∙ ap (λ n. MOST_KEYS * n) (sym count);
-  ends_size = omega (arith, no_ends.size, count);
-  are = λ r. subst AreWrites (sym (empty r)) (record {
+histories-empty written most nodes lists counts bases lasts ends some few nothing no_counts no_bases no_lasts no_ends = record {
+  few_nodes = omega (arith, few, nothing.count);
+  counts_size = no_counts.size ∙ sym nothing.count;
+  bases_size = no_bases.size ∙ sym nothing.count;
+  lasts_size = no_lasts.size ∙ ap (λ n. MOST_KEYS * n) (sym nothing.count);
+  ends_size = omega (arith, no_ends.size, nothing.count);
+  are = λ r. subst AreWrites (sym (nothing.empty r)) (record {
     current = λ i d lt. absurd (omega (arith, lt));
     earlier = λ i d lt. absurd (omega (arith, lt));
     rising = λ i j d lt in_range. absurd (omega (arith, in_range));
   });
-  so_far = λ r. subst (λ v. IsWrittenSoFar (written r) most 0 (entries_of v)) (sym (empty r)) (so_far-none (written r) most some);
-  each = subst (λ m. (r : ℕ) → r < m → IsCounted (list_of_owner lists r) 0 (get_or counts r 0) (get_or bases r 0) (cell lasts m r) (cell ends m r)) (sym count)
-      (λ r lt. subst (λ v. IsCounted v 0 (get_or counts r 0) (get_or bases r 0) (cell lasts nodes r) (cell ends nodes r)) (sym (empty r)) (record {
+  so_far = λ r. subst (λ v. IsWrittenSoFar (written r) most 0 (entries_of v)) (sym (nothing.empty r)) (so_far-none (written r) most some);
+  each = subst (λ m. (r : ℕ) → r < m → IsCounted (list_of_owner lists r) 0 (get_or counts r 0) (get_or bases r 0) (cell lasts m r) (cell ends m r)) (sym nothing.count)
+      (λ r lt. subst (λ v. IsCounted v 0 (get_or counts r 0) (get_or bases r 0) (cell lasts nodes r) (cell ends nodes r)) (sym (nothing.empty r)) (record {
         counted = no_counts.each r lt;
         based = no_bases.each r lt;
         last = λ k in_keys. subst (IsLastNumber no_writes k) (sym (no_lasts.each (k * nodes + r) (place-within nodes MOST_KEYS r k lt in_keys))) (record {

@@ -11,15 +11,8 @@ pub kept-one : (old mid : List ℕ) (owner : ℕ) → owner < length old → Are
 kept-one old mid owner in_nodes cleared = record {
   size = length-set mid owner (get_or old owner 0) ∙ cleared.size;
   each = λ r lt. elim (cases_eq r owner) [
-    | inl own ↦
-        ap (λ k. get_or (set mid owner (get_or old owner 0)) k 0) own
-        ∙ get_or-set_same mid owner (get_or old owner 0) 0 (omega (arith, in_nodes, cleared.size))
-        ∙ ap (λ k. get_or old k 0) (sym own)
-        ∙ ap (λ b. cond b (get_or old r 0) 0) (sym (eq-eqb r owner own))
-    | inr other ↦
-        get_or-set_other mid owner r (get_or old owner 0) 0 other
-        ∙ cleared.each r lt
-        ∙ ap (λ b. cond b (get_or old r 0) 0) (sym (ne_eqb r owner other))
+    | inl own ↦ rw (eq-eqb r owner own, own) (get_or-set_same mid owner (get_or old owner 0) 0 (omega (arith, in_nodes, cleared.size)))
+    | inr other ↦ rw (ne_eqb r owner other, get_or-set_other mid owner r (get_or old owner 0) 0 other) (cleared.each r lt)
   ];
 }
 

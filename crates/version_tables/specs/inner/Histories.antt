@@ -8,13 +8,14 @@ use Rattle.bench_types.specs.calls.Budget.{IsLawfulBudget}
 use Rattle.bench_types.specs.Mark.{mark_of}
 use Rattle.model.specs.calls.Exchanging.{MayBeExchanged}
 use Rattle.model.specs.Table.{Table, entry_at, IsProper}
-use Rattle.model.specs.calls.OwnerListView.{OwnerListView, all_writes, entries_of, AreWrites, list_of_owner}
+use Rattle.model.specs.calls.OwnerListView.{OwnerListView, all_writes, entries_of, AreWrites, list_of_owner, no_writes}
 use Rattle.model.specs.calls.Numbers.{write_numbered}
 use Rattle.planes.specs.Planes.{HasEach, cell}
+use Rattle.planes.specs.declared.ends.Ends.{Ends}
 use Rattle.version_tables.specs.Views.{HistoriesView}
 use Rattle.delta_plans.specs.declared.told_marks.Owners.{Owners}
 use Rattle.version_lags.specs.Missed.{IsLastNumber}
-use Rattle.owner_writes.specs.Numbered.{IsHistory, IsNumberedHistory, IsRoundMark, AreMadeBy}
+use Rattle.owner_writes.specs.Numbered.{IsHistory, IsNumberedHistory, IsRoundMark, AreEnds, AreMadeBy}
 
 -- some writes are the first of all
 abbrev pub IsBeginning : List Entry → List Entry → Type 0
@@ -31,6 +32,11 @@ pub record IsWrittenSoFar (all : List Entry) (most rounds : ℕ) (so_far : List 
   pub history : IsHistory so_far
   pub numbered : IsNumberedHistory so_far
   pub made : AreMadeBy (rounds + 1) so_far
+
+-- so many owners that have written nothing
+pub record AreNoWrites (nodes : ℕ) (lists : List OwnerListView) : Type 0 where
+  pub count : length lists ≡ nodes
+  pub empty : (owner : ℕ) → list_of_owner lists owner ≡ no_writes
 
 -- what is kept of an owner's writes: counts of all and of those of earlier generations, the last number of each key, and
 -- where the rounds end
@@ -54,6 +60,12 @@ pub record AreHistories (written : ℕ → List Entry) (most : ℕ) (lists : Lis
   pub so_far : (owner : ℕ) → IsWrittenSoFar (written owner) most rounds (all_writes lists owner)
   pub each : (owner : ℕ) → owner < length lists
       → IsCounted (list_of_owner lists owner) rounds (slice_index counts owner) (slice_index bases owner) (cell lasts (length lists) owner) (cell ends (length lists) owner)
+
+-- how many writes each owner had made up to the end of each round, in memory
+pub record AreEndsOf {N : Type 0} (number : N → ℕ) (h : HistoriesView) (ends : Ends N) : Type 0 where
+  pub rounds : ends.rounds ≡ h.rounds
+  pub size : length ends.numbers.now ≡ (h.rounds + 1) * length h.lists
+  pub parts : AreEnds (all_writes h.lists) (length h.lists) h.rounds (cell (map number ends.numbers.now) (length h.lists))
 
 -- as many owners as nodes, whose writes are numbered, and of each how many it made before its generation
 pub record AreOwners {N : Type 0} (number : N → ℕ) (nodes : ℕ) (owners : Owners N) : Type 0 where

@@ -1,18 +1,19 @@
 -- The names of other libraries that these proofs cite, passed on from one place. Declares nothing.
-pub use Rattle.std.proofs.Common.{Bool, List, None, Option, Some, Vec, [], ap, arith, cond, eqb, false, get_or, if◌then◌else◌, inl, inr, length, length-append, map, max, min, nat_le, nat_lt, not, refl, rules, set, slice_index, subst, suc, sym, take, true, zero, ℕ, ◌&&◌, ◌*◌, ◌++◌, ◌+◌, ◌-◌, ◌<◌, ◌==◌, ◌∙◌, ◌∷◌, ◌≡◌, ◌≢◌, ◌≤◌, ◌⊎◌}
+pub use Rattle.std.proofs.Common.{Bool, List, None, Option, Some, Vec, [], ap, arith, cond, eqb, false, get_or, if◌then◌else◌, inl, inr, length, length-append, ltb, map, max, min, nat_le, nat_lt, not, refl, rules, set, slice_index, subst, suc, sym, take, true, zero, ℕ, ◌&&◌, ◌*◌, ◌++◌, ◌+◌, ◌-◌, ◌<◌, ◌==◌, ◌∙◌, ◌∷◌, ◌≡◌, ◌≢◌, ◌≤◌, ◌⊎◌}
 pub use Rattle.std.proofs.Math.Bool.{and-true}
 pub use Rattle.std.proofs.Math.Nat.{mul-le-mul_right}
 pub use Rattle.std.proofs.Math.Path.{transport}
 pub use Rattle.std.proofs.lemmas.Bool.{and_left, and_parts, both_ways, cases_eq, cases_lt, eq-eqb, eqb-true, le-leb, le-ltb, leb-true, lt-leb, lt-ltb, ltb-false, ltb-true, ne_eqb}
 pub use Rattle.std.proofs.lemmas.Bool.Decides.{nat_tests}
 pub use Rattle.std.proofs.lemmas.List.{append-nil, append_assoc, get_or-append-add, get_or-append_right, get_or-map, get_or-set_other, get_or-set_same, get_or-take, get_or_append_left, get_or_at, get_or_default, get_or_past, get_or_push, length-map, length-set, length-take-le, map-append, map-id, map-set, set-get_or, take-map, with_items_is}
-pub use Rattle.std.proofs.lemmas.List.FromFn.{get_or-map-range_with_len, length-map-range_with_len}
-pub use Rattle.std.proofs.lemmas.List.Sums.{sum_by-cons}
+pub use Rattle.std.proofs.lemmas.List.FromFn.{get_or-map-range_with_len, length-map-range_with_len, sum_by-map-range_with_len_more}
+pub use Rattle.std.proofs.lemmas.Nat.{same_from_place}
 pub use Rattle.std.proofs.lemmas.Option.{none-some, same_Some}
 pub use Rattle.std.proofs.lemmas.Result.{IfOk-weaker, on_ok_weaker}
 pub use Rattle.std.specs.Borrow.{Bor}
 pub use Rattle.std.specs.FinMap.{entries, len-entries}
 pub use Rattle.std.specs.List.{range_with_len}
+pub use Rattle.std.specs.Option.{option_or}
 pub use Rattle.std.specs.Prelude.{Contains, count_by, ◌||◌}
 pub use Rattle.std.specs.Vec.{with_items}
 pub use Rattle.bench_types.proofs.Marks.{absent-first, before-no, before-yes, not_both, up_to-before}
@@ -44,7 +45,7 @@ pub use Rattle.delta_plans.proofs.Lifts.{are-sent, count-cut, count-sent, lets, 
 pub use Rattle.delta_plans.proofs.MarkedLaws.{whole-marked, whole-size}
 pub use Rattle.delta_plans.proofs.RoundMarks.{count-newest}
 pub use Rattle.delta_plans.proofs.Starts.{all_writes-here}
-pub use Rattle.delta_plans.proofs.WeightLaws.{count_between-most, part, part-cases, weight_between-most, weight_of-none, weight_of-split}
+pub use Rattle.delta_plans.proofs.WeightLaws.{count_between-most, part, part-cases, sum_below-each_none, weight_between-most, weight_of-none, weight_of-split}
 pub use Rattle.delta_plans.specs.Firsts.{by_first}
 pub use Rattle.delta_plans.specs.Grids.{number_here, number_there}
 pub use Rattle.delta_plans.specs.LevelMarks.{HasShape, NumbersDiffer, lets_through}

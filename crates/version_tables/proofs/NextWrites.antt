@@ -1,6 +1,6 @@
 -- What an owner writes next stands under the number behind all that it wrote, above what its table holds of it.
 -- Serves `write`.
-use Rattle.version_tables.proofs.Common.{◌≡◌, ℕ, zero, suc, ◌+◌, ◌-◌, ◌<◌, ◌≤◌, List, length, Some, inl, inr, sym, ap, ◌∙◌, subst, arith, slice_index, Contains, cases_lt, length-append, none-some, same_Some, Entry, mark_of, mark_held, IsUpTo, Table, entry_at, greatest_mark, greatest_version, mark_at-up_to_greatest, write_from, write_numbered, OwnerListView, AreWrites, entries_of, next_entry, cell, numbered-some, write_from-at, write_from-some}
+use Rattle.version_tables.proofs.Common.{◌≡◌, ℕ, zero, suc, ◌+◌, ◌<◌, ◌≤◌, List, length, Some, inl, inr, sym, ap, ◌∙◌, subst, arith, slice_index, Contains, cases_lt, length-append, none-some, same_Some, Entry, mark_of, mark_held, IsUpTo, Table, entry_at, greatest_mark, greatest_version, mark_at-up_to_greatest, write_from, write_numbered, OwnerListView, AreWrites, entries_of, next_entry, cell, numbered-placed, numbered-some}
 use Rattle.version_tables.specs.Views.{VersionTableView, table_in, IsKept}
 use Rattle.version_tables.specs.Writes.{IsNextWrite}
 use Rattle.version_tables.specs.inner.Histories.{IsBeginning, IsWriteUnder}
@@ -26,16 +26,16 @@ module _ (written : ℕ → List Entry) (v : VersionTableView) (kept : IsKept wr
       let here = kept.proper.in_place v.node k e holds in
       let most : IsUpTo (mark_of e) (greatest_mark t v.node) = subst (λ h. IsUpTo (mark_held h) (greatest_mark t v.node)) holds (mark_at-up_to_greatest t v.node k here.key_below) in
       let low : e.version ≤ length list.current = omega (arith, most.version (kept.proper.copies v.node k e holds), greatest) in
-      let place = length list.earlier + (e.version - 1) in
-      let within : place < length (entries_of list) = omega (arith, low, here.written, length-append list.earlier list.current) in
-      let there = write_from-some (entries_of list) place within in
-      let at = current-at list are (suc place) there.0 there.1 (omega arith) in
+      let own = length list.earlier + e.version in
+      let there = numbered-some (entries_of list) own (omega (arith, here.written)) (omega (arith, low, length-append list.earlier list.current)) in
+      let place = numbered-placed (entries_of list) own there.0 there.1 in
+      let at = current-at list are own there.0 there.1 (omega (arith, here.written)) in
       let is : write_numbered (written v.node) (cell v.cells v.nodes v.node k) ≡ Some e =
       sym (has_cells written v.node v.nodes v.keys v.generation (cell v.cells v.nodes) kept.numbers v.node k in_nodes here.key_below) ∙ holds in
       let one : there.0.generation ≡ e.generation = at.0 ∙ sym generation ∙ sym (kept.proper.own k e holds) in
-      let two : there.0.version ≡ e.version = omega (arith, at.1, here.written) in
-      let same = under.apart (suc place) (cell v.cells v.nodes v.node k) there.0 e (sym (begins (suc place) (omega (arith, within))) ∙ there.1) is (λ i. record { generation = one i; version = two i }) in
-      (place, within, (write_from-at (entries_of list) place there.0 e there.1).1 ∙ same)
+      let two : there.0.version ≡ e.version = omega (arith, at.1) in
+      let same = under.apart own (cell v.cells v.nodes v.node k) there.0 e (sym (begins own (omega (arith, low, length-append list.earlier list.current))) ∙ there.1) is (λ i. record { generation = one i; version = two i }) in
+      (place.place, place.within, place.there e ∙ same)
 
   upto : (k : ℕ) → k < v.keys → cell v.cells v.nodes v.node k < number
   upto k in_keys = omega (arith, so-far-upto written v kept (entries_of list) v.node begins held_so_far k in_nodes in_keys)

@@ -30,7 +30,7 @@ module _ (g : given.Over) (c : goal.After-self-2-1 g) where
 pub invariant_of-self : goal.invariant_of-self
 invariant_of-self g c =
     put g c (IsVersionTable g.H.Written.lists c.self.inside.node c.self.inside.nodes c.self.inside.keys c.self.inside.generation)
-    (lies-kept g.H.Written.lists _ _ _ (writes g.H.Written.lists (old g c) c.self.invariant c.args.key (g.N.Number.number c.args.number) (in_keys g c) (next g c)))
+    (lies-kept (writes g.H.Written.lists (old g c) c.self.invariant c.args.key (g.N.Number.number c.args.number) (in_keys g c) (next g c)))
 
 pub returns : goal.returns
 returns g c =

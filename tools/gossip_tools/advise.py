@@ -4,11 +4,11 @@ gossip_advise -o FOLDER
 
 Says which mode and which budget to take for a cluster, how stale its copies get, and how long it takes to heal. It runs
 the modes with what fits and with nodes * writes, under five seeds, on all cores: first few intervals, for a first
-answer, then what is to heal, then many intervals, and up to 800 where they show no level. Last comes a budget that cuts
-nothing, for the floor: no mode and no budget does better than that. Where no budget that fits is enough, it says so,
-and what would be. With a target and no packet it looks for the smallest packet that keeps to it. The folder, `advice`
-where none is named, gets the scenarios, the reports, `answer.txt` and the page `report.html`; both have the first
-answer until the last one comes. It can be stopped, which loses the runs under way: the same call goes on. Without
+answer, then what is to heal, then many intervals, and up to 800 where staleness may still rise. Last comes a budget
+that cuts nothing, for the floor: no mode and no budget does better than that. Where no budget that fits is enough, it
+says so, and what would be. With a target and no packet it looks for the smallest packet that keeps to it. The folder,
+`advice` where none is named, gets the scenarios, the reports, `answer.txt` and the page `report.html`; both have the
+first answer until the last one comes. It can be stopped, which loses the runs under way: the same call goes on. Without
 numbers it takes those that the folder has. Restarts and a split may be asked for in one call, so that what comes before
 them is run once.
 

@@ -83,7 +83,7 @@ class Study:
 
     def target_of(self, seconds):
         """The rounds of a target, which the longest runs have to be able to show."""
-        rounds, (_, most) = int(seconds / self.seconds), rules.halves(self.window("longest"))[0]
+        rounds, most = int(seconds / self.seconds), rules.highest_level(self.window("longest"))
         if not 1 <= rounds <= most:
             raise cluster.Refused(f"target={cluster.plain(seconds)} would be {rounds} rounds of "
                                   f"{cluster.plain(self.seconds)} s, "

@@ -64,7 +64,11 @@ def try_advice(room):
     holds("nothing is cut, so no other run is made for the floor", (True, True, 8), (
         "  share cut           0.00 % of what was lacking\n" in said, "; the chosen one has that\n" in said,
         max(int(it.name.split(".")[0].partition("-")[2]) for it in (advice / "many").glob("*.csv"))))
-    holds("the answer is kept", said.rpartition("\n\n")[0] + "\n", (advice / "answer.txt").read_text())
+    # (what is counted is told with the first answer alone, and kept with the last)
+    kept, counted = (advice / "answer.txt").read_text(), [it for it in first.splitlines() if it.startswith(" " * 22)]
+    told = [it for it in kept.splitlines() if it not in counted]
+    holds("the answer is kept", (said.rpartition("\n\n")[0].splitlines(), True, 1),
+          (told, counted[0].strip().startswith("Healed after N rounds: "), kept.count("\n".join(counted))))
     text = (advice / "report.html").read_text()
     tags, pictures = Tags(text), 7 if shutil.which("gnuplot") else 0
     others = [it for it in tags.named if not it.startswith("data:image/svg+xml;base64,")]

@@ -247,8 +247,9 @@ class Told:
     def __init__(self, folder):
         self.folder, self.lines = folder, []
 
-    def tell(self, lines):
-        print(*lines, sep="\n", flush=True)
+    def tell(self, lines, told=()):
+        """Tells these lines. Those that were told before are only kept."""
+        print(*(it for it in lines if it not in told), sep="\n", flush=True)
         self.lines += lines
         files.put(self.folder / "answer.txt", "\n".join(self.lines) + "\n")
 
@@ -333,7 +334,8 @@ def study_of(it, folder, program, check_sum):
     decision, healing = last_answer(it, stages, few)
     missing = answer.not_run(decision, call_with_enough(decision, folder), few is not None and few.suffices)
     more = beside(it, stages, decision)
-    Told(folder).tell(answer.in_words(decision, healing, missing, more))
+    before = healing.counted_lines() if healing and few and few.suffices else ()
+    Told(folder).tell(answer.in_words(decision, healing, missing, more), before)
     print("", page.make(folder, decision, healing, stages.made, check_sum, missing, more), sep="\n")
 
 

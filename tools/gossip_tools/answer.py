@@ -415,9 +415,7 @@ class Healing:
         rounds, time = self.in_words(stage, budget)
         took = f"{ENDS[stage]} after {rounds}, {time}" if time else rounds
         lines = [row(HEALED[stage], f"{self.what(stage)}: {took}{self.run}")]
-        if stage == it.heals()[0]:
-            lines += [row("", it) for it in textwrap.wrap(self.counted(), IN_A_ROW)]
-        return lines
+        return lines + self.counted_lines() if stage == it.heals()[0] else lines
 
     def what(self, stage):
         """What a stage heals from, in words."""
@@ -455,6 +453,10 @@ class Healing:
         lasts = {"split": "the last round of the split", "restart": "the last round with a node down"}
         after = ", or after ".join(lasts[it] for it in self.study.heals() if it in lasts)
         return f"Healed after N rounds: N rounds after {after}, {rules.HEALED.format(*self.study.before)}"
+
+    def counted_lines(self):
+        """The same, line by line."""
+        return [row("", it) for it in textwrap.wrap(self.counted(), IN_A_ROW)]
 
     def waited(self, budget):
         """The rounds to wait between the groups of a rolling restart: until what a restart leaves is over under each

@@ -135,8 +135,8 @@ def try_reserve(room):
     budget = f"{48 if is_worse else 24} entries in a delta, {1920 if is_worse else 960} bytes "
     though = f", though its worst is {max(at_most)} in place of {max(at_knee)}" if max(at_most) < max(at_knee) else ""
     other = (f"With nodes * writes = 24 entries it is {as_rounds(at_knee)}: worse" if is_worse else
-             f"With 48 entries (2 times nodes * writes) it is {as_rounds(at_most)}: no better, as the bands of the seeds "
-             f"touch{though}. So packet=960 is enough, and what is above that is a reserve")
+             f"With 48 entries (2 times nodes * writes) it is {as_rounds(at_most)}: no better, as the bands of the "
+             f"seeds touch{though}. So packet=960 is enough, and what is above that is a reserve")
     for name, told in (("first", first), ("last", said)):
         holds(f"the budget of the {name} answer", (0, True, True),
               (status, f"scuttle-depth with room for {budget}" in told, other in told))

@@ -530,13 +530,14 @@ def first_words(decision, call="", about_target=()):
         said = [f"First answer, from {since}: {decision.takes()}.",
                 f"{decision.tells_all()}." if decision.tells_all() else "",
                 f"Worst staleness {decision.staleness()}.", *about_target, *(f"{it}." for it in more if it),
-                f"That is below {it.knee_name}. {to_knee}." if to_knee else "", decision.forgetful(), *limits(decision),
+                f"That is below {it.knee_name}. {to_knee}. {else_helps(decision)}" if to_knee else "",
+                decision.forgetful(), *limits(decision),
                 *(of_calls(it) if it.fanout > 1 else [])]
     else:
         said = [f"First answer, from {since}: no budget that fits is seen to be enough, as none is level within {few} "
                 "rounds.",
-                decision.most_that_fits(), decision.forgetful(), f"{to_knee}." if to_knee else "", *limits(decision),
-                levels_off_later(it)]
+                decision.most_that_fits(), decision.forgetful(),
+                f"{to_knee}. {else_helps(decision)}" if to_knee else "", *limits(decision), levels_off_later(it)]
         if call and it.asks_for_healing():
             said += [f"{WHAT_HEALS} are run only if it does. To see them with a budget that is enough:", f"  {call}"]
     return [it for it in said if it]
@@ -569,7 +570,7 @@ def last_of_first_words(decision, folder):
                     "copies heal sooner: the last answer has that in the line `with the reserve`.")
     moved = rules.FIRST_MOVED_BELOW if decision.budget < it.knee else rules.FIRST_MOVED
     calls = f"; {rules.FIRST_MOVED_BY_CALLS}" if it.fanout > 1 else ""
-    return [*said, f"Now comes the last answer, from more rounds, which takes longer: wait for it before you set a time "
+    return [*said, "Now comes the last answer, from more rounds, which takes longer: wait for it before you set a time "
             f"limit. {rules.FIRST_HELD}, and {moved}{calls}. Until then {folder / 'answer.txt'} and "
             f"{folder / 'report.html'} have this first answer."]
 
@@ -600,8 +601,7 @@ def warnings(decision):
         said.append(f"`greatest` isn't level in any mode that was run. {helps} would help.")
     elif decision.budget < it.knee:
         said.append(f"The budget is below {it.knee_name}, the knee above which a larger one hardly helps, so copies "
-                    f"lag more than they have to. {decision.to_knee()}. Where the packet can't grow, "
-                    f"{way_out(decision)} would help.")
+                    f"lag more than they have to. {decision.to_knee()}. {else_helps(decision)}")
     said += [decision.forgetful()] if decision.forgetful() else []
     said += [rules.OTHER_SEEDS] if decision.meets_target() else []
     said += decision.own_warnings() + limits(decision)
@@ -626,6 +626,10 @@ def way_out(decision):
     product = it.knee_name.partition(" / ")[0]
     calls = f"fanout={enough}, as {product} / {enough} entries fit" if enough <= cluster.MOST_CALLS else "fanout="
     return f"{own}more calls in an interval ({calls}), a shorter interval, a shorter entry or fewer writes"
+
+
+def else_helps(decision):
+    return f"Where the packet can't grow, {way_out(decision)} would help."
 
 
 def limits(decision):

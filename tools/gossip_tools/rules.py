@@ -49,11 +49,11 @@ def may_turn_over(one, other):
     return max(other) - min(one) <= 1
 
 
-# What became of first answers, by docs/study.md: from `nodes * writes` on, below, and where a node calls several others.
-FIRST_HELD = ("In nineteen clusters of 100 to 400 nodes without fanout= it had the mode, the budget and the wait of the "
-              "first one")
-FIRST_MOVED = ("from nodes * writes on a worst staleness at most a round higher; 300 nodes with 2 % loss had two rounds "
-               "more")
+# What became of first answers, by docs/study.md: from `nodes * writes` on, below, and with several calls.
+FIRST_HELD = ("In nineteen clusters of 100 to 400 nodes without fanout= it had the mode, the budget and the wait of "
+              "this one")
+FIRST_MOVED = ("from nodes * writes on a worst staleness at most a round higher; 300 nodes with 2 % loss had two "
+               "rounds more")
 FIRST_MOVED_BELOW = "below nodes * writes a worst staleness up to five rounds higher"
 FIRST_MOVED_BY_CALLS = "300 nodes with fanout=9 had 14 to 19 rounds in place of 12 to 14"
 

@@ -311,8 +311,11 @@ class Decided(unittest.TestCase):
             with_that = ", worst staleness 7 to 8 rounds with that"
             for more, said in (({}, ""), ({(600, "scuttle-depth"): [7, 8]}, with_that)):
                 found = answer.Decision(it, Figures(worst | more), MANY)
-                self.assertEqual(f"That is below nodes * writes. packet={delta}{said}.",
-                                 answer.first_words(found)[2])
+                first = answer.first_words(found)[2]
+                self.assertEqual(f"That is below nodes * writes. packet={delta}{said}. Where the packet can't grow, ",
+                                 first.partition("a delta in packets")[0].partition("more calls")[0])
+                self.assertTrue(first.endswith("more calls in an interval (fanout=2, as nodes * writes / 2 entries "
+                                               "fit), a shorter interval, a shorter entry or fewer writes would help."))
 
     def test_first_answer_from_the_knee_on(self):
         """The decision, the worst staleness, and what is left in reserve; with 600 entries that fit no reserve."""

@@ -297,7 +297,9 @@ def try_longer_runs(room):
           "(fanout=8, as nodes * writes / 8 entries fit)" in said.partition("Mind:")[2])
     holds("and what heals", True, "\n  a rolling restart   " in said)
     page = (room / "longer" / "report.html").read_text()
-    holds("and the page", (True, []), ("In rounds 201 to 400, by budget" in page, Tags(page).open))
+    holds("and the page", (True, True, True, []), (
+        "In rounds 201 to 400, by budget" in page, "<h1>40 nodes: scuttle-depth with 5 entries, which are too few</h1>"
+        in page, '<div class="first">enough<b>1600 bytes</b>' in page, Tags(page).open))
 
 
 def try_advice_below_the_knee(room):

@@ -253,10 +253,10 @@ class Decision:
         return self.study.told["shared"] == "yes" and bool(self.study.told["digest"])
 
     def is_too_small(self):
-        """Whether nodes * writes entries, which don't fit, would be better, where no target says that this will do."""
+        """Whether nodes * writes entries, which don't fit, are far better, where no target says that this will do."""
         it = self.study
         return (self.suffices and self.budget < it.knee and not self.meets_target() and self.knee_suffices()
-                and rules.is_better(self.worst_with(it.knee, self.mode), self.worst))
+                and rules.is_far_better(self.worst_with(it.knee, self.mode), self.worst))
 
     def takes(self):
         """The decision, in words, with what speaks against it first."""

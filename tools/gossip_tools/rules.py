@@ -43,6 +43,11 @@ def is_better(one, other):
     return max(one) < min(other)
 
 
+def is_far_better(one, other):
+    """Whether it is better, and its worst seed at most half as high as the other's."""
+    return is_better(one, other) and 2 * max(one) <= max(other)
+
+
 def may_turn_over(one, other):
     """Whether few rounds can't tell if the other is better than the one: where their bands have two rounds in common at
     most. More rounds may make one of them rise."""

@@ -154,7 +154,7 @@ class Decided(unittest.TestCase):
         """None of the others is run, so none is told of."""
         it = of("nodes=300 keys=4 writes=2 entry=40 packet=24000 digest=10 mode=precise-newest")
         figures = {(300, "precise-newest"): [12, 13], (600, "precise-newest"): [7, 8]}
-        for rises, first in (([], "Take precise-newest, but packet=24000 is too small: with room for 300 entries"),
+        for rises, first in (([], "Take precise-newest with room for 300 entries"),
                              ([(300, "precise-newest")], "No budget that fits is enough: none is level within 200 "
                               "rounds. The most that fits: room for 300 entries")):
             lines = answer.in_words(answer.Decision(it, Figures(figures, rises), MANY), None)
@@ -221,15 +221,15 @@ class Decided(unittest.TestCase):
 
     def test_too_small(self):
         """150 entries fit of 300 * 2. With 600, which are 24000 bytes, the worst copy is at most 8 rounds of half a
-        second behind, in place of 21: better than the 18 of the best seed, so the first words say that the packet is
-        too small. Of 300 * 2 / 3 and of 300 * 2 / 4 writes the last are the first that fit. Where the bands of the
-        seeds touch, where 600 aren't level, or where a target says that 21 rounds will do, the words are as usual."""
+        second behind, in place of 21, and the best seed has 18: so the first words say that the packet is too small. Of
+        300 * 2 / 3 and of 300 * 2 / 4 writes the last are the first that fit. Where it is 11 rounds in place of 21,
+        where 600 aren't level, or where a target says that 21 rounds will do, the words are as usual."""
         room = "with room for 150 entries in a delta, 6000 bytes (what fits; 0.25 times nodes * writes)"
         small = (f"scuttle-depth, but packet=6000 is too small: {room}, the worst copy is up to 21 rounds, 10.5 s, "
                  "behind. With packet=24000 it is up to 8 rounds")
         usual = f"scuttle-depth {room}; packet=6000"
         level, rises = (), [(600, "scuttle-depth")]
-        for more, at_knee, rising, said in (("", [7, 8], level, small), ("", [7, 18], level, usual),
+        for more, at_knee, rising, said in (("", [7, 8], level, small), ("", [7, 11], level, usual),
                                             ("", [7, 8], rises, usual), ("target=11", [7, 8], level, usual),
                                             ("target=10", [7, 8], level, small)):
             it = of(f"nodes=300 keys=4 writes=2 entry=40 packet=6000 interval=0.5 {more}")

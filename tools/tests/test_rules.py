@@ -20,6 +20,12 @@ class Better(unittest.TestCase):
         cases = {((7, 8), (8, 9)): False, ((7, 7), (8, 8)): True, ((7, 8), (9, 9)): True, ((7, 9), (8, 10)): False}
         self.assertEqual(cases, {it: rules.is_better(*it) for it in cases})
 
+    def test_far_better(self):
+        """5 and 10 are half of 10 and 20, and 11 isn't. With 9 under one seed the bands touch."""
+        cases = {((3, 5), (6, 10)): True, ((3, 10), (11, 20)): True, ((3, 11), (12, 20)): False,
+                 ((3, 9), (9, 20)): False, ((6, 10), (3, 5)): False}
+        self.assertEqual(cases, {it: rules.is_far_better(*it) for it in cases})
+
     def test_mode(self):
         depth, oldest, newest = "scuttle-depth", "precise-oldest", "precise-newest"
         cases = (

@@ -64,7 +64,11 @@ def try_advice(room):
     holds("nothing is cut, so no other run is made for the floor", (True, True, 8), (
         "  share cut           0.00 % of what was lacking\n" in said, "; the chosen one has that\n" in said,
         max(int(it.name.split(".")[0].partition("-")[2]) for it in (advice / "many").glob("*.csv"))))
-    holds("the answer is kept", said.rpartition("\n\n")[0] + "\n", (advice / "answer.txt").read_text())
+    # (what is counted is told with the first answer alone, and kept with the last)
+    kept, counted = (advice / "answer.txt").read_text(), [it for it in first.splitlines() if it.startswith(" " * 22)]
+    told = [it for it in kept.splitlines() if it not in counted]
+    holds("the answer is kept", (said.rpartition("\n\n")[0].splitlines(), True, 1),
+          (told, counted[0].strip().startswith("Healed after N rounds: "), kept.count("\n".join(counted))))
     text = (advice / "report.html").read_text()
     tags, pictures = Tags(text), 7 if shutil.which("gnuplot") else 0
     others = [it for it in tags.named if not it.startswith("data:image/svg+xml;base64,")]
@@ -125,13 +129,14 @@ def try_reserve(room):
     first, said = out.partition("\n\n")[::2]
     at_knee, at_most = (worst(room / "reserve" / "few", budget, 31, 60) for budget in (24, 48))
     holds("60 rounds can't choose", (True, True), (max(at_most) - min(at_knee) <= 1, first.startswith(
-        "First answer, from 60 rounds, and 200 for the budgets between which those can't choose: scuttle-depth with ")))
+        "First answer, from 60 rounds; 200 for budgets that 60 can't tell apart: scuttle-depth with ")))
     at_knee, at_most = (worst(room / "reserve" / "many", budget, 101, 200) for budget in (24, 48))
     is_worse = min(at_knee) > max(at_most)
     budget = f"{48 if is_worse else 24} entries in a delta, {1920 if is_worse else 960} bytes "
+    though = f", though its worst is {max(at_most)} in place of {max(at_knee)}" if max(at_most) < max(at_knee) else ""
     other = (f"With nodes * writes = 24 entries it is {as_rounds(at_knee)}: worse" if is_worse else
-             f"With the 48 entries (2 times nodes * writes) it is {as_rounds(at_most)}: no better, as the bands of the "
-             "seeds touch. So packet=960 is enough, and what is above that is a reserve")
+             f"With 48 entries (2 times nodes * writes) it is {as_rounds(at_most)}: no better, as the bands of the "
+             f"seeds touch{though}. So packet=960 is enough, and what is above that is a reserve")
     for name, told in (("first", first), ("last", said)):
         holds(f"the budget of the {name} answer", (0, True, True),
               (status, f"scuttle-depth with room for {budget}" in told, other in told))
@@ -209,8 +214,8 @@ def try_target(room):
            (room / "never" / "report.html").read_text()))
     for word, why in (("target=0", "target is in seconds, and above 0."), ("target=-4", "which '-4' isn't"),
                       ("target=4s", "write target=4"),
-                      ("target=0.4", "would be 0 rounds of 0.5 s, and has to be from 1 to 600"),
-                      ("target=301", "would be 602 rounds of 0.5 s, and has to be from 1 to 600"),
+                      ("target=0.4", "would be 0 rounds of 0.5 s, and has to be from 1 to 400"),
+                      ("target=301", "would be 602 rounds of 0.5 s, and has to be from 1 to 400"),
                       ("target=1000000", "target=1000000 would be 2000000 rounds"),
                       ("target=0.00001", "target=0.00001 would be 0 rounds")):
         refuses(room, why, "gossip_advise", "-o", "refused", word, *words)
@@ -271,22 +276,30 @@ def try_hopeless_advice(room):
 
 
 def try_longer_runs(room):
-    """Four entries for 40 nodes that write one of 6 keys each: a level above 150, which 200 rounds can't tell from
-    none, and below 300, which 400 rounds can."""
-    cluster = ("nodes=40", "keys=6", "writes=1", "entry=40", "packet=160", "count=entries", "loss=1", "split=0")
+    """Five entries for 40 nodes that write one of 6 keys each: a level above 100, which 200 rounds can't tell from
+    none, and of 200 at most, which 400 rounds can. Forty are better, so it says that the packet is too small."""
+    cluster = ("nodes=40", "keys=6", "writes=1", "entry=40", "packet=200", "count=entries", "loss=1", "split=0")
     status, out, err = run(room, TOOLS / "gossip_advise", "-o", "longer", *cluster, "restarts=2")
     first, said = out.partition("\n\n")[::2]
-    short, long = worst(room / "longer" / "many", 4, 151, 200), worst(room / "longer" / "longer", 4, 201, 400)
-    holds("200 rounds can't show the level, 400 can", (0, True, True), (status, max(short) > 150, max(long) <= 300))
+    short, long = worst(room / "longer" / "many", 5, 151, 200), worst(room / "longer" / "longer", 5, 201, 400)
+    at_knee = worst(room / "longer" / "longer", 40, 201, 400)
+    holds("200 rounds can't show the level, 400 can", (0, True, True, True),
+          (status, max(short) > 100, max(long) <= 200, max(at_knee) < min(long)))
     holds("the first answer says how far is looked", True, "\nWhether it levels off later is seen from 200 rounds now, "
           "and where it doesn't, from 400 and 800, and no more.\n" in first)
-    holds("the longer runs name mode and budget", (True, True, True),
-          (said.startswith("Take scuttle-depth with room for 4 entries in a delta, 160 bytes (what fits; 0.1 times "
-                           "nodes * writes); packet=160.\n"),
+    holds("the longer runs name mode, budget and what is enough", (True, True, True),
+          (said.startswith("Take scuttle-depth, but packet=200 is too small: with room for 5 entries in a delta, 200 "
+                           "bytes (what fits; 0.12 times nodes * writes), the worst copy is up to "
+                           f"{max(long)} rounds, {max(long)} s, behind. With packet=1600 it is up to "
+                           f"{max(at_knee)} rounds.\n"),
            f"\n  worst staleness     {as_rounds(long)}, " in said, "in rounds 201 to 400, least and most of" in said))
+    holds("and how many calls are enough, which are 40 / 5", True,
+          "(fanout=8, as nodes * writes / 8 entries fit)" in said.partition("Mind:")[2])
     holds("and what heals", True, "\n  a rolling restart   " in said)
     page = (room / "longer" / "report.html").read_text()
-    holds("and the page", (True, []), ("In rounds 201 to 400, by budget" in page, Tags(page).open))
+    holds("and the page", (True, True, True, []), (
+        "In rounds 201 to 400, by budget" in page, "<h1>40 nodes: scuttle-depth with 5 entries, which are too few</h1>"
+        in page, '<div class="first">enough<b>1600 bytes</b>' in page, Tags(page).open))
 
 
 def try_advice_below_the_knee(room):

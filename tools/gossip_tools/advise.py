@@ -4,11 +4,11 @@ gossip_advise -o FOLDER
 
 Says which mode and which budget to take for a cluster, how stale its copies get, and how long it takes to heal. It runs
 the modes with what fits and with nodes * writes, under five seeds, on all cores: first few intervals, for a first
-answer, then what is to heal, then many intervals, and up to 800 where they show no level. Last comes a budget that cuts
-nothing, for the floor: no mode and no budget does better than that. Where no budget that fits is enough, it says so,
-and what would be. With a target and no packet it looks for the smallest packet that keeps to it. The folder, `advice`
-where none is named, gets the scenarios, the reports, `answer.txt` and the page `report.html`; both have the first
-answer until the last one comes. It can be stopped, which loses the runs under way: the same call goes on. Without
+answer, then what is to heal, then many intervals, and up to 800 where staleness may still rise. Last comes a budget
+that cuts nothing, for the floor: no mode and no budget does better than that. Where no budget that fits is enough, it
+says so, and what would be. With a target and no packet it looks for the smallest packet that keeps to it. The folder,
+`advice` where none is named, gets the scenarios, the reports, `answer.txt` and the page `report.html`; both have the
+first answer until the last one comes. It can be stopped, which loses the runs under way: the same call goes on. Without
 numbers it takes those that the folder has. Restarts and a split may be asked for in one call, so that what comes before
 them is run once.
 
@@ -247,8 +247,9 @@ class Told:
     def __init__(self, folder):
         self.folder, self.lines = folder, []
 
-    def tell(self, lines):
-        print(*lines, sep="\n", flush=True)
+    def tell(self, lines, told=()):
+        """Tells these lines. Those that were told before are only kept."""
+        print(*(it for it in lines if it not in told), sep="\n", flush=True)
         self.lines += lines
         files.put(self.folder / "answer.txt", "\n".join(self.lines) + "\n")
 
@@ -333,7 +334,8 @@ def study_of(it, folder, program, check_sum):
     decision, healing = last_answer(it, stages, few)
     missing = answer.not_run(decision, call_with_enough(decision, folder), few is not None and few.suffices)
     more = beside(it, stages, decision)
-    Told(folder).tell(answer.in_words(decision, healing, missing, more))
+    before = healing.counted_lines() if healing and few and few.suffices else ()
+    Told(folder).tell(answer.in_words(decision, healing, missing, more), before)
     print("", page.make(folder, decision, healing, stages.made, check_sum, missing, more), sep="\n")
 
 

@@ -224,7 +224,8 @@ class Decision:
         """The decision, in a few words."""
         if not self.suffices:
             return f"no budget that fits is enough: none is level within {self.window[1]} rounds"
-        return f"{self.mode} with {self.whole_budget()} entries"
+        few = ", which are too few" if self.is_too_small() else ""
+        return f"{self.mode} with {self.whole_budget()} entries{few}"
 
     def why_empty(self):
         """Why some budgets were not run in some modes."""
@@ -251,10 +252,22 @@ class Decision:
         """Whether the digest takes some of the packet."""
         return self.study.told["shared"] == "yes" and bool(self.study.told["digest"])
 
+    def is_too_small(self):
+        """Whether nodes * writes entries, which don't fit, are far better, where no target says that this will do."""
+        it = self.study
+        return (self.suffices and self.budget < it.knee and not self.meets_target() and self.knee_suffices()
+                and rules.is_far_better(self.worst_with(it.knee, self.mode), self.worst))
+
     def takes(self):
-        """The decision, in words."""
-        with_digest = "with the digest " if self.shares() else ""
-        return f"{self.mode} with {self.room()}; {with_digest}packet={self.packet()}"
+        """The decision, in words, with what speaks against it first."""
+        if not self.is_too_small():
+            with_digest = "with the digest " if self.shares() else ""
+            return f"{self.mode} with {self.room()}; {with_digest}packet={self.packet()}"
+        it, at_knee = self.study, self.worst_with(self.study.knee, self.mode)
+        behind = f"{'up to' if it.parts == 1 else 'more than'} {lasting(it, [self.most_rounds()])}"
+        most = max(at_knee) if it.parts == 1 else rules.reckoned(at_knee)
+        return (f"{self.mode}, but packet={self.given()} is too small: with {self.room()}, the worst copy is {behind}, "
+                f"behind. With packet={it.packet(self.mode)} it is up to {briefly(it, [most])}")
 
     def tells_all(self):
         """What to reckon with where a node tells all its keys as it starts, in words; empty where no groups forget."""
@@ -312,9 +325,11 @@ class Decision:
         """What more than the budget brings, in words; empty where no more fits."""
         if not self.suffices or self.budget == self.most:
             return ""
-        worst = briefly(self.study, self.figures[self.mode])
-        return (f"With {self.all_that_fits()} it is {worst}: no better, {TOUCH}. So packet={self.packet()} is enough, "
-                "and what is above that is a reserve")
+        figure = self.figures[self.mode]
+        less = f", though its worst is {max(figure)} in place of {max(self.worst)}"
+        said = TOUCH + (less if max(figure) < max(self.worst) else "")
+        return (f"With {self.all_that_fits()} it is {briefly(self.study, figure)}: no better, {said}. So "
+                f"packet={self.packet()} is enough, and what is above that is a reserve")
 
     def why_not_knee(self):
         """Why more than nodes * writes is taken, in words; empty where it isn't."""
@@ -352,9 +367,10 @@ class Decision:
                 f"{span(self.worst)}" for mode in self.close]
         if smaller := self.smaller():
             worst = briefly(it, self.worst_with(smaller, self.mode))
-            said.append(f"{self.mode} with a budget from {whole(smaller)} entries on, {worst} with that")
+            said.append(f"{self.mode} with as few as {whole(smaller)} entries: {worst}, which touches "
+                        f"{span(self.worst)}")
             if self.budget >= it.knee:
-                said[-1] += f"; below {it.knee_name}, where staleness rises steeply, none is taken for that"
+                said[-1] += f"; still not taken, as staleness rises steeply below {it.knee_name}"
         others = "other mode and smaller budget" if len(self.figures) > 1 else "smaller budget"
         smaller = [budget for budget in self.of_mode() if budget < self.budget]
         than = "" if all(map(self.is_worse, smaller)) else " than this one or a larger one"
@@ -362,11 +378,10 @@ class Decision:
 
     def all_that_fits(self):
         """The largest budget that was looked at, in words."""
-        it = self.study
-        what = f"({self.most / it.knee:.2g} times {it.knee_name})"
-        if it.whole(self.most) == it.fits_of_all[self.mode]:
-            what = "that fit"
-        return f"the {it.whole(self.most)} entries {what}"
+        it, entries = self.study, self.study.whole(self.most)
+        if entries == it.fits_of_all[self.mode]:
+            return f"the {entries} entries that fit"
+        return f"{entries} entries ({self.most / it.knee:.2g} times {it.knee_name})"
 
 
 class Healing:
@@ -400,9 +415,7 @@ class Healing:
         rounds, time = self.in_words(stage, budget)
         took = f"{ENDS[stage]} after {rounds}, {time}" if time else rounds
         lines = [row(HEALED[stage], f"{self.what(stage)}: {took}{self.run}")]
-        if stage == it.heals()[0]:
-            lines += [row("", it) for it in textwrap.wrap(self.counted(), IN_A_ROW)]
-        return lines
+        return lines + self.counted_lines() if stage == it.heals()[0] else lines
 
     def what(self, stage):
         """What a stage heals from, in words."""
@@ -440,6 +453,10 @@ class Healing:
         lasts = {"split": "the last round of the split", "restart": "the last round with a node down"}
         after = ", or after ".join(lasts[it] for it in self.study.heals() if it in lasts)
         return f"Healed after N rounds: N rounds after {after}, {rules.HEALED.format(*self.study.before)}"
+
+    def counted_lines(self):
+        """The same, line by line."""
+        return [row("", it) for it in textwrap.wrap(self.counted(), IN_A_ROW)]
 
     def waited(self, budget):
         """The rounds to wait between the groups of a rolling restart: until what a restart leaves is over under each
@@ -507,19 +524,20 @@ def first_words(decision, call="", about_target=()):
     it, few, to_knee = decision.study, decision.study.rounds("few"), decision.to_knee()
     since = f"{few} rounds" if it.fanout == 1 else f"{few // it.fanout} intervals of {it.fanout} rounds"
     if decision.stage != "few":
-        since += f", and {it.intervals(decision.stage)} for the budgets between which those can't choose"
+        since += f"; {it.intervals(decision.stage)} for budgets that {it.intervals('few')} can't tell apart"
     if decision.suffices:
         more = (decision.reserve(), decision.why_not_knee())
         said = [f"First answer, from {since}: {decision.takes()}.",
                 f"{decision.tells_all()}." if decision.tells_all() else "",
                 f"Worst staleness {decision.staleness()}.", *about_target, *(f"{it}." for it in more if it),
-                f"That is below {it.knee_name}. {to_knee}." if to_knee else "", decision.forgetful(), *limits(decision),
+                f"That is below {it.knee_name}. {to_knee}. {else_helps(decision)}" if to_knee else "",
+                decision.forgetful(), *limits(decision),
                 *(of_calls(it) if it.fanout > 1 else [])]
     else:
         said = [f"First answer, from {since}: no budget that fits is seen to be enough, as none is level within {few} "
                 "rounds.",
-                decision.most_that_fits(), decision.forgetful(), f"{to_knee}." if to_knee else "", *limits(decision),
-                levels_off_later(it)]
+                decision.most_that_fits(), decision.forgetful(),
+                f"{to_knee}. {else_helps(decision)}" if to_knee else "", *limits(decision), levels_off_later(it)]
         if call and it.asks_for_healing():
             said += [f"{WHAT_HEALS} are run only if it does. To see them with a budget that is enough:", f"  {call}"]
     return [it for it in said if it]
@@ -551,8 +569,10 @@ def last_of_first_words(decision, folder):
         said.append(f"All these times are for packet={decision.packet()}. If your program fills a larger one anyway, "
                     "copies heal sooner: the last answer has that in the line `with the reserve`.")
     moved = rules.FIRST_MOVED_BELOW if decision.budget < it.knee else rules.FIRST_MOVED
-    return [*said, f"Now comes the last answer, from more rounds, which takes longer. {rules.FIRST_HELD}, and {moved}. "
-            f"Until then {folder / 'answer.txt'} and {folder / 'report.html'} have this first answer."]
+    calls = f"; {rules.FIRST_MOVED_BY_CALLS}" if it.fanout > 1 else ""
+    return [*said, "Now comes the last answer, from more rounds, which takes longer: wait for it before you set a time "
+            f"limit. {rules.FIRST_HELD}, and {moved}{calls}. Until then {folder / 'answer.txt'} and "
+            f"{folder / 'report.html'} have this first answer."]
 
 
 WHAT_HEALS = "A split, a restart and a rolling restart"
@@ -576,16 +596,12 @@ def not_run(decision, call, was_enough=False):
 def warnings(decision):
     """What speaks against the decision, or limits it."""
     it, said = decision.study, []
-    shared = it.told["shared"] == "yes" and it.told["digest"]
-    own = "a delta in packets of its own (shared=no), " if shared else ""
     if not decision.suffices:
-        larger = f"A larger packet, {own}a shorter entry or fewer" if decision.to_knee() else "Less loss or fewer"
-        said.append("`greatest` isn't level in any mode that was run. "
-                    f"{larger} writes would help.")
+        helps = f"A larger packet, {way_out(decision)}" if decision.to_knee() else "Less loss or fewer writes"
+        said.append(f"`greatest` isn't level in any mode that was run. {helps} would help.")
     elif decision.budget < it.knee:
         said.append(f"The budget is below {it.knee_name}, the knee above which a larger one hardly helps, so copies "
-                    f"lag more than they have to. {decision.to_knee()}. Else "
-                    f"{own}a shorter entry or fewer writes would help.")
+                    f"lag more than they have to. {decision.to_knee()}. {else_helps(decision)}")
     said += [decision.forgetful()] if decision.forgetful() else []
     said += [rules.OTHER_SEEDS] if decision.meets_target() else []
     said += decision.own_warnings() + limits(decision)
@@ -599,6 +615,21 @@ def warnings(decision):
         if not rules.tenth_holds(decision.of_knee()):
             said.append(f"This budget is {decision.times()}, where a tenth wasn't seen to hold.")
     return said + (of_healing(it) if decision.heals() else [])
+
+
+def way_out(decision):
+    """What helps where the packet can't grow, in words."""
+    it = decision.study
+    shared = it.told["shared"] == "yes" and it.told["digest"]
+    own = "a delta in packets of its own (shared=no), " if shared else ""
+    enough = -(-rules.knee(int(it.told["nodes"]), it.keys, it.writes) // decision.whole_budget())
+    product = it.knee_name.partition(" / ")[0]
+    calls = f"fanout={enough}, as {product} / {enough} entries fit" if enough <= cluster.MOST_CALLS else "fanout="
+    return f"{own}more calls in an interval ({calls}), a shorter interval, a shorter entry or fewer writes"
+
+
+def else_helps(decision):
+    return f"Where the packet can't grow, {way_out(decision)} would help."
 
 
 def limits(decision):
@@ -677,7 +708,8 @@ def left_out(decision):
     """What the model leaves out for this cluster."""
     it, told = decision.study, decision.study.told
     said = [*of_calls(it), "Failure detectors: " + (
-        f"one that needs a heartbeat in time has to wait longer than {lasting(it, [decision.most_rounds()])}."
+        f"one that needs a heartbeat in time has to wait longer than {lasting(it, [decision.most_rounds()])}; other "
+        "seeds and longer runs may have older copies."
         if decision.suffices else "a heartbeat may come later than any limit."),
         "Nodes that join and leave: one that joins is like one that restarts."]
     if it.in_bytes:

@@ -30,6 +30,8 @@ BYTES = ("entry", "packet", "digest")
 USUAL = {"digest": "0", "loss": "0", "fanout": "1", "rounds": None, "seed": "1", "mode": scenario.USUAL_MODE,
          "count": None}
 USUAL_ROUNDS = 60
+# The most others that a node calls in an interval.
+MOST_CALLS = 16
 # What is asked of the wrong tool, or in another way.
 ELSEWHERE = {
     **{name: f" For {name}= there is gossip_scenario, and gossip_sweep runs what that prints."
@@ -156,8 +158,8 @@ def check_size(it):
 
 
 def check_fanout(fanout):
-    if not 1 <= fanout <= 16:
-        raise Refused(f"a node calls 1 to 16 peers in an interval, not {fanout}.")
+    if not 1 <= fanout <= MOST_CALLS:
+        raise Refused(f"a node calls 1 to {MOST_CALLS} peers in an interval, not {fanout}.")
 
 
 def room_for_delta(it, mode):

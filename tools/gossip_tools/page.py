@@ -60,14 +60,14 @@ def cards(decision, healing, more):
     if decision.suffices:
         of_budget += f"; packet={decision.packet()}"
         rounds, _, time = answer.lasting(it, decision.worst).partition(", ")
-        kind = "first" if decision.is_taken() else "none"
+        kind = "first" if decision.is_taken() and not decision.is_too_small() else "none"
         rows = [("mode", decision.mode, "", kind), ("budget", f"{budget} entries", of_budget, kind),
                 ("worst staleness", rounds, "; ".join(filter(None, (time, decision.reckon()))), "")]
     else:
         rows = [("budget", "none that fits is enough", f"tried: {budget} entries, {of_budget}", "none"),
                 ("worst staleness", "not known", f"not level within {decision.window[1]} rounds", "none")]
-        if decision.to_knee():
-            rows.append(("enough", f"{it.packet(decision.mode)} bytes", decision.to_knee(), "first"))
+    if decision.is_too_small() or not decision.suffices and decision.to_knee():
+        rows.append(("enough", f"{it.packet(decision.mode)} bytes", decision.to_knee(), "first"))
     if decision.floor:
         rows.append((answer.FLOOR, answer.in_rounds(decision.floor), decision.above_floor(), ""))
     rows += [(name, *said.partition(": ")[::2], "none" if said.startswith("not met") else "") for name, said in more]

@@ -9,8 +9,8 @@
   many-stop   many intervals and some without writes, where a target is told: how old a stale copy is; so for the others
 
 What is run is only what may change the answer, and what no budget can better: one that cuts nothing, where none of the
-others does. What heals is run with the budget that is taken, and in the end with all that fits too, where that is more. An interval has as many rounds as a node calls others in it, and writes in the first
-of them.
+others does. What heals is run with the budget that is taken, and in the end with all that fits too, where that is more.
+An interval has as many rounds as a node calls others in it, and writes in the first of them.
 """
 from gossip_tools import cluster, read, rules, scenario
 
@@ -83,7 +83,7 @@ class Study:
 
     def target_of(self, seconds):
         """The rounds of a target, which the longest runs have to be able to show."""
-        rounds, (_, most) = int(seconds / self.seconds), rules.halves(self.window("longest"))[0]
+        rounds, most = int(seconds / self.seconds), rules.highest_level(self.window("longest"))
         if not 1 <= rounds <= most:
             raise cluster.Refused(f"target={cluster.plain(seconds)} would be {rounds} rounds of "
                                   f"{cluster.plain(self.seconds)} s, "

@@ -20,6 +20,12 @@ class Better(unittest.TestCase):
         cases = {((7, 8), (8, 9)): False, ((7, 7), (8, 8)): True, ((7, 8), (9, 9)): True, ((7, 9), (8, 10)): False}
         self.assertEqual(cases, {it: rules.is_better(*it) for it in cases})
 
+    def test_far_better(self):
+        """5 and 10 are half of 10 and 20, and 11 isn't. With 9 under one seed the bands touch."""
+        cases = {((3, 5), (6, 10)): True, ((3, 10), (11, 20)): True, ((3, 11), (12, 20)): False,
+                 ((3, 9), (9, 20)): False, ((6, 10), (3, 5)): False}
+        self.assertEqual(cases, {it: rules.is_far_better(*it) for it in cases})
+
     def test_mode(self):
         depth, oldest, newest = "scuttle-depth", "precise-oldest", "precise-newest"
         cases = (
@@ -65,16 +71,19 @@ class Enough(unittest.TestCase):
         self.assertEqual(cases, {it: rules.halves(it) for it in cases})
 
     def test_suffices(self):
-        """Where some write of round 1 is missing throughout, the halves end with 150 and 200. A seed with more than 150
-        can't be told from one that rises."""
+        """Where some write of round 1 is missing throughout, the halves end with 150 and 200. A seed with more than the
+        100 rounds that are left out can't be told from one that rises."""
         cases = {((150, 150), (200, 200)): False, ((8, 7), (7, 8)): True, ((7, 7), (8, 8)): False,
-                 ((7, 8), (8, 9)): True, ((140, 148), (139, 150)): True, ((140, 148), (139, 151)): False}
+                 ((7, 8), (8, 9)): True, ((90, 98), (89, 100)): True, ((90, 98), (89, 101)): False,
+                 ((90, 101), (89, 98)): False}
         self.assertEqual(cases, {it: rules.suffices(*it, (101, 200)) for it in cases})
 
     def test_what_can_be_level(self):
-        """Up to round 150, where the first half ends, `greatest` is at most 150. So a level of 151 looks as if it rose
-        from there in any case."""
-        self.assertEqual([True, False], [rules.can_be_level(it, (101, 200)) for it in (150, 151)])
+        """In round 101 `greatest` is at most 101, so a level of 101 may first be reached there. 300 nodes with room for
+        35 of 300 entries had up to 147 rounds up to round 200, and up to 171 in the next 200."""
+        cases = {((101, 200), 100): True, ((101, 200), 101): False, ((101, 200), 147): False, ((31, 60), 30): True,
+                 ((31, 60), 31): False, ((91, 180), 90): True, ((201, 400), 171): True, ((401, 800), 401): False}
+        self.assertEqual(cases, {it: rules.can_be_level(it[1], it[0]) for it in cases})
 
     def test_what_a_sum_says(self):
         """1999 * 6 copies at two times 28 in a round take 214 rounds, less the 6 in which a key isn't written; at two

@@ -133,11 +133,13 @@ class Numbers(unittest.TestCase):
         self.assertEqual(("budget_bytes", 41356), scenario.budget_field(79, True))
 
     def test_stages_that_can_show_a_level(self):
-        """39 * 6 copies at two times 2 entries in a round take 58 rounds, less 6; 60 rounds show no more than 45. With
-        3 entries they take 39, less 6. 199 * 8 copies at two times 5 take 159, less 8, and 200 rounds show 150."""
+        """39 * 6 copies at two times 2 entries in a round take 58 rounds, less 6; 60 rounds show no more than 30. With
+        3 entries they take 39, less 6, and with 4 29, less 6. 199 * 8 copies at two times 7 take 113, less 8, and 200
+        rounds show 100."""
         cases = {"nodes=40 keys=6 packet=80": (52, ["many", "longer", "longest"]),
-                 "nodes=40 keys=6 packet=120": (33, ["few", "many", "longer", "longest"]),
-                 "nodes=200 keys=8 packet=200": (151, ["longer", "longest"]),
+                 "nodes=40 keys=6 packet=120": (33, ["many", "longer", "longest"]),
+                 "nodes=40 keys=6 packet=160": (23, ["few", "many", "longer", "longest"]),
+                 "nodes=200 keys=8 packet=280": (105, ["longer", "longest"]),
                  "nodes=40 keys=6 packet=1600": (0, ["few", "many", "longer", "longest"])}
         found = {words: of(f"{words} writes=1 entry=40") for words in cases}
         self.assertEqual(cases, {words: (it.least_rounds(), it.steady_stages()) for words, it in found.items()})

@@ -105,14 +105,14 @@ class Searched(unittest.TestCase):
             self.assertTrue(wanted[1] <= search.least[DEPTH] <= wanted[1] * 1.02, search.least)
 
     def test_runs_that_can_show_it(self):
-        """200 rounds show a level of up to 150, 400 of 300, and 800 of 600; above that none does."""
-        cases = {150: "many", 151: "longer", 300: "longer", 600: "longest"}
+        """200 rounds show a level of up to 100, 400 of 200, and 800 of 400; above that none does."""
+        cases = {100: "many", 101: "longer", 200: "longer", 400: "longest"}
         found = {}
         for rounds in cases:
             it = of(f"nodes=100 keys=4 writes=1 entry=40 target={rounds}")
             found[rounds] = target.Search(it, Made(it, ROUNDS)).stage
         self.assertEqual(cases, found)
-        for seconds, why in ((601, "601 rounds of 1 s, and has to be from 1 to 600"), ("0.9", "0 rounds of 1 s")):
+        for seconds, why in ((401, "401 rounds of 1 s, and has to be from 1 to 400"), ("0.9", "0 rounds of 1 s")):
             with self.assertRaisesRegex(cluster.Refused, why):
                 of(f"nodes=100 keys=4 writes=1 entry=40 target={seconds}")
 
@@ -172,8 +172,8 @@ class Told(unittest.TestCase):
         """400 entries fit, of which 100 are taken: 9 to 10 rounds, and with all of them 8 to 9."""
         figures = {(200, mode): [9, 9] for mode in ROUNDS} | {(200, DEPTH): [8, 9], (100, DEPTH): [9, 10]}
         cases = {10: f"met: the worst staleness is within 10 s, or 10 rounds{SEEDS}",
-                 9: "met with all that fits alone: with the 200 entries (2 times nodes * writes) the worst staleness "
-                    f"is within 9 s, or 9 rounds{SEEDS}",
+                 9: "met with all that fits alone: with 200 entries (2 times nodes * writes) the worst staleness is "
+                    f"within 9 s, or 9 rounds{SEEDS}",
                  8: "not met: the worst staleness is above 8 s, or 8 rounds. Without packet= the smallest that "
                     "keeps to it is looked for"}
         for seconds, said in cases.items():

@@ -1,6 +1,6 @@
 -- What goes first, by numbers, versions and marks.
 -- Serves `StopMarks`.
-use Rattle.delta_plans.proofs.Common.{◌≡◌, ℕ, ◌<◌, ◌⊎◌, true, false, inl, inr, arith, Less, Greater, cases_lt, lt-ltb, le-ltb, le-leb, lt-leb, leb-true, leb-false, ltb-true, ltb-false, nat_cmp-less, nat_cmp-greater, nat_cmp, Ordering}
+use Rattle.delta_plans.proofs.Common.{◌≡◌, ℕ, ◌<◌, ◌⊎◌, true, false, inl, inr, arith, nat_tests, Less, Greater, cases_lt, lt-ltb, le-ltb, le-leb, lt-leb, leb-true, leb-false, ltb-true, ltb-false, nat_cmp-less, nat_cmp-greater, nat_cmp, Ordering}
 use Rattle.delta_plans.specs.declared.marked.First.{First}
 use Rattle.delta_plans.specs.declared.marked.First.TheVariants.{Oldest, Newest}
 use Rattle.delta_plans.specs.Firsts.{comes_first}
@@ -8,14 +8,8 @@ use Rattle.delta_plans.specs.LevelMarks.{lets_through}
 
 -- of two numbers one comes first, or they are the same
 pub first-cases : (first : First) (m n : ℕ) → (comes_first first m n ≡ true) ⊎ ((comes_first first n m ≡ true) ⊎ (m ≡ n))
-first-cases Oldest m n = elim (cases_lt m n) [
-  | inl lower ↦ inl (lt-ltb m n lower)
-  | inr no_lower ↦ inr (elim (cases_lt n m) [ inl higher ↦ inl (lt-ltb n m higher) | inr no_higher ↦ inr (omega (arith, no_lower, no_higher)) ])
-]
-first-cases Newest m n = elim (cases_lt n m) [
-  | inl higher ↦ inl (lt-ltb n m higher)
-  | inr no_higher ↦ inr (elim (cases_lt m n) [ inl lower ↦ inl (lt-ltb m n lower) | inr no_lower ↦ inr (omega (arith, no_lower, no_higher)) ])
-]
+first-cases Oldest m n = grind (arith, nat_tests)
+first-cases Newest m n = grind (arith, nat_tests)
 
 pub first-not : (first : First) (m n : ℕ) → comes_first first n m ≡ true → comes_first first m n ≡ false
 first-not Oldest m n is = le-ltb m n (omega (arith, ltb-true n m is))

@@ -1,23 +1,12 @@
 -- Lists that are changed element by element.
 -- Serves the functions of `grids`, `lags`, `merges`, `owners` and `planes`, `Behind`, `Places`, `delta_plans`,
 -- `version_lags` and `version_tables`.
-use Rattle.planes.proofs.Common.{◌≡◌, ℕ, ◌+◌, ◌<◌, ◌≤◌, List, length, [], ◌++◌, ◌-◌, get_or, set, map, min, take, replicate, refl, sym, ap, ◌∙◌, subst, arith, below_more, take-nil, get_or-set_same, get_or-set_other, length-set, get_or-map, get_or-replicate, length-map, length-replicate, map-set, Bool, cond, HasEach, AreChangedUpto, AreChanged, IsLowered, IsMade, AreCountedUpto}
+use Rattle.planes.proofs.Common.{◌≡◌, ℕ, ◌+◌, ◌<◌, ◌≤◌, List, length, ◌-◌, get_or, set, map, min, refl, sym, ap, ◌∙◌, subst, arith, below_more, get_or-set_same, get_or-set_other, length-set, get_or-map, length-map, map-set, Bool, cond, AreChangedUpto, AreChanged, IsLowered, IsMade, AreCountedUpto}
 use Rattle.planes.proofs.Counts.{count_next, count_same}
 
 -- what is read at an index, as a number
 pub number-at : {N : Type 0} (number : N → ℕ) (xs : List N) (r : ℕ) (x : N) → r < length xs → x ≡ get_or xs r x → number x ≡ get_or (map number xs) r 0
 number-at number xs r x lt is = ap number is ∙ sym (get_or-map number xs r x 0 lt)
-
--- an empty vector that is filled up
-pub filled : {N : Type 0} (count : ℕ) (x : N) (old new : List N) (len : ℕ) → old ≡ [] → len ≡ 0 → new ≡ take count old ++ replicate (count - len) x → new ≡ replicate count x
-filled count x old new len none empty is = rw (is, none, take-nil) (ap (λ n. replicate n x) {x = count - len} {y = count} (omega (arith, empty)))
-
--- the same number again and again
-pub all-same : {N : Type 0} (number : N → ℕ) (count : ℕ) (x : N) (xs : List N) → xs ≡ replicate count x → HasEach count (λ r n. n ≡ number x) (map number xs)
-all-same number count x xs is = rw is (record {
-  size = omega (arith, length-map (replicate count x) number, length-replicate count x);
-  each = λ r lt. get_or-map number (replicate count x) r x 0 (omega (arith, lt, length-replicate count x)) ∙ ap number (get_or-replicate count r x x lt);
-})
 
 module _ (changed : ℕ → ℕ → ℕ → Type 0) (old : List ℕ) where
   pub changed_none : AreChangedUpto changed old old 0

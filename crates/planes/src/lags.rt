@@ -5,7 +5,7 @@ ghost use Rattle.bench_types.specs.declared.faults.Fault.TheVariants.{OutOfMemor
 ghost use Rattle.planes.specs.Elementwise.{AreChanged};
 ghost use Rattle.planes.specs.Lags.{IsLeastBehind};
 ghost use Rattle.planes.specs.Planes.{cell, total_of, ArePlanesChanged, HasEach, IsGrid};
-ghost use Rattle.planes.specs.inner.Answering.{IsLowered};
+ghost use Rattle.planes.specs.inner.Loops.{IsLowered};
 
 use crate::grids::{all_of, plane_of};
 use crate::numbers::Number;

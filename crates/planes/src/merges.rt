@@ -4,8 +4,7 @@ ghost use Rattle.std.specs.Prelude.{◌≡◌, ℕ, ◌+◌, ◌-◌, ◌≤◌,
 ghost use Rattle.bench_types.specs.declared.limits.TheConstants.{MOST_NODES, MOST_KEYS};
 ghost use Rattle.planes.specs.Elementwise.{AreChanged};
 ghost use Rattle.planes.specs.Planes.{most_ahead, AreBothCovered, AreBothRaised};
-ghost use Rattle.planes.specs.inner.Counting.{AreRaisedUpto};
-ghost use Rattle.planes.specs.inner.Sizes.{AreBothMarked, IsPart};
+ghost use Rattle.planes.specs.inner.Loops.{AreBothMarked, AreRaisedUpto, IsPart};
 
 use crate::numbers::Number;
 use crate::owners::FEW_TO_CHANGE;

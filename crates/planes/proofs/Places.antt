@@ -81,17 +81,6 @@ module _ (changed : ℕ → ℕ → ℕ → ℕ → Type 0) (nodes : ℕ) (old :
   pub planes-none : ArePlanesChangedUpto changed nodes old old 0
   planes-none = record { size = refl; below = λ r k lt below. absurd (omega (arith, below)); from = λ i le. refl }
 
-  planes-next : {N : Type 0} (number : N → ℕ) (xs ys : List N) (key : ℕ) → ArePlanesChangedUpto changed nodes old (map number xs) key → key * nodes + nodes ≤ length xs
-      → length ys ≡ nodes → ((r : ℕ) → r < nodes → changed r key (cell old nodes r key) (get_or (map number ys) r 0))
-      → ArePlanesChangedUpto changed nodes old (map number (put_mid (key * nodes) nodes xs ys)) (key + 1)
-  planes-next number xs ys key before room size now = record {
-    size = laid-length number (key * nodes) nodes xs ys room size ∙ before.size;
-    below = λ r k lt. below_more (λ j. changed r j (cell old nodes r j) (cell (map number (put_mid (key * nodes) nodes xs ys)) nodes r j)) key
-        (λ j earlier. rw (laid-before number (key * nodes) nodes xs ys room size (j * nodes + r) (omega (arith, lt, mul-le-mul_right {m = j + 1} {n = key} nodes (omega (arith, earlier))))) (before.below r j lt earlier))
-        (rw (part-here number (key * nodes) nodes xs ys room size r lt) (now r lt)) k;
-    from = λ i le. laid-behind number (key * nodes) nodes xs ys room size i (omega (arith, le)) ∙ before.from i (omega (arith, le));
-  }
-
   pub planes-all : (xs : List ℕ) (keys key : ℕ) → ArePlanesChangedUpto changed nodes old xs key → keys ≤ key → ArePlanesChanged changed nodes keys old xs
   planes-all xs keys key is le = record { size = is.size; each = λ r k lt below. is.below r k lt (omega (arith, below, le)) }
 
@@ -126,8 +115,15 @@ pub planes-written : (changed : ℕ → ℕ → ℕ → ℕ → Type 0) (nodes :
 planes-written changed nodes old number xs ys key n in_block is before within now step =
     let room : key * nodes + nodes ≤ length xs = omega (arith, within, before.size, length-map xs number) in
     let block = plane-cells number nodes key n xs is room in
-    rw is (planes-next changed nodes old number xs ys key before room (omega (arith, length-map ys number, now.size, block.size))
-    (λ r lt. step r _ _ lt (subst (λ x. in_block r x (get_or (map number ys) r 0)) (block.each r lt ∙ before.from (key * nodes + r) (omega arith)) (now.each r (omega (arith, lt, block.size))))))
+    let size : length ys ≡ nodes = omega (arith, length-map ys number, now.size, block.size) in
+    let written = (λ (r : ℕ) (lt : r < nodes). step r (cell old nodes r key) (get_or (map number ys) r 0) lt (subst (λ x. in_block r x (get_or (map number ys) r 0)) (block.each r lt ∙ before.from (key * nodes + r) (omega arith)) (now.each r (omega (arith, lt, block.size))))) in
+    rw is (record {
+      size = laid-length number (key * nodes) nodes xs ys room size ∙ before.size;
+      below = λ r k lt. below_more (λ j. changed r j (cell old nodes r j) (cell (map number (put_mid (key * nodes) nodes xs ys)) nodes r j)) key
+          (λ j earlier. rw (laid-before number (key * nodes) nodes xs ys room size (j * nodes + r) (omega (arith, lt, mul-le-mul_right {m = j + 1} {n = key} nodes (omega (arith, earlier))))) (before.below r j lt earlier))
+          (rw (part-here number (key * nodes) nodes xs ys room size r lt) (written r lt)) k;
+      from = λ i le. laid-behind number (key * nodes) nodes xs ys room size i (omega (arith, le)) ∙ before.from i (omega (arith, le));
+    })
 
 -- the planes of the keys below a bound are changed, and so many places of them pass a test
 pub record ArePlanesCounted (changed : ℕ → ℕ → ℕ → ℕ → Type 0) (test : ℕ → ℕ → Bool) (nodes : ℕ) (old new : List ℕ) (bound passed : ℕ) : Type 0 where

@@ -16,14 +16,6 @@ module _ (changed : ℕ → ℕ → ℕ → Type 0) (old : List ℕ) where
   pub number-waits : {N : Type 0} (number : N → ℕ) (new : List N) (r : ℕ) (x : N) → AreChangedUpto changed old (map number new) r → r < length new → x ≡ get_or new r x → number x ≡ get_or old r 0
   number-waits number new r x before lt is = number-at number new r x lt is ∙ before.from r (omega arith)
 
-  changed_next : (new : List ℕ) (bound x : ℕ) → AreChangedUpto changed old new bound → bound < length old → changed bound (get_or old bound 0) x → AreChangedUpto changed old (set new bound x) (bound + 1)
-  changed_next new bound x is lt now = record {
-    size = length-set new bound x ∙ is.size;
-    below = below_more (λ k. changed k (get_or old k 0) (get_or (set new bound x) k 0)) bound
-        (λ r below. rw (get_or-set_other new bound r x 0 (λ e. omega (arith, e, below))) (is.below r below)) (rw (get_or-set_same new bound x 0 (omega (arith, lt, is.size))) now);
-    from = λ r le. get_or-set_other new bound r x 0 (λ e. omega (arith, e, le)) ∙ is.from r (omega (arith, le));
-  }
-
   pub changed_all : (new : List ℕ) (bound : ℕ) → AreChangedUpto changed old new bound → length old ≤ bound → AreChanged changed old new
   changed_all new bound is le = record { size = is.size; each = λ r lt. is.below r (omega (arith, lt, le)) }
 
@@ -38,7 +30,13 @@ module _ (changed : ℕ → ℕ → ℕ → Type 0) (old : List ℕ) where
   -- one more number is written
   pub written_next : {N : Type 0} (number : N → ℕ) (new : List N) (bound : ℕ) (x : N) → AreChangedUpto changed old (map number new) bound → bound < length old → changed bound (get_or old bound 0) (number x) → AreChangedUpto changed old (map number (set new bound x)) (bound + 1)
   written_next number new bound x is lt now =
-      rw (map-set number new bound x) (changed_next (map number new) bound (number x) is lt now)
+      let xs = map number new in
+      rw (map-set number new bound x) (record {
+        size = length-set xs bound (number x) ∙ is.size;
+        below = below_more (λ k. changed k (get_or old k 0) (get_or (set xs bound (number x)) k 0)) bound
+            (λ r below. rw (get_or-set_other xs bound r (number x) 0 (λ e. omega (arith, e, below))) (is.below r below)) (rw (get_or-set_same xs bound (number x) 0 (omega (arith, lt, is.size))) now);
+        from = λ r le. get_or-set_other xs bound r (number x) 0 (λ e. omega (arith, e, le)) ∙ is.from r (omega (arith, le));
+      })
 
   -- those that pass a test are counted
   module _ (test : ℕ → Bool) where

@@ -51,7 +51,8 @@ abbrev pub count_passing : ℕ → (ℕ → Bool) → ℕ
 count_passing bound test = sum_below bound (λ r. if test r then 1 else 0)
 
 -- the numbers below a bound are changed, and so many of them pass a test
-pub record AreCountedUpto (changed : ℕ → ℕ → ℕ → Type 0) (test : ℕ → Bool) (old new : List ℕ) (bound passed : ℕ) : Type 0 where
+pub record AreCountedUpto (changed : ℕ → ℕ → ℕ → Type 0) (test : ℕ → Bool) (old new : List ℕ)
+    (bound passed : ℕ) : Type 0 where
   pub numbers : AreChangedUpto changed old new bound
   pub count : passed ≡ count_passing bound test
 

@@ -1,7 +1,7 @@
 -- What an owner's writes keep through the calls that change them.
 -- Serves `OwnerWrites::begin_generation`, `OwnerWrites::numbered`, `OwnerWrites::write`, `owner_lists` and
 -- `version_tables`.
-use Rattle.owner_writes.proofs.Common.{◌≡◌, ℕ, ◌+◌, ◌-◌, ◌^◌, ◌<◌, List, [], ◌∷◌, ◌++◌, length, get_or, map, take, drop, inl, inr, refl, sym, ap, ◌∙◌, subst, arith, length-append, cases_lt, length-drop, length-map, map-append, append_assoc, append-nil, get_or_append_left, get_or-append_right, get_or_push, take-append-drop, take-append-le, drop-append-le, take_all, drop_all, All-append, Entry, AreNextAfter, mark_of, IsBefore, OwnerListView, entries_of, MarksRise, AreWrites, next_entry, with_write, begun_generation, view_by, IsKept}
+use Rattle.owner_writes.proofs.Common.{◌≡◌, ℕ, ◌+◌, ◌-◌, ◌^◌, ◌<◌, List, [], ◌∷◌, ◌++◌, length, get_or, map, take, drop, inl, inr, refl, sym, ap, ◌∙◌, subst, arith, length-append, cases_lt, length-drop, length-map, map-append, append_assoc, append-nil, get_or_append_left, get_or-append_right, get_or_push, take-append-drop, take-append-le, drop-append-le, take_all, drop_all, All-append, Entry, mark_of, IsBefore, OwnerListView, entries_of, MarksRise, AreWrites, next_entry, with_write, begun_generation, view_by, IsKept}
 
 -- marks stay in order where one is added above all
 rising_push : (es : List Entry) (e : Entry) → MarksRise es → ((i : ℕ) (d : Entry) → i < length es → IsBefore (mark_of (get_or es i d)) (mark_of e)) → MarksRise (es ++ e ∷ [])
@@ -17,30 +17,23 @@ module _ (v : OwnerListView) (is : AreWrites v) (key value born : ℕ) where
   e = next_entry v key value born
 
   below : (i : ℕ) (d : Entry) → i < length (entries_of v) → IsBefore (mark_of (get_or (entries_of v) i d)) (mark_of e)
-  below i d lt = elim (cases_lt i (length v.earlier)) [
-    | inl before ↦
-        let older = is.earlier i d before in
-        rw (get_or_append_left v.earlier v.current d i before) (record { generation = grind (arith, older); version = λ same. absurd (grind (arith, older, same)) })
-    | inr behind ↦
-        let within : i - length v.earlier < length v.current = omega (arith, lt, behind, length-append v.earlier v.current) in
-        let here = is.current (i - length v.earlier) d within in
-        rw (get_or-append_right v.earlier v.current (length v.earlier) i d refl behind) (record { generation = grind (arith, here.0); version = λ _. grind (arith, here.1, within) })
-  ]
+  below i d lt =
+      let older = is.earlier i d in
+      let newer = is.current (i - length v.earlier) d in
+      let front = get_or_append_left v.earlier v.current d i in
+      let behind = get_or-append_right v.earlier v.current (length v.earlier) i d refl in
+      let size = length-append v.earlier v.current in
+      record { generation = grind (arith, older, newer, front, behind); version = λ same. grind (arith, older, newer, front, behind) }
 
   pub writes_more : AreWrites (with_write v key value born)
   writes_more = record {
-    current = numbered;
+    current = λ i d lt.
+        let at = is.current i d in
+        let size = length-append v.current (e ∷ []) in
+        grind (arith, get_or_append_left v.current (e ∷ []) d i, get_or_push v.current e d i);
     earlier = is.earlier;
     rising = subst MarksRise (append_assoc v.earlier v.current (e ∷ [])) (rising_push (entries_of v) e is.rising below);
   }
-    where
-      numbered : AreNextAfter v.generation 0 (v.current ++ e ∷ [])
-      numbered i d lt = elim (cases_lt i (length v.current)) [
-        | inl before ↦ rw (get_or_append_left v.current (e ∷ []) d i before) (is.current i d before)
-        | inr behind ↦
-            let last : length v.current ≡ i = omega (arith, length-append v.current (e ∷ [])) in
-            rw (get_or_push v.current e d i last) (refl, omega (arith, last))
-      ]
 
 -- the next generation
 pub writes_begun : (v : OwnerListView) → AreWrites v → AreWrites (begun_generation v)

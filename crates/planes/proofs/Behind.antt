@@ -1,6 +1,6 @@
 -- The least of an owner's numbers that pass a test, key by key.
 -- Serves `least_above` and `least_behind`.
-use Rattle.planes.proofs.Common.{◌≡◌, ℕ, zero, suc, ◌+◌, ◌<◌, ◌≤◌, Bool, true, cond, nat_lt, List, ◌⊎◌, inl, inr, sym, ap, ◌∙◌, arith, below_more, cases_lt, cases_Bool, lt-ltb, ltb-true, AreChanged, IsLeastBehind, IsLowered, IsMade, Cells, HasEach, HasNoneAbove, IsNextAbove}
+use Rattle.planes.proofs.Common.{◌≡◌, ℕ, zero, suc, ◌+◌, ◌<◌, ◌≤◌, cond, nat_lt, List, ◌⊎◌, inl, inr, sym, ◌∙◌, arith, below_more, nat_tests, cases_lt, AreChanged, IsLeastBehind, IsLowered, IsMade, Cells, HasEach, HasNoneAbove, IsNextAbove, IsLeastAbove}
 use Rattle.planes.proofs.Elementwise.{lowered-to}
 use Rattle.planes.proofs.Places.{each-next, each-whole}
 
@@ -44,29 +44,16 @@ module _ (nodes most : ℕ) (values : ℕ → ℕ → ℕ) where
       let whole = each-whole (λ k r n. IsLeastOf most (values r) k n) nodes key keys xs le ge before in
       record { size = whole.size; each = λ r lt. step r _ (whole.each r lt) }
 
--- the least of those that pass
-module _ (most : ℕ) (numbers : ℕ → ℕ) (passes : ℕ → Bool) (keys least : ℕ) (is : IsLeastOf most (λ k. cond (passes k) (numbers k) most) keys least) where
-  least-found : (least ≡ most) ⊎ ((k : ℕ) × (k < keys) × (passes k ≡ true) × (numbers k ≡ least))
-  least-found = elim is.is [
-    | inl none ↦ inl none
-    | inr found ↦ elim (cases_Bool (passes found.0)) [
-      | inl passing ↦ inr (found.0, found.1, passing, sym (ap (λ b. cond b (numbers found.0) most) passing) ∙ found.2)
-      | inr failing ↦ inl (sym found.2 ∙ ap (λ b. cond b (numbers found.0) most) failing)
-    ]
-  ]
-
-  least-bounds : (k : ℕ) → k < keys → passes k ≡ true → (least ≤ numbers k) × (numbers k ≤ most)
-  least-bounds k lt passing =
-      let here = ap (λ b. cond b (numbers k) most) passing in
-      (omega (arith, is.no_less k lt, here), omega (arith, is.fits k lt, here))
-
 -- of those behind the last ones
 pub least_is-behind : (most : ℕ) (cells last : Cells) (keys owner least : ℕ) → IsLeastOf most (λ k. cond (nat_lt (cells owner k) (last owner k)) (cells owner k) most) keys least → IsLeastBehind most cells last keys owner least
 least_is-behind most cells last keys owner least is = record {
-  no_less = λ k lt behind. (least-bounds most (cells owner) (λ k. nat_lt (cells owner k) (last owner k)) keys least is k lt (lt-ltb (cells owner k) (last owner k) behind)).0;
-  is = elim (least-found most (cells owner) (λ k. nat_lt (cells owner k) (last owner k)) keys least is) [
-    | inl none ↦ inl none
-    | inr some ↦ inr (some.0, some.1, ltb-true (cells owner some.0) (last owner some.0) some.2, some.3)
+  no_less = λ k lt behind. let at = is.no_less k lt in grind (arith, nat_tests);
+  is = elim is.is [
+    | inl all ↦ inl all
+    | inr (k, lt, here) ↦ elim (cases_lt (cells owner k) (last owner k)) [
+      | inl behind ↦ inr (k, lt, behind, grind (arith, nat_tests))
+      | inr not_behind ↦ inl (grind (arith, nat_tests))
+    ]
   ];
 }
 
@@ -83,18 +70,21 @@ some_above cells owner mark (suc keys) = elim (cases_lt mark (cells owner keys))
 
 pub least_is-above : (most : ℕ) (cells : Cells) (keys owner mark least : ℕ) → IsLeastOf most (λ k. cond (nat_lt mark (cells owner k)) (cells owner k) most) keys least → IsNextAbove most cells keys owner mark least
 least_is-above most cells keys owner mark least is = elim (some_above cells owner mark keys) [
-  | inl none ↦ inl (none, elim found [ inl all ↦ all | inr some ↦ absurd (omega (arith, none some.0 some.1, ltb-true mark (cells owner some.0) some.2)) ])
-  | inr some ↦
-      let bounds = at some.0 some.1 some.2 in
-      inr (elim found [
-        | inl all ↦ let same : cells owner some.0 ≡ least = omega (arith, all, bounds.0, bounds.1) in
-            record { key = some.0; below = some.1; is = same; above = omega (arith, some.2, same); no_less = λ k lt over. (at k lt over).0 }
-        | inr one ↦ record { key = one.0; below = one.1; is = one.3; above = omega (arith, ltb-true mark (cells owner one.0) one.2, one.3); no_less = λ k lt over. (at k lt over).0 }
-      ])
+  | inl none ↦ inl (none, elim is.is [ inl all ↦ all | inr (k, lt, here) ↦ (let low = none k lt in grind (arith, nat_tests)) ])
+  | inr (some, in_keys, above) ↦ inr (elim is.is [
+    | inl all ↦ found some in_keys above (equal some in_keys above all)
+    | inr (k, lt, here) ↦ elim (cases_lt mark (cells owner k)) [
+      | inl over ↦ found k lt over (grind (arith, nat_tests))
+      | inr not_over ↦ found some in_keys above (equal some in_keys above (grind (arith, nat_tests)))
+    ]
+  ])
 ]
   where
-    found : (least ≡ most) ⊎ ((k : ℕ) × (k < keys) × (nat_lt mark (cells owner k) ≡ true) × (cells owner k ≡ least))
-    found = least-found most (cells owner) (λ k. nat_lt mark (cells owner k)) keys least is
+    no_less : (k : ℕ) → k < keys → mark < cells owner k → least ≤ cells owner k
+    no_less k lt over = let at = is.no_less k lt in grind (arith, nat_tests)
 
-    at : (k : ℕ) → k < keys → mark < cells owner k → (least ≤ cells owner k) × (cells owner k ≤ most)
-    at k lt over = least-bounds most (cells owner) (λ k. nat_lt mark (cells owner k)) keys least is k lt (lt-ltb mark (cells owner k) over)
+    equal : (k : ℕ) → k < keys → mark < cells owner k → least ≡ most → cells owner k ≡ least
+    equal k lt over all = let less = is.no_less k lt in let fits = is.fits k lt in grind (arith, nat_tests)
+
+    found : (k : ℕ) → k < keys → mark < cells owner k → cells owner k ≡ least → IsLeastAbove cells keys owner mark least
+    found k lt over here = record { key = k; below = lt; is = here; above = omega (arith, over, here); no_less = no_less }

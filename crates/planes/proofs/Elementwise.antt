@@ -1,23 +1,12 @@
 -- Lists that are changed element by element.
 -- Serves the functions of `grids`, `lags`, `merges`, `owners` and `planes`, `Behind`, `Places`, `delta_plans`,
 -- `version_lags` and `version_tables`.
-use Rattle.planes.proofs.Common.{◌≡◌, ℕ, ◌+◌, ◌<◌, ◌≤◌, List, length, [], ◌++◌, ◌-◌, get_or, set, map, min, take, replicate, refl, sym, ap, ◌∙◌, subst, arith, below_more, take-nil, get_or-set_same, get_or-set_other, length-set, get_or-map, get_or-replicate, length-map, length-replicate, map-set, Bool, cond, HasEach, AreChangedUpto, AreChanged, IsLowered, IsMade, AreCountedUpto}
+use Rattle.planes.proofs.Common.{◌≡◌, ℕ, ◌+◌, ◌<◌, ◌≤◌, List, length, ◌-◌, get_or, set, map, min, refl, sym, ap, ◌∙◌, subst, arith, below_more, get_or-set_same, get_or-set_other, length-set, get_or-map, length-map, map-set, Bool, cond, AreChangedUpto, AreChanged, IsLowered, IsMade, AreCountedUpto}
 use Rattle.planes.proofs.Counts.{count_next, count_same}
 
 -- what is read at an index, as a number
 pub number-at : {N : Type 0} (number : N → ℕ) (xs : List N) (r : ℕ) (x : N) → r < length xs → x ≡ get_or xs r x → number x ≡ get_or (map number xs) r 0
 number-at number xs r x lt is = ap number is ∙ sym (get_or-map number xs r x 0 lt)
-
--- an empty vector that is filled up
-pub filled : {N : Type 0} (count : ℕ) (x : N) (old new : List N) (len : ℕ) → old ≡ [] → len ≡ 0 → new ≡ take count old ++ replicate (count - len) x → new ≡ replicate count x
-filled count x old new len none empty is = rw (is, none, take-nil) (ap (λ n. replicate n x) {x = count - len} {y = count} (omega (arith, empty)))
-
--- the same number again and again
-pub all-same : {N : Type 0} (number : N → ℕ) (count : ℕ) (x : N) (xs : List N) → xs ≡ replicate count x → HasEach count (λ r n. n ≡ number x) (map number xs)
-all-same number count x xs is = rw is (record {
-  size = omega (arith, length-map (replicate count x) number, length-replicate count x);
-  each = λ r lt. get_or-map number (replicate count x) r x 0 (omega (arith, lt, length-replicate count x)) ∙ ap number (get_or-replicate count r x x lt);
-})
 
 module _ (changed : ℕ → ℕ → ℕ → Type 0) (old : List ℕ) where
   pub changed_none : AreChangedUpto changed old old 0
@@ -26,14 +15,6 @@ module _ (changed : ℕ → ℕ → ℕ → Type 0) (old : List ℕ) where
   -- what is read at an index whose turn is still to come
   pub number-waits : {N : Type 0} (number : N → ℕ) (new : List N) (r : ℕ) (x : N) → AreChangedUpto changed old (map number new) r → r < length new → x ≡ get_or new r x → number x ≡ get_or old r 0
   number-waits number new r x before lt is = number-at number new r x lt is ∙ before.from r (omega arith)
-
-  changed_next : (new : List ℕ) (bound x : ℕ) → AreChangedUpto changed old new bound → bound < length old → changed bound (get_or old bound 0) x → AreChangedUpto changed old (set new bound x) (bound + 1)
-  changed_next new bound x is lt now = record {
-    size = length-set new bound x ∙ is.size;
-    below = below_more (λ k. changed k (get_or old k 0) (get_or (set new bound x) k 0)) bound
-        (λ r below. rw (get_or-set_other new bound r x 0 (λ e. omega (arith, e, below))) (is.below r below)) (rw (get_or-set_same new bound x 0 (omega (arith, lt, is.size))) now);
-    from = λ r le. get_or-set_other new bound r x 0 (λ e. omega (arith, e, le)) ∙ is.from r (omega (arith, le));
-  }
 
   pub changed_all : (new : List ℕ) (bound : ℕ) → AreChangedUpto changed old new bound → length old ≤ bound → AreChanged changed old new
   changed_all new bound is le = record { size = is.size; each = λ r lt. is.below r (omega (arith, lt, le)) }
@@ -49,7 +30,13 @@ module _ (changed : ℕ → ℕ → ℕ → Type 0) (old : List ℕ) where
   -- one more number is written
   pub written_next : {N : Type 0} (number : N → ℕ) (new : List N) (bound : ℕ) (x : N) → AreChangedUpto changed old (map number new) bound → bound < length old → changed bound (get_or old bound 0) (number x) → AreChangedUpto changed old (map number (set new bound x)) (bound + 1)
   written_next number new bound x is lt now =
-      rw (map-set number new bound x) (changed_next (map number new) bound (number x) is lt now)
+      let xs = map number new in
+      rw (map-set number new bound x) (record {
+        size = length-set xs bound (number x) ∙ is.size;
+        below = below_more (λ k. changed k (get_or old k 0) (get_or (set xs bound (number x)) k 0)) bound
+            (λ r below. rw (get_or-set_other xs bound r (number x) 0 (λ e. omega (arith, e, below))) (is.below r below)) (rw (get_or-set_same xs bound (number x) 0 (omega (arith, lt, is.size))) now);
+        from = λ r le. get_or-set_other xs bound r (number x) 0 (λ e. omega (arith, e, le)) ∙ is.from r (omega (arith, le));
+      })
 
   -- those that pass a test are counted
   module _ (test : ℕ → Bool) where

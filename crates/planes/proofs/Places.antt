@@ -39,23 +39,6 @@ pub total-kept : (nodes keys : ℕ) (peer : ℕ → ℕ → ℕ) (low old new : 
 total-kept nodes keys peer low old new count is kept =
     is ∙ total-same nodes keys _ _ (λ r k in_nodes in_keys. let now = kept.each r k in_nodes in_keys in grind (arith, nat_tests))
 
--- a block that is written among planes
-module _ (start nodes : ℕ) (xs ys : List ℕ) (within : start + nodes ≤ length xs) (size : length ys ≡ nodes) where
-  front : length (take start xs) ≡ start
-  front = length-take-le start xs (omega (arith, within))
-
-  laid-before : (i : ℕ) → i < start → get_or (put_mid start nodes xs ys) i 0 ≡ get_or xs i 0
-  laid-before i lt = search (rules, places)
-
-  laid-here : (r : ℕ) → r < nodes → get_or (put_mid start nodes xs ys) (start + r) 0 ≡ get_or ys r 0
-  laid-here r lt = search (rules, places)
-
-  laid-behind : (i : ℕ) → start + nodes ≤ i → get_or (put_mid start nodes xs ys) i 0 ≡ get_or xs i 0
-  laid-behind i le = search (rules, places)
-
-  laid-length : length (put_mid start nodes xs ys) ≡ length xs
-  laid-length = omega (arith, length-append (take start xs) (ys ++ post_of start nodes xs), length-append ys (post_of start nodes xs), length-drop nodes (drop start xs), length-drop start xs, front, size, within)
-
 map-put_mid : {N : Type 0} (number : N → ℕ) (start nodes : ℕ) (xs ys : List N) → map number (put_mid start nodes xs ys) ≡ put_mid start nodes (map number xs) (map number ys)
 map-put_mid number start nodes xs ys = simp (map-append, take-map, drop-map)
 
@@ -67,42 +50,36 @@ module _ {N : Type 0} (number : N → ℕ) (start n : ℕ) (xs ys : List N) (wit
   size_of : length (map number ys) ≡ n
   size_of = length-map ys number ∙ size
 
+  laid-length : length (map number (put_mid start n xs ys)) ≡ length (map number xs)
+  laid-length = rw (map-put_mid number start n xs ys) (search (rules, places, room_for, size_of))
+
+  laid-before : (i : ℕ) → i < start → get_or (map number (put_mid start n xs ys)) i 0 ≡ get_or (map number xs) i 0
+  laid-before i lt = rw (map-put_mid number start n xs ys) (search (rules, places, room_for, size_of))
+
+  laid-behind : (i : ℕ) → start + n ≤ i → get_or (map number (put_mid start n xs ys)) i 0 ≡ get_or (map number xs) i 0
+  laid-behind i le = rw (map-put_mid number start n xs ys) (search (rules, places, room_for, size_of))
+
   pub part-here : (r : ℕ) → r < n → get_or (map number (put_mid start n xs ys)) (start + r) 0 ≡ get_or (map number ys) r 0
-  part-here r lt = ap (λ zs. get_or zs (start + r) 0) (map-put_mid number start n xs ys) ∙ laid-here start n (map number xs) (map number ys) room_for size_of r lt
+  part-here r lt = rw (map-put_mid number start n xs ys) (search (rules, places, room_for, size_of))
 
   pub part-written : (nodes : ℕ) (is : ℕ → ℕ → Type 0) → HasEach nodes is (map number xs) → ((r : ℕ) → r < n → is (start + r) (get_or (map number ys) r 0)) → HasEach nodes is (map number (put_mid start n xs ys))
-  part-written nodes is before now = rw (map-put_mid number start n xs ys) (record {
-    size = laid-length start n (map number xs) (map number ys) room_for size_of ∙ before.size;
+  part-written nodes is before now = record {
+    size = laid-length ∙ before.size;
     each = λ r lt. elim (cases_lt r start) [
-      | inl front ↦ rw (laid-before start n (map number xs) (map number ys) room_for size_of r front) (before.each r lt)
+      | inl front ↦ rw (laid-before r front) (before.each r lt)
       | inr not_front ↦ elim (cases_lt r (start + n)) [
-        | inr behind ↦ rw (laid-behind start n (map number xs) (map number ys) room_for size_of r (omega (arith, behind))) (before.each r lt)
+        | inr behind ↦ rw (laid-behind r (omega (arith, behind))) (before.each r lt)
         | inl here ↦
             let inside : r - start < n = omega (arith, not_front, here) in
-            subst (λ j. is j (get_or (put_mid start n (map number xs) (map number ys)) j 0)) {x = start + (r - start)} {y = r} (omega (arith, not_front))
-            (rw (laid-here start n (map number xs) (map number ys) room_for size_of (r - start) inside) (now (r - start) inside))
+            subst (λ j. is j (get_or (map number (put_mid start n xs ys)) j 0)) {x = start + (r - start)} {y = r} (omega (arith, not_front)) (rw (part-here (r - start) inside) (now (r - start) inside))
       ]
     ];
-  })
+  }
 
 -- one more plane is changed
 module _ (changed : ℕ → ℕ → ℕ → ℕ → Type 0) (nodes : ℕ) (old : List ℕ) where
   pub planes-none : ArePlanesChangedUpto changed nodes old old 0
   planes-none = record { size = refl; below = λ r k lt below. absurd (omega (arith, below)); from = λ i le. refl }
-
-  planes-next : (xs ys : List ℕ) (key : ℕ) → ArePlanesChangedUpto changed nodes old xs key → key * nodes + nodes ≤ length old
-      → length ys ≡ nodes → ((r : ℕ) → r < nodes → changed r key (cell old nodes r key) (get_or ys r 0))
-      → ArePlanesChangedUpto changed nodes old (put_mid (key * nodes) nodes xs ys) (key + 1)
-  planes-next xs ys key before within size now = record {
-    size = laid-length (key * nodes) nodes xs ys room size ∙ before.size;
-    below = λ r k lt. below_more (λ j. changed r j (cell old nodes r j) (cell (put_mid (key * nodes) nodes xs ys) nodes r j)) key
-        (λ j earlier. rw (laid-before (key * nodes) nodes xs ys room size (j * nodes + r) (omega (arith, lt, mul-le-mul_right {m = j + 1} {n = key} nodes (omega (arith, earlier))))) (before.below r j lt earlier))
-        (rw (laid-here (key * nodes) nodes xs ys room size r lt) (now r lt)) k;
-    from = λ i le. laid-behind (key * nodes) nodes xs ys room size i (omega (arith, le)) ∙ before.from i (omega (arith, le));
-  }
-    where
-      room : key * nodes + nodes ≤ length xs
-      room = omega (arith, within, before.size)
 
   pub planes-all : (xs : List ℕ) (keys key : ℕ) → ArePlanesChangedUpto changed nodes old xs key → keys ≤ key → ArePlanesChanged changed nodes keys old xs
   planes-all xs keys key is le = record { size = is.size; each = λ r k lt below. is.below r k lt (omega (arith, below, le)) }
@@ -138,9 +115,15 @@ pub planes-written : (changed : ℕ → ℕ → ℕ → ℕ → Type 0) (nodes :
 planes-written changed nodes old number xs ys key n in_block is before within now step =
     let room : key * nodes + nodes ≤ length xs = omega (arith, within, before.size, length-map xs number) in
     let block = plane-cells number nodes key n xs is room in
-    rw (is, map-put_mid number (key * nodes) nodes xs ys)
-    (planes-next changed nodes old (map number xs) (map number ys) key before within (now.size ∙ block.size)
-    (λ r lt. step r _ _ lt (subst (λ x. in_block r x (get_or (map number ys) r 0)) (block.each r lt ∙ before.from (key * nodes + r) (omega arith)) (now.each r (omega (arith, lt, block.size))))))
+    let size : length ys ≡ nodes = omega (arith, length-map ys number, now.size, block.size) in
+    let written = (λ (r : ℕ) (lt : r < nodes). step r (cell old nodes r key) (get_or (map number ys) r 0) lt (subst (λ x. in_block r x (get_or (map number ys) r 0)) (block.each r lt ∙ before.from (key * nodes + r) (omega arith)) (now.each r (omega (arith, lt, block.size))))) in
+    rw is (record {
+      size = laid-length number (key * nodes) nodes xs ys room size ∙ before.size;
+      below = λ r k lt. below_more (λ j. changed r j (cell old nodes r j) (cell (map number (put_mid (key * nodes) nodes xs ys)) nodes r j)) key
+          (λ j earlier. rw (laid-before number (key * nodes) nodes xs ys room size (j * nodes + r) (omega (arith, lt, mul-le-mul_right {m = j + 1} {n = key} nodes (omega (arith, earlier))))) (before.below r j lt earlier))
+          (rw (part-here number (key * nodes) nodes xs ys room size r lt) (written r lt)) k;
+      from = λ i le. laid-behind number (key * nodes) nodes xs ys room size i (omega (arith, le)) ∙ before.from i (omega (arith, le));
+    })
 
 -- the planes of the keys below a bound are changed, and so many places of them pass a test
 pub record ArePlanesCounted (changed : ℕ → ℕ → ℕ → ℕ → Type 0) (test : ℕ → ℕ → Bool) (nodes : ℕ) (old new : List ℕ) (bound passed : ℕ) : Type 0 where

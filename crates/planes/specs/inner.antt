@@ -1,4 +1,2 @@
-pub mod Answering
-pub mod Counting
+pub mod Loops
 pub mod Owners
-pub mod Sizes

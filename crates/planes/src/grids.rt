@@ -3,11 +3,8 @@
 
 ghost use Rattle.std.specs.Prelude.{◌≡◌, ℕ, ◌+◌, ◌*◌, ◌<◌, ◌≤◌, ◌&&◌, Bool, length, map, max, nat_le, nat_lt, slice_index, IfOk, IsOkUnless, if◌then◌else◌};
 ghost use Rattle.bench_types.specs.declared.faults.Fault.TheVariants.{OutOfMemory};
-ghost use Rattle.bench_types.specs.declared.limits.TheConstants.{MOST_NODES, MOST_KEYS};
-ghost use Rattle.planes.specs.Elementwise.{AreChanged};
 ghost use Rattle.planes.specs.Planes.{count_above, cell, number_ahead, total_above, total_of, AreCovered, ArePlanesChanged, AreSentTaken, HasEach, HasEachPlace, IsGrid, IsNextAbove, MayTake, count_between};
-ghost use Rattle.bench_types.specs.Sums.{sum_below};
-ghost use Rattle.planes.specs.inner.Answering.{AnswersAs, IsLowered};
+ghost use Rattle.planes.specs.inner.Loops.{AnswersAs, IsLowered};
 
 use crate::numbers::Number;
 use crate::owners::{FEW_TO_CHANGE, FEW_TO_COUNT};

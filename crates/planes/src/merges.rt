@@ -1,11 +1,10 @@
 //! Two tables that take of each other all that is above their marks, both ways in one pass.
 
-ghost use Rattle.std.specs.Prelude.{◌≡◌, ℕ, ◌+◌, ◌-◌, ◌≤◌, List, length, map, max, min, nat_lt, slice_index};
+ghost use Rattle.std.specs.Prelude.{◌≡◌, ℕ, ◌+◌, ◌-◌, ◌≤◌, List, length, map, max, min, slice_index};
 ghost use Rattle.bench_types.specs.declared.limits.TheConstants.{MOST_NODES, MOST_KEYS};
 ghost use Rattle.planes.specs.Elementwise.{AreChanged};
 ghost use Rattle.planes.specs.Planes.{most_ahead, AreBothCovered, AreBothRaised};
-ghost use Rattle.planes.specs.inner.Counting.{AreRaisedUpto};
-ghost use Rattle.planes.specs.inner.Sizes.{AreBothMarked, IsPart};
+ghost use Rattle.planes.specs.inner.Loops.{AreBothMarked, AreRaisedUpto, IsPart};
 
 use crate::numbers::Number;
 use crate::owners::FEW_TO_CHANGE;

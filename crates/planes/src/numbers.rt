@@ -55,7 +55,6 @@ pub trait Number: Copy {
 }
 
 impl Number for u8 {
-    ghost use Rattle.std.specs.Prelude.{ℕ};
     ghost use Rattle.std.proofs.Common.{rules};
 
     ghost number = { λ n. n };
@@ -127,7 +126,6 @@ impl Model for Short {
 }
 
 impl Number for Short {
-    ghost use Rattle.std.specs.Prelude.{ℕ};
     ghost use Rattle.std.proofs.Common.{rules};
 
     ghost number = { λ n. n };
@@ -186,7 +184,6 @@ impl Number for Short {
 }
 
 impl Number for u32 {
-    ghost use Rattle.std.specs.Prelude.{ℕ};
     ghost use Rattle.std.proofs.Common.{rules};
 
     ghost number = { λ n. n };

@@ -3,9 +3,7 @@
 ghost use Rattle.std.specs.Prelude.{◌≡◌, ℕ, ◌+◌, ◌<◌, ◌≤◌, ◌&&◌, Bool, List, length, map, max, nat_le, nat_lt, slice_index, if◌then◌else◌};
 ghost use Rattle.bench_types.specs.declared.limits.TheConstants.{MOST_NODES};
 ghost use Rattle.planes.specs.Elementwise.{AreChanged};
-ghost use Rattle.planes.specs.inner.Answering.{AnswersAs, IsMade, MakesAs};
-ghost use Rattle.planes.specs.inner.Counting.{count_less, count_passing, AreCountedUpto};
-ghost use Rattle.planes.specs.inner.Sizes.{IsPart, IsSentPlane};
+ghost use Rattle.planes.specs.inner.Loops.{AnswersAs, AreCountedUpto, IsMade, IsPart, IsSentPlane, MakesAs, count_passing};
 ghost use Rattle.planes.specs.Planes.{number_taken};
 
 use crate::numbers::Number;
@@ -157,7 +155,8 @@ fn how_many_of<N: Number, F: Fn(usize, N) -> bool>(
 pub fn how_many_above<N: Number>(plane: &[N], low: &[N]) -> u32
     requires low { length low.now ≡ length plane.now }
     requires room { length plane.now ≤ MOST_NODES }
-    ensures { result ≡ count_less (length plane.now) (map N.number low.now) (map N.number plane.now) }
+    ensures { result ≡ count_passing (length plane.now)
+        (λ r. nat_lt (slice_index (map N.number low.now) r) (slice_index (map N.number plane.now) r)) }
 {
     how_many(plane, |r, number| number.is_above(low[r]))
 }

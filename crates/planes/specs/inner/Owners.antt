@@ -16,8 +16,8 @@ pub record IsOwnerOf (nodes keys owner size : ℕ) : Type 0 where
   pub within : owner < nodes
 
 -- an owner's numbers once they were raised to those of another table that are above a mark, and so many are
-pub record HasRaisedOwner {N : Type 0} (number : N → ℕ) (nodes keys owner : ℕ) (others : List N) (low : N) (old new : List N)
-    (raised : ℕ) : Type 0 where
+pub record HasRaisedOwner {N : Type 0} (number : N → ℕ) (nodes keys owner : ℕ) (others : List N) (low : N)
+    (old new : List N) (raised : ℕ) : Type 0 where
   pub cells : ArePlanesChanged (λ r k x y. y ≡ (if r == owner then number_raised x (cell (map number others) nodes r k)
       (number low) else x)) nodes keys (map number old) (map number new)
   pub count : raised ≡ count_above (cell (map number others) nodes) keys owner (number low)

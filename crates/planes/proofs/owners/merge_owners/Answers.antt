@@ -1,6 +1,7 @@
 use Rattle.planes.proofs.Common.{sym, ◌∙◌, arith, ltb-false, ltb-true}
 use Rattle.planes.proofs.Elementwise.{number-at}
-use Rattle.planes.proofs.ByOwner.{come-none, come-next, come-passed, come-fits}
+use Rattle.planes.proofs.Counts.{sum_whole}
+use Rattle.planes.proofs.ByOwner.{come-none, come-next, come-passed, come-fits, owners-all}
 use Rattle.planes.proofs.owners.merge_owners.Goals as goal
 use Rattle.planes.proofs.owners.merge_owners.Goals.{then-is_above, else-is_above+then-is_above-2, else-is_above+else-is_above-2}
 
@@ -44,3 +45,11 @@ overflow_add-to_second g c =
     let at_second = number-at g.N.Number.number c.args.marks.second.now c.loop-owner.owner c.index-second_low-owner.result (omega (arith, c.loop-owner-test.true, c.requires.marked.second_low)) c.index-second_low-owner.is in
     come-fits _ _ _ _ _ c.loop-owner.owner _ _ _ c.requires.marked.grid c.loop-owner-test.true
     (come-next _ _ _ _ _ g.N.Number.number _ _ _ _ _ _ _ _ _ c.loop-owner-test.true c.loop-owner.invariant.first c.loop-owner.invariant.second at_second c.raise_owner-to_second.ensures)
+
+pub returns : goal.returns
+returns g c = record {
+  first = owners-all _ _ _ _ c.loop-owner.owner _ c.loop-owner-test.false c.loop-owner.invariant.first.cells;
+  second = owners-all _ _ _ _ c.loop-owner.owner _ c.loop-owner-test.false c.loop-owner.invariant.second.cells;
+  first_count = sum_whole _ c.loop-owner.owner _ _ c.loop-owner.invariant.first.count c.loop-owner-test.false c.loop-owner.auto.owner-end;
+  second_count = sum_whole _ c.loop-owner.owner _ _ c.loop-owner.invariant.second.count c.loop-owner-test.false c.loop-owner.auto.owner-end;
+}

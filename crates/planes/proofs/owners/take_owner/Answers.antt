@@ -1,4 +1,4 @@
-use Rattle.planes.proofs.Common.{◌≡◌, ℕ, ◌+◌, ◌*◌, ◌<◌, ◌&&◌, nat_lt, nat_le, max, sym, ap, ◌∙◌, arith, rules, map, length, length-map, get_or-map, cell, number_taken}
+use Rattle.planes.proofs.Common.{◌≡◌, ℕ, ◌+◌, ◌*◌, ◌<◌, ◌&&◌, nat_lt, nat_le, max, sym, ap, ◌∙◌, arith, rules, map, length, length-map, get_or-map, cell}
 use Rattle.planes.proofs.Elementwise.{number-at}
 use Rattle.planes.proofs.Places.{plane-within, planes-none, planes-all, raised-none, raised-next}
 use Rattle.planes.proofs.ByOwner.{owner-next, owner-stays, taken-none, taken-some}

@@ -1,5 +1,5 @@
 -- How long a table's copy has been behind, and whether it is left over, by the number of what it holds.
--- Serves `Walks` and `Whole`.
+-- Serves `Parts`, `Walks` and `Whole`.
 use Rattle.version_lags.proofs.Common.{◌≡◌, ℕ, ◌<◌, false, ◌&&◌, List, [], length, Some, if◌then◌else◌, inl, inr, sym, ap, ◌∙◌, subst, arith, nat_lt, nat_le, cases_lt, cases_eq, le-ltb, lt-ltb, eq-eqb, ne_eqb, lt-leb, Entry, mark_held, Table, entry_at, IsProper, table_of_node, OwnerListView, entries_of, list_of_owner, lists_in, no_writes, write_numbered, list_read, StandsBeside, generation_at, staleness_of, staleness_at, is_left_over, leftover_at, stale_count}
 use Rattle.version_lags.specs.Missed.{base_of, IsNumberAt, number_staleness, IsLastNumber}
 use Rattle.version_lags.specs.Pieces.{keys_in, StandTogether, MayBeCounted}

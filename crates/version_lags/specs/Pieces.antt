@@ -114,15 +114,12 @@ abbrev pub Counts : {N : Type 0} → (N → ℕ) → RoundNumbers N → ℕ → 
 Counts number numbers from to result =
     IfOk result (λ piece. CountsPiece number numbers from to piece.stale piece.leftover (map number piece.least.items)) × IsOkUnless result OutOfMemory
 
--- grids, and no write is of an earlier generation where no node has forgotten
-pub record IsCount {N : Type 0} (number : N → ℕ) (count : Numbers N) : Type 0 where
+-- the tables from one on up to another are counted: grids, and no write is of an earlier generation where no node has
+-- forgotten
+pub record MayCount {N : Type 0} (number : N → ℕ) (count : Numbers N) (from to : ℕ) : Type 0 where
   pub grids : AreGrids number count.numbers
   pub forgot : IsFalse count.forgot → (r : ℕ) → r < length count.numbers.lists.now → slice_index (map number count.numbers.bases.now) r ≡ 0
   pub some : 1 ≤ count.size
-
--- and there are tables from one on up to another
-pub record MayCount {N : Type 0} (number : N → ℕ) (count : Numbers N) (from to : ℕ) : Type 0 where
-  pub is : IsCount number count
   pub rises : from ≤ to
   pub within : to ≤ length count.numbers.lists.now
 

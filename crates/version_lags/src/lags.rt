@@ -5,10 +5,10 @@ ghost use Rattle.bench_types.specs.declared.faults.Fault.TheVariants.{OutOfMemor
 ghost use Rattle.model.specs.Table.{Table};
 ghost use Rattle.model.specs.calls.OwnerListView.{list_of_owner, lists_in};
 ghost use Rattle.planes.specs.Lags.{IsLeastBehind};
-ghost use Rattle.planes.specs.Planes.{cell, total_of, HasEach};
+ghost use Rattle.planes.specs.Planes.{cell, HasEach};
 ghost use Rattle.bench_types.specs.Sums.{most_below};
 ghost use Rattle.model.specs.Figures.{figures_of};
-ghost use Rattle.version_lags.specs.Pieces.{AreGrids, AreRoundNumbers, Counts, IsCount, MayCount, MayWalk, WalksFrom, is_left, most_lag};
+ghost use Rattle.version_lags.specs.Pieces.{AreGrids, AreRoundNumbers, Counts, MayCount, MayWalk, WalksFrom, most_lag};
 
 use bench_types::{Fault, Figures};
 use owner_writes::OwnerWrites;
@@ -61,20 +61,6 @@ struct Numbers<'a, N: Number> {
 }
 
 impl<'a, N: Number + Send + Sync> Numbers<'a, N> {
-    fn left_over(&self, table: &[N]) -> u32
-        requires is { IsCount N.number self.now }
-        requires table { length table.now ≡ length self.now.numbers.last.now }
-        ensures { result ≡ total_of (length self.now.numbers.lists.now) self.now.numbers.keys
-            (is_left N.number self.now.numbers (map N.number table.now)) }
-    {
-        if self.forgot {
-            let numbers = self.numbers;
-            total_upto(table, numbers.lists.len(), numbers.keys, numbers.bases)
-        } else {
-            0
-        }
-    }
-
     fn piece_of(&self, alloc: Global, from: usize, to: usize) -> Result<Piece<N>, Fault>
         requires { MayCount N.number self.now from to }
         ensures { Counts N.number self.now.numbers from to result }
@@ -88,7 +74,9 @@ impl<'a, N: Number + Send + Sync> Numbers<'a, N> {
             let here = numbers.cells[at];
             let behind = count_behind(&mut least, here, numbers.last, nodes, numbers.keys);
             stale += u64::from(behind);
-            leftover += u64::from(self.left_over(here));
+            if self.forgot {
+                leftover += u64::from(total_upto(here, nodes, numbers.keys, numbers.bases));
+            }
         }
         Ok(Piece {
             stale,

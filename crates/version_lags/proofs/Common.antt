@@ -1,7 +1,7 @@
 -- The names of other libraries that these proofs cite, passed on from one place. Declares nothing.
-pub use Rattle.std.proofs.Common.{Bool, List, None, Option, Some, [], ap, arith, below_more, cond, eqb, false, get_or, if◌then◌else◌, inl, inr, length, length-append, ltb, map, max, min, option_map, refl, reverse, rules, slice_index, subst, suc, sym, true, zero, ℕ, ◌&&◌, ◌*◌, ◌+◌, ◌-◌, ◌<◌, ◌∙◌, ◌≡◌, ◌≤◌, ◌⊎◌}
+pub use Rattle.std.proofs.Common.{Bool, List, None, Option, Some, [], ap, arith, below_more, cond, eqb, false, get_or, if◌then◌else◌, inl, inr, length, length-append, ltb, map, max, min, option_map, refl, reverse, rules, slice_index, subst, suc, sym, zero, ℕ, ◌&&◌, ◌*◌, ◌+◌, ◌-◌, ◌<◌, ◌∙◌, ◌≡◌, ◌≤◌, ◌⊎◌}
 pub use Rattle.std.proofs.Math.Nat.{mul-le-mul_right}
-pub use Rattle.std.proofs.lemmas.Bool.{and_parts, both_ways, cases_eq, cases_lt, eq-eqb, eqb-true, le-leb, le-ltb, lt-leb, lt-ltb, ltb-false, ltb-true, ne_eqb}
+pub use Rattle.std.proofs.lemmas.Bool.{and_parts, both_ways, cases_eq, cases_lt, eq-eqb, eqb-true, le-leb, le-ltb, leb-true, lt-leb, lt-ltb, ltb-false, ltb-true, ne_eqb}
 pub use Rattle.std.proofs.lemmas.List.{get_or-append_right, get_or-map, get_or-reverse, get_or_append_left, get_or_default, length-map, length-reverse, with_items_is}
 pub use Rattle.std.proofs.lemmas.List.Folds.{find_at}
 pub use Rattle.std.proofs.lemmas.List.Sums.{fails_before_first, passes_at_first}
@@ -37,5 +37,5 @@ pub use Rattle.owner_writes.specs.declared.writes.Kept.{Kept}
 pub use Rattle.planes.proofs.Counts.{count_le, sum_next}
 pub use Rattle.planes.proofs.Elementwise.{number-at}
 pub use Rattle.planes.specs.Lags.{IsLeastBehind}
-pub use Rattle.planes.specs.Planes.{ArePlanesChanged, HasEach, HasEachPlace, cell, total_of}
+pub use Rattle.planes.specs.Planes.{ArePlanesChanged, HasEach, HasEachPlace, IsGrid, cell, total_of}
 pub use Rattle.round_tables.specs.Histories.{BirthsRise, StandsBeside}

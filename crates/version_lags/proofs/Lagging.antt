@@ -25,11 +25,11 @@ module _ (v : OwnerListView) (are : AreWrites v) where
     -- a copy is stale just where its number is below the last one
     pub stale_by_number : (last c : ℕ) → IsLastNumber v key last → c ≤ length all → stale_count (number_staleness round v key c) ≡ (if nat_lt c last then 1 else 0)
     stale_by_number last c is within = elim (cases_lt c last) [
-      | inl below ↦ (elim (missed_cases v are rise key c within round) [
+      | inl below ↦ rw (lt-ltb c last below) (elim (missed_cases v are rise key c within round) [
         | inl none ↦ let there = is.there c below in absurd (none.0 last there.0 there.1)
         | inr found ↦ ap stale_count found.staleness
-      ]) ∙ sym (ap {B = ℕ} (λ b. if b then 1 else 0) (lt-ltb c last below))
-      | inr not_below ↦ ap stale_count (last_fresh last c is not_below within) ∙ sym (ap {B = ℕ} (λ b. if b then 1 else 0) (le-ltb c last not_below))
+      ])
+      | inr not_below ↦ rw (le-ltb c last not_below) (ap stale_count (last_fresh last c is not_below within))
     ]
 
     -- no longer than since any write that may be missed, and as long as since each that is
@@ -75,15 +75,12 @@ module _ (v : OwnerListView) (are : AreWrites v) where
       let d : Entry = record { key = 0; generation = 0; version = 0; value = 0; born = 0 } in
       let e = get_or all i d in
       let is = write_from-here all i d (omega (arith, le)) in
-      ap (is_left_over v.generation) is
-      ∙ elim (cases_lt i (base_of v)) [
-        | inl earlier ↦
-            lt-ltb e.generation v.generation (omega (arith, are.earlier i d earlier, ap (λ (x : Entry). x.generation) (get_or_append_left v.earlier v.current d i earlier)))
-            ∙ sym (λ k. lt-ltb 0 (suc i) (omega arith) k && le-leb (suc i) (base_of v) (omega (arith, earlier)) k)
-        | inr later ↦
-            le-ltb e.generation v.generation (omega (arith, (current-numbered v are (suc i) e is (omega (arith, later))).generation))
-            ∙ sym (λ k. lt-ltb 0 (suc i) (omega arith) k && lt-leb (suc i) (base_of v) (omega (arith, later)) k)
-      ]
+      rw is (elim (cases_lt i (base_of v)) [
+        | inl earlier ↦ rw (lt-ltb 0 (suc i) (omega arith), le-leb (suc i) (base_of v) (omega (arith, earlier)))
+            (lt-ltb e.generation v.generation (omega (arith, are.earlier i d earlier, ap (λ (x : Entry). x.generation) (get_or_append_left v.earlier v.current d i earlier))))
+        | inr later ↦ rw (lt-ltb 0 (suc i) (omega arith), lt-leb (suc i) (base_of v) (omega (arith, later)))
+            (le-ltb e.generation v.generation (omega (arith, (current-numbered v are (suc i) e is (omega (arith, later))).generation)))
+      ])
 
   -- the last write of a key has the number of each other one, or a greater one
   last-from : (m : ℕ) (e : Entry) → write_numbered all m ≡ Some e → base_of v < m → (w : Write) × ((last_write (written v) e.key ≡ Some w) × (m ≤ base_of v + w.version))

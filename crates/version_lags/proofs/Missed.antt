@@ -1,6 +1,6 @@
 -- The first write that a copy misses, by numbers.
 -- Serves `Lagging` and `Walks`.
-use Rattle.version_lags.proofs.Common.{◌≡◌, ℕ, zero, suc, ◌+◌, ◌-◌, ◌<◌, ◌≤◌, Bool, true, eqb, ltb, ◌&&◌, List, length, get_or, Some, None, ◌⊎◌, option_map, inl, inr, refl, sym, ap, ◌∙◌, arith, length-append, position_or_len, find_at, fails_before_first, passes_at_first, slice_get_cases, cases_lt, lt-ltb, ltb-true, eq-eqb, eqb-true, and_parts, both_ways, get_or-append_right, get_or-map, length-map, Entry, absent, mark_of, mark_held, is_before, before-yes, Write, write_of_entry, OwnerListView, entries_of, written, AreWrites, write_numbered, write_from-here, BirthsRise, numbered-placed, numbered-within, numbers-compare}
+use Rattle.version_lags.proofs.Common.{◌≡◌, ℕ, zero, suc, ◌+◌, ◌-◌, ◌<◌, ◌≤◌, Bool, eqb, ltb, ◌&&◌, List, length, get_or, Some, None, ◌⊎◌, option_map, inl, inr, refl, sym, ap, ◌∙◌, arith, length-append, position_or_len, find_at, fails_before_first, passes_at_first, slice_get_cases, cases_lt, lt-ltb, ltb-true, eq-eqb, eqb-true, and_parts, both_ways, get_or-append_right, get_or-map, length-map, Entry, absent, mark_of, mark_held, is_before, before-yes, Write, write_of_entry, OwnerListView, entries_of, written, AreWrites, write_numbered, write_from-here, BirthsRise, numbered-placed, numbered-within, numbers-compare}
 use Rattle.version_lags.specs.Missed.{base_of, number_staleness, IsMissed, IsFirstMissed, HasNoneMissed}
 
 -- births don't fall with the numbers
@@ -64,15 +64,6 @@ module _ (v : OwnerListView) (are : AreWrites v) where
           ap (λ g. eqb e.key key && is_before (mark_held (write_numbered all c)) (record { generation = g; version = e.version })) (sym at.generation)
           ∙ ap (λ b. eqb e.key key && b) (before-number c m e le is at)
 
-      missed_passes : (m : ℕ) (e : Entry) → IsMissed v key c m e → test (write_of_entry e) ≡ true
-      missed_passes m e missed =
-          tested m e missed.written (current-numbered m e missed.written missed.current) ∙ (λ i. eq-eqb e.key key missed.keyed i && lt-ltb c m missed.over i)
-
-      passes_missed : (m : ℕ) (e : Entry) → write_numbered all m ≡ Some e → IsCurrent m e → test (write_of_entry e) ≡ true → IsMissed v key c m e
-      passes_missed m e is at passes =
-          let parts = and_parts (eqb e.key key) (ltb c m) (sym (tested m e is at) ∙ passes) in
-          record { written = is; current = omega (arith, at.is); keyed = eqb-true e.key key parts.0; over = ltb-true c m parts.1 }
-
       abbrev first : ℕ
       first = position_or_len test (written v)
 
@@ -82,7 +73,7 @@ module _ (v : OwnerListView) (are : AreWrites v) where
           let at = current-numbered m e missed.written missed.current in
           let w = write_of_entry e in
           elim (cases_lt at.place first) [
-            | inl before ↦ absurd (both_ways (test (get_or (written v) at.place w)) (fails_before_first test (written v) at.place w before) (ap test (at.there w) ∙ missed_passes m e missed))
+            | inl before ↦ absurd (both_ways (test (get_or (written v) at.place w)) (fails_before_first test (written v) at.place w before) (ap test (at.there w) ∙ tested m e missed.written at ∙ (λ i. eq-eqb e.key key missed.keyed i && lt-ltb c m missed.over i)))
             | inr behind ↦ omega (arith, at.is, behind)
           ]
 
@@ -103,11 +94,13 @@ module _ (v : OwnerListView) (are : AreWrites v) where
             let is = write_from-here all (base + first) d (omega (arith, found.1, length-map v.current write_of_entry, length-append v.earlier v.current)) in
             let at = current-numbered (suc (base + first)) e is (omega arith) in
             let there : w ≡ write_of_entry e = sym found.3 ∙ ap (λ i. get_or (written v) i w) {x = first} {y = at.place} (omega (arith, at.is)) ∙ at.there w in
+            let passes = sym (tested (suc (base + first)) e is at) ∙ ap test (sym there ∙ sym found.3) ∙ passes_at_first test (written v) w found.1 in
+            let parts = and_parts (eqb e.key key) (ltb c (suc (base + first))) passes in
             inr (record {
               number = suc (base + first);
               e = e;
               first = record {
-                missed = passes_missed (suc (base + first)) e is at (ap test (sym there ∙ sym found.3) ∙ passes_at_first test (written v) w found.1);
+                missed = record { written = is; current = omega arith; keyed = eqb-true e.key key parts.0; over = ltb-true c (suc (base + first)) parts.1 };
                 first = none_before;
               };
               staleness = ap (option_map (λ (x : Write). round - x.born + 1)) (find_at test (written v) ∙ found.2) ∙ ap (λ (x : Write). Some (round - x.born + 1)) there;

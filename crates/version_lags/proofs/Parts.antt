@@ -1,8 +1,9 @@
 -- Pieces of tables as code counts them, table by table and part by part.
 -- Serves `+rest`, `Numbers::piece_of`, `figures` and `Whole`.
-use Rattle.version_lags.proofs.Common.{◌≡◌, ℕ, zero, suc, ◌+◌, ◌*◌, ◌<◌, ◌≤◌, min, Bool, cond, List, [], length, get_or, map, sym, ap, ◌∙◌, arith, Bor, get_or-map, length-map, MOST_NODES, MOST_KEYS, Table, sum_below, total_of, ArePlanesChanged, sum_below-most, count_le, sum_next}
+use Rattle.version_lags.proofs.Common.{◌≡◌, ℕ, zero, suc, ◌+◌, ◌*◌, ◌<◌, ◌≤◌, min, Bool, cond, List, [], length, get_or, map, slice_index, sym, ap, ◌∙◌, arith, Bor, get_or-map, length-map, MOST_NODES, MOST_KEYS, Table, sum_below, total_of, ArePlanesChanged, sum_below-most, count_le, sum_next}
 use Rattle.version_lags.specs.declared.lags.RoundNumbers.{RoundNumbers}
 use Rattle.version_lags.specs.Pieces.{StandTogether, numbers_in, table_at, cells_in, last_cells, is_stale, is_left, total_below, AreGrids, AreNumbersOf, IsTotal, least_below, CountsPiece}
+use Rattle.version_lags.proofs.Pieces.{none_upto}
 
 -- the numbers of tables make grids
 pub grids-of : {N : Type 0} (number : N → ℕ) (numbers : RoundNumbers N) (tables : List Table) → StandTogether tables numbers.lists.now
@@ -42,6 +43,19 @@ module _ {N : Type 0} (number : N → ℕ) (numbers : RoundNumbers N) (grids : A
       let read = sym (get_or-map (λ y. map number y.now) numbers.cells.now p d [] (omega (arith, lt, grids.count))) in
       (read, sym (length-map (get_or numbers.cells.now p d).now number) ∙ ap length read ∙ grids.alike p lt)
 
+  -- where no node has forgotten, nothing is left over
+  pub none_left : (table : List ℕ) → ((r : ℕ) → r < length numbers.lists.now → slice_index (map number numbers.bases.now) r ≡ 0) → total_of (length numbers.lists.now) numbers.keys (is_left number numbers table) ≡ 0
+  none_left table none =
+      let left = λ (r k : ℕ). cond {A = ℕ} (is_left number numbers table r k) 1 0 in
+      omega (
+        arith,
+        sum_below-most (λ r. sum_below numbers.keys (left r)) (length numbers.lists.now) 0 (λ r in_r. omega (
+          arith,
+          sum_below-most (left r) numbers.keys 0 (λ k in_k.
+              omega (arith, ap {B = ℕ} (λ b. cond b 1 0) (none_upto (cells_in numbers table r k) (slice_index (map number numbers.bases.now) r) (λ some. omega (arith, some, none r in_r))))),
+        )),
+      )
+
   pub counts-none : (from : ℕ) → CountsPiece number numbers from from 0 0 (map number numbers.last.now)
   counts-none from = record {
     stale_is = total-is _ from from 0 (omega arith);
@@ -52,11 +66,12 @@ module _ {N : Type 0} (number : N → ℕ) (numbers : RoundNumbers N) (grids : A
     };
   }
 
-  pub counts-more : (from at sum rest x y : ℕ) (old new here : List ℕ) → CountsPiece number numbers from at sum rest old → here ≡ table_at number numbers at → x ≡ total_of (length numbers.lists.now) numbers.keys (is_stale number numbers here) → y ≡ total_of (length numbers.lists.now) numbers.keys (is_left number numbers here)
-      → ArePlanesChanged (λ r k a b. b ≡ min a (cells_in numbers here r k)) (length numbers.lists.now) numbers.keys old new → CountsPiece number numbers from (at + 1) (sum + x) (rest + y) new
-  counts-more from at sum rest x y old new here before is x_is y_is changed = record {
-    stale_is = total-is _ from (at + 1) (sum + x) (omega (arith, sum_next _ at _ x before.stale_is.is (x_is ∙ ap (λ h. total_of (length numbers.lists.now) numbers.keys (is_stale number numbers h)) is)));
-    leftover_is = total-is _ from (at + 1) (rest + y) (omega (arith, sum_next _ at _ y before.leftover_is.is (y_is ∙ ap (λ h. total_of (length numbers.lists.now) numbers.keys (is_left number numbers h)) is)));
+  pub counts-more : (from at sum rest : ℕ) {sum' rest' : ℕ} (old new here : List ℕ) → CountsPiece number numbers from at sum rest old → here ≡ table_at number numbers at
+      → sum' ≡ sum + total_of (length numbers.lists.now) numbers.keys (is_stale number numbers here) → rest' ≡ rest + total_of (length numbers.lists.now) numbers.keys (is_left number numbers here)
+      → ArePlanesChanged (λ r k a b. b ≡ min a (cells_in numbers here r k)) (length numbers.lists.now) numbers.keys old new → CountsPiece number numbers from (at + 1) sum' rest' new
+  counts-more from at sum rest {sum'} {rest'} old new here before is sum_is rest_is changed = record {
+    stale_is = total-is _ from (at + 1) sum' (omega (arith, sum_is, sum_next _ at _ _ before.stale_is.is (ap (λ h. total_of (length numbers.lists.now) numbers.keys (is_stale number numbers h)) is)));
+    leftover_is = total-is _ from (at + 1) rest' (omega (arith, rest_is, sum_next _ at _ _ before.leftover_is.is (ap (λ h. total_of (length numbers.lists.now) numbers.keys (is_left number numbers h)) is)));
     least_is = record {
       size = changed.size ∙ before.least_is.size;
       each = λ r k in_r in_k.

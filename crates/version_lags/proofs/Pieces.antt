@@ -1,6 +1,6 @@
 -- How long a table's copy has been behind, and whether it is left over, by the number of what it holds.
--- Serves `Walks` and `Whole`.
-use Rattle.version_lags.proofs.Common.{◌≡◌, ℕ, ◌<◌, false, ◌&&◌, List, [], length, Some, if◌then◌else◌, inl, inr, sym, ap, ◌∙◌, subst, arith, nat_lt, nat_le, cases_lt, cases_eq, le-ltb, lt-ltb, eq-eqb, ne_eqb, lt-leb, Entry, mark_held, Table, entry_at, IsProper, table_of_node, OwnerListView, entries_of, list_of_owner, lists_in, no_writes, write_numbered, list_read, StandsBeside, generation_at, staleness_of, staleness_at, is_left_over, leftover_at, stale_count}
+-- Serves `Parts`, `Walks` and `Whole`.
+use Rattle.version_lags.proofs.Common.{◌≡◌, ℕ, ◌<◌, false, ◌&&◌, List, [], length, Some, if◌then◌else◌, inl, inr, sym, ap, ◌∙◌, subst, arith, nat_lt, nat_le, cases_lt, cases_eq, le-ltb, lt-ltb, eq-eqb, ne_eqb, lt-leb, Entry, mark_held, Table, entry_at, table_of_node, OwnerListView, entries_of, list_of_owner, lists_in, no_writes, write_numbered, list_read, StandsBeside, generation_at, staleness_of, staleness_at, is_left_over, leftover_at, stale_count}
 use Rattle.version_lags.specs.Missed.{base_of, IsNumberAt, number_staleness, IsLastNumber}
 use Rattle.version_lags.specs.Pieces.{keys_in, StandTogether, MayBeCounted}
 use Rattle.version_lags.proofs.Lagging.{last_fresh, stale_by_number, left_over-by_number, own_is_last, key_held}
@@ -13,25 +13,19 @@ none_upto c base above = elim (cases_lt 0 c) [
 ]
 
 module _ (tables : List Table) (lists : List OwnerListView) (are : StandTogether tables lists) where
-  node-is : (r : ℕ) → r < length tables → (table_of_node tables r).node ≡ r
-  node-is r lt = (are.cluster.tables r lt).node
-
   beside : (r : ℕ) → r < length tables → StandsBeside (table_of_node tables r) (list_of_owner lists r)
-  beside r lt = subst (λ o. StandsBeside (table_of_node tables r) (list_of_owner lists o)) (node-is r lt) (are.standing r lt).own
-
-  proper-is : (r : ℕ) → r < length tables → IsProper (table_of_node tables r)
-  proper-is r lt = (are.standing r lt).proper
+  beside r lt = subst (λ o. StandsBeside (table_of_node tables r) (list_of_owner lists o)) (are.cluster.tables r lt).node (are.standing r lt).own
 
   -- an owner's own number is its last one
   pub own_last : (r k c : ℕ) → r < length tables → IsNumberAt lists (table_of_node tables r) r k c → IsLastNumber (list_of_owner lists r) k c
   own_last r k c lt at =
-      own_is_last (list_of_owner lists r) (are.writes r) (table_of_node tables r) (proper-is r lt) (beside r lt) k c
-      (ap (λ o. entry_at (table_of_node tables r) o k) (node-is r lt) ∙ at.held) at.written
+      own_is_last (list_of_owner lists r) (are.writes r) (table_of_node tables r) (are.standing r lt).proper (beside r lt) k c
+      (ap (λ o. entry_at (table_of_node tables r) o k) (are.cluster.tables r lt).node ∙ at.held) at.written
 
   -- each key that an owner wrote is one of the keys
   pub key_within : (r m : ℕ) (e : Entry) → r < length tables → write_numbered (entries_of (list_of_owner lists r)) m ≡ Some e → base_of (list_of_owner lists r) < m → e.key < keys_in tables
   key_within r m e lt is current =
-      omega (arith, key_held (list_of_owner lists r) (are.writes r) (table_of_node tables r) (proper-is r lt) (beside r lt) m e is current, (are.cluster.tables r lt).keys)
+      omega (arith, key_held (list_of_owner lists r) (are.writes r) (table_of_node tables r) (are.standing r lt).proper (beside r lt) m e is current, (are.cluster.tables r lt).keys)
 
 module _ (round : ℕ) (tables : List Table) (lists : List OwnerListView) (are : MayBeCounted round tables lists) (p r k c : ℕ) (in_p : p < length tables) (in_r : r < length tables) (at : IsNumberAt lists (table_of_node tables p) r k c) where
   abbrev list : OwnerListView

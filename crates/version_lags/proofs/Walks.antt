@@ -70,7 +70,7 @@ module _ {N : Type 0} {number : N → ℕ} {most owner first : ℕ} {lags : Lags
   walk-none place none past = omega (arith, walk-upto place 0 none (λ m e behind is. absurd (omega (arith, past, behind, (numbered-within all m e is).1))))
 
   -- no write is of a later round
-  born-upto : (m : ℕ) (e : Entry) → write_numbered all m ≡ Some e → e.born ≤ lags.round
+  pub born-upto : (m : ℕ) (e : Entry) → write_numbered all m ≡ Some e → e.born ≤ lags.round
   born-upto m e is =
       let at = numbered-placed all m e is in
       omega (arith, walks.born at.place e at.within, ap (λ (x : Entry). x.born) (at.there e))
@@ -93,9 +93,6 @@ module _ {N : Type 0} {number : N → ℕ} {most owner first : ℕ} {lags : Lags
     module _ (e : Entry) (is : write_numbered all (place + 1) ≡ Some e) where
       in_keys : e.key < lags.numbers.keys
       in_keys = walks.keyed (place + 1) e is (omega (arith, current))
-
-      pub walk-born : e.born ≤ lags.round
-      walk-born = born-upto (place + 1) e is
 
       pub walk-index : e.key * length lags.numbers.lists.now + owner < length lags.least.now
       walk-index = omega (arith, walks.grid.whole, walks.among, mul-le-mul_right {m = e.key + 1} {n = lags.numbers.keys} (length lags.numbers.lists.now) (omega (arith, in_keys)))

@@ -25,9 +25,6 @@ module _ {N : Type 0} (number : N → ℕ) (most : ℕ) (lags : Lags N) (tables 
   abbrev held : ℕ → ℕ → ℕ → ℕ
   held p = cells_in lags.numbers (table_at number lags.numbers p)
 
-  abbrev lowest : ℕ → ℕ → ℕ
-  lowest r k = least_below nodes (λ p. held p r k) (last r k)
-
   in_tables : (p : ℕ) → p < nodes → p < length tables
   in_tables p lt = omega (arith, lt, are.are.nodes_are)
 
@@ -40,7 +37,7 @@ module _ {N : Type 0} (number : N → ℕ) (most : ℕ) (lags : Lags N) (tables 
   last_at : (r k : ℕ) → r < nodes → k < keys → IsLastNumber (list_of_owner lists r) k (last r k)
   last_at r k in_r in_k = (laid are.are.lasts).each r k in_r in_k
 
-  least_is : (r k : ℕ) → r < nodes → k < keys → cells_in lags.numbers (map number lags.least.now) r k ≡ lowest r k
+  least_is : (r k : ℕ) → r < nodes → k < keys → cells_in lags.numbers (map number lags.least.now) r k ≡ least_below nodes (λ p. held p r k) (last r k)
   least_is r k in_r in_k =
       let each = whole.least_is.each r k in_r in_k in
       ap (λ xs. cells_in lags.numbers xs r k) (sym same) ∙ omega (arith, each.upto, each.is)

@@ -40,10 +40,6 @@ pub record MayBeCounted (round : ℕ) (tables : List Table) (lists : List OwnerL
   pub round_limit : round ≤ MOST_ROUNDS
   pub written : AreWrittenBy round lists
 
--- the last numbers of all owners' keys
-abbrev pub AreLastNumbers : List Table → List OwnerListView → List ℕ → Type 0
-AreLastNumbers tables lists last = HasEachPlace (length tables) (keys_in tables) (λ owner key number. IsLastNumber (list_of_owner lists owner) key number) last
-
 -- the numbers of tables, as code has them
 abbrev pub numbers_in : {N : Type 0} → (N → ℕ) → List (Bor (List N)) → List (List ℕ)
 numbers_in number cells = map (λ x. map number x.now) cells
@@ -62,7 +58,7 @@ pub record AreNumbersOf (tables : List Table) (lists : List OwnerListView) (node
   pub count : length cells ≡ nodes
   pub cells_are : (p : ℕ) → p < nodes → AreNumbersAt tables lists p (numbers_at cells p)
   pub based : HasEach nodes (λ r n. n ≡ base_of (list_of_owner lists r)) bases
-  pub lasts : AreLastNumbers tables lists last
+  pub lasts : HasEachPlace (length tables) (keys_in tables) (λ owner key number. IsLastNumber (list_of_owner lists owner) key number) last
 
 -- the numbers of a table, and the last ones, by owner and key
 abbrev pub cells_in : {N : Type 0} → RoundNumbers N → List ℕ → Cells
@@ -118,15 +114,12 @@ abbrev pub Counts : {N : Type 0} → (N → ℕ) → RoundNumbers N → ℕ → 
 Counts number numbers from to result =
     IfOk result (λ piece. CountsPiece number numbers from to piece.stale piece.leftover (map number piece.least.items)) × IsOkUnless result OutOfMemory
 
--- grids, and no write is of an earlier generation where no node has forgotten
-pub record IsCount {N : Type 0} (number : N → ℕ) (count : Numbers N) : Type 0 where
+-- the tables from one on up to another are counted: grids, and no write is of an earlier generation where no node has
+-- forgotten
+pub record MayCount {N : Type 0} (number : N → ℕ) (count : Numbers N) (from to : ℕ) : Type 0 where
   pub grids : AreGrids number count.numbers
   pub forgot : IsFalse count.forgot → (r : ℕ) → r < length count.numbers.lists.now → slice_index (map number count.numbers.bases.now) r ≡ 0
   pub some : 1 ≤ count.size
-
--- and there are tables from one on up to another
-pub record MayCount {N : Type 0} (number : N → ℕ) (count : Numbers N) (from to : ℕ) : Type 0 where
-  pub is : IsCount number count
   pub rises : from ≤ to
   pub within : to ≤ length count.numbers.lists.now
 

@@ -1,14 +1,14 @@
 //! How far the copies lag behind their owners, told by numbers of writes: the figures of a round.
 
-ghost use Rattle.std.specs.Prelude.{◌≡◌, ℕ, ◌+◌, ◌-◌, ◌*◌, ◌/◌, ◌^◌, ◌<◌, ◌≤◌, ◌↔◌, List, map, length, slice_index, IfOk, IsFalse, IsTrue, IsOkUnless};
+ghost use Rattle.std.specs.Prelude.{◌≡◌, ℕ, ◌+◌, ◌-◌, ◌*◌, ◌/◌, ◌^◌, ◌<◌, ◌≤◌, List, map, length, slice_index, IfOk, IsFalse, IsOkUnless};
 ghost use Rattle.bench_types.specs.declared.faults.Fault.TheVariants.{OutOfMemory};
 ghost use Rattle.model.specs.Table.{Table};
 ghost use Rattle.model.specs.calls.OwnerListView.{list_of_owner, lists_in};
 ghost use Rattle.planes.specs.Lags.{IsLeastBehind};
-ghost use Rattle.planes.specs.Planes.{cell, total_of, HasEach};
+ghost use Rattle.planes.specs.Planes.{HasEach};
 ghost use Rattle.bench_types.specs.Sums.{most_below};
 ghost use Rattle.model.specs.Figures.{figures_of};
-ghost use Rattle.version_lags.specs.Pieces.{AreGrids, AreRoundNumbers, Counts, IsCount, MayCount, MayWalk, WalksFrom, is_left, most_lag};
+ghost use Rattle.version_lags.specs.Pieces.{AreGrids, AreRoundNumbers, Counts, MayCount, MayWalk, WalksFrom, most_lag};
 
 use bench_types::{Fault, Figures};
 use owner_writes::OwnerWrites;
@@ -61,20 +61,6 @@ struct Numbers<'a, N: Number> {
 }
 
 impl<'a, N: Number + Send + Sync> Numbers<'a, N> {
-    fn left_over(&self, table: &[N]) -> u32
-        requires is { IsCount N.number self.now }
-        requires table { length table.now ≡ length self.now.numbers.last.now }
-        ensures { result ≡ total_of (length self.now.numbers.lists.now) self.now.numbers.keys
-            (is_left N.number self.now.numbers (map N.number table.now)) }
-    {
-        if self.forgot {
-            let numbers = self.numbers;
-            total_upto(table, numbers.lists.len(), numbers.keys, numbers.bases)
-        } else {
-            0
-        }
-    }
-
     fn piece_of(&self, alloc: Global, from: usize, to: usize) -> Result<Piece<N>, Fault>
         requires { MayCount N.number self.now from to }
         ensures { Counts N.number self.now.numbers from to result }
@@ -88,7 +74,9 @@ impl<'a, N: Number + Send + Sync> Numbers<'a, N> {
             let here = numbers.cells[at];
             let behind = count_behind(&mut least, here, numbers.last, nodes, numbers.keys);
             stale += u64::from(behind);
-            leftover += u64::from(self.left_over(here));
+            if self.forgot {
+                leftover += u64::from(total_upto(here, nodes, numbers.keys, numbers.bases));
+            }
         }
         Ok(Piece {
             stale,
@@ -164,21 +152,6 @@ impl<'a, N: Number> Lags<'a, N> {
         0
     }
 
-    fn is_after(&self, owner: usize, number: N, round: u32) -> bool
-        requires may { MayWalk N.number N.most self.now }
-        requires owner { owner < length self.now.numbers.lists.now }
-        ensures { IsTrue result ↔ ((round ≤ self.now.numbers.ends.rounds)
-            × (cell (map N.number self.now.numbers.ends.numbers.now) (length self.now.numbers.lists.now) owner round
-            ≤ N.number number)) }
-    {
-        let RoundNumbers { lists, ends, .. } = self.numbers;
-        if ends.rounds < round {
-            return false;
-        }
-        let row = ends.row(lists.len(), round);
-        row[owner].is_upto(number)
-    }
-
     // The most rounds that a copy of any owner has missed a write. An owner's list is read only where that may be more
     // than of the owners before it.
     fn greatest(&self, alloc: Global) -> Result<u32, Fault>
@@ -193,8 +166,12 @@ impl<'a, N: Number> Lags<'a, N> {
         let mut greatest = 0;
         for owner in 0..nodes {
             let first = firsts[owner];
-            if self.is_after(owner, first, self.round.saturating_sub(greatest)) {
-                continue;
+            let since = self.round.saturating_sub(greatest);
+            if since <= numbers.ends.rounds {
+                let row = numbers.ends.row(nodes, since);
+                if row[owner].is_upto(first) {
+                    continue;
+                }
             }
             let lag = self.lag_of_owner(&numbers.lists[owner], owner, first);
             greatest = greatest.max(lag);

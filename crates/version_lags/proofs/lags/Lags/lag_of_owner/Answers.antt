@@ -1,7 +1,7 @@
 use Rattle.version_lags.proofs.Common.{◌≡◌, ℕ, ◌+◌, List, map, None, Some, max, refl, sym, ap, ◌∙◌, arith, same_Some, Option, MatchOption, Bor, Entry, entries_of, write_numbered, Kept, entry_kept}
 use Rattle.version_lags.specs.Missed.{base_of}
 use Rattle.version_lags.specs.Pieces.{cells_in}
-use Rattle.version_lags.proofs.Walks.{walk-next, walk-none, walk-found, walk-read, walk-index, walk-born}
+use Rattle.version_lags.proofs.Walks.{walk-next, walk-none, walk-found, walk-read, walk-index, born-upto}
 use Rattle.version_lags.proofs.lags.Lags.lag_of_owner.Goals as goal
 use Rattle.version_lags.proofs.lags.Lags.lag_of_owner.Goals.{in-Some+else-widen-place, in_default}
 
@@ -16,7 +16,7 @@ pub offset_bounds-least-write : goal.offset_bounds-least-write
 offset_bounds-least-write g c = omega (arith, bounds-least-write g c)
 
 pub overflow_sub-result : goal.overflow_sub-result
-overflow_sub-result g c = walk-born c.requires c.loop-place.place c.loop-place.invariant.current (entry_kept c.in-Some.write.now) c.in-Some.ensures
+overflow_sub-result g c = born-upto c.requires (c.loop-place.place + 1) (entry_kept c.in-Some.write.now) c.in-Some.ensures
 
 pub returns-then-widen-place : goal.returns-then-widen-place
 returns-then-widen-place g c =

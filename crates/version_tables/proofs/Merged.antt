@@ -9,7 +9,6 @@ use Rattle.version_tables.specs.inner.Offered.{AreLow, AreOffered}
 use Rattle.version_tables.specs.inner.Merged.{BothStayMerged, HaveMerged, IsMerged, MayMerge, MayTakeAll}
 use Rattle.version_tables.specs.inner.Taken.{IsTaken}
 use Rattle.version_tables.proofs.Delivered.{offer-is, delta-marks}
-use Rattle.version_tables.proofs.ExchangedViews.{all_sent_case}
 use Rattle.version_tables.proofs.Fitting.{turned}
 use Rattle.version_tables.proofs.TakenViews.{becomes_applied, becomes_one}
 
@@ -172,8 +171,10 @@ module _ (rules : Rules) (e : Exchange) {written : ℕ → List Entry} {most : �
       → (d1 d2 : ℕ) → d1 ≡ digest_size (digest_kind rules.mode) (table_in written p) → d2 ≡ digest_size (digest_kind rules.mode) (table_in written q)
       → e.lost1 ≡ false → e.lost2 ≡ false → e.lost3 ≡ false → (r : Record) → ((b f : DeltaView) → came.first ≡ length b.items → 0 ≡ b.cut → came.second ≡ length f.items → 0 ≡ f.cut → r ≡ sent_until (last_fate false) d1 d2 b f)
       → MakesOf (table_in written) rules e p q p' q' r
-  merged-whole {p' = p'} {q' = q'} have d1 d2 d1_is d2_is first second third r sent =
-      all_sent_case written rules e p q first d1 d2 d1_is d2_is (marks-of rules e.rotation (turned two) turns may.kind may.back) (marks-of rules e.rotation two in_nodes may.kind may.forth) p' q' r second
-      (ap (table_in written) have.first.rest ∙ merged-applied rules e.rotation (turned two) turns may.kind may.back have.first.merged)
-      (rw third (ap (table_in written) have.second.rest ∙ merged-applied rules e.rotation two in_nodes may.kind may.forth have.second.merged))
-      (rw third (λ b f back back_cut forth forth_cut. sent b f (have.back ∙ back) back_cut (have.forth ∙ forth) forth_cut))
+  merged-whole have d1 d2 d1_is d2_is first second third r sent =
+      let back = marks-of rules e.rotation (turned two) turns may.kind may.back in
+      let forth = marks-of rules e.rotation two in_nodes may.kind may.forth in
+      let p_is = ap (table_in written) have.first.rest ∙ merged-applied rules e.rotation (turned two) turns may.kind may.back have.first.merged in
+      let q_is = ap (table_in written) have.second.rest ∙ merged-applied rules e.rotation two in_nodes may.kind may.forth have.second.merged in
+      let is = sent (delta_of_views rules e.rotation written q p) (delta_of_views rules e.rotation written p q) (have.back ∙ back.count) back.left (have.forth ∙ forth.count) forth.left in
+      rw (first, second, third) cc

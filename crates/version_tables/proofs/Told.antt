@@ -1,6 +1,6 @@
 -- What a digest tells, by numbers: which of the sender's writes the receiver lacks.
 -- Serves `Delivered`.
-use Rattle.version_tables.proofs.Common.{◌≡◌, ℕ, ◌-◌, ◌<◌, ◌≤◌, max, not, List, length, Option, Some, None, inl, inr, refl, sym, ap, ◌∙◌, subst, arith, nat_lt, ◌&&◌, cases_eq, lt-ltb, le-ltb, eq-eqb, ne_eqb, Entry, Item, Mark, Mode, DigestKind, Scuttle, Precise, mark_of, mark_held, is_before, IsUpTo, digest_kind, absent-first, Table, mark_at, greatest_mark, greatest_mark-unique, known_mark, write_numbered, Cells, number_ahead, IsHistory, IsNumberedHistory, start_before, start_of, Offers, is_lacked, told_by, offered_by, numbers-before, numbered-none, numbered-some, numbered-within, numbers-up_to, numbers-compare, all_writes, cell, get_or, entry_at, nat_tests}
+use Rattle.version_tables.proofs.Common.{◌≡◌, ℕ, zero, suc, ◌-◌, ◌<◌, ◌≤◌, max, not, List, length, Option, Some, None, inl, inr, refl, sym, ap, ◌∙◌, subst, arith, nat_lt, ◌&&◌, cases_eq, lt-ltb, le-ltb, eq-eqb, ne_eqb, Entry, Item, Mark, Mode, DigestKind, Scuttle, Precise, mark_of, mark_held, is_before, IsUpTo, digest_kind, absent-first, Table, mark_at, greatest_mark, greatest_mark-unique, known_mark, write_numbered, Cells, number_ahead, IsHistory, IsNumberedHistory, start_before, start_of, Offers, is_lacked, told_by, offered_by, numbers-before, numbered-none, numbered-some, numbered-within, numbers-up_to, numbers-compare, all_writes, cell, get_or, entry_at, nat_tests}
 use Rattle.version_tables.specs.Views.{VersionTableView, HistoriesView, table_in}
 use Rattle.version_tables.specs.inner.Deltas.{AreLaidBoth}
 use Rattle.version_tables.specs.inner.Offered.{AreLow, AreOffered}
@@ -50,17 +50,15 @@ module _ {written : ℕ → List Entry} {most : ℕ} {h : HistoriesView} {from t
   ]
 
   up_to-greatest : (number : ℕ) → number ≤ greatest → IsUpTo (mark_numbered number) (mark_numbered greatest)
-  up_to-greatest number le = elim (write_numbered writes number) as (λ o. write_numbered writes number ≡ o → IsUpTo (mark_held o) (mark_numbered greatest)) [
-    | None ↦ λ _. absent-first (mark_numbered greatest)
-    | Some d ↦ λ is_d. elim (write_numbered writes greatest) as (λ o. write_numbered writes greatest ≡ o → IsUpTo (mark_of d) (mark_held o)) [
-      | None ↦ λ none. absurd (omega (arith, le, numbered-none writes greatest greatest-within none, (numbered-within writes number d is_d).0))
-      | Some e ↦ λ is_e. numbers-up_to writes history number greatest d e is_d is_e le
-    ] refl
-  ] refl
+  up_to-greatest zero le = absent-first (mark_numbered greatest)
+  up_to-greatest (suc place) le =
+      let d = numbered-some writes (suc place) (omega arith) (omega (arith, le, greatest-within)) in
+      let e = numbered-some writes greatest (omega (arith, le)) greatest-within in
+      rw (d.1, e.1) (numbers-up_to writes history (suc place) greatest d.0 e.0 d.1 e.1 le)
 
   greatest-mark : greatest_mark T owner ≡ mark_numbered greatest
   greatest-mark = greatest_mark-unique T owner (mark_numbered greatest)
-      (λ key in_keys. subst (λ m. IsUpTo m (mark_numbered greatest)) (sym (mark-here key in_keys)) (up_to-greatest (held key) (top.upto key in_keys)))
+      (λ key in_keys. rw (mark-here key in_keys) (up_to-greatest (held key) (top.upto key in_keys)))
       (elim top.held [
         | inl none ↦ inl (ap mark_numbered none)
         | inr (key, in_keys, is) ↦ inr (key, in_keys, mark-here key in_keys ∙ ap mark_numbered is)

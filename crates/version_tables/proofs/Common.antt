@@ -1,4 +1,5 @@
--- The names of other libraries that these proofs cite, passed on from one place. Declares nothing.
+-- The names that these proofs cite of other libraries and of this crate's definitions, passed on from one place.
+-- Declares nothing.
 pub use Rattle.std.proofs.Common.{Bool, List, None, Option, Some, Vec, [], ap, arith, cond, eqb, false, get_or, if◌then◌else◌, inl, inr, length, length-append, ltb, map, max, min, nat_le, nat_lt, not, refl, rules, set, slice_index, subst, suc, sym, take, true, zero, ℕ, ◌&&◌, ◌*◌, ◌++◌, ◌+◌, ◌-◌, ◌<◌, ◌==◌, ◌∙◌, ◌∷◌, ◌≡◌, ◌≢◌, ◌≤◌, ◌⊎◌}
 pub use Rattle.std.proofs.Math.Bool.{and-true}
 pub use Rattle.std.proofs.Math.Nat.{mul-le-mul_right}
@@ -92,3 +93,9 @@ pub use Rattle.round_tables.specs.Histories.{AreWrittenBy, StandsAmong}
 pub use Rattle.version_lags.specs.Missed.{IsLastNumber, IsNumberAt, base_of}
 pub use Rattle.version_lags.specs.Pieces.{AreNumbersAt, AreNumbersOf, AreRoundNumbers, MayBeCounted, StandTogether, keys_in, numbers_at, numbers_in}
 pub use Rattle.version_lags.specs.declared.lags.RoundNumbers.{RoundNumbers}
+pub use Rattle.version_tables.specs.Laid.{AreNumbers, IsFirst, IsGreatest, IsVersionTable, entries_below, entry_list, table_of_cells}
+pub use Rattle.version_tables.specs.Views.{HistoriesView, IsKept, VersionTableView, table_in}
+pub use Rattle.version_tables.specs.Writes.{HasOwnWrite, IsNextWrite}
+pub use Rattle.version_tables.specs.inner.Beside.{AreCellsOf, AreCellsUpto, tables_of_views, view_at}
+pub use Rattle.version_tables.specs.inner.Histories.{AreHistories, AreNoWrites, IsBeginning, IsCounted, IsWriteUnder, IsWrittenSoFar}
+pub use Rattle.version_tables.specs.inner.Taken.{drop_start, number_kept}

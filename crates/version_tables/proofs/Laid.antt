@@ -1,7 +1,6 @@
 -- What a table that lies in cells holds.
 -- Serves most of the crate.
-use Rattle.version_tables.proofs.Common.{◌≡◌, ℕ, zero, suc, ◌<◌, ◌≤◌, Bool, true, false, cond, eqb, ltb, List, [], ◌∷◌, ◌++◌, length, map, Vec, Option, Some, None, option_or, ◌⊎◌, inl, inr, refl, sym, ap, ◌∙◌, subst, arith, range_with_len, with_items, cases_lt, cases_eq, eq-eqb, ne_eqb, lt-ltb, le-ltb, get_or_past, with_items_is, get_or-map-range_with_len, length-map-range_with_len, Entry, Table, entry_at, IsProper, same_table, entry_in, get-held_by_lists, HasCells, write_numbered, Cells}
-use Rattle.version_tables.specs.Laid.{entry_list, entries_below, table_of_cells, AreNumbers}
+use Rattle.version_tables.proofs.Common.{◌≡◌, ℕ, zero, suc, ◌<◌, ◌≤◌, Bool, true, false, cond, eqb, ltb, List, [], ◌∷◌, ◌++◌, length, map, Vec, Option, Some, None, option_or, ◌⊎◌, inl, inr, refl, sym, ap, ◌∙◌, subst, arith, range_with_len, with_items, cases_lt, cases_eq, eq-eqb, ne_eqb, lt-ltb, le-ltb, get_or_past, with_items_is, get_or-map-range_with_len, length-map-range_with_len, Entry, Table, entry_at, IsProper, same_table, entry_in, get-held_by_lists, HasCells, write_numbered, Cells, entry_list, entries_below, table_of_cells, AreNumbers}
 
 -- an entry in one of two rows
 entry_in-append : (xs ys : List Entry) (key : ℕ) → entry_in (xs ++ ys) key ≡ option_or (entry_in xs key) (entry_in ys key)

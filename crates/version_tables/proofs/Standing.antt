@@ -1,9 +1,6 @@
 -- Tables of versions beside the owners' lists so far: what their numbers are.
 -- Serves `cells_of` and `figures`.
-use Rattle.version_tables.proofs.Common.{◌≡◌, ℕ, ◌+◌, ◌<◌, ◌≤◌, List, [], ◌∷◌, ◌++◌, length, get_or, map, inl, inr, sym, ap, ◌∙◌, subst, arith, Bor, cases_lt, get_or-map, get_or_default, get_or_append_left, get_or_at, length-append, length-map, map-append, transport, Entry, MOST_NODES, MOST_KEYS, Table, entry_at, empty_table, table_of_node, HoldsOfEach, IsCluster, OwnerListView, all_writes, list_of_owner, AreWrites, cell, HasEach, HasEachPlace, StandsAmong, base_of, IsLastNumber, IsNumberAt, keys_in, numbers_at, numbers_in, AreNumbersAt, AreNumbersOf, StandTogether}
-use Rattle.version_tables.specs.Views.{VersionTableView, table_in, IsKept}
-use Rattle.version_tables.specs.inner.Beside.{tables_of_views, view_at, AreCellsOf, AreCellsUpto}
-use Rattle.version_tables.specs.inner.Histories.{IsBeginning}
+use Rattle.version_tables.proofs.Common.{◌≡◌, ℕ, ◌+◌, ◌<◌, ◌≤◌, List, [], ◌∷◌, ◌++◌, length, get_or, map, inl, inr, sym, ap, ◌∙◌, subst, arith, Bor, cases_lt, get_or-map, get_or_default, get_or_append_left, get_or_at, length-append, length-map, map-append, transport, Entry, MOST_NODES, MOST_KEYS, Table, entry_at, empty_table, table_of_node, HoldsOfEach, IsCluster, OwnerListView, all_writes, list_of_owner, AreWrites, cell, HasEach, HasEachPlace, StandsAmong, base_of, IsLastNumber, IsNumberAt, keys_in, numbers_at, numbers_in, AreNumbersAt, AreNumbersOf, StandTogether, VersionTableView, table_in, IsKept, tables_of_views, view_at, AreCellsOf, AreCellsUpto, IsBeginning}
 use Rattle.version_tables.proofs.Fitting.{so-far-upto}
 use Rattle.version_tables.proofs.Laid.{has_cells}
 

@@ -1,5 +1,4 @@
-use Rattle.version_tables.proofs.Common.{subst, list_of_owner, AreWrites}
-use Rattle.version_tables.specs.Views.{HistoriesView}
+use Rattle.version_tables.proofs.Common.{subst, list_of_owner, AreWrites, HistoriesView}
 use Rattle.version_tables.proofs.histories.Histories.lists.Goals as goal
 
 pub returns-clause-writes : goal.returns-clause-writes

@@ -1,6 +1,5 @@
-use Rattle.version_tables.proofs.Common.{rules, ◌≡◌, ◌+◌, ◌*◌, ◌<◌, length, map, set, ap, subst, sym, transport, ◌∙◌, arith, set-get_or, all_writes, list_of_owner, next_entry, with_write, ListBecomes}
-use Rattle.version_tables.specs.Views.{HistoriesView}
-use Rattle.version_tables.specs.inner.Histories.{AreKnown, IsWriteUnder}
+use Rattle.version_tables.proofs.Common.{rules, ◌≡◌, ◌+◌, ◌*◌, ◌<◌, length, map, set, ap, subst, sym, transport, ◌∙◌, arith, set-get_or, all_writes, list_of_owner, next_entry, with_write, ListBecomes, HistoriesView, IsWriteUnder}
+use Rattle.version_tables.specs.inner.Histories.{AreKnown}
 use Rattle.version_tables.proofs.HistoryCalls.{count-read, histories-written, list-becomes, numbers-set}
 use Rattle.version_tables.proofs.histories.Histories.write.Given as given
 use Rattle.version_tables.proofs.histories.Histories.write.Goals as goal

@@ -1,6 +1,4 @@
-use Rattle.version_tables.proofs.Common.{◌+◌, ◌*◌, ◌<◌, sym, subst, transport, map-set}
-use Rattle.version_tables.specs.Views.{VersionTableView}
-use Rattle.version_tables.specs.Writes.{IsNextWrite, HasOwnWrite}
+use Rattle.version_tables.proofs.Common.{◌+◌, ◌*◌, ◌<◌, sym, subst, transport, map-set, VersionTableView, IsNextWrite, HasOwnWrite}
 use Rattle.version_tables.proofs.Laid.{seen}
 use Rattle.version_tables.proofs.OwnCalls.{lies-kept, writes, writes-table}
 use Rattle.version_tables.proofs.tables.VersionTable.write_own.Given as given

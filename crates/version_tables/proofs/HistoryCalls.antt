@@ -170,8 +170,10 @@ module _ {written : ℕ → List Entry} {most : ℕ} {lists : List OwnerListView
       bases_size = same_bases ∙ kept.bases_size ∙ sym changes.count;
       lasts_size = same_lasts ∙ kept.lasts_size ∙ ap (λ m. MOST_KEYS * m) (sym changes.count);
       ends_size = kept.ends_size ∙ ap (λ m. (rounds + 1) * m) (sym changes.count);
-      are = each-list (λ _ v. AreWrites v) (λ r _. kept.are r) are;
-      so_far = each-list (λ r v. IsWrittenSoFar (written r) most rounds (entries_of v)) (λ r _. kept.so_far r) so_far;
+      known = record {
+        so_far = each-list (λ r v. IsWrittenSoFar (written r) most rounds (entries_of v)) (λ r _. kept.known.so_far r) so_far;
+        writes = each-list (λ _ v. AreWrites v) (λ r _. kept.known.writes r) are;
+      };
       each = subst (λ m. (r : ℕ) → r < m → IsCounted (list_of_owner new r) rounds (get_or counts' r 0) (get_or bases' r 0) (cell lasts' m r) (cell ends m r)) (sym changes.count)
           (each-list (λ r v. r < nodes → IsCounted v rounds (get_or counts' r 0) (get_or bases' r 0) (cell lasts' nodes r) (cell ends nodes r)) (λ r other lt. others r lt other) (λ _. own));
     }
@@ -187,12 +189,12 @@ module _ {written : ℕ → List Entry} {most : ℕ} {lists : List OwnerListView
     histories-written key value counts' lasts' changes under in_keys is last_is =
         transport (λ i. AreHistories written most new (sym is i) bases (sym last_is i) ends rounds)
         (histories-changed (with_write list key value (rounds + 1)) (set counts owner (n + 1)) bases (set lasts index (n + 1)) changes (length-set counts owner (n + 1)) refl (length-set lasts index (n + 1))
-        (writes_more list (kept.are owner) key value (rounds + 1)) (so_far-more (written owner) most rounds list key value (kept.are owner) (kept.so_far owner) under.is under.below)
+        (writes_more list (kept.known.writes owner) key value (rounds + 1)) (so_far-more (written owner) most rounds list key value (kept.known.writes owner) (kept.known.so_far owner) under.is under.below)
         (λ r lt other. transport (λ i. IsCounted (list_of_owner lists r) rounds (sym (get_or-set_other counts owner r (n + 1) 0 other) i) (get_or bases r 0)
         (λ k. sym (get_or-set_other lasts index (k * nodes + r) (n + 1) 0 (other-place nodes r k owner key lt in_nodes (inl other))) i) (cell ends nodes r)) (kept.each r lt))
         (subst (λ m. IsCounted (with_write list key value (rounds + 1)) rounds m (get_or bases owner 0) (cell (set lasts index (n + 1)) nodes owner) (cell ends nodes owner))
         (sym (get_or-set_same counts owner (n + 1) 0 (omega (arith, in_nodes, kept.counts_size))))
-        (counted-more (written owner) most rounds list key value (kept.are owner) (kept.so_far owner) (get_or counts owner 0) (get_or bases owner 0) (cell lasts nodes owner) (cell (set lasts index (n + 1)) nodes owner) (cell ends nodes owner) old
+        (counted-more (written owner) most rounds list key value (kept.known.writes owner) (kept.known.so_far owner) (get_or counts owner 0) (get_or bases owner 0) (cell lasts nodes owner) (cell (set lasts index (n + 1)) nodes owner) (cell ends nodes owner) old
         (get_or-set_same lasts index (n + 1) 0 (omega (arith, kept.lasts_size, place-within nodes MOST_KEYS owner key in_nodes in_keys)))
         (λ k _ other. get_or-set_other lasts index (k * nodes + owner) (n + 1) 0 (other-place nodes owner k owner key in_nodes in_nodes (inr other))))))
       where
@@ -204,7 +206,7 @@ module _ {written : ℕ → List Entry} {most : ℕ} {lists : List OwnerListView
     histories-begun bases' lasts' changes is cleared =
         subst (λ bs. AreHistories written most new counts bs lasts' ends rounds) (sym is)
         (histories-changed (begun_generation list) counts (set bases owner n) lasts' changes refl (length-set bases owner n) cleared.size
-        (writes_begun list (kept.are owner)) (subst (IsWrittenSoFar (written owner) most rounds) (sym whole) (kept.so_far owner))
+        (writes_begun list (kept.known.writes owner)) (subst (IsWrittenSoFar (written owner) most rounds) (sym whole) (kept.known.so_far owner))
         (λ r lt other.
         let stays = kept.each r lt in
         record {
@@ -263,7 +265,7 @@ module _ {written : ℕ → List Entry} {most : ℕ} {lists : List OwnerListView
             | inr late ↦ omega (arith, row-before round (omega (arith, before)), row-last (round + 1) (omega (arith, before, late)), old.reached round (omega (arith, before)))
           ];
           parts = each-round (λ round mark. IsRoundMark (all_writes lists owner) 0 round mark) old.parts (λ round last. record {
-            upto = λ number d some is le. omega (arith, (kept.so_far owner).made.last number d is, last);
+            upto = λ number d some is le. omega (arith, (kept.known.so_far owner).made.last number d is, last);
             above = λ number d some is behind. absurd (omega (arith, behind, (numbered-within (all_writes lists owner) number d is).1));
           });
           reached = each-round (λ _ mark. mark ≤ length (all_writes lists owner)) old.reached (λ _ _. omega arith);
@@ -276,16 +278,18 @@ module _ {written : ℕ → List Entry} {most : ℕ} {lists : List OwnerListView
     bases_size = kept.bases_size;
     lasts_size = kept.lasts_size;
     ends_size = grind (arith, length-append ends counts, kept.ends_size, kept.counts_size);
-    are = kept.are;
-    so_far = λ owner.
-        let old = kept.so_far owner in
-        record {
-          begins = old.begins;
-          few = old.few;
-          history = old.history;
-          numbered = old.numbered;
-          made = record { first = old.made.first; last = λ number d is. omega (arith, old.made.last number d is) };
-        };
+    known = record {
+      so_far = λ owner.
+          let old = kept.known.so_far owner in
+          record {
+            begins = old.begins;
+            few = old.few;
+            history = old.history;
+            numbered = old.numbered;
+            made = record { first = old.made.first; last = λ number d is. omega (arith, old.made.last number d is) };
+          };
+      writes = kept.known.writes;
+    };
     each = counted-ended;
   })
 
@@ -330,12 +334,14 @@ histories-empty written most nodes lists counts bases lasts ends some few nothin
   bases_size = no_bases.size ∙ sym nothing.count;
   lasts_size = no_lasts.size ∙ ap (λ n. MOST_KEYS * n) (sym nothing.count);
   ends_size = omega (arith, no_ends.size, nothing.count);
-  are = λ r. subst AreWrites (sym (nothing.empty r)) (record {
-    current = λ i d lt. absurd (omega (arith, lt));
-    earlier = λ i d lt. absurd (omega (arith, lt));
-    rising = λ i j d lt in_range. absurd (omega (arith, in_range));
-  });
-  so_far = λ r. subst (λ v. IsWrittenSoFar (written r) most 0 (entries_of v)) (sym (nothing.empty r)) (so_far-none (written r) most some);
+  known = record {
+    so_far = λ r. subst (λ v. IsWrittenSoFar (written r) most 0 (entries_of v)) (sym (nothing.empty r)) (so_far-none (written r) most some);
+    writes = λ r. subst AreWrites (sym (nothing.empty r)) (record {
+      current = λ i d lt. absurd (omega (arith, lt));
+      earlier = λ i d lt. absurd (omega (arith, lt));
+      rising = λ i j d lt in_range. absurd (omega (arith, in_range));
+    });
+  };
   each = subst (λ m. (r : ℕ) → r < m → IsCounted (list_of_owner lists r) 0 (get_or counts r 0) (get_or bases r 0) (cell lasts m r) (cell ends m r)) (sym nothing.count)
       (λ r lt. subst (λ v. IsCounted v 0 (get_or counts r 0) (get_or bases r 0) (cell lasts nodes r) (cell ends nodes r)) (sym (nothing.empty r)) (record {
         counted = no_counts.each r lt;

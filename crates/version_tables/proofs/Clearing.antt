@@ -1,7 +1,6 @@
 -- Numbers of an owner's keys that are dropped.
 -- Serves `are_current`, `drop_older`, `is_current` and `Merged`.
-use Rattle.version_tables.proofs.Common.{◌≡◌, ℕ, zero, suc, ◌+◌, ◌*◌, ◌<◌, ◌≤◌, ◌&&◌, Bool, true, false, cond, List, nat_lt, nat_le, slice_index, inl, inr, refl, ap, ◌∙◌, subst, arith, cases_lt, lt-leb, lt-ltb, Entry, sum_below, cell, total_of, ArePlanesChanged, start_of, sum_below-none}
-use Rattle.version_tables.specs.inner.Taken.{drop_start, number_kept}
+use Rattle.version_tables.proofs.Common.{◌≡◌, ℕ, zero, suc, ◌+◌, ◌*◌, ◌<◌, ◌&&◌, Bool, true, false, cond, List, nat_lt, nat_le, slice_index, refl, sym, ap, ◌∙◌, subst, arith, lt-leb, lt-ltb, Entry, sum_below, cell, total_of, ArePlanesChanged, start_of, sum_below-each_none, sum_below-none, drop_start, number_kept}
 
 -- nothing is dropped up to 0
 pub kept-all : (x : ℕ) → number_kept 0 x ≡ x
@@ -12,26 +11,15 @@ kept-all (suc x) = ap (λ b. cond b 0 (suc x)) (lt-leb (suc x) 0 (omega arith))
 pub planes-stay : (changed : ℕ → ℕ → ℕ → ℕ → Type 0) (nodes keys : ℕ) (xs : List ℕ) → ((r k x : ℕ) → r < nodes → changed r k x x) → ArePlanesChanged changed nodes keys xs xs
 planes-stay changed nodes keys xs same = record { size = refl; each = λ r k in_node in_key. same r k _ in_node }
 
--- where no old number is of an earlier generation nothing is dropped
-sum-none : (n : ℕ) (f : ℕ → ℕ) → sum_below n f ≤ 0 → (i : ℕ) → i < n → f i ≡ 0
-sum-none zero f none i lt = absurd (omega (arith, lt))
-sum-none (suc n) f none i lt = elim (cases_lt i n) [
-  | inl earlier ↦ sum-none n f (omega (arith, none)) i earlier
-  | inr not_earlier ↦ subst (λ j. f j ≡ 0) {x = n} {y = i} (omega (arith, lt, not_earlier)) (omega (arith, none))
-]
-
-test-none : (b : Bool) → 0 + cond b 1 0 ≡ 0 → b ≡ false
-test-none true none = absurd (omega (arith, none))
-test-none false none = refl
-
-pub total-none : (nodes : ℕ) (test : ℕ → ℕ → Bool) → total_of nodes 1 test ≤ 0 → (r : ℕ) → r < nodes → test r 0 ≡ false
-total-none nodes test none r lt = test-none (test r 0) (sum-none nodes (λ owner. sum_below 1 (λ key. cond (test owner key) 1 0)) none r lt)
-
--- and so of one plane
+-- where none of a plane's numbers is counted, none passes the test
 pub plane-none : (nodes total : ℕ) (xs : List ℕ) (test : ℕ → ℕ → Bool) → total ≡ total_of nodes 1 (λ r k. test r (cell xs nodes r k)) → total ≡ 0 → (r : ℕ) → r < nodes → test r (slice_index xs r) ≡ false
 plane-none nodes total xs test is none r lt =
-    subst (λ i. test r (slice_index xs i) ≡ false) {x = 0 * nodes + r} {y = r} (omega arith)
-    (total-none nodes (λ r k. test r (cell xs nodes r k)) (omega (arith, is, none)) r lt)
+    fails (test r (slice_index xs r)) (subst (λ i. 0 + cond (test r (slice_index xs i)) 1 0 ≡ 0) {x = 0 * nodes + r} {y = r} (omega arith)
+    (sum_below-each_none nodes (λ owner. sum_below 1 (λ key. cond (test owner (cell xs nodes owner key)) 1 0)) (sym is ∙ none) r lt))
+  where
+    fails : (b : Bool) → 0 + cond b 1 0 ≡ 0 → b ≡ false
+    fails true one = absurd (omega (arith, one))
+    fails false one = refl
 
 -- and where no number of a plane passes a test none is counted
 pub plane-zero : (nodes total : ℕ) (xs : List ℕ) (test : ℕ → ℕ → Bool) → total ≡ total_of nodes 1 (λ r k. test r (cell xs nodes r k)) → ((r : ℕ) → r < nodes → test r (slice_index xs r) ≡ false) → total ≡ 0

@@ -1,22 +1,14 @@
 -- How many owners and entries a table of versions holds.
 -- Serves `digest_size`.
-use Rattle.version_tables.proofs.Common.{◌≡◌, ℕ, zero, suc, ◌+◌, ◌*◌, ◌<◌, Bool, true, false, cond, nat_lt, List, Some, inl, inr, refl, sym, ap, ◌∙◌, arith, count_by, slice_index, entries, len-entries, range_with_len, cases_lt, lt-ltb, le-ltb, length-map, sum_by-cons, Entry, Item, Mark, Scuttle, Precise, IsUpTo, mark_held, Table, entry_at, items_of, item_of, mark_at, greatest_mark, greatest_version, greatest_mark-none, mark_at-up_to_greatest, write_numbered, cell, total_of, sum_below, sum_below-same, digest_size, sum_by-ones, number_here, number_there, items_sum, numbered-some}
-use Rattle.version_tables.specs.Views.{VersionTableView, table_in, IsKept}
+use Rattle.version_tables.proofs.Common.{◌≡◌, ℕ, zero, suc, ◌+◌, ◌*◌, ◌<◌, ◌≤◌, Bool, cond, nat_lt, List, length, map, map-id, Some, inl, inr, refl, sym, ap, ◌∙◌, arith, count_by, slice_index, entries, len-entries, range_with_len, cases_lt, lt-ltb, le-ltb, length-map, sum_by-map-range_with_len_more, Entry, Item, Mark, Scuttle, Precise, IsUpTo, mark_held, Table, entry_at, items_of, item_of, mark_at, greatest_mark, greatest_version, greatest_mark-none, mark_at-up_to_greatest, write_numbered, cell, total_of, sum_below, sum_below-same, digest_size, sum_by-ones, number_here, number_there, items_sum, numbered-some, VersionTableView, table_in, IsKept}
 use Rattle.version_tables.proofs.Laid.{has_cells}
 
-sum_first : (n : ℕ) (f : ℕ → ℕ) → sum_below (suc n) f ≡ f 0 + sum_below n (λ i. f (suc i))
-sum_first zero f = omega arith
-sum_first (suc n) f = omega (arith, sum_first n f)
-
-count-range : (p : ℕ → Bool) (from n : ℕ) → count_by p (range_with_len from n) ≡ sum_below n (λ i. cond (p (from + i)) 1 0)
-count-range p from zero = refl
-count-range p from (suc n) =
-    sum_by-cons (λ i. cond (p i) 1 0) from (range_with_len (from + 1) n)
-    ∙ (λ i. cond (p (from_zero i)) 1 0 + (count-range p (from + 1) n ∙ sum_below-same n _ _ (λ j lt. ap {B = ℕ} (λ k. cond (p k) 1 0) {x = from + 1 + j} {y = from + suc j} (omega arith))) i)
-    ∙ sym (sum_first n (λ i. cond (p (from + i)) 1 0))
-  where
-    from_zero : from ≡ from + 0
-    from_zero = omega arith
+count-range : (p : ℕ → Bool) (n : ℕ) → count_by p (map (λ i. i) (range_with_len 0 n)) ≡ sum_below n (λ i. cond (p i) 1 0)
+count-range p zero = refl
+count-range p (suc n) =
+    ap {B = ℕ} (λ m. count_by p (map (λ i. i) (range_with_len 0 m))) {x = suc n} {y = n + 1} (omega arith)
+    ∙ sum_by-map-range_with_len_more (λ i. cond (p i) 1 0) (λ i. i) 0 n n (omega arith)
+    ∙ ap (λ m. m + cond (p n) 1 0) (count-range p n)
 
 module _ (written : ℕ → List Entry) (v : VersionTableView) (kept : IsKept written v) where
   abbrev t : Table
@@ -29,14 +21,11 @@ module _ (written : ℕ → List Entry) (v : VersionTableView) (kept : IsKept wr
   has = has_cells written v.node v.nodes v.keys v.generation number kept.numbers
 
   one_here : (owner key : ℕ) → owner < v.nodes → key < v.keys → number_there (λ _. 1) t owner key ≡ cond (nat_lt 0 (number owner key)) 1 0
-  one_here owner key in_nodes in_keys = elim (cases_lt 0 (number owner key)) [
-    | inl some ↦
-        let there = numbered-some (written owner) (number owner key) some (kept.numbers.written owner key in_nodes in_keys) in
-        ap (number_here (λ _. 1) owner) (has owner key in_nodes in_keys ∙ there.1) ∙ ap {B = ℕ} (λ b. cond b 1 0) (sym (lt-ltb 0 (number owner key) some))
-    | inr not_some ↦
-        let none : number owner key ≡ 0 = omega (arith, not_some) in
-        ap (number_here (λ _. 1) owner) (has owner key in_nodes in_keys ∙ ap (write_numbered (written owner)) none) ∙ ap {B = ℕ} (λ b. cond b 1 0) (sym (le-ltb 0 (number owner key) (omega (arith, none))))
-  ]
+  one_here owner key in_nodes in_keys = ap (number_here (λ _. 1) owner) (has owner key in_nodes in_keys) ∙ counted (number owner key) (kept.numbers.written owner key in_nodes in_keys)
+    where
+      counted : (n : ℕ) → n ≤ length (written owner) → number_here (λ _. 1) owner (write_numbered (written owner) n) ≡ cond (nat_lt 0 n) 1 0
+      counted zero le = refl
+      counted (suc place) le = ap (number_here (λ _. 1) owner) (numbered-some (written owner) (suc place) (omega arith) le).1 ∙ sym (rw (lt-ltb 0 (suc place) (omega arith)))
 
   -- entries held
   pub held-size : total_of v.nodes v.keys (λ r k. nat_lt 0 (cell v.cells v.nodes r k)) ≡ digest_size Precise t
@@ -72,13 +61,10 @@ module _ (written : ℕ → List Entry) (v : VersionTableView) (kept : IsKept wr
 
   pub owners-size : total_of v.nodes 1 (λ r k. nat_lt 0 (cell v.greatest v.nodes r k)) ≡ digest_size Scuttle t
   owners-size =
-      sum_below-same v.nodes _ (λ r. cond (nat_lt 0 (greatest_version t (0 + r))) 1 0)
-      (λ r lt. first (nat_lt 0 (cell v.greatest v.nodes r 0))
-      ∙ ap {B = ℕ} (λ i. cond (nat_lt 0 (slice_index v.greatest i)) 1 0) {x = 0 * v.nodes + r} {y = r} (omega arith)
-      ∙ ap {B = ℕ} (λ b. cond b 1 0) (owner_here r lt)
-      ∙ ap {B = ℕ} (λ i. cond (nat_lt 0 (greatest_version t i)) 1 0) {x = r} {y = 0 + r} (omega arith))
-      ∙ sym (count-range (λ r. nat_lt 0 (greatest_version t r)) 0 v.nodes)
-    where
-      first : (b : Bool) → 0 + cond b 1 0 ≡ cond b 1 0
-      first true = omega arith
-      first false = omega arith
+      sum_below-same v.nodes _ (λ r. cond (nat_lt 0 (greatest_version t r)) 1 0) (λ r lt. omega (
+        arith,
+        ap {B = ℕ} (λ i. cond (nat_lt 0 (slice_index v.greatest i)) 1 0) {x = 0 * v.nodes + r} {y = r} (omega arith),
+        ap {B = ℕ} (λ b. cond b 1 0) (owner_here r lt),
+      ))
+      ∙ sym (count-range (λ r. nat_lt 0 (greatest_version t r)) v.nodes)
+      ∙ ap (count_by (λ r. nat_lt 0 (greatest_version t r))) (map-id (range_with_len 0 v.nodes))

@@ -1,10 +1,6 @@
 -- An exchange of tables of versions is the model's.
 -- Serves `exchange_deltas`.
-use Rattle.version_tables.proofs.Common.{◌≡◌, ℕ, ◌<◌, Bool, true, false, eqb, List, [], ◌∷◌, length, if◌then◌else◌, refl, sym, ap, ◌∙◌, arith, ◌||◌, both_ways, eqb-true, Entry, Item, Exchange, Fate, Record, Rules, digest_kind, Exchanged, initiator_after, last_fate, responder_after, sent_until, MakesOf, Table, applied, all_writes, DeltaView, digest_size, numbers_taken}
-use Rattle.version_tables.specs.Views.{VersionTableView, HistoriesView, table_in}
-use Rattle.version_tables.specs.inner.Deltas.{delta_of_views, AreLaidBoth, AreMarksOf}
-use Rattle.version_tables.specs.inner.Histories.{bases_in}
-use Rattle.version_tables.specs.inner.Taken.{HasTakenUnless, StaysOne}
+use Rattle.version_tables.proofs.Common.{◌≡◌, ℕ, ◌<◌, Bool, true, false, eqb, List, [], ◌∷◌, length, if◌then◌else◌, refl, sym, ap, ◌∙◌, arith, ◌||◌, both_ways, eqb-true, Entry, Item, Exchange, Fate, Record, Rules, digest_kind, Exchanged, initiator_after, last_fate, responder_after, sent_until, MakesOf, Table, applied, all_writes, DeltaView, digest_size, numbers_taken, VersionTableView, HistoriesView, table_in, delta_of_views, AreLaidBoth, AreMarksOf, bases_in, HasTakenUnless, StaysOne}
 use Rattle.version_tables.proofs.Fitting.{turned}
 use Rattle.version_tables.proofs.TakenViews.{are_taken, becomes_applied, becomes_one, same_taken}
 

@@ -1,9 +1,8 @@
 //! What all owners have written, beside tables that keep numbers of writes alone.
 
-ghost use Rattle.std.specs.Prelude.{◌≡◌, ℕ, length, map, IfOk, IsOkUnless};
+ghost use Rattle.std.specs.Prelude.{◌≡◌, IfOk, IsOkUnless};
 ghost use Rattle.bench_types.specs.declared.faults.Fault.TheVariants.{OutOfMemory};
-ghost use Rattle.model.specs.calls.OwnerListView.{list_of_owner, no_writes};
-ghost use Rattle.planes.specs.Planes.{HasEach};
+ghost use Rattle.version_tables.specs.inner.Histories.{AreNoWrites};
 
 use crate::owners::clear_owner;
 use crate::tables::Written;
@@ -47,14 +46,13 @@ impl<N: Number, H: Written> Model for Histories<N, H> {
 }
 
 impl<N: Number, H: Written> Histories<N, H> {
-    ghost use Rattle.std.specs.Prelude.{ℕ, ◌+◌, ◌*◌, ◌^◌, ◌<◌, ◌≤◌, map, length, IfOk, OnOk, OnErr, IsOkUnless};
+    ghost use Rattle.std.specs.Prelude.{ℕ, ◌+◌, ◌^◌, ◌<◌, ◌≤◌, map, length, IfOk, OnOk, OnErr, IsOkUnless};
     ghost use Rattle.bench_types.specs.declared.faults.Fault.TheVariants.{OutOfMemory};
     ghost use Rattle.bench_types.specs.declared.limits.TheConstants.{MOST_KEYS, MOST_NODES};
     ghost use Rattle.model.specs.calls.OwnerListView.{all_writes, list_of_owner, no_writes, next_entry, with_write, begun_generation, AreWrites, ListBecomes};
-    ghost use Rattle.planes.specs.Planes.{cell, HasEach, HasEachPlace};
-    ghost use Rattle.version_tables.specs.inner.Histories.{AreKnown, IsWrittenSoFar, IsWriteUnder};
+    ghost use Rattle.planes.specs.Planes.{HasEach, HasEachPlace};
+    ghost use Rattle.version_tables.specs.inner.Histories.{AreEndsOf, AreKnown, IsWrittenSoFar, IsWriteUnder};
     ghost use Rattle.version_lags.specs.Missed.{IsLastNumber};
-    ghost use Rattle.owner_writes.specs.Numbered.{AreEnds};
 
     /// Where so many owners have written nothing, before the first round. An error is lack of memory
     /// (`OutOfMemory`).
@@ -175,10 +173,7 @@ impl<N: Number, H: Written> Histories<N, H> {
 
     // Where each round ends: how many writes each owner has made up to it.
     pub(crate) fn ends(&self) -> Ends<N>
-        ensures rounds { result.rounds ≡ self.now.rounds }
-        ensures size { length result.numbers.now ≡ (self.now.rounds + 1) * length self.now.lists }
-        ensures ends { AreEnds (all_writes self.now.lists) (length self.now.lists) self.now.rounds
-            (cell (map N.number result.numbers.now) (length self.now.lists)) }
+        ensures { AreEndsOf N.number self.now result }
     {
         Ends {
             numbers: &self.ends,
@@ -188,8 +183,7 @@ impl<N: Number, H: Written> Histories<N, H> {
 }
 
 fn no_lists(alloc: Global, nodes: usize) -> Result<Vec<OwnerWrites>, Fault>
-    ensures count { IfOk result (λ v. length v.items ≡ nodes) }
-    ensures empty { IfOk result (λ v. (owner : ℕ) → list_of_owner v.items owner ≡ no_writes) }
+    ensures lists { IfOk result (λ v. AreNoWrites nodes v.items) }
     ensures only { IsOkUnless result OutOfMemory }
 {
     let mut lists = Vec::with_capacity(alloc, nodes)?;

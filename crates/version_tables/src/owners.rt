@@ -1,8 +1,9 @@
 //! What is dropped of numbers, all or an owner's.
 
 ghost use Rattle.std.specs.Prelude.{◌≡◌, ◌<◌, ◌==◌, length, map, if◌then◌else◌};
-ghost use Rattle.planes.specs.Planes.{ArePlanesChanged, IsGrid};
+ghost use Rattle.planes.specs.Planes.{ArePlanesChanged};
 ghost use Rattle.planes.specs.Elementwise.{AreChanged};
+ghost use Rattle.version_tables.specs.inner.Columns.{HasColumn};
 
 use planes::Number;
 
@@ -28,8 +29,7 @@ pub(crate) fn keep_one<N: Number>(numbers: &mut [N], owner: usize)
 
 // The same in each plane.
 pub(crate) fn keep_owner<N: Number>(cells: &mut [N], nodes: usize, keys: usize, owner: usize)
-    requires grid { IsGrid nodes keys (length cells.old) }
-    requires owner { owner < nodes }
+    requires { HasColumn nodes keys (length cells.old) owner }
     ensures { ArePlanesChanged (λ r k x y. y ≡ (if r == owner then x else 0)) nodes keys
         (map N.number cells.old)
         (map N.number cells.new) }
@@ -43,8 +43,7 @@ pub(crate) fn keep_owner<N: Number>(cells: &mut [N], nodes: usize, keys: usize, 
 
 // Puts 0 in place of an owner's number in each plane.
 pub(crate) fn clear_owner<N: Number>(cells: &mut [N], nodes: usize, keys: usize, owner: usize)
-    requires grid { IsGrid nodes keys (length cells.old) }
-    requires owner { owner < nodes }
+    requires { HasColumn nodes keys (length cells.old) owner }
     ensures { ArePlanesChanged (λ r k x y. y ≡ (if r == owner then 0 else x)) nodes keys
         (map N.number cells.old)
         (map N.number cells.new) }

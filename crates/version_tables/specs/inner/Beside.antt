@@ -2,10 +2,8 @@
 use Rattle.std.specs.Prelude.{◌≡◌, ℕ, ◌<◌, List, [], length, map, slice_index_or}
 use Rattle.bench_types.specs.declared.entries.Entry.{Entry}
 use Rattle.model.specs.Table.{Table}
-use Rattle.model.specs.calls.OwnerListView.{OwnerListView, entries_of, list_of_owner}
-use Rattle.version_lags.specs.Pieces.{numbers_at, StandTogether}
+use Rattle.version_lags.specs.Pieces.{numbers_at}
 use Rattle.version_tables.specs.Views.{VersionTableView, table_in, IsKept}
-use Rattle.version_tables.specs.inner.Histories.{IsBeginning}
 
 -- the table of a node, as it lies
 abbrev pub view_at : List VersionTableView → ℕ → VersionTableView
@@ -14,11 +12,6 @@ view_at views node = slice_index_or views node (record { node = 0; nodes = 0; ke
 -- the tables of all nodes, where this is what the owners write
 abbrev pub tables_of_views : (ℕ → List Entry) → List VersionTableView → List Table
 tables_of_views written views = map (table_in written) views
-
--- the tables lie as numbers of what the owners wrote so far, of all that they write
-pub record AreLaidAsNumbers (written : ℕ → List Entry) (views : List VersionTableView) (lists : List OwnerListView) : Type 0 where
-  pub together : StandTogether (tables_of_views written views) lists
-  pub begins : (owner : ℕ) → IsBeginning (entries_of (list_of_owner lists owner)) (written owner)
 
 -- these are the numbers of the first so many tables
 pub record AreCellsUpto (written : ℕ → List Entry) (views : List VersionTableView) (cells : List (List ℕ)) (bound : ℕ) : Type 0 where

@@ -1,5 +1,5 @@
 -- What the owners wrote so far, beside all that they write in the run. Source: this project.
-use Rattle.std.specs.Prelude.{◌≡◌, ℕ, ◌+◌, ◌*◌, ◌<◌, ◌≤◌, List, length, map, Contains, Some}
+use Rattle.std.specs.Prelude.{◌≡◌, ℕ, ◌+◌, ◌*◌, ◌<◌, ◌≤◌, List, length, map, slice_index, Contains, Some}
 use Rattle.bench_types.specs.declared.entries.Entry.{Entry}
 use Rattle.bench_types.specs.declared.exchanges.Exchange.{Exchange}
 use Rattle.bench_types.specs.declared.exchanges.Rules.{Rules}
@@ -8,13 +8,14 @@ use Rattle.bench_types.specs.calls.Budget.{IsLawfulBudget}
 use Rattle.bench_types.specs.Mark.{mark_of}
 use Rattle.model.specs.calls.Exchanging.{MayBeExchanged}
 use Rattle.model.specs.Table.{Table, entry_at, IsProper}
-use Rattle.model.specs.calls.OwnerListView.{OwnerListView, all_writes, AreWrites, list_of_owner}
+use Rattle.model.specs.calls.OwnerListView.{OwnerListView, all_writes, entries_of, AreWrites, list_of_owner, no_writes}
 use Rattle.model.specs.calls.Numbers.{write_numbered}
-use Rattle.planes.specs.Planes.{HasEach, HasEachPlace, cell}
+use Rattle.planes.specs.Planes.{HasEach, cell}
+use Rattle.planes.specs.declared.ends.Ends.{Ends}
 use Rattle.version_tables.specs.Views.{HistoriesView}
 use Rattle.delta_plans.specs.declared.told_marks.Owners.{Owners}
 use Rattle.version_lags.specs.Missed.{IsLastNumber}
-use Rattle.owner_writes.specs.Numbered.{IsHistory, IsNumberedHistory, AreEnds, AreMadeBy}
+use Rattle.owner_writes.specs.Numbered.{IsHistory, IsNumberedHistory, IsRoundMark, AreEnds, AreMadeBy}
 
 -- some writes are the first of all
 abbrev pub IsBeginning : List Entry → List Entry → Type 0
@@ -32,29 +33,49 @@ pub record IsWrittenSoFar (all : List Entry) (most rounds : ℕ) (so_far : List 
   pub numbered : IsNumberedHistory so_far
   pub made : AreMadeBy (rounds + 1) so_far
 
--- what is kept of all owners' writes: counts of all and of those of earlier generations, the last number of each key,
--- and where the rounds end
+-- what is known of all owners' writes, where this is what they write in the run
+pub record AreKnown (written : ℕ → List Entry) (most : ℕ) (h : HistoriesView) : Type 0 where
+  pub so_far : (owner : ℕ) → IsWrittenSoFar (written owner) most h.rounds (all_writes h.lists owner)
+  pub writes : (owner : ℕ) → AreWrites (list_of_owner h.lists owner)
+
+-- so many owners that have written nothing
+pub record AreNoWrites (nodes : ℕ) (lists : List OwnerListView) : Type 0 where
+  pub count : length lists ≡ nodes
+  pub empty : (owner : ℕ) → list_of_owner lists owner ≡ no_writes
+
+-- what is kept of an owner's writes: counts of all and of those of earlier generations, the last number of each key, and
+-- where the rounds end
+pub record IsCounted (list : OwnerListView) (rounds count base : ℕ) (lasts ends : ℕ → ℕ) : Type 0 where
+  pub counted : count ≡ length (entries_of list)
+  pub based : base ≡ length list.earlier
+  pub last : (key : ℕ) → key < MOST_KEYS → IsLastNumber list key (lasts key)
+  pub none : ends 0 ≡ 0
+  pub rise : (round : ℕ) → round < rounds → ends round ≤ ends (round + 1)
+  pub parts : (round : ℕ) → round ≤ rounds → IsRoundMark (entries_of list) 0 round (ends round)
+  pub reached : (round : ℕ) → round ≤ rounds → ends round ≤ length (entries_of list)
+
+-- and so of all owners
 pub record AreHistories (written : ℕ → List Entry) (most : ℕ) (lists : List OwnerListView) (counts bases lasts ends : List ℕ) (rounds : ℕ) : Type 0 where
   pub few_nodes : length lists ≤ MOST_NODES
-  pub counted : HasEach (length lists) (λ r n. n ≡ length (all_writes lists r)) counts
-  pub based : HasEach (length lists) (λ r n. n ≡ length (list_of_owner lists r).earlier) bases
-  pub last : HasEachPlace (length lists) MOST_KEYS (λ r k n. IsLastNumber (list_of_owner lists r) k n) lasts
-  pub are : (owner : ℕ) → AreWrites (list_of_owner lists owner)
-  pub so_far : (owner : ℕ) → IsWrittenSoFar (written owner) most rounds (all_writes lists owner)
+  pub counts_size : length counts ≡ length lists
+  pub bases_size : length bases ≡ length lists
+  pub lasts_size : length lasts ≡ MOST_KEYS * length lists
   pub ends_size : length ends ≡ (rounds + 1) * length lists
-  pub ended : AreEnds (all_writes lists) (length lists) rounds (cell ends (length lists))
-  pub reached : (owner round : ℕ) → owner < length lists → round ≤ rounds → cell ends (length lists) owner round ≤ length (all_writes lists owner)
+  pub known : AreKnown written most (record { lists = lists; rounds = rounds })
+  pub each : (owner : ℕ) → owner < length lists
+      → IsCounted (list_of_owner lists owner) rounds (slice_index counts owner) (slice_index bases owner) (cell lasts (length lists) owner) (cell ends (length lists) owner)
+
+-- how many writes each owner had made up to the end of each round, in memory
+pub record AreEndsOf {N : Type 0} (number : N → ℕ) (h : HistoriesView) (ends : Ends N) : Type 0 where
+  pub rounds : ends.rounds ≡ h.rounds
+  pub size : length ends.numbers.now ≡ (h.rounds + 1) * length h.lists
+  pub parts : AreEnds (all_writes h.lists) (length h.lists) h.rounds (cell (map number ends.numbers.now) (length h.lists))
 
 -- as many owners as nodes, whose writes are numbered, and of each how many it made before its generation
 pub record AreOwners {N : Type 0} (number : N → ℕ) (nodes : ℕ) (owners : Owners N) : Type 0 where
   pub count : length owners.lists.now ≡ nodes
   pub bases : HasEach nodes (λ r n. n ≡ bases_in owners.lists.now r) (map number owners.bases.now)
   pub numbered : (owner : ℕ) → IsNumberedHistory (all_writes owners.lists.now owner)
-
--- what is known of all owners' writes, where this is what they write in the run
-pub record AreKnown (written : ℕ → List Entry) (most : ℕ) (h : HistoriesView) : Type 0 where
-  pub so_far : (owner : ℕ) → IsWrittenSoFar (written owner) most h.rounds (all_writes h.lists owner)
-  pub writes : (owner : ℕ) → AreWrites (list_of_owner h.lists owner)
 
 -- what a table owes to the histories: its entries were written, and no later than in the last round
 pub record FitsHistories (h : HistoriesView) (t : Table) : Type 0 where

@@ -1,5 +1,4 @@
-use Rattle.version_tables.proofs.Common.{[], ap, sym, Exchanged, DeltaView, Record}
-use Rattle.version_tables.specs.Views.{table_in}
+use Rattle.version_tables.proofs.Common.{[], ap, sym, Exchanged, DeltaView, Record, table_in}
 use Rattle.version_tables.proofs.Fitting.{ready}
 use Rattle.version_tables.proofs.Merged.{both-stay, merged-whole}
 use Rattle.version_tables.proofs.exchanges.exchange.Goals as goal

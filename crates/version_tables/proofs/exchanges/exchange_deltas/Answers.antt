@@ -1,8 +1,4 @@
-use Rattle.version_tables.proofs.Common.{◌≡◌, ℕ, ◌*◌, Bool, true, false, List, length, map, ap, sym, ◌∙◌, ◌||◌, length-map, Entry, HasEach, Exchanged, Owners, Record}
-use Rattle.version_tables.specs.Views.{HistoriesView, VersionTableView, table_in}
-use Rattle.version_tables.specs.inner.Deltas.{delta_of_views}
-use Rattle.version_tables.specs.inner.Histories.{bases_in, AreKnown, AreOwners}
-use Rattle.version_tables.specs.inner.Taken.{HasTakenUnless}
+use Rattle.version_tables.proofs.Common.{◌≡◌, ℕ, ◌*◌, Bool, true, false, List, length, map, ap, sym, ◌∙◌, ◌||◌, length-map, Entry, HasEach, Exchanged, Owners, Record, HistoriesView, VersionTableView, table_in, delta_of_views, HasTakenUnless, bases_in, AreKnown, AreOwners}
 use Rattle.version_tables.proofs.ExchangedViews.{stays_back, stays_forth, exchange_whole}
 use Rattle.version_tables.proofs.Fitting.{ready}
 use Rattle.version_tables.proofs.exchanges.exchange_deltas.Goals as goal

@@ -1,5 +1,4 @@
-use Rattle.version_tables.proofs.Common.{◌+◌, ◌*◌, ◌≤◌, ap, arith, sym, map, length, ◌∙◌, length-map, get_or-map, owner-next, plane-within}
-use Rattle.version_tables.specs.inner.Taken.{number_kept}
+use Rattle.version_tables.proofs.Common.{◌+◌, ◌*◌, ◌≤◌, ap, arith, sym, map, length, ◌∙◌, length-map, get_or-map, owner-next, plane-within, number_kept}
 use Rattle.version_tables.proofs.taking.clear_column.Goals as goal
 
 pub loop-key-preserved : goal.loop-key-preserved

@@ -1,5 +1,4 @@
-use Rattle.version_tables.proofs.Common.{◌≡◌, map, ap, ◌∙◌, with_items, without_all, AreChanged}
-use Rattle.version_tables.specs.Views.{VersionTableView, table_in}
+use Rattle.version_tables.proofs.Common.{◌≡◌, map, ap, ◌∙◌, with_items, without_all, AreChanged, VersionTableView, table_in}
 use Rattle.version_tables.proofs.Laid.{put-back, seen}
 use Rattle.version_tables.proofs.OwnCalls.{LiesAs, forgets, lies-kept, lies-table}
 use Rattle.version_tables.proofs.tables.VersionTable.forget_all.Given as given
@@ -16,7 +15,7 @@ module _ (g : given.Over) (c : goal.After-self-3-1 g) where
       (put-back (AreChanged (λ r x y. y ≡ 0)) g.N.Number.number c.self.inside.greatest _ _ (c.clear-2.auto.numbers ∙ c.deref_mut-2.ensures.len) c.deref_mut-2.ensures.value c.clear-2.ensures)
 
 pub invariant_of-self : goal.invariant_of-self
-invariant_of-self g c = lies-kept g.H.Written.lists _ _ _ (after g c)
+invariant_of-self g c = lies-kept (after g c)
 
 pub returns : goal.returns
-returns g c = lies-table g.H.Written.lists _ _ _ (after g c) ∙ ap (λ v. without_all (table_in g.H.Written.lists v)) c.self.view_is
+returns g c = lies-table (after g c) ∙ ap (λ v. without_all (table_in g.H.Written.lists v)) c.self.view_is

@@ -1,5 +1,4 @@
-use Rattle.version_tables.proofs.Common.{◌≡◌, ◌==◌, if◌then◌else◌, map, ap, ◌∙◌, with_items, without_others, ArePlanesChanged, AreChanged}
-use Rattle.version_tables.specs.Views.{VersionTableView, table_in}
+use Rattle.version_tables.proofs.Common.{◌≡◌, ◌==◌, if◌then◌else◌, map, ap, ◌∙◌, with_items, without_others, ArePlanesChanged, AreChanged, VersionTableView, table_in}
 use Rattle.version_tables.proofs.Laid.{put-back, seen}
 use Rattle.version_tables.proofs.OwnCalls.{LiesAs, lies-kept, lies-table, restarts}
 use Rattle.version_tables.proofs.tables.VersionTable.forget_others.Given as given
@@ -16,7 +15,7 @@ module _ (g : given.Over) (c : goal.After-self-2-1 g) where
       (put-back (AreChanged (λ r x y. y ≡ (if r == old.node then x else 0))) g.N.Number.number c.self.inside.greatest _ _ (c.keep_one.auto.numbers ∙ c.deref_mut-2.ensures.len) c.deref_mut-2.ensures.value c.keep_one.ensures)
 
 pub invariant_of-self : goal.invariant_of-self
-invariant_of-self g c = lies-kept g.H.Written.lists _ _ _ (after g c)
+invariant_of-self g c = lies-kept (after g c)
 
 pub returns : goal.returns
-returns g c = lies-table g.H.Written.lists _ _ _ (after g c) ∙ ap (λ v. without_others (table_in g.H.Written.lists v)) c.self.view_is
+returns g c = lies-table (after g c) ∙ ap (λ v. without_others (table_in g.H.Written.lists v)) c.self.view_is

@@ -1,6 +1,6 @@
 -- Tables that take all that the other has above their own greatest numbers exchange as the model's do.
 -- Serves `exchange`.
-use Rattle.version_tables.proofs.Common.{◌≡◌, ℕ, zero, suc, ◌+◌, ◌-◌, ◌<◌, ◌≤◌, false, min, max, List, get_or, length, map, inl, inr, refl, sym, ap, ◌∙◌, arith, Option, Some, None, mul-le-mul_right, cases_lt, map-id, nat_tests, Entry, Budget, Entries, Bytes, Scuttle, Exchange, First, Oldest, Newest, Record, Rules, amount_of, largest_share, digest_kind, first_sent, sum_below-le, DeltaView, digest_size, last_fate, sent_until, MakesOf, write_numbered, all_writes, applied, Cells, cell, count_between, most_ahead, total_above, BothCounts, Offer, NumbersDiffer, by_first, IsOffer, low_in, share_or_none, number_shares, count_all_between, weight_between, sum_below-none, whole-size, whole-marked, count-newest, part, part-cases, weight_of-none, weight_of-split, weight_between-most, count_between-most, IsVersionTable, VersionTableView, HistoriesView, table_in, delta_of_views, AreLaidBoth, AreMarksOf, bases_in, AreLow, AreOffered, BothStayMerged, HaveMerged, IsMerged, MayMerge, MayTakeAll, IsTaken}
+use Rattle.version_tables.proofs.Common.{◌≡◌, ℕ, zero, suc, ◌+◌, ◌-◌, ◌<◌, ◌≤◌, false, max, List, get_or, length, map, inl, inr, refl, sym, ap, ◌∙◌, arith, Option, Some, None, mul-le-mul_right, cases_lt, map-id, nat_tests, Entry, Budget, Entries, Bytes, Scuttle, Exchange, First, Oldest, Newest, Record, Rules, amount_of, largest_share, digest_kind, first_sent, sum_below-le, DeltaView, digest_size, last_fate, sent_until, MakesOf, write_numbered, all_writes, applied, Cells, cell, count_between, most_ahead, total_above, BothCounts, Offer, NumbersDiffer, by_first, IsOffer, low_in, share_or_none, number_shares, count_all_between, weight_between, sum_below-none, whole-size, whole-marked, count-newest, part, part-cases, weight_of-none, weight_of-split, weight_between-most, count_between-most, IsVersionTable, VersionTableView, HistoriesView, table_in, delta_of_views, AreLaidBoth, AreMarksOf, bases_in, AreLow, AreOffered, BothStayMerged, HaveMerged, IsMerged, MayMerge, MayTakeAll, IsTaken}
 use Rattle.version_tables.proofs.Delivered.{offer-is, delta-marks}
 use Rattle.version_tables.proofs.Fitting.{turned}
 use Rattle.version_tables.proofs.TakenViews.{becomes_applied, becomes_one}

@@ -1,6 +1,6 @@
 -- What a digest tells, by numbers: which of the sender's writes the receiver lacks.
 -- Serves `Delivered`.
-use Rattle.version_tables.proofs.Common.{◌≡◌, ℕ, zero, suc, ◌-◌, ◌<◌, ◌≤◌, max, not, List, length, Option, Some, None, inl, inr, refl, sym, ap, ◌∙◌, subst, arith, nat_lt, ◌&&◌, cases_eq, lt-ltb, le-ltb, eq-eqb, ne_eqb, Entry, Item, Mark, Mode, DigestKind, Scuttle, Precise, mark_of, mark_held, is_before, IsUpTo, digest_kind, absent-first, Table, mark_at, greatest_mark, greatest_mark-unique, known_mark, write_numbered, Cells, number_ahead, IsHistory, IsNumberedHistory, start_before, start_of, Offers, is_lacked, told_by, offered_by, numbers-before, numbered-none, numbered-some, numbered-within, numbers-up_to, numbers-compare, all_writes, cell, get_or, entry_at, nat_tests, VersionTableView, HistoriesView, table_in, AreLaidBoth, AreLow, AreOffered, IsGreatest}
+use Rattle.version_tables.proofs.Common.{◌≡◌, ℕ, zero, suc, ◌-◌, ◌<◌, ◌≤◌, max, List, length, Option, Some, None, inl, inr, refl, sym, ap, ◌∙◌, subst, arith, nat_lt, cases_eq, lt-ltb, le-ltb, Entry, Item, Mark, Mode, DigestKind, Scuttle, Precise, mark_of, mark_held, is_before, IsUpTo, digest_kind, absent-first, Table, mark_at, greatest_mark, greatest_mark-unique, known_mark, write_numbered, Cells, IsHistory, IsNumberedHistory, start_before, start_of, Offers, is_lacked, told_by, offered_by, numbers-before, numbered-none, numbered-some, numbered-within, numbers-up_to, numbers-compare, all_writes, cell, get_or, entry_at, nat_tests, VersionTableView, HistoriesView, table_in, AreLaidBoth, AreLow, AreOffered, IsGreatest}
 use Rattle.version_tables.proofs.Fitting.{turned, first-cells, first-held, first-numbers}
 
 module _ {written : ℕ → List Entry} {most : ℕ} {h : HistoriesView} {from to : VersionTableView} (two : AreLaidBoth written most h from to) (owner : ℕ) (in_nodes : owner < to.nodes) where

@@ -1,4 +1,4 @@
-use Rattle.version_tables.proofs.Common.{◌≡◌, ℕ, map, refl, ap, sym, ◌∙◌, transport, with_items, with_items_is, VersionTableView, AreOfOneSize, IsMerged, StaysMerged}
+use Rattle.version_tables.proofs.Common.{ℕ, map, refl, sym, ◌∙◌, transport, with_items, with_items_is, VersionTableView, AreOfOneSize, IsMerged, StaysMerged}
 use Rattle.version_tables.proofs.Laid.{seen}
 use Rattle.version_tables.proofs.merging.merge.Given as given
 use Rattle.version_tables.proofs.merging.merge.Goals as goal

@@ -1,5 +1,5 @@
 -- Numbers of an owner's keys that are dropped.
--- Serves `are_current`, `drop_older`, `is_current` and `Merged`.
+-- Serves `are_current`, `drop_older` and `is_current`.
 use Rattle.version_tables.proofs.Common.{◌≡◌, ℕ, zero, suc, ◌+◌, ◌*◌, ◌<◌, ◌&&◌, Bool, true, false, cond, List, nat_lt, nat_le, slice_index, refl, sym, ap, ◌∙◌, subst, arith, lt-leb, lt-ltb, Entry, sum_below, cell, total_of, ArePlanesChanged, start_of, sum_below-each_none, sum_below-none, drop_start, number_kept}
 
 -- nothing is dropped up to 0

@@ -1,9 +1,9 @@
 -- The names that these proofs cite of other libraries and of this crate's definitions, passed on from one place.
 -- Declares nothing.
-pub use Rattle.std.proofs.Common.{Bool, List, None, Option, Some, Vec, [], ap, arith, cond, eqb, false, get_or, if◌then◌else◌, inl, inr, length, length-append, ltb, map, max, min, nat_le, nat_lt, not, refl, rules, set, slice_index, subst, suc, sym, take, true, zero, ℕ, ◌&&◌, ◌*◌, ◌++◌, ◌+◌, ◌-◌, ◌<◌, ◌==◌, ◌∙◌, ◌∷◌, ◌≡◌, ◌≢◌, ◌≤◌, ◌⊎◌}
+pub use Rattle.std.proofs.Common.{Bool, List, None, Option, Some, Vec, [], ap, arith, cond, eqb, false, get_or, if◌then◌else◌, inl, inr, length, length-append, ltb, map, max, min, nat_le, nat_lt, refl, rules, set, slice_index, subst, suc, sym, take, true, zero, ℕ, ◌&&◌, ◌*◌, ◌++◌, ◌+◌, ◌-◌, ◌<◌, ◌==◌, ◌∙◌, ◌∷◌, ◌≡◌, ◌≢◌, ◌≤◌, ◌⊎◌}
 pub use Rattle.std.proofs.Math.Nat.{mul-le-mul_right}
 pub use Rattle.std.proofs.Math.Path.{transport}
-pub use Rattle.std.proofs.lemmas.Bool.{both_ways, cases_eq, cases_lt, eq-eqb, eqb-true, le-ltb, lt-leb, lt-ltb, ne_eqb}
+pub use Rattle.std.proofs.lemmas.Bool.{both_ways, cases_eq, cases_lt, eq-eqb, eqb-true, le-ltb, lt-ltb, ne_eqb}
 pub use Rattle.std.proofs.lemmas.Bool.Decides.{nat_tests}
 pub use Rattle.std.proofs.lemmas.List.{append-nil, append_assoc, get_or-append-add, get_or-append_right, get_or-map, get_or-set_other, get_or-set_same, get_or-take, get_or_append_left, get_or_at, get_or_default, get_or_past, get_or_push, length-map, length-set, length-take-le, map-append, map-id, map-set, set-get_or, take-map, with_items_is}
 pub use Rattle.std.proofs.lemmas.List.FromFn.{get_or-map-range_with_len, length-map-range_with_len, sum_by-map-range_with_len_more}
@@ -84,7 +84,7 @@ pub use Rattle.planes.proofs.ByOwner.{owner-next, owner_changed, owners-all, own
 pub use Rattle.planes.proofs.Elementwise.{number-at, written_next}
 pub use Rattle.planes.proofs.Places.{plane-within, planes-written}
 pub use Rattle.planes.specs.Elementwise.{AreChanged, AreChangedUpto}
-pub use Rattle.planes.specs.Planes.{ArePlanesChanged, ArePlanesChangedUpto, Cells, HasEach, HasEachPlace, HasNoneAbove, IsRaised, cell, count_between, most_ahead, number_ahead, numbers_taken, total_above, total_of}
+pub use Rattle.planes.specs.Planes.{ArePlanesChanged, ArePlanesChangedUpto, Cells, HasEach, HasEachPlace, HasNoneAbove, IsRaised, cell, count_between, most_ahead, numbers_taken, total_above, total_of}
 pub use Rattle.planes.specs.declared.merges.BothCounts.{BothCounts}
 pub use Rattle.round_tables.specs.Histories.{StandsAmong}
 pub use Rattle.version_lags.specs.Missed.{IsLastNumber, IsNumberAt, base_of}

@@ -1,12 +1,6 @@
 -- Numbers of an owner's keys that are dropped.
--- Serves `are_current`, `drop_older`, `is_current` and `Merged`.
-use Rattle.version_tables.proofs.Common.{◌≡◌, ℕ, zero, suc, ◌+◌, ◌*◌, ◌<◌, ◌&&◌, Bool, true, false, cond, List, nat_lt, nat_le, slice_index, refl, sym, ap, ◌∙◌, subst, arith, lt-leb, lt-ltb, Entry, sum_below, cell, total_of, ArePlanesChanged, start_of, sum_below-each_none, sum_below-none}
-use Rattle.version_tables.specs.inner.Taken.{drop_start, number_kept}
-
--- nothing is dropped up to 0
-pub kept-all : (x : ℕ) → number_kept 0 x ≡ x
-kept-all zero = refl
-kept-all (suc x) = ap (λ b. cond b 0 (suc x)) (lt-leb (suc x) 0 (omega arith))
+-- Serves `are_current`, `drop_older` and `is_current`.
+use Rattle.version_tables.proofs.Common.{◌≡◌, ℕ, ◌+◌, ◌*◌, ◌<◌, ◌&&◌, Bool, true, false, cond, List, nat_lt, nat_le, slice_index, refl, sym, ap, ◌∙◌, subst, arith, sum_below, cell, total_of, ArePlanesChanged, sum_below-each_none, sum_below-none, nat_tests}
 
 -- where each number stays
 pub planes-stay : (changed : ℕ → ℕ → ℕ → ℕ → Type 0) (nodes keys : ℕ) (xs : List ℕ) → ((r k x : ℕ) → r < nodes → changed r k x x) → ArePlanesChanged changed nodes keys xs xs
@@ -30,8 +24,4 @@ plane-zero nodes total xs test is none =
 
 -- no number is of an earlier generation where there is none
 pub none-current : (x base : ℕ) → base ≡ 0 → (nat_lt 0 x && nat_le x base) ≡ false
-none-current zero base none = refl
-none-current (suc x) base none = λ i. lt-ltb 0 (suc x) (omega arith) i && lt-leb (suc x) base (omega (arith, none)) i
-
-pub no_start : (writes : List Entry) (old base new : ℕ) → (nat_lt 0 old && nat_le old base) ≡ false → drop_start writes old base new ≡ 0
-no_start writes old base new none = ap (λ b. cond (b && nat_lt old new) (start_of writes new) 0) none
+none-current x base none = grind (arith, nat_tests)

@@ -1,9 +1,9 @@
--- The names of other libraries that these proofs cite, passed on from one place. Declares nothing.
-pub use Rattle.std.proofs.Common.{Bool, List, None, Option, Some, Vec, [], ap, arith, cond, eqb, false, get_or, if◌then◌else◌, inl, inr, length, length-append, ltb, map, max, min, nat_le, nat_lt, not, refl, rules, set, slice_index, subst, suc, sym, take, true, zero, ℕ, ◌&&◌, ◌*◌, ◌++◌, ◌+◌, ◌-◌, ◌<◌, ◌==◌, ◌∙◌, ◌∷◌, ◌≡◌, ◌≢◌, ◌≤◌, ◌⊎◌}
-pub use Rattle.std.proofs.Math.Bool.{and-true}
+-- The names that these proofs cite of other libraries and of this crate's definitions, passed on from one place.
+-- Declares nothing.
+pub use Rattle.std.proofs.Common.{Bool, List, None, Option, Some, Vec, [], ap, arith, cond, eqb, false, get_or, if◌then◌else◌, inl, inr, length, length-append, ltb, map, max, min, nat_le, nat_lt, refl, rules, set, slice_index, subst, suc, sym, take, true, zero, ℕ, ◌&&◌, ◌*◌, ◌++◌, ◌+◌, ◌-◌, ◌<◌, ◌==◌, ◌∙◌, ◌∷◌, ◌≡◌, ◌≢◌, ◌≤◌, ◌⊎◌}
 pub use Rattle.std.proofs.Math.Nat.{mul-le-mul_right}
 pub use Rattle.std.proofs.Math.Path.{transport}
-pub use Rattle.std.proofs.lemmas.Bool.{and_left, and_parts, both_ways, cases_eq, cases_lt, eq-eqb, eqb-true, le-leb, le-ltb, leb-true, lt-leb, lt-ltb, ltb-false, ltb-true, ne_eqb}
+pub use Rattle.std.proofs.lemmas.Bool.{both_ways, cases_eq, cases_lt, eq-eqb, eqb-true, le-ltb, lt-ltb, ne_eqb}
 pub use Rattle.std.proofs.lemmas.Bool.Decides.{nat_tests}
 pub use Rattle.std.proofs.lemmas.List.{append-nil, append_assoc, get_or-append-add, get_or-append_right, get_or-map, get_or-set_other, get_or-set_same, get_or-take, get_or_append_left, get_or_at, get_or_default, get_or_past, get_or_push, length-map, length-set, length-take-le, map-append, map-id, map-set, set-get_or, take-map, with_items_is}
 pub use Rattle.std.proofs.lemmas.List.FromFn.{get_or-map-range_with_len, length-map-range_with_len, sum_by-map-range_with_len_more}
@@ -16,13 +16,12 @@ pub use Rattle.std.specs.List.{range_with_len}
 pub use Rattle.std.specs.Option.{option_or}
 pub use Rattle.std.specs.Prelude.{Contains, count_by, ◌||◌}
 pub use Rattle.std.specs.Vec.{with_items}
-pub use Rattle.bench_types.proofs.Marks.{absent-first, before-no, before-yes, not_both, up_to-before}
+pub use Rattle.bench_types.proofs.Marks.{absent-first, not_both, up_to-before}
 pub use Rattle.bench_types.proofs.Sums.{sum_below-le, sum_below-most, sum_below-same}
 pub use Rattle.bench_types.specs.Budget.{amount_of, largest_share}
 pub use Rattle.bench_types.specs.Mark.{IsBefore, IsUpTo, is_before, mark_held, mark_of}
 pub use Rattle.bench_types.specs.Mode.{digest_kind}
 pub use Rattle.bench_types.specs.Sums.{sum_below}
-pub use Rattle.delta_plans.specs.LevelMarks.{first_sent}
 pub use Rattle.bench_types.specs.declared.entries.Entry.{Entry}
 pub use Rattle.bench_types.specs.declared.entries.Item.{Item}
 pub use Rattle.bench_types.specs.declared.entries.Mark.{Mark}
@@ -32,12 +31,10 @@ pub use Rattle.bench_types.specs.declared.exchanges.DigestKind.{DigestKind}
 pub use Rattle.bench_types.specs.declared.exchanges.DigestKind.TheVariants.{Precise, Scuttle}
 pub use Rattle.bench_types.specs.declared.exchanges.Exchange.{Exchange}
 pub use Rattle.bench_types.specs.declared.exchanges.Fate.{Fate}
-pub use Rattle.delta_plans.specs.declared.marked.First.{First}
-pub use Rattle.delta_plans.specs.declared.marked.First.TheVariants.{Newest, Oldest}
 pub use Rattle.bench_types.specs.declared.exchanges.Mode.{Mode}
 pub use Rattle.bench_types.specs.declared.exchanges.Record.{Record}
 pub use Rattle.bench_types.specs.declared.exchanges.Rules.{Rules}
-pub use Rattle.bench_types.specs.declared.limits.TheConstants.{LEAST_KEYS, MOST_KEYS, MOST_NODES, MOST_ROUNDS}
+pub use Rattle.bench_types.specs.declared.limits.TheConstants.{LEAST_KEYS, MOST_KEYS, MOST_NODES}
 pub use Rattle.delta_plans.proofs.CandidateNumbers.{candidate-below, candidate-key, candidate-number}
 pub use Rattle.delta_plans.proofs.Columns.{sum_below-none}
 pub use Rattle.delta_plans.proofs.Grids.{items_sum}
@@ -48,14 +45,14 @@ pub use Rattle.delta_plans.proofs.Starts.{all_writes-here}
 pub use Rattle.delta_plans.proofs.WeightLaws.{count_between-most, part, part-cases, sum_below-each_none, weight_between-most, weight_of-none, weight_of-split}
 pub use Rattle.delta_plans.specs.Firsts.{by_first}
 pub use Rattle.delta_plans.specs.Grids.{number_here, number_there}
-pub use Rattle.delta_plans.specs.LevelMarks.{HasShape, NumbersDiffer, lets_through}
-pub use Rattle.delta_plans.specs.Marked.{AreMarked, KeepsLow, LetAll, ShareLevel}
-pub use Rattle.delta_plans.specs.OfferInMemory.{IsOffer, cells_in, count_in, high_in, low_in, marks, weight_in, weights_in}
-pub use Rattle.delta_plans.specs.Offers.{AreSent, HasCells, Offers, is_lacked, offered_by, told_by, told_number}
-pub use Rattle.delta_plans.specs.Plans.{weight_on}
+pub use Rattle.delta_plans.specs.LevelMarks.{NumbersDiffer, first_sent, lets_through}
+pub use Rattle.delta_plans.specs.Marked.{AreMarked, KeepsLow}
+pub use Rattle.delta_plans.specs.OfferInMemory.{IsOffer, low_in, marks}
+pub use Rattle.delta_plans.specs.Offers.{HasCells, Offers, is_lacked, offered_by, told_by, told_number}
 pub use Rattle.delta_plans.specs.SentSets.{HasSet}
-pub use Rattle.delta_plans.specs.Told.{AreKnown}
-pub use Rattle.delta_plans.specs.Weights.{count_all_between, number_shares, one_each, share_or_none, weight_between, weight_through}
+pub use Rattle.delta_plans.specs.Weights.{count_all_between, number_shares, share_or_none, weight_between}
+pub use Rattle.delta_plans.specs.declared.marked.First.{First}
+pub use Rattle.delta_plans.specs.declared.marked.First.TheVariants.{Newest, Oldest}
 pub use Rattle.delta_plans.specs.declared.offers.Offer.{Offer}
 pub use Rattle.delta_plans.specs.declared.told_marks.Owners.{Owners}
 pub use Rattle.model.proofs.DeltaLaws.{sent-candidate}
@@ -64,20 +61,19 @@ pub use Rattle.model.proofs.Greatest.{greatest_mark-from, greatest_mark-none, gr
 pub use Rattle.model.proofs.InLists.{get-held_by_lists}
 pub use Rattle.model.proofs.Lacking.{candidates-lacked}
 pub use Rattle.model.proofs.ProperLaws.{proper-empty_table, proper-with_own_write, proper-without_all, proper-without_others}
-pub use Rattle.model.proofs.Received.{kept, received, received-proper, sent-held, sent-up_to}
+pub use Rattle.model.proofs.Received.{kept, received-proper, sent-held, sent-up_to}
 pub use Rattle.model.proofs.TableLaws.{KeepsFrame, entry_at-applied_from, entry_at-empty_table, entry_at-own_write, entry_at-own_write_other, entry_at-without_all, entry_at-without_others_other, entry_at-without_others_own, frame-applied, same_table}
 pub use Rattle.model.specs.Candidates.{candidates, known_mark}
 pub use Rattle.model.specs.Deltas.{DeltaView, delta_between}
 pub use Rattle.model.specs.Digests.{digest_size}
 pub use Rattle.model.specs.Exchanged.{Exchanged, initiator_after, last_fate, responder_after, sent_until}
 pub use Rattle.model.specs.Figures.{figures_of}
-pub use Rattle.model.specs.Order.{rotated}
 pub use Rattle.model.specs.Table.{IsProper, Table, applied, empty_table, entry_at, generation_held, greatest_mark, greatest_version, item_of, items_of, mark_at, with_own_write, without_all, without_others}
 pub use Rattle.model.specs.Tables.{HoldsOfEach, table_of_node}
 pub use Rattle.model.specs.calls.DeltaLaws.{Lacks}
 pub use Rattle.model.specs.calls.Exchanging.{MakesOf}
 pub use Rattle.model.specs.calls.Numbers.{write_from, write_numbered}
-pub use Rattle.model.specs.calls.OwnerListView.{AreWrites, ListBecomes, MarksRise, OwnerListView, all_writes, begun_generation, entries_of, list_of_owner, lists_in, next_entry, no_writes, with_write}
+pub use Rattle.model.specs.calls.OwnerListView.{AreWrites, ListBecomes, OwnerListView, all_writes, begun_generation, entries_of, list_of_owner, lists_in, next_entry, no_writes, with_write}
 pub use Rattle.model.specs.calls.Tables.{IsCluster}
 pub use Rattle.model.specs.declared.records.DeltaCounts.{DeltaCounts}
 pub use Rattle.model.specs.inner.Held.{entry_in}
@@ -86,11 +82,19 @@ pub use Rattle.owner_writes.proofs.Numbers.{IsPlaced, numbered-none, numbered-pl
 pub use Rattle.owner_writes.specs.Numbered.{AreEnds, AreMadeBy, IsHistory, IsNumberedHistory, IsRoundMark, start_before, start_of}
 pub use Rattle.planes.proofs.ByOwner.{owner-next, owner_changed, owners-all, owners-next, owners_changed}
 pub use Rattle.planes.proofs.Elementwise.{number-at, written_next}
-pub use Rattle.planes.proofs.Places.{plane-within, planes-written, total-same}
+pub use Rattle.planes.proofs.Places.{plane-within, planes-written}
 pub use Rattle.planes.specs.Elementwise.{AreChanged, AreChangedUpto}
+pub use Rattle.planes.specs.Planes.{ArePlanesChanged, ArePlanesChangedUpto, Cells, HasEach, HasEachPlace, HasNoneAbove, IsRaised, cell, count_between, most_ahead, numbers_taken, total_above, total_of}
 pub use Rattle.planes.specs.declared.merges.BothCounts.{BothCounts}
-pub use Rattle.planes.specs.Planes.{AreCovered, ArePlanesChanged, ArePlanesChangedUpto, AreRaised, AreTaken, Cells, HasEach, HasEachPlace, HasNoneAbove, IsRaised, cell, count_between, most_ahead, number_ahead, number_raised, number_taken, numbers_taken, total_above, total_of}
-pub use Rattle.round_tables.specs.Histories.{AreWrittenBy, StandsAmong}
+pub use Rattle.round_tables.specs.Histories.{StandsAmong}
 pub use Rattle.version_lags.specs.Missed.{IsLastNumber, IsNumberAt, base_of}
 pub use Rattle.version_lags.specs.Pieces.{AreNumbersAt, AreNumbersOf, AreRoundNumbers, MayBeCounted, StandTogether, keys_in, numbers_at, numbers_in}
-pub use Rattle.version_lags.specs.declared.lags.RoundNumbers.{RoundNumbers}
+pub use Rattle.version_tables.specs.Laid.{AreNumbers, IsFirst, IsGreatest, IsVersionTable, entries_below, entry_list, table_of_cells}
+pub use Rattle.version_tables.specs.Views.{HistoriesView, IsKept, VersionTableView, table_in}
+pub use Rattle.version_tables.specs.Writes.{HasOwnWrite, IsNextWrite}
+pub use Rattle.version_tables.specs.inner.Beside.{AreCellsOf, AreCellsUpto, tables_of_views, view_at}
+pub use Rattle.version_tables.specs.inner.Deltas.{AreLaidBoth, AreMarksOf, AreOfOneSize, delta_of_views, is_taken_at}
+pub use Rattle.version_tables.specs.inner.Histories.{AreHistories, AreKnown, AreNoWrites, AreOwners, IsBeginning, IsCounted, IsReadyExchange, IsWriteUnder, IsWrittenSoFar, bases_in}
+pub use Rattle.version_tables.specs.inner.Merged.{BothStayMerged, HaveMerged, IsMerged, MayMerge, MayTakeAll, StaysMerged}
+pub use Rattle.version_tables.specs.inner.Offered.{AreLow, AreOffered}
+pub use Rattle.version_tables.specs.inner.Taken.{AreTakenCells, HasTakenUnless, IsTaken, SendsNewer, SendsNoNewer, StaysOne, drop_start, drop_starts, is_taken, number_kept}

@@ -1,50 +1,8 @@
 -- An exchange of tables of versions is the model's.
--- Serves `exchange`, `exchange_deltas` and `Merged`.
-use Rattle.version_tables.proofs.Common.{◌≡◌, ℕ, ◌<◌, Bool, true, false, eqb, List, [], ◌∷◌, length, if◌then◌else◌, refl, sym, ap, ◌∙◌, arith, ◌||◌, both_ways, eqb-true, Entry, Item, Exchange, Fate, Record, Rules, digest_kind, Exchanged, initiator_after, last_fate, responder_after, sent_until, MakesOf, Table, applied, all_writes, DeltaView, digest_size, numbers_taken}
-use Rattle.bench_types.specs.declared.exchanges.Fate.TheVariants as fate
-use Rattle.version_tables.specs.Views.{VersionTableView, HistoriesView, table_in}
-use Rattle.version_tables.specs.inner.Deltas.{delta_of_views, AreLaidBoth, AreMarksOf}
-use Rattle.version_tables.specs.inner.Histories.{bases_in}
-use Rattle.version_tables.specs.inner.Taken.{HasTakenUnless, StaysOne}
+-- Serves `exchange_deltas`.
+use Rattle.version_tables.proofs.Common.{◌≡◌, ℕ, ◌<◌, Bool, true, false, eqb, List, [], ◌∷◌, length, if◌then◌else◌, refl, sym, ap, ◌∙◌, arith, ◌||◌, both_ways, eqb-true, Entry, Item, Exchange, Fate, Record, Rules, digest_kind, Exchanged, initiator_after, last_fate, responder_after, sent_until, MakesOf, Table, applied, all_writes, DeltaView, digest_size, numbers_taken, VersionTableView, HistoriesView, table_in, delta_of_views, AreLaidBoth, AreMarksOf, bases_in, HasTakenUnless, StaysOne}
 use Rattle.version_tables.proofs.Fitting.{turned}
 use Rattle.version_tables.proofs.TakenViews.{are_taken, becomes_applied, becomes_one, same_taken}
-
-module _ (written : ℕ → List Entry) (rules : Rules) (e : Exchange) (p q : VersionTableView) where
-  abbrev back_of : DeltaView
-  back_of = delta_of_views rules e.rotation written q p
-
-  abbrev forth_of : DeltaView
-  forth_of = delta_of_views rules e.rotation written p q
-
-  abbrev size_of : VersionTableView → ℕ
-  size_of v = digest_size (digest_kind rules.mode) (table_in written v)
-
-  abbrev ended : Fate → Exchanged
-  ended f = record {
-    initiator = initiator_after f (table_in written p) back_of;
-    responder = responder_after f (table_in written q) forth_of;
-    sent = sent_until f (size_of p) (size_of q) back_of forth_of;
-  }
-
-  -- the first message was lost
-  pub lost_first : (r : Record) (d1 : ℕ) → d1 ≡ size_of p → e.lost1 ≡ true → ((n : ℕ) (b f : DeltaView) → r ≡ sent_until fate.Lost1 d1 n b f) → MakesOf (table_in written) rules e p q p q r
-  lost_first r d1 d1_is lost sent = rw lost (let is = sent 0 back_of forth_of in cc)
-
-  module _ {low high : List ℕ} {back_sent back_cut : ℕ} (came : e.lost1 ≡ false) (d1 d2 : ℕ) (d1_is : d1 ≡ size_of p) (d2_is : d2 ≡ size_of q) (back : AreMarksOf rules e.rotation written q p low high back_sent back_cut) where
-    -- the second was
-    pub lost_second : (r : Record) → e.lost2 ≡ true → ((b f : DeltaView) → back_sent ≡ length b.items → back_cut ≡ b.cut → r ≡ sent_until fate.Lost2 d1 d2 b f) → MakesOf (table_in written) rules e p q p q r
-    lost_second r lost sent = rw (came, lost) (let is = sent back_of forth_of back.count back.left in cc)
-
-    -- all three were sent
-    pub all_sent_case : {flow fhigh : List ℕ} {forth_sent forth_cut : ℕ} (forth : AreMarksOf rules e.rotation written p q flow fhigh forth_sent forth_cut) (p' q' : VersionTableView) (r : Record) → e.lost2 ≡ false
-        → table_in written p' ≡ applied (table_in written p) back_of.items → table_in written q' ≡ (if e.lost3 then table_in written q else applied (table_in written q) forth_of.items)
-        → ((b f : DeltaView) → back_sent ≡ length b.items → back_cut ≡ b.cut → forth_sent ≡ length f.items → forth_cut ≡ f.cut → r ≡ sent_until (last_fate e.lost3) d1 d2 b f) → MakesOf (table_in written) rules e p q p' q' r
-    all_sent_case forth p' q' r second p'_is q'_is sent = rw (came, second) (last e.lost3 q'_is (sent back_of forth_of back.count back.left forth.count forth.left))
-      where
-        last : (lost : Bool) → table_in written q' ≡ (if lost then table_in written q else applied (table_in written q) forth_of.items) → r ≡ sent_until (last_fate lost) d1 d2 back_of forth_of
-            → ended (last_fate lost) ≡ record { initiator = table_in written p'; responder = table_in written q'; sent = r }
-        last true there is = cc
-        last false there is = cc
 
 -- where nothing is sent nothing changes
 nothing_applied : (t : Table) (items : List Item) → length items ≡ 0 → applied t items ≡ t
@@ -54,6 +12,19 @@ nothing_applied t (i ∷ is) none = absurd (omega (arith, none))
 -- what both take
 module _ {rules : Rules} {written : ℕ → List Entry} {most : ℕ} {h : HistoriesView} {p q : VersionTableView} {low high flow fhigh : List ℕ} {back_sent back_cut forth_sent forth_cut : ℕ} (e : Exchange)
     (two : AreLaidBoth written most h p q) (back : AreMarksOf rules e.rotation written q p low high back_sent back_cut) (forth : AreMarksOf rules e.rotation written p q flow fhigh forth_sent forth_cut) where
+  abbrev back_of : DeltaView
+  back_of = delta_of_views rules e.rotation written q p
+
+  abbrev forth_of : DeltaView
+  forth_of = delta_of_views rules e.rotation written p q
+
+  abbrev ended : Fate → Exchanged
+  ended f = record {
+    initiator = initiator_after f (table_in written p) back_of;
+    responder = responder_after f (table_in written q) forth_of;
+    sent = sent_until f (digest_size (digest_kind rules.mode) (table_in written p)) (digest_size (digest_kind rules.mode) (table_in written q)) back_of forth_of;
+  }
+
   abbrev pub TakesBack : Bool → VersionTableView → Type 0
   TakesBack nothing after = HasTakenUnless nothing (all_writes h.lists) (bases_in h.lists) p q.cells low high after
 
@@ -66,8 +37,8 @@ module _ {rules : Rules} {written : ℕ → List Entry} {most : ℕ} {h : Histor
   same_after true after is owner key _ _ = ap (λ (v : VersionTableView). numbers_taken q.nodes q.cells v.cells flow fhigh owner key) is
   same_after false after took owner key in_nodes in_keys = same_taken two forth low high after.cells (are_taken (turned two) back (λ _ _ _ _. refl) took.taken) owner key in_nodes in_keys
 
-  back_is : (nothing : Bool) → nothing ≡ eqb back_sent 0 → (after : VersionTableView) → TakesBack nothing after → table_in written after ≡ applied (table_in written p) (delta_of_views rules e.rotation written q p).items
-  back_is true none after is = ap (table_in written) is ∙ sym (nothing_applied (table_in written p) (delta_of_views rules e.rotation written q p).items (sym back.count ∙ eqb-true back_sent 0 (sym none)))
+  back_is : (nothing : Bool) → nothing ≡ eqb back_sent 0 → (after : VersionTableView) → TakesBack nothing after → table_in written after ≡ applied (table_in written p) back_of.items
+  back_is true none after is = ap (table_in written) is ∙ sym (nothing_applied (table_in written p) back_of.items (sym back.count ∙ eqb-true back_sent 0 (sym none)))
   back_is false some after took = ap (table_in written) took.rest ∙ becomes_applied (turned two) back (λ _ _ _ _. refl) took.taken
 
   module _ (nothing : Bool) (after : VersionTableView) (took : TakesBack nothing after) where
@@ -75,9 +46,9 @@ module _ {rules : Rules} {written : ℕ → List Entry} {most : ℕ} {h : Histor
     stays_forth cells greatest taken = becomes_one two forth (same_after nothing after took) taken
 
     forth_is : (skips lost : Bool) → skips ≡ (lost || eqb forth_sent 0) → (q' : VersionTableView) → HasTakenUnless skips (all_writes h.lists) (bases_in h.lists) q after.cells flow fhigh q'
-        → table_in written q' ≡ (if lost then table_in written q else applied (table_in written q) (delta_of_views rules e.rotation written p q).items)
+        → table_in written q' ≡ (if lost then table_in written q else applied (table_in written q) forth_of.items)
     forth_is true true is q' same = ap (table_in written) same
-    forth_is true false is q' same = ap (table_in written) same ∙ sym (nothing_applied (table_in written q) (delta_of_views rules e.rotation written p q).items (sym forth.count ∙ eqb-true forth_sent 0 (sym is)))
+    forth_is true false is q' same = ap (table_in written) same ∙ sym (nothing_applied (table_in written q) forth_of.items (sym forth.count ∙ eqb-true forth_sent 0 (sym is)))
     forth_is false true is q' takes = absurd (both_ways false refl is)
     forth_is false false is q' takes = ap (table_in written) takes.rest ∙ becomes_applied two forth (same_after nothing after took) takes.taken
 
@@ -87,4 +58,9 @@ module _ {rules : Rules} {written : ℕ → List Entry} {most : ℕ} {h : Histor
       → ((b f : DeltaView) → back_sent ≡ length b.items → back_cut ≡ b.cut → forth_sent ≡ length f.items → forth_cut ≡ f.cut → r ≡ sent_until (last_fate e.lost3) d1 d2 b f)
       → MakesOf (table_in written) rules e p q p' q' r
   exchange_whole d1 d2 d1_is d2_is first second nothing skips none skipped p' q' took takes r sent =
-      all_sent_case written rules e p q first d1 d2 d1_is d2_is back forth p' q' r second (back_is nothing none p' took) (forth_is nothing p' took skips e.lost3 skipped q' takes) sent
+      rw (first, second) (last e.lost3 (forth_is nothing p' took skips e.lost3 skipped q' takes) (sent back_of forth_of back.count back.left forth.count forth.left))
+    where
+      last : (lost : Bool) → table_in written q' ≡ (if lost then table_in written q else applied (table_in written q) forth_of.items) → r ≡ sent_until (last_fate lost) d1 d2 back_of forth_of
+          → ended (last_fate lost) ≡ record { initiator = table_in written p'; responder = table_in written q'; sent = r }
+      last true there is = let here = back_is nothing none p' took in cc
+      last false there is = let here = back_is nothing none p' took in cc

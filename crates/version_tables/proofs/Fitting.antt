@@ -1,10 +1,6 @@
 -- Tables beside the histories: the numbers that they hold are of writes made so far.
 -- Serves most of the crate.
-use Rattle.version_tables.proofs.Common.{◌≡◌, ℕ, zero, suc, ◌<◌, ◌≤◌, List, [], ◌∷◌, length, Some, inl, inr, sym, ap, ◌∙◌, arith, Contains, cases_lt, Entry, Exchange, Rules, mark_held, entry_at, generation_held, write_from, write_numbered, all_writes, Cells, cell, HasCells, numbered-some}
-use Rattle.version_tables.specs.Views.{VersionTableView, HistoriesView, table_in, IsKept}
-use Rattle.version_tables.specs.inner.Deltas.{AreLaidBoth}
-use Rattle.version_tables.specs.inner.Histories.{IsBeginning, IsReadyExchange}
-use Rattle.version_tables.specs.Laid.{AreNumbers}
+use Rattle.version_tables.proofs.Common.{◌≡◌, ℕ, zero, suc, ◌<◌, ◌≤◌, List, [], ◌∷◌, length, Some, inl, inr, sym, ap, ◌∙◌, arith, Contains, cases_lt, Entry, Exchange, Rules, mark_held, entry_at, generation_held, write_from, write_numbered, all_writes, Cells, cell, HasCells, numbered-some, VersionTableView, HistoriesView, table_in, IsKept, AreLaidBoth, IsBeginning, IsReadyExchange, AreNumbers}
 use Rattle.version_tables.proofs.Laid.{has_cells}
 
 -- what is contained has a place

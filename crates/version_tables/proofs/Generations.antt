@@ -1,5 +1,5 @@
 -- Writes behind those of earlier generations are of the owner's own one, numbered on, and none is of a newer one.
--- Serves `HistoryCalls`, `NextWrites` and `TakenViews`.
+-- Serves `HistoryCalls`, `NextWrites` and `TakenByOwner`.
 use Rattle.version_tables.proofs.Common.{◌≡◌, ℕ, ◌+◌, ◌-◌, ◌<◌, ◌≤◌, length, get_or, Some, inl, inr, refl, sym, ap, ◌∙◌, subst, arith, cases_lt, get_or_append_left, get_or-append_right, length-append, Entry, write_numbered, OwnerListView, entries_of, AreWrites, IsPlaced, numbered-placed}
 
 module _ (v : OwnerListView) (are : AreWrites v) (number : ℕ) (e : Entry) (is : write_numbered (entries_of v) number ≡ Some e) where

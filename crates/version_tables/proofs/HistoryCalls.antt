@@ -1,8 +1,7 @@
 -- What the calls of the histories make of all that is kept of the owners' writes.
 -- Serves `Histories::begin_generation`, `Histories::end_round`, `Histories::lasts`, `Histories::new` and
 -- `Histories::write`.
-use Rattle.version_tables.proofs.Common.{◌≡◌, ◌≢◌, ℕ, zero, suc, ◌+◌, ◌*◌, ◌<◌, ◌≤◌, ◌==◌, cond, List, [], ◌∷◌, ◌++◌, length, get_or, set, map, take, Some, inl, inr, refl, sym, ap, ◌∙◌, subst, transport, arith, length-append, mul-le-mul_right, cases_lt, cases_eq, eq-eqb, ne_eqb, get_or-set_same, get_or-set_other, get_or_append_left, get_or_push, length-set, get_or-append-add, get_or_default, length-map, length-take-le, get_or-take, take-map, map-append, map-set, append_assoc, append-nil, same_Some, number-at, Entry, MOST_KEYS, MOST_NODES, write_from, write_numbered, OwnerListView, all_writes, entries_of, list_of_owner, no_writes, next_entry, with_write, begun_generation, AreWrites, ListBecomes, writes_more, writes_begun, HasEach, HasEachPlace, ArePlanesChanged, cell, AreMadeBy, IsHistory, IsNumberedHistory, IsRoundMark, IsLastNumber, write_from-some, numbered-within, write_from-at}
-use Rattle.version_tables.specs.inner.Histories.{AreHistories, AreNoWrites, IsBeginning, IsCounted, IsWrittenSoFar, IsWriteUnder}
+use Rattle.version_tables.proofs.Common.{◌≡◌, ◌≢◌, ℕ, zero, suc, ◌+◌, ◌*◌, ◌<◌, ◌≤◌, ◌==◌, cond, List, [], ◌∷◌, ◌++◌, length, get_or, set, map, take, Some, inl, inr, refl, sym, ap, ◌∙◌, subst, transport, arith, length-append, mul-le-mul_right, cases_lt, cases_eq, eq-eqb, ne_eqb, get_or-set_same, get_or-set_other, get_or_append_left, get_or_push, length-set, get_or-append-add, get_or_default, length-map, length-take-le, get_or-take, take-map, map-append, map-set, append_assoc, append-nil, same_Some, number-at, Entry, MOST_KEYS, MOST_NODES, write_from, write_numbered, OwnerListView, all_writes, entries_of, list_of_owner, no_writes, next_entry, with_write, begun_generation, AreWrites, ListBecomes, writes_more, writes_begun, HasEach, HasEachPlace, ArePlanesChanged, cell, AreMadeBy, IsHistory, IsNumberedHistory, IsRoundMark, IsLastNumber, write_from-some, numbered-within, write_from-at, AreHistories, AreNoWrites, IsBeginning, IsCounted, IsWrittenSoFar, IsWriteUnder}
 use Rattle.version_tables.proofs.Generations.{current-at, earlier-at}
 use Rattle.version_tables.proofs.OwnCalls.{other-place, place-within}
 
@@ -15,31 +14,6 @@ from-before (x ∷ xs) e (suc place) lt = from-before xs e place (omega (arith, 
 from-last : (w : List Entry) (e : Entry) → write_from (w ++ e ∷ []) (length w) ≡ Some e
 from-last [] e = refl
 from-last (x ∷ xs) e = from-last xs e
-
-module _ (w more : List Entry) (e : Entry) (whole : more ≡ w ++ e ∷ []) where
-  longer : length more ≡ length w + 1
-  longer = omega (arith, ap (λ (es : List Entry). length es) whole, length-append w (e ∷ []))
-
-  numbered-before : (number : ℕ) → number ≤ length w → write_numbered more number ≡ write_numbered w number
-  numbered-before zero le = refl
-  numbered-before (suc place) le = ap (λ es. write_from es place) whole ∙ from-before w e place (omega (arith, le))
-
-  numbered-last : write_numbered more (length w + 1) ≡ Some e
-  numbered-last = (λ i. write_numbered (whole i) (next i)) ∙ from-last w e
-    where
-      next : length w + 1 ≡ suc (length w)
-      next = omega arith
-
-  -- what holds of each write before, and of the one more
-  each-more : (P : ℕ → Entry → Type 0) → ((number : ℕ) (d : Entry) → number ≤ length w → write_numbered w number ≡ Some d → P number d) → P (length w + 1) e → (number : ℕ) (d : Entry) → write_numbered more number ≡ Some d → P number d
-  each-more P before last number d is = elim (cases_lt (length w) number) [
-    | inl behind ↦
-        let here : length w + 1 ≡ number = omega (arith, behind, (numbered-within more number d is).1, longer) in
-        transport (λ i. P (here i) (same_Some e d (sym numbered-last ∙ ap (write_numbered more) here ∙ is) i)) last
-    | inr not_behind ↦
-        let upto : number ≤ length w = omega (arith, not_behind) in
-        before number d upto (sym (numbered-before number upto) ∙ is)
-  ]
 
 -- one more write, in the round that comes next
 module _ (all : List Entry) (most rounds : ℕ) (v : OwnerListView) (key value : ℕ) (are : AreWrites v) (so_far : IsWrittenSoFar all most rounds (entries_of v)) where
@@ -58,14 +32,33 @@ module _ (all : List Entry) (most rounds : ℕ) (v : OwnerListView) (key value :
   whole : more ≡ w ++ e ∷ []
   whole = sym (append_assoc v.earlier v.current (e ∷ []))
 
-  size : length more ≡ length v.earlier + length v.current + 1
-  size = omega (arith, longer w more e whole, length-append v.earlier v.current)
+  split : length w ≡ length v.earlier + length v.current
+  split = length-append v.earlier v.current
+
+  longer : length more ≡ length w + 1
+  longer = omega (arith, ap (λ (es : List Entry). length es) whole, length-append w (e ∷ []))
+
+  numbered-before : (number : ℕ) → number ≤ length w → write_numbered more number ≡ write_numbered w number
+  numbered-before zero le = refl
+  numbered-before (suc place) le = ap (λ es. write_from es place) whole ∙ from-before w e place (omega (arith, le))
 
   back : (number : ℕ) (d : Entry) → number ≤ length w → write_numbered more number ≡ Some d → write_numbered w number ≡ Some d
-  back number d le is = sym (numbered-before w more e whole number le) ∙ is
+  back number d le is = sym (numbered-before number le) ∙ is
 
+  numbered-last : write_numbered more (length w + 1) ≡ Some e
+  numbered-last = (λ i. write_numbered (whole i) (next i)) ∙ from-last w e
+    where
+      next : length w + 1 ≡ suc (length w)
+      next = omega arith
+
+  -- what holds of each write before, and of the one more
   each : (P : ℕ → Entry → Type 0) → ((number : ℕ) (d : Entry) → number ≤ length w → write_numbered w number ≡ Some d → P number d) → P (length w + 1) e → (number : ℕ) (d : Entry) → write_numbered more number ≡ Some d → P number d
-  each = each-more w more e whole
+  each P before last number d is = elim (cases_lt (length w) number) [
+    | inl behind ↦
+        let here : length w + 1 ≡ number = omega (arith, behind, (numbered-within more number d is).1, longer) in
+        transport (λ i. P (here i) (same_Some e d (sym numbered-last ∙ ap (write_numbered more) here ∙ is) i)) last
+    | inr not_behind ↦ let upto : number ≤ length w = omega (arith, not_behind) in before number d upto (back number d upto is)
+  ]
 
   made-more : AreMadeBy (rounds + 1) more
   made-more = record {
@@ -80,7 +73,7 @@ module _ (all : List Entry) (most rounds : ℕ) (v : OwnerListView) (key value :
       | inl before ↦ omega (arith, front i d (omega (arith, le, before)), front j d before, so_far.history.born i j d le before)
       | inr not_before ↦
           let there = write_from-some more i (omega (arith, le, lt)) in
-          let last = ap (λ es. (get_or es j d).born) whole ∙ ap (λ (x : Entry). x.born) (get_or_push w e d j (omega (arith, not_before, lt, size, length-append v.earlier v.current))) in
+          let last = ap (λ es. (get_or es j d).born) whole ∙ ap (λ (x : Entry). x.born) (get_or_push w e d j (omega (arith, not_before, lt, longer))) in
           omega (arith, made-more.last (suc i) there.0 there.1, ap (λ (x : Entry). x.born) (write_from-at more i there.0 d there.1).1, last)
     ];
   }
@@ -90,16 +83,16 @@ module _ (all : List Entry) (most rounds : ℕ) (v : OwnerListView) (key value :
 
   numbered_history-more : IsNumberedHistory more
   numbered_history-more = record {
-    counted = each (λ number d. (1 ≤ d.version) × (d.version ≤ number)) (λ number d _. so_far.numbered.counted number d) (omega arith, omega (arith, length-append v.earlier v.current));
+    counted = each (λ number d. (1 ≤ d.version) × (d.version ≤ number)) (λ number d _. so_far.numbered.counted number d) (omega arith, omega (arith, split));
     older = λ m n c d is_c is_d. each (λ n d. m + d.version ≤ n → c.generation < d.generation)
         (λ n d upto is le. so_far.numbered.older m n c d (back m c (omega (arith, upto, le)) is_c) is le)
         (λ le.
-        let early : m ≤ length v.earlier = omega (arith, le, length-append v.earlier v.current) in
-        earlier-at v are m c (back m c (omega (arith, early, length-append v.earlier v.current)) is_c) early)
+        let early : m ≤ length v.earlier = omega (arith, le, split) in
+        earlier-at v are m c (back m c (omega (arith, early, split)) is_c) early)
         n d is_d;
     alike = λ m n c d is_c is_d. each (λ n d. m ≤ n → n < m + d.version → c.generation ≡ d.generation)
         (λ n d upto is le. so_far.numbered.alike m n c d (back m c (omega (arith, upto, le)) is_c) is le)
-        (λ _ lt. each (λ m c. length v.earlier < m → c.generation ≡ v.generation) (λ m c _ is behind. (current-at v are m c is behind).0) (λ _. refl) m c is_c (omega (arith, lt, length-append v.earlier v.current)))
+        (λ _ lt. each (λ m c. length v.earlier < m → c.generation ≡ v.generation) (λ m c _ is behind. (current-at v are m c is behind).0) (λ _. refl) m c is_c (omega (arith, lt, split)))
         n d is_d;
   }
 
@@ -107,13 +100,13 @@ module _ (all : List Entry) (most rounds : ℕ) (v : OwnerListView) (key value :
   so_far-more is below = record {
     begins = λ number le. elim (cases_lt (length w) number) [
       | inl behind ↦
-          let last : length w + 1 ≡ number = omega (arith, behind, le, longer w more e whole) in
-          subst (λ n. write_numbered more n ≡ write_numbered all n) last (numbered-last w more e whole ∙ sym is)
+          let last : length w + 1 ≡ number = omega (arith, behind, le, longer) in
+          subst (λ n. write_numbered more n ≡ write_numbered all n) last (numbered-last ∙ sym is)
       | inr not_behind ↦
           let before : number ≤ length w = omega (arith, not_behind) in
-          numbered-before w more e whole number before ∙ so_far.begins number before
+          numbered-before number before ∙ so_far.begins number before
     ];
-    few = omega (arith, below, longer w more e whole);
+    few = omega (arith, below, longer);
     history = history-more;
     numbered = numbered_history-more;
     made = made-more;
@@ -123,23 +116,23 @@ module _ (all : List Entry) (most rounds : ℕ) (v : OwnerListView) (key value :
   pub counted-more : (count base : ℕ) (lasts lasts' ends : ℕ → ℕ) → IsCounted v rounds count base lasts ends → lasts' key ≡ length w + 1 → ((k : ℕ) → k < MOST_KEYS → k ≢ key → lasts' k ≡ lasts k)
       → IsCounted after rounds (length w + 1) base lasts' ends
   counted-more count base lasts lasts' ends kept here others = record {
-    counted = sym (longer w more e whole);
+    counted = sym (longer);
     based = kept.based;
     last = λ k in_keys. elim (cases_eq k key) [
       | inl same ↦ subst (λ j. IsLastNumber after j (lasts' j)) (sym same) (subst (IsLastNumber after key) (sym here) (record {
-        written = omega (arith, longer w more e whole);
-        last = λ m d missed. omega (arith, missed.over, (numbered-within more m d missed.written).1, longer w more e whole);
-        there = λ below lt. (e, record { written = numbered-last w more e whole; current = omega (arith, length-append v.earlier v.current); keyed = refl; over = lt });
+        written = omega (arith, longer);
+        last = λ m d missed. omega (arith, missed.over, (numbered-within more m d missed.written).1, longer);
+        there = λ below lt. (e, record { written = numbered-last; current = omega (arith, split); keyed = refl; over = lt });
       }))
       | inr other ↦
           let last = kept.last k in_keys in
           subst (IsLastNumber after k) (sym (others k in_keys other)) (record {
-            written = omega (arith, last.written, longer w more e whole);
+            written = omega (arith, last.written, longer);
             last = λ m d missed. each (λ m d. length v.earlier < m → d.key ≡ k → lasts k < m → ⊥) (λ m d _ is current keyed over. last.last m d (record { written = is; current = current; keyed = keyed; over = over }))
                 (λ _ keyed _. other (sym keyed)) m d missed.written missed.current missed.keyed missed.over;
             there = λ below lt.
                 let old = last.there below lt in
-                (old.0, record { written = numbered-before w more e whole (lasts k) last.written ∙ old.1.written; current = old.1.current; keyed = old.1.keyed; over = old.1.over });
+                (old.0, record { written = numbered-before (lasts k) last.written ∙ old.1.written; current = old.1.current; keyed = old.1.keyed; over = old.1.over });
           })
     ];
     none = kept.none;
@@ -148,7 +141,7 @@ module _ (all : List Entry) (most rounds : ℕ) (v : OwnerListView) (key value :
       upto = λ number d some is_d. each (λ n d. 0 < n → n ≤ ends round → d.born ≤ round) (λ n d _ is some. (kept.parts round upto).upto n d some is) (λ _ le. absurd (omega (arith, le, kept.reached round upto))) number d is_d some;
       above = λ number d some is_d. each (λ n d. 0 < n → ends round < n → round < d.born) (λ n d _ is some. (kept.parts round upto).above n d some is) (λ _ _. omega (arith, upto)) number d is_d some;
     };
-    reached = λ round upto. omega (arith, kept.reached round upto, longer w more e whole);
+    reached = λ round upto. omega (arith, kept.reached round upto, longer);
   }
 
 module _ {written : ℕ → List Entry} {most : ℕ} {lists : List OwnerListView} {counts bases lasts ends : List ℕ} {rounds : ℕ} (kept : AreHistories written most lists counts bases lasts ends rounds) where
@@ -177,8 +170,10 @@ module _ {written : ℕ → List Entry} {most : ℕ} {lists : List OwnerListView
       bases_size = same_bases ∙ kept.bases_size ∙ sym changes.count;
       lasts_size = same_lasts ∙ kept.lasts_size ∙ ap (λ m. MOST_KEYS * m) (sym changes.count);
       ends_size = kept.ends_size ∙ ap (λ m. (rounds + 1) * m) (sym changes.count);
-      are = each-list (λ _ v. AreWrites v) (λ r _. kept.are r) are;
-      so_far = each-list (λ r v. IsWrittenSoFar (written r) most rounds (entries_of v)) (λ r _. kept.so_far r) so_far;
+      known = record {
+        so_far = each-list (λ r v. IsWrittenSoFar (written r) most rounds (entries_of v)) (λ r _. kept.known.so_far r) so_far;
+        writes = each-list (λ _ v. AreWrites v) (λ r _. kept.known.writes r) are;
+      };
       each = subst (λ m. (r : ℕ) → r < m → IsCounted (list_of_owner new r) rounds (get_or counts' r 0) (get_or bases' r 0) (cell lasts' m r) (cell ends m r)) (sym changes.count)
           (each-list (λ r v. r < nodes → IsCounted v rounds (get_or counts' r 0) (get_or bases' r 0) (cell lasts' nodes r) (cell ends nodes r)) (λ r other lt. others r lt other) (λ _. own));
     }
@@ -194,12 +189,12 @@ module _ {written : ℕ → List Entry} {most : ℕ} {lists : List OwnerListView
     histories-written key value counts' lasts' changes under in_keys is last_is =
         transport (λ i. AreHistories written most new (sym is i) bases (sym last_is i) ends rounds)
         (histories-changed (with_write list key value (rounds + 1)) (set counts owner (n + 1)) bases (set lasts index (n + 1)) changes (length-set counts owner (n + 1)) refl (length-set lasts index (n + 1))
-        (writes_more list (kept.are owner) key value (rounds + 1)) (so_far-more (written owner) most rounds list key value (kept.are owner) (kept.so_far owner) under.is under.below)
+        (writes_more list (kept.known.writes owner) key value (rounds + 1)) (so_far-more (written owner) most rounds list key value (kept.known.writes owner) (kept.known.so_far owner) under.is under.below)
         (λ r lt other. transport (λ i. IsCounted (list_of_owner lists r) rounds (sym (get_or-set_other counts owner r (n + 1) 0 other) i) (get_or bases r 0)
         (λ k. sym (get_or-set_other lasts index (k * nodes + r) (n + 1) 0 (other-place nodes r k owner key lt in_nodes (inl other))) i) (cell ends nodes r)) (kept.each r lt))
         (subst (λ m. IsCounted (with_write list key value (rounds + 1)) rounds m (get_or bases owner 0) (cell (set lasts index (n + 1)) nodes owner) (cell ends nodes owner))
         (sym (get_or-set_same counts owner (n + 1) 0 (omega (arith, in_nodes, kept.counts_size))))
-        (counted-more (written owner) most rounds list key value (kept.are owner) (kept.so_far owner) (get_or counts owner 0) (get_or bases owner 0) (cell lasts nodes owner) (cell (set lasts index (n + 1)) nodes owner) (cell ends nodes owner) old
+        (counted-more (written owner) most rounds list key value (kept.known.writes owner) (kept.known.so_far owner) (get_or counts owner 0) (get_or bases owner 0) (cell lasts nodes owner) (cell (set lasts index (n + 1)) nodes owner) (cell ends nodes owner) old
         (get_or-set_same lasts index (n + 1) 0 (omega (arith, kept.lasts_size, place-within nodes MOST_KEYS owner key in_nodes in_keys)))
         (λ k _ other. get_or-set_other lasts index (k * nodes + owner) (n + 1) 0 (other-place nodes owner k owner key in_nodes in_nodes (inr other))))))
       where
@@ -211,7 +206,7 @@ module _ {written : ℕ → List Entry} {most : ℕ} {lists : List OwnerListView
     histories-begun bases' lasts' changes is cleared =
         subst (λ bs. AreHistories written most new counts bs lasts' ends rounds) (sym is)
         (histories-changed (begun_generation list) counts (set bases owner n) lasts' changes refl (length-set bases owner n) cleared.size
-        (writes_begun list (kept.are owner)) (subst (IsWrittenSoFar (written owner) most rounds) (sym whole) (kept.so_far owner))
+        (writes_begun list (kept.known.writes owner)) (subst (IsWrittenSoFar (written owner) most rounds) (sym whole) (kept.known.so_far owner))
         (λ r lt other.
         let stays = kept.each r lt in
         record {
@@ -270,7 +265,7 @@ module _ {written : ℕ → List Entry} {most : ℕ} {lists : List OwnerListView
             | inr late ↦ omega (arith, row-before round (omega (arith, before)), row-last (round + 1) (omega (arith, before, late)), old.reached round (omega (arith, before)))
           ];
           parts = each-round (λ round mark. IsRoundMark (all_writes lists owner) 0 round mark) old.parts (λ round last. record {
-            upto = λ number d some is le. omega (arith, (kept.so_far owner).made.last number d is, last);
+            upto = λ number d some is le. omega (arith, (kept.known.so_far owner).made.last number d is, last);
             above = λ number d some is behind. absurd (omega (arith, behind, (numbered-within (all_writes lists owner) number d is).1));
           });
           reached = each-round (λ _ mark. mark ≤ length (all_writes lists owner)) old.reached (λ _ _. omega arith);
@@ -283,16 +278,18 @@ module _ {written : ℕ → List Entry} {most : ℕ} {lists : List OwnerListView
     bases_size = kept.bases_size;
     lasts_size = kept.lasts_size;
     ends_size = grind (arith, length-append ends counts, kept.ends_size, kept.counts_size);
-    are = kept.are;
-    so_far = λ owner.
-        let old = kept.so_far owner in
-        record {
-          begins = old.begins;
-          few = old.few;
-          history = old.history;
-          numbered = old.numbered;
-          made = record { first = old.made.first; last = λ number d is. omega (arith, old.made.last number d is) };
-        };
+    known = record {
+      so_far = λ owner.
+          let old = kept.known.so_far owner in
+          record {
+            begins = old.begins;
+            few = old.few;
+            history = old.history;
+            numbered = old.numbered;
+            made = record { first = old.made.first; last = λ number d is. omega (arith, old.made.last number d is) };
+          };
+      writes = kept.known.writes;
+    };
     each = counted-ended;
   })
 
@@ -337,12 +334,14 @@ histories-empty written most nodes lists counts bases lasts ends some few nothin
   bases_size = no_bases.size ∙ sym nothing.count;
   lasts_size = no_lasts.size ∙ ap (λ n. MOST_KEYS * n) (sym nothing.count);
   ends_size = omega (arith, no_ends.size, nothing.count);
-  are = λ r. subst AreWrites (sym (nothing.empty r)) (record {
-    current = λ i d lt. absurd (omega (arith, lt));
-    earlier = λ i d lt. absurd (omega (arith, lt));
-    rising = λ i j d lt in_range. absurd (omega (arith, in_range));
-  });
-  so_far = λ r. subst (λ v. IsWrittenSoFar (written r) most 0 (entries_of v)) (sym (nothing.empty r)) (so_far-none (written r) most some);
+  known = record {
+    so_far = λ r. subst (λ v. IsWrittenSoFar (written r) most 0 (entries_of v)) (sym (nothing.empty r)) (so_far-none (written r) most some);
+    writes = λ r. subst AreWrites (sym (nothing.empty r)) (record {
+      current = λ i d lt. absurd (omega (arith, lt));
+      earlier = λ i d lt. absurd (omega (arith, lt));
+      rising = λ i j d lt in_range. absurd (omega (arith, in_range));
+    });
+  };
   each = subst (λ m. (r : ℕ) → r < m → IsCounted (list_of_owner lists r) 0 (get_or counts r 0) (get_or bases r 0) (cell lasts m r) (cell ends m r)) (sym nothing.count)
       (λ r lt. subst (λ v. IsCounted v 0 (get_or counts r 0) (get_or bases r 0) (cell lasts nodes r) (cell ends nodes r)) (sym (nothing.empty r)) (record {
         counted = no_counts.each r lt;

@@ -1,7 +1,6 @@
 -- What a table that lies in cells holds.
 -- Serves most of the crate.
-use Rattle.version_tables.proofs.Common.{◌≡◌, ℕ, zero, suc, ◌<◌, ◌≤◌, Bool, true, false, cond, eqb, ltb, List, [], ◌∷◌, ◌++◌, length, map, Vec, Option, Some, None, option_or, ◌⊎◌, inl, inr, refl, sym, ap, ◌∙◌, subst, arith, range_with_len, with_items, cases_lt, cases_eq, eq-eqb, ne_eqb, lt-ltb, le-ltb, get_or_past, with_items_is, get_or-map-range_with_len, length-map-range_with_len, Entry, Table, entry_at, IsProper, same_table, entry_in, get-held_by_lists, HasCells, write_numbered, Cells}
-use Rattle.version_tables.specs.Laid.{entry_list, entries_below, table_of_cells, AreNumbers}
+use Rattle.version_tables.proofs.Common.{◌≡◌, ℕ, zero, suc, ◌<◌, ◌≤◌, Bool, true, false, cond, eqb, ltb, List, [], ◌∷◌, ◌++◌, length, map, Vec, Option, Some, None, option_or, ◌⊎◌, inl, inr, refl, sym, ap, ◌∙◌, subst, arith, range_with_len, with_items, cases_lt, cases_eq, eq-eqb, ne_eqb, lt-ltb, le-ltb, get_or_past, with_items_is, get_or-map-range_with_len, length-map-range_with_len, Entry, Table, entry_at, IsProper, same_table, entry_in, get-held_by_lists, HasCells, write_numbered, Cells, entry_list, entries_below, table_of_cells, AreNumbers}
 
 -- an entry in one of two rows
 entry_in-append : (xs ys : List Entry) (key : ℕ) → entry_in (xs ++ ys) key ≡ option_or (entry_in xs key) (entry_in ys key)
@@ -57,39 +56,34 @@ module _ (lists : ℕ → List Entry) (node nodes keys generation : ℕ) (cells 
       ∙ rw (lt-ltb key keys in_keys)
 
   -- nothing is held past the bounds
-  outside-owner : (owner key : ℕ) → nodes ≤ owner → entry_at t owner key ≡ None
-  outside-owner owner key past =
-      get-held_by_lists (map entries (range_with_len 0 nodes)) owner key
-      ∙ ap (λ r. entry_in r key) (get_or_past (map entries (range_with_len 0 nodes)) owner [] (omega (arith, past, length-map-range_with_len entries 0 nodes)))
-
-  outside-key : (owner key : ℕ) → owner < nodes → keys ≤ key → entry_at t owner key ≡ None
-  outside-key owner key in_nodes past =
-      get-held_by_lists (map entries (range_with_len 0 nodes)) owner key
-      ∙ ap (λ r. entry_in r key) (get_or-map-range_with_len entries 0 nodes owner owner [] in_nodes (omega arith))
-      ∙ row (lists owner) (cells owner) keys (λ k e lt is. are.keyed owner k e in_nodes lt is) keys key (omega arith)
-      ∙ rw (le-ltb key keys past)
+  outside : (owner key : ℕ) → (nodes ≤ owner) ⊎ (keys ≤ key) → entry_at t owner key ≡ None
+  outside owner key past = get-held_by_lists (map entries (range_with_len 0 nodes)) owner key ∙ elim (cases_lt owner nodes) [
+    | inr beyond ↦ ap (λ r. entry_in r key) (get_or_past (map entries (range_with_len 0 nodes)) owner [] (omega (arith, beyond, length-map-range_with_len entries 0 nodes)))
+    | inl in_nodes ↦
+        let over : keys ≤ key = elim past [ inl beyond ↦ absurd (omega (arith, beyond, in_nodes)) | inr over ↦ over ] in
+        ap (λ r. entry_in r key) (get_or-map-range_with_len entries 0 nodes owner owner [] in_nodes (omega arith))
+        ∙ row (lists owner) (cells owner) keys (λ k e lt is. are.keyed owner k e in_nodes lt is) keys key (omega arith)
+        ∙ rw (le-ltb key keys over)
+  ]
 
 -- a proper table that holds the writes of these numbers is the one that lies in these cells
 pub cells_table : (lists : ℕ → List Entry) (cells : Cells) (is : Table) → IsProper is → AreNumbers lists is.nodes is.keys cells → HasCells lists cells is → table_of_cells lists is.node is.nodes is.keys is.generation cells ≡ is
 cells_table lists cells is proper are has =
-    same_table (table_of_cells lists is.node is.nodes is.keys is.generation cells) is refl refl refl refl (λ owner key. at owner key)
+    same_table (table_of_cells lists is.node is.nodes is.keys is.generation cells) is refl refl refl refl (λ owner key. elim (cases_lt owner is.nodes) [
+      | inr past ↦ none owner key (inl (omega (arith, past)))
+      | inl in_nodes ↦ elim (cases_lt key is.keys) [
+        | inr past ↦ none owner key (inr (omega (arith, past)))
+        | inl in_keys ↦ has_cells lists is.node is.nodes is.keys is.generation cells are owner key in_nodes in_keys ∙ sym (has owner key in_nodes in_keys)
+      ]
+    ])
   where
-    none_there : (owner key : ℕ) → ((is.nodes ≤ owner) ⊎ (is.keys ≤ key)) → entry_at is owner key ≡ None
-    none_there owner key past = elim (entry_at is owner key) as (λ o. entry_at is owner key ≡ o → o ≡ None) [
+    none : (owner key : ℕ) → (is.nodes ≤ owner) ⊎ (is.keys ≤ key) → entry_at (table_of_cells lists is.node is.nodes is.keys is.generation cells) owner key ≡ entry_at is owner key
+    none owner key past = outside lists is.node is.nodes is.keys is.generation cells are owner key past ∙ elim (entry_at is owner key) as (λ o. entry_at is owner key ≡ o → None ≡ o) [
       | None ↦ λ _. refl
       | Some e ↦ λ held.
           let place = proper.in_place owner key e held in
           elim past [ inl over ↦ absurd (omega (arith, over, place.owner_below)) | inr over ↦ absurd (omega (arith, over, place.key_below)) ]
     ] refl
-
-    at : (owner key : ℕ) → entry_at (table_of_cells lists is.node is.nodes is.keys is.generation cells) owner key ≡ entry_at is owner key
-    at owner key = elim (cases_lt owner is.nodes) [
-      | inr past ↦ outside-owner lists is.node is.nodes is.keys is.generation cells are owner key (omega (arith, past)) ∙ sym (none_there owner key (inl (omega (arith, past))))
-      | inl in_nodes ↦ elim (cases_lt key is.keys) [
-        | inr past ↦ outside-key lists is.node is.nodes is.keys is.generation cells are owner key in_nodes (omega (arith, past)) ∙ sym (none_there owner key (inr (omega (arith, past))))
-        | inl in_keys ↦ has_cells lists is.node is.nodes is.keys is.generation cells are owner key in_nodes in_keys ∙ sym (has owner key in_nodes in_keys)
-      ]
-    ]
 
 -- what is seen of a table, of which it is known that it is what lies there
 abbrev pub seen : {A : Type 0} {x y : A} → x ≡ y → A

@@ -1,15 +1,7 @@
 -- Tables that take all that the other has above their own greatest numbers exchange as the model's do.
 -- Serves `exchange`.
-use Rattle.version_tables.proofs.Common.{◌≡◌, ℕ, zero, suc, ◌+◌, ◌-◌, ◌<◌, ◌≤◌, false, min, max, List, get_or, length, map, inl, inr, refl, sym, ap, ◌∙◌, arith, Option, Some, None, mul-le-mul_right, cases_lt, map-id, nat_tests, Entry, Budget, Entries, Bytes, Scuttle, Exchange, First, Oldest, Newest, Record, Rules, amount_of, largest_share, digest_kind, first_sent, sum_below-le, DeltaView, digest_size, last_fate, sent_until, MakesOf, write_numbered, all_writes, applied, Cells, cell, count_between, most_ahead, total_above, BothCounts, Offer, NumbersDiffer, by_first, IsOffer, low_in, share_or_none, number_shares, count_all_between, weight_between, sum_below-none, whole-size, whole-marked, count-newest, part, part-cases, weight_of-none, weight_of-split, weight_between-most, count_between-most}
-use Rattle.version_tables.specs.Laid.{IsVersionTable}
-use Rattle.version_tables.specs.Views.{VersionTableView, HistoriesView, table_in}
-use Rattle.version_tables.specs.inner.Deltas.{delta_of_views, AreLaidBoth, AreMarksOf}
-use Rattle.version_tables.specs.inner.Histories.{bases_in}
-use Rattle.version_tables.specs.inner.Offered.{AreLow, AreOffered}
-use Rattle.version_tables.specs.inner.Merged.{BothStayMerged, HaveMerged, IsMerged, MayMerge, MayTakeAll}
-use Rattle.version_tables.specs.inner.Taken.{IsTaken}
+use Rattle.version_tables.proofs.Common.{◌≡◌, ℕ, zero, suc, ◌+◌, ◌-◌, ◌<◌, ◌≤◌, false, max, List, get_or, length, map, inl, inr, refl, sym, ap, ◌∙◌, arith, Option, Some, None, mul-le-mul_right, cases_lt, map-id, nat_tests, Entry, Budget, Entries, Bytes, Scuttle, Exchange, First, Oldest, Newest, Record, Rules, amount_of, largest_share, digest_kind, first_sent, sum_below-le, DeltaView, digest_size, last_fate, sent_until, MakesOf, write_numbered, all_writes, applied, Cells, cell, count_between, most_ahead, total_above, BothCounts, Offer, NumbersDiffer, by_first, IsOffer, low_in, share_or_none, number_shares, count_all_between, weight_between, sum_below-none, whole-size, whole-marked, count-newest, part, part-cases, weight_of-none, weight_of-split, weight_between-most, count_between-most, IsVersionTable, VersionTableView, HistoriesView, table_in, delta_of_views, AreLaidBoth, AreMarksOf, bases_in, AreLow, AreOffered, BothStayMerged, HaveMerged, IsMerged, MayMerge, MayTakeAll, IsTaken}
 use Rattle.version_tables.proofs.Delivered.{offer-is, delta-marks}
-use Rattle.version_tables.proofs.ExchangedViews.{all_sent_case}
 use Rattle.version_tables.proofs.Fitting.{turned}
 use Rattle.version_tables.proofs.TakenViews.{becomes_applied, becomes_one}
 
@@ -172,8 +164,10 @@ module _ (rules : Rules) (e : Exchange) {written : ℕ → List Entry} {most : �
       → (d1 d2 : ℕ) → d1 ≡ digest_size (digest_kind rules.mode) (table_in written p) → d2 ≡ digest_size (digest_kind rules.mode) (table_in written q)
       → e.lost1 ≡ false → e.lost2 ≡ false → e.lost3 ≡ false → (r : Record) → ((b f : DeltaView) → came.first ≡ length b.items → 0 ≡ b.cut → came.second ≡ length f.items → 0 ≡ f.cut → r ≡ sent_until (last_fate false) d1 d2 b f)
       → MakesOf (table_in written) rules e p q p' q' r
-  merged-whole {p' = p'} {q' = q'} have d1 d2 d1_is d2_is first second third r sent =
-      all_sent_case written rules e p q first d1 d2 d1_is d2_is (marks-of rules e.rotation (turned two) turns may.kind may.back) (marks-of rules e.rotation two in_nodes may.kind may.forth) p' q' r second
-      (ap (table_in written) have.first.rest ∙ merged-applied rules e.rotation (turned two) turns may.kind may.back have.first.merged)
-      (rw third (ap (table_in written) have.second.rest ∙ merged-applied rules e.rotation two in_nodes may.kind may.forth have.second.merged))
-      (rw third (λ b f back back_cut forth forth_cut. sent b f (have.back ∙ back) back_cut (have.forth ∙ forth) forth_cut))
+  merged-whole have d1 d2 d1_is d2_is first second third r sent =
+      let back = marks-of rules e.rotation (turned two) turns may.kind may.back in
+      let forth = marks-of rules e.rotation two in_nodes may.kind may.forth in
+      let p_is = ap (table_in written) have.first.rest ∙ merged-applied rules e.rotation (turned two) turns may.kind may.back have.first.merged in
+      let q_is = ap (table_in written) have.second.rest ∙ merged-applied rules e.rotation two in_nodes may.kind may.forth have.second.merged in
+      let is = sent (delta_of_views rules e.rotation written q p) (delta_of_views rules e.rotation written p q) (have.back ∙ back.count) back.left (have.forth ∙ forth.count) forth.left in
+      rw (first, second, third) cc

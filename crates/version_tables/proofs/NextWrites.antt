@@ -1,10 +1,6 @@
 -- What an owner writes next stands under the number behind all that it wrote, above what its table holds of it.
 -- Serves `write`.
-use Rattle.version_tables.proofs.Common.{◌≡◌, ℕ, zero, suc, ◌+◌, ◌<◌, ◌≤◌, List, length, Some, inl, inr, sym, ap, ◌∙◌, subst, arith, slice_index, Contains, cases_lt, length-append, none-some, same_Some, Entry, mark_of, mark_held, IsUpTo, Table, entry_at, greatest_mark, greatest_version, mark_at-up_to_greatest, write_from, write_numbered, OwnerListView, AreWrites, entries_of, next_entry, cell, numbered-placed, numbered-some}
-use Rattle.version_tables.specs.Views.{VersionTableView, table_in, IsKept}
-use Rattle.version_tables.specs.Writes.{IsNextWrite}
-use Rattle.version_tables.specs.inner.Histories.{IsBeginning, IsWriteUnder}
-use Rattle.version_tables.specs.Laid.{IsFirst}
+use Rattle.version_tables.proofs.Common.{◌≡◌, ℕ, zero, suc, ◌+◌, ◌<◌, ◌≤◌, List, length, Some, inl, inr, sym, ◌∙◌, subst, arith, Contains, cases_lt, length-append, none-some, Entry, mark_of, mark_held, IsUpTo, Table, entry_at, greatest_mark, greatest_version, mark_at-up_to_greatest, write_numbered, OwnerListView, AreWrites, entries_of, next_entry, cell, IsPlaced, numbered-placed, numbered-some, VersionTableView, table_in, IsKept, IsNextWrite, IsBeginning, IsWriteUnder, IsFirst}
 use Rattle.version_tables.proofs.Fitting.{so-far-upto}
 use Rattle.version_tables.proofs.Generations.{current-at, earlier-at}
 use Rattle.version_tables.proofs.Laid.{has_cells}
@@ -28,42 +24,35 @@ module _ (written : ℕ → List Entry) (v : VersionTableView) (kept : IsKept wr
       let low : e.version ≤ length list.current = omega (arith, most.version (kept.proper.copies v.node k e holds), greatest) in
       let own = length list.earlier + e.version in
       let there = numbered-some (entries_of list) own (omega (arith, here.written)) (omega (arith, low, length-append list.earlier list.current)) in
-      let place = numbered-placed (entries_of list) own there.0 there.1 in
       let at = current-at list are own there.0 there.1 (omega (arith, here.written)) in
       let is : write_numbered (written v.node) (cell v.cells v.nodes v.node k) ≡ Some e =
       sym (has_cells written v.node v.nodes v.keys v.generation (cell v.cells v.nodes) kept.numbers v.node k in_nodes here.key_below) ∙ holds in
       let one : there.0.generation ≡ e.generation = at.0 ∙ sym generation ∙ sym (kept.proper.own k e holds) in
       let two : there.0.version ≡ e.version = omega (arith, at.1) in
       let same = under.apart own (cell v.cells v.nodes v.node k) there.0 e (sym (begins own (omega (arith, low, length-append list.earlier list.current))) ∙ there.1) is (λ i. record { generation = one i; version = two i }) in
-      (place.place, place.within, place.there e ∙ same)
+      contained (numbered-placed (entries_of list) own there.0 there.1) same
+    where
+      contained : {n : ℕ} {d c : Entry} → IsPlaced (entries_of list) n d → d ≡ c → Contains (entries_of list) c
+      contained {c = c} at same = (at.place, at.within, at.there c ∙ same)
 
   upto : (k : ℕ) → k < v.keys → cell v.cells v.nodes v.node k < number
   upto k in_keys = omega (arith, so-far-upto written v kept (entries_of list) v.node begins held_so_far k in_nodes in_keys)
 
-  above : slice_index v.greatest v.node < number
-  above = elim (kept.most v.node in_nodes).held [
-    | inl none ↦ omega (arith, none)
-    | inr (k, in_keys, is) ↦ omega (arith, is, upto k in_keys)
-  ]
-
   -- no earlier write is this one
-  earlier-other : (place : ℕ) (d : Entry) → write_from (entries_of list) place ≡ Some d → place < length (entries_of list) → d ≡ next_entry list key value born → ⊥
-  earlier-other place d is lt same = elim (cases_lt place (length list.earlier)) [
-    | inl in_earlier ↦ omega (arith, earlier-at list are (suc place) d is (omega (arith, in_earlier)), ap (λ (x : Entry). x.generation) same)
-    | inr in_current ↦ omega (arith, (current-at list are (suc place) d is (omega (arith, in_current))).1, ap (λ (x : Entry). x.version) same, lt, length-append list.earlier list.current)
-  ]
-
   first : IsFirst (written v.node) number
   first zero lt same = none-some (next_entry list key value born) (same ∙ under.is)
   first (suc place) lt same =
-      let at = numbered-some (entries_of list) (suc place) (omega arith) (omega (arith, lt)) in
-      earlier-other place at.0 at.1 (omega (arith, lt)) (same_Some at.0 (next_entry list key value born) (sym at.1 ∙ begins (suc place) (omega (arith, lt)) ∙ same ∙ under.is))
+      let is = begins (suc place) (omega (arith, lt)) ∙ same ∙ under.is in
+      elim (cases_lt (length list.earlier) (suc place)) [
+        | inl behind ↦ omega (arith, (current-at list are (suc place) (next_entry list key value born) is behind).1, lt, length-append list.earlier list.current)
+        | inr early ↦ omega (arith, earlier-at list are (suc place) (next_entry list key value born) is (omega (arith, early)))
+      ]
 
   pub next-write : IsNextWrite written v key number
   next-write = record {
     entry = next_entry list key value born;
     is = under.is;
     next = λ i. record { key = key; generation = sym generation i; version = sym greatest i + 1; value = value; born = born };
-    above = above;
+    above = elim (kept.most v.node in_nodes).held [ inl none ↦ omega (arith, none) | inr (k, in_keys, is) ↦ omega (arith, is, upto k in_keys) ];
     first = first;
   }

@@ -1,9 +1,6 @@
 -- A node's own calls on its table: its numbers lie as those of the table that the model has then.
 -- Serves the functions of `owners` and `tables` and `HistoryCalls`.
-use Rattle.version_tables.proofs.Common.{◌≡◌, ◌≢◌, ℕ, ◌+◌, ◌*◌, ◌<◌, ◌≤◌, ◌==◌, cond, List, length, get_or, set, Option, Some, None, ◌⊎◌, refl, transport, same_from_place, inl, inr, sym, ap, ◌∙◌, subst, arith, slice_index, mul-le-mul_right, cases_lt, cases_eq, eq-eqb, ne_eqb, get_or-set_same, get_or-set_other, length-set, get_or_past, none-some, same_Some, Entry, MOST_NODES, LEAST_KEYS, MOST_KEYS, Table, entry_at, empty_table, with_own_write, without_others, without_all, IsProper, entry_at-own_write, entry_at-own_write_other, entry_at-without_others_own, entry_at-without_others_other, entry_at-without_all, entry_at-empty_table, proper-empty_table, proper-with_own_write, proper-without_others, proper-without_all, write_numbered, Cells, cell, ArePlanesChanged, HasEach, AreChanged, numbered-within}
-use Rattle.version_tables.specs.Views.{VersionTableView, table_in, IsKept}
-use Rattle.version_tables.specs.Writes.{IsNextWrite, HasOwnWrite}
-use Rattle.version_tables.specs.Laid.{table_of_cells, AreNumbers, IsFirst, IsGreatest, IsVersionTable}
+use Rattle.version_tables.proofs.Common.{◌≡◌, ◌≢◌, ℕ, ◌+◌, ◌*◌, ◌<◌, ◌≤◌, ◌==◌, cond, List, length, get_or, set, Option, Some, None, ◌⊎◌, refl, transport, same_from_place, inl, inr, sym, ap, ◌∙◌, subst, arith, slice_index, mul-le-mul_right, cases_lt, cases_eq, eq-eqb, ne_eqb, get_or-set_same, get_or-set_other, length-set, get_or_past, none-some, same_Some, Entry, MOST_NODES, LEAST_KEYS, MOST_KEYS, Table, entry_at, empty_table, with_own_write, without_others, without_all, IsProper, entry_at-own_write, entry_at-own_write_other, entry_at-without_others_own, entry_at-without_others_other, entry_at-without_all, entry_at-empty_table, proper-empty_table, proper-with_own_write, proper-without_others, proper-without_all, write_numbered, Cells, cell, ArePlanesChanged, HasEach, AreChanged, numbered-within, VersionTableView, table_in, IsKept, IsNextWrite, HasOwnWrite, table_of_cells, AreNumbers, IsFirst, IsGreatest, IsVersionTable}
 use Rattle.version_tables.proofs.Laid.{has_cells, cells_table}
 
 -- numbers of which all but an owner's are put to 0

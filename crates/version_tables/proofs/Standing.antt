@@ -1,9 +1,6 @@
 -- Tables of versions beside the owners' lists so far: what their numbers are.
 -- Serves `cells_of` and `figures`.
-use Rattle.version_tables.proofs.Common.{◌≡◌, ℕ, ◌+◌, ◌<◌, ◌≤◌, List, [], ◌∷◌, ◌++◌, length, get_or, map, inl, inr, sym, ap, ◌∙◌, subst, arith, Bor, cases_lt, get_or-map, get_or_default, get_or_append_left, get_or_at, length-append, length-map, map-append, transport, Entry, MOST_NODES, MOST_KEYS, Table, entry_at, empty_table, table_of_node, HoldsOfEach, IsCluster, OwnerListView, all_writes, list_of_owner, AreWrites, cell, HasEach, HasEachPlace, StandsAmong, base_of, IsLastNumber, IsNumberAt, keys_in, numbers_at, numbers_in, AreNumbersAt, AreNumbersOf, StandTogether}
-use Rattle.version_tables.specs.Views.{VersionTableView, table_in, IsKept}
-use Rattle.version_tables.specs.inner.Beside.{tables_of_views, view_at, AreCellsOf, AreCellsUpto}
-use Rattle.version_tables.specs.inner.Histories.{IsBeginning}
+use Rattle.version_tables.proofs.Common.{◌≡◌, ℕ, ◌+◌, ◌<◌, ◌≤◌, List, [], ◌∷◌, ◌++◌, length, get_or, map, inl, inr, sym, ap, ◌∙◌, subst, arith, Bor, cases_lt, get_or-map, get_or_default, get_or_append_left, get_or_at, length-append, length-map, map-append, transport, Entry, MOST_NODES, MOST_KEYS, Table, entry_at, empty_table, table_of_node, HoldsOfEach, IsCluster, OwnerListView, all_writes, list_of_owner, AreWrites, cell, HasEach, HasEachPlace, StandsAmong, base_of, IsLastNumber, IsNumberAt, keys_in, numbers_at, numbers_in, AreNumbersAt, AreNumbersOf, StandTogether, VersionTableView, table_in, IsKept, tables_of_views, view_at, AreCellsOf, AreCellsUpto, IsBeginning}
 use Rattle.version_tables.proofs.Fitting.{so-far-upto}
 use Rattle.version_tables.proofs.Laid.{has_cells}
 
@@ -81,7 +78,7 @@ module _ (written : ℕ → List Entry) (views : List VersionTableView) where
 -- the numbers of one more table behind others
 pub cells-more : {N : Type 0} (written : ℕ → List Entry) (views : List VersionTableView) (number : N → ℕ) (cells : List (Bor (List N))) (at : ℕ) (x : Bor (List N)) (v : VersionTableView) → AreCellsUpto written views (numbers_in number cells) at
     → at < length views → v ≡ get_or views at v → IsKept written v → map number x.now ≡ v.cells → AreCellsUpto written views (numbers_in number (cells ++ x ∷ [])) (at + 1)
-cells-more written views number cells at x v before lt is kept same = subst (λ xs. AreCellsUpto written views xs (at + 1)) (sym (map-append (λ y. map number y.now) cells (x ∷ []))) (record {
+cells-more written views number cells at x v before lt is kept same = rw (map-append (λ y. map number y.now) cells (x ∷ [])) (record {
   count = omega (arith, length-append (numbers_in number cells) (map number x.now ∷ []), before.count);
   each = λ p below. elim (cases_lt p at) [
     | inl earlier ↦
@@ -89,9 +86,8 @@ cells-more written views number cells at x v before lt is kept same = subst (λ 
         (get_or_append_left (numbers_in number cells) (map number x.now ∷ []) [] p (omega (arith, earlier, before.count)) ∙ here.0, here.1)
     | inr not_earlier ↦
         let last : at ≡ p = omega (arith, below, not_earlier) in
-        let none : VersionTableView = record { node = 0; nodes = 0; keys = 0; generation = 0; cells = []; greatest = [] } in
-        let view : v ≡ view_at views at = is ∙ get_or_default views at v none lt in
-        subst (λ q. (numbers_at (numbers_in number cells ++ map number x.now ∷ []) q ≡ (view_at views q).cells) × IsKept written (view_at views q)) last
+        let view : v ≡ view_at views at = is ∙ get_or_default views at v _ lt in
+        transport (λ i. (numbers_at (numbers_in number cells ++ map number x.now ∷ []) (last i) ≡ (view_at views (last i)).cells) × IsKept written (view_at views (last i)))
         (get_or_at (numbers_in number cells) (map number x.now) [] [] at before.count ∙ same ∙ ap (λ (y : VersionTableView). y.cells) view, subst (IsKept written) view kept)
   ];
 })

@@ -1,11 +1,6 @@
 -- A table that took a delta by marks is the model's table that took its items.
 -- Serves `ExchangedViews` and `Merged`.
-use Rattle.version_tables.proofs.Common.{◌≡◌, ◌≢◌, ℕ, ◌<◌, ◌≤◌, true, false, List, length, Some, inl, inr, refl, sym, ap, ◌∙◌, subst, arith, both_ways, none-some, nat_tests, Entry, Rules, Table, entry_at, IsProper, KeepsFrame, frame-applied, received-proper, write_numbered, all_writes, cell, numbers_taken, HasCells}
-use Rattle.version_tables.specs.Views.{VersionTableView, HistoriesView, table_in}
-use Rattle.version_tables.specs.inner.Deltas.{delta_of_views, is_taken_at, AreLaidBoth, AreMarksOf}
-use Rattle.version_tables.specs.inner.Histories.{bases_in}
-use Rattle.version_tables.specs.Laid.{table_of_cells, AreNumbers, IsFirst, IsVersionTable}
-use Rattle.version_tables.specs.inner.Taken.{SendsNewer, AreTakenCells, IsTaken}
+use Rattle.version_tables.proofs.Common.{◌≡◌, ◌≢◌, ℕ, ◌<◌, ◌≤◌, true, false, List, length, Some, inl, inr, refl, sym, ap, ◌∙◌, subst, arith, both_ways, none-some, nat_tests, Entry, Rules, Table, entry_at, IsProper, KeepsFrame, frame-applied, received-proper, write_numbered, all_writes, cell, numbers_taken, HasCells, VersionTableView, HistoriesView, table_in, delta_of_views, is_taken_at, AreLaidBoth, AreMarksOf, bases_in, table_of_cells, AreNumbers, IsFirst, IsVersionTable, SendsNewer, AreTakenCells, IsTaken}
 use Rattle.version_tables.proofs.Fitting.{turned, first-cells, first-numbers}
 use Rattle.version_tables.proofs.Laid.{cells_table}
 use Rattle.version_tables.proofs.TakenByOwner.{came_number, other_number, top_number}

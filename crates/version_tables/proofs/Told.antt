@@ -1,11 +1,7 @@
 -- What a digest tells, by numbers: which of the sender's writes the receiver lacks.
 -- Serves `Delivered`.
-use Rattle.version_tables.proofs.Common.{◌≡◌, ℕ, ◌-◌, ◌<◌, ◌≤◌, max, not, List, length, Option, Some, None, inl, inr, refl, sym, ap, ◌∙◌, subst, arith, nat_lt, ◌&&◌, cases_eq, lt-ltb, le-ltb, eq-eqb, ne_eqb, Entry, Item, Mark, Mode, DigestKind, Scuttle, Precise, mark_of, mark_held, is_before, IsUpTo, digest_kind, absent-first, Table, mark_at, greatest_mark, greatest_mark-unique, known_mark, write_numbered, Cells, number_ahead, IsHistory, IsNumberedHistory, start_before, start_of, Offers, is_lacked, told_by, offered_by, numbers-before, numbered-none, numbered-some, numbered-within, numbers-up_to, numbers-compare, all_writes, cell, get_or, entry_at, nat_tests}
-use Rattle.version_tables.specs.Views.{VersionTableView, HistoriesView, table_in}
-use Rattle.version_tables.specs.inner.Deltas.{AreLaidBoth}
-use Rattle.version_tables.specs.inner.Offered.{AreLow, AreOffered}
-use Rattle.version_tables.specs.Laid.{IsGreatest}
-use Rattle.version_tables.proofs.Fitting.{turned, first-cells, first-numbers}
+use Rattle.version_tables.proofs.Common.{◌≡◌, ℕ, zero, suc, ◌-◌, ◌<◌, ◌≤◌, max, List, length, Option, Some, None, inl, inr, refl, sym, ap, ◌∙◌, subst, arith, nat_lt, cases_eq, lt-ltb, le-ltb, Entry, Item, Mark, Mode, DigestKind, Scuttle, Precise, mark_of, mark_held, is_before, IsUpTo, digest_kind, absent-first, Table, mark_at, greatest_mark, greatest_mark-unique, known_mark, write_numbered, Cells, IsHistory, IsNumberedHistory, start_before, start_of, Offers, is_lacked, told_by, offered_by, numbers-before, numbered-none, numbered-some, numbered-within, numbers-up_to, numbers-compare, all_writes, cell, get_or, entry_at, nat_tests, VersionTableView, HistoriesView, table_in, AreLaidBoth, AreLow, AreOffered, IsGreatest}
+use Rattle.version_tables.proofs.Fitting.{turned, first-cells, first-held, first-numbers}
 
 module _ {written : ℕ → List Entry} {most : ℕ} {h : HistoriesView} {from to : VersionTableView} (two : AreLaidBoth written most h from to) (owner : ℕ) (in_nodes : owner < to.nodes) where
   abbrev T : Table
@@ -50,17 +46,15 @@ module _ {written : ℕ → List Entry} {most : ℕ} {h : HistoriesView} {from t
   ]
 
   up_to-greatest : (number : ℕ) → number ≤ greatest → IsUpTo (mark_numbered number) (mark_numbered greatest)
-  up_to-greatest number le = elim (write_numbered writes number) as (λ o. write_numbered writes number ≡ o → IsUpTo (mark_held o) (mark_numbered greatest)) [
-    | None ↦ λ _. absent-first (mark_numbered greatest)
-    | Some d ↦ λ is_d. elim (write_numbered writes greatest) as (λ o. write_numbered writes greatest ≡ o → IsUpTo (mark_of d) (mark_held o)) [
-      | None ↦ λ none. absurd (omega (arith, le, numbered-none writes greatest greatest-within none, (numbered-within writes number d is_d).0))
-      | Some e ↦ λ is_e. numbers-up_to writes history number greatest d e is_d is_e le
-    ] refl
-  ] refl
+  up_to-greatest zero le = absent-first (mark_numbered greatest)
+  up_to-greatest (suc place) le =
+      let d = numbered-some writes (suc place) (omega arith) (omega (arith, le, greatest-within)) in
+      let e = numbered-some writes greatest (omega (arith, le)) greatest-within in
+      rw (d.1, e.1) (numbers-up_to writes history (suc place) greatest d.0 e.0 d.1 e.1 le)
 
   greatest-mark : greatest_mark T owner ≡ mark_numbered greatest
   greatest-mark = greatest_mark-unique T owner (mark_numbered greatest)
-      (λ key in_keys. subst (λ m. IsUpTo m (mark_numbered greatest)) (sym (mark-here key in_keys)) (up_to-greatest (held key) (top.upto key in_keys)))
+      (λ key in_keys. rw (mark-here key in_keys) (up_to-greatest (held key) (top.upto key in_keys)))
       (elim top.held [
         | inl none ↦ inl (ap mark_numbered none)
         | inr (key, in_keys, is) ↦ inr (key, in_keys, mark-here key in_keys ∙ ap mark_numbered is)
@@ -137,30 +131,24 @@ module _ {written : ℕ → List Entry} {most : ℕ} {h : HistoriesView} {from t
   lacks : (digest : DigestKind) (owner key : ℕ) (e : Entry) → owner < to.nodes → key < to.keys → write_numbered (all_writes h.lists owner) (sender owner key) ≡ Some e → e.key ≡ key
       → lows owner ≡ told_by digest (all_writes h.lists owner) (get_or to.greatest owner 0)
       → is_before (known_mark digest (table_in written to) (record { owner = owner; entry = e })) (mark_of e) ≡ nat_lt (lows owner) (offered_by digest sender receiver lows owner key)
-  lacks Scuttle owner key e in_nodes in_keys is keyed mark = scuttle-lacks two owner in_nodes key in_keys (sender owner key) e is keyed ∙ ap (λ m. nat_lt m (sender owner key)) (sym mark)
-  lacks Precise owner key e in_nodes in_keys is keyed mark =
-      precise-lacks two owner in_nodes key in_keys (sender owner key) e is keyed
-      ∙ ap (λ m. nat_lt (max (receiver owner key) m) (sender owner key)) (sym mark)
-      ∙ ahead (sender owner key) (receiver owner key) (lows owner)
-    where
-      ahead : (number peer low : ℕ) → nat_lt (max peer low) number ≡ nat_lt low (number_ahead number peer low)
-      ahead number peer low = grind (arith, nat_tests)
+  lacks Scuttle owner key e in_nodes in_keys is keyed mark = let at = scuttle-lacks two owner in_nodes key in_keys (sender owner key) e is keyed in grind (arith, nat_tests)
+  lacks Precise owner key e in_nodes in_keys is keyed mark = let at = precise-lacks two owner in_nodes key in_keys (sender owner key) e is keyed in grind (arith, nat_tests)
 
-  lacked-is : (owner key : ℕ) (e : Entry) → owner < from.nodes → key < from.keys → write_numbered (all_writes h.lists owner) (sender owner key) ≡ Some e → e.key ≡ key
-      → is_lacked mode (table_in written to) (record { owner = owner; entry = e }) ≡ nat_lt (lows owner) (cell cells from.nodes owner key)
-  lacked-is owner key e in_nodes in_keys is keyed = elim (cases_eq owner to.node) [
-    | inl own ↦
-        ap (λ b. not b && is_before (known_mark kind (table_in written to) (record { owner = owner; entry = e })) (mark_of e)) (eq-eqb owner to.node own)
-        ∙ sym (le-ltb (lows owner) (cell cells from.nodes owner key)
-        (omega (arith, subst (λ o. sender o key ≤ lows o) (sym own) (low_is.sent key in_keys), offered.each owner key in_nodes in_keys, offered-upto kind sender receiver lows owner key)))
-    | inr other ↦
-        ap (λ b. not b && is_before (known_mark kind (table_in written to) (record { owner = owner; entry = e })) (mark_of e)) (ne_eqb owner to.node other)
-        ∙ lacks kind owner key e in_to (omega (arith, in_keys, two.both.size.keys)) is keyed (low_is.others owner in_to other)
-        ∙ ap (nat_lt (lows owner)) (sym (offered.each owner key in_nodes in_keys))
-  ]
-    where
-      in_to : owner < to.nodes
-      in_to = omega (arith, in_nodes, two.both.size.nodes)
+  lacked-is : (owner key : ℕ) (e : Entry) → entry_at (table_in written from) owner key ≡ Some e → is_lacked mode (table_in written to) (record { owner = owner; entry = e }) ≡ nat_lt (lows owner) (cell cells from.nodes owner key)
+  lacked-is owner key e held =
+      let place = two.first.proper.in_place owner key e held in
+      let is = offered.each owner key place.owner_below place.key_below in
+      elim (cases_eq owner to.node) [
+        | inl own ↦
+            let none = subst (λ o. sender o key ≤ lows o) (sym own) (low_is.sent key place.key_below) in
+            let upto = offered-upto kind sender receiver lows owner key in
+            grind (arith, nat_tests)
+        | inr other ↦
+            let in_nodes : owner < to.nodes = omega (arith, place.owner_below, two.both.size.nodes) in
+            let in_keys : key < to.keys = omega (arith, place.key_below, two.both.size.keys) in
+            let at = lacks kind owner key e in_nodes in_keys (sym (first-cells two owner key place.owner_below place.key_below) ∙ held) place.keyed (low_is.others owner in_nodes other) in
+            grind (arith, nat_tests)
+      ]
 
   -- what is told gives the candidates
   pub told-offers : Offers mode (table_in written from) (table_in written to) (all_writes h.lists) (cell cells from.nodes) lows
@@ -168,15 +156,7 @@ module _ {written : ℕ → List Entry} {most : ℕ} {h : HistoriesView} {from t
     above = λ owner key in_nodes in_keys lt.
         let is = offered.each owner key in_nodes in_keys in
         let whole : cell cells from.nodes owner key ≡ sender owner key = is ∙ offered-is kind sender receiver lows owner key (omega (arith, lt, is)) in
-        let there = numbered-some (all_writes h.lists owner) (sender owner key) (omega (arith, lt, whole)) ((first-numbers two).written owner key in_nodes in_keys) in
-        let keyed = (first-numbers two).keyed owner key there.0 in_nodes in_keys there.1 in (
-          there.0,
-          first-cells two owner key in_nodes in_keys ∙ there.1,
-          ap (write_numbered (all_writes h.lists owner)) whole ∙ there.1,
-          lacked-is owner key there.0 in_nodes in_keys there.1 keyed ∙ lt-ltb (lows owner) (cell cells from.nodes owner key) lt,
-        );
-    below = λ owner key e held le.
-        let place = two.first.proper.in_place owner key e held in
-        lacked-is owner key e place.owner_below place.key_below (sym (first-cells two owner key place.owner_below place.key_below) ∙ held) place.keyed
-        ∙ le-ltb (lows owner) (cell cells from.nodes owner key) le;
+        let e = first-held two owner key in_nodes in_keys (omega (arith, lt, whole)) in
+        (e.0, e.2, ap (write_numbered (all_writes h.lists owner)) whole ∙ e.1, lacked-is owner key e.0 e.2 ∙ lt-ltb (lows owner) (cell cells from.nodes owner key) lt);
+    below = λ owner key e held le. lacked-is owner key e held ∙ le-ltb (lows owner) (cell cells from.nodes owner key) le;
   }

@@ -1,6 +1,6 @@
 //! What all owners have written, beside tables that keep numbers of writes alone.
 
-ghost use Rattle.std.specs.Prelude.{◌≡◌, ℕ, length, map, IfOk, IsOkUnless};
+ghost use Rattle.std.specs.Prelude.{◌≡◌, IfOk, IsOkUnless};
 ghost use Rattle.bench_types.specs.declared.faults.Fault.TheVariants.{OutOfMemory};
 ghost use Rattle.version_tables.specs.inner.Histories.{AreNoWrites};
 

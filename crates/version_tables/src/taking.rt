@@ -1,9 +1,10 @@
 //! What a table holds once it has taken a delta.
 
-ghost use Rattle.std.specs.Prelude.{◌≡◌, ◌<◌, length, map};
+ghost use Rattle.std.specs.Prelude.{◌≡◌, length, map};
 ghost use Rattle.model.specs.calls.OwnerListView.{all_writes, entries_of};
-ghost use Rattle.planes.specs.Planes.{ArePlanesChanged, IsGrid};
+ghost use Rattle.planes.specs.Planes.{ArePlanesChanged};
 ghost use Rattle.owner_writes.specs.Numbered.{IsNumberedHistory};
+ghost use Rattle.version_tables.specs.inner.Columns.{HasColumn};
 ghost use Rattle.version_tables.specs.inner.Taken.{drop_start, drop_starts, number_kept, HasArrived, IsOwnerKept, MayArrive, MayDrop};
 
 use crate::deltas::DeltaMarks;
@@ -13,8 +14,7 @@ use owner_writes::OwnerWrites;
 use planes::{Number, Sent};
 
 fn clear_column<N: Number>(cells: &mut [N], nodes: usize, keys: usize, owner: usize, start: u32)
-    requires grid { IsGrid nodes keys (length cells.old) }
-    requires owner { owner < nodes }
+    requires { HasColumn nodes keys (length cells.old) owner }
     ensures { IsOwnerKept N.number nodes keys owner start cells.old cells.new }
 {
     for key in 0..keys {
@@ -47,8 +47,7 @@ fn drop_from<N: Number>(list: &OwnerWrites, old: N, base: N, new: N) -> u32
 }
 
 fn drop_owner<N: Number>(cells: &mut [N], nodes: usize, keys: usize, owner: usize, start: u32)
-    requires grid { IsGrid nodes keys (length cells.old) }
-    requires owner { owner < nodes }
+    requires { HasColumn nodes keys (length cells.old) owner }
     ensures { IsOwnerKept N.number nodes keys owner start cells.old cells.new }
 {
     if start > 0 {

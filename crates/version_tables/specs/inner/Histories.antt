@@ -33,6 +33,11 @@ pub record IsWrittenSoFar (all : List Entry) (most rounds : ℕ) (so_far : List 
   pub numbered : IsNumberedHistory so_far
   pub made : AreMadeBy (rounds + 1) so_far
 
+-- what is known of all owners' writes, where this is what they write in the run
+pub record AreKnown (written : ℕ → List Entry) (most : ℕ) (h : HistoriesView) : Type 0 where
+  pub so_far : (owner : ℕ) → IsWrittenSoFar (written owner) most h.rounds (all_writes h.lists owner)
+  pub writes : (owner : ℕ) → AreWrites (list_of_owner h.lists owner)
+
 -- so many owners that have written nothing
 pub record AreNoWrites (nodes : ℕ) (lists : List OwnerListView) : Type 0 where
   pub count : length lists ≡ nodes
@@ -56,8 +61,7 @@ pub record AreHistories (written : ℕ → List Entry) (most : ℕ) (lists : Lis
   pub bases_size : length bases ≡ length lists
   pub lasts_size : length lasts ≡ MOST_KEYS * length lists
   pub ends_size : length ends ≡ (rounds + 1) * length lists
-  pub are : (owner : ℕ) → AreWrites (list_of_owner lists owner)
-  pub so_far : (owner : ℕ) → IsWrittenSoFar (written owner) most rounds (all_writes lists owner)
+  pub known : AreKnown written most (record { lists = lists; rounds = rounds })
   pub each : (owner : ℕ) → owner < length lists
       → IsCounted (list_of_owner lists owner) rounds (slice_index counts owner) (slice_index bases owner) (cell lasts (length lists) owner) (cell ends (length lists) owner)
 
@@ -72,11 +76,6 @@ pub record AreOwners {N : Type 0} (number : N → ℕ) (nodes : ℕ) (owners : O
   pub count : length owners.lists.now ≡ nodes
   pub bases : HasEach nodes (λ r n. n ≡ bases_in owners.lists.now r) (map number owners.bases.now)
   pub numbered : (owner : ℕ) → IsNumberedHistory (all_writes owners.lists.now owner)
-
--- what is known of all owners' writes, where this is what they write in the run
-pub record AreKnown (written : ℕ → List Entry) (most : ℕ) (h : HistoriesView) : Type 0 where
-  pub so_far : (owner : ℕ) → IsWrittenSoFar (written owner) most h.rounds (all_writes h.lists owner)
-  pub writes : (owner : ℕ) → AreWrites (list_of_owner h.lists owner)
 
 -- what a table owes to the histories: its entries were written, and no later than in the last round
 pub record FitsHistories (h : HistoriesView) (t : Table) : Type 0 where

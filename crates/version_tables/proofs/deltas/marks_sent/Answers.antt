@@ -1,5 +1,4 @@
-use Rattle.version_tables.proofs.Common.{refl, sym, ◌∙◌, map, length-map, digest_kind, total_above, marks, count-newest}
-use Rattle.version_tables.specs.inner.Deltas.{AreLaidBoth}
+use Rattle.version_tables.proofs.Common.{refl, sym, ◌∙◌, map, length-map, digest_kind, total_above, marks, count-newest, AreLaidBoth}
 use Rattle.version_tables.proofs.Delivered.{offer-is, delta-marks, told-low}
 use Rattle.version_tables.proofs.deltas.marks_sent.Goals as goal
 

@@ -1,5 +1,4 @@
-use Rattle.version_tables.proofs.Common.{length, map, ap, nat_lt, sym, ◌∙◌, arith, length-map, cell, total_of, digest_size}
-use Rattle.version_tables.specs.Views.{table_in}
+use Rattle.version_tables.proofs.Common.{length, map, ap, nat_lt, sym, ◌∙◌, arith, length-map, cell, total_of, digest_size, table_in}
 use Rattle.version_tables.proofs.Laid.{seen}
 use Rattle.version_tables.proofs.DigestSizes.{held-size, owners-size}
 use Rattle.version_tables.proofs.digests.digest_size.Goals as goal

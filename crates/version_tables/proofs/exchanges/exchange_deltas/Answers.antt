@@ -1,15 +1,14 @@
-use Rattle.version_tables.proofs.Common.{◌≡◌, ℕ, ◌*◌, Bool, true, false, List, length, map, ap, sym, ◌∙◌, ◌||◌, length-map, Entry, HasEach, Owners}
-use Rattle.version_tables.specs.Views.{HistoriesView, VersionTableView}
-use Rattle.version_tables.specs.inner.Histories.{bases_in, AreKnown, AreOwners}
-use Rattle.version_tables.specs.inner.Taken.{HasTakenUnless}
-use Rattle.version_tables.proofs.ExchangedViews.{lost_second, stays_back, stays_forth, exchange_whole}
+use Rattle.version_tables.proofs.Common.{◌≡◌, ℕ, ◌*◌, Bool, true, false, List, length, map, ap, sym, ◌∙◌, ◌||◌, length-map, Entry, HasEach, Exchanged, Owners, Record, HistoriesView, VersionTableView, table_in, delta_of_views, HasTakenUnless, bases_in, AreKnown, AreOwners}
+use Rattle.version_tables.proofs.ExchangedViews.{stays_back, stays_forth, exchange_whole}
 use Rattle.version_tables.proofs.Fitting.{ready}
 use Rattle.version_tables.proofs.exchanges.exchange_deltas.Goals as goal
 
 pub returns-then-plan-clause-ok : goal.returns-then-plan-clause-ok
 returns-then-plan-clause-ok g c =
-    lost_second g.H.Written.lists c.args.rules.now c.args.plan.now c.args.initiator.now c.args.responder.now c.requires.came c.args.digest1 c.digest_size-digest2.result c.requires.size c.digest_size-digest2.ensures.size
-    c.in_ok-back.ensures.delta c.sent_back.result c.if-plan.true c.sent_back.ensures
+    let table = table_in g.H.Written.lists in
+    let back = delta_of_views c.args.rules.now c.args.plan.now.rotation g.H.Written.lists c.args.responder.now c.args.initiator.now in
+    rw (c.requires.came, c.if-plan.true, ← c.requires.size, ← c.digest_size-digest2.ensures.size)
+    (ap {B = Exchanged} (λ (s : Record). record { initiator = table c.args.initiator.now; responder = table c.args.responder.now; sent = s }) (sym (c.sent_back.ensures back back c.in_ok-back.ensures.delta.count c.in_ok-back.ensures.delta.left)))
 
 -- the owners as the histories have them
 owners-are : {N : Type 0} (number : N → ℕ) (written : ℕ → List Entry) (most : ℕ) (h : HistoriesView) (owners : Owners N) (nodes : ℕ) → AreKnown written most h → owners.lists.now ≡ h.lists → nodes ≡ length h.lists

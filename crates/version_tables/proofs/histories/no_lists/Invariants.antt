@@ -1,4 +1,4 @@
-use Rattle.version_tables.specs.inner.Histories.{AreNoWrites}
+use Rattle.version_tables.proofs.Common.{AreNoWrites}
 use Rattle.version_tables.proofs.histories.no_lists.Given as goal
 
 abbrev pub invariant-loop : goal.invariant-loop

@@ -1,5 +1,4 @@
-use Rattle.version_tables.proofs.Common.{numbers_in}
-use Rattle.version_tables.specs.inner.Beside.{AreCellsUpto}
+use Rattle.version_tables.proofs.Common.{numbers_in, AreCellsUpto}
 use Rattle.version_tables.proofs.lags.cells_of.Given as goal
 
 abbrev pub invariant-loop-table : goal.invariant-loop-table

@@ -1,5 +1,4 @@
-use Rattle.version_tables.proofs.Common.{◌≡◌, ◌+◌, ◌*◌, ◌<◌, List, length, map, sym, ap, ◌∙◌, subst, transport, IfOk-weaker, figures_of, all_writes, lists_in, Table, AreEnds, cell, numbers_in, AreNumbersOf, AreRoundNumbers, MayBeCounted, StandTogether}
-use Rattle.version_tables.specs.inner.Beside.{tables_of_views, AreCellsOf}
+use Rattle.version_tables.proofs.Common.{◌≡◌, ◌+◌, ◌*◌, ◌<◌, List, length, map, sym, ap, ◌∙◌, subst, transport, IfOk-weaker, figures_of, all_writes, lists_in, Table, AreEnds, cell, numbers_in, AreNumbersOf, AreRoundNumbers, MayBeCounted, StandTogether, tables_of_views, AreCellsOf}
 use Rattle.version_tables.proofs.Standing.{stand-together, numbers-of}
 use Rattle.version_tables.proofs.lags.figures.Given as given
 use Rattle.version_tables.proofs.lags.figures.Goals as goal

@@ -1,4 +1,4 @@
-use Rattle.version_tables.proofs.Common.{◌*◌, ◌-◌, ◌≤◌, ℕ, List, map, min, nat_lt, slice_index, if◌then◌else◌, arith, nat_tests, MOST_NODES, MOST_KEYS, sum_below, sum_below-most, cell}
+use Rattle.version_tables.proofs.Common.{◌*◌, ◌-◌, ◌≤◌, ℕ, map, min, nat_lt, slice_index, if◌then◌else◌, arith, nat_tests, MOST_NODES, MOST_KEYS, sum_below, sum_below-most, cell}
 use Rattle.version_tables.proofs.merging.all_ahead_fits.Goals as goal
 
 -- no more than so many of each owner are no more than the most

@@ -1,5 +1,4 @@
-use Rattle.version_tables.proofs.Common.{ℕ, ◌≡◌, ◌<◌, nat_lt, map, slice_index, refl, arith, nat_tests}
-use Rattle.version_tables.specs.inner.Histories.{bases_in}
+use Rattle.version_tables.proofs.Common.{ℕ, ◌≡◌, ◌<◌, nat_lt, map, refl, arith, nat_tests, bases_in}
 use Rattle.version_tables.proofs.Clearing.{plane-none, none-current}
 use Rattle.version_tables.proofs.merging.are_current.Goals as goal
 

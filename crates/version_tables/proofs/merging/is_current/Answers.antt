@@ -1,5 +1,4 @@
-use Rattle.version_tables.proofs.Common.{◌≡◌, ℕ, ◌<◌, ◌&&◌, nat_lt, nat_le, map, slice_index, arith, eq-eqb, eqb-true}
-use Rattle.version_tables.specs.inner.Histories.{bases_in}
+use Rattle.version_tables.proofs.Common.{◌≡◌, ℕ, ◌<◌, ◌&&◌, nat_lt, nat_le, map, slice_index, arith, eq-eqb, eqb-true, bases_in}
 use Rattle.version_tables.proofs.Clearing.{plane-none, plane-zero}
 use Rattle.version_tables.proofs.merging.is_current.Goals as goal
 

@@ -1,7 +1,4 @@
-use Rattle.version_tables.proofs.Common.{◌≡◌, ℕ, map, refl, ap, sym, ◌∙◌, transport, with_items, with_items_is}
-use Rattle.version_tables.specs.Views.{VersionTableView}
-use Rattle.version_tables.specs.inner.Deltas.{AreOfOneSize}
-use Rattle.version_tables.specs.inner.Merged.{IsMerged, StaysMerged}
+use Rattle.version_tables.proofs.Common.{ℕ, map, refl, sym, ◌∙◌, transport, with_items, with_items_is, VersionTableView, AreOfOneSize, IsMerged, StaysMerged}
 use Rattle.version_tables.proofs.Laid.{seen}
 use Rattle.version_tables.proofs.merging.merge.Given as given
 use Rattle.version_tables.proofs.merging.merge.Goals as goal

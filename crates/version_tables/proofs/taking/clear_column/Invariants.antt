@@ -1,5 +1,4 @@
-use Rattle.version_tables.proofs.Common.{map, ArePlanesChangedUpto, owner_changed}
-use Rattle.version_tables.specs.inner.Taken.{number_kept}
+use Rattle.version_tables.proofs.Common.{map, ArePlanesChangedUpto, owner_changed, number_kept}
 use Rattle.version_tables.proofs.taking.clear_column.Given as goal
 
 abbrev pub invariant-loop-key : goal.invariant-loop-key

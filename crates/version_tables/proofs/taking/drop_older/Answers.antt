@@ -1,5 +1,4 @@
-use Rattle.version_tables.proofs.Common.{◌≡◌, subst, arith, map, slice_index, ap, nat_lt, nat_le, ◌&&◌, length-map, nat_tests, all_writes, number-at, owners-next, owners-all, IsNumberedHistory, all_writes-here}
-use Rattle.version_tables.specs.inner.Taken.{drop_starts, number_kept}
+use Rattle.version_tables.proofs.Common.{◌≡◌, subst, arith, map, slice_index, ap, nat_lt, nat_le, ◌&&◌, length-map, nat_tests, all_writes, number-at, owners-next, owners-all, IsNumberedHistory, all_writes-here, drop_starts, number_kept}
 use Rattle.version_tables.proofs.Clearing.{planes-stay, plane-none}
 use Rattle.version_tables.proofs.taking.drop_older.Given as given
 use Rattle.version_tables.proofs.taking.drop_older.Goals as goal

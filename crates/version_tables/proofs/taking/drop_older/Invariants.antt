@@ -1,5 +1,4 @@
-use Rattle.version_tables.proofs.Common.{map, all_writes, ArePlanesChanged, owners_changed}
-use Rattle.version_tables.specs.inner.Taken.{drop_starts, number_kept}
+use Rattle.version_tables.proofs.Common.{map, all_writes, ArePlanesChanged, owners_changed, drop_starts, number_kept}
 use Rattle.version_tables.proofs.taking.drop_older.Given as goal
 
 abbrev pub invariant-loop-owner : goal.invariant-loop-owner

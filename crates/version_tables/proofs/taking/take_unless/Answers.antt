@@ -1,7 +1,4 @@
-use Rattle.version_tables.proofs.Common.{length, map, slice_index, ap, refl, subst, sym, ◌∙◌, with_items, length-map, with_items_is, all_writes}
-use Rattle.version_tables.specs.Views.{VersionTableView}
-use Rattle.version_tables.specs.inner.Histories.{bases_in, AreOwners}
-use Rattle.version_tables.specs.inner.Taken.{drop_start, number_kept, IsTaken, StaysOne}
+use Rattle.version_tables.proofs.Common.{length, map, slice_index, ap, refl, subst, sym, ◌∙◌, with_items, length-map, with_items_is, all_writes, VersionTableView, bases_in, AreOwners, drop_start, number_kept, IsTaken, StaysOne}
 use Rattle.version_tables.proofs.Laid.{seen}
 use Rattle.version_tables.proofs.taking.take_unless.Given as given
 use Rattle.version_tables.proofs.taking.take_unless.Goals as goal

@@ -1,5 +1,4 @@
-use Rattle.version_tables.proofs.Common.{rules, ◌≡◌, ◌<◌, ◌==◌, cond, length, set, map, subst, sym, transport, ◌∙◌, with_items_is, MOST_KEYS, begun_generation, ArePlanesChanged}
-use Rattle.version_tables.specs.Views.{HistoriesView}
+use Rattle.version_tables.proofs.Common.{rules, ◌≡◌, ◌<◌, ◌==◌, cond, length, set, map, subst, sym, transport, ◌∙◌, with_items_is, MOST_KEYS, begun_generation, ArePlanesChanged, HistoriesView}
 use Rattle.version_tables.proofs.HistoryCalls.{count-read, histories-begun, list-becomes, numbers-set}
 use Rattle.version_tables.proofs.histories.Histories.begin_generation.Goals as goal
 

@@ -3,9 +3,3 @@ use Rattle.version_tables.proofs.histories.Histories.end_round.Goals as goal
 
 pub invariant_of-self-2 : goal.invariant_of-self-2
 invariant_of-self-2 g c = histories-ended c.self.invariant _ (numbers-appended g.N.Number.number _ _ _ _ c.in_ok-extend_from_slice.ensures.items c.deref.ensures.value)
-
-pub returns-clause-known : goal.returns-clause-known
-returns-clause-known g c = record { so_far = (invariant_of-self-2 g c).so_far; writes = c.self.invariant.are }
-
-pub returns-in_err-extend_from_slice-clause-known : goal.returns-in_err-extend_from_slice-clause-known
-returns-in_err-extend_from_slice-clause-known g c = record { so_far = c.self.invariant.so_far; writes = c.self.invariant.are }

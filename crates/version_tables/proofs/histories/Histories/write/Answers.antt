@@ -1,6 +1,4 @@
-use Rattle.version_tables.proofs.Common.{rules, ◌≡◌, ◌+◌, ◌*◌, ◌<◌, length, map, set, ap, subst, sym, transport, ◌∙◌, arith, set-get_or, all_writes, list_of_owner, next_entry, with_write, ListBecomes}
-use Rattle.version_tables.specs.Views.{HistoriesView}
-use Rattle.version_tables.specs.inner.Histories.{AreKnown, IsWriteUnder}
+use Rattle.version_tables.proofs.Common.{rules, ◌≡◌, ◌+◌, ◌*◌, ◌<◌, length, map, set, ap, subst, sym, transport, ◌∙◌, arith, set-get_or, all_writes, list_of_owner, next_entry, with_write, ListBecomes, HistoriesView, IsWriteUnder}
 use Rattle.version_tables.proofs.HistoryCalls.{count-read, histories-written, list-becomes, numbers-set}
 use Rattle.version_tables.proofs.histories.Histories.write.Given as given
 use Rattle.version_tables.proofs.histories.Histories.write.Goals as goal
@@ -36,14 +34,11 @@ pub returns-clause-lists : goal.returns-clause-lists
 returns-clause-lists g c =
     subst (λ (h : HistoriesView). ListBecomes c.args.owner (with_write (list_of_owner h.lists c.args.owner) c.args.key c.args.value c.args.born) h.lists (set c.self.inside.lists.items c.args.owner c.write.new.self)) c.self.view_is (becomes g c)
 
-pub returns-clause-known : goal.returns-clause-known
-returns-clause-known g c = subst (AreKnown g.H.Written.lists g.N.Number.most) c.self.view_is (record { so_far = c.self.invariant.so_far; writes = c.self.invariant.are })
-
 pub plus-number-requires : goal.plus-number-requires
 plus-number-requires g c =
     let in_range = subst (λ (h : HistoriesView). c.args.owner < length h.lists) (sym c.self.view_is) c.requires.owner in
     let count = count-read g.N.Number.number c.self.inside.counts.items c.self.invariant c.args.owner c.index.result.now in_range c.index.ensures in
-    omega (arith, count, (c.self.invariant.so_far c.args.owner).few)
+    omega (arith, count, (c.self.invariant.known.so_far c.args.owner).few)
 
 pub invariant_of-self : goal.invariant_of-self
 invariant_of-self g c =

@@ -1,5 +1,4 @@
-use Rattle.version_tables.proofs.Common.{◌≡◌, map, ap, ◌∙◌, with_items, without_all, AreChanged}
-use Rattle.version_tables.specs.Views.{VersionTableView, table_in}
+use Rattle.version_tables.proofs.Common.{◌≡◌, map, ap, ◌∙◌, with_items, without_all, AreChanged, VersionTableView, table_in}
 use Rattle.version_tables.proofs.Laid.{put-back, seen}
 use Rattle.version_tables.proofs.OwnCalls.{LiesAs, forgets, lies-kept, lies-table}
 use Rattle.version_tables.proofs.tables.VersionTable.forget_all.Given as given

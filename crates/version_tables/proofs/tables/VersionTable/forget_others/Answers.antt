@@ -1,5 +1,4 @@
-use Rattle.version_tables.proofs.Common.{◌≡◌, ◌==◌, if◌then◌else◌, map, ap, ◌∙◌, with_items, without_others, ArePlanesChanged, AreChanged}
-use Rattle.version_tables.specs.Views.{VersionTableView, table_in}
+use Rattle.version_tables.proofs.Common.{◌≡◌, ◌==◌, if◌then◌else◌, map, ap, ◌∙◌, with_items, without_others, ArePlanesChanged, AreChanged, VersionTableView, table_in}
 use Rattle.version_tables.proofs.Laid.{put-back, seen}
 use Rattle.version_tables.proofs.OwnCalls.{LiesAs, lies-kept, lies-table, restarts}
 use Rattle.version_tables.proofs.tables.VersionTable.forget_others.Given as given

@@ -37,7 +37,7 @@ pub use Rattle.delta_plans.specs.declared.marked.First.TheVariants.{Newest, Olde
 pub use Rattle.bench_types.specs.declared.exchanges.Mode.{Mode}
 pub use Rattle.bench_types.specs.declared.exchanges.Record.{Record}
 pub use Rattle.bench_types.specs.declared.exchanges.Rules.{Rules}
-pub use Rattle.bench_types.specs.declared.limits.TheConstants.{LEAST_KEYS, MOST_KEYS, MOST_NODES, MOST_ROUNDS}
+pub use Rattle.bench_types.specs.declared.limits.TheConstants.{LEAST_KEYS, MOST_KEYS, MOST_NODES}
 pub use Rattle.delta_plans.proofs.CandidateNumbers.{candidate-below, candidate-key, candidate-number}
 pub use Rattle.delta_plans.proofs.Columns.{sum_below-none}
 pub use Rattle.delta_plans.proofs.Grids.{items_sum}
@@ -77,7 +77,7 @@ pub use Rattle.model.specs.Tables.{HoldsOfEach, table_of_node}
 pub use Rattle.model.specs.calls.DeltaLaws.{Lacks}
 pub use Rattle.model.specs.calls.Exchanging.{MakesOf}
 pub use Rattle.model.specs.calls.Numbers.{write_from, write_numbered}
-pub use Rattle.model.specs.calls.OwnerListView.{AreWrites, ListBecomes, MarksRise, OwnerListView, all_writes, begun_generation, entries_of, list_of_owner, lists_in, next_entry, no_writes, with_write}
+pub use Rattle.model.specs.calls.OwnerListView.{AreWrites, ListBecomes, OwnerListView, all_writes, begun_generation, entries_of, list_of_owner, lists_in, next_entry, no_writes, with_write}
 pub use Rattle.model.specs.calls.Tables.{IsCluster}
 pub use Rattle.model.specs.declared.records.DeltaCounts.{DeltaCounts}
 pub use Rattle.model.specs.inner.Held.{entry_in}
@@ -92,7 +92,6 @@ pub use Rattle.planes.specs.Planes.{AreCovered, ArePlanesChanged, ArePlanesChang
 pub use Rattle.round_tables.specs.Histories.{AreWrittenBy, StandsAmong}
 pub use Rattle.version_lags.specs.Missed.{IsLastNumber, IsNumberAt, base_of}
 pub use Rattle.version_lags.specs.Pieces.{AreNumbersAt, AreNumbersOf, AreRoundNumbers, MayBeCounted, StandTogether, keys_in, numbers_at, numbers_in}
-pub use Rattle.version_lags.specs.declared.lags.RoundNumbers.{RoundNumbers}
 pub use Rattle.version_tables.specs.Laid.{AreNumbers, IsFirst, IsGreatest, IsVersionTable, entries_below, entry_list, table_of_cells}
 pub use Rattle.version_tables.specs.Views.{HistoriesView, IsKept, VersionTableView, table_in}
 pub use Rattle.version_tables.specs.Writes.{HasOwnWrite, IsNextWrite}

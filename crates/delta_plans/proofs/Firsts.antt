@@ -1,6 +1,6 @@
 -- What goes first, by numbers, versions and marks.
 -- Serves `StopMarks`.
-use Rattle.delta_plans.proofs.Common.{Bool, ◌≡◌, ℕ, ◌<◌, ◌⊎◌, true, false, inl, inr, arith, nat_tests, Less, Greater, cases_lt, lt-ltb, le-ltb, le-leb, lt-leb, leb-true, leb-false, ltb-true, ltb-false, nat_cmp-less, nat_cmp-greater, nat_cmp, Ordering}
+use Rattle.delta_plans.proofs.Common.{Bool, ◌≡◌, ℕ, ◌<◌, true, false, arith, nat_tests, Less, Greater, ltb-true, nat_cmp-less, nat_cmp-greater, nat_cmp, Ordering}
 use Rattle.delta_plans.specs.declared.marked.First.{First}
 use Rattle.delta_plans.specs.declared.marked.First.TheVariants.{Oldest, Newest}
 use Rattle.delta_plans.specs.Firsts.{comes_first}

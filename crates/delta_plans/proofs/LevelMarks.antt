@@ -1,6 +1,6 @@
 -- The marks of a mode's levels.
 -- Serves `Lifts` and `StopMarks`.
-use Rattle.delta_plans.proofs.Common.{◌≡◌, ℕ, ◌+◌, ◌<◌, ◌≤◌, true, false, not, ltb, leb, List, Some, inl, inr, refl, sym, ap, ◌∙◌, arith, nat_tests, Contains, Less, nat_cmp, ordering_then, is_lt, cases_lt, lt-ltb, le-ltb, le-leb, lt-leb, leb-true, leb-false, ltb-true, ltb-false, Entry, Item, Mode, ScuttleBreadth, ScuttleDepth, PreciseOldest, PreciseNewest, Table, IsProper, nat_cmp-less, nat_cmp-equal, nat_cmp-greater, candidates, write_numbered, rank_among, owner_count, level_cmp, version_cmp, IsHistory, IsRoundMark, Cells, count_above}
+use Rattle.delta_plans.proofs.Common.{◌≡◌, ℕ, ◌+◌, ◌<◌, ◌≤◌, true, false, leb, List, Some, refl, arith, nat_tests, Contains, nat_cmp, leb-true, leb-false, ltb-true, ltb-false, Entry, Item, Mode, ScuttleBreadth, ScuttleDepth, PreciseOldest, PreciseNewest, Table, IsProper, candidates, write_numbered, rank_among, owner_count, level_cmp, version_cmp, IsHistory, IsRoundMark, Cells, count_above}
 use Rattle.delta_plans.specs.declared.marked.First.{First}
 use Rattle.delta_plans.specs.declared.marked.First.TheVariants.{Oldest, Newest}
 use Rattle.delta_plans.proofs.Firsts.{age_cmp}

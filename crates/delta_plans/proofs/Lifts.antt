@@ -1,6 +1,6 @@
 -- From marks over numbers to the delta that they are.
 -- Serves `version_tables`.
-use Rattle.delta_plans.proofs.Common.{◌≡◌, ℕ, ◌+◌, ◌<◌, ◌≤◌, Bool, true, false, cond, not, ltb, leb, List, [], ◌∷◌, length, Some, inl, inr, refl, sym, ap, ◌∙◌, subst, arith, nat_tests, nat_lt, ◌&&◌, count_by, Contains, sum_by, cases_lt, lt-ltb, le-ltb, le-leb, and_parts, ltb-true, sum_by-cons, same_Some, Entry, Item, Budget, Mode, amount_of, Table, entry_at, items_of, IsProper, Contains-items_of, candidates, DeltaView, delta_between, item_share, rotated, Contains-filter, write_numbered, Cells, HasNoneAbove, sum_below-same, IsHistory}
+use Rattle.delta_plans.proofs.Common.{◌≡◌, ℕ, ◌+◌, ◌<◌, ◌≤◌, Bool, true, false, cond, not, List, [], ◌∷◌, length, Some, inl, inr, refl, sym, ap, ◌∙◌, subst, arith, nat_tests, nat_lt, ◌&&◌, count_by, Contains, sum_by, cases_lt, lt-ltb, and_parts, ltb-true, sum_by-cons, same_Some, Entry, Item, Budget, Mode, amount_of, Table, entry_at, items_of, IsProper, Contains-items_of, candidates, DeltaView, delta_between, item_share, rotated, Contains-filter, write_numbered, Cells, HasNoneAbove, sum_below-same, IsHistory}
 use Rattle.delta_plans.specs.declared.marked.First.{First}
 use Rattle.delta_plans.specs.declared.marked.First.TheVariants.{Oldest, Newest}
 use Rattle.delta_plans.specs.SentSets.{HasSet}
@@ -9,7 +9,6 @@ use Rattle.delta_plans.specs.Marked.{KeepsLow}
 use Rattle.delta_plans.specs.Offers.{Offers, is_lacked, AreSent}
 use Rattle.delta_plans.specs.LevelMarks.{first_sent, lets_through, HasShape, StopAt, size_through_marks}
 use Rattle.delta_plans.specs.Weights.{share_or_none, number_shares, weight_between, weight_through, one_each}
-use Rattle.delta_plans.proofs.Columns.{where_true, where_none}
 use Rattle.delta_plans.proofs.DeltaMarks.{marks-sent, all-sent}
 use Rattle.delta_plans.proofs.LevelMarks.{level-marks}
 use Rattle.delta_plans.proofs.CandidateNumbers.{candidate-key, candidate-number}

@@ -1,6 +1,7 @@
 -- Any set of candidates that is closed downwards, fits, and lets nothing more in is what is sent.
 -- Serves `deltas_have_their_sets` and `DeltaMarks`.
-use Rattle.delta_plans.proofs.Common.{◌≡◌, ◌≢◌, ℕ, zero, suc, ◌+◌, ◌<◌, ◌≤◌, Bool, true, false, cond, not, eqb, List, [], ◌∷◌, get_or, Some, refl, sym, ap, ◌∙◌, subst, arith, nat_tests, count_by, filter, IsPermutation, Contains, ◌&&◌, sum_by, Ordering, Less, Equal, Greater, is_lt, is_eq, ordering_reverse, IsTotalOrder, tied_itself, both_ways, le-leb, lt-leb, and_parts, eqb-true, get_or_default, AllPairs-filter, length_permutation, tied-stands_at, same_Some, sum_by-cons, length-filter, Item, amount_of, is_before, mark_of, digest_kind, Table, entry_at, items_of, IsProper, stands_at, IsApart, entry_at-items_of, apart-items_of, candidates, known_mark, DeltaView, delta_between, item_share, sending_order, sending_order-total, sending_order-strict, Contains-filter, Contains-kept, same_members, before_count, first_places, size_through, fits, sent, cut_count, before_count-places, Contains-first_places, first_places-Contains}
+use Rattle.delta_plans.proofs.Common.{◌≡◌, ◌≢◌, ℕ, zero, suc, ◌+◌, ◌<◌, ◌≤◌, Bool, true, false, cond, not, eqb, List, [], ◌∷◌, get_or, Some, refl, sym, ap, ◌∙◌, subst, arith, nat_tests, count_by, filter, IsPermutation, Contains, ◌&&◌, sum_by, Ordering, Less, Equal, Greater, is_lt, ordering_reverse, IsTotalOrder, tied_itself, both_ways, le-leb, lt-leb, and_parts, eqb-true, get_or_default, AllPairs-filter, length_permutation, same_Some, sum_by-cons, length-filter, Item, amount_of, is_before, mark_of, digest_kind, Table, entry_at, items_of, IsProper, stands_at, IsApart, entry_at-items_of, candidates, known_mark, DeltaView, delta_between, item_share, sending_order, sending_order-total, sending_order-strict, Contains-filter, Contains-kept, same_members, before_count, first_places, size_through, fits, sent, cut_count, before_count-places, Contains-first_places, first_places-Contains}
+use Rattle.delta_plans.proofs.Grids.{table_apart}
 use Rattle.delta_plans.specs.SentSets.{size_in, IsKeptOut, IsSentSet, EndsBefore, HasAll, DeltasHaveTheirSets}
 
 -- a sum over a list whose terms are no greater, for the elements of the list
@@ -178,14 +179,11 @@ set_sent mode rotation budget from to is_in proper in_nodes is = record {
     is_apart : Item → Item → Type 0
     is_apart i j = stands_at i.owner i.entry.key j ≡ false
 
-    table_apart : IsApart (items_of from)
-    table_apart i j d lt in_range = sym (tied-stands_at (get_or (items_of from) i d).owner (get_or (items_of from) i d).entry.key (get_or (items_of from) j d)) ∙ ap is_eq (apart-items_of from proper i j d lt in_range)
-
     held : (c : Item) → Contains cs c → Contains (items_of from) c
     held c there = (Contains-kept not_known (items_of from) c there).0
 
     filtered_apart : IsApart (filter is_in cs)
-    filtered_apart = AllPairs-filter is_apart is_in cs (AllPairs-filter is_apart not_known (items_of from) table_apart)
+    filtered_apart = AllPairs-filter is_apart is_in cs (AllPairs-filter is_apart not_known (items_of from) (table_apart from proper))
 
     same_items : IsPermutation delta.items (filter is_in cs)
     same_items = same_members delta.items (filter is_in cs) (sent_apart order total from proper cs held _) filtered_apart

@@ -1,6 +1,7 @@
 -- What is counted of all tables comes to the figures of a round.
 -- Serves `figures`.
-use Rattle.version_lags.proofs.Common.{◌≡◌, ℕ, ◌+◌, ◌<◌, List, length, sym, ap, ◌∙◌, subst, arith, Figures, Table, OwnerListView, all_writes, list_of_owner, lists_in, sum_below, most_below, HasEachPlace, sum_below-same, most_below-same, staleness_at, rounds_behind, node_figures, figures_of, most_by_owner}
+use Rattle.version_lags.proofs.Common.{◌≡◌, ℕ, ◌+◌, ◌<◌, List, length, sym, ap, ◌∙◌, subst, arith, Figures, Table, OwnerListView, all_writes, list_of_owner, lists_in, sum_below, most_below, HasEachPlace, sum_below-same, most_below-same, staleness_at, rounds_behind, node_figures, most_by_owner}
+use Rattle.model.specs.Figures.{figures_of}
 use Rattle.version_lags.specs.Pieces.{keys_in, StandTogether, MayBeCounted, IsPiece, IsLeastHeld, MayWalk, most_lag}
 use Rattle.version_lags.proofs.Pieces.{key_within}
 

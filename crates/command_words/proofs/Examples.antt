@@ -1,6 +1,7 @@
 -- What some words come to.
 -- Serves no file: it is for readers.
-use Rattle.command_words.proofs.Common.{◌≡◌, List, [], ◌∷◌, Option, Some, None, codes, refl, Text, first_of, one_of, clap_on_literals, DisplayHelp, MissingSubcommand, UnknownArgument, ValueValidation, option_map}
+use Rattle.command_words.proofs.Common.{◌≡◌, List, [], ◌∷◌, Option, Some, None, codes, refl, Text, first_of, one_of, DisplayHelp, MissingSubcommand, UnknownArgument, ValueValidation, option_map}
+use Rattle.clap.proofs.OnLiterals.{clap_on_literals}
 use Rattle.command_words.specs.Program.{program}
 use Rattle.command_words.specs.Words.{command_of, faults_of}
 

@@ -1,6 +1,7 @@
 -- From what `clap` says of the program to what the words come to.
 -- Serves `job_of` and `parse_by`.
-use Rattle.command_words.proofs.Common.{◌≡◌, ◌∙◌, List, [], Result, Ok, Err, true, ap, inl, inr, refl, subst, MatchResult, IsErrAnd, App, FailsBy, HasKind, HasMatchesOf, Text, fault_of, is_simple, is_simple_and_free, kind_of, subcommand_of, subcommand_rows_of, clap_on_literals, Error, ErrorKind, ArgMatches}
+use Rattle.command_words.proofs.Common.{◌≡◌, ◌∙◌, List, [], Result, Ok, Err, true, ap, inl, inr, refl, subst, MatchResult, IsErrAnd, App, FailsBy, HasKind, HasMatchesOf, Text, fault_of, is_simple, is_simple_and_free, kind_of, subcommand_of, subcommand_rows_of, Error, ErrorKind, ArgMatches}
+use Rattle.clap.proofs.OnLiterals.{clap_on_literals}
 use Rattle.command_words.specs.declared.jobs.Job.{Job}
 use Rattle.command_words.specs.Program.{program}
 use Rattle.command_words.specs.Words.{AskFor, HaveNoJob, command_of, faults_of}

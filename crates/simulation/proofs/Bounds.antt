@@ -1,6 +1,7 @@
 -- Where all that was written as a round began has come to all others, nothing is stale for longer than since then.
 -- Serves `staleness_is_bounded`.
-use Rattle.simulation.proofs.Common.{◌≡◌, ◌≢◌, ℕ, zero, suc, ◌+◌, ◌-◌, ◌<◌, ◌≤◌, Bool, true, false, ◌&&◌, cond, eqb, if◌then◌else◌, List, [], ◌∷◌, length, map, Option, Some, None, option_map, inl, inr, refl, sym, ap, ◌∙◌, subst, arith, Contains, cases_eq, cases_lt, and_parts, eqb-true, All-contains, Contains-append_cases, get_or-map-range_with_len, same_Some, Entry, Mark, mark_of, mark_held, is_before, IsBefore, IsUpTo, most_below, before-true, before-up_to, not_both, up_to-then, Settings, IsLawfulScenario, Table, entry_at, mark_at, greatest_mark, IsProper, table_of_node, AreCopiesOf, Write, writes_of_owner, generation_at, staleness_of, staleness_at, rounds_behind, figures_of, write_of_entry, first_above, copy-up_to, mark_at-up_to_greatest, generation_upto, round_list_of, count_before, own_writes, writes_upto, written_upto, generation_upto-rises, born-own_writes, next-writes_upto, born-writes_upto, written-writes_upto}
+use Rattle.simulation.proofs.Common.{◌≡◌, ◌≢◌, ℕ, zero, suc, ◌+◌, ◌-◌, ◌<◌, ◌≤◌, Bool, true, false, ◌&&◌, cond, eqb, if◌then◌else◌, List, [], ◌∷◌, length, map, Option, Some, None, option_map, inl, inr, refl, sym, ap, ◌∙◌, subst, arith, Contains, cases_eq, cases_lt, and_parts, eqb-true, All-contains, Contains-append_cases, get_or-map-range_with_len, same_Some, Entry, Mark, mark_of, mark_held, is_before, IsBefore, IsUpTo, most_below, before-true, before-up_to, not_both, up_to-then, Settings, IsLawfulScenario, Table, entry_at, mark_at, greatest_mark, IsProper, table_of_node, AreCopiesOf, Write, writes_of_owner, generation_at, staleness_of, staleness_at, rounds_behind, write_of_entry, first_above, copy-up_to, mark_at-up_to_greatest, generation_upto, round_list_of, count_before, own_writes, writes_upto, written_upto, generation_upto-rises, born-own_writes, next-writes_upto, born-writes_upto, written-writes_upto}
+use Rattle.model.specs.Figures.{figures_of}
 use Rattle.simulation.specs.CatchingUp.{AllArePassedOn, StalenessIsBounded}
 use Rattle.simulation.specs.Floors.{CutsNothingUpTo}
 use Rattle.simulation.specs.Lists.{list_after, lists_after}

@@ -1,6 +1,7 @@
 -- What the two formats have in common.
 -- Serves `format_1_leaves_nothing_over` and `the_format_has_no_part`.
-use Rattle.simulation.proofs.Common.{◌≡◌, ℕ, zero, suc, ◌-◌, ◌<◌, Bool, true, false, eqb, if◌then◌else◌, List, length, map, Option, Some, None, refl, ap, ◌∙◌, arith, range_with_len, le-ltb, Entry, Settings, IsLawfulScenario, Table, entry_at, with_own_writes, without_all, without_others, table_of_node, generation_at, is_left_over, leftover_at, figures_of, fold_of, generation_upto-format_1}
+use Rattle.simulation.proofs.Common.{◌≡◌, ℕ, zero, suc, ◌-◌, ◌<◌, Bool, true, false, eqb, if◌then◌else◌, List, length, map, Option, Some, None, refl, ap, ◌∙◌, arith, range_with_len, le-ltb, Entry, Settings, IsLawfulScenario, Table, entry_at, with_own_writes, without_all, without_others, table_of_node, generation_at, is_left_over, leftover_at, fold_of, generation_upto-format_1}
+use Rattle.model.specs.Figures.{figures_of}
 use Rattle.simulation.specs.Formats.{LeavesNothingOver, FormatHasNoPart}
 use Rattle.simulation.specs.Outcomes.{figures_in, row_in}
 use Rattle.simulation.specs.Rounds.{restarted, begun, rules_of, round_of, tables_after, records_in}

@@ -1,6 +1,8 @@
 -- What owners write, who restarts and who meets whom is the same in each format, under each mode and with each budget.
 -- Serves `Alike`, `Best`, `Formats` and `runs`.
-use Rattle.simulation.proofs.Common.{◌≡◌, ℕ, zero, suc, ◌+◌, ◌++◌, [], map, if◌then◌else◌, refl, range_with_len, Mode, Rules, next_version, write_of_entry, generation_upto, is_up, forgets_now, restarts_now, separated, round_list_of, word_of, writes_in, number_by, count_upto, count_before, numbered_write, own_writes, writes_upto, written_upto, Settings, with_mode}
+use Rattle.simulation.proofs.Common.{◌≡◌, ℕ, zero, suc, ◌+◌, ◌++◌, [], map, if◌then◌else◌, refl, range_with_len, Mode, Rules, next_version, write_of_entry, generation_upto, round_list_of, word_of, number_by, count_upto, count_before, numbered_write, own_writes, writes_upto, written_upto, Settings, with_mode}
+use Rattle.round_plan.specs.Outages.{forgets_now, is_up, restarts_now, separated}
+use Rattle.round_plan.specs.Writes.{writes_in}
 use Rattle.simulation.specs.Lists.{lists_after}
 
 module _ (s : Settings) (format : ℕ) (rules : Rules) where

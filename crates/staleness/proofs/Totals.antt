@@ -1,6 +1,7 @@
 -- The figures of several parts together.
 -- Serves `figures`, `figures_of_copy` and `joined_all`.
-use Rattle.staleness.proofs.Common.{◌≡◌, ℕ, ◌+◌, ◌*◌, ◌<◌, ◌≤◌, Bool, true, false, eqb, List, length, get_or, All, if◌then◌else◌, inl, inr, ap, ◌∙◌, subst, arith, is_some, range_with_len, cases_lt, length-range_with_len, AllZip-long, at_place, sums, greatest, sum_below-most, fold_below-same, MOST_NODES, MOST_KEYS, Figures, generation_at, is_left_over, staleness_at, node_figures, figures_of, Table, entry_at, table_of_node, Write}
+use Rattle.staleness.proofs.Common.{◌≡◌, ℕ, ◌+◌, ◌*◌, ◌<◌, ◌≤◌, Bool, true, false, eqb, List, length, get_or, All, if◌then◌else◌, inl, inr, ap, ◌∙◌, subst, arith, is_some, range_with_len, cases_lt, length-range_with_len, AllZip-long, at_place, sums, greatest, sum_below-most, fold_below-same, MOST_NODES, MOST_KEYS, Figures, generation_at, is_left_over, staleness_at, node_figures, Table, entry_at, table_of_node, Write}
+use Rattle.model.specs.Figures.{figures_of}
 use Rattle.staleness.specs.inner.Totals.{total_below, triple_figures, found_at, AreFew, IsCounted, AreCounted}
 
 -- as many triples as parts times those of each

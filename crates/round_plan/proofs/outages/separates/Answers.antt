@@ -1,4 +1,5 @@
-use Rattle.round_plan.proofs.Common.{◌≡◌, ◌==◌, ℕ, zero, suc, ◌+◌, ◌-◌, ◌<◌, ◌≤◌, Bool, true, false, not, ◌&&◌, List, length, get_or, Result, MatchResult, is_ok, refl, sym, subst, inl, inr, arith, ap, ◌∙◌, Ok, Err, list_any, IsStrictlyIncreasing, IsBinarySearchResult, nat_cmp, cases_lt, nat_tests, or_at, or_from_places, searched, xor, beq}
+use Rattle.round_plan.proofs.Common.{◌≡◌, ◌==◌, ℕ, zero, suc, ◌+◌, ◌-◌, ◌<◌, ◌≤◌, Bool, true, false, not, ◌&&◌, List, length, get_or, Result, MatchResult, is_ok, refl, sym, subst, inl, inr, arith, ap, ◌∙◌, Ok, Err, list_any, IsStrictlyIncreasing, IsBinarySearchResult, nat_cmp, cases_lt, nat_tests, or_at, or_from_places, searched, beq}
+use mathlib.Core.Bool.{xor}
 use Rattle.round_plan.specs.Outages.{separates, is_between, lists}
 use Rattle.round_plan.proofs.outages.separates.Goals as goal
 

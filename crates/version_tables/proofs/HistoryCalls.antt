@@ -1,7 +1,7 @@
 -- What the calls of the histories make of all that is kept of the owners' writes.
 -- Serves `Histories::begin_generation`, `Histories::end_round`, `Histories::lasts`, `Histories::new` and
 -- `Histories::write`.
-use Rattle.version_tables.proofs.Common.{◌≡◌, ◌≢◌, ℕ, zero, suc, ◌+◌, ◌*◌, ◌<◌, ◌≤◌, ◌==◌, cond, List, [], ◌∷◌, ◌++◌, length, get_or, set, map, take, Some, inl, inr, refl, sym, ap, ◌∙◌, subst, transport, arith, length-append, mul-le-mul_right, cases_lt, cases_eq, eq-eqb, ne_eqb, get_or-set_same, get_or-set_other, get_or_append_left, get_or_push, length-set, get_or-append-add, get_or_default, length-map, length-take-le, get_or-take, take-map, map-append, map-set, append_assoc, append-nil, same_Some, number-at, Entry, MOST_KEYS, MOST_NODES, write_from, write_numbered, OwnerListView, all_writes, entries_of, list_of_owner, no_writes, next_entry, with_write, begun_generation, AreWrites, ListBecomes, writes_more, writes_begun, HasEach, HasEachPlace, ArePlanesChanged, cell, AreMadeBy, IsHistory, IsNumberedHistory, IsRoundMark, IsLastNumber, write_from-some, numbered-within, write_from-at, AreHistories, AreNoWrites, IsBeginning, IsCounted, IsWrittenSoFar, IsWriteUnder}
+use Rattle.version_tables.proofs.Common.{◌≡◌, ◌≢◌, ℕ, zero, suc, ◌+◌, ◌*◌, ◌<◌, ◌≤◌, ◌==◌, cond, List, [], ◌∷◌, ◌++◌, length, get_or, set, map, take, Some, inl, inr, refl, sym, ap, ◌∙◌, subst, transport, arith, length-append, mul-le-mul_right, cases_lt, cases_eq, eq-eqb, ne_eqb, get_or-set_same, get_or-set_other, get_or_append_left, get_or_push, length-set, get_or-append-add, get_or_default, length-map, length-take-le, get_or-take, take-map, map-append, map-set, append_assoc, append-nil, same_Some, number-at, Entry, MOST_KEYS, MOST_NODES, write_from, write_numbered, OwnerListView, all_writes, entries_of, list_of_owner, no_writes, next_entry, with_write, begun_generation, AreWrites, ListBecomes, writes_more, writes_begun, HasEach, HasEachPlace, ArePlanesChanged, cell, AreMadeBy, IsHistory, IsNumberedHistory, IsRoundMark, IsLastNumber, write_from-some, numbered-within, write_from-at, AreHistories, AreNoWrites, IsCounted, IsWrittenSoFar, IsWriteUnder}
 use Rattle.version_tables.proofs.Generations.{current-at, earlier-at}
 use Rattle.version_tables.proofs.OwnCalls.{other-place, place-within}
 
@@ -46,10 +46,7 @@ module _ (all : List Entry) (most rounds : ℕ) (v : OwnerListView) (key value :
   back number d le is = sym (numbered-before number le) ∙ is
 
   numbered-last : write_numbered more (length w + 1) ≡ Some e
-  numbered-last = (λ i. write_numbered (whole i) (next i)) ∙ from-last w e
-    where
-      next : length w + 1 ≡ suc (length w)
-      next = omega arith
+  numbered-last = ap (write_numbered more) {x = length w + 1} {y = suc (length w)} (omega arith) ∙ ap (λ es. write_from es (length w)) whole ∙ from-last w e
 
   -- what holds of each write before, and of the one more
   each : (P : ℕ → Entry → Type 0) → ((number : ℕ) (d : Entry) → number ≤ length w → write_numbered w number ≡ Some d → P number d) → P (length w + 1) e → (number : ℕ) (d : Entry) → write_numbered more number ≡ Some d → P number d
@@ -314,16 +311,12 @@ none-written number e is = let within = numbered-within [] number e is in absurd
 
 so_far-none : (all : List Entry) (most : ℕ) → 0 < most → IsWrittenSoFar all most 0 []
 so_far-none all most some = record {
-  begins = begins;
+  begins = λ number le. subst (λ n. write_numbered [] n ≡ write_numbered all n) {x = 0} {y = number} (omega (arith, le)) refl;
   few = some;
   history = record { rise = λ i j d lt in_range. absurd (omega (arith, in_range)); born = λ i j d le in_range. absurd (omega (arith, in_range)) };
   numbered = record { counted = λ n e. none-written n e; older = λ m n d e is _ _. none-written m d is; alike = λ m n d e is _ _ _. none-written m d is };
   made = record { first = λ n e. none-written n e; last = λ n e. none-written n e };
 }
-  where
-    begins : IsBeginning [] all
-    begins zero le = refl
-    begins (suc place) le = absurd (omega (arith, le))
 
 -- before the first round
 pub histories-empty : (written : ℕ → List Entry) (most nodes : ℕ) (lists : List OwnerListView) (counts bases lasts ends : List ℕ) → 0 < most → nodes ≤ MOST_NODES → AreNoWrites nodes lists

@@ -1,6 +1,6 @@
 -- A node's own calls on its table: its numbers lie as those of the table that the model has then.
 -- Serves the functions of `owners` and `tables` and `HistoryCalls`.
-use Rattle.version_tables.proofs.Common.{◌≡◌, ◌≢◌, ℕ, ◌+◌, ◌*◌, ◌<◌, ◌≤◌, ◌==◌, cond, List, length, get_or, set, Option, Some, None, ◌⊎◌, refl, transport, same_from_place, inl, inr, sym, ap, ◌∙◌, subst, arith, slice_index, mul-le-mul_right, cases_lt, cases_eq, eq-eqb, ne_eqb, get_or-set_same, get_or-set_other, length-set, get_or_past, none-some, same_Some, Entry, MOST_NODES, LEAST_KEYS, MOST_KEYS, Table, entry_at, empty_table, with_own_write, without_others, without_all, IsProper, entry_at-own_write, entry_at-own_write_other, entry_at-without_others_own, entry_at-without_others_other, entry_at-without_all, entry_at-empty_table, proper-empty_table, proper-with_own_write, proper-without_others, proper-without_all, write_numbered, Cells, cell, ArePlanesChanged, HasEach, AreChanged, numbered-within, VersionTableView, table_in, IsKept, IsNextWrite, HasOwnWrite, table_of_cells, AreNumbers, IsFirst, IsGreatest, IsVersionTable}
+use Rattle.version_tables.proofs.Common.{◌≡◌, ◌≢◌, ℕ, ◌+◌, ◌*◌, ◌<◌, ◌≤◌, ◌==◌, cond, List, length, get_or, set, Option, Some, None, ◌⊎◌, refl, transport, same_from_place, inl, inr, sym, ap, ◌∙◌, subst, arith, slice_index, mul-le-mul_right, cases_eq, eq-eqb, ne_eqb, get_or-set_same, get_or-set_other, length-set, none-some, same_Some, Entry, MOST_NODES, LEAST_KEYS, MOST_KEYS, Table, entry_at, empty_table, with_own_write, without_others, without_all, IsProper, entry_at-own_write, entry_at-own_write_other, entry_at-without_others_own, entry_at-without_others_other, entry_at-without_all, entry_at-empty_table, proper-empty_table, proper-with_own_write, proper-without_others, proper-without_all, write_numbered, Cells, cell, ArePlanesChanged, HasEach, AreChanged, numbered-within, VersionTableView, table_in, IsKept, IsNextWrite, HasOwnWrite, table_of_cells, AreNumbers, IsFirst, IsGreatest, IsVersionTable}
 use Rattle.version_tables.proofs.Laid.{has_cells, cells_table}
 
 -- numbers of which all but an owner's are put to 0
@@ -21,13 +21,6 @@ pub other-place : (nodes r k s j : ℕ) → r < nodes → s < nodes → (r ≢ s
 other-place nodes r k s j in_nodes in_node other is =
     let same = same_from_place k r j s nodes in_nodes in_node is in
     elim other [ inl ne ↦ ne same.1 | inr ne ↦ ne same.0 ]
-
--- numbers that are all 0 are so at each index
-all_zero : (old new : List ℕ) → AreChanged (λ r x y. y ≡ 0) old new → (i : ℕ) → get_or new i 0 ≡ 0
-all_zero old new cleared i = elim (cases_lt i (length old)) [
-  | inl lt ↦ cleared.each i lt
-  | inr past ↦ get_or_past new i 0 (omega (arith, past, cleared.size))
-]
 
 -- a number is that of the write of its key that is held, or 0, and stands first
 pub record IsNumberOf (writes : List Entry) (key number : ℕ) (held : Option Entry) : Type 0 where
@@ -128,7 +121,9 @@ module _ (written : ℕ → List Entry) (v : VersionTableView) (kept : IsKept wr
     proper = proper-without_all t kept.proper;
     cell_count = no_cells.size ∙ kept.cell_count;
     greatest_count = no_greatest.size ∙ kept.greatest_count;
-    rows = λ owner _. empty-row (λ key _. (all_zero v.cells cells no_cells (key * v.nodes + owner), entry_at-without_all t owner key)) (all_zero v.greatest greatest no_greatest owner);
+    rows = λ owner lt. empty-row
+        (λ key in_keys. (no_cells.each (key * v.nodes + owner) (omega (arith, kept.cell_count, place-within v.nodes v.keys owner key lt in_keys)), entry_at-without_all t owner key))
+        (no_greatest.each owner (omega (arith, lt, kept.greatest_count)));
   }
 
   -- one that restarts

@@ -41,23 +41,18 @@ module _ (rules : Rules) (rotation : ℕ) {written : ℕ → List Entry} {most :
       let lacked = ((candidates-lacked rules.mode F T i two.first.proper two.second.proper).0 (sent-candidate rules.mode F T rotation rules.budget i comes)).1 in
       lacks-at (digest_kind rules.mode) T i two.second.proper (subst (λ k. e.key < k) two.both.size.keys (two.first.proper.in_place owner e.key e (came-held owner e comes)).key_below) lacked
 
-  -- a generation that the receiver's copy is of afterwards is one that it held or that comes
-  after-generation : (owner : ℕ) → (generation_held after owner ≤ generation_held T owner) ⊎ ((e : Entry) × Comes owner e × (generation_held after owner ≡ e.generation))
-  after-generation owner = elim (greatest_mark-from after owner) [
-    | inl nothing ↦ inl (omega (arith, ap (λ (m : Mark). m.generation) nothing))
-    | inr (key, lt, is) ↦ elim (entry_at after owner key) as (λ o. entry_at after owner key ≡ o → mark_held o ≡ greatest_mark after owner → (generation_held after owner ≤ generation_held T owner) ⊎ ((e : Entry) × Comes owner e × (generation_held after owner ≡ e.generation))) [
-      | None ↦ λ _ at. inl (omega (arith, ap (λ (m : Mark). m.generation) at))
+  -- the receiver's copy is afterwards of no newer generation than it was and what comes is
+  generation-upto : (owner most : ℕ) → generation_held T owner ≤ most → ((e : Entry) → Comes owner e → e.generation ≤ most) → generation_held after owner ≤ most
+  generation-upto owner most le comes = elim (greatest_mark-from after owner) [
+    | inl nothing ↦ omega (arith, ap (λ (m : Mark). m.generation) nothing)
+    | inr (key, lt, is) ↦ elim (entry_at after owner key) as (λ o. entry_at after owner key ≡ o → mark_held o ≡ greatest_mark after owner → generation_held after owner ≤ most) [
+      | None ↦ λ _ at. omega (arith, ap (λ (m : Mark). m.generation) at)
       | Some e ↦ λ found at. elim (entry_at-applied_from T sent owner key e found) [
-        | inl held ↦ inl (omega (arith, ap (λ (m : Mark). m.generation) at, two.second.proper.copies owner key e held))
-        | inr came ↦ inr (e, came.0, ap (λ (m : Mark). m.generation) (sym at))
+        | inl held ↦ omega (arith, le, ap (λ (m : Mark). m.generation) at, two.second.proper.copies owner key e held)
+        | inr came ↦ omega (arith, ap (λ (m : Mark). m.generation) at, comes e came.0)
       ]
     ] refl is
   ]
-
-  -- of one owner all that comes is of one generation
-  one_generation : (owner : ℕ) (d e : Entry) → Comes owner d → Comes owner e → d.generation ≡ e.generation
-  one_generation owner d e one other =
-      two.first.proper.copies owner d.key d (came-held owner d one) ∙ sym (two.first.proper.copies owner e.key e (came-held owner e other))
 
   -- what comes is held afterwards
   pub after-sent : (owner : ℕ) (e : Entry) → Comes owner e → entry_at after owner e.key ≡ Some e
@@ -74,11 +69,10 @@ module _ (rules : Rules) (rotation : ℕ) {written : ℕ → List Entry} {most :
       some : 1 ≤ e.version
       some = (two.first.proper.in_place owner e.key e (came-held owner e comes)).written
 
+      -- of one owner all that comes is of one generation
       no_newer : generation_held after owner ≤ e.generation
-      no_newer = elim (after-generation owner) [
-        | inl held ↦ omega (arith, held, lacked.0)
-        | inr (d, other, is) ↦ omega (arith, is, one_generation owner d e other comes)
-      ]
+      no_newer = generation-upto owner e.generation lacked.0
+          (λ d other. omega (arith, two.first.proper.copies owner d.key d (came-held owner d other), two.first.proper.copies owner e.key e (came-held owner e comes)))
 
       up_to : IsUpTo (mark_of e) (mark_at after owner e.key)
       up_to = sent-up_to rules rotation F T two.first.proper two.both.size.nodes two.both.size.keys two.second.proper owner e.key e refl comes no_newer
@@ -98,16 +92,12 @@ module _ (rules : Rules) (rotation : ℕ) {written : ℕ → List Entry} {most :
       | Some e ↦ λ found. sym (after-from owner key e found others) ∙ none
     ] refl
     | Some e ↦ λ held.
-        let up_to = kept rules rotation F T two.first.proper two.both.size.nodes two.both.size.keys two.second.proper owner key e held (upto e held) in
+        let copy = two.second.proper.copies owner key e held in
+        let upto = generation-upto owner e.generation (omega (arith, copy)) (λ d comes. omega (arith, copy, no_newer d comes)) in
+        let up_to = kept rules rotation F T two.first.proper two.both.size.nodes two.both.size.keys two.second.proper owner key e held upto in
         let d = stands e (entry_at after owner key) (two.second.proper.in_place owner key e held).written up_to in
         d.1 ∙ sym (after-from owner key d.0 d.1 others) ∙ held
   ] refl
-    where
-      upto : (e : Entry) → entry_at T owner key ≡ Some e → generation_held after owner ≤ e.generation
-      upto e held = elim (after-generation owner) [
-        | inl le ↦ omega (arith, le, two.second.proper.copies owner key e held)
-        | inr (d, comes, is) ↦ omega (arith, is, no_newer d comes, two.second.proper.copies owner key e held)
-      ]
 
   -- and where something does, nothing does
   pub after-dropped : (owner key : ℕ) (d : Entry) → Comes owner d → generation_held T owner < d.generation → ((d : Entry) → Comes owner d → d.key ≢ key) → entry_at after owner key ≡ None

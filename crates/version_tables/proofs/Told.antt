@@ -1,6 +1,6 @@
 -- What a digest tells, by numbers: which of the sender's writes the receiver lacks.
 -- Serves `Delivered`.
-use Rattle.version_tables.proofs.Common.{◌≡◌, ℕ, zero, suc, ◌-◌, ◌<◌, ◌≤◌, max, List, length, Option, Some, None, inl, inr, refl, sym, ap, ◌∙◌, subst, arith, nat_lt, cases_eq, lt-ltb, le-ltb, Entry, Item, Mark, Mode, DigestKind, Scuttle, Precise, mark_of, mark_held, is_before, IsUpTo, digest_kind, absent-first, Table, mark_at, greatest_mark, greatest_mark-unique, known_mark, write_numbered, Cells, IsHistory, IsNumberedHistory, start_before, start_of, Offers, is_lacked, told_by, offered_by, numbers-before, numbered-none, numbered-some, numbered-within, numbers-up_to, numbers-compare, all_writes, cell, get_or, entry_at, nat_tests, VersionTableView, HistoriesView, table_in, AreLaidBoth, AreLow, AreOffered, IsGreatest}
+use Rattle.version_tables.proofs.Common.{◌≡◌, ℕ, zero, suc, ◌-◌, ◌<◌, ◌≤◌, max, List, length, Option, Some, None, inl, inr, refl, sym, ap, ◌∙◌, subst, arith, nat_lt, cases_eq, lt-ltb, le-ltb, Entry, Item, Mark, Mode, DigestKind, Scuttle, Precise, mark_of, mark_held, is_before, IsUpTo, digest_kind, absent-first, Table, mark_at, greatest_mark, greatest_mark-unique, known_mark, write_numbered, Cells, start_before, start_of, Offers, is_lacked, told_by, offered_by, numbers-before, numbered-none, numbered-some, numbered-within, numbers-up_to, numbers-compare, all_writes, cell, get_or, entry_at, nat_tests, VersionTableView, HistoriesView, table_in, AreLaidBoth, AreLow, AreOffered, IsGreatest, IsWrittenSoFar}
 use Rattle.version_tables.proofs.Fitting.{turned, first-cells, first-held, first-numbers}
 
 module _ {written : ℕ → List Entry} {most : ℕ} {h : HistoriesView} {from to : VersionTableView} (two : AreLaidBoth written most h from to) (owner : ℕ) (in_nodes : owner < to.nodes) where
@@ -16,11 +16,8 @@ module _ {written : ℕ → List Entry} {most : ℕ} {h : HistoriesView} {from t
   abbrev greatest : ℕ
   greatest = get_or to.greatest owner 0
 
-  history : IsHistory writes
-  history = (two.known.so_far owner).history
-
-  numbered : IsNumberedHistory writes
-  numbered = (two.known.so_far owner).numbered
+  so_far : IsWrittenSoFar (written owner) most h.rounds writes
+  so_far = two.known.so_far owner
 
   has : (key : ℕ) → key < to.keys → entry_at T owner key ≡ write_numbered writes (held key)
   has key in_keys = first-cells (turned two) owner key in_nodes in_keys
@@ -50,7 +47,7 @@ module _ {written : ℕ → List Entry} {most : ℕ} {h : HistoriesView} {from t
   up_to-greatest (suc place) le =
       let d = numbered-some writes (suc place) (omega arith) (omega (arith, le, greatest-within)) in
       let e = numbered-some writes greatest (omega (arith, le)) greatest-within in
-      rw (d.1, e.1) (numbers-up_to writes history (suc place) greatest d.0 e.0 d.1 e.1 le)
+      rw (d.1, e.1) (numbers-up_to writes so_far.history (suc place) greatest d.0 e.0 d.1 e.1 le)
 
   greatest-mark : greatest_mark T owner ≡ mark_numbered greatest
   greatest-mark = greatest_mark-unique T owner (mark_numbered greatest)
@@ -68,14 +65,14 @@ module _ {written : ℕ → List Entry} {most : ℕ} {h : HistoriesView} {from t
     within = (numbered-within writes number e is_e).0
 
     some : 1 ≤ e.version
-    some = (numbered.counted number e is_e).0
+    some = (so_far.numbered.counted number e is_e).0
 
     pub scuttle-lacks : is_before (known_mark Scuttle T item) (mark_of e) ≡ nat_lt greatest number
     scuttle-lacks = ap (λ m. is_before m (mark_of e)) greatest-mark ∙ of (write_numbered writes greatest) refl
       where
         of : (o : Option Entry) → write_numbered writes greatest ≡ o → is_before (mark_held o) (mark_of e) ≡ nat_lt greatest number
         of None none = let zero_here = numbered-none writes greatest greatest-within none in grind (arith, nat_tests, within, some)
-        of (Some f) is_f = numbers-compare writes history greatest number f e is_f is_e
+        of (Some f) is_f = numbers-compare writes so_far.history greatest number f e is_f is_e
 
     -- by the mark of the key and the generation of the greatest one: what is held is of that, so it is behind its start
     precise-of : (o p : Option Entry) → write_numbered writes (held key) ≡ o → write_numbered writes greatest ≡ p
@@ -83,20 +80,20 @@ module _ {written : ℕ → List Entry} {most : ℕ} {h : HistoriesView} {from t
     precise-of None None none nothing = let zero_here = numbered-none writes (held key) (upto key in_keys) none in grind (arith, nat_tests, within, some)
     precise-of None (Some f) none is_f =
         let zero_here = numbered-none writes (held key) (upto key in_keys) none in
-        let counted = numbered.counted greatest f is_f in
-        let older = numbered.older number greatest e f is_e is_f in
-        let alike = numbered.alike number greatest e f is_e is_f in
-        let behind = λ (lt : greatest < number). (numbers-before writes history greatest number f e is_f is_e lt).generation in
+        let counted = so_far.numbered.counted greatest f is_f in
+        let older = so_far.numbered.older number greatest e f is_e is_f in
+        let alike = so_far.numbered.alike number greatest e f is_e is_f in
+        let behind = λ (lt : greatest < number). (numbers-before writes so_far.history greatest number f e is_f is_e lt).generation in
         grind (arith, nat_tests, some)
     precise-of (Some d) None is_d nothing =
         absurd (omega (arith, top.upto key in_keys, numbered-none writes greatest greatest-within nothing, (numbered-within writes (held key) d is_d).0))
     precise-of (Some d) (Some f) is_d is_f =
         let same : f.generation ≡ d.generation = sym (ap (λ o. (mark_held o).generation) is_f) ∙ sym (ap (λ (m : Mark). m.generation) greatest-mark) ∙ sym (two.second.proper.copies owner key d (has key in_keys ∙ is_d)) in
-        let older = numbered.older (held key) greatest d f is_d is_f in
-        let counted = numbered.counted greatest f is_f in
+        let older = so_far.numbered.older (held key) greatest d f is_d is_f in
+        let counted = so_far.numbered.counted greatest f is_f in
         let below : greatest - f.version < held key = grind arith in
         (λ i. is_before (record { generation = same i; version = d.version }) (mark_of e))
-        ∙ numbers-compare writes history (held key) number d e is_d is_e
+        ∙ numbers-compare writes so_far.history (held key) number d e is_d is_e
         ∙ ap (λ n. nat_lt n number) (omega (arith, below))
 
     pub precise-lacks : is_before (known_mark Precise T item) (mark_of e) ≡ nat_lt (max (held key) (start_of writes greatest)) number

@@ -43,8 +43,8 @@ pub record AreNoWrites (nodes : ℕ) (lists : List OwnerListView) : Type 0 where
   pub count : length lists ≡ nodes
   pub empty : (owner : ℕ) → list_of_owner lists owner ≡ no_writes
 
--- what is kept of an owner's writes: counts of all and of those of earlier generations, the last number of each key, and
--- where the rounds end
+-- what is kept of an owner's writes: counts of all and of those of earlier generations, the last number of each key,
+-- and where the rounds end
 pub record IsCounted (list : OwnerListView) (rounds count base : ℕ) (lasts ends : ℕ → ℕ) : Type 0 where
   pub counted : count ≡ length (entries_of list)
   pub based : base ≡ length list.earlier
@@ -63,13 +63,15 @@ pub record AreHistories (written : ℕ → List Entry) (most : ℕ) (lists : Lis
   pub ends_size : length ends ≡ (rounds + 1) * length lists
   pub known : AreKnown written most (record { lists = lists; rounds = rounds })
   pub each : (owner : ℕ) → owner < length lists
-      → IsCounted (list_of_owner lists owner) rounds (slice_index counts owner) (slice_index bases owner) (cell lasts (length lists) owner) (cell ends (length lists) owner)
+      → IsCounted (list_of_owner lists owner) rounds (slice_index counts owner) (slice_index bases owner)
+      (cell lasts (length lists) owner) (cell ends (length lists) owner)
 
 -- how many writes each owner had made up to the end of each round, in memory
 pub record AreEndsOf {N : Type 0} (number : N → ℕ) (h : HistoriesView) (ends : Ends N) : Type 0 where
   pub rounds : ends.rounds ≡ h.rounds
   pub size : length ends.numbers.now ≡ (h.rounds + 1) * length h.lists
-  pub parts : AreEnds (all_writes h.lists) (length h.lists) h.rounds (cell (map number ends.numbers.now) (length h.lists))
+  pub parts : AreEnds (all_writes h.lists) (length h.lists) h.rounds
+      (cell (map number ends.numbers.now) (length h.lists))
 
 -- as many owners as nodes, whose writes are numbered, and of each how many it made before its generation
 pub record AreOwners {N : Type 0} (number : N → ℕ) (nodes : ℕ) (owners : Owners N) : Type 0 where

@@ -38,7 +38,7 @@ pub use Rattle.bench_types.specs.declared.rows.Figures.{Figures}
 pub use Rattle.model.proofs.BeginLaws.{IsBegun, begun_copies, begun_forget, begun_no_gap, begun_restart, begun_same, begun_then, begun_writes, copy-up_to, counted_write, counted_writes, empty_copies, empty_no_gap, generation-written, written_rises}
 pub use Rattle.model.proofs.DeltaLaws.{cut-none, sent-uncut}
 pub use Rattle.model.proofs.ExchangeLaws.{marks_stay, marks_then}
-pub use Rattle.model.proofs.FoldLaws.{before_copies, before_keeps_own, before_no_gap, before_rises, fold_counts_records, fold_counts_tables, fold_keeps_own, fold_proper, step_proper, step_tables}
+pub use Rattle.model.proofs.FoldLaws.{before_copies, before_keeps_own, before_no_gap, before_rises, fold_counts_records, fold_counts_tables, fold_keeps_own, fold_proper, initiator_is, responder_is, step_proper, step_tables}
 pub use Rattle.model.proofs.Fresh.{HasAllOf, all_stays, fresh_from, has_all, not_behind, of_generation}
 pub use Rattle.model.proofs.Greatest.{greatest_mark-none, greatest_mark-same, mark_at-up_to_greatest, place_less}
 pub use Rattle.model.proofs.Items.{apart-items_of}
@@ -51,7 +51,7 @@ pub use Rattle.model.proofs.Sent.{candidates-in_place}
 pub use Rattle.model.proofs.Spreads.{hands_on}
 pub use Rattle.model.proofs.StateDeltas.{lengths-alike}
 pub use Rattle.model.proofs.StateFigures.{NoneIsOlder, greatest-le, stale-le}
-pub use Rattle.model.proofs.StateFolds.{AreBeside, CutNothing, CutsNothing, MissNone, brought, fold_beside, fold_states, initiator_is, keeps_records, misses-own, next_recorded, own_beside, responder_is, same_held, step_beside}
+pub use Rattle.model.proofs.StateFolds.{AreBeside, CutNothing, CutsNothing, MissNone, brought, fold_beside, fold_states, keeps_records, misses-own, next_recorded, own_beside, same_held, step_beside}
 pub use Rattle.model.proofs.States.{HoldsAsMuchOf, as_much-from}
 pub use Rattle.model.proofs.TableLaws.{entry_at-empty_table, entry_at-own_write_other, entry_at-without_all, entry_at-without_others_other, entry_at-without_others_own}
 pub use Rattle.model.proofs.Tables.{cluster_of, same_tables, still_table_of, table_of_node-made, table_of_node-set_other, table_of_node-set_same}

@@ -12,5 +12,5 @@
 mod hands;
 mod round_tables;
 
-pub use hands::{Hands, processors};
+pub use hands::Hands;
 pub use round_tables::{RoundHistories, TakesAll};

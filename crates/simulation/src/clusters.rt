@@ -19,12 +19,12 @@ use bench_types::limits::MOST_ROUNDS;
 use bench_types::{Fault, Rules};
 use model::MemoryTable;
 use round_plan::{OwnWrite, ROUND_WORDS, RunWords, forgets_now, restarts_now, writes_by};
-use round_tables::{Hands, RoundHistories, processors};
+use round_tables::{Hands, RoundHistories};
 use scenario::Scenario;
 use std::alloc::Global;
 use std::num::NonZeroUsize;
 use std::sync::Wait;
-use std::thread::Threads;
+use std::thread::{Threads, available_parallelism};
 use workers::{Gate, Work, run_list_with};
 
 /// What all nodes hold, what each has written, what is drawn of the rounds, and the processors, once a round has asked
@@ -106,11 +106,12 @@ impl<T: MemoryTable + Send + Sync, H: RoundHistories<T>> Cluster<T, H> {
     }
 }
 
-// So many workers, and the processors. A run asks for these once: that takes longer than a small round.
+// So many workers, and the processors, or one where the system doesn't say. A run asks for these once: that takes
+// longer than a small round.
 fn hands_of(rt: &impl Threads, workers: u32, known: Option<NonZeroUsize>) -> Hands {
     let processors = match known {
         Some(processors) => processors,
-        None => processors(rt),
+        None => available_parallelism(rt).unwrap_or(NonZeroUsize::MIN),
     };
     Hands {
         workers,

@@ -1,6 +1,7 @@
 -- Lists of writes that rise by key: what a search finds, and what an edit at an index does to the look-ups.
 -- Serves `put`, `search`, `write_in` and `Keeping`.
-use Rattle.owner_lists.proofs.Common.{◌≡◌, ◌≢◌, ℕ, zero, suc, ◌+◌, ◌<◌, false, cond, List, [], ◌∷◌, length, get_or, set, Some, None, Result, Ok, Err, IfOk, IfErr, inl, inr, refl, sym, ap, ◌∙◌, subst, arith, T, Less, Equal, Greater, nat_cmp, is_lt, is_eq, ranked, nat_cmp_total, insert, IsSearchInRange, IsBinarySearchResult, IsSortedBy, find, put, is_sorted, below_all, by_order, is_sorted-put, cases_lt, searchable_from_sorted, Write, first, second, less, nat_cmp-less, nat_cmp-equal, nat_cmp-greater}
+use Rattle.owner_lists.proofs.Common.{◌≡◌, ◌≢◌, ℕ, zero, suc, ◌+◌, ◌<◌, false, cond, List, [], ◌∷◌, length, get_or, set, Some, None, Result, Ok, Err, IfOk, IfErr, inl, inr, refl, sym, ap, ◌∙◌, subst, arith, T, Less, Equal, Greater, nat_cmp, is_lt, is_eq, ranked, nat_cmp_total, insert, IsSearchInRange, IsBinarySearchResult, IsSortedBy, put, is_sorted, below_all, by_order, is_sorted-put, cases_lt, searchable_from_sorted, Write, first, second, less, nat_cmp-less, nat_cmp-equal, nat_cmp-greater}
+use Rattle.std.specs.FinMap.{find}
 use Rattle.owner_lists.specs.Latest.{keyed, KeysRise}
 use Rattle.owner_lists.specs.inner.Keys.{IsIndexOfKey, IsGapForKey}
 

@@ -1,24 +1,27 @@
 -- Ranks among an owner's candidates and how many it has, by its numbers.
 -- Serves most of the crate and `version_tables`.
-use Rattle.delta_plans.proofs.Common.{◌≡◌, ◌≢◌, ℕ, zero, suc, ◌<◌, Bool, true, false, cond, eqb, ltb, List, inl, inr, refl, sym, ap, ◌∙◌, arith, Contains, ◌&&◌, cases_lt, cases_eq, eq-eqb, ne_eqb, lt-ltb, le-ltb, Entry, Item, Mode, Table, IsProper, candidates, rank_among, owner_count, sum_below, IsHistory, Cells, count_above, sum_below-same, number-of_version, versions-rise}
+use Rattle.delta_plans.proofs.Common.{◌≡◌, ◌≢◌, ℕ, zero, suc, ◌+◌, ◌<◌, Bool, true, false, cond, eqb, ltb, List, inl, inr, refl, ap, ◌∙◌, arith, Contains, ◌&&◌, cases_lt, cases_eq, Entry, Item, Mode, Table, IsProper, candidates, rank_among, owner_count, sum_below, IsHistory, Cells, count_above, sum_below-same, number-of_version, nat_tests, subst, versions-rise}
 use Rattle.delta_plans.specs.Offers.{Offers, offered_sum, rank_above}
 use Rattle.delta_plans.specs.Firsts.{item_number}
 use Rattle.delta_plans.proofs.OfferSums.{offered-sum}
 use Rattle.delta_plans.proofs.CandidateNumbers.{candidate-number, candidate-below, alike, d_number}
 
--- a sum to which one index alone adds
 pub sum_below-none : (n : ℕ) (f : ℕ → ℕ) → ((i : ℕ) → i < n → f i ≡ 0) → sum_below n f ≡ 0
 sum_below-none zero f none = refl
 sum_below-none (suc n) f none = omega (arith, sum_below-none n f (λ i lt. none i (omega (arith, lt))), none n (omega arith))
 
-pub sum_below-one : (n r : ℕ) (f : ℕ → ℕ) → r < n → ((i : ℕ) → i ≢ r → f i ≡ 0) → sum_below n f ≡ f r
-sum_below-one zero r f lt others = absurd (omega (arith, lt))
-sum_below-one (suc n) r f lt others = elim (cases_lt r n) [
-  | inl below ↦ omega (arith, sum_below-one n r f below others, others n (λ e. omega (arith, e, below)))
+-- a sum that changes at one index
+pub sum_below-changed : (n r d : ℕ) (f g : ℕ → ℕ) → r < n → ((i : ℕ) → i < n → i ≢ r → g i ≡ f i) → g r ≡ f r + d → sum_below n g ≡ sum_below n f + d
+sum_below-changed zero r d f g lt others here = absurd (omega (arith, lt))
+sum_below-changed (suc n) r d f g lt others here = elim (cases_lt r n) [
+  | inl below ↦ omega (arith, sum_below-changed n r d f g below (λ i lt' ne. others i (omega (arith, lt')) ne) here, others n (omega arith) (λ e. omega (arith, e, below)))
   | inr not_below ↦
-      let here : f n ≡ f r = ap f {x = n} {y = r} (omega (arith, lt, not_below)) in
-      omega (arith, here, sum_below-none n f (λ i lt'. others i (λ e. omega (arith, e, lt', not_below))))
+      let at : g n ≡ f n + d = subst (λ i. g i ≡ f i + d) {x = r} {y = n} (omega (arith, lt, not_below)) here in
+      omega (arith, at, sum_below-same n g f (λ i lt'. others i (omega (arith, lt')) (λ e. omega (arith, e, lt', not_below))))
 ]
+
+pub sum_below-one : (n r : ℕ) (f : ℕ → ℕ) → r < n → ((i : ℕ) → i < n → i ≢ r → f i ≡ 0) → sum_below n f ≡ f r
+sum_below-one n r f lt others = omega (arith, sum_below-changed n r (f r) (λ _. 0) f lt others (omega arith), sum_below-none n (λ _. 0) (λ i lt'. refl))
 
 -- a number where a test passes
 abbrev pub where_true : Bool → ℕ → ℕ
@@ -36,8 +39,8 @@ module _ (mode : Mode) (from to : Table) (proper : IsProper from) (lists : ℕ �
   of_owner : (g : ℕ → ℕ) → offered_sum from cells low (λ owner key. cond (eqb owner c.owner) (g key) 0) ≡ sum_below from.keys (λ key. cond (ltb (low c.owner) (cells c.owner key)) (g key) 0)
   of_owner g =
       sum_below-one from.nodes c.owner _ (candidate-below mode from to proper c in_c)
-      (λ owner other. sum_below-none from.keys _ (λ key lt. ap (λ b. where_true (ltb (low owner) (cells owner key)) (where_true b (g key))) (ne_eqb owner c.owner other) ∙ where_none (ltb (low owner) (cells owner key))))
-      ∙ sum_below-same from.keys _ _ (λ key lt. ap (λ b. where_true (ltb (low c.owner) (cells c.owner key)) (where_true b (g key))) (eq-eqb c.owner c.owner refl))
+      (λ owner lt other. sum_below-none from.keys _ (λ key lt'. grind (arith, nat_tests)))
+      ∙ sum_below-same from.keys _ _ (λ key lt. grind (arith, nat_tests))
 
   -- how many candidates its owner has
   pub owner_count-is : owner_count cs c ≡ count_above cells from.keys c.owner (low c.owner)
@@ -55,31 +58,18 @@ module _ (mode : Mode) (from to : Table) (proper : IsProper from) (lists : ℕ �
     where
       same_owner : (owner key : ℕ) → where_true (ltb (low owner) (cells owner key)) (where_true (eqb owner c.owner) (where_true (ltb (cells owner key) (item_number cells c)) 1)) ≡ where_true (ltb (low owner) (cells owner key)) (where_true (eqb owner c.owner) (where_true (ltb (cells c.owner key) (item_number cells c)) 1))
       same_owner owner key = elim (cases_eq owner c.owner) [
-        | inl same ↦ λ i. where_true (ltb (low owner) (cells owner key)) (where_true (eqb owner c.owner) (where_true (ltb (cells (same i) key) (item_number cells c)) 1))
-        | inr other ↦ (λ i. where_true (ltb (low owner) (cells owner key)) (where_true (ne_eqb owner c.owner other i) (where_true (ltb (cells owner key) (item_number cells c)) 1)))
-            ∙ (λ i. where_true (ltb (low owner) (cells owner key)) (where_true (sym (ne_eqb owner c.owner other) i) (where_true (ltb (cells c.owner key) (item_number cells c)) 1)))
+        | inl same ↦ let alike = ap (λ o. cells o key) same in grind (arith, nat_tests)
+        | inr other ↦ grind (arith, nat_tests)
       ]
 
       told : (d : Item) → Contains cs d → where_true (eqb d.owner c.owner && ltb d.entry.version c.entry.version) 1 ≡ where_true (eqb d.owner c.owner) (where_true (ltb (item_number cells d) (item_number cells c)) 1)
       told d in_d = elim (cases_eq d.owner c.owner) [
-        | inr other ↦ (λ i. where_true (ne_eqb d.owner c.owner other i && ltb d.entry.version c.entry.version) 1)
-            ∙ (λ i. where_true (sym (ne_eqb d.owner c.owner other) i) (where_true (ltb (item_number cells d) (item_number cells c)) 1))
-        | inl same ↦ (λ i. where_true (eq-eqb d.owner c.owner same i && ltb d.entry.version c.entry.version) 1)
-            ∙ ap (λ b. where_true b 1) (versions_as_numbers d in_d same)
-            ∙ (λ i. where_true (sym (eq-eqb d.owner c.owner same) i) (where_true (ltb (item_number cells d) (item_number cells c)) 1))
+        | inr other ↦ grind (arith, nat_tests)
+        | inl same ↦
+            let d_is = (candidate-number mode from to proper lists histories cells low offers d in_d).1 in
+            let c_is = d_number mode from to proper lists histories cells low offers d c in_d in_c same in
+            let one = alike mode from to proper lists histories cells low offers d c in_d in_c same in
+            let rise = versions-rise (lists d.owner) (histories d.owner) (item_number cells d) (item_number cells c) d.entry c.entry d_is c_is one in
+            let fall = number-of_version (lists d.owner) (histories d.owner) (item_number cells d) (item_number cells c) d.entry c.entry d_is c_is one in
+            grind (arith, nat_tests)
       ]
-        where
-          versions_as_numbers : (d : Item) → Contains cs d → d.owner ≡ c.owner → ltb d.entry.version c.entry.version ≡ ltb (item_number cells d) (item_number cells c)
-          versions_as_numbers d in_d same =
-              let d_is = (candidate-number mode from to proper lists histories cells low offers d in_d).1 in
-              let c_is = d_number mode from to proper lists histories cells low offers d c in_d in_c same in
-              let one = alike mode from to proper lists histories cells low offers d c in_d in_c same in
-              elim (cases_lt (item_number cells d) (item_number cells c)) [
-                | inl before ↦
-                    lt-ltb d.entry.version c.entry.version (versions-rise (lists d.owner) (histories d.owner) (item_number cells d) (item_number cells c) d.entry c.entry d_is c_is one before)
-                    ∙ sym (lt-ltb (item_number cells d) (item_number cells c) before)
-                | inr not_before ↦ elim (cases_lt d.entry.version c.entry.version) [
-                  | inl older ↦ absurd (omega (arith, not_before, number-of_version (lists d.owner) (histories d.owner) (item_number cells d) (item_number cells c) d.entry c.entry d_is c_is one older))
-                  | inr not_older ↦ le-ltb d.entry.version c.entry.version (omega (arith, not_older)) ∙ sym (le-ltb (item_number cells d) (item_number cells c) (omega (arith, not_before)))
-                ]
-              ]

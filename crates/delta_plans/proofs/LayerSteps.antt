@@ -1,38 +1,33 @@
 -- Layers of an offer, gone over as long as they fit.
 -- Serves `breadth` and `one_more`.
-use Rattle.delta_plans.proofs.Common.{◌≡◌, ℕ, ◌+◌, ◌-◌, ◌<◌, ◌≤◌, true, false, cond, ltb, List, length, get_or, map, inl, inr, sym, ap, ◌∙◌, subst, arith, cases_lt, lt-ltb, le-ltb, length-map, amount_of, Cells, count_between, HasEach, IsNextAbove, IsLeastAbove, AreChanged, sum_below, sum_below-same, sum_below-plus, sum_below-le}
+use Rattle.delta_plans.proofs.Common.{◌≡◌, ℕ, ◌+◌, ◌*◌, ◌<◌, ◌≤◌, cond, ltb, List, length, get_or, map, inl, inr, sym, ap, ◌∙◌, subst, arith, nat_tests, cases_lt, length-map, MOST_NODES, MOST_KEYS, amount_of, Cells, count_between, HasEach, IsNextAbove, IsLeastAbove, AreChanged, sum_below, sum_below-same, sum_below-plus, sum_below-le}
 use Rattle.delta_plans.specs.declared.offers.Offer.{Offer}
-use Rattle.delta_plans.specs.OfferInMemory.{cells_in, low_in, high_in, weights_in, weight_in, count_in, IsOffer}
-use Rattle.delta_plans.specs.Plans.{raised, IsNextMark, AreLayersSoFar}
+use Rattle.delta_plans.specs.declared.offers.Step.{Step}
+use Rattle.delta_plans.specs.OfferInMemory.{cells_in, low_in, high_in, marks, weights_in, weight_in, count_in, IsOffer}
+use Rattle.delta_plans.specs.Plans.{raised, IsNextLayer, IsNextMark, AreLayersSoFar}
 use Rattle.delta_plans.specs.LevelMarks.{IsLayerMark}
 use Rattle.delta_plans.proofs.Columns.{where_true}
 use Rattle.delta_plans.proofs.Layers.{counted-next, layer-stays, layer-next}
-use Rattle.delta_plans.proofs.OfferWeights.{offer-weighs_none, offer-counts_none}
+use Rattle.delta_plans.proofs.OfferWeights.{offer-few, offer-weighs_none, offer-counts_none}
 use Rattle.delta_plans.proofs.WeightLaws.{weight_of-none, weight_of-upto, weight_of-all, sum_below-each_none}
 
 -- the next number, or else the mark itself
 module _ (most : ℕ) (cells : Cells) (keys owner mark least y : ℕ) (below : (key : ℕ) → key < keys → cells owner key < most) (next : IsNextAbove most cells keys owner mark least) (settled : y ≡ cond (ltb least most) least mark) where
   pub next-mark : IsNextMark cells keys owner mark y
   next-mark = elim next [
-    | inl none ↦ inl (none.0, settled ∙ ap (λ b. cond b least mark) (le-ltb least most (omega (arith, none.1))))
+    | inl none ↦ inl (none.0, grind (arith, nat_tests, none.1))
     | inr some ↦
-        let is : y ≡ least = settled ∙ ap (λ b. cond b least mark) (lt-ltb least most (omega (arith, some.is, below some.key some.below))) in
+        let is : y ≡ least = grind (arith, nat_tests, some.is, below some.key some.below) in
         inr (subst (IsLeastAbove cells keys owner mark) (sym is) some)
   ]
 
   pub next-raised : ◌≡◌ {A = ℕ} (cond (ltb least most) 1 0) (cond (ltb mark y) 1 0)
   next-raised = elim next [
-    | inl none ↦
-        let none_left : ltb least most ≡ false = le-ltb least most (omega (arith, none.1)) in
-        let is : y ≡ mark = settled ∙ ap (λ b. cond b least mark) none_left in
-        ap (λ b. where_true b 1) none_left ∙ sym (ap (λ b. where_true b 1) (le-ltb mark y (omega (arith, is))))
-    | inr some ↦
-        let one : ltb least most ≡ true = lt-ltb least most (omega (arith, some.is, below some.key some.below)) in
-        let is : y ≡ least = settled ∙ ap (λ b. cond b least mark) one in
-        ap (λ b. where_true b 1) one ∙ sym (ap (λ b. where_true b 1) (lt-ltb mark y (omega (arith, is, some.above))))
+    | inl none ↦ grind (arith, nat_tests, none.1)
+    | inr some ↦ grind (arith, nat_tests, some.is, some.above, below some.key some.below)
   ]
 
-module _ {N : Type 0} (number : N → ℕ) (most : ℕ) (offer : Offer N) (is : IsOffer number most offer) where
+module _ {N : Type 0} {number : N → ℕ} {most : ℕ} {offer : Offer N} (is : IsOffer number most offer) where
   abbrev cells : Cells
   cells = cells_in number offer
 
@@ -40,23 +35,23 @@ module _ {N : Type 0} (number : N → ℕ) (most : ℕ) (offer : Offer N) (is : 
   low = low_in number offer
 
   -- before the first layer
-  pub layers-first : (far : ℕ → ℕ) (added : ℕ) → ((owner : ℕ) → owner < offer.nodes → IsNextMark cells offer.keys owner (low owner) (far owner)) → added ≡ raised offer.nodes low far → AreLayersSoFar number offer low far 0 added
-  layers-first far added next raises = record {
+  pub layers-first : (step : Step N) → IsNextLayer number offer low step → AreLayersSoFar number offer low (marks number step.marks.items) 0 step.more
+  layers-first step layer = record {
     layers = 0;
     layered = λ owner lt. record {
       above = omega arith;
       count = omega (arith, weight_of-none (λ _. 1) cells offer.keys owner (low owner) (low owner) (omega arith));
       full = λ key in_keys over. weight_of-none (λ _. 1) cells offer.keys owner (low owner) (low owner) (omega arith);
     };
-    next = next;
-    more = raises;
+    next = layer.next;
+    more = layer.more;
     whole = sym (offer-counts_none number offer low);
     within = omega (arith, offer-weighs_none number offer low);
   }
 
-  module _ (near far : ℕ → ℕ) (count added : ℕ) (so_far : AreLayersSoFar number offer near far count added) where
-    far_layered : (owner : ℕ) → owner < offer.nodes → IsLayerMark cells offer.keys owner (low owner) (so_far.layers + 1) (far owner)
-    far_layered owner lt = elim (so_far.next owner lt) [
+  module _ {near far : ℕ → ℕ} {count added : ℕ} (so_far : AreLayersSoFar number offer near far count added) where
+    pub layers-far : (owner : ℕ) → owner < offer.nodes → IsLayerMark cells offer.keys owner (low owner) (so_far.layers + 1) (far owner)
+    layers-far owner lt = elim (so_far.next owner lt) [
       | inl none ↦
           subst (IsLayerMark cells offer.keys owner (low owner) (so_far.layers + 1)) (sym none.1)
           (layer-stays cells offer.keys owner (low owner) so_far.layers (near owner) (so_far.layered owner lt) none.0)
@@ -65,8 +60,8 @@ module _ {N : Type 0} (number : N → ℕ) (most : ℕ) (offer : Offer N) (is : 
 
     one_owner : (owner : ℕ) → owner < offer.nodes → count_between cells offer.keys owner (low owner) (far owner) ≡ count_between cells offer.keys owner (low owner) (near owner) + where_true (ltb (near owner) (far owner)) 1
     one_owner owner lt = elim (so_far.next owner lt) [
-      | inl none ↦ omega (arith, ap (count_between cells offer.keys owner (low owner)) none.1, ap (λ b. where_true b 1) (le-ltb (near owner) (far owner) (omega (arith, none.1))))
-      | inr some ↦ omega (arith, counted-next cells offer.keys owner (low owner) (near owner) (far owner) (so_far.layered owner lt).above (is.differ owner lt) some, ap (λ b. where_true b 1) (lt-ltb (near owner) (far owner) some.above))
+      | inl none ↦ let same = ap (count_between cells offer.keys owner (low owner)) none.1 in grind (arith, nat_tests, none.1)
+      | inr some ↦ let one = counted-next cells offer.keys owner (low owner) (near owner) (far owner) (so_far.layered owner lt).above (is.differ owner lt) some in grind (arith, nat_tests, some.above)
     ]
 
     -- so many with the next layer
@@ -75,6 +70,9 @@ module _ {N : Type 0} (number : N → ℕ) (most : ℕ) (offer : Offer N) (is : 
         (λ i. so_far.whole i + so_far.more i)
         ∙ sym (sum_below-plus offer.nodes (λ owner. count_between cells offer.keys owner (low owner) (near owner)) (λ owner. where_true (ltb (near owner) (far owner)) 1))
         ∙ sym (sum_below-same offer.nodes _ _ one_owner)
+
+    pub layers-few : count + added ≤ MOST_NODES * MOST_KEYS
+    layers-few = omega (arith, layers-count, offer-few number most offer is low far)
 
     pub layers-upto : count + added ≤ count_in number offer low (high_in number offer)
     layers-upto =
@@ -94,27 +92,23 @@ module _ {N : Type 0} (number : N → ℕ) (most : ℕ) (offer : Offer N) (is : 
       where
         all : raised offer.nodes near far ≡ 0 → weight_in number offer low far ≡ weight_in number offer low (high_in number offer)
         all none = sum_below-same offer.nodes _ _ (λ owner lt. elim (so_far.next owner lt) [
-          | inr some ↦ absurd (omega (arith, sum_below-each_none offer.nodes (λ r. where_true (ltb (near r) (far r)) 1) none owner lt, ap (λ b. where_true b 1) (lt-ltb (near owner) (far owner) some.above)))
+          | inr some ↦ let stays = sum_below-each_none offer.nodes (λ r. where_true (ltb (near r) (far r)) 1) none owner lt in absurd (grind (arith, nat_tests, some.above))
           | inl end ↦ weight_of-all (weights_in offer owner) cells offer.keys owner (low owner) (far owner) (high_in number offer owner) (is.covered owner lt) (λ key in_keys. omega (arith, end.1, end.0 key in_keys))
         ])
 
     -- one layer more
-    pub layers-next : (farther : ℕ → ℕ) (more : ℕ) → weight_in number offer low far ≤ amount_of offer.budget → ((owner : ℕ) → owner < offer.nodes → IsNextMark cells offer.keys owner (far owner) (farther owner))
-        → more ≡ raised offer.nodes far farther → AreLayersSoFar number offer far farther (count + added) more
-    layers-next farther more fits next raises = record {
+    pub layers-next : (step : Step N) → IsNextLayer number offer far step → weight_in number offer low far ≤ amount_of offer.budget → AreLayersSoFar number offer far (marks number step.marks.items) (count + added) step.more
+    layers-next step layer fits = record {
       layers = so_far.layers + 1;
-      layered = far_layered;
-      next = next;
-      more = raises;
+      layered = layers-far;
+      next = layer.next;
+      more = layer.more;
       whole = layers-count;
       within = fits;
     }
 
-    pub layers-far : (owner : ℕ) → owner < offer.nodes → IsLayerMark cells offer.keys owner (low owner) (so_far.layers + 1) (far owner)
-    layers-far = far_layered
-
     pub layers-farther : (owner : ℕ) → owner < offer.nodes → (low owner ≤ near owner) × (low owner ≤ far owner) × (near owner ≤ far owner)
-    layers-farther owner lt = ((so_far.layered owner lt).above, (far_layered owner lt).above, elim (so_far.next owner lt) [ inl none ↦ omega (arith, none.1) | inr some ↦ omega (arith, some.above) ])
+    layers-farther owner lt = ((so_far.layered owner lt).above, (layers-far owner lt).above, elim (so_far.next owner lt) [ inl none ↦ omega (arith, none.1) | inr some ↦ omega (arith, some.above) ])
 
 -- each owner's next mark is counted where it is raised
 pub steps-raised : {N : Type 0} (number : N → ℕ) (most : ℕ) (offer : Offer N) → IsOffer number most offer → (near : ℕ → ℕ) (items old new : List N) (count : ℕ) → old ≡ items
@@ -129,7 +123,3 @@ steps-raised number most offer is near items old new count value found settled c
   where
     of_old : HasEach offer.nodes (λ r n. IsNextAbove most (cells_in number offer) offer.keys r (near r) n) (map number old)
     of_old = subst (λ xs. HasEach offer.nodes (λ r n. IsNextAbove most (cells_in number offer) offer.keys r (near r) n) (map number xs)) (sym value) found
-
--- what is left of a total falls with what is added
-pub smaller_by : (total whole more : ℕ) → 0 < more → whole + more ≤ total → total - (whole + more) < total - whole
-smaller_by total whole more some within = omega (arith, some, within)

@@ -1,41 +1,25 @@
 -- Marks of all that is offered, or of a level that was shared out.
 -- Serves `planned` and `version_tables`.
-use Rattle.delta_plans.proofs.Common.{◌≡◌, ℕ, ◌-◌, ◌<◌, ◌≤◌, Bool, true, false, ltb, leb, List, length, get_or, map, inl, inr, refl, sym, ap, ◌∙◌, subst, arith, cases_lt, lt-ltb, le-ltb, le-leb, length-map, get_or_past, Mode, amount_of, Cells, HasNoneAbove, sum_below-le}
+use Rattle.delta_plans.proofs.Common.{◌≡◌, ℕ, ◌-◌, ◌<◌, ◌≤◌, true, List, length, get_or, map, inl, inr, refl, sym, ap, ◌∙◌, subst, arith, nat_tests, lt-ltb, le-leb, length-map, get_or_past, Mode, amount_of, Cells, HasNoneAbove, sum_below-le}
 use Rattle.delta_plans.specs.declared.marked.First.{First}
 use Rattle.delta_plans.specs.declared.marked.First.TheVariants.{Oldest, Newest}
 use Rattle.delta_plans.specs.declared.offers.Offer.{Offer}
 use Rattle.delta_plans.specs.declared.offers.Level.{Level}
 use Rattle.delta_plans.specs.Firsts.{by_first}
 use Rattle.delta_plans.specs.LevelMarks.{first_sent, lets_through}
-use Rattle.delta_plans.specs.Marked.{HasShapeIn, KeepsLow, AreMarked}
+use Rattle.delta_plans.specs.Marked.{KeepsLow, AreMarked, IsLevelOf}
 use Rattle.delta_plans.specs.OfferInMemory.{cells_in, low_in, high_in, marks, weights_in, weight_in, count_in, IsOffer}
 use Rattle.delta_plans.specs.Plans.{count_on}
 use Rattle.delta_plans.specs.Sharing.{AreShared}
 use Rattle.delta_plans.specs.Weights.{weight_between, weight_through, count_all_between, one_each}
-use Rattle.delta_plans.proofs.Columns.{where_true}
 
 -- fewer are between nearer marks
-between-le : (low low' high high' number : ℕ) → low' ≤ low → number ≤ high' → where_true (ltb low number) (where_true (leb number high) 1) ≤ where_true (ltb low' number) (where_true (leb number high') 1)
-between-le low low' high high' number le upto = elim (cases_lt low number) [
-  | inl above ↦
-      omega (
-        arith,
-        one (leb number high),
-        ap (λ b. where_true b (where_true (leb number high) 1)) (lt-ltb low number above),
-        ap (λ b. where_true b (where_true (leb number high') 1)) (lt-ltb low' number (omega (arith, le, above))),
-        ap (λ b. where_true b 1) (le-leb number high' upto),
-      )
-  | inr not_above ↦ omega (arith, ap (λ b. where_true b (where_true (leb number high) 1)) (le-ltb low number (omega (arith, not_above))))
-]
-  where
-    one : (b : Bool) → where_true b 1 ≤ 1
-    one true = omega arith
-    one false = omega arith
-
 count-le : (cells : Cells) (nodes keys : ℕ) (low low' high high' : ℕ → ℕ) → ((owner : ℕ) → owner < nodes → low' owner ≤ low owner) → ((owner : ℕ) → owner < nodes → HasNoneAbove cells keys owner (high' owner))
     → count_all_between cells nodes keys low high ≤ count_all_between cells nodes keys low' high'
-count-le cells nodes keys low low' high high' lower covered =
-    sum_below-le nodes _ _ (λ owner in_nodes. sum_below-le keys _ _ (λ key in_keys. between-le (low owner) (low' owner) (high owner) (high' owner) (cells owner key) (lower owner in_nodes) (covered owner in_nodes key in_keys)))
+count-le cells nodes keys low low' high high' lower covered = sum_below-le nodes _ _ (λ owner in_nodes. sum_below-le keys _ _ (λ key in_keys.
+    let le = lower owner in_nodes in
+    let upto = covered owner in_nodes key in_keys in
+    grind (arith, nat_tests)))
 
 module _ {N : Type 0} (number : N → ℕ) (most : ℕ) (offer : Offer N) (is : IsOffer number most offer) where
   abbrev low : ℕ → ℕ
@@ -88,8 +72,8 @@ module _ {N : Type 0} (number : N → ℕ) (most : ℕ) (offer : Offer N) (is : 
       })
 
     -- and a level that was shared out
-    module _ (mode : Mode) (level : Level N) (near_size : length level.near.items ≡ offer.nodes) (far_size : length level.far.items ≡ offer.nodes) (shape : HasShapeIn mode number offer (marks number level.near.items) (marks number level.far.items))
-        (xs : List N) (size : length xs ≡ offer.nodes) (sent : ℕ) (shared : AreShared (first_sent mode) rotation number offer (marks number level.near.items) (marks number level.far.items) (marks number xs) sent) where
+    module _ (mode : Mode) {level : Level N} (is_level : IsLevelOf mode number offer level) (xs : List N) (size : length xs ≡ offer.nodes) {sent : ℕ}
+        (shared : AreShared (first_sent mode) rotation number offer (marks number level.near.items) (marks number level.far.items) (marks number xs) sent) where
       pub sent-found : sent ≤ found
       sent-found = omega (arith, all, shared.count, count_on-le (first_sent mode) (marks number xs) shared.above)
 
@@ -104,9 +88,9 @@ module _ {N : Type 0} (number : N → ℕ) (most : ℕ) (offer : Offer N) (is : 
         how = inr (record {
           near = marks number level.near.items;
           far = marks number level.far.items;
-          shape = shape;
-          past_near = λ r le. past xs size r le ∙ sym (past level.near.items near_size r le);
-          past_far = λ r le. past xs size r le ∙ sym (past level.far.items far_size r le);
+          shape = is_level.shape;
+          past_near = λ r le. past xs size r le ∙ sym (past level.near.items is_level.is_level.near r le);
+          past_far = λ r le. past xs size r le ∙ sym (past level.far.items is_level.is_level.far r le);
           shared = shared;
         });
       }

@@ -8,7 +8,7 @@ use Rattle.model.specs.calls.OwnerListView.{all_writes}
 use Rattle.delta_plans.specs.declared.offers.Level.{Level}
 use Rattle.delta_plans.specs.declared.offers.Offer.{Offer}
 use Rattle.delta_plans.specs.OfferInMemory.{cells_in, low_in, high_in, count_in, marks}
-use Rattle.delta_plans.specs.Plans.{weight_on, count_on}
+use Rattle.delta_plans.specs.Plans.{weight_on, count_on, IsLevel}
 use Rattle.delta_plans.specs.LevelMarks.{first_sent, lets_through, HasShape}
 use Rattle.delta_plans.specs.Sharing.{AreShared}
 
@@ -22,6 +22,11 @@ HasShapeIn mode number offer near far =
 abbrev pub HasShapeOf : {N : Type 0} → Mode → (N → ℕ) → Offer N → Level N → Type 0
 HasShapeOf mode number offer level =
     HasShapeIn mode number offer (marks number level.near.items) (marks number level.far.items)
+
+-- a level as a mode has it
+pub record IsLevelOf {N : Type 0} (mode : Mode) (number : N → ℕ) (offer : Offer N) (level : Level N) : Type 0 where
+  pub is_level : IsLevel (first_sent mode) number offer level
+  pub shape : HasShapeOf mode number offer level
 
 -- marks that let all through, which fits
 pub record LetAll {N : Type 0} (first : First) (number : N → ℕ) (offer : Offer N) (mark : ℕ → ℕ) : Type 0 where

@@ -59,3 +59,23 @@ pub record IsTooLarge {N : Type 0} (number : N → ℕ) (most : ℕ) (offer : Of
   pub is_offer : IsOffer number most offer
   pub beyond : amount_of offer.budget
       < weight_in number offer (low_in number offer) (high_in number offer)
+
+-- an owner of an offer, and one of its keys
+pub record HasOwner {N : Type 0} (number : N → ℕ) (most : ℕ) (offer : Offer N) (owner : ℕ) : Type 0 where
+  pub is_offer : IsOffer number most offer
+  pub in_nodes : owner < offer.nodes
+
+pub record HasPlace {N : Type 0} (number : N → ℕ) (most : ℕ) (offer : Offer N) (owner key : ℕ) : Type 0 where
+  pub has_owner : HasOwner number most offer owner
+  pub in_keys : key < offer.keys
+
+-- a low and a high mark for each owner of an offer, and how many numbers lie between them
+pub record HasMarks {N : Type 0} (number : N → ℕ) (most : ℕ) (offer : Offer N) (low high : List N) : Type 0 where
+  pub is_offer : IsOffer number most offer
+  pub each_low : length low ≡ offer.nodes
+  pub each_high : length high ≡ offer.nodes
+
+pub record AreCounted {N : Type 0} (number : N → ℕ) (most : ℕ) (offer : Offer N) (count : ℕ)
+    (low high : List N) : Type 0 where
+  pub has_marks : HasMarks number most offer low high
+  pub counted : count ≡ count_in number offer (marks number low) (marks number high)

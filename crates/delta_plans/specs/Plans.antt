@@ -1,16 +1,16 @@
 -- Levels of what is offered, as marks: near marks let through whole levels, and far marks one level more, which doesn't
 -- fit. Source: this project.
-use Rattle.std.specs.Prelude.{◌≡◌, ◌⊎◌, ℕ, ◌+◌, ◌*◌, ◌<◌, ◌≤◌, nat_eq, nat_lt, length, if◌then◌else◌}
+use Rattle.std.specs.Prelude.{◌≡◌, ◌⊎◌, ℕ, ◌+◌, ◌*◌, ◌<◌, ◌≤◌, nat_eq, nat_lt, List, length, map, if◌then◌else◌}
 use Rattle.delta_plans.specs.declared.marked.First.{First}
-use Rattle.delta_plans.specs.declared.marked.First.TheVariants.{Oldest}
 use Rattle.bench_types.specs.Budget.{amount_of}
-use Rattle.planes.specs.Planes.{Cells, HasNoneAbove, IsLeastAbove}
+use Rattle.planes.specs.Planes.{Cells, HasEach, HasNoneAbove, IsLeastAbove}
 use Rattle.bench_types.specs.Sums.{sum_below}
+use Rattle.bench_types.specs.declared.limits.TheConstants.{MOST_KEYS}
 use Rattle.delta_plans.specs.declared.offers.Offer.{Offer}
 use Rattle.delta_plans.specs.declared.offers.Level.{Level}
 use Rattle.delta_plans.specs.declared.offers.Step.{Step}
-use Rattle.delta_plans.specs.OfferInMemory.{cells_in, low_in, high_in, owner_count_in, marks, weights_in, weight_in, count_in}
-use Rattle.delta_plans.specs.LevelMarks.{IsLayerMark, AreLayers, AreRuns}
+use Rattle.delta_plans.specs.OfferInMemory.{cells_in, low_in, high_in, owner_count_in, marks, weights_in, weight_in, count_in, IsOffer}
+use Rattle.delta_plans.specs.LevelMarks.{IsLayerMark}
 use Rattle.delta_plans.specs.Stops.{IsOn}
 use Rattle.delta_plans.specs.Weights.{weight_through, one_each}
 
@@ -58,17 +58,6 @@ pub record IsLevel {N : Type 0} (first : First) (number : N → ℕ) (offer : Of
   pub within : weight_on first number offer (marks number level.near.items) ≤ amount_of offer.budget
   pub beyond : amount_of offer.budget < weight_on first number offer (marks number level.far.items)
 
--- a level of layers, and one of runs
-pub record IsLevelOfLayers {N : Type 0} (number : N → ℕ) (offer : Offer N) (level : Level N) : Type 0 where
-  pub is_level : IsLevel Oldest number offer level
-  pub of_layers : AreLayers (cells_in number offer) offer.nodes offer.keys (low_in number offer)
-      (marks number level.near.items) (marks number level.far.items)
-
-pub record IsLevelOfRuns {N : Type 0} (number : N → ℕ) (offer : Offer N) (level : Level N) : Type 0 where
-  pub is_level : IsLevel Oldest number offer level
-  pub of_runs : AreRuns (cells_in number offer) offer.nodes offer.keys (low_in number offer)
-      (marks number level.near.items) (marks number level.far.items)
-
 -- layers as far as they were gone over: the first fit, and the next is known
 pub record AreLayersSoFar {N : Type 0} (number : N → ℕ) (offer : Offer N) (near far : ℕ → ℕ)
     (count added : ℕ) : Type 0 where
@@ -92,6 +81,14 @@ AreMarksFrom number offer size mark =
     (owner : ℕ) → owner < offer.nodes
     → IsMarkFrom (owner_count_in number offer owner) (low_in number offer owner) (high_in number offer owner) size
     (mark owner)
+
+-- near marks, how many numbers each owner has, and so many as some may have
+pub record AreRunsFrom {N : Type 0} (number : N → ℕ) (most : ℕ) (offer : Offer N) (counts near : List N)
+    (size : ℕ) : Type 0 where
+  pub is_offer : IsOffer number most offer
+  pub counts_are : HasEach offer.nodes (λ r n. n ≡ owner_count_in number offer r) (map number counts)
+  pub each_near : length near ≡ offer.nodes
+  pub few : size ≤ MOST_KEYS
 
 -- all numbers of the owners that have so many are added
 pub record AreNextRuns {N : Type 0} (number : N → ℕ) (offer : Offer N) (near : ℕ → ℕ) (size : ℕ)

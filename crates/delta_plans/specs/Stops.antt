@@ -5,7 +5,7 @@ use Rattle.delta_plans.specs.declared.marked.First.TheVariants.{Oldest, Newest}
 use Rattle.planes.specs.Planes.{Cells}
 use Rattle.delta_plans.specs.declared.stops.Part.{Part}
 use Rattle.delta_plans.specs.Firsts.{by_first}
-use Rattle.delta_plans.specs.OfferInMemory.{cells_in, IsOffer}
+use Rattle.delta_plans.specs.OfferInMemory.{cells_in, HasOwner}
 use Rattle.delta_plans.specs.Weights.{weight_from}
 
 -- a key's number is above one mark and up to another
@@ -50,9 +50,8 @@ HasNext first cells keys owner near far =
     HasBetween cells keys owner (by_first first near far) (by_first first far near)
 
 -- a part of one of the owners of an offer
-pub record IsPart {N : Type 0} (number : N → ℕ) (most : ℕ) (part : Part N) : Type 0 where
-  pub offer : IsOffer number most part.offer.now
-  pub owner : part.owner < part.offer.now.nodes
+abbrev pub IsPart : {N : Type 0} → (N → ℕ) → ℕ → Part N → Type 0
+IsPart number most part = HasOwner number most part.offer.now part.owner
 
 -- a number is the next one of a part for whichever direction and near mark the answers fit
 abbrev pub IsNearest : {N : Type 0} → (N → ℕ) → Part N → (N → N → N → Type 0) → N → Type 0

@@ -1,26 +1,18 @@
 -- The owners' turns in a level, from the rotation on. Source: this project.
-use Rattle.std.specs.Prelude.{◌≡◌, ◌⊎◌, ℕ, ◌+◌, ◌<◌, ◌≤◌, List, map, true, false}
+use Rattle.std.specs.Prelude.{◌≡◌, ◌⊎◌, ℕ, ◌+◌, ◌<◌, ◌≤◌, List, length, map, true, false}
 use Rattle.delta_plans.specs.declared.marked.First.{First}
 use Rattle.bench_types.specs.Budget.{amount_of}
 use Rattle.planes.specs.Planes.{Cells, HasEach}
 use Rattle.model.specs.Order.{rotated}
 use Rattle.delta_plans.specs.declared.sharing.Passed.{Passed}
 use Rattle.delta_plans.specs.declared.sharing.Turns.{Turns}
-use Rattle.delta_plans.specs.declared.offers.Level.{Level}
-use Rattle.delta_plans.specs.declared.offers.Offer.{Offer}
 use Rattle.delta_plans.specs.Firsts.{comes_first}
-use Rattle.delta_plans.specs.OfferInMemory.{cells_in, marks, IsOffer}
+use Rattle.delta_plans.specs.OfferInMemory.{cells_in, marks, weights_in, IsOffer}
 use Rattle.delta_plans.specs.Plans.{weight_on, count_on, IsLevel}
 use Rattle.delta_plans.specs.LevelMarks.{lets_through}
 use Rattle.delta_plans.specs.Sharing.{AreShared}
 use Rattle.delta_plans.specs.Stops.{IsOn}
 use Rattle.delta_plans.specs.Weights.{weight_from}
-
--- how many numbers each owner's part of a level has, or the most where that isn't known
-abbrev pub AreKnownCounts : {N : Type 0} → First → (N → ℕ) → ℕ → Offer N → Level N → List ℕ → Type 0
-AreKnownCounts first number most offer level counts =
-    HasEach offer.nodes (λ r n. (n ≡ most) ⊎ (n ≡ weight_from first (λ _. 1) (cells_in number offer) offer.keys r
-    (marks number level.near.items r) (marks number level.far.items r))) counts
 
 -- a level that doesn't fit, of an offer, that is shared out in turn from a rotation on
 pub record AreTurns {N : Type 0} (number : N → ℕ) (most : ℕ) (turns : Turns N) : Type 0 where
@@ -28,10 +20,10 @@ pub record AreTurns {N : Type 0} (number : N → ℕ) (most : ℕ) (turns : Turn
   pub rotation : turns.rotation < turns.offer.now.nodes
   pub level : IsLevel turns.first number turns.offer.now turns.level.now
 
--- what is known of the parts of such a level
-abbrev pub AreKnownFor : {N : Type 0} → (N → ℕ) → ℕ → Turns N → List N → Type 0
-AreKnownFor number most turns counts =
-    AreKnownCounts turns.first number most turns.offer.now turns.level.now (map number counts)
+-- and one of the owners
+pub record HasTurn {N : Type 0} (number : N → ℕ) (most : ℕ) (turns : Turns N) (owner : ℕ) : Type 0 where
+  pub are : AreTurns number most turns
+  pub in_nodes : owner < turns.offer.now.nodes
 
 -- what an owner's part of it weighs
 abbrev pub part_weight : {N : Type 0} → (N → ℕ) → (ℕ → ℕ) → Turns N → ℕ → ℕ
@@ -39,26 +31,34 @@ part_weight number weight turns owner =
     weight_from turns.first weight (cells_in number turns.offer.now) turns.offer.now.keys owner
     (marks number turns.level.now.near.items owner) (marks number turns.level.now.far.items owner)
 
+-- how many numbers each owner's part has, or the most where that isn't known
+abbrev pub AreKnownFor : {N : Type 0} → (N → ℕ) → ℕ → Turns N → List N → Type 0
+AreKnownFor number most turns counts =
+    HasEach turns.offer.now.nodes (λ r n. (n ≡ most) ⊎ (n ≡ part_weight number (λ _. 1) turns r)) (map number counts)
+
 -- marks that share it out
-abbrev pub AreSharedBy : {N : Type 0} → (N → ℕ) → Turns N → List N → ℕ → Type 0
-AreSharedBy number turns mark sent =
-    AreShared turns.first turns.rotation number turns.offer.now (marks number turns.level.now.near.items)
-    (marks number turns.level.now.far.items) (marks number mark) sent
+pub record AreSharedBy {N : Type 0} (number : N → ℕ) (turns : Turns N) (mark : List N) (sent : ℕ) : Type 0 where
+  pub size : length mark ≡ turns.offer.now.nodes
+  pub shared : AreShared turns.first turns.rotation number turns.offer.now (marks number turns.level.now.near.items)
+      (marks number turns.level.now.far.items) (marks number mark) sent
 
 -- owners whose turn has come have the far mark, and the others the near one
-pub record AreTurnsPassed {N : Type 0} (first : First) (number : N → ℕ) (offer : Offer N) (rotation : ℕ)
-    (near far mark : ℕ → ℕ) (turn room sent : ℕ) : Type 0 where
-  pub passed : (r : ℕ) → r < offer.nodes → rotated offer.nodes rotation r < turn → mark r ≡ far r
-  pub waiting : (r : ℕ) → r < offer.nodes → turn ≤ rotated offer.nodes rotation r → mark r ≡ near r
-  pub left : weight_on first number offer mark + room ≡ amount_of offer.budget
-  pub count : sent ≡ count_on first number offer mark
+pub record AreTurnsPassed {N : Type 0} (number : N → ℕ) (turns : Turns N) (mark : ℕ → ℕ)
+    (turn room sent : ℕ) : Type 0 where
+  pub passed : (r : ℕ) → r < turns.offer.now.nodes → rotated turns.offer.now.nodes turns.rotation r < turn
+      → mark r ≡ marks number turns.level.now.far.items r
+  pub waiting : (r : ℕ) → r < turns.offer.now.nodes → turn ≤ rotated turns.offer.now.nodes turns.rotation r
+      → mark r ≡ marks number turns.level.now.near.items r
+  pub left : weight_on turns.first number turns.offer.now mark + room ≡ amount_of turns.offer.now.budget
+  pub count : sent ≡ count_on turns.first number turns.offer.now mark
 
 -- and so they have up to the one whose part doesn't fit
-abbrev pub ArePassedBy : {N : Type 0} → (N → ℕ) → Turns N → List N → Passed → Type 0
-ArePassedBy number turns mark passed =
-    AreTurnsPassed turns.first number turns.offer.now turns.rotation (marks number turns.level.now.near.items)
-    (marks number turns.level.now.far.items) (marks number mark)
-    (rotated turns.offer.now.nodes turns.rotation passed.owner) passed.left passed.sent
+pub record ArePassedBy {N : Type 0} (number : N → ℕ) (turns : Turns N) (mark : List N) (passed : Passed) : Type 0 where
+  pub owner : passed.owner < turns.offer.now.nodes
+  pub size : length mark ≡ turns.offer.now.nodes
+  pub so_far : AreTurnsPassed number turns (marks number mark)
+      (rotated turns.offer.now.nodes turns.rotation passed.owner) passed.left passed.sent
+  pub beyond : passed.left < part_weight number (weights_in turns.offer.now passed.owner) turns passed.owner
 
 -- an owner's mark that stops at the first number of its part that doesn't fit into some room
 pub record IsStop (first : First) (weight : ℕ → ℕ) (cells : Cells)

@@ -1,11 +1,12 @@
 //! Runs: all that an owner offers, the longest run first, as long as they fit.
 
-ghost use Rattle.std.specs.Prelude.{◌≡◌, ℕ, ◌<◌, ◌≤◌, IfOk, IsOkUnless, length, map, slice_index};
+ghost use Rattle.std.specs.Prelude.{ℕ, ◌<◌, ◌≤◌, IfOk, IsOkUnless, length, map, slice_index};
 ghost use Rattle.bench_types.specs.declared.faults.Fault.TheVariants.{OutOfMemory};
 ghost use Rattle.bench_types.specs.declared.limits.TheConstants.{MOST_KEYS};
-ghost use Rattle.planes.specs.Planes.{HasEach};
-ghost use Rattle.delta_plans.specs.OfferInMemory.{marks, owner_count_in, IsOffer, IsTooLarge};
-ghost use Rattle.delta_plans.specs.Plans.{AreNextRuns, IsLevelOfRuns};
+ghost use Rattle.bench_types.specs.declared.exchanges.Mode.TheVariants.{ScuttleDepth};
+ghost use Rattle.delta_plans.specs.Marked.{IsLevelOf};
+ghost use Rattle.delta_plans.specs.OfferInMemory.{marks, IsTooLarge};
+ghost use Rattle.delta_plans.specs.Plans.{AreNextRuns, AreRunsFrom};
 
 use crate::offers::{Level, Offer, Step, one_if, pick};
 use bench_types::Fault;
@@ -33,11 +34,7 @@ fn next_runs<N: Number>(
     near: &[N],
     size: u32,
 ) -> Result<Step<N>, Fault>
-    requires offer { IsOffer N.number N.most offer.now }
-    requires near { length near.now ≡ offer.now.nodes }
-    requires counts { HasEach offer.now.nodes (λ r n. n ≡ owner_count_in N.number offer.now r)
-        (map N.number counts.now) }
-    requires few { size ≤ MOST_KEYS }
+    requires { AreRunsFrom N.number N.most offer.now counts.now near.now size }
     ensures runs { IfOk result
         (λ s. AreNextRuns N.number offer.now (marks N.number near.now) size s) }
     ensures only { IsOkUnless result OutOfMemory }
@@ -58,7 +55,7 @@ fn next_runs<N: Number>(
 /// Runs as long as they fit, the longest first, and the first that don't.
 pub(crate) fn depth<N: Number>(alloc: Global, offer: &Offer<N>) -> Result<Level<N>, Fault>
     requires offer { IsTooLarge N.number N.most offer.now }
-    ensures level { IfOk result (IsLevelOfRuns N.number offer.now) }
+    ensures level { IfOk result (IsLevelOf ScuttleDepth N.number offer.now) }
     ensures only { IsOkUnless result OutOfMemory }
 {
     let counts = counts_above(alloc, offer.cells, offer.nodes, offer.keys, offer.low)?;

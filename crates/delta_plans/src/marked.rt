@@ -4,16 +4,15 @@ ghost use Rattle.std.specs.Prelude.{◌≡◌, ℕ, ◌<◌, ◌≤◌, length, 
 ghost use Rattle.bench_types.specs.declared.faults.Fault.TheVariants.{OutOfMemory};
 ghost use Rattle.delta_plans.specs.Firsts.{by_first};
 ghost use Rattle.delta_plans.specs.LevelMarks.{first_sent};
-ghost use Rattle.delta_plans.specs.Marked.{HasShapeOf, AreMarked};
-ghost use Rattle.delta_plans.specs.OfferInMemory.{marks, IsCountOffered, IsOffer, IsTooLarge};
-ghost use Rattle.delta_plans.specs.Plans.{IsLevel};
-ghost use Rattle.delta_plans.specs.RoundLevels.{AreEndsOf};
+ghost use Rattle.delta_plans.specs.Marked.{AreMarked, IsLevelOf};
+ghost use Rattle.delta_plans.specs.OfferInMemory.{marks, IsCountOffered, IsOffer};
+ghost use Rattle.delta_plans.specs.RoundLevels.{AreEndsOf, IsAsked};
 
 use crate::breadths::breadth;
 use crate::depths::depth;
 use crate::offers::{Level, Offer};
-use crate::rounds::rounds;
-use crate::sharing::share;
+use crate::rounds::Rounds;
+use crate::sharing::Turns;
 use bench_types::{Fault, Mode};
 use model::DeltaCounts;
 use planes::{Ends, Number};
@@ -75,7 +74,13 @@ pub fn planned<N: Number>(
         return Ok(Marked { mark, counts });
     }
     let level = level_of(alloc, offer, mode, ends, found)?;
-    let share = share(alloc, offer, &level, first, rotation)?;
+    let turns = Turns {
+        offer,
+        level: &level,
+        first,
+        rotation,
+    };
+    let share = turns.share(alloc)?;
     let cut = found - share.sent;
     let counts = DeltaCounts {
         sent: share.sent,
@@ -105,17 +110,22 @@ fn level_of<N: Number>(
     ends: Ends<N>,
     found: u32,
 ) -> Result<Level<N>, Fault>
-    requires offer { IsTooLarge N.number N.most offer.now }
-    requires ends { AreEndsOf N.number offer.now ends }
-    requires found { IsCountOffered N.number offer.now found }
-    ensures level { IfOk result (λ l. IsLevel (first_sent mode) N.number offer.now l) }
-    ensures shape { IfOk result (λ l. HasShapeOf mode N.number offer.now l) }
+    requires { IsAsked N.number N.most offer.now ends found }
+    ensures level { IfOk result (IsLevelOf mode N.number offer.now) }
     ensures only { IsOkUnless result OutOfMemory }
 {
     match mode {
         Mode::ScuttleBreadth => breadth(alloc, offer),
         Mode::ScuttleDepth => depth(alloc, offer),
-        Mode::PreciseOldest => rounds(alloc, offer, ends, found, First::Oldest),
-        Mode::PreciseNewest => rounds(alloc, offer, ends, found, First::Newest),
+        Mode::PreciseOldest | Mode::PreciseNewest => {
+            let first = First::of(mode);
+            let rounds = Rounds {
+                offer,
+                ends,
+                found,
+                first,
+            };
+            rounds.level(alloc)
+        }
     }
 }

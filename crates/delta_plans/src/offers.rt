@@ -4,7 +4,7 @@ ghost use Rattle.std.specs.Prelude.{◌≡◌, ℕ, ◌*◌, ◌<◌, ◌≤◌,
 ghost use Rattle.bench_types.specs.Budget.{amount_of, largest_share, share_of};
 ghost use Rattle.bench_types.specs.declared.limits.TheConstants.{MOST_NODES, MOST_KEYS};
 ghost use Rattle.owner_writes.specs.Kept.{entry_kept};
-ghost use Rattle.delta_plans.specs.OfferInMemory.{cells_in, count_in, marks, weight_in, weights_in, IsOffer};
+ghost use Rattle.delta_plans.specs.OfferInMemory.{cells_in, marks, weight_in, weights_in, AreCounted, HasMarks, HasOwner, HasPlace};
 ghost use Rattle.delta_plans.specs.Weights.{weight_of};
 
 use bench_types::limits::MOST_ENTRY_SIZE;
@@ -94,9 +94,7 @@ impl<'a, N: Number> Offer<'a, N> {
 
     // The number of an owner's key.
     pub(crate) fn cell_of(&self, owner: usize, key: usize) -> N
-        requires offer { IsOffer N.number N.most self.now }
-        requires owner { owner < self.now.nodes }
-        requires key { key < self.now.keys }
+        requires { HasPlace N.number N.most self.now owner key }
         ensures { N.number result ≡ cells_in N.number self.now owner key }
     {
         number_at(self.cells, key * self.nodes + owner)
@@ -105,8 +103,7 @@ impl<'a, N: Number> Offer<'a, N> {
     /// What an owner's numbers above one mark and up to another take of it.
     #[inline(never)]
     pub(crate) fn weight_of(&self, owner: usize, low: N, high: N) -> u32
-        requires offer { IsOffer N.number N.most self.now }
-        requires owner { owner < self.now.nodes }
+        requires { HasOwner N.number N.most self.now owner }
         ensures weight { result ≡ weight_of (weights_in self.now owner)
             (cells_in N.number self.now) self.now.keys owner
             (N.number low) (N.number high) }
@@ -124,9 +121,7 @@ impl<'a, N: Number> Offer<'a, N> {
 
     // What all owners' numbers above one mark and up to another take of it.
     fn weight_of_all(&self, low: &[N], high: &[N]) -> u32
-        requires offer { IsOffer N.number N.most self.now }
-        requires low { length low.now ≡ self.now.nodes }
-        requires high { length high.now ≡ self.now.nodes }
+        requires { HasMarks N.number N.most self.now low.now high.now }
         ensures { result ≡ weight_in N.number self.now (marks N.number low.now)
             (marks N.number high.now) }
     {
@@ -143,11 +138,7 @@ impl<'a, N: Number> Offer<'a, N> {
 
     /// The same, where it is known how many these are. Entries need no walk then.
     pub(crate) fn weight(&self, count: u32, low: &[N], high: &[N]) -> u32
-        requires offer { IsOffer N.number N.most self.now }
-        requires low { length low.now ≡ self.now.nodes }
-        requires high { length high.now ≡ self.now.nodes }
-        requires count { count
-            ≡ count_in N.number self.now (marks N.number low.now) (marks N.number high.now) }
+        requires { AreCounted N.number N.most self.now count low.now high.now }
         ensures { result
             ≡ weight_in N.number self.now (marks N.number low.now) (marks N.number high.now) }
     {
@@ -159,11 +150,7 @@ impl<'a, N: Number> Offer<'a, N> {
 
     /// Whether they fit.
     pub(crate) fn fits(&self, count: u32, low: &[N], high: &[N]) -> bool
-        requires offer { IsOffer N.number N.most self.now }
-        requires low { length low.now ≡ self.now.nodes }
-        requires high { length high.now ≡ self.now.nodes }
-        requires count { count ≡ count_in N.number self.now (marks N.number low.now)
-            (marks N.number high.now) }
+        requires { AreCounted N.number N.most self.now count low.now high.now }
         ensures { IsTrue result
             ↔ (weight_in N.number self.now (marks N.number low.now) (marks N.number high.now)
             ≤ amount_of self.now.budget) }

@@ -1,15 +1,14 @@
 //! A level that doesn't fit, shared out: the owners take turns from the rotation on, up to the first number that
 //! doesn't fit.
 
-ghost use Rattle.std.specs.Prelude.{◌≡◌, ◌+◌, ◌-◌, ◌<◌, IfOk, IsOkUnless, length};
+ghost use Rattle.std.specs.Prelude.{◌≡◌, ◌+◌, ◌-◌, ◌<◌, IfOk, IsOkUnless};
 ghost use Rattle.bench_types.specs.Budget.{amount_of};
 ghost use Rattle.bench_types.specs.declared.faults.Fault.TheVariants.{OutOfMemory};
 ghost use Rattle.model.specs.Order.{rotated};
 ghost use Rattle.delta_plans.specs.Firsts.{by_first};
-ghost use Rattle.delta_plans.specs.OfferInMemory.{marks, weights_in, IsOffer};
-ghost use Rattle.delta_plans.specs.Plans.{weight_on, IsLevel};
-ghost use Rattle.delta_plans.specs.Sharing.{AreShared};
-ghost use Rattle.delta_plans.specs.Turns.{part_weight, AreKnownFor, ArePassedBy, AreSharedBy, AreTurns};
+ghost use Rattle.delta_plans.specs.OfferInMemory.{marks, weights_in};
+ghost use Rattle.delta_plans.specs.Plans.{weight_on};
+ghost use Rattle.delta_plans.specs.Turns.{part_weight, AreKnownFor, ArePassedBy, AreSharedBy, AreTurns, HasTurn};
 
 use crate::marked::First;
 use crate::offers::{Level, Offer, Share, number_at};
@@ -29,13 +28,13 @@ struct Passed {
 /// The parts of so many owners are counted at a time: mostly the first part that doesn't fit is one of them.
 const MANY: usize = 64;
 
-// A level of an offer that the owners share out in turn from the rotation on.
+/// A level of an offer that the owners share out in turn from the rotation on.
 #[derive(Drop)]
-struct Turns<'a, 'b, N: Number> {
-    offer: &'a Offer<'b, N>,
-    level: &'a Level<N>,
-    first: First,
-    rotation: usize,
+pub(crate) struct Turns<'a, 'b, N: Number> {
+    pub(crate) offer: &'a Offer<'b, N>,
+    pub(crate) level: &'a Level<N>,
+    pub(crate) first: First,
+    pub(crate) rotation: usize,
 }
 
 fn owner_of_turn(turn: usize, nodes: usize, rotation: usize) -> usize
@@ -64,8 +63,7 @@ fn by_first<'a, N: Number>(first: First, oldest: &'a [N], newest: &'a [N]) -> &'
 
 impl<'a, 'b, N: Number> Turns<'a, 'b, N> {
     fn weight_of_part(&self, owner: usize, count: u32) -> u32
-        requires turns { AreTurns N.number N.most self.now }
-        requires owner { owner < self.now.offer.now.nodes }
+        requires turn { HasTurn N.number N.most self.now owner }
         requires count { count ≡ part_weight N.number (λ _. 1) self.now owner }
         ensures { result ≡ part_weight N.number (weights_in self.now.offer.now owner) self.now owner }
     {
@@ -99,8 +97,7 @@ impl<'a, 'b, N: Number> Turns<'a, 'b, N> {
     // needs it.
     #[inline(never)]
     fn count_parts(&self, counts: &mut [N], owner: usize)
-        requires turns { AreTurns N.number N.most self.now }
-        requires owner { owner < self.now.offer.now.nodes }
+        requires turn { HasTurn N.number N.most self.now owner }
         requires counts { AreKnownFor N.number N.most self.now counts.old }
         ensures count { marks N.number counts.new owner ≡ part_weight N.number (λ _. 1) self.now owner }
         ensures counts { AreKnownFor N.number N.most self.now counts.new }
@@ -117,8 +114,7 @@ impl<'a, 'b, N: Number> Turns<'a, 'b, N> {
 
     // How many numbers an owner's part has. Where that isn't known, parts are counted from this owner on.
     fn count_of_part(&self, counts: &mut [N], owner: usize) -> u32
-        requires turns { AreTurns N.number N.most self.now }
-        requires owner { owner < self.now.offer.now.nodes }
+        requires turn { HasTurn N.number N.most self.now owner }
         requires counts { AreKnownFor N.number N.most self.now counts.old }
         ensures count { result ≡ part_weight N.number (λ _. 1) self.now owner }
         ensures counts { AreKnownFor N.number N.most self.now counts.new }
@@ -138,11 +134,7 @@ impl<'a, 'b, N: Number> Turns<'a, 'b, N> {
         requires mark { mark.old ≡ self.now.level.now.near.items }
         requires room { weight_on self.now.first N.number self.now.offer.now
             (marks N.number self.now.level.now.near.items) + room ≡ amount_of self.now.offer.now.budget }
-        ensures owner { result.owner < self.now.offer.now.nodes }
-        ensures size { length mark.new ≡ self.now.offer.now.nodes }
-        ensures passed { ArePassedBy N.number self.now mark.new result }
-        ensures beyond { result.left
-            < part_weight N.number (weights_in self.now.offer.now result.owner) self.now result.owner }
+        ensures { ArePassedBy N.number self.now mark.new result }
     {
         let nodes = self.offer.nodes;
         let mut left = room;
@@ -167,8 +159,7 @@ impl<'a, 'b, N: Number> Turns<'a, 'b, N> {
         requires turns { AreTurns N.number N.most self.now }
         requires counts { AreKnownFor N.number N.most self.now counts.old }
         requires mark { mark.old ≡ self.now.level.now.near.items }
-        ensures size { length mark.new ≡ self.now.offer.now.nodes }
-        ensures shared { AreSharedBy N.number self.now mark.new result }
+        ensures { AreSharedBy N.number self.now mark.new result }
     {
         let room = self.offer.budget.amount() - self.weight_of_whole();
         let passed = self.pass_turns(counts, mark, room);
@@ -185,33 +176,16 @@ impl<'a, 'b, N: Number> Turns<'a, 'b, N> {
         mark[owner] = stop.mark;
         passed.sent + stop.sent
     }
-}
 
-/// What of the levels and of the one that doesn't fit is sent.
-pub(crate) fn share<N: Number>(
-    alloc: Global,
-    offer: &Offer<N>,
-    level: &Level<N>,
-    first: First,
-    rotation: usize,
-) -> Result<Share<N>, Fault>
-    requires offer { IsOffer N.number N.most offer.now }
-    requires level { IsLevel first N.number offer.now level.now }
-    requires rotation { rotation < offer.now.nodes }
-    ensures size { IfOk result (λ s. length s.mark.items ≡ offer.now.nodes) }
-    ensures shared { IfOk result
-        (λ s. AreShared first rotation N.number offer.now (marks N.number level.now.near.items)
-        (marks N.number level.now.far.items) (marks N.number s.mark.items) s.sent) }
-    ensures only { IsOkUnless result OutOfMemory }
-{
-    let mut counts = all_of(alloc, offer.nodes, N::greatest())?;
-    let mut mark = Vec::from_slice(alloc, &level.near)?;
-    let turns = Turns {
-        offer,
-        level,
-        first,
-        rotation,
-    };
-    let sent = turns.share_into(&mut counts, &mut mark);
-    Ok(Share { mark, sent })
+    /// What of the levels and of the one that doesn't fit is sent.
+    pub(crate) fn share(&self, alloc: Global) -> Result<Share<N>, Fault>
+        requires turns { AreTurns N.number N.most self.now }
+        ensures shared { IfOk result (λ s. AreSharedBy N.number self.now s.mark.items s.sent) }
+        ensures only { IsOkUnless result OutOfMemory }
+    {
+        let mut counts = all_of(alloc, self.offer.nodes, N::greatest())?;
+        let mut mark = Vec::from_slice(alloc, &self.level.near)?;
+        let sent = self.share_into(&mut counts, &mut mark);
+        Ok(Share { mark, sent })
+    }
 }

@@ -11,12 +11,12 @@ loop-r-init g c = counted_none _ _ g.N.Number.number c.deref_mut-all.result.now
 pub overflow_add-more : goal.overflow_add-more
 overflow_add-more g c =
     count_fits (λ r. nat_lt (get_or (map g.N.Number.number c.deref_mut-all.result.now) r 0) g.N.Number.most) c.loop-r.r (length c.deref_mut-all.result.now) c.loop-r.more c.one_if-more.result _ c.loop-r.invariant.counted c.one_if-more.ensures (omega (arith, c.loop-r-test.true))
-    (omega (arith, ap length c.deref_mut-all.ensures.value, length-map c.in_ok-marks.marks.items g.N.Number.number, c.in_ok-marks.ensures.least.size, c.requires.offer.grid.few_nodes))
+    (omega (arith, ap length c.deref_mut-all.ensures.value, length-map c.in_ok-marks.marks.items g.N.Number.number, c.in_ok-marks.ensures.least.size, c.requires.is_offer.grid.few_nodes))
 
 pub loop-r-preserved : goal.loop-r-preserved
 loop-r-preserved g c =
     let least = number-at g.N.Number.number c.loop-r.all c.loop-r.r c.index-all-r.result (omega (arith, c.loop-r-test.true, c.loop-r.auto.all)) c.index-all-r.is ∙ c.loop-r.invariant.written.from c.loop-r.r (omega arith) in
-    let mark = number-at g.N.Number.number c.args.near.now c.loop-r.r c.index-near-r.result (omega (arith, c.loop-r-test.true, ap length c.deref_mut-all.ensures.value, length-map c.in_ok-marks.marks.items g.N.Number.number, c.in_ok-marks.ensures.least.size, c.requires.near)) c.index-near-r.is in
+    let mark = number-at g.N.Number.number c.args.near.now c.loop-r.r c.index-near-r.result (omega (arith, c.loop-r-test.true, ap length c.deref_mut-all.ensures.value, length-map c.in_ok-marks.marks.items g.N.Number.number, c.in_ok-marks.ensures.least.size, c.requires.each_low)) c.index-near-r.is in
     let found = c.is_above-found.ensures ∙ (λ i. nat_lt (least i) (c.greatest.ensures i)) in
     counted_next _ _ g.N.Number.number c.deref_mut-all.result.now c.loop-r.all c.loop-r.r c.loop-r.more c.loop-r.invariant c.pick.result c.one_if-more.result c.loop-r-test.true
     (c.pick.ensures ∙ (λ i. if found i then least i else mark i))
@@ -37,12 +37,12 @@ returns-clause-layer g c =
     each-next offer.nodes (λ r n. IsNextAbove most cells offer.keys r (near r) n) (λ r n. IsNextMark cells offer.keys r (near r) n) _ (map number old) (map number new)
     (subst (λ xs. HasEach offer.nodes (λ r n. IsNextAbove most cells offer.keys r (near r) n) (map number xs)) (sym c.deref_mut-all.ensures.value) c.in_ok-marks.ensures.least)
     all.0
-    (λ r x y lt is now. next-mark most cells offer.keys r (near r) x y (λ key in_keys. c.requires.offer.below r key lt in_keys) is now)
+    (λ r x y lt is now. next-mark most cells offer.keys r (near r) x y (λ key in_keys. c.requires.is_offer.below r key lt in_keys) is now)
     in
     record {
       count = sym (ap length whole) ∙ sym (length-map new number) ∙ next.size;
       next = λ owner lt. subst (λ xs. IsNextMark cells offer.keys owner (near owner) (marks number xs owner)) whole (next.each owner lt);
       more =
-          steps-raised number most offer c.requires.offer near c.in_ok-marks.marks.items old new c.loop-r.more c.deref_mut-all.ensures.value c.in_ok-marks.ensures.least all.0 all.1
+          steps-raised number most offer c.requires.is_offer near c.in_ok-marks.marks.items old new c.loop-r.more c.deref_mut-all.ensures.value c.in_ok-marks.ensures.least all.0 all.1
           ∙ ap (λ xs. raised offer.nodes near (marks number xs)) whole;
     }

@@ -1,4 +1,4 @@
-use Rattle.delta_plans.proofs.Common.{◌≡◌, ◌≤◌, length, MOST_KEYS}
+use Rattle.delta_plans.proofs.Common.{◌≡◌, ◌+◌, ◌*◌, ◌≤◌, length, MOST_NODES, MOST_KEYS}
 use Rattle.delta_plans.specs.OfferInMemory.{marks}
 use Rattle.delta_plans.specs.Plans.{AreRunsSoFar}
 use Rattle.delta_plans.proofs.depths.depth.Given as goal
@@ -7,7 +7,8 @@ abbrev pub invariant-loop-alloc : goal.invariant-loop-alloc
 invariant-loop-alloc g l = record {
   near : length l.near.items ≡ l.offer.nodes;
   far : length l.far.items ≡ l.offer.nodes;
-  few : l.size ≤ MOST_KEYS;
+  short : l.size ≤ MOST_KEYS;
+  few : l.whole + l.more ≤ MOST_NODES * MOST_KEYS;
   so_far : AreRunsSoFar g.N.Number.number l.offer (marks g.N.Number.number l.near.items) (marks g.N.Number.number l.far.items) l.size l.whole l.more;
 }
 

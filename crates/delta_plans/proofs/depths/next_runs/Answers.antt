@@ -1,6 +1,6 @@
-use Rattle.delta_plans.proofs.Common.{◌≡◌, ◌≤◌, eqb, get_or, length, map, ap, ◌∙◌, arith, if◌then◌else◌, with_items, length-map, with_items_is, mul-le-mul_left, mul-le-mul_right, MOST_NODES, count_le, number-at}
+use Rattle.delta_plans.proofs.Common.{◌≡◌, ◌≤◌, eqb, get_or, length, map, refl, ap, ◌∙◌, arith, if◌then◌else◌, with_items, length-map, with_items_is, mul-le-mul_left, mul-le-mul_right, MOST_NODES, count_le, number-at}
 use Rattle.delta_plans.proofs.Nodes.{count_fits, counted_none, counted_next, counted_all}
-use Rattle.delta_plans.proofs.RunSteps.{next-count, next-marked, next-more}
+use Rattle.delta_plans.proofs.RunSteps.{next-runs}
 use Rattle.delta_plans.proofs.depths.next_runs.Goals as goal
 
 pub loop-r-init : goal.loop-r-init
@@ -9,13 +9,13 @@ loop-r-init g c = counted_none _ _ g.N.Number.number c.deref_mut-all.result.now
 pub overflow_add-owners : goal.overflow_add-owners
 overflow_add-owners g c =
     count_fits (λ r. eqb (get_or (map g.N.Number.number c.args.counts.now) r 0) c.args.size) c.loop-r.r (length c.deref_mut-all.result.now) c.loop-r.owners c.one_if-owners.result _ c.loop-r.invariant.counted c.one_if-owners.ensures (omega (arith, c.loop-r-test.true))
-    (omega (arith, ap length c.deref_mut-all.ensures.value, ap length c.in_ok-marks.ensures.items, c.requires.near, c.requires.offer.grid.few_nodes))
+    (omega (arith, ap length c.deref_mut-all.ensures.value, ap length c.in_ok-marks.ensures.items, c.requires.each_near, c.requires.is_offer.grid.few_nodes))
 
 pub loop-r-preserved : goal.loop-r-preserved
 loop-r-preserved g c =
     let number = g.N.Number.number in
-    let count = number-at number c.args.counts.now c.loop-r.r c.index-counts-r.result (omega (arith, c.loop-r-test.true, ap length c.deref_mut-all.ensures.value, ap length c.in_ok-marks.ensures.items, c.requires.near, c.requires.counts.size, length-map c.args.counts.now number)) c.index-counts-r.is in
-    let high = number-at number c.args.offer.now.high.now c.loop-r.r c.index-high-r.result (omega (arith, c.loop-r-test.true, ap length c.deref_mut-all.ensures.value, ap length c.in_ok-marks.ensures.items, c.requires.near, c.requires.offer.high)) c.index-high-r.is in
+    let count = number-at number c.args.counts.now c.loop-r.r c.index-counts-r.result (omega (arith, c.loop-r-test.true, ap length c.deref_mut-all.ensures.value, ap length c.in_ok-marks.ensures.items, c.requires.each_near, c.requires.counts_are.size, length-map c.args.counts.now number)) c.index-counts-r.is in
+    let high = number-at number c.args.offer.now.high.now c.loop-r.r c.index-high-r.result (omega (arith, c.loop-r-test.true, ap length c.deref_mut-all.ensures.value, ap length c.in_ok-marks.ensures.items, c.requires.each_near, c.requires.is_offer.high)) c.index-high-r.is in
     let mark = number-at number c.loop-r.all c.loop-r.r c.index-all-r.result (omega (arith, c.loop-r-test.true, c.loop-r.auto.all)) c.index-all-r.is ∙ c.loop-r.invariant.written.from c.loop-r.r (omega arith) in
     counted_next _ _ number c.deref_mut-all.result.now c.loop-r.all c.loop-r.r c.loop-r.owners c.loop-r.invariant c.pick.result c.one_if-owners.result c.loop-r-test.true
     (c.pick.ensures ∙ (λ i. if eqb ((c.widen.ensures ∙ count) i) c.args.size then high i else mark i))
@@ -31,8 +31,8 @@ overflow_mul-more g c =
       c.loop-r.auto.r-end,
       ap length c.deref_mut-all.ensures.value,
       ap length c.in_ok-marks.ensures.items,
-      c.requires.near,
-      c.requires.offer.grid.few_nodes,
+      c.requires.each_near,
+      c.requires.is_offer.grid.few_nodes,
     )
     in
     omega (arith, mul-le-mul_right {m = c.loop-r.owners} {n = MOST_NODES} c.args.size few, mul-le-mul_left MOST_NODES c.requires.few)
@@ -49,10 +49,6 @@ returns g c =
     let whole : xs ≡ new = with_items_is v new (c.loop-r.auto.all ∙ c.deref_mut-all.ensures.len) in
     let all = counted_all _ _ number old new c.loop-r.r c.loop-r.owners c.loop-r.invariant (omega (arith, c.loop-r-test.false)) (omega (arith, c.loop-r.auto.r-end)) in
     record {
-      runs = record {
-        count = next-count number g.N.Number.most offer c.args.near.now c.args.counts.now old new xs c.args.size c.loop-r.owners start c.requires.near whole c.requires.counts all.0 all.1;
-        marked = next-marked number g.N.Number.most offer c.args.near.now c.args.counts.now old new xs c.args.size c.loop-r.owners start c.requires.near whole c.requires.counts all.0 all.1;
-        more = next-more number g.N.Number.most offer c.args.near.now c.args.counts.now old new xs c.args.size c.loop-r.owners start c.requires.near whole c.requires.counts all.0 all.1;
-      };
+      runs = next-runs number offer c.args.near.now c.args.counts.now old new _ c.args.size c.loop-r.owners start c.requires.each_near whole refl c.requires.counts_are all.0 all.1;
       only = tt;
     }

@@ -5,5 +5,5 @@ use Rattle.delta_plans.proofs.offers.Offer.weight.Goals as goal
 
 pub returns-in-Entries : goal.returns-in-Entries
 returns-in-Entries g c =
-    c.requires.count
-    ∙ sym (offer-entries g.N.Number.number g.N.Number.most c.args.self.now c.requires.offer (marks g.N.Number.number c.args.low.now) (marks g.N.Number.number c.args.high.now) c.in-Entries.field-0 c.in-Entries.is)
+    c.requires.counted
+    ∙ sym (offer-entries g.N.Number.number g.N.Number.most c.args.self.now c.requires.has_marks.is_offer (marks g.N.Number.number c.args.low.now) (marks g.N.Number.number c.args.high.now) c.in-Entries.field-0 c.in-Entries.is)

@@ -1,6 +1,6 @@
-use Rattle.delta_plans.proofs.Common.{◌≡◌, ℕ, ◌<◌, ◌≤◌, refl, sym, ap, ◌∙◌, subst, arith, ltb-true, ltb-false, leb-true, leb-false, number_next}
+use Rattle.delta_plans.proofs.Common.{◌≡◌, ℕ, ◌<◌, refl, sym, ap, subst, arith, nat_tests, number_next}
 use Rattle.delta_plans.specs.OfferInMemory.{cells_in, weights_in}
-use Rattle.delta_plans.proofs.WeightLaws.{part, part-in, part-low, part-high}
+use Rattle.delta_plans.proofs.WeightLaws.{part}
 use Rattle.delta_plans.proofs.offers.Offer.weight_of.Goals as goal
 use Rattle.delta_plans.proofs.offers.Offer.weight_of.Goals.{then-is_above+then-is_upto, else-is_above, else-is_above-via-then-is_above+else-is_upto, else-is_above-via-else-is_above}
 
@@ -14,24 +14,21 @@ loop-key-preserved g c =
     let weight = weights_in offer c.args.owner in
     let low = number c.args.low in
     let high = number c.args.high in
-    let at = cells_in number offer c.args.owner c.loop-key.key in
     let cell = c.cell_of-cell.ensures in
     let more = (λ (k : ℕ). part weight low high (cells_in number offer c.args.owner k)) in
     elim c.if-is_above.branch [
       | then-is_above+then-is_upto w ↦
-          let above : low < at = subst (λ n. low < n) cell (ltb-true low (number c.cell_of-cell.result) (sym c.is_above.ensures ∙ w.if-is_above.true)) in
-          let upto : at ≤ high = subst (λ n. n ≤ high) cell (leb-true (number c.cell_of-cell.result) high (sym w.is_upto.ensures ∙ w.if-is_upto.true)) in
+          let same = ap weight cell in
+          let here : w.weight_of_number-weight.result ≡ more c.loop-key.key =
+          grind (arith, nat_tests, cell, same, c.is_above.ensures, w.if-is_above.true, w.is_upto.ensures, w.if-is_upto.true, w.weight_of_number-weight.ensures.weight) in
           record {
-            weight = number_next more c.loop-key.key c.loop-key.weight c.if-is_above.weight c.loop-key.invariant.weight w.weight-is
-                (w.weight_of_number-weight.ensures.weight ∙ ap weight cell ∙ sym (part-in weight low high at above upto));
+            weight = number_next more c.loop-key.key c.loop-key.weight c.if-is_above.weight c.loop-key.invariant.weight w.weight-is here;
             limit = omega (arith, w.weight-is, w.weight_of_number-weight.ensures.limit, c.loop-key.invariant.limit);
           }
       | else-is_above w ↦
           let none : more c.loop-key.key ≡ 0 = elim w.else-is_above.branch [
-            | else-is_above-via-then-is_above+else-is_upto w' ↦
-                part-high weight low high at (subst (λ n. high < n) cell (leb-false (number c.cell_of-cell.result) high (sym w'.is_upto.ensures ∙ w'.if-is_upto.false)))
-            | else-is_above-via-else-is_above w' ↦
-                part-low weight low high at (subst (λ n. n ≤ low) cell (ltb-false low (number c.cell_of-cell.result) (sym c.is_above.ensures ∙ w'.if-is_above.false)))
+            | else-is_above-via-then-is_above+else-is_upto w' ↦ grind (arith, nat_tests, cell, w'.is_upto.ensures, w'.if-is_upto.false)
+            | else-is_above-via-else-is_above w' ↦ grind (arith, nat_tests, cell, c.is_above.ensures, w'.if-is_above.false)
           ] in
           record {
             weight = number_next more c.loop-key.key c.loop-key.weight c.if-is_above.weight {y = 0} c.loop-key.invariant.weight (omega (arith, w.weight-is)) (sym none);
@@ -39,8 +36,8 @@ loop-key-preserved g c =
           }
     ]
 
-pub cell_of-cell-requires-clause-key : goal.cell_of-cell-requires-clause-key
-cell_of-cell-requires-clause-key g c = c.loop-key-test.true
+pub cell_of-cell-requires : goal.cell_of-cell-requires
+cell_of-cell-requires g c = record { has_owner = c.requires; in_keys = c.loop-key-test.true }
 
 pub weight_of_number-weight-requires : goal.weight_of_number-weight-requires
-weight_of_number-weight-requires g c = record { owner = subst (λ n. c.args.owner < n) (sym c.requires.offer.lists) c.requires.owner }
+weight_of_number-weight-requires g c = record { owner = subst (λ n. c.args.owner < n) (sym c.requires.is_offer.lists) c.requires.in_nodes }

@@ -22,13 +22,13 @@ pub count_some_between-requires-clause-low : goal.count_some_between-requires-cl
 count_some_between-requires-clause-low g c =
     let turns = c.args.self.now in
     ap length (c.by_first-low.ensures ∙ (λ i. by_first turns.first (c.deref.ensures.value i) (c.deref-2.ensures.value i)))
-    ∙ size-of turns.first turns.level.now.near.items turns.level.now.far.items c.args.self.now.offer.now.nodes c.requires.turns.level.near c.requires.turns.level.far
+    ∙ size-of turns.first turns.level.now.near.items turns.level.now.far.items c.args.self.now.offer.now.nodes c.requires.turn.are.level.near c.requires.turn.are.level.far
 
 pub count_some_between-requires-clause-high : goal.count_some_between-requires-clause-high
 count_some_between-requires-clause-high g c =
     let turns = c.args.self.now in
     ap length (c.by_first-high.ensures ∙ (λ i. by_first turns.first (c.deref-3.ensures.value i) (c.deref-4.ensures.value i)))
-    ∙ size-of turns.first turns.level.now.far.items turns.level.now.near.items c.args.self.now.offer.now.nodes c.requires.turns.level.far c.requires.turns.level.near
+    ∙ size-of turns.first turns.level.now.far.items turns.level.now.near.items c.args.self.now.offer.now.nodes c.requires.turn.are.level.far c.requires.turn.are.level.near
 
 pub returns : goal.returns
 returns g c =
@@ -39,8 +39,8 @@ returns g c =
     let old = c.args.counts.now in
     let new = c.count_some_between.new.counts in
     let size = c.min-end.result - owner in
-    let some : 0 < size = omega (arith, c.min-end.ensures, c.requires.owner) in
-    let within : owner + size ≤ length old = omega (arith, c.min-end.ensures, c.requires.owner, c.requires.counts.size, length-map old number) in
+    let some : 0 < size = omega (arith, c.min-end.ensures, c.requires.turn.in_nodes) in
+    let within : owner + size ≤ length old = omega (arith, c.min-end.ensures, c.requires.turn.in_nodes, c.requires.counts.size, length-map old number) in
     let sized : length new ≡ size = c.count_some_between.auto.counts ∙ length-take-le size (drop owner old) (omega (arith, within, length-drop owner old)) in
     let parts =
     counted number (cells_in number offer) offer.keys (length (take size (drop owner old))) owner turns.first turns.level.now.near.items turns.level.now.far.items (map number new)

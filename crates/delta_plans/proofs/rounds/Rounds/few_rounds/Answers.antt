@@ -1,0 +1,69 @@
+use Rattle.delta_plans.proofs.Common.{◌+◌, ◌-◌, ◌<◌, sym, subst, transport, arith}
+use Rattle.delta_plans.specs.RoundLevels.{AreFewAndEnough, AreRaised, IsFound}
+use Rattle.delta_plans.proofs.RoundMarks.{begun, further, nearer, rounds-raised}
+use Rattle.delta_plans.proofs.rounds.Rounds.few_rounds.Goals as goal
+use Rattle.delta_plans.proofs.rounds.Rounds.few_rounds.Goals.{then-found_there, else-found_there}
+
+pub loop-few-init : goal.loop-few-init
+loop-few-init g c = record { found = begun c.args.self.now c.requires; step = omega arith }
+
+pub loop-few-preserved : goal.loop-few-preserved
+loop-few-preserved g c =
+    let rounds = c.args.self.now in
+    let so_far = c.loop-few.invariant.found in
+    let look = subst (λ xs. IsFound g.N.Number.number rounds xs c.look-found_there.result) c.deref.ensures.value c.look-found_there.ensures in
+    let some : 0 < c.min-by.result = omega (arith, c.min-by.ensures, c.loop-few.invariant.step, c.loop-few-test.true) in
+    let less : c.loop-few.few + c.min-by.result < c.loop-few.enough = omega (arith, c.min-by.ensures, c.loop-few-test.true) in
+    elim c.if-found_there.branch [
+      | then-found_there w ↦ record {
+        found =
+            transport (λ i. AreFewAndEnough g.N.Number.number rounds (sym w.few-is i) (sym w.enough-is i) (sym w.whole-is i))
+            (further rounds c.requires (c.loop-few.few + c.min-by.result) c.in_ok-mark.mark.items c.in_ok-mark.ensures.marks so_far look less w.if-found_there.true);
+        step = omega (arith, w.step-is, some);
+      }
+      | else-found_there w ↦ record {
+        found =
+            transport (λ i. AreFewAndEnough g.N.Number.number rounds (sym w.few-is i) (sym w.enough-is i) (sym w.whole-is i))
+            (nearer rounds c.requires (c.loop-few.few + c.min-by.result) c.in_ok-mark.mark.items c.in_ok-mark.ensures.marks so_far look (omega (arith, some)) (omega (arith, less)) w.if-found_there.false);
+        step = omega (arith, w.step-is, c.loop-few.invariant.step);
+      }
+    ]
+
+pub mark_after-requires-clause-count : goal.mark_after-requires-clause-count
+mark_after-requires-clause-count g c = omega (arith, c.min-by.ensures, c.loop-few-test.true, c.loop-few.invariant.found.bound)
+
+pub look-found_there-requires-clause-mark : goal.look-found_there-requires-clause-mark
+look-found_there-requires-clause-mark g c =
+    subst (AreRaised g.N.Number.number c.args.self.now.offer.now) (sym c.deref.ensures.value) (rounds-raised c.args.self.now c.requires (c.loop-few.few + c.min-by.result) c.in_ok-mark.mark.items c.in_ok-mark.ensures.marks)
+
+pub overflow_add-few : goal.overflow_add-few
+overflow_add-few g c = omega (arith, c.loop-few.invariant.found.below, c.loop-few.invariant.found.bound)
+
+pub overflow_add-few-in-loop-few : goal.overflow_add-few-in-loop-few
+overflow_add-few-in-loop-few g c = omega (arith, c.min-by.ensures, c.loop-few-test.true, c.loop-few.invariant.found.bound)
+
+pub overflow_add-few-then-found_there : goal.overflow_add-few-then-found_there
+overflow_add-few-then-found_there g c = omega (arith, c.min-by.ensures, c.loop-few-test.true, c.loop-few.invariant.found.bound)
+
+pub overflow_add-enough : goal.overflow_add-enough
+overflow_add-enough g c = omega (arith, c.min-by.ensures, c.loop-few-test.true, c.loop-few.invariant.found.bound)
+
+pub overflow_mul-step : goal.overflow_mul-step
+overflow_mul-step g c = omega (arith, c.min-by.ensures, c.loop-few-test.true, c.loop-few.invariant.found.bound)
+
+pub overflow_sub-enough : goal.overflow_sub-enough
+overflow_sub-enough g c = omega (arith, c.loop-few.invariant.found.below)
+
+pub loop-few-smaller : goal.loop-few-smaller
+loop-few-smaller g c =
+    let some : 0 < c.min-by.result = omega (arith, c.min-by.ensures, c.loop-few.invariant.step, c.loop-few-test.true) in
+    let less : c.loop-few.few + c.min-by.result < c.loop-few.enough = omega (arith, c.min-by.ensures, c.loop-few-test.true) in
+    elim c.if-found_there.branch [
+      | then-found_there w ↦ omega (arith, w.few-is, w.enough-is, some, less)
+      | else-found_there w ↦ omega (arith, w.few-is, w.enough-is, some, less)
+    ]
+
+pub returns-clause-few : goal.returns-clause-few
+returns-clause-few g c =
+    subst (λ few. AreFewAndEnough g.N.Number.number c.args.self.now few c.loop-few.enough c.loop-few.whole) {x = c.loop-few.few} {y = c.loop-few.enough - 1}
+    (omega (arith, c.loop-few-test.false, c.loop-few.invariant.found.below)) c.loop-few.invariant.found

@@ -1,6 +1,6 @@
 -- The items of a table are those of its places, so a sum over them is one over all places.
 -- Serves `OfferSums` and `version_tables`.
-use Rattle.delta_plans.proofs.Common.{◌≡◌, ℕ, zero, suc, ◌+◌, ◌<◌, Bool, true, false, cond, not, eqb, List, [], ◌∷◌, get_or, Option, Some, None, inl, inr, refl, sym, ap, ◌∙◌, subst, arith, filter, Contains, IsPermutation, ◌&&◌, sum_by, is_eq, cases_lt, eqb-true, and_parts, Contains-append_left, Contains-append_right, Contains-append_cases, sum_by-IsPermutation, sum_by-append, sum_by-cons, Entry, Item, Mode, mark_of, is_before, digest_kind, candidates, known_mark, Table, entry_at, items_of, IsProper, stands_at, IsApart, entry_at-items_of, Contains-items_of, apart-items_of, tied-stands_at, AllPairs-append, same_members, sum_below}
+use Rattle.delta_plans.proofs.Common.{◌≡◌, ℕ, zero, suc, ◌+◌, ◌<◌, Bool, true, false, cond, not, eqb, List, [], ◌∷◌, get_or, Option, Some, None, inl, inr, refl, sym, ap, ◌∙◌, subst, arith, nat_tests, filter, Contains, IsPermutation, ◌&&◌, sum_by, is_eq, cases_lt, eqb-true, and_parts, Contains-append_left, Contains-append_right, Contains-append_cases, sum_by-IsPermutation, sum_by-append, sum_by-cons, Entry, Item, Mode, mark_of, is_before, digest_kind, candidates, known_mark, Table, entry_at, items_of, IsProper, stands_at, IsApart, entry_at-items_of, Contains-items_of, apart-items_of, tied-stands_at, AllPairs-append, same_members, sum_below}
 use Rattle.delta_plans.specs.Grids.{item_here, column_items, grid_items, number_here, number_there, sum_over}
 
 -- what stands among the items of a place, a column and the grid
@@ -76,7 +76,7 @@ module _ (t : Table) (proper : IsProper t) where
       let other = column-from t bound t.keys y in_y in
       apart_by x y (λ owners _. omega (arith, owners, one.0, other.0)))
 
-  table_apart : IsApart (items_of t)
+  pub table_apart : IsApart (items_of t)
   table_apart i j d lt in_range = sym (tied-stands_at (get_or (items_of t) i d).owner (get_or (items_of t) i d).entry.key (get_or (items_of t) j d)) ∙ ap is_eq (apart-items_of t proper i j d lt in_range)
 
   grid_is : IsPermutation (items_of t) (grid_items t t.nodes)
@@ -114,10 +114,8 @@ sum_by-filter p f [] = refl
 sum_by-filter p f (x ∷ xs) =
     let rest = sum_by-filter p f xs in
     let whole = sum_by-cons (λ y. cond (p y) (f y) 0) x xs in
-    elim (p x) as (λ b. sum_by (λ y. cond (p y) (f y) 0) (x ∷ xs) ≡ cond b (f x) 0 + sum_by (λ y. cond (p y) (f y) 0) xs → sum_by f (cond b (x ∷ filter p xs) (filter p xs)) ≡ sum_by (λ y. cond (p y) (f y) 0) (x ∷ xs)) [
-      | true ↦ λ e. omega (arith, rest, e, sum_by-cons f x (filter p xs))
-      | false ↦ λ e. omega (arith, rest, e)
-    ] whole
+    let kept = sum_by-cons f x (filter p xs) in
+    grind (arith, nat_tests)
 
 -- a sum over the candidates from one table to another
 pub candidates_sum : (mode : Mode) (from to : Table) (proper : IsProper from) (f : Item → ℕ) → sum_by f (candidates mode from to) ≡ sum_over (λ i. cond (not (eqb i.owner to.node) && is_before (known_mark (digest_kind mode) to i) (mark_of i.entry)) (f i) 0) from

@@ -1,6 +1,6 @@
 -- From marks over numbers to the delta that they are.
 -- Serves `version_tables`.
-use Rattle.delta_plans.proofs.Common.{◌≡◌, ℕ, ◌+◌, ◌<◌, ◌≤◌, Bool, true, false, cond, not, ltb, leb, List, [], ◌∷◌, length, Some, inl, inr, refl, sym, ap, ◌∙◌, subst, arith, nat_lt, ◌&&◌, count_by, Contains, sum_by, cases_lt, lt-ltb, le-ltb, le-leb, both_ways, sum_by-cons, same_Some, Entry, Item, Budget, Mode, amount_of, Table, entry_at, items_of, IsProper, Contains-items_of, candidates, DeltaView, delta_between, item_share, rotated, Contains-filter, write_numbered, Cells, HasNoneAbove, sum_below-same, IsHistory}
+use Rattle.delta_plans.proofs.Common.{◌≡◌, ℕ, ◌+◌, ◌<◌, ◌≤◌, Bool, true, false, cond, not, List, [], ◌∷◌, length, Some, inl, inr, refl, sym, ap, ◌∙◌, subst, arith, nat_tests, nat_lt, ◌&&◌, count_by, Contains, sum_by, cases_lt, lt-ltb, and_parts, ltb-true, sum_by-cons, same_Some, Entry, Item, Budget, Mode, amount_of, Table, entry_at, items_of, IsProper, Contains-items_of, candidates, DeltaView, delta_between, item_share, rotated, Contains-filter, write_numbered, Cells, HasNoneAbove, sum_below-same, IsHistory}
 use Rattle.delta_plans.specs.declared.marked.First.{First}
 use Rattle.delta_plans.specs.declared.marked.First.TheVariants.{Oldest, Newest}
 use Rattle.delta_plans.specs.SentSets.{HasSet}
@@ -9,33 +9,20 @@ use Rattle.delta_plans.specs.Marked.{KeepsLow}
 use Rattle.delta_plans.specs.Offers.{Offers, is_lacked, AreSent}
 use Rattle.delta_plans.specs.LevelMarks.{first_sent, lets_through, HasShape, StopAt, size_through_marks}
 use Rattle.delta_plans.specs.Weights.{share_or_none, number_shares, weight_between, weight_through, one_each}
-use Rattle.delta_plans.proofs.Columns.{where_true, where_none}
 use Rattle.delta_plans.proofs.DeltaMarks.{marks-sent, all-sent}
 use Rattle.delta_plans.proofs.LevelMarks.{level-marks}
 use Rattle.delta_plans.proofs.CandidateNumbers.{candidate-key, candidate-number}
 use Rattle.delta_plans.proofs.OfferSums.{offered-sum}
 
--- what is above both of two marks
-both-above : (low mark high number x : ℕ) → low ≤ mark → number ≤ high → where_true (ltb low number) (where_true (ltb mark number) x) ≡ where_true (ltb mark number) (where_true (leb number high) x)
-both-above low mark high number x le upto = elim (cases_lt mark number) [
-  | inl above ↦
-      ap (λ b. where_true b (where_true (ltb mark number) x)) (lt-ltb low number (omega (arith, le, above)))
-      ∙ ap (λ b. where_true (ltb mark number) (where_true b x)) (sym (le-leb number high upto))
-  | inr not_above ↦
-      ap (λ b. where_true (ltb low number) (where_true b x)) (le-ltb mark number (omega (arith, not_above)))
-      ∙ where_none (ltb low number)
-      ∙ sym (ap (λ b. where_true b (where_true (leb number high) x)) (le-ltb mark number (omega (arith, not_above))))
-]
-
 -- what passes a test and what doesn't are all
 count-others : {X : Type 0} (p : X → Bool) (xs : List X) → count_by p xs + count_by (λ x. not (p x)) xs ≡ sum_by (λ x. 1) xs
 count-others p [] = refl
 count-others p (x ∷ xs) =
-    omega (arith, sum_by-cons (λ x. cond (p x) 1 0) x xs, sum_by-cons (λ x. cond (not (p x)) 1 0) x xs, sum_by-cons (λ x. 1) x xs, count-others p xs, one (p x))
-  where
-    one : (b : Bool) → cond b 1 0 + cond (not b) 1 0 ≡ 1
-    one true = refl
-    one false = refl
+    let rest = count-others p xs in
+    let passed = sum_by-cons (λ x. cond (p x) 1 0) x xs in
+    let others = sum_by-cons (λ x. cond (not (p x)) 1 0) x xs in
+    let all = sum_by-cons (λ x. 1) x xs in
+    grind (arith, nat_tests)
 
 module _ (from to : Table) (proper : IsProper from) (lists : ℕ → List Entry) (histories : (owner : ℕ) → IsHistory (lists owner)) (cells : Cells) (low high : ℕ → ℕ)
     (covered : (owner : ℕ) → owner < from.nodes → HasNoneAbove cells from.keys owner (high owner)) where
@@ -44,7 +31,9 @@ module _ (from to : Table) (proper : IsProper from) (lists : ℕ → List Entry)
       → size_through_marks first from cells low (λ owner key. weights owner (cells owner key)) mark ≡ weight_through first weights cells from.nodes from.keys low high mark
   sizes-weigh Oldest weights mark above = refl
   sizes-weigh Newest weights mark above = sum_below-same from.nodes _ _ (λ owner in_nodes. sum_below-same from.keys _ _ (λ key in_keys.
-      both-above (low owner) (mark owner) (high owner) (cells owner key) (weights owner (cells owner key)) (above owner in_nodes) (covered owner in_nodes key in_keys)))
+      let le = above owner in_nodes in
+      let upto = covered owner in_nodes key in_keys in
+      grind (arith, nat_tests)))
 
   module _ (mode : Mode) (offers : Offers mode from to lists cells low) where
     abbrev cs : List Item
@@ -65,8 +54,7 @@ module _ (from to : Table) (proper : IsProper from) (lists : ℕ → List Entry)
     all-counted : sum_by (λ c. 1) cs ≡ weight_between one_each cells from.nodes from.keys low high
     all-counted =
         offered-sum mode from to proper lists cells low offers (λ c. 1) (λ owner key. 1) (λ c in_c. refl)
-        ∙ sum_below-same from.nodes _ _ (λ owner in_nodes. sum_below-same from.keys _ _ (λ key in_keys.
-        ap (λ b. where_true (ltb (low owner) (cells owner key)) (where_true b 1)) (sym (le-leb (cells owner key) (high owner) (covered owner in_nodes key in_keys)))))
+        ∙ sum_below-same from.nodes _ _ (λ owner in_nodes. sum_below-same from.keys _ _ (λ key in_keys. let upto = covered owner in_nodes key in_keys in grind (arith, nat_tests)))
 
     -- candidates by their places
     there : (owner key : ℕ) → owner < from.nodes → key < from.keys → low owner < cells owner key → (e : Entry) × (entry_at from owner key ≡ Some e) × Contains cs (record { owner = owner; entry = e })
@@ -99,19 +87,11 @@ module _ (from to : Table) (proper : IsProper from) (lists : ℕ → List Entry)
         members = λ owner key e held. (into owner key e held, out_of owner key e held);
       }
         where
-          both-left : (a b : Bool) → (a && b) ≡ true → a ≡ true
-          both-left true b holds = refl
-          both-left false b holds = holds
-
-          both-right : (a b : Bool) → (a && b) ≡ true → b ≡ true
-          both-right true b holds = holds
-          both-right false b holds = absurd (both_ways false refl holds)
-
-          lt-of : (m n : ℕ) → nat_lt m n ≡ true → m < n
-          lt-of m n holds = elim (cases_lt m n) [ inl lt ↦ lt | inr fails ↦ absurd (both_ways (nat_lt m n) (le-ltb m n fails) holds) ]
+          parts : (owner key : ℕ) → owner < from.nodes → key < from.keys → sent owner key ≡ true → (nat_lt (low owner) (cells owner key) ≡ true) × (lets_through first (mark owner) (cells owner key) ≡ true)
+          parts owner key in_nodes in_keys holds = and_parts (nat_lt (low owner) (cells owner key)) (lets_through first (mark owner) (cells owner key)) (sym (is owner key in_nodes in_keys) ∙ holds)
 
           low-of : (owner key : ℕ) → owner < from.nodes → key < from.keys → sent owner key ≡ true → low owner < cells owner key
-          low-of owner key in_nodes in_keys holds = lt-of (low owner) (cells owner key) (both-left (nat_lt (low owner) (cells owner key)) (lets_through first (mark owner) (cells owner key)) (sym (is owner key in_nodes in_keys) ∙ holds))
+          low-of owner key in_nodes in_keys holds = ltb-true (low owner) (cells owner key) (parts owner key in_nodes in_keys holds).0
 
           into : (owner key : ℕ) (e : Entry) → entry_at from owner key ≡ Some e → sent owner key ≡ true → Contains delta.items (record { owner = owner; entry = e })
           into owner key e held holds =
@@ -120,7 +100,7 @@ module _ (from to : Table) (proper : IsProper from) (lists : ℕ → List Entry)
               let same : found.0 ≡ e = same_Some found.0 e (sym found.1 ∙ held) in
               (has.members (record { owner = owner; entry = e })).1 (
                 subst (λ x. Contains cs (record { owner = owner; entry = x })) same found.2,
-                ap (λ k. lets_through first (mark owner) (cells owner k)) place.keyed ∙ both-right (nat_lt (low owner) (cells owner key)) (lets_through first (mark owner) (cells owner key)) (sym (is owner key place.owner_below place.key_below) ∙ holds),
+                ap (λ k. lets_through first (mark owner) (cells owner k)) place.keyed ∙ (parts owner key place.owner_below place.key_below holds).1,
               )
 
           out_of : (owner key : ℕ) (e : Entry) → entry_at from owner key ≡ Some e → Contains delta.items (record { owner = owner; entry = e }) → sent owner key ≡ true

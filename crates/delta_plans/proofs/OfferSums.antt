@@ -1,6 +1,6 @@
 -- What one table offers another, told by numbers.
 -- Serves `Columns`, `DeltaMarks` and `Lifts`.
-use Rattle.delta_plans.proofs.Common.{◌≡◌, ℕ, ◌<◌, cond, ltb, List, Some, None, inl, inr, refl, sym, ap, ◌∙◌, arith, Contains, sum_by, cases_lt, lt-ltb, le-ltb, Entry, Item, Mode, Table, entry_at, items_of, IsProper, Contains-items_of, Contains-filter, candidates, Cells, sum_below-same}
+use Rattle.delta_plans.proofs.Common.{◌≡◌, ℕ, ◌<◌, cond, ltb, List, Some, None, inl, inr, refl, sym, ap, ◌∙◌, arith, nat_tests, Contains, sum_by, cases_lt, le-ltb, Entry, Item, Mode, Table, entry_at, items_of, IsProper, Contains-items_of, Contains-filter, candidates, Cells, sum_below-same}
 use Rattle.delta_plans.specs.Grids.{number_here, number_there}
 use Rattle.delta_plans.specs.Offers.{Offers, is_lacked, offered_sum}
 use Rattle.delta_plans.proofs.Grids.{candidates_sum}
@@ -18,11 +18,9 @@ module _ (mode : Mode) (from to : Table) (proper : IsProper from) (lists : ℕ �
             let there = offers.above owner key in_nodes in_keys above in
             let i : Item = record { owner = owner; entry = there.0 } in
             let stands = Contains-filter (is_lacked mode to) (items_of from) i (Contains-items_of from owner key there.0 there.1) there.3 in
-            ap (number_here (λ i. cond (is_lacked mode to i) (f i) 0) owner) there.1
-            ∙ ap (λ b. cond b (f i) 0) there.3
-            ∙ told i stands
-            ∙ ap (g owner) (proper.in_place owner key there.0 there.1).keyed
-            ∙ ap (λ b. cond b (g owner key) 0) (sym (lt-ltb (low owner) (cells owner key) above))
+            let here = ap (number_here (λ i. cond (is_lacked mode to i) (f i) 0) owner) there.1 in
+            let is = told i stands ∙ ap (g owner) (proper.in_place owner key there.0 there.1).keyed in
+            grind (arith, nat_tests, here, is, there.3)
         | inr not_above ↦
             elim (entry_at from owner key) as (λ o. entry_at from owner key ≡ o → number_here (λ i. cond (is_lacked mode to i) (f i) 0) owner o ≡ 0) [
               | None ↦ λ _. refl

@@ -1,6 +1,6 @@
 -- What an offer's numbers take of its budget.
 -- Serves the functions of `breadths`, `depths` and `offers`, `LayerSteps`, `RunSteps` and `TurnSteps`.
-use Rattle.delta_plans.proofs.Common.{◌≡◌, ℕ, ◌*◌, ◌<◌, ◌≤◌, Bool, true, false, List, length, Option, Some, None, inl, inr, sym, subst, arith, ◌↔◌, cases_lt, both_ways, mul-le-mul_right, Entry, Budget, Entries, Bytes, amount_of, MOST_NODES, MOST_KEYS, MOST_ENTRY_SIZE, write_numbered, all_writes}
+use Rattle.delta_plans.proofs.Common.{◌≡◌, ℕ, ◌*◌, ◌<◌, ◌≤◌, Bool, true, false, List, length, Option, Some, None, sym, subst, arith, nat_tests, ◌↔◌, mul-le-mul_right, Entry, Budget, Entries, Bytes, amount_of, MOST_NODES, MOST_KEYS, MOST_ENTRY_SIZE, write_numbered, all_writes}
 use Rattle.delta_plans.specs.declared.offers.Offer.{Offer}
 use Rattle.delta_plans.specs.OfferInMemory.{cells_in, low_in, marks, weights_in, weight_in, count_in, AreCounted, IsOffer}
 use Rattle.delta_plans.specs.Weights.{share_or_none, one_each}
@@ -39,6 +39,10 @@ module _ {N : Type 0} (number : N → ℕ) (most : ℕ) (offer : Offer N) (is : 
       (λ owner key in_nodes in_keys above upto.
       number_share-one offer.budget n (all_writes offer.lists.now owner) (cells_in number offer owner key) counted (omega (arith, above)) (is.written owner key in_nodes in_keys))
 
+-- what is said not to fit weighs more
+pub over : (fits : Bool) (weight amount : ℕ) → (fits ≡ true) ↔ (weight ≤ amount) → fits ≡ false → amount < weight
+over fits weight amount tested no' = grind (arith, nat_tests, tested.1)
+
 -- marks of which it is asked whether what is up to them fits
 module _ {N : Type 0} {number : N → ℕ} {most : ℕ} {offer : Offer N} (is : IsOffer number most offer) {asked items : List N} (same : asked ≡ items) where
   pub asked-counted : {count : ℕ} → length items ≡ offer.nodes → count ≡ count_in number offer (low_in number offer) (marks number items) → AreCounted number most offer count offer.low.now asked
@@ -49,7 +53,4 @@ module _ {N : Type 0} {number : N → ℕ} {most : ℕ} {offer : Offer N} (is : 
     offer-fits yes' = subst (λ xs. weight_in number offer (low_in number offer) (marks number xs) ≤ amount_of offer.budget) same (tested.0 yes')
 
     pub offer-cut : fits ≡ false → amount_of offer.budget < weight_in number offer (low_in number offer) (marks number items)
-    offer-cut no' = elim (cases_lt (amount_of offer.budget) (weight_in number offer (low_in number offer) (marks number items))) [
-      | inl over ↦ over
-      | inr within ↦ absurd (both_ways fits no' (tested.1 (subst (λ xs. weight_in number offer (low_in number offer) (marks number xs) ≤ amount_of offer.budget) (sym same) within)))
-    ]
+    offer-cut no' = subst (λ xs. amount_of offer.budget < weight_in number offer (low_in number offer) (marks number xs)) same (over fits _ _ tested no')

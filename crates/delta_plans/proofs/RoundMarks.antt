@@ -1,6 +1,6 @@
 -- What marks at the ends of rounds let through.
 -- Serves `Rounds` and `version_tables`.
-use Rattle.delta_plans.proofs.Common.{◌≡◌, ℕ, ◌+◌, ◌-◌, ◌<◌, ◌≤◌, true, false, max, map, ltb, List, length, inl, inr, refl, sym, ap, ◌∙◌, subst, transport, arith, nat_tests, nat_lt, length-map, cases_lt, both_ways, Entry, amount_of, all_writes, Cells, cell, total_of, HasNoneAbove, sum_below-same, sum_below-plus, AreMadeBy, IsRoundMark, numbered-some}
+use Rattle.delta_plans.proofs.Common.{◌≡◌, ℕ, ◌+◌, ◌-◌, ◌<◌, ◌≤◌, true, false, max, map, ltb, List, length, inl, inr, refl, sym, ap, ◌∙◌, subst, transport, arith, nat_tests, nat_lt, length-map, cases_lt, Entry, amount_of, all_writes, Cells, cell, total_of, HasNoneAbove, sum_below-same, sum_below-plus, AreMadeBy, IsRoundMark, numbered-some}
 use Rattle.delta_plans.specs.declared.marked.First.{First}
 use Rattle.delta_plans.specs.declared.marked.First.TheVariants.{Oldest, Newest}
 use Rattle.delta_plans.specs.declared.offers.Offer.{Offer}
@@ -13,6 +13,7 @@ use Rattle.delta_plans.specs.RoundLevels.{end_mark, round_mark, mark_of_rounds, 
 use Rattle.delta_plans.specs.LevelMarks.{AreRounds}
 use Rattle.delta_plans.specs.Stops.{IsOn}
 use Rattle.delta_plans.specs.Weights.{weight_through, count_all_between, one_each}
+use Rattle.delta_plans.proofs.OfferWeights.{over}
 use Rattle.delta_plans.proofs.Columns.{where_true, sum_below-none}
 use Rattle.delta_plans.proofs.TurnSteps.{through-same}
 use Rattle.delta_plans.proofs.WeightLaws.{part, weight_of-all, weight_of-none}
@@ -154,10 +155,7 @@ module _ {N : Type 0} {number : N → ℕ} {most : ℕ} (rounds : Rounds N) (is 
         bound = omega (arith, so_far.bound, le);
         counted = so_far.counted;
         within = so_far.within;
-        beyond = elim (cases_lt (amount_of offer.budget) (weight_on rounds.first number offer (mark_of_rounds number rounds count))) [
-          | inl over ↦ over
-          | inr within ↦ absurd (both_ways found.fits no_fit (look.fits.1 (omega (arith, within, let_through (weights_in offer)))))
-        ];
+        beyond = omega (arith, over found.fits _ _ look.fits no_fit, let_through (weights_in offer));
       }
 
   -- one round more lets through more

@@ -1,6 +1,7 @@
 -- Any set of candidates that is closed downwards, fits, and lets nothing more in is what is sent.
 -- Serves `deltas_have_their_sets` and `DeltaMarks`.
-use Rattle.delta_plans.proofs.Common.{◌≡◌, ◌≢◌, ℕ, zero, suc, ◌+◌, ◌<◌, ◌≤◌, Bool, true, false, cond, not, eqb, List, [], ◌∷◌, get_or, Some, refl, sym, ap, ◌∙◌, subst, arith, count_by, filter, IsPermutation, Contains, ◌&&◌, sum_by, Ordering, Less, Equal, Greater, is_lt, is_eq, ordering_reverse, IsTotalOrder, tied_itself, both_ways, le-leb, lt-leb, and_parts, eqb-true, get_or_default, AllPairs-filter, length_permutation, tied-stands_at, same_Some, sum_by-cons, length-filter, Item, amount_of, is_before, mark_of, digest_kind, Table, entry_at, items_of, IsProper, stands_at, IsApart, entry_at-items_of, apart-items_of, candidates, known_mark, DeltaView, delta_between, item_share, sending_order, sending_order-total, sending_order-strict, Contains-filter, Contains-kept, same_members, before_count, first_places, size_through, fits, sent, cut_count, before_count-places, Contains-first_places, first_places-Contains}
+use Rattle.delta_plans.proofs.Common.{◌≡◌, ◌≢◌, ℕ, zero, suc, ◌+◌, ◌<◌, ◌≤◌, Bool, true, false, cond, not, eqb, List, [], ◌∷◌, get_or, Some, refl, sym, ap, ◌∙◌, subst, arith, nat_tests, count_by, filter, IsPermutation, Contains, ◌&&◌, sum_by, Ordering, Less, Equal, Greater, is_lt, ordering_reverse, IsTotalOrder, tied_itself, both_ways, le-leb, lt-leb, and_parts, eqb-true, get_or_default, AllPairs-filter, length_permutation, same_Some, sum_by-cons, length-filter, Item, amount_of, is_before, mark_of, digest_kind, Table, entry_at, items_of, IsProper, stands_at, IsApart, entry_at-items_of, candidates, known_mark, DeltaView, delta_between, item_share, sending_order, sending_order-total, sending_order-strict, Contains-filter, Contains-kept, same_members, before_count, first_places, size_through, fits, sent, cut_count, before_count-places, Contains-first_places, first_places-Contains}
+use Rattle.delta_plans.proofs.Grids.{table_apart}
 use Rattle.delta_plans.specs.SentSets.{size_in, IsKeptOut, IsSentSet, EndsBefore, HasAll, DeltasHaveTheirSets}
 
 -- a sum over a list whose terms are no greater, for the elements of the list
@@ -22,6 +23,16 @@ sum_by-more f g (x ∷ xs) n y (suc k, lt, is) le more =
 sum_by-same : {X : Type 0} (f g : X → ℕ) (xs : List X) → ((x : X) → Contains xs x → f x ≡ g x) → sum_by f xs ≡ sum_by g xs
 sum_by-same f g xs same = omega (arith, sum_by-le f g xs (λ x there. omega (arith, same x there)), sum_by-le g f xs (λ x there. omega (arith, same x there)))
 
+is_less : (r : Ordering) → is_lt r ≡ true → r ≡ Less
+is_less Less e = refl
+is_less Equal e = cc
+is_less Greater e = cc
+
+not_less : (r : Ordering) → r ≢ Less → is_lt r ≡ false
+not_less Less e = absurd (e refl)
+not_less Equal e = refl
+not_less Greater e = refl
+
 module _ {X : Type 0} (order : X → X → Ordering) (total : IsTotalOrder order) (cs : List X) (size : X → ℕ) (is_in : X → Bool) (budget : ℕ) (strict : (c d : X) → Contains cs c → Contains cs d → order c d ≡ Equal → c ≡ d) (is : IsSentSet order cs size is_in budget) where
   abbrev term : X → ℕ
   term d = cond (is_in d) (size d) 0
@@ -29,52 +40,24 @@ module _ {X : Type 0} (order : X → X → Ordering) (total : IsTotalOrder order
   abbrev through : X → X → ℕ
   through c d = cond (is_lt (order c d)) 0 (size d)
 
-  -- what stands behind none in the set
-  in_set : (c d : X) → Contains cs c → Contains cs d → is_in c ≡ true → order c d ≢ Less → is_in d ≡ true
-  in_set c d at_c at_d yes' behind = elim (order c d) as (λ r. order c d ≡ r → is_in d ≡ true) [
-    | Less ↦ λ e. absurd (behind e)
+  -- what stands before one in the set, and behind none
+  before_in : (c d : X) → Contains cs c → Contains cs d → is_lt (order c d) ≡ true → is_in d ≡ true → is_in c ≡ true
+  before_in c d at_c at_d before yes' = is.closed c d at_c at_d (is_less (order c d) before) yes'
+
+  behind_in : (c d : X) → Contains cs c → Contains cs d → is_lt (order c d) ≡ false → is_in c ≡ true → is_in d ≡ true
+  behind_in c d at_c at_d behind yes' = elim (order c d) as (λ r. order c d ≡ r → is_in d ≡ true) [
+    | Less ↦ λ e. absurd (both_ways (is_lt (order c d)) behind (ap is_lt e))
     | Equal ↦ λ e. subst (λ x. is_in x ≡ true) (strict c d at_c at_d e) yes'
     | Greater ↦ λ e. is.closed d c at_d at_c (total.antisymm d c ∙ ap ordering_reverse e) yes'
   ] refl
 
-  not_less : (r : Ordering) → is_lt r ≡ false → r ≢ Less
-  not_less r no' e = both_ways (is_lt r) no' (ap is_lt e)
-
-  is_less : (r : Ordering) → is_lt r ≡ true → r ≡ Less
-  is_less Less e = refl
-  is_less Equal e = cc
-  is_less Greater e = cc
-
   sent_fits : (c : X) → Contains cs c → is_in c ≡ true → size_through order cs size c ≤ size_in order cs size is_in
-  sent_fits c at_c yes' = sum_by-le (through c) term cs at
-    where
-      at : (d : X) → Contains cs d → through c d ≤ term d
-      at d at_d = elim (is_lt (order c d)) as (λ b. is_lt (order c d) ≡ b → cond b 0 (size d) ≤ term d) [
-        | true ↦ λ e. omega arith
-        | false ↦ λ e. let same : term d ≡ size d = ap (λ b. cond b (size d) 0) (in_set c d at_c at_d yes' (not_less (order c d) e)) in omega (arith, same)
-      ] refl
+  sent_fits c at_c yes' = sum_by-le (through c) term cs (λ d at_d. let behind = behind_in c d at_c at_d in grind (arith, nat_tests))
 
   kept_out : (c : X) → Contains cs c → is_in c ≡ false → (out : IsKeptOut order cs size is_in budget c) → size_in order cs size is_in + size out.next ≤ size_through order cs size c
-  kept_out c at_c no' out = sum_by-more term (through c) cs (size out.next) out.next out.candidate at more
-    where
-      at : (d : X) → Contains cs d → term d ≤ through c d
-      at d at_d = elim (is_in d) as (λ b. is_in d ≡ b → cond b (size d) 0 ≤ through c d) [
-        | true ↦ λ e. elim (order c d) as (λ r. order c d ≡ r → size d ≤ cond (is_lt r) 0 (size d)) [
-          | Less ↦ λ before. absurd (both_ways (is_in c) no' (is.closed c d at_c at_d before e))
-          | Equal ↦ λ tied. omega arith
-          | Greater ↦ λ behind. omega arith
-        ] refl
-        | false ↦ λ e. omega arith
-      ] refl
-
-      more : term out.next + size out.next ≤ through c out.next
-      more =
-          let none : term out.next ≡ 0 = ap (λ b. cond b (size out.next) 0) out.outside in
-          elim (order c out.next) as (λ r. order c out.next ≡ r → term out.next + size out.next ≤ cond (is_lt r) 0 (size out.next)) [
-            | Less ↦ λ e. absurd (out.no_later e)
-            | Equal ↦ λ e. omega (arith, none)
-            | Greater ↦ λ e. omega (arith, none)
-          ] refl
+  kept_out c at_c no' out = sum_by-more term (through c) cs (size out.next) out.next out.candidate
+      (λ d at_d. let before = before_in c d at_c at_d in grind (arith, nat_tests))
+      (let no_later = not_less (order c out.next) out.no_later in grind (arith, nat_tests, out.outside))
 
   -- a candidate fits where it is in the set
   fits-is : (c : X) → Contains cs c → fits order cs size budget c ≡ is_in c
@@ -82,9 +65,6 @@ module _ {X : Type 0} (order : X → X → Ordering) (total : IsTotalOrder order
     | true ↦ λ e. le-leb (size_through order cs size c) budget (omega (arith, sent_fits c at_c e, is.within))
     | false ↦ λ e. let out = is.tight c at_c e in lt-leb (size_through order cs size c) budget (omega (arith, kept_out c at_c e out, out.beyond))
   ] refl
-
-  count_fits : count_by (fits order cs size budget) cs ≡ count_by is_in cs
-  count_fits = sum_by-same (λ c. cond (fits order cs size budget c) 1 0) (λ c. cond (is_in c) 1 0) cs (λ c at_c. ap (λ b. cond b 1 0) (fits-is c at_c))
 
   -- a candidate is sent where it is in the set
   abbrev places : ℕ
@@ -95,40 +75,20 @@ module _ {X : Type 0} (order : X → X → Ordering) (total : IsTotalOrder order
 
   set_place : (c : X) → Contains cs c → is_in c ≡ true → before_count order cs c < places
   set_place c at_c yes' =
-      let more = sum_by-more (λ d. one (is_lt (order d c))) (λ d. one (fits order cs size budget d)) cs 1 c at_c at here in
+      let more = sum_by-more (λ d. one (is_lt (order d c))) (λ d. one (fits order cs size budget d)) cs 1 c at_c
+      (λ d at_d. let before = before_in d c at_d at_c in grind (arith, nat_tests, fits-is d at_d))
+      (let tied = ap is_lt (tied_itself total c) in grind (arith, nat_tests, fits-is c at_c)) in
       omega (arith, more)
-    where
-      at : (d : X) → Contains cs d → one (is_lt (order d c)) ≤ one (fits order cs size budget d)
-      at d at_d = elim (is_lt (order d c)) as (λ b. is_lt (order d c) ≡ b → one b ≤ one (fits order cs size budget d)) [
-        | true ↦ λ e. let same : one (fits order cs size budget d) ≡ 1 = ap one (fits-is d at_d ∙ is.closed d c at_d at_c (is_less (order d c) e) yes') in omega (arith, same)
-        | false ↦ λ e. omega arith
-      ] refl
-
-      here : one (is_lt (order c c)) + 1 ≤ one (fits order cs size budget c)
-      here =
-          let none : one (is_lt (order c c)) ≡ 0 = ap (λ r. one (is_lt r)) (tied_itself total c) in
-          let fit : one (fits order cs size budget c) ≡ 1 = ap one (fits-is c at_c ∙ yes') in
-          omega (arith, none, fit)
 
   place_set : (c : X) → Contains cs c → before_count order cs c < places → is_in c ≡ true
   place_set c at_c lt = elim (is_in c) as (λ b. is_in c ≡ b → b ≡ true) [
     | true ↦ λ e. refl
-    | false ↦ λ e. absurd (omega (arith, lt, sum_by-le (λ d. one (fits order cs size budget d)) (λ d. one (is_lt (order d c))) cs (at e)))
+    | false ↦ λ e. absurd (omega (
+      arith,
+      lt,
+      sum_by-le (λ d. one (fits order cs size budget d)) (λ d. one (is_lt (order d c))) cs (λ d at_d. let behind = behind_in d c at_d at_c in grind (arith, nat_tests, fits-is d at_d)),
+    ))
   ] refl
-    where
-      at : is_in c ≡ false → (d : X) → Contains cs d → one (fits order cs size budget d) ≤ one (is_lt (order d c))
-      at no' d at_d = elim (is_in d) as (λ b. is_in d ≡ b → one (fits order cs size budget d) ≤ one (is_lt (order d c))) [
-        | true ↦ λ e. elim (order d c) as (λ r. order d c ≡ r → one (fits order cs size budget d) ≤ one (is_lt r)) [
-          | Less ↦ λ before. one_at_most (fits order cs size budget d)
-          | Equal ↦ λ tied. absurd (both_ways (is_in c) no' (subst (λ x. is_in x ≡ true) (strict d c at_d at_c tied) e))
-          | Greater ↦ λ behind. absurd (both_ways (is_in c) no' (is.closed c d at_c at_d (total.antisymm c d ∙ ap ordering_reverse behind) e))
-        ] refl
-        | false ↦ λ e. let none : one (fits order cs size budget d) ≡ 0 = ap one (fits-is d at_d ∙ e) in omega (arith, none)
-      ] refl
-        where
-          one_at_most : (b : Bool) → one b ≤ 1
-          one_at_most true = omega arith
-          one_at_most false = omega arith
 
   pub sent-in_set : (c : X) → Contains (sent order cs size budget) c → Contains cs c × (is_in c ≡ true)
   sent-in_set c there = let at = Contains-first_places order total cs places c there in (at.0, place_set c at.0 at.1)
@@ -143,7 +103,7 @@ module _ {X : Type 0} (order : X → X → Ordering) (total : IsTotalOrder order
   -- what comes before a candidate that doesn't fit beside it
   pub stops_sent : (next : X) → EndsBefore order cs size is_in budget next → IsSentSet order cs size is_in budget
   stops_sent next is = record {
-    closed = λ c d at_c at_d before yes'. is.set c at_c ∙ ap is_lt (total.trans c d next before (is_less' (order d next) (sym (is.set d at_d) ∙ yes')));
+    closed = λ c d at_c at_d before yes'. is.set c at_c ∙ ap is_lt (total.trans c d next before (is_less (order d next) (sym (is.set d at_d) ∙ yes')));
     within = is.within;
     tight = λ c at_c no'. record {
       next = next;
@@ -153,11 +113,6 @@ module _ {X : Type 0} (order : X → X → Ordering) (total : IsTotalOrder order
       beyond = is.beyond;
     };
   }
-    where
-      is_less' : (r : Ordering) → is_lt r ≡ true → r ≡ Less
-      is_less' Less e = refl
-      is_less' Equal e = cc
-      is_less' Greater e = cc
 
   -- all, where they fit
   pub all_sent : HasAll order cs size is_in budget → IsSentSet order cs size is_in budget
@@ -224,14 +179,11 @@ set_sent mode rotation budget from to is_in proper in_nodes is = record {
     is_apart : Item → Item → Type 0
     is_apart i j = stands_at i.owner i.entry.key j ≡ false
 
-    table_apart : IsApart (items_of from)
-    table_apart i j d lt in_range = sym (tied-stands_at (get_or (items_of from) i d).owner (get_or (items_of from) i d).entry.key (get_or (items_of from) j d)) ∙ ap is_eq (apart-items_of from proper i j d lt in_range)
-
     held : (c : Item) → Contains cs c → Contains (items_of from) c
     held c there = (Contains-kept not_known (items_of from) c there).0
 
     filtered_apart : IsApart (filter is_in cs)
-    filtered_apart = AllPairs-filter is_apart is_in cs (AllPairs-filter is_apart not_known (items_of from) table_apart)
+    filtered_apart = AllPairs-filter is_apart is_in cs (AllPairs-filter is_apart not_known (items_of from) (table_apart from proper))
 
     same_items : IsPermutation delta.items (filter is_in cs)
     same_items = same_members delta.items (filter is_in cs) (sent_apart order total from proper cs held _) filtered_apart

@@ -1,8 +1,9 @@
 -- Where generations start in an owner's list.
 -- Serves `put_starts`, `start_of`, `told` and `version_tables`.
-use Rattle.delta_plans.proofs.Common.{◌≡◌, ℕ, zero, suc, ◌+◌, ◌-◌, ◌*◌, ◌<◌, ◌≤◌, min, Bool, true, false, cond, List, [], ◌∷◌, ◌++◌, length, get_or, set, Some, None, inl, inr, refl, sym, ap, ◌∙◌, arith, nat_lt, nat_le, ◌&&◌, cases_lt, cases_eq, lt-ltb, le-leb, eq-eqb, ne_eqb, get_or_default, get_or-set_same, get_or-set_other, length-set, length-append, Entry, DigestKind, write_from, write_numbered, OwnerListView, all_writes, entries_of, list_of_owner, no_writes, AreWrites, cell, total_of, sum_below, AreChanged, start_before, start_of, numbered-some, write_from-at}
+use Rattle.delta_plans.proofs.Common.{◌≡◌, ℕ, zero, suc, ◌+◌, ◌-◌, ◌*◌, ◌<◌, ◌≤◌, min, cond, List, [], ◌∷◌, ◌++◌, length, get_or, set, Some, None, inl, inr, sym, ap, ◌∙◌, arith, nat_tests, nat_lt, nat_le, ◌&&◌, cases_eq, get_or_default, get_or-set_same, get_or-set_other, length-set, length-append, Entry, DigestKind, write_from, write_numbered, OwnerListView, all_writes, entries_of, list_of_owner, no_writes, AreWrites, cell, total_of, sum_below, AreChanged, start_before, start_of, numbered-some, write_from-at}
 use Rattle.delta_plans.specs.Offers.{told_by, told_number}
 use Rattle.delta_plans.specs.Told.{IsKnown}
+use Rattle.delta_plans.proofs.WeightLaws.{sum_below-each_none}
 
 -- an owner's writes are those of its list
 pub list-here : (lists : List OwnerListView) (owner : ℕ) (x : OwnerListView) → owner < length lists → x ≡ get_or lists owner x → list_of_owner lists owner ≡ x
@@ -39,35 +40,15 @@ start-own v (suc place) are lt le =
 
 -- so the lower of number and base is the start of a write that is of no earlier generation
 pub start-lower : (most : ℕ) (v : OwnerListView) (x base y : ℕ) → IsKnown most v x base → (0 < x → x ≤ base → ⊥) → y ≡ min x base → y ≡ start_of (entries_of v) x
-start-lower most v x base y known own lower = elim (cases_lt base x) [
-  | inl behind ↦ omega (arith, lower, behind, known.based, start-own v x known.writes (omega (arith, behind, known.based)) known.within)
-  | inr upto ↦ elim (cases_lt 0 x) [
-    | inl some ↦ absurd (own some (omega (arith, upto)))
-    | inr not_some ↦ omega (arith, lower, not_some, start-upto (entries_of v) x)
-  ]
-]
-
--- where nothing is counted, no test is passed
-sum-zero : (n : ℕ) (f : ℕ → ℕ) → sum_below n f ≤ 0 → (r : ℕ) → r < n → f r ≤ 0
-sum-zero zero f none r lt = absurd (omega (arith, lt))
-sum-zero (suc n) f none r lt = elim (cases_eq r n) [
-  | inl last ↦ omega (arith, none, ap f last)
-  | inr other ↦ sum-zero n f (omega (arith, none)) r (omega (arith, lt, other))
-]
-
-not_counted : (b : Bool) → cond b 1 0 ≤ 0 → b ≡ false
-not_counted true some = absurd (omega (arith, some))
-not_counted false none = refl
+start-lower most v x base y known own lower =
+    let behind : base < x → start_of (entries_of v) x ≡ base = λ lt. start-own v x known.writes (omega (arith, lt, known.based)) known.within ∙ sym known.based in
+    grind (arith, lower, own, behind, start-upto (entries_of v) x)
 
 pub none-upto : (xs : List ℕ) (nodes : ℕ) (high : ℕ → ℕ) → total_of nodes 1 (λ r k. nat_lt 0 (cell xs nodes r k) && nat_le (cell xs nodes r k) (high r)) ≤ 0 → (r : ℕ) → r < nodes → 0 < get_or xs r 0 → get_or xs r 0 ≤ high r → ⊥
 none-upto xs nodes high none r lt some upto =
     let here : get_or xs (0 * nodes + r) 0 ≡ get_or xs r 0 = ap (λ i. get_or xs i 0) {x = 0 * nodes + r} {y = r} (omega arith) in
-    let one = sum-zero nodes (λ owner. sum_below 1 (λ k. cond (nat_lt 0 (cell xs nodes owner k) && nat_le (cell xs nodes owner k) (high owner)) 1 0)) none r lt in
-    let failed : (nat_lt 0 (cell xs nodes r 0) && nat_le (cell xs nodes r 0) (high r)) ≡ false = not_counted _ (omega (arith, one)) in
-    both (λ i. (lt-ltb 0 (get_or xs (0 * nodes + r) 0) (omega (arith, some, here)) i) && (le-leb (get_or xs (0 * nodes + r) 0) (high r) (omega (arith, upto, here)) i)) failed
-  where
-    both : {b : Bool} → b ≡ true → b ≡ false → ⊥
-    both t f = cc
+    let one = sum_below-each_none nodes (λ owner. sum_below 1 (λ k. cond (nat_lt 0 (cell xs nodes owner k) && nat_le (cell xs nodes owner k) (high owner)) 1 0)) (omega (arith, none)) r lt in
+    grind (arith, nat_tests)
 
 -- the receiver's own mark is put
 pub told-set : (kind : DigestKind) (most node : ℕ) (lists : ℕ → List Entry) (old new : List ℕ) → AreChanged (λ r x y. y ≡ told_by kind (lists r) x) old new → node < length old
@@ -76,12 +57,8 @@ told-set kind most node lists old new is lt = record {
   size = length-set new node most ∙ is.size;
   each = λ r below. elim (cases_eq r node) [
     | inl own ↦
-        ap (λ k. get_or (set new node most) k 0) own
-        ∙ get_or-set_same new node most 0 (omega (arith, lt, is.size))
-        ∙ sym (ap (λ b. cond b most (told_by kind (lists r) (get_or old r 0))) (eq-eqb r node own))
-    | inr other ↦
-        get_or-set_other new node r most 0 other
-        ∙ is.each r below
-        ∙ sym (ap (λ b. cond b most (told_by kind (lists r) (get_or old r 0))) (ne_eqb r node other))
+        let here = ap (λ k. get_or (set new node most) k 0) own ∙ get_or-set_same new node most 0 (omega (arith, lt, is.size)) in
+        grind (arith, nat_tests)
+    | inr other ↦ let there = get_or-set_other new node r most 0 other ∙ is.each r below in grind (arith, nat_tests)
   ];
 }

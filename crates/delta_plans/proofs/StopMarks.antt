@@ -7,7 +7,7 @@ use Rattle.delta_plans.specs.Firsts.{item_number, comes_first}
 use Rattle.delta_plans.specs.LevelMarks.{first_sent, lets_through, AreLevelMarks, StopAt}
 use Rattle.delta_plans.proofs.LevelMarks.{version_cmp-first}
 use Rattle.delta_plans.proofs.CandidateNumbers.{candidate-below, one_item, older}
-use Rattle.delta_plans.proofs.Firsts.{age_cmp, first-cases, first-not, first-same, version-first, version-last, lets-before, lets-behind}
+use Rattle.delta_plans.proofs.Firsts.{age_cmp, own-order, version-first, version-last}
 
 then_greater : (a b : Ordering) → b ≡ Greater → is_lt (ordering_then a b) ≡ is_lt a
 then_greater Less b is = refl
@@ -76,21 +76,11 @@ module _ (mode : Mode) (from to : Table) (proper : IsProper from) (lists : ℕ �
     by_version o is = λ i. ordering_then (same_turn i) (ordering_then (is i) (nat_cmp c.entry.key next.entry.key))
 
     order-own : comes_first first m n ≡ is_lt (order c)
-    order-own = elim (first-cases first m n) [
-      | inl before ↦
-          before
-          ∙ sym (lets-before first (far c.owner) m n before (far_lets c.owner owners))
-          ∙ by_far c in_c (by_version Less (version-first m n c.entry.version next.entry.version rise fall first before))
-      | inr not_before ↦ elim not_before [
-        | inl after ↦
-            first-not first m n after
-            ∙ sym (lets-behind first (near c.owner) m n after (near_stops c.owner owners))
-            ∙ by_near c in_c (by_version Greater (version-last m n c.entry.version next.entry.version rise fall first after))
-        | inr same ↦
-            first-same first m n same
-            ∙ sym (ap is_lt (ap (sending_order mode from.nodes rotation cs c) (sym (one_item mode from to proper lists histories cells low offers c next in_c in_next owners same)) ∙ tied_itself (sending_order-total mode from.nodes rotation cs) c))
-      ]
-    ]
+    order-own =
+        own-order first (near c.owner) (far c.owner) m n (is_lt (order c)) (near_stops c.owner owners) (far_lets c.owner owners)
+        (λ before. by_far c in_c (by_version Less (version-first m n c.entry.version next.entry.version rise fall first before)))
+        (λ after. by_near c in_c (by_version Greater (version-last m n c.entry.version next.entry.version rise fall first after)))
+        (λ same. ap is_lt (ap (sending_order mode from.nodes rotation cs c) (sym (one_item mode from to proper lists histories cells low offers c next in_c in_next owners same)) ∙ tied_itself (sending_order-total mode from.nodes rotation cs) c))
 
   pub marks-stop : (mark : ℕ → ℕ) → StopAt first from.nodes rotation cs cells next near far mark → (c : Item) → Contains cs c → lets_through first (mark c.owner) (item_number cells c) ≡ is_lt (order c)
   marks-stop mark stops c in_c = elim (cases_eq c.owner next.owner) [

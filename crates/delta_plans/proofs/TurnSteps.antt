@@ -5,13 +5,13 @@ use Rattle.delta_plans.specs.declared.marked.First.{First}
 use Rattle.delta_plans.specs.declared.marked.First.TheVariants.{Oldest, Newest}
 use Rattle.delta_plans.specs.declared.offers.Offer.{Offer}
 use Rattle.delta_plans.specs.declared.sharing.Turns.{Turns}
-use Rattle.delta_plans.specs.Firsts.{by_first}
+use Rattle.delta_plans.specs.Firsts.{by_first, comes_first}
 use Rattle.delta_plans.specs.OfferInMemory.{cells_in, low_in, high_in, marks, weights_in, IsOffer}
 use Rattle.delta_plans.specs.Plans.{weight_on, count_on, AreFarther}
 use Rattle.delta_plans.specs.LevelMarks.{lets_through}
 use Rattle.delta_plans.specs.Sharing.{AreShared}
-use Rattle.delta_plans.specs.Stops.{IsOn, IsStopFrom}
-use Rattle.delta_plans.specs.Turns.{part_weight, AreTurns, AreTurnsPassed, HasTurn, IsStop}
+use Rattle.delta_plans.specs.Stops.{IsNext, IsOn, IsStopFrom}
+use Rattle.delta_plans.specs.Turns.{part_weight, AreTurns, AreTurnsPassed, HasTurn}
 use Rattle.delta_plans.specs.Weights.{weight_of, weight_from, weight_through, one_each}
 use Rattle.delta_plans.proofs.Columns.{sum_below-changed}
 use Rattle.delta_plans.proofs.WeightLaws.{part, weight_of-split, weight_of-same, weight_of-most, number_share-one}
@@ -25,30 +25,15 @@ split-covered weight cells keys owner low mark high le covered =
     ∙ sum_below-plus keys _ _
 
 -- where an owner's part stops
-pub stop-at : {weight : ℕ → ℕ} {cells : Cells} {keys owner near far room mark sent : ℕ} (first : First) → IsStopFrom first weight cells keys owner near far room mark sent
-    → IsStop first weight cells keys owner near far room mark sent
-stop-at {weight} Oldest up = record {
-  key = up.next.key;
-  in_keys = up.next.in_keys;
-  outside = grind (arith, nat_tests, up.next.is, up.next.above, up.on);
-  inside = grind (arith, nat_tests, up.next.is, up.next.upto);
-  own = λ k lt. grind (arith, nat_tests, up.next.is, up.next.above, up.next.nearest k lt);
-  between = (up.on, omega (arith, up.next.above, up.next.upto));
-  within = up.within;
-  beyond = omega (arith, up.beyond, ap weight up.next.is);
-  count = up.count;
-}
-stop-at {weight} Newest down = record {
-  key = down.next.key;
-  in_keys = down.next.in_keys;
-  outside = grind (arith, nat_tests, down.next.is, down.next.upto, down.on);
-  inside = grind (arith, nat_tests, down.next.is, down.next.above);
-  own = λ k lt. grind (arith, nat_tests, down.next.is, down.next.upto, down.next.nearest k lt);
-  between = (down.on, omega (arith, down.next.above, down.next.upto));
-  within = down.within;
-  beyond = omega (arith, down.beyond, ap weight down.next.is);
-  count = down.count;
-}
+abbrev IsStopTold : First → Cells → ℕ → ℕ → ℕ → ℕ → ℕ → ℕ → Type 0
+IsStopTold first cells keys owner near mark far next =
+    (lets_through first near next ≡ false) × (lets_through first far next ≡ true)
+    × ((k : ℕ) → k < keys → lets_through first mark (cells owner k) ≡ comes_first first (cells owner k) next) × IsOn first mark far
+
+module _ {cells : Cells} {keys owner mark far next : ℕ} where
+  stop-tells : (first : First) (near : ℕ) → IsNext first cells keys owner mark far next → IsOn first near mark → IsStopTold first cells keys owner near mark far next
+  stop-tells Oldest near is on = (grind (arith, nat_tests, is.above, on), grind (arith, nat_tests, is.upto), (λ k lt. grind (arith, nat_tests, is.above, is.nearest k lt)), omega (arith, is.above, is.upto))
+  stop-tells Newest near is on = (grind (arith, nat_tests, is.upto, on), grind (arith, nat_tests, is.above), (λ k lt. grind (arith, nat_tests, is.upto, is.nearest k lt)), omega (arith, is.above, is.upto))
 
 module _ (weights : ℕ → ℕ → ℕ) (cells : Cells) (nodes keys : ℕ) (low high : ℕ → ℕ) (mark next : ℕ → ℕ) where
   -- marks that are the same for each owner
@@ -142,19 +127,19 @@ module _ {N : Type 0} {number : N → ℕ} {most : ℕ} {turns : Turns N} (are :
           part-to weight = ap (weight_from turns.first weight (cells_in number offer) offer.keys owner (near owner)) to_far
 
       -- or it stops at a number
-      pub turns-shared : {stop_sent : ℕ} → IsStop turns.first (weights_in offer owner) (cells_in number offer) offer.keys owner (near owner) (far owner) left to stop_sent
+      pub turns-shared : {stop_sent : ℕ} → IsStopFrom turns.first (weights_in offer owner) (cells_in number offer) offer.keys owner (near owner) (far owner) left to stop_sent
           → AreShared turns.first turns.rotation number offer near far next (sent + stop_sent)
       turns-shared {stop_sent} stop = record {
         owner = owner;
-        key = stop.key;
+        key = stop.next.key;
         owner_below = in_nodes;
-        key_below = stop.in_keys;
-        offered = offered-by turns.first (low owner) (near owner) (far owner) (cells_in number offer owner stop.key) level stop.outside stop.inside;
-        outside = stop.outside;
-        inside = stop.inside;
+        key_below = stop.next.in_keys;
+        offered = offered-by turns.first (low owner) (near owner) (far owner) (cells_in number offer owner stop.next.key) level outside inside;
+        outside = outside;
+        inside = inside;
         passed = λ r lt before. others r lt (λ same. omega (arith, before, ap (rotated offer.nodes turns.rotation) same)) ∙ so_far.passed r lt (omega (arith, before, its));
         waiting = λ r lt later. others r lt (λ same. omega (arith, later, ap (rotated offer.nodes turns.rotation) same)) ∙ so_far.waiting r lt (omega (arith, later, its));
-        own = λ k lt _. ap (λ m. lets_through turns.first m (cells_in number offer owner k)) here ∙ stop.own k lt;
+        own = λ k lt _. ap (λ m. lets_through turns.first m (cells_in number offer owner k)) here ∙ tells.2 k lt ∙ ap (comes_first turns.first (cells_in number offer owner k)) (sym stop.next.is);
         above = λ r lt. elim (cases_eq r owner) [
           | inl same ↦ omega (arith, ap low same, ap next same, here, above)
           | inr other ↦ elim (cases_lt (rotated offer.nodes turns.rotation r) turn) [
@@ -164,17 +149,26 @@ module _ {N : Type 0} {number : N → ℕ} {most : ℕ} {turns : Turns N} (are :
         ];
         count = omega (arith, so_far.count, stop.count, grown ordered one_each);
         within = omega (arith, so_far.left, stop.within, grown ordered (weights_in offer));
-        beyond = omega (arith, so_far.left, stop.beyond, grown ordered (weights_in offer));
+        beyond = omega (arith, so_far.left, stop.beyond, grown ordered (weights_in offer), ap (weights_in offer owner) stop.next.is);
       }
         where
           level : AreFarther turns.first (low owner) (near owner) (far owner)
           level = are.level.farther owner in_nodes
 
+          tells : IsStopTold turns.first (cells_in number offer) offer.keys owner (near owner) to (far owner) stop.number
+          tells = stop-tells turns.first (near owner) stop.next stop.on
+
+          outside : lets_through turns.first (near owner) (cells_in number offer owner stop.next.key) ≡ false
+          outside = ap (lets_through turns.first (near owner)) stop.next.is ∙ tells.0
+
+          inside : lets_through turns.first (far owner) (cells_in number offer owner stop.next.key) ≡ true
+          inside = ap (lets_through turns.first (far owner)) stop.next.is ∙ tells.1
+
           above : low owner ≤ to
-          above = above-low turns.first (low owner) (near owner) (far owner) to level stop.between.0 stop.between.1
+          above = above-low turns.first (low owner) (near owner) (far owner) to level stop.on tells.3
 
           ordered : AreFarther turns.first (low owner) (near owner) to
-          ordered = (level.0, above, stop.between.0)
+          ordered = (level.0, above, stop.on)
 
 module _ {N : Type 0} {number : N → ℕ} {most : ℕ} {turns : Turns N} {owner : ℕ} (has : HasTurn number most turns owner) where
   abbrev first-mark : ℕ

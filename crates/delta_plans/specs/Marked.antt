@@ -18,15 +18,10 @@ HasShapeIn mode number offer near far =
     HasShape mode (all_writes offer.lists.now) (cells_in number offer) offer.nodes offer.keys
     (low_in number offer) near far
 
--- of a level in memory
-abbrev pub HasShapeOf : {N : Type 0} → Mode → (N → ℕ) → Offer N → Level N → Type 0
-HasShapeOf mode number offer level =
-    HasShapeIn mode number offer (marks number level.near.items) (marks number level.far.items)
-
 -- a level as a mode has it
 pub record IsLevelOf {N : Type 0} (mode : Mode) (number : N → ℕ) (offer : Offer N) (level : Level N) : Type 0 where
   pub is_level : IsLevel (first_sent mode) number offer level
-  pub shape : HasShapeOf mode number offer level
+  pub shape : HasShapeIn mode number offer (marks number level.near.items) (marks number level.far.items)
 
 -- marks that let all through, which fits
 pub record LetAll {N : Type 0} (first : First) (number : N → ℕ) (offer : Offer N) (mark : ℕ → ℕ) : Type 0 where

@@ -34,7 +34,8 @@ abbrev pub round_mark : First → ℕ → List ℕ → ℕ → (ℕ → ℕ) →
 round_mark first rounds ends nodes low count owner = end_mark ends nodes low (round_at first rounds count) owner
 
 -- an offer that is too large, where its rounds end, and how many numbers it has
-pub record IsAsked {N : Type 0} (number : N → ℕ) (most : ℕ) (offer : Offer N) (ends : Ends N) (found : ℕ) : Type 0 where
+pub record IsAsked {N : Type 0} (number : N → ℕ) (most : ℕ) (offer : Offer N) (ends : Ends N)
+    (found : ℕ) : Type 0 where
   pub too_large : IsTooLarge number most offer
   pub are_ends_of : AreEndsOf number offer ends
   pub counted : IsCountOffered number offer found
@@ -50,7 +51,8 @@ pub record AreRaised {N : Type 0} (number : N → ℕ) (offer : Offer N) (mark :
 -- what such marks let through
 pub record IsFound {N : Type 0} (number : N → ℕ) (rounds : Rounds N) (mark : List N) (found : Found) : Type 0 where
   pub count : found.count ≡ count_on rounds.first number rounds.offer.now (marks number mark)
-  pub fits : IsTrue found.fits ↔ (weight_on rounds.first number rounds.offer.now (marks number mark) ≤ amount_of rounds.offer.now.budget)
+  pub fits : IsTrue found.fits
+      ↔ (weight_on rounds.first number rounds.offer.now (marks number mark) ≤ amount_of rounds.offer.now.budget)
 
 -- the marks of so many rounds of it
 abbrev pub mark_of_rounds : {N : Type 0} → (N → ℕ) → Rounds N → ℕ → ℕ → ℕ
@@ -67,8 +69,10 @@ pub record AreFewAndEnough {N : Type 0} (number : N → ℕ) (rounds : Rounds N)
   pub below : few < enough
   pub bound : enough ≤ rounds.ends.rounds
   pub counted : whole ≡ count_on rounds.first number rounds.offer.now (mark_of_rounds number rounds few)
-  pub within : weight_on rounds.first number rounds.offer.now (mark_of_rounds number rounds few) ≤ amount_of rounds.offer.now.budget
-  pub beyond : amount_of rounds.offer.now.budget < weight_on rounds.first number rounds.offer.now (mark_of_rounds number rounds enough)
+  pub within : weight_on rounds.first number rounds.offer.now (mark_of_rounds number rounds few)
+      ≤ amount_of rounds.offer.now.budget
+  pub beyond : amount_of rounds.offer.now.budget
+      < weight_on rounds.first number rounds.offer.now (mark_of_rounds number rounds enough)
 
 -- the level that they end at
 pub record IsLevelOfRounds {N : Type 0} (number : N → ℕ) (rounds : Rounds N) (level : Level N) : Type 0 where

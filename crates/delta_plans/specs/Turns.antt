@@ -1,17 +1,13 @@
 -- The owners' turns in a level, from the rotation on. Source: this project.
-use Rattle.std.specs.Prelude.{◌≡◌, ◌⊎◌, ℕ, ◌+◌, ◌<◌, ◌≤◌, List, length, map, true, false}
-use Rattle.delta_plans.specs.declared.marked.First.{First}
+use Rattle.std.specs.Prelude.{◌≡◌, ◌⊎◌, ℕ, ◌+◌, ◌<◌, ◌≤◌, List, length, map}
 use Rattle.bench_types.specs.Budget.{amount_of}
-use Rattle.planes.specs.Planes.{Cells, HasEach}
+use Rattle.planes.specs.Planes.{HasEach}
 use Rattle.model.specs.Order.{rotated}
 use Rattle.delta_plans.specs.declared.sharing.Passed.{Passed}
 use Rattle.delta_plans.specs.declared.sharing.Turns.{Turns}
-use Rattle.delta_plans.specs.Firsts.{comes_first}
 use Rattle.delta_plans.specs.OfferInMemory.{cells_in, marks, weights_in, IsOffer}
 use Rattle.delta_plans.specs.Plans.{weight_on, count_on, IsLevel}
-use Rattle.delta_plans.specs.LevelMarks.{lets_through}
 use Rattle.delta_plans.specs.Sharing.{AreShared}
-use Rattle.delta_plans.specs.Stops.{IsOn}
 use Rattle.delta_plans.specs.Weights.{weight_from}
 
 -- a level that doesn't fit, of an offer, that is shared out in turn from a rotation on
@@ -59,17 +55,3 @@ pub record ArePassedBy {N : Type 0} (number : N → ℕ) (turns : Turns N) (mark
   pub so_far : AreTurnsPassed number turns (marks number mark)
       (rotated turns.offer.now.nodes turns.rotation passed.owner) passed.left passed.sent
   pub beyond : passed.left < part_weight number (weights_in turns.offer.now passed.owner) turns passed.owner
-
--- an owner's mark that stops at the first number of its part that doesn't fit into some room
-pub record IsStop (first : First) (weight : ℕ → ℕ) (cells : Cells)
-    (keys owner near far room mark sent : ℕ) : Type 0 where
-  pub key : ℕ
-  pub in_keys : key < keys
-  pub outside : lets_through first near (cells owner key) ≡ false
-  pub inside : lets_through first far (cells owner key) ≡ true
-  pub own : (k : ℕ) → k < keys
-      → lets_through first mark (cells owner k) ≡ comes_first first (cells owner k) (cells owner key)
-  pub between : IsOn first near mark × IsOn first mark far
-  pub within : weight_from first weight cells keys owner near mark ≤ room
-  pub beyond : room < weight_from first weight cells keys owner near mark + weight (cells owner key)
-  pub count : sent ≡ weight_from first (λ _. 1) cells keys owner near mark

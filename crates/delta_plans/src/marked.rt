@@ -1,6 +1,6 @@
 //! What is sent of an offer, as one mark for each owner.
 
-ghost use Rattle.std.specs.Prelude.{◌≡◌, ℕ, ◌<◌, ◌≤◌, length, map, IfOk, IsOkUnless};
+ghost use Rattle.std.specs.Prelude.{◌≡◌, ◌<◌, length, map, IfOk, IsOkUnless};
 ghost use Rattle.bench_types.specs.declared.faults.Fault.TheVariants.{OutOfMemory};
 ghost use Rattle.delta_plans.specs.Firsts.{by_first};
 ghost use Rattle.delta_plans.specs.LevelMarks.{first_sent};

@@ -1,8 +1,7 @@
 //! What is offered, as numbers of writes, what these weigh, and levels of them.
 
-ghost use Rattle.std.specs.Prelude.{◌≡◌, ℕ, ◌*◌, ◌<◌, ◌≤◌, ◌↔◌, IsTrue, length, if◌then◌else◌};
+ghost use Rattle.std.specs.Prelude.{◌≡◌, ◌*◌, ◌<◌, ◌≤◌, ◌↔◌, IsTrue, length, if◌then◌else◌};
 ghost use Rattle.bench_types.specs.Budget.{amount_of, largest_share, share_of};
-ghost use Rattle.bench_types.specs.declared.limits.TheConstants.{MOST_NODES, MOST_KEYS};
 ghost use Rattle.owner_writes.specs.Kept.{entry_kept};
 ghost use Rattle.delta_plans.specs.OfferInMemory.{cells_in, marks, weight_in, weights_in, AreCounted, HasMarks, HasOwner, HasPlace};
 ghost use Rattle.delta_plans.specs.Weights.{weight_of};

@@ -1,6 +1,6 @@
 //! An owner's part of a level, candidate by candidate up to the first that doesn't fit.
 
-ghost use Rattle.std.specs.Prelude.{◌≡◌, ℕ, ◌+◌, ◌-◌, ◌*◌, ◌<◌, ◌≤◌, length};
+ghost use Rattle.std.specs.Prelude.{◌+◌, ◌-◌, ◌<◌, ◌≤◌};
 ghost use Rattle.delta_plans.specs.OfferInMemory.{cells_in, weights_in};
 ghost use Rattle.delta_plans.specs.Stops.{HasNext, IsNearest, IsNext, IsPart, IsPast, IsStopFrom};
 ghost use Rattle.delta_plans.specs.Weights.{weight_from};

@@ -6,7 +6,7 @@ ghost use Rattle.bench_types.specs.declared.exchanges.DigestKind.TheVariants.{Pr
 ghost use Rattle.model.specs.calls.OwnerListView.{all_writes, entries_of};
 ghost use Rattle.planes.specs.Planes.{HasEach};
 ghost use Rattle.planes.specs.Elementwise.{AreChanged};
-ghost use Rattle.owner_writes.specs.Numbered.{start_of, IsNumberedHistory};
+ghost use Rattle.owner_writes.specs.Numbered.{start_of};
 ghost use Rattle.delta_plans.specs.Offers.{told_by, told_number};
 ghost use Rattle.delta_plans.specs.Told.{AreKnownOf, AreStarts, IsKnown};
 

@@ -36,16 +36,6 @@ loop-alloc-preserved g c =
     let next = layers-next is c.loop-alloc.invariant.so_far step layer (offer-fits is c.deref-in-loop-alloc.ensures.value c.fits.ensures c.loop-alloc-test.true) in
     record { near = c.loop-alloc.invariant.far; far = layer.count; few = layers-few is next; so_far = next }
 
-pub one_more-requires : goal.one_more-requires
-one_more-requires g c =
-    let is = c.requires.offer.is_offer in
-    record { is_offer = is; each_low = ap length (c.deref.ensures.value ∙ c.in_ok-near.ensures.items) ∙ is.low; each_high = is.high }
-
-pub one_more-requires-in-loop-alloc : goal.one_more-requires-in-loop-alloc
-one_more-requires-in-loop-alloc g c =
-    let is = c.requires.offer.is_offer in
-    record { is_offer = is; each_low = ap length c.deref-in-loop-alloc-2.ensures.value ∙ c.loop-alloc.invariant.far; each_high = is.high }
-
 pub returns-clause-level : goal.returns-clause-level
 returns-clause-level g c =
     let is = c.requires.offer.is_offer in

@@ -2,11 +2,8 @@ use Rattle.delta_plans.proofs.Common.{nat_lt, get_or, length, map, sym, ap, subs
 use Rattle.delta_plans.specs.OfferInMemory.{cells_in, marks}
 use Rattle.delta_plans.specs.Plans.{raised, IsNextMark}
 use Rattle.delta_plans.proofs.LayerSteps.{next-mark, steps-raised}
-use Rattle.delta_plans.proofs.Nodes.{count_fits, counted_none, counted_next, counted_all}
+use Rattle.delta_plans.proofs.Nodes.{count_fits, counted_next, counted_all}
 use Rattle.delta_plans.proofs.breadths.one_more.Goals as goal
-
-pub loop-r-init : goal.loop-r-init
-loop-r-init g c = counted_none _ _ g.N.Number.number c.deref_mut-all.result.now
 
 pub overflow_add-more : goal.overflow_add-more
 overflow_add-more g c =

@@ -1,5 +1,5 @@
-use Rattle.delta_plans.proofs.Common.{◌≡◌, ℕ, ◌-◌, ◌≤◌, ◌<◌, length, get_or, map, sym, ap, ◌∙◌, subst, arith, length-map, MOST_KEYS, HasEach}
-use Rattle.delta_plans.specs.OfferInMemory.{marks, owner_count_in}
+use Rattle.delta_plans.proofs.Common.{ℕ, ◌-◌, ◌≤◌, ◌<◌, length, get_or, map, sym, ap, ◌∙◌, subst, arith, length-map, MOST_KEYS}
+use Rattle.delta_plans.specs.OfferInMemory.{marks}
 use Rattle.delta_plans.specs.Plans.{AreRunsSoFar, AreNextRuns}
 use Rattle.delta_plans.proofs.OfferWeights.{asked-counted, offer-fits, offer-cut}
 use Rattle.delta_plans.proofs.RunSteps.{runs-start, runs-few, runs-next, runs-some, runs-of_level, runs-farther, counts-few}
@@ -64,19 +64,3 @@ returns-clause-level g c =
       };
       shape = runs-of_level is so_far some;
     }
-
-pub next_runs-requires : goal.next_runs-requires
-next_runs-requires g c = record {
-  is_offer = c.requires.offer.is_offer;
-  counts_are = subst (λ xs. HasEach c.args.offer.now.nodes (λ r n. n ≡ owner_count_in g.N.Number.number c.args.offer.now r) (map g.N.Number.number xs)) (sym c.deref-2.ensures.value) c.in_ok-counts.ensures.counts;
-  each_near = ap length (c.deref-3.ensures.value ∙ c.in_ok-near.ensures.items) ∙ c.requires.offer.is_offer.low;
-  few = c.greatest_of-size.ensures.few;
-}
-
-pub next_runs-requires-in-loop-alloc : goal.next_runs-requires-in-loop-alloc
-next_runs-requires-in-loop-alloc g c = record {
-  is_offer = c.requires.offer.is_offer;
-  counts_are = subst (λ xs. HasEach c.args.offer.now.nodes (λ r n. n ≡ owner_count_in g.N.Number.number c.args.offer.now r) (map g.N.Number.number xs)) (sym c.deref-in-loop-alloc-2.ensures.value) c.in_ok-counts.ensures.counts;
-  each_near = ap length c.deref-in-loop-alloc-3.ensures.value ∙ c.loop-alloc.invariant.far;
-  few = omega (arith, c.loop-alloc.invariant.short);
-}

@@ -1,10 +1,7 @@
 use Rattle.delta_plans.proofs.Common.{◌≡◌, ◌≤◌, eqb, get_or, length, map, refl, ap, ◌∙◌, arith, if◌then◌else◌, with_items, length-map, with_items_is, mul-le-mul_left, mul-le-mul_right, MOST_NODES, count_le, number-at}
-use Rattle.delta_plans.proofs.Nodes.{count_fits, counted_none, counted_next, counted_all}
+use Rattle.delta_plans.proofs.Nodes.{count_fits, counted_next, counted_all}
 use Rattle.delta_plans.proofs.RunSteps.{next-runs}
 use Rattle.delta_plans.proofs.depths.next_runs.Goals as goal
-
-pub loop-r-init : goal.loop-r-init
-loop-r-init g c = counted_none _ _ g.N.Number.number c.deref_mut-all.result.now
 
 pub overflow_add-owners : goal.overflow_add-owners
 overflow_add-owners g c =

@@ -1,8 +1,8 @@
-use Rattle.delta_plans.proofs.Common.{map, inl, inr, sym, ap, ◌∙◌, subst, arith, cases_lt, both_ways, amount_of}
+use Rattle.delta_plans.proofs.Common.{map, ap, ◌∙◌, subst}
 use Rattle.delta_plans.specs.Firsts.{by_first}
-use Rattle.delta_plans.specs.OfferInMemory.{low_in, high_in, marks, weight_in}
-use Rattle.delta_plans.specs.Plans.{IsLevel}
+use Rattle.delta_plans.specs.OfferInMemory.{marks}
 use Rattle.delta_plans.specs.Sharing.{AreShared}
+use Rattle.delta_plans.proofs.OfferWeights.{over}
 use Rattle.delta_plans.proofs.MarkedLaws.{whole-size, whole-marked, sent-found, share-marked}
 use Rattle.delta_plans.proofs.marked.planned.Goals as goal
 
@@ -35,26 +35,7 @@ returns-clause-marked g c =
 
 pub level_of-requires : goal.level_of-requires
 level_of-requires g c = record {
-  too_large = record {
-    is_offer = c.requires.offer;
-    beyond =
-        elim (cases_lt (amount_of c.args.offer.now.budget) (weight_in g.N.Number.number c.args.offer.now (low_in g.N.Number.number c.args.offer.now) (high_in g.N.Number.number c.args.offer.now))) [
-          | inl over ↦ over
-          | inr within ↦ absurd (both_ways c.fits.result c.if-fits.false (c.fits.ensures.1 (omega (arith, within))))
-        ];
-  };
+  too_large = record { is_offer = c.requires.offer; beyond = over c.fits.result _ _ c.fits.ensures c.if-fits.false };
   are_ends_of = c.requires.ends;
   counted = c.requires.found;
 }
-
-pub share-requires : goal.share-requires
-share-requires g c = record {
-  turns = record {
-    offer = c.requires.offer;
-    rotation = c.requires.rotation;
-    level = subst (λ first. IsLevel first g.N.Number.number c.args.offer.now c.in_ok-level.level) (sym c.of-first.ensures) c.in_ok-level.ensures.level.is_level;
-  };
-}
-
-pub returns-clause-size : goal.returns-clause-size
-returns-clause-size g c = c.in_ok-share.ensures.shared.size

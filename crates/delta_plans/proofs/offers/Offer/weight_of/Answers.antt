@@ -1,11 +1,8 @@
-use Rattle.delta_plans.proofs.Common.{◌≡◌, ℕ, ◌<◌, refl, sym, ap, subst, arith, nat_tests, number_next}
+use Rattle.delta_plans.proofs.Common.{◌≡◌, ℕ, sym, ap, arith, nat_tests, number_next}
 use Rattle.delta_plans.specs.OfferInMemory.{cells_in, weights_in}
 use Rattle.delta_plans.proofs.WeightLaws.{part}
 use Rattle.delta_plans.proofs.offers.Offer.weight_of.Goals as goal
 use Rattle.delta_plans.proofs.offers.Offer.weight_of.Goals.{then-is_above+then-is_upto, else-is_above, else-is_above-via-then-is_above+else-is_upto, else-is_above-via-else-is_above}
-
-pub loop-key-init : goal.loop-key-init
-loop-key-init g c = record { weight = refl; limit = omega arith }
 
 pub loop-key-preserved : goal.loop-key-preserved
 loop-key-preserved g c =
@@ -35,9 +32,3 @@ loop-key-preserved g c =
             limit = omega (arith, w.weight-is, c.loop-key.invariant.limit);
           }
     ]
-
-pub cell_of-cell-requires : goal.cell_of-cell-requires
-cell_of-cell-requires g c = record { has_owner = c.requires; in_keys = c.loop-key-test.true }
-
-pub weight_of_number-weight-requires : goal.weight_of_number-weight-requires
-weight_of_number-weight-requires g c = record { owner = subst (λ n. c.args.owner < n) (sym c.requires.is_offer.lists) c.requires.in_nodes }

@@ -29,39 +29,9 @@ loop-few-preserved g c =
       }
     ]
 
-pub mark_after-requires-clause-count : goal.mark_after-requires-clause-count
-mark_after-requires-clause-count g c = omega (arith, c.min-by.ensures, c.loop-few-test.true, c.loop-few.invariant.found.bound)
-
 pub look-found_there-requires-clause-mark : goal.look-found_there-requires-clause-mark
 look-found_there-requires-clause-mark g c =
     subst (AreRaised g.N.Number.number c.args.self.now.offer.now) (sym c.deref.ensures.value) (rounds-raised c.args.self.now c.requires (c.loop-few.few + c.min-by.result) c.in_ok-mark.mark.items c.in_ok-mark.ensures.marks)
-
-pub overflow_add-few : goal.overflow_add-few
-overflow_add-few g c = omega (arith, c.loop-few.invariant.found.below, c.loop-few.invariant.found.bound)
-
-pub overflow_add-few-in-loop-few : goal.overflow_add-few-in-loop-few
-overflow_add-few-in-loop-few g c = omega (arith, c.min-by.ensures, c.loop-few-test.true, c.loop-few.invariant.found.bound)
-
-pub overflow_add-few-then-found_there : goal.overflow_add-few-then-found_there
-overflow_add-few-then-found_there g c = omega (arith, c.min-by.ensures, c.loop-few-test.true, c.loop-few.invariant.found.bound)
-
-pub overflow_add-enough : goal.overflow_add-enough
-overflow_add-enough g c = omega (arith, c.min-by.ensures, c.loop-few-test.true, c.loop-few.invariant.found.bound)
-
-pub overflow_mul-step : goal.overflow_mul-step
-overflow_mul-step g c = omega (arith, c.min-by.ensures, c.loop-few-test.true, c.loop-few.invariant.found.bound)
-
-pub overflow_sub-enough : goal.overflow_sub-enough
-overflow_sub-enough g c = omega (arith, c.loop-few.invariant.found.below)
-
-pub loop-few-smaller : goal.loop-few-smaller
-loop-few-smaller g c =
-    let some : 0 < c.min-by.result = omega (arith, c.min-by.ensures, c.loop-few.invariant.step, c.loop-few-test.true) in
-    let less : c.loop-few.few + c.min-by.result < c.loop-few.enough = omega (arith, c.min-by.ensures, c.loop-few-test.true) in
-    elim c.if-found_there.branch [
-      | then-found_there w ↦ omega (arith, w.few-is, w.enough-is, some, less)
-      | else-found_there w ↦ omega (arith, w.few-is, w.enough-is, some, less)
-    ]
 
 pub returns-clause-few : goal.returns-clause-few
 returns-clause-few g c =

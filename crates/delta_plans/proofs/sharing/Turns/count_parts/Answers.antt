@@ -1,4 +1,4 @@
-use Rattle.delta_plans.proofs.Common.{◌≡◌, ℕ, ◌+◌, ◌-◌, ◌<◌, ◌≤◌, List, get_or, length, map, take, drop, inr, ap, subst, ◌∙◌, arith, transport, length-map, length-take-le, length-drop, put_mid, Cells, count_between, HasEach, part-here, part-written}
+use Rattle.delta_plans.proofs.Common.{◌≡◌, ℕ, ◌+◌, ◌-◌, ◌<◌, ◌≤◌, List, get_or, length, map, take, drop, inr, subst, ◌∙◌, arith, transport, length-map, length-take-le, length-drop, put_mid, Cells, count_between, HasEach, part-here, part-written}
 use Rattle.delta_plans.specs.declared.marked.First.{First}
 use Rattle.delta_plans.specs.declared.marked.First.TheVariants.{Oldest, Newest}
 use Rattle.delta_plans.specs.Firsts.{by_first}
@@ -17,18 +17,6 @@ counted number cells keys size start Newest near far xs has = has
 size-of : {N : Type 0} (first : First) (near far : List N) (n : ℕ) → length near ≡ n → length far ≡ n → length (by_first first near far) ≡ n
 size-of Oldest near far n one other = one
 size-of Newest near far n one other = other
-
-pub count_some_between-requires-clause-low : goal.count_some_between-requires-clause-low
-count_some_between-requires-clause-low g c =
-    let turns = c.args.self.now in
-    ap length (c.by_first-low.ensures ∙ (λ i. by_first turns.first (c.deref.ensures.value i) (c.deref-2.ensures.value i)))
-    ∙ size-of turns.first turns.level.now.near.items turns.level.now.far.items c.args.self.now.offer.now.nodes c.requires.turn.are.level.near c.requires.turn.are.level.far
-
-pub count_some_between-requires-clause-high : goal.count_some_between-requires-clause-high
-count_some_between-requires-clause-high g c =
-    let turns = c.args.self.now in
-    ap length (c.by_first-high.ensures ∙ (λ i. by_first turns.first (c.deref-3.ensures.value i) (c.deref-4.ensures.value i)))
-    ∙ size-of turns.first turns.level.now.far.items turns.level.now.near.items c.args.self.now.offer.now.nodes c.requires.turn.are.level.far c.requires.turn.are.level.near
 
 pub returns : goal.returns
 returns g c =

@@ -1,4 +1,4 @@
-use Rattle.delta_plans.proofs.Common.{◌<◌, length, set, sym, ap, ◌∙◌, subst, arith, length-set}
+use Rattle.delta_plans.proofs.Common.{length, set, sym, ap, ◌∙◌, subst, arith, length-set}
 use Rattle.delta_plans.specs.OfferInMemory.{cells_in, marks}
 use Rattle.delta_plans.specs.Turns.{AreTurnsPassed}
 use Rattle.delta_plans.proofs.StopSteps.{few-from}
@@ -45,21 +45,5 @@ overflow_add-sent g c =
       count_on-few turns.first number g.N.Number.most offer c.requires.turns.offer (marks number c.loop-turn.mark),
     )
 
-pub returns-then-left-weight : goal.returns-then-left-weight
-returns-then-left-weight g c = record {
-  owner = c.owner_of_turn-owner.ensures.below;
-  size = c.loop-turn.invariant.size;
-  so_far =
-      subst (λ t. AreTurnsPassed g.N.Number.number c.args.self.now (marks g.N.Number.number c.loop-turn.mark) t c.loop-turn.left c.loop-turn.sent)
-      (sym c.owner_of_turn-owner.ensures.turn) c.loop-turn.invariant.so_far;
-  beyond = subst (λ n. c.loop-turn.left < n) c.weight_of_part-weight.ensures c.if-left-weight.true;
-}
-
 pub unreachable-requires : goal.unreachable-requires
 unreachable-requires g c = turns-end c.requires.turns c.loop-turn.invariant.so_far c.loop-turn-test.false
-
-pub number_at-far-requires : goal.number_at-far-requires
-number_at-far-requires g c = subst (λ n. c.owner_of_turn-owner.result < n) (sym (ap length c.deref.ensures.value ∙ c.requires.turns.level.far)) c.owner_of_turn-owner.ensures.below
-
-pub loop-turn-smaller : goal.loop-turn-smaller
-loop-turn-smaller g c = omega (arith, c.loop-turn-test.true)

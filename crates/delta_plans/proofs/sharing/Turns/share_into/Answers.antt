@@ -1,12 +1,9 @@
 use Rattle.delta_plans.proofs.Common.{set, refl, ap, ◌∙◌, transport, arith, length-set}
 use Rattle.delta_plans.specs.OfferInMemory.{cells_in, marks, weights_in}
-use Rattle.delta_plans.specs.Turns.{IsStop}
+use Rattle.delta_plans.specs.Stops.{IsStopFrom}
 use Rattle.delta_plans.proofs.StopSteps.{few-from}
-use Rattle.delta_plans.proofs.TurnSteps.{stop-at, turns-shared, put-here, put-other, count_on-few}
+use Rattle.delta_plans.proofs.TurnSteps.{turns-shared, put-here, put-other, count_on-few}
 use Rattle.delta_plans.proofs.sharing.Turns.share_into.Goals as goal
-
-pub overflow_sub-room : goal.overflow_sub-room
-overflow_sub-room g c = omega (arith, c.amount.ensures, c.weight_of_whole.ensures, c.requires.turns.level.within)
 
 pub overflow_add-result : goal.overflow_add-result
 overflow_add-result g c =
@@ -31,8 +28,8 @@ returns g c =
     let found = c.stop_from-stop.result in
     let near = c.number_at-near.ensures ∙ ap (λ xs. marks number xs owner) c.deref.ensures.value in
     let far = c.number_at-far.ensures ∙ ap (λ xs. marks number xs owner) c.deref-2.ensures.value in
-    let stop = transport (λ i. IsStop c.args.self.now.first (weights_in offer owner) (cells_in number offer) offer.keys owner (near i) (far i) c.pass_turns-passed.result.left (number found.mark) found.sent)
-    (stop-at c.args.self.now.first c.stop_from-stop.ensures) in
+    let stop = transport (λ i. IsStopFrom c.args.self.now.first (weights_in offer owner) (cells_in number offer) offer.keys owner (near i) (far i) c.pass_turns-passed.result.left (number found.mark) found.sent)
+    c.stop_from-stop.ensures in
     record {
       size = length-set mark owner found.mark ∙ passed.size;
       shared =

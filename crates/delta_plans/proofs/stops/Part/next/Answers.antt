@@ -1,16 +1,8 @@
 use Rattle.delta_plans.proofs.Common.{rules, sym, subst}
-use Rattle.delta_plans.specs.declared.marked.First.TheVariants.{Oldest, Newest}
+use Rattle.delta_plans.specs.declared.marked.First.TheVariants.{Newest}
 use Rattle.delta_plans.specs.OfferInMemory.{cells_in}
 use Rattle.delta_plans.specs.Stops.{HasNext, IsNext}
 use Rattle.delta_plans.proofs.stops.Part.next.Goals as goal
-
-pub returns-in-Oldest : goal.returns-in-Oldest
-returns-in-Oldest g c =
-    let number = g.N.Number.number in
-    let cells = cells_in number c.args.self.now.offer.now in
-    subst (λ first. IsNext first cells c.args.self.now.offer.now.keys c.args.self.now.owner (number c.args.near) (number c.args.self.now.far) (number c.nearest.result)) (sym c.in-Oldest.is)
-    (c.nearest.ensures Oldest (number c.args.near) (λ next n nearer answer. search rules)
-    (subst (λ first. HasNext first cells c.args.self.now.offer.now.keys c.args.self.now.owner (number c.args.near) (number c.args.self.now.far)) c.in-Oldest.is c.requires.some))
 
 pub returns-in-Newest : goal.returns-in-Newest
 returns-in-Newest g c =

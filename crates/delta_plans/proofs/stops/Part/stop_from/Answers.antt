@@ -11,11 +11,6 @@ next-next-requires-clause-some g c =
 pub loop-weight-init : goal.loop-weight-init
 loop-weight-init g c = stop-first c.next-next.ensures c.weight_of_number-weight.ensures.weight c.requires.beyond
 
-pub mark_past-mark-requires : goal.mark_past-mark-requires
-mark_past-mark-requires g c =
-    let next = c.loop-weight.invariant.next in
-    record { some = omega (arith, next.above); fits = omega (arith, next.is, c.requires.part.is_offer.below c.args.self.now.owner next.key c.requires.part.in_nodes next.in_keys) }
-
 pub next-next-requires-in-loop-weight-clause-some : goal.next-next-requires-in-loop-weight-clause-some
 next-next-requires-in-loop-weight-clause-some g c =
     stop-more c.loop-weight.invariant (c.requires.part.is_offer.differ c.args.self.now.owner c.requires.part.in_nodes) (g.N.Number.number c.mark_past-mark.result) c.mark_past-mark.ensures (omega (arith, c.loop-weight-test.true))

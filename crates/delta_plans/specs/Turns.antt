@@ -32,6 +32,17 @@ abbrev pub AreKnownFor : {N : Type 0} → (N → ℕ) → ℕ → Turns N → Li
 AreKnownFor number most turns counts =
     HasEach turns.offer.now.nodes (λ r n. (n ≡ most) ⊎ (n ≡ part_weight number (λ _. 1) turns r)) (map number counts)
 
+-- so it is, and an owner's part has so many
+pub record KnowsPart {N : Type 0} (number : N → ℕ) (most : ℕ) (turns : Turns N) (known : List N)
+    (owner many : ℕ) : Type 0 where
+  pub count : many ≡ part_weight number (λ _. 1) turns owner
+  pub counts : AreKnownFor number most turns known
+
+-- the owner whose turn it is
+pub record IsOwnerOfTurn (nodes rotation place owner : ℕ) : Type 0 where
+  pub below : owner < nodes
+  pub turn : rotated nodes rotation owner ≡ place
+
 -- marks that share it out
 pub record AreSharedBy {N : Type 0} (number : N → ℕ) (turns : Turns N) (mark : List N) (sent : ℕ) : Type 0 where
   pub size : length mark ≡ turns.offer.now.nodes

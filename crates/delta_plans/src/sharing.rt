@@ -4,11 +4,10 @@
 ghost use Rattle.std.specs.Prelude.{◌≡◌, ◌+◌, ◌-◌, ◌<◌, IfOk, IsOkUnless};
 ghost use Rattle.bench_types.specs.Budget.{amount_of};
 ghost use Rattle.bench_types.specs.declared.faults.Fault.TheVariants.{OutOfMemory};
-ghost use Rattle.model.specs.Order.{rotated};
 ghost use Rattle.delta_plans.specs.Firsts.{by_first};
 ghost use Rattle.delta_plans.specs.OfferInMemory.{marks, weights_in};
 ghost use Rattle.delta_plans.specs.Plans.{weight_on};
-ghost use Rattle.delta_plans.specs.Turns.{part_weight, AreKnownFor, ArePassedBy, AreSharedBy, AreTurns, HasTurn};
+ghost use Rattle.delta_plans.specs.Turns.{part_weight, AreKnownFor, ArePassedBy, AreSharedBy, AreTurns, HasTurn, IsOwnerOfTurn, KnowsPart};
 
 use crate::marked::First;
 use crate::offers::{Level, Offer, Share, number_at};
@@ -40,8 +39,7 @@ pub(crate) struct Turns<'a, 'b, N: Number> {
 fn owner_of_turn(turn: usize, nodes: usize, rotation: usize) -> usize
     requires turn { turn < nodes }
     requires rotation { rotation < nodes }
-    ensures below { result < nodes }
-    ensures turn { rotated nodes rotation result ≡ turn }
+    ensures { IsOwnerOfTurn nodes rotation turn result }
 {
     let rest = nodes - rotation;
     if turn < rest {
@@ -99,8 +97,7 @@ impl<'a, 'b, N: Number> Turns<'a, 'b, N> {
     fn count_parts(&self, counts: &mut [N], owner: usize)
         requires turn { HasTurn N.number N.most self.now owner }
         requires counts { AreKnownFor N.number N.most self.now counts.old }
-        ensures count { marks N.number counts.new owner ≡ part_weight N.number (λ _. 1) self.now owner }
-        ensures counts { AreKnownFor N.number N.most self.now counts.new }
+        ensures { KnowsPart N.number N.most self.now counts.new owner (marks N.number counts.new owner) }
     {
         let offer = self.offer;
         let end = (owner + MANY).min(offer.nodes);
@@ -116,8 +113,7 @@ impl<'a, 'b, N: Number> Turns<'a, 'b, N> {
     fn count_of_part(&self, counts: &mut [N], owner: usize) -> u32
         requires turn { HasTurn N.number N.most self.now owner }
         requires counts { AreKnownFor N.number N.most self.now counts.old }
-        ensures count { result ≡ part_weight N.number (λ _. 1) self.now owner }
-        ensures counts { AreKnownFor N.number N.most self.now counts.new }
+        ensures { KnowsPart N.number N.most self.now counts.new owner result }
     {
         let known = number_at(counts, owner);
         if N::greatest().is_above(known) {

@@ -1,5 +1,5 @@
 -- What the answer of a comparison says, and what two numbers compare to.
--- Serves the crates above.
+-- Serves `model`.
 use Rattle.std.proofs.Common.{◌≡◌, ◌≢◌, ℕ, ◌<◌, Bool, true, false, ◌&&◌, refl, arith}
 use lib.Dec.{T}
 use Rattle.std.proofs.lemmas.Bool.{lt-ltb, le-ltb, eq-eqb, ne_eqb, both_ways}

@@ -1,4 +1,5 @@
 -- The names of other libraries that these proofs cite, passed on from one place. Declares nothing.
+-- Serves most of the crate.
 pub use Rattle.std.proofs.Common.{Bool, Fits, List, None, Option, Some, [], ap, arith, cond, drop, eqb, false, get_or, if◌then◌else◌, inl, inr, leb, length, ltb, map, max, min, nat_lt, not, refl, rules, set, slice_index, subst, suc, sym, take, true, w32, zero, ℕ, ◌*◌, ◌++◌, ◌+◌, ◌-◌, ◌<◌, ◌∙◌, ◌∷◌, ◌≡◌, ◌≢◌, ◌≤◌, ◌⊎◌}
 pub use Rattle.std.proofs.Math.Nat.{mul-le-mul_left, mul-le-mul_right}
 pub use Rattle.std.proofs.Math.Path.{transport}
@@ -18,31 +19,23 @@ pub use Rattle.std.specs.Vec.{with_items}
 pub use Rattle.std.specs.declared.cmp.Ordering.{Ordering}
 pub use Rattle.std.specs.declared.cmp.Ordering.TheVariants.{Equal, Greater, Less}
 pub use borrow.Rule.Slice.PartMut.{put_mid}
-pub use Rattle.bench_types.proofs.Comparing.{both_equal, nat_cmp-equal, nat_cmp-greater, nat_cmp-less}
-pub use Rattle.bench_types.proofs.Sums.{sum_below-le, sum_below-plus, sum_below-same}
-pub use Rattle.bench_types.specs.Budget.{amount_of, largest_share}
-pub use Rattle.bench_types.specs.Mark.{is_before, mark_of}
-pub use Rattle.bench_types.specs.Mode.{digest_kind}
-pub use Rattle.bench_types.specs.Sums.{sum_below}
-pub use Rattle.bench_types.specs.declared.entries.Entry.{Entry}
-pub use Rattle.bench_types.specs.declared.entries.Item.{Item}
-pub use Rattle.bench_types.specs.declared.exchanges.Budget.{Budget}
+pub use Rattle.bench_types.proofs.Sums.{sum_below-plus, sum_below-same}
+pub use Rattle.bench_types.specs.Budget.{largest_share}
 pub use Rattle.bench_types.specs.declared.exchanges.Budget.TheVariants.{Bytes, Entries}
-pub use Rattle.bench_types.specs.declared.exchanges.DigestKind.{DigestKind}
-pub use Rattle.bench_types.specs.declared.exchanges.Mode.{Mode}
-pub use Rattle.bench_types.specs.declared.exchanges.Mode.TheVariants.{PreciseNewest, PreciseOldest, ScuttleBreadth, ScuttleDepth}
-pub use Rattle.bench_types.specs.declared.limits.TheConstants.{MOST_ENTRY_SIZE, MOST_KEYS, MOST_NODES}
+pub use Rattle.bench_types.specs.declared.limits.TheConstants.{MOST_ENTRY_SIZE}
+pub use Rattle.model.proofs.Common.{Budget, DigestKind, Entry, Item, MOST_KEYS, MOST_NODES, Mode, PreciseNewest, PreciseOldest, ScuttleBreadth, ScuttleDepth, amount_of, both_equal, digest_kind, is_before, mark_of, nat_cmp-equal, nat_cmp-greater, nat_cmp-less, sum_below, sum_below-le}
 pub use Rattle.model.proofs.Apart.{rotated-injective, rotated-is}
 pub use Rattle.model.proofs.DeltaLaws.{sending_order-strict, sending_order-total}
 pub use Rattle.model.proofs.Items.{Contains-items_of, IsApart, apart-items_of, entry_at-items_of}
 pub use Rattle.model.proofs.Levels.{level_cmp, order-levels, version_cmp}
 pub use Rattle.model.proofs.Members.{AllPairs-append, Contains-filter, Contains-kept, same_members}
-pub use Rattle.model.proofs.Places.{Contains-first_places, before_count-places, first_places-Contains}
+pub use Rattle.model.proofs.Places.{Contains-first_places, first_places-Contains}
+pub use Rattle.model.proofs.StateDeltas.{sent_apart}
 pub use Rattle.model.proofs.TableLaws.{tied-stands_at}
 pub use Rattle.model.specs.Candidates.{candidates, known_mark}
 pub use Rattle.model.specs.Deltas.{DeltaView, delta_between, item_share}
 pub use Rattle.model.specs.Order.{owner_count, rank_among, rotated, sending_order}
-pub use Rattle.model.specs.Picks.{before_count, cut_count, first_places, fits, sent, size_through}
+pub use Rattle.model.specs.Picks.{before_count, cut_count, fits, sent, size_through}
 pub use Rattle.model.specs.Table.{IsProper, Table, entry_at, generation_held, items_of}
 pub use Rattle.model.specs.calls.Numbers.{write_from, write_numbered}
 pub use Rattle.model.specs.calls.OwnerListView.{AreWrites, OwnerListView, all_writes, entries_of, list_of_owner, no_writes}

@@ -1,5 +1,5 @@
 -- What goes first, by numbers, versions and marks.
--- Serves `StopMarks`.
+-- Serves `LevelMarks` and `StopMarks`.
 use Rattle.delta_plans.proofs.Common.{Bool, ◌≡◌, ℕ, ◌<◌, true, false, arith, nat_tests, Less, Greater, ltb-true, nat_cmp-less, nat_cmp-greater, nat_cmp, Ordering}
 use Rattle.delta_plans.specs.declared.marked.First.{First}
 use Rattle.delta_plans.specs.declared.marked.First.TheVariants.{Oldest, Newest}

@@ -1,5 +1,5 @@
 -- The items of a table are those of its places, so a sum over them is one over all places.
--- Serves `OfferSums` and `version_tables`.
+-- Serves `OfferSums`, `SentSets` and `version_tables`.
 use Rattle.delta_plans.proofs.Common.{◌≡◌, ℕ, zero, suc, ◌+◌, ◌<◌, Bool, true, false, cond, not, eqb, List, [], ◌∷◌, get_or, Option, Some, None, inl, inr, refl, sym, ap, ◌∙◌, subst, arith, nat_tests, filter, Contains, IsPermutation, ◌&&◌, sum_by, is_eq, cases_lt, eqb-true, and_parts, Contains-append_left, Contains-append_right, Contains-append_cases, sum_by-IsPermutation, sum_by-append, sum_by-cons, Entry, Item, Mode, mark_of, is_before, digest_kind, candidates, known_mark, Table, entry_at, items_of, IsProper, stands_at, IsApart, entry_at-items_of, Contains-items_of, apart-items_of, tied-stands_at, AllPairs-append, same_members, sum_below}
 use Rattle.delta_plans.specs.Grids.{item_here, column_items, grid_items, number_here, number_there, sum_over}
 

@@ -1,5 +1,6 @@
 -- What an offer's numbers take of its budget.
--- Serves the functions of `breadths`, `depths` and `offers`, `LayerSteps`, `RunSteps` and `TurnSteps`.
+-- Serves the functions of `breadths`, `depths`, `marked` and `offers`, `LayerSteps`, `RoundMarks`, `RunSteps` and
+-- `TurnSteps`.
 use Rattle.delta_plans.proofs.Common.{◌≡◌, ℕ, ◌*◌, ◌<◌, ◌≤◌, Bool, true, false, List, length, Option, Some, None, sym, subst, arith, nat_tests, ◌↔◌, mul-le-mul_right, Entry, Budget, Entries, Bytes, amount_of, MOST_NODES, MOST_KEYS, MOST_ENTRY_SIZE, write_numbered, all_writes}
 use Rattle.delta_plans.specs.declared.offers.Offer.{Offer}
 use Rattle.delta_plans.specs.OfferInMemory.{cells_in, low_in, marks, weights_in, weight_in, count_in, AreCounted, IsOffer}

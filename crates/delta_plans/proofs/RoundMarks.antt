@@ -1,5 +1,5 @@
 -- What marks at the ends of rounds let through.
--- Serves `Rounds` and `version_tables`.
+-- Serves `Rounds::few_rounds`, `Rounds::level`, `Rounds::look` and `version_tables`.
 use Rattle.delta_plans.proofs.Common.{◌≡◌, ℕ, ◌+◌, ◌-◌, ◌<◌, ◌≤◌, true, false, max, map, ltb, List, length, inl, inr, refl, sym, ap, ◌∙◌, subst, transport, arith, nat_tests, nat_lt, length-map, cases_lt, Entry, amount_of, all_writes, Cells, cell, total_of, HasNoneAbove, sum_below-same, sum_below-plus, AreMadeBy, IsRoundMark, numbered-some}
 use Rattle.delta_plans.specs.declared.marked.First.{First}
 use Rattle.delta_plans.specs.declared.marked.First.TheVariants.{Oldest, Newest}

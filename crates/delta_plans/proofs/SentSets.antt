@@ -1,6 +1,6 @@
 -- Any set of candidates that is closed downwards, fits, and lets nothing more in is what is sent.
 -- Serves `deltas_have_their_sets` and `DeltaMarks`.
-use Rattle.delta_plans.proofs.Common.{◌≡◌, ◌≢◌, ℕ, zero, suc, ◌+◌, ◌<◌, ◌≤◌, Bool, true, false, cond, not, eqb, List, [], ◌∷◌, get_or, Some, refl, sym, ap, ◌∙◌, subst, arith, nat_tests, count_by, filter, IsPermutation, Contains, ◌&&◌, sum_by, Ordering, Less, Equal, Greater, is_lt, ordering_reverse, IsTotalOrder, tied_itself, both_ways, le-leb, lt-leb, and_parts, eqb-true, get_or_default, AllPairs-filter, length_permutation, same_Some, sum_by-cons, length-filter, Item, amount_of, is_before, mark_of, digest_kind, Table, entry_at, items_of, IsProper, stands_at, IsApart, entry_at-items_of, candidates, known_mark, DeltaView, delta_between, item_share, sending_order, sending_order-total, sending_order-strict, Contains-filter, Contains-kept, same_members, before_count, first_places, size_through, fits, sent, cut_count, before_count-places, Contains-first_places, first_places-Contains}
+use Rattle.delta_plans.proofs.Common.{◌≡◌, ◌≢◌, ℕ, zero, suc, ◌+◌, ◌<◌, ◌≤◌, Bool, true, false, cond, not, eqb, List, [], ◌∷◌, refl, sym, ap, ◌∙◌, subst, arith, nat_tests, count_by, filter, IsPermutation, Contains, ◌&&◌, sum_by, Ordering, Less, Equal, Greater, is_lt, ordering_reverse, IsTotalOrder, tied_itself, both_ways, le-leb, lt-leb, AllPairs-filter, length_permutation, sum_by-cons, length-filter, Item, amount_of, is_before, mark_of, digest_kind, items_of, stands_at, IsApart, candidates, known_mark, DeltaView, delta_between, item_share, sending_order, sending_order-total, sending_order-strict, Contains-filter, Contains-kept, same_members, before_count, size_through, fits, sent, cut_count, Contains-first_places, first_places-Contains, sent_apart}
 use Rattle.delta_plans.proofs.Grids.{table_apart}
 use Rattle.delta_plans.specs.SentSets.{size_in, IsKeptOut, IsSentSet, EndsBefore, HasAll, DeltasHaveTheirSets}
 
@@ -121,32 +121,6 @@ module _ {X : Type 0} (order : X → X → Ordering) (total : IsTotalOrder order
     within = is.within;
     tight = λ c at_c no'. absurd (both_ways (is_in c) no' (is.all c at_c));
   }
-
--- what is sent of a table's items stands at different places
-sent_apart : (order : Item → Item → Ordering) (total : IsTotalOrder order) (t : Table) (proper : IsProper t) (cs : List Item) (of_table : (c : Item) → Contains cs c → Contains (items_of t) c) (n : ℕ) → IsApart (first_places order cs n)
-sent_apart order total t proper cs of_table n j k d lt in_range = elim (stands_at x.owner x.entry.key y) as (λ b. stands_at x.owner x.entry.key y ≡ b → b ≡ false) [
-  | true ↦ λ e.
-      let parts = and_parts (eqb y.owner x.owner) (eqb y.entry.key x.entry.key) e in
-      let owners = eqb-true y.owner x.owner parts.0 in
-      let keys = eqb-true y.entry.key x.entry.key parts.1 in
-      let entries : Some y.entry ≡ Some x.entry =
-      sym (entry_at-items_of t y proper (of_table y in_y)) ∙ (λ i. entry_at t (owners i) (keys i)) ∙ entry_at-items_of t x proper (of_table x in_x) in
-      let same : y ≡ x = λ i. record { owner = owners i; entry = same_Some y.entry x.entry entries i } in
-      absurd (omega (arith, before_count-places order total cs n j k d lt in_range, ap (before_count order cs) same))
-  | false ↦ λ e. refl
-] refl
-  where
-    x : Item
-    x = get_or (first_places order cs n) j d
-
-    y : Item
-    y = get_or (first_places order cs n) k d
-
-    in_x : Contains cs x
-    in_x = (Contains-first_places order total cs n x (j, omega (arith, lt, in_range), get_or_default (first_places order cs n) j x d (omega (arith, lt, in_range)))).0
-
-    in_y : Contains cs y
-    in_y = (Contains-first_places order total cs n y (k, in_range, get_or_default (first_places order cs n) k y d in_range)).0
 
 pub set_sent : DeltasHaveTheirSets
 set_sent mode rotation budget from to is_in proper in_nodes is = record {

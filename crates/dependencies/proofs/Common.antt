@@ -1,4 +1,5 @@
 -- The names of other libraries that these proofs cite, passed on from one place. Declares nothing.
+-- Serves most of the crate.
 pub use Rattle.std.proofs.Common.{All, Bool, List, None, Option, Some, [], add-one, ap, append-nil, append_assoc, arith, cond, drop, false, fold, get_or, get_or-set_other, get_or-set_same, if◌then◌else◌, inl, inr, length, length-set, map, not, refl, set, slice_get, subst, suc, sym, take, true, zero, ℕ, ◌&&◌, ◌++◌, ◌+◌, ◌-◌, ◌<◌, ◌==◌, ◌||◌, ◌∙◌, ◌∷◌, ◌≡◌, ◌≢◌, ◌≤◌, ◌⊎◌}
 pub use Rattle.std.proofs.Math.Seq.{get_or-append_seam}
 pub use Rattle.std.proofs.lemmas.Bool.{and_from, and_left, and_parts, and_right, cases_Bool, cases_eq, cases_lt, cond-false, cond-true, eq-eqb, eqb-true, false_from_ne_true, false≢true, le-ltb, lt-ltb, ne_eqb, not-true, not_from_false, or_cases, or_from, or_left, or_right}
@@ -11,9 +12,7 @@ pub use Rattle.std.proofs.lemmas.List.Sums.{fold-append, fold_more, fold_push, s
 pub use Rattle.std.proofs.lemmas.Option.{none-some, same_Some, slice_get-get_or, slice_get_cases, slice_get_within}
 pub use Rattle.std.specs.List.{filter, find, list_any, range_with_len}
 pub use Rattle.std.specs.Prelude.{count_by, flat_map, nat_eq, nat_lt}
-pub use Rattle.bench_types.specs.calls.Exchange.{IsPlanned}
-pub use Rattle.bench_types.specs.declared.exchanges.Exchange.{Exchange}
-pub use Rattle.bench_types.specs.declared.exchanges.Rules.{Rules}
+pub use Rattle.model.proofs.Common.{Exchange, IsPlanned, Rules}
 pub use Rattle.model.proofs.FoldLaws.{fold_counts_records, fold_counts_tables}
 pub use Rattle.model.specs.Exchanged.{Exchanged, exchanged}
 pub use Rattle.model.specs.Folds.{Folded, exchange_in, fold_of, tables_before}

@@ -1,6 +1,6 @@
 -- Deltas that cut nothing: each has as many entries as there are candidates, and to a copy that is a state of its owner
 -- these are the same in every mode.
--- Serves `simulation`.
+-- Serves `delta_plans` and `simulation`.
 use Rattle.model.proofs.Common.{◌≡◌, ℕ, suc, ◌<◌, Bool, true, false, cond, not, ◌&&◌, eqb, List, [], ◌∷◌, length, get_or, Some, None, refl, sym, ap, ◌∙◌, subst, inl, inr, arith, filter, IsTotalOrder, is_eq, Ordering, and_parts, eqb-true, get_or_default, AllPairs-filter, length_permutation, same_Some, Entry, Item, Mark, Budget, DigestKind, Scuttle, Precise, Mode, mark_of, mark_held, is_before, IsBefore, IsUpTo, digest_kind, before-true, before-yes, before-no, cases_before, not_both}
 use Rattle.std.specs.Prelude.{Contains}
 use Rattle.model.specs.Table.{Table, entry_at, mark_at, greatest_mark, generation_held, items_of, IsProper}
@@ -19,7 +19,7 @@ use Rattle.model.proofs.Places.{before_count-places, Contains-first_places}
 use Rattle.model.proofs.TableLaws.{tied-stands_at}
 
 -- what is sent of a table's items stands at different places
-sent_apart : (order : Item → Item → Ordering) (total : IsTotalOrder order) (t : Table) (proper : IsProper t) (cs : List Item) (of_table : (c : Item) → Contains cs c → Contains (items_of t) c) (n : ℕ) → IsApart (first_places order cs n)
+pub sent_apart : (order : Item → Item → Ordering) (total : IsTotalOrder order) (t : Table) (proper : IsProper t) (cs : List Item) (of_table : (c : Item) → Contains cs c → Contains (items_of t) c) (n : ℕ) → IsApart (first_places order cs n)
 sent_apart order total t proper cs of_table n j k d lt in_range = elim (stands_at x.owner x.entry.key y) as (λ b. stands_at x.owner x.entry.key y ≡ b → b ≡ false) [
   | true ↦ λ e.
       let parts = and_parts (eqb y.owner x.owner) (eqb y.entry.key x.entry.key) e in

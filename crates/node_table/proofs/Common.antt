@@ -1,4 +1,5 @@
 -- The names of other libraries that these proofs cite, passed on from one place. Declares nothing.
+-- Serves most of the crate.
 pub use Rattle.std.proofs.Common.{All, Bool, Err, List, None, Ok, OnErr, Option, Result, Some, [], add-one, ap, append_assoc, arith, cond, drop, eqb, false, get_or, get_or-set_other, get_or-set_same, inl, inr, length, length-append, map, max, not, refl, replicate, rules, set, subst, suc, sym, take, true, zero, ℕ, ◌&&◌, ◌*◌, ◌++◌, ◌+◌, ◌-◌, ◌/◌, ◌<◌, ◌==◌, ◌||◌, ◌∙◌, ◌∷◌, ◌≡◌, ◌≢◌, ◌≤◌, ◌⊎◌}
 pub use Rattle.std.proofs.Math.ListN.{drop_of_length-le}
 pub use Rattle.std.proofs.Math.Nat.{mul-le-mul_left, mul-le-mul_right}
@@ -26,14 +27,7 @@ pub use Rattle.std.specs.Vec.{with_items}
 pub use Rattle.std.specs.declared.cmp.Ordering.TheVariants.{Equal, Greater, Less}
 pub use borrow.Rule.Slice.PartMut.{put_mid}
 pub use lib.Seq.{paste}
-pub use Rattle.bench_types.proofs.Comparing.{nat_cmp-greater}
-pub use Rattle.bench_types.proofs.Marks.{before-no, before-yes, cases_later, later-second, second-later}
-pub use Rattle.bench_types.specs.Entry.{newer}
-pub use Rattle.bench_types.specs.Mark.{IsBefore, IsUpTo, absent, later, mark_held, mark_of}
-pub use Rattle.bench_types.specs.declared.entries.Entry.{Entry}
-pub use Rattle.bench_types.specs.declared.entries.Item.{Item}
-pub use Rattle.bench_types.specs.declared.entries.Mark.{Mark}
-pub use Rattle.bench_types.specs.declared.limits.TheConstants.{MOST_KEYS, MOST_NODES}
+pub use Rattle.model.proofs.Common.{Entry, IsBefore, IsUpTo, Item, MOST_KEYS, MOST_NODES, Mark, absent, before-no, before-yes, cases_later, later, later-second, mark_held, mark_of, nat_cmp-greater, newer, second-later}
 pub use Rattle.model.proofs.Greatest.{greatest_mark-from, greatest_mark-none, mark_at-up_to_greatest, place_less}
 pub use Rattle.model.proofs.InLists.{entry_in-none, get-held_by_lists, held_by_lists-put, len-held_by_lists}
 pub use Rattle.model.proofs.MarkLaws.{greatest_mark-taken, greatest_mark-taken_other, greatest_mark-without_others_other, greatest_mark-without_others_own}

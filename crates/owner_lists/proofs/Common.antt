@@ -1,4 +1,5 @@
 -- The names of other libraries that these proofs cite, passed on from one place. Declares nothing.
+-- Serves the functions of `lists`, `Keeping`, `Last`, `Marked` and `Rising`.
 pub use Rattle.std.proofs.Common.{All, Bool, Err, IfErr, IfOk, IfSome, List, None, Ok, Option, Result, Some, [], ap, arith, cond, drop, drop-cons, eqb, false, find, get_or, if◌then◌else◌, inl, inr, is_ok, length, length-append, ltb, map, refl, reverse, rules, set, subst, suc, sym, take, true, zero, ℕ, ◌&&◌, ◌++◌, ◌+◌, ◌-◌, ◌<◌, ◌^◌, ◌∙◌, ◌∷◌, ◌≡◌, ◌≢◌, ◌≤◌}
 pub use Rattle.std.proofs.lemmas.Bool.{cases_eq, cases_lt, eq-eqb, eqb-true, le-ltb, lt-ltb, ne_eqb}
 pub use Rattle.std.proofs.lemmas.List.{drop_all, get_or-map, get_or_append_left, get_or_default, length-drop, length-map, map-append, reverse-append, take_all}
@@ -15,12 +16,8 @@ pub use Rattle.std.specs.Ordering.{is_eq, is_lt, nat_cmp}
 pub use Rattle.std.specs.Slice.{IsGetResult}
 pub use Rattle.std.specs.declared.cmp.Ordering.TheVariants.{Equal, Greater, Less}
 pub use lib.Dec.{T}
-pub use Rattle.bench_types.proofs.Comparing.{first, less, nat_cmp-equal, nat_cmp-greater, nat_cmp-less, second}
-pub use Rattle.bench_types.proofs.Marks.{before-false, before-true, before-up_to, before-yes, up_to-before}
-pub use Rattle.bench_types.specs.Mark.{IsBefore, is_before, mark_of}
-pub use Rattle.bench_types.specs.calls.Entry.{AreNextAfter}
-pub use Rattle.bench_types.specs.declared.entries.Entry.{Entry}
-pub use Rattle.bench_types.specs.declared.entries.Mark.{Mark}
+pub use Rattle.bench_types.proofs.Marks.{before-false}
+pub use Rattle.model.proofs.Common.{AreNextAfter, Entry, IsBefore, Mark, before-true, before-up_to, before-yes, first, is_before, less, mark_of, nat_cmp-equal, nat_cmp-greater, nat_cmp-less, second, up_to-before}
 pub use Rattle.model.proofs.LastWrites.{last_write-push, same_key}
 pub use Rattle.model.specs.Writes.{write_of_entry}
 pub use Rattle.model.specs.calls.Numbers.{write_numbered}

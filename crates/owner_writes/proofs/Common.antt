@@ -7,9 +7,7 @@ pub use Rattle.std.proofs.lemmas.List.Elements.{All-append}
 pub use Rattle.std.proofs.lemmas.Option.{same_Some}
 pub use Rattle.std.specs.Prelude.{MatchOption, nat_lt}
 pub use Rattle.std.specs.Slice.{IsGetResult}
-pub use Rattle.bench_types.proofs.Marks.{before-no, before-up_to, before-yes, up_to-itself}
-pub use Rattle.bench_types.specs.Mark.{IsBefore, IsUpTo, is_before, mark_of}
-pub use Rattle.bench_types.specs.declared.entries.Entry.{Entry}
+pub use Rattle.model.proofs.Common.{Entry, IsBefore, IsUpTo, before-no, before-up_to, before-yes, is_before, mark_of, up_to-itself}
 pub use Rattle.model.specs.calls.Numbers.{write_from, write_numbered}
 pub use Rattle.model.specs.calls.OwnerListView.{AreWrites, MarksRise, OwnerListView, begun_generation, entries_of, next_entry, with_write}
 pub use Rattle.owner_writes.specs.Kept.{entry_kept}

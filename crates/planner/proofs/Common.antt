@@ -1,4 +1,5 @@
 -- The names of other libraries that these proofs cite, passed on from one place. Declares nothing.
+-- Serves the functions of `plays` and `schedules`, `Places`, `Playing`, `Stages` and `Standings`.
 pub use Rattle.std.proofs.Common.{All, Bool, List, None, Option, Some, [], ap, arith, false, fold, get_or, if◌then◌else◌, inl, inr, length, map, not, refl, replicate, set, slice_get, subst, suc, sym, take, true, zero, ℕ, ◌&&◌, ◌++◌, ◌+◌, ◌<◌, ◌==◌, ◌||◌, ◌∙◌, ◌∷◌, ◌≡◌, ◌≢◌, ◌≤◌}
 pub use Rattle.std.proofs.lemmas.Bool.{both_ways, cases_Bool, cases_eq, cases_lt, cond-true, eq-eqb, false≢true, lt-ltb, ne_eqb}
 pub use Rattle.std.proofs.lemmas.List.{append-nil, append_assoc, get_or-set_other, get_or-set_same, get_or_past, get_or_read, length-map, length-set, take_all, take_more}
@@ -10,10 +11,6 @@ pub use Rattle.std.specs.List.{cons_option, count_by, filter_map}
 pub use Rattle.std.specs.Option.{option_eq}
 pub use Rattle.std.specs.Prelude.{IsTrue, ◌↔◌}
 pub use Rattle.std.specs.Vec.Iter.{into_iter_items}
-pub use Rattle.bench_types.specs.calls.Exchange.{IsPlanned}
-pub use Rattle.bench_types.specs.declared.exchanges.Exchange.{Exchange}
-pub use Rattle.bench_types.specs.declared.exchanges.Record.{Record}
-pub use Rattle.bench_types.specs.declared.exchanges.Rules.{Rules}
 pub use Rattle.bench_types.specs.declared.faults.Fault.{Fault}
 pub use Rattle.dependencies.proofs.Histories.{finished-finish, finished-start, history_of, lawful_none, lawful_push, or_none, started-finish, started-start}
 pub use Rattle.dependencies.proofs.Lawful.{whole_in_list_order}
@@ -29,6 +26,7 @@ pub use Rattle.dependencies.specs.declared.deps.Before.{Before}
 pub use Rattle.dependencies.specs.declared.events.Event.{Event}
 pub use Rattle.dependencies.specs.declared.events.Event.TheVariants.{Finish, Start}
 pub use Rattle.dependencies.specs.inner.Slots.{in_place}
+pub use Rattle.model.proofs.Common.{Exchange, IsPlanned, Record, Rules}
 pub use Rattle.model.proofs.FoldLaws.{fold_counts_records, fold_tables}
 pub use Rattle.model.proofs.Owns.{initiator_keeps_own, responder_keeps_own}
 pub use Rattle.model.proofs.Tables.{still_table_of}

@@ -1,4 +1,5 @@
 -- The names of other libraries that these proofs cite, passed on from one place. Declares nothing.
+-- Serves most of the crate.
 pub use Rattle.std.proofs.Common.{All, Bool, IfOk, List, None, Result, Some, [], ap, arith, cond, drop, eqb, false, get_or, inl, inr, length, ltb, map, max, not, refl, rules, set, subst, suc, sym, take, tests, true, zero, ℕ, ◌&&◌, ◌*◌, ◌++◌, ◌+◌, ◌-◌, ◌<◌, ◌^◌, ◌∙◌, ◌∷◌, ◌≡◌, ◌≢◌, ◌≤◌, ◌⊎◌}
 pub use Rattle.std.proofs.Math.Nat.{mul-le-mul_right}
 pub use Rattle.std.proofs.lemmas.Bool.{and_from, and_parts, both_ways, cases_eq, cases_lt, cases_order, eq-eqb, eqb-true, le-ltb, lt-ltb, ltb-false, ltb-true, ne_eqb, not-true}
@@ -18,20 +19,10 @@ pub use Rattle.std.specs.Ordering.{is_eq, is_lt, nat_cmp, ordering_reverse, orde
 pub use Rattle.std.specs.Prelude.{Contains, IsPermutation, count_by, filter}
 pub use Rattle.std.specs.declared.cmp.Ordering.{Ordering}
 pub use Rattle.std.specs.declared.cmp.Ordering.TheVariants.{Equal, Greater, Less}
-pub use Rattle.bench_types.proofs.Comparing.{nat_cmp-equal, nat_cmp-greater, nat_cmp-less}
-pub use Rattle.bench_types.proofs.Marks.{before-false, before-no, before-true, before-yes, up_to-then}
-pub use Rattle.bench_types.specs.Budget.{amount_of}
-pub use Rattle.bench_types.specs.Mark.{IsBefore, IsUpTo, absent, is_before, mark_held, mark_of}
-pub use Rattle.bench_types.specs.Mode.{digest_kind}
-pub use Rattle.bench_types.specs.declared.entries.Entry.{Entry}
-pub use Rattle.bench_types.specs.declared.entries.Item.{Item}
-pub use Rattle.bench_types.specs.declared.entries.Mark.{Mark}
-pub use Rattle.bench_types.specs.declared.exchanges.Budget.{Budget}
+pub use Rattle.bench_types.proofs.Marks.{before-false}
 pub use Rattle.bench_types.specs.declared.exchanges.Budget.TheVariants.{Bytes, Entries}
-pub use Rattle.bench_types.specs.declared.exchanges.DigestKind.{DigestKind}
-pub use Rattle.bench_types.specs.declared.exchanges.Mode.{Mode}
-pub use Rattle.bench_types.specs.declared.exchanges.Mode.TheVariants.{PreciseNewest, PreciseOldest, ScuttleBreadth, ScuttleDepth}
 pub use Rattle.bench_types.specs.declared.faults.Fault.{Fault}
+pub use Rattle.model.proofs.Common.{Budget, DigestKind, Entry, IsBefore, IsUpTo, Item, Mark, Mode, PreciseNewest, PreciseOldest, ScuttleBreadth, ScuttleDepth, absent, amount_of, before-no, before-true, before-yes, digest_kind, is_before, mark_held, mark_of, nat_cmp-equal, nat_cmp-greater, nat_cmp-less, up_to-then}
 pub use Rattle.model.proofs.Apart.{rotated-is}
 pub use Rattle.model.proofs.Counts.{count_by-cons_false, count_by-cons_true, filter-stretch}
 pub use Rattle.model.proofs.Fitting.{fitting-append, fitting-zero, left_after-append, length-fitting-le, sum-fitting}

@@ -1,4 +1,5 @@
 -- The names of other libraries that these proofs cite, passed on from one place. Declares nothing.
+-- Serves most of the crate.
 pub use Rattle.std.proofs.Common.{All, AllPairs, Bool, Bor, Contains, List, MatchResult, Option, Result, Some, [], ap, append-nil, arith, cond, count_by, drop, false, filter, find, get_or, if◌then◌else◌, inl, inr, is_ok, length, length-append, length-drop, map, not, option_map, refl, replicate, reverse, rules, slice_index, slice_set, subst, suc, sym, take, tests, true, unwrap_or, zero, ℕ, ◌%◌, ◌&&◌, ◌*◌, ◌++◌, ◌+◌, ◌-◌, ◌<◌, ◌==◌, ◌^◌, ◌||◌, ◌∙◌, ◌∷◌, ◌≡◌, ◌≢◌, ◌≤◌}
 pub use Rattle.std.proofs.Math.ListN.{get_or-append, length-set}
 pub use Rattle.std.proofs.Math.Nat.{add-mod_right, mod-eq_of_lt, mod-lt}
@@ -20,15 +21,9 @@ pub use Rattle.std.specs.List.{AllZip, list_any, range_with_len}
 pub use Rattle.std.specs.List.Sorted.{IsBinarySearchResult, IsStrictlyIncreasing}
 pub use Rattle.std.specs.Ordering.{nat_cmp}
 pub use Rattle.std.specs.Prelude.{Err, Ok, nat_lt}
-pub use mathlib.Core.Bool.{beq, xor}
-pub use Rattle.bench_types.specs.Entry.{next_version}
-pub use Rattle.bench_types.specs.Mark.{is_before, mark_of}
-pub use Rattle.bench_types.specs.calls.Entry.{AreNextAfter, IsNextAfter}
-pub use Rattle.bench_types.specs.calls.Exchange.{IsPlanned}
-pub use Rattle.bench_types.specs.declared.entries.Entry.{Entry}
-pub use Rattle.bench_types.specs.declared.entries.Mark.{Mark}
-pub use Rattle.bench_types.specs.declared.exchanges.Exchange.{Exchange}
+pub use mathlib.Core.Bool.{beq}
 pub use Rattle.bench_types.specs.declared.limits.TheConstants.{MOST_ROUNDS, MOST_WRITES}
+pub use Rattle.model.proofs.Common.{AreNextAfter, Entry, Exchange, IsNextAfter, IsPlanned, Mark, is_before, mark_of, next_version}
 pub use Rattle.model.specs.RoundLists.{round_list_view}
 pub use Rattle.rand_chacha.specs.ChaCha.{ChaCha, key_of, next_word, word_at}
 pub use Rattle.rayon.proofs.ListFacts.{AllZip-weaken, IfOk-then}

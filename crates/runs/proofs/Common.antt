@@ -1,10 +1,10 @@
 -- The names of other libraries that these proofs cite, passed on from one place. Declares nothing.
-pub use Rattle.std.proofs.Common.{All, Bool, Err, IfErr, IfOk, IfSome, List, None, Ok, Option, Result, Some, [], add-one, ap, append_assoc, arith, cond, drop, drop-cons, false, find, get_or, inl, inr, length, length-append, option_map, refl, reverse, subst, suc, sym, take, take-append-drop, true, unwrap_or, zero, ℕ, ◌*◌, ◌++◌, ◌+◌, ◌-◌, ◌<◌, ◌∙◌, ◌∷◌, ◌≡◌, ◌≢◌, ◌≤◌}
+-- Serves most of the crate.
+pub use Rattle.std.proofs.Common.{All, Bool, Err, IfErr, IfOk, IfSome, List, None, Ok, Option, Result, Some, [], add-one, ap, append_assoc, arith, cond, drop, drop-cons, false, get_or, inl, inr, length, length-append, refl, subst, suc, sym, take, take-append-drop, true, zero, ℕ, ◌*◌, ◌++◌, ◌+◌, ◌-◌, ◌<◌, ◌∙◌, ◌∷◌, ◌≡◌, ◌≢◌, ◌≤◌}
 pub use Rattle.std.proofs.KnownBytes.{Appends-nil, Appends-trans, Consumes-trans}
-pub use Rattle.std.proofs.lemmas.Bool.{cases_lt, cond_both}
+pub use Rattle.std.proofs.lemmas.Bool.{cases_lt}
 pub use Rattle.std.proofs.lemmas.Grind.{flat_map-append}
-pub use Rattle.std.proofs.lemmas.List.{append-nil, get_or-reverse, get_or_default, length-reverse, length-take, length-take-le, map-id, take_more}
-pub use Rattle.std.proofs.lemmas.List.Elements.{All-tail}
+pub use Rattle.std.proofs.lemmas.List.{append-nil, get_or_default, length-take, length-take-le, map-id, take_more}
 pub use Rattle.std.proofs.lemmas.List.FromFn.{map-range_with_len_more}
 pub use Rattle.std.proofs.lemmas.Option.{same_Some}
 pub use Rattle.std.proofs.lemmas.Result.{IfErr-weaker, on_ok_weaker}
@@ -13,11 +13,10 @@ pub use Rattle.std.specs.List.{range_with_len}
 pub use Rattle.std.specs.Prelude.{Contains, IsErrAnd, IsSomeAnd, OnOk}
 pub use Rattle.bench_types.specs.Mode.{modes}
 pub use Rattle.bench_types.specs.Output.{IsWriteFault, IsWritten}
-pub use Rattle.bench_types.specs.declared.entries.Entry.{Entry}
-pub use Rattle.bench_types.specs.declared.exchanges.Mode.{Mode}
 pub use Rattle.bench_types.specs.declared.faults.Fault.{Fault}
 pub use Rattle.bench_types.specs.declared.faults.Fault.TheVariants.{OutOfMemory, WriteFailed}
 pub use Rattle.bench_types.specs.declared.limits.TheConstants.{MOST_BYTES, MOST_WRITES}
+pub use Rattle.model.proofs.Common.{Entry, Mode}
 pub use Rattle.model.specs.Runs.{IsFaultOfWorkers}
 pub use Rattle.model.specs.Table.{Table}
 pub use Rattle.model.specs.calls.Numbers.{write_from, write_numbered}
@@ -27,7 +26,7 @@ pub use Rattle.report.specs.Trace.{trace_header_line, trace_lines}
 pub use Rattle.round_plan.proofs.Growth.{length-own_writes, writes_in_at_most, writes_in_le}
 pub use Rattle.round_plan.proofs.Written.{apart-written_upto}
 pub use Rattle.round_plan.specs.Outages.{is_up}
-pub use Rattle.round_plan.specs.Writes.{count_before, covers, own_writes, writes_in, written_upto}
+pub use Rattle.round_plan.specs.Writes.{count_before, own_writes, writes_in, written_upto}
 pub use Rattle.scenario.specs.CheckFault.{IsFaultOfCheck}
 pub use Rattle.scenario.specs.Order.{Says, document_of, first_fault}
 pub use Rattle.scenario.specs.Settings.{IsLawfulScenario, Settings, with_mode}

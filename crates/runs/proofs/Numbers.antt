@@ -1,5 +1,5 @@
 -- What the owners of a scenario write may stand under numbers below a bound.
--- Serves `begin`, `most_in_a_round` and `tests_of_runs`.
+-- Serves `begin` and `tests_of_runs`.
 use Rattle.runs.proofs.Common.{◌≡◌, ℕ, zero, suc, ◌-◌, ◌*◌, ◌<◌, ◌≤◌, Bool, true, false, cond, List, [], ◌∷◌, length, sym, ap, ◌∙◌, arith, length-append, Some, Contains, same_Some, Entry, MOST_WRITES, write_from, write_numbered, is_up, writes_in, count_before, own_writes, written_upto, length-own_writes, writes_in_le, apart-written_upto, Settings, IsLawfulScenario, MayWriteAll, IsWriteUnder}
 use Rattle.runs.specs.inner.Writes.{AreWrittenIn, HasWritesBelow}
 

@@ -1,4 +1,5 @@
 -- The names of other libraries that these proofs cite, passed on from one place. Declares nothing.
+-- Serves most of the crate.
 pub use Rattle.std.proofs.Common.{All, Bool, Err, IfErr, IfOk, IsUtf8, List, None, Ok, OnOk, Option, Result, Some, [], ap, arith, cond, drop, false, get_or, inl, inr, length, map, nat_le, negsuc, pos, refl, rules, string_bytes, subst, suc, sym, tests, true, zero, ℕ, ◌&&◌, ◌*◌, ◌++◌, ◌+◌, ◌-◌, ◌<◌, ◌∙◌, ◌∷◌, ◌≡◌, ◌≢◌, ◌≤◌, ◌⊎◌}
 pub use Rattle.std.proofs.lemmas.Bool.{and_parts, leb-true}
 pub use Rattle.std.proofs.lemmas.Grind.{common_steps}

@@ -1,4 +1,5 @@
 -- The names of other libraries that these proofs cite, passed on from one place. Declares nothing.
+-- Serves most of the crate.
 pub use Rattle.std.proofs.Common.{All, AllPairs, Bool, IfOk, List, None, Option, Some, [], add-one, ap, append_assoc, arith, cond, drop, eqb, false, fold, get_or, if◌then◌else◌, inl, inr, length, length-append, map, not, option_map, refl, rules, set, subst, suc, sym, take, true, zero, ℕ, ◌%◌, ◌&&◌, ◌*◌, ◌++◌, ◌+◌, ◌-◌, ◌/◌, ◌<◌, ◌^◌, ◌∙◌, ◌∷◌, ◌≡◌, ◌≢◌, ◌≤◌, ◌⊎◌}
 pub use Rattle.std.proofs.Math.ListN.{get_or-append}
 pub use Rattle.std.proofs.Math.Nat.{add-mod_right, add-mul-mod_self_left, mod-add-div, mod-eq_of_lt, mod-lt, mul-le-mul_right}
@@ -14,27 +15,12 @@ pub use Rattle.std.proofs.lemmas.Result.{on_ok_weaker}
 pub use Rattle.std.specs.List.{filter, range_with_len, sum_by}
 pub use Rattle.std.specs.Prelude.{Contains, IfSome, is_none, nat_lt, slice_get}
 pub use Rattle.std.specs.declared.cmp.Ordering.TheVariants.{Less}
-pub use Rattle.bench_types.proofs.Marks.{absent-first, before-no, before-true, before-up_to, not_both, up_to-itself, up_to-then}
-pub use Rattle.bench_types.specs.Budget.{amount_of, largest_share, share_of}
-pub use Rattle.bench_types.specs.Entry.{next_version}
-pub use Rattle.bench_types.specs.Mark.{IsBefore, IsUpTo, absent, is_before, mark_held, mark_of}
-pub use Rattle.bench_types.specs.Mode.{digest_kind}
-pub use Rattle.bench_types.specs.Sums.{most_below, sum_below}
+pub use Rattle.bench_types.specs.Budget.{largest_share, share_of}
 pub use Rattle.bench_types.specs.calls.Budget.{IsLawfulBudget}
-pub use Rattle.bench_types.specs.calls.Entry.{AreNextAfter, IsNextAfter}
-pub use Rattle.bench_types.specs.calls.Exchange.{IsPlanned}
-pub use Rattle.bench_types.specs.declared.entries.Entry.{Entry}
-pub use Rattle.bench_types.specs.declared.entries.Item.{Item}
-pub use Rattle.bench_types.specs.declared.entries.Mark.{Mark}
-pub use Rattle.bench_types.specs.declared.exchanges.Budget.{Budget}
 pub use Rattle.bench_types.specs.declared.exchanges.Budget.TheVariants.{Bytes, Entries}
-pub use Rattle.bench_types.specs.declared.exchanges.Exchange.{Exchange}
-pub use Rattle.bench_types.specs.declared.exchanges.Fate.{Fate}
-pub use Rattle.bench_types.specs.declared.exchanges.Mode.{Mode}
-pub use Rattle.bench_types.specs.declared.exchanges.Record.{Record}
-pub use Rattle.bench_types.specs.declared.exchanges.Rules.{Rules}
-pub use Rattle.bench_types.specs.declared.limits.TheConstants.{ENTRY_SIZES, LEAST_KEYS, MOST_KEYS, MOST_NODES}
+pub use Rattle.bench_types.specs.declared.limits.TheConstants.{ENTRY_SIZES}
 pub use Rattle.bench_types.specs.declared.rows.Figures.{Figures}
+pub use Rattle.model.proofs.Common.{AreNextAfter, Budget, Entry, Exchange, Fate, IsBefore, IsNextAfter, IsPlanned, IsUpTo, Item, LEAST_KEYS, MOST_KEYS, MOST_NODES, Mark, Mode, Record, Rules, absent, absent-first, amount_of, before-no, before-true, before-up_to, digest_kind, is_before, mark_held, mark_of, most_below, next_version, not_both, sum_below, up_to-itself, up_to-then}
 pub use Rattle.model.proofs.BeginLaws.{IsBegun, begun_copies, begun_forget, begun_no_gap, begun_restart, begun_same, begun_then, begun_writes, copy-up_to, counted_write, counted_writes, empty_copies, empty_no_gap, generation-written, written_rises}
 pub use Rattle.model.proofs.DeltaLaws.{cut-none, sent-uncut}
 pub use Rattle.model.proofs.ExchangeLaws.{marks_stay, marks_then}
@@ -88,7 +74,7 @@ pub use Rattle.round_plan.proofs.Growth.{born-own_writes, count_before-grown, co
 pub use Rattle.round_plan.proofs.Planned.{planned_list}
 pub use Rattle.round_plan.proofs.Written.{born-writes_upto, is_of, writes_upto-filtered, written-writes_upto}
 pub use Rattle.round_plan.specs.Generations.{generation_upto}
-pub use Rattle.round_plan.specs.Outages.{forgets_now, is_up, restarts_now, separated}
+pub use Rattle.round_plan.specs.Outages.{forgets_now, is_up, restarts_now}
 pub use Rattle.round_plan.specs.Peer.{peer_by, peer_of, ring_peer}
 pub use Rattle.round_plan.specs.Plan.{begins, exchange_of, round_list_of}
 pub use Rattle.round_plan.specs.Words.{word_of}

@@ -1,4 +1,6 @@
 -- The names of other libraries that these proofs cite, passed on from one place. Declares nothing.
+-- Serves most of the crate.
+unfoldable pub use Rattle.model.specs.Figures.{figures_of}
 pub use Rattle.std.proofs.Common.{Bool, List, None, Option, Some, [], ap, arith, below_more, cond, eqb, false, get_or, if◌then◌else◌, inl, inr, length, length-append, ltb, map, max, min, option_map, refl, reverse, rules, slice_index, subst, suc, sym, zero, ℕ, ◌&&◌, ◌*◌, ◌+◌, ◌-◌, ◌<◌, ◌∙◌, ◌≡◌, ◌≤◌, ◌⊎◌}
 pub use Rattle.std.proofs.Math.Nat.{mul-le-mul_right}
 pub use Rattle.std.proofs.lemmas.Bool.{and_parts, both_ways, cases_eq, cases_lt, eq-eqb, eqb-true, le-leb, le-ltb, leb-true, lt-leb, lt-ltb, ltb-false, ltb-true, ne_eqb}
@@ -10,17 +12,12 @@ pub use Rattle.std.proofs.lemmas.Result.{IfOk-at_ok}
 pub use Rattle.std.specs.Borrow.{Bor}
 pub use Rattle.std.specs.List.{position_or_len}
 pub use Rattle.std.specs.Prelude.{MatchOption, nat_le, nat_lt}
-pub use Rattle.bench_types.proofs.Marks.{before-yes}
 pub use Rattle.bench_types.proofs.Sums.{most_below-same, sum_below-most, sum_below-same}
-pub use Rattle.bench_types.specs.Mark.{absent, is_before, mark_held, mark_of}
-pub use Rattle.bench_types.specs.Sums.{most_below, sum_below}
-pub use Rattle.bench_types.specs.declared.entries.Entry.{Entry}
-pub use Rattle.bench_types.specs.declared.limits.TheConstants.{MOST_KEYS, MOST_NODES}
 pub use Rattle.bench_types.specs.declared.rows.Figures.{Figures}
+pub use Rattle.model.proofs.Common.{Entry, MOST_KEYS, MOST_NODES, absent, before-yes, is_before, mark_held, mark_of, most_below, sum_below}
 pub use Rattle.model.proofs.Figures.{most_by_owner}
 pub use Rattle.model.proofs.Owners.{list_read}
 pub use Rattle.model.proofs.Picked.{find_passes}
-unfoldable pub use Rattle.model.specs.Figures.{figures_of}
 pub use Rattle.model.specs.Figures.{generation_at, is_left_over, leftover_at, rounds_behind, stale_count, staleness_at, staleness_of}
 pub use Rattle.model.specs.Table.{IsProper, Table, entry_at}
 pub use Rattle.model.specs.Tables.{table_of_node}

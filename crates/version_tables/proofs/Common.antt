@@ -1,5 +1,6 @@
 -- The names that these proofs cite of other libraries and of this crate's definitions, passed on from one place.
 -- Declares nothing.
+-- Serves most of the crate.
 pub use Rattle.std.proofs.Common.{Bool, List, None, Option, Some, Vec, [], ap, arith, cond, eqb, false, get_or, if◌then◌else◌, inl, inr, length, length-append, ltb, map, max, min, nat_le, nat_lt, refl, rules, set, slice_index, subst, suc, sym, take, true, zero, ℕ, ◌&&◌, ◌*◌, ◌++◌, ◌+◌, ◌-◌, ◌<◌, ◌==◌, ◌∙◌, ◌∷◌, ◌≡◌, ◌≢◌, ◌≤◌, ◌⊎◌}
 pub use Rattle.std.proofs.Math.Nat.{mul-le-mul_right}
 pub use Rattle.std.proofs.Math.Path.{transport}
@@ -16,25 +17,9 @@ pub use Rattle.std.specs.List.{range_with_len}
 pub use Rattle.std.specs.Option.{option_or}
 pub use Rattle.std.specs.Prelude.{Contains, count_by, ◌||◌}
 pub use Rattle.std.specs.Vec.{with_items}
-pub use Rattle.bench_types.proofs.Marks.{absent-first, not_both, up_to-before}
-pub use Rattle.bench_types.proofs.Sums.{sum_below-le, sum_below-most, sum_below-same}
-pub use Rattle.bench_types.specs.Budget.{amount_of, largest_share}
-pub use Rattle.bench_types.specs.Mark.{IsBefore, IsUpTo, is_before, mark_held, mark_of}
-pub use Rattle.bench_types.specs.Mode.{digest_kind}
-pub use Rattle.bench_types.specs.Sums.{sum_below}
-pub use Rattle.bench_types.specs.declared.entries.Entry.{Entry}
-pub use Rattle.bench_types.specs.declared.entries.Item.{Item}
-pub use Rattle.bench_types.specs.declared.entries.Mark.{Mark}
-pub use Rattle.bench_types.specs.declared.exchanges.Budget.{Budget}
+pub use Rattle.bench_types.proofs.Sums.{sum_below-most, sum_below-same}
+pub use Rattle.bench_types.specs.Budget.{largest_share}
 pub use Rattle.bench_types.specs.declared.exchanges.Budget.TheVariants.{Bytes, Entries}
-pub use Rattle.bench_types.specs.declared.exchanges.DigestKind.{DigestKind}
-pub use Rattle.bench_types.specs.declared.exchanges.DigestKind.TheVariants.{Precise, Scuttle}
-pub use Rattle.bench_types.specs.declared.exchanges.Exchange.{Exchange}
-pub use Rattle.bench_types.specs.declared.exchanges.Fate.{Fate}
-pub use Rattle.bench_types.specs.declared.exchanges.Mode.{Mode}
-pub use Rattle.bench_types.specs.declared.exchanges.Record.{Record}
-pub use Rattle.bench_types.specs.declared.exchanges.Rules.{Rules}
-pub use Rattle.bench_types.specs.declared.limits.TheConstants.{LEAST_KEYS, MOST_KEYS, MOST_NODES}
 pub use Rattle.delta_plans.proofs.CandidateNumbers.{candidate-below, candidate-key, candidate-number}
 pub use Rattle.delta_plans.proofs.Columns.{sum_below-none}
 pub use Rattle.delta_plans.proofs.Grids.{items_sum}
@@ -55,6 +40,7 @@ pub use Rattle.delta_plans.specs.declared.marked.First.{First}
 pub use Rattle.delta_plans.specs.declared.marked.First.TheVariants.{Newest, Oldest}
 pub use Rattle.delta_plans.specs.declared.offers.Offer.{Offer}
 pub use Rattle.delta_plans.specs.declared.told_marks.Owners.{Owners}
+pub use Rattle.model.proofs.Common.{Budget, DigestKind, Entry, Exchange, Fate, IsBefore, IsUpTo, Item, LEAST_KEYS, MOST_KEYS, MOST_NODES, Mark, Mode, Precise, Record, Rules, Scuttle, absent-first, amount_of, digest_kind, is_before, mark_held, mark_of, not_both, sum_below, sum_below-le, up_to-before}
 pub use Rattle.model.proofs.DeltaLaws.{sent-candidate}
 pub use Rattle.model.proofs.Fitting.{sum_by-ones}
 pub use Rattle.model.proofs.Greatest.{greatest_mark-from, greatest_mark-none, greatest_mark-unique, mark_at-up_to_greatest}

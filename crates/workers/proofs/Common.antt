@@ -1,4 +1,5 @@
 -- The names of other libraries that these proofs cite, passed on from one place. Declares nothing.
+-- Serves most of the crate.
 pub use Rattle.std.proofs.Common.{All, Bool, Err, IfErr, IfOk, IfSome, List, None, Ok, Option, Result, Some, Vec, [], add-one, ap, arith, false, get_or, if◌then◌else◌, inl, inr, length, length-append, map, refl, replicate, rules, set, subst, suc, sym, take, true, vec_capacity, vec_len, zero, ℕ, ◌%◌, ◌++◌, ◌+◌, ◌-◌, ◌<◌, ◌||◌, ◌∙◌, ◌∷◌, ◌≡◌, ◌≢◌, ◌≤◌, ◌⊎◌}
 pub use Rattle.std.proofs.Math.Nat.{mod-lt}
 pub use Rattle.std.proofs.lemmas.Bool.{cases_Bool, cases_eq, cases_lt, false≢true}
@@ -15,10 +16,6 @@ pub use Rattle.std.specs.Vec.Iter.{into_iter_items, into_iter_len}
 pub use Rattle.std.specs.declared.alloc.Global.{Global}
 pub use Rattle.std.specs.declared.thread.PromisedHandle.{PromisedHandle}
 pub use lib.Seq.{drop-append_seam, take-append_seam}
-pub use Rattle.bench_types.specs.calls.Exchange.{IsPlanned}
-pub use Rattle.bench_types.specs.declared.exchanges.Exchange.{Exchange}
-pub use Rattle.bench_types.specs.declared.exchanges.Record.{Record}
-pub use Rattle.bench_types.specs.declared.exchanges.Rules.{Rules}
 pub use Rattle.bench_types.specs.declared.faults.Fault.{Fault}
 pub use Rattle.bench_types.specs.declared.faults.Fault.TheVariants.{OutOfMemory}
 pub use Rattle.board.proofs.Claimed.{now_held}
@@ -40,6 +37,7 @@ pub use Rattle.crossbeam_deque.specs.Tasks.{Pushes, Takes}
 pub use Rattle.dependencies.proofs.Moves.{record_kept}
 pub use Rattle.dependencies.specs.Neighbours.{as_list, first_ready_of, is_first_ready, successors}
 pub use Rattle.dependencies.specs.Sharing.{exchange_at, no_exchange}
+pub use Rattle.model.proofs.Common.{Exchange, IsPlanned, Record, Rules}
 pub use Rattle.model.proofs.FoldLaws.{before_keeps_each, before_keeps_own, before_tables, fold_counts_records}
 pub use Rattle.model.proofs.Tables.{cluster_of}
 pub use Rattle.model.specs.Exchanged.{Exchanged, exchanged}

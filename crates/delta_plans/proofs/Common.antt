@@ -19,7 +19,7 @@ pub use Rattle.std.specs.Vec.{with_items}
 pub use Rattle.std.specs.declared.cmp.Ordering.{Ordering}
 pub use Rattle.std.specs.declared.cmp.Ordering.TheVariants.{Equal, Greater, Less}
 pub use borrow.Rule.Slice.PartMut.{put_mid}
-pub use Rattle.bench_types.proofs.Sums.{sum_below-plus, sum_below-same}
+pub use Rattle.bench_types.proofs.Sums.{sum_below-most, sum_below-plus, sum_below-same}
 pub use Rattle.bench_types.specs.Budget.{largest_share}
 pub use Rattle.bench_types.specs.declared.exchanges.Budget.TheVariants.{Bytes, Entries}
 pub use Rattle.bench_types.specs.declared.limits.TheConstants.{MOST_ENTRY_SIZE}

@@ -1,5 +1,5 @@
 -- An owner's numbers gone over one after another.
--- Serves `Part::nearest`, `Part::stop_from`, `Turns::pass_turns` and `Turns::share_into`.
+-- Serves `Part::nearest`, `Part::stop_from`, `Turns::count_of_parts`, `Turns::pass_turns` and `Turns::share_into`.
 use Rattle.delta_plans.proofs.Common.{◌≡◌, ℕ, zero, suc, ◌+◌, ◌-◌, ◌<◌, ◌≤◌, ◌⊎◌, inl, inr, refl, sym, ap, ◌∙◌, subst, arith, nat_tests, cases_lt, Cells}
 use Rattle.delta_plans.specs.declared.marked.First.{First}
 use Rattle.delta_plans.specs.declared.marked.First.TheVariants.{Oldest, Newest}

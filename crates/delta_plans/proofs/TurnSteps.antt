@@ -1,9 +1,10 @@
 -- The owners' turns in a level.
--- Serves `Turns::pass_turns`, `Turns::share_into`, `Turns::weight_of_part` and `RoundMarks`.
-use Rattle.delta_plans.proofs.Common.{◌≡◌, ◌≢◌, ℕ, ◌+◌, ◌-◌, ◌*◌, ◌<◌, ◌≤◌, true, false, List, length, get_or, set, map, inl, inr, refl, sym, ap, ◌∙◌, subst, transport, arith, nat_tests, get_or-set_same, get_or-set_other, length-map, map-set, Entries, MOST_NODES, MOST_KEYS, MOST_ENTRY_SIZE, cases_lt, cases_eq, amount_of, all_writes, Cells, HasNoneAbove, sum_below-same, sum_below-plus, rotated, rotated-injective, rotated-is, write_numbered}
+-- Serves the functions of `sharing` and `RoundMarks`.
+use Rattle.delta_plans.proofs.Common.{◌≡◌, ◌≢◌, ℕ, zero, suc, ◌+◌, ◌-◌, ◌*◌, ◌<◌, ◌≤◌, true, false, List, length, get_or, set, map, inl, inr, refl, sym, ap, ◌∙◌, subst, transport, arith, nat_tests, get_or-set_same, get_or-set_other, length-map, map-set, Entries, MOST_NODES, MOST_KEYS, MOST_ENTRY_SIZE, cases_lt, cases_eq, amount_of, all_writes, Cells, HasNoneAbove, sum_below, sum_below-same, sum_below-plus, rotated, rotated-injective, rotated-is, write_numbered}
 use Rattle.delta_plans.specs.declared.marked.First.{First}
 use Rattle.delta_plans.specs.declared.marked.First.TheVariants.{Oldest, Newest}
 use Rattle.delta_plans.specs.declared.offers.Offer.{Offer}
+use Rattle.delta_plans.specs.declared.sharing.Reached.{Reached}
 use Rattle.delta_plans.specs.declared.sharing.Turns.{Turns}
 use Rattle.delta_plans.specs.Firsts.{by_first, comes_first}
 use Rattle.delta_plans.specs.OfferInMemory.{cells_in, low_in, high_in, marks, weights_in, IsOffer}
@@ -11,7 +12,7 @@ use Rattle.delta_plans.specs.Plans.{weight_on, count_on, AreFarther}
 use Rattle.delta_plans.specs.LevelMarks.{lets_through}
 use Rattle.delta_plans.specs.Sharing.{AreShared}
 use Rattle.delta_plans.specs.Stops.{IsNext, IsOn, IsStopFrom}
-use Rattle.delta_plans.specs.Turns.{part_weight, AreTurns, AreTurnsPassed, HasTurn}
+use Rattle.delta_plans.specs.Turns.{part_weight, parts_count, AreTurns, AreTurnsPassed, HasTurn, HaveTurns}
 use Rattle.delta_plans.specs.Weights.{weight_of, weight_from, weight_through, one_each}
 use Rattle.delta_plans.proofs.Columns.{sum_below-changed}
 use Rattle.delta_plans.proofs.WeightLaws.{part, weight_of-split, weight_of-same, weight_of-most, number_share-one}
@@ -191,6 +192,39 @@ module _ {N : Type 0} {number : N → ℕ} {most : ℕ} {turns : Turns N} {owner
         weight_of-most (weights_in turns.offer.now owner) MOST_ENTRY_SIZE (cells_in number turns.offer.now) turns.offer.now.keys owner first-mark last-mark (λ n. share-most turns.offer.now.budget (write_numbered (all_writes turns.offer.now.lists.now owner) n)),
         ap (λ n. n * MOST_ENTRY_SIZE) none,
       )
+
+-- the parts of fewer owners have no more numbers
+sum_below-longer : (f : ℕ → ℕ) (n m : ℕ) → n ≤ m → sum_below n f ≤ sum_below m f
+sum_below-longer f n zero le = omega (arith, ap (λ k. sum_below k f) {x = n} {y = zero} (omega (arith, le)))
+sum_below-longer f n (suc m) le = elim (cases_lt n (suc m)) [
+  | inl below ↦ omega (arith, sum_below-longer f n m (omega (arith, below)))
+  | inr not_below ↦ omega (arith, ap (λ k. sum_below k f) {x = n} {y = suc m} (omega (arith, le, not_below)))
+]
+
+-- owners in a row have their turns one after another
+pub turns-in_row : {N : Type 0} (turns : Turns N) (turn owner size : ℕ) → turns.rotation < turns.offer.now.nodes → rotated turns.offer.now.nodes turns.rotation owner ≡ turn
+    → owner + size ≤ turns.offer.now.nodes → turn + size ≤ turns.offer.now.nodes → (i : ℕ) → i < size → rotated turns.offer.now.nodes turns.rotation (owner + i) ≡ turn + i
+turns-in_row turns turn owner size in_rotation its in_nodes in_turns i lt =
+    grind (arith, its, in_nodes, in_turns, rotated-is turns.offer.now.nodes turns.rotation owner in_rotation (omega (arith, in_nodes, lt)), rotated-is turns.offer.now.nodes turns.rotation (owner + i) in_rotation (omega (arith, in_nodes, lt)))
+
+-- what is passed, in other words
+pub turns-same : {N : Type 0} {number : N → ℕ} {turns : Turns N} {mark : ℕ → ℕ} {turn turn2 left left2 sent sent2 : ℕ} → AreTurnsPassed number turns mark turn left sent
+    → turn ≡ turn2 → left ≡ left2 → sent ≡ sent2 → AreTurnsPassed number turns mark turn2 left2 sent2
+turns-same {number} {turns} {mark} so_far turn left sent = transport (λ i. AreTurnsPassed number turns mark (turn i) (left i) (sent i)) so_far
+
+-- one more of the owners that are next
+pub some-next : {N : Type 0} {number : N → ℕ} {most : ℕ} {turns : Turns N} {reached : Reached} {owner size count : ℕ} → HaveTurns number most turns reached owner size count
+    → {mark : ℕ → ℕ} (i : ℕ) → i < size → AreTurnsPassed number turns mark (reached.turn + i) (reached.left - parts_count number turns owner i) (reached.sent + parts_count number turns owner i)
+    → (to : ℕ) (next : ℕ → ℕ) → next (owner + i) ≡ to → ((r : ℕ) → r < turns.offer.now.nodes → r ≢ owner + i → next r ≡ mark r) → to ≡ marks number turns.level.now.far.items (owner + i)
+    → AreTurnsPassed number turns next (reached.turn + (i + 1)) (reached.left - parts_count number turns owner (i + 1)) (reached.sent + parts_count number turns owner (i + 1))
+some-next {number} {turns} {owner} {size} have i lt so_far to next here others to_far =
+    let in_nodes : owner + i < turns.offer.now.nodes = omega (arith, have.in_nodes, lt) in
+    let more = ap (parts_count number turns owner) {x = i + 1} {y = suc i} (omega arith) in
+    let fits = sum_below-longer (λ j. part_weight number (λ _. 1) turns (owner + j)) (i + 1) size (omega (arith, lt)) in
+    let passed =
+    turns-next have.are so_far in_nodes (have.next i lt) to next here others (omega (arith, fits, have.fits, have.sum, more)) (part-entries (record { are = have.are; in_nodes = in_nodes }) have.entries have.counted) refl to_far
+    in
+    turns-same passed (omega arith) (omega (arith, more)) (omega (arith, more))
 
 -- marks of which one is put
 module _ {N : Type 0} (number : N → ℕ) (xs : List N) (i : ℕ) (x : N) where

@@ -1,9 +1,12 @@
 -- The owners' turns in a level, from the rotation on. Source: this project.
 use Rattle.std.specs.Prelude.{◌≡◌, ◌⊎◌, ℕ, ◌+◌, ◌<◌, ◌≤◌, List, length, map}
 use Rattle.bench_types.specs.Budget.{amount_of}
+use Rattle.bench_types.specs.Sums.{sum_below}
+use Rattle.bench_types.specs.declared.exchanges.Budget.TheVariants.{Entries}
 use Rattle.planes.specs.Planes.{HasEach}
 use Rattle.model.specs.Order.{rotated}
 use Rattle.delta_plans.specs.declared.sharing.Passed.{Passed}
+use Rattle.delta_plans.specs.declared.sharing.Reached.{Reached}
 use Rattle.delta_plans.specs.declared.sharing.Turns.{Turns}
 use Rattle.delta_plans.specs.OfferInMemory.{cells_in, marks, weights_in, IsOffer}
 use Rattle.delta_plans.specs.Plans.{weight_on, count_on, IsLevel}
@@ -26,6 +29,10 @@ abbrev pub part_weight : {N : Type 0} → (N → ℕ) → (ℕ → ℕ) → Turn
 part_weight number weight turns owner =
     weight_from turns.first weight (cells_in number turns.offer.now) turns.offer.now.keys owner
     (marks number turns.level.now.near.items owner) (marks number turns.level.now.far.items owner)
+
+-- how many numbers the parts of so many owners have, from one on
+abbrev pub parts_count : {N : Type 0} → (N → ℕ) → Turns N → ℕ → ℕ → ℕ
+parts_count number turns owner size = sum_below size (λ i. part_weight number (λ _. 1) turns (owner + i))
 
 -- how many numbers each owner's part has, or the most where that isn't known
 abbrev pub AreKnownFor : {N : Type 0} → (N → ℕ) → ℕ → Turns N → List N → Type 0
@@ -58,6 +65,23 @@ pub record AreTurnsPassed {N : Type 0} (number : N → ℕ) (turns : Turns N) (m
       → mark r ≡ marks number turns.level.now.near.items r
   pub left : weight_on turns.first number turns.offer.now mark + room ≡ amount_of turns.offer.now.budget
   pub count : sent ≡ count_on turns.first number turns.offer.now mark
+
+-- and so they have up to a turn
+pub record HasReached {N : Type 0} (number : N → ℕ) (turns : Turns N) (mark : List N) (reached : Reached) : Type 0 where
+  pub size : length mark ≡ turns.offer.now.nodes
+  pub so_far : AreTurnsPassed number turns (marks number mark) reached.turn reached.left reached.sent
+
+-- so many owners, from one on, are next, one after another; entries are counted, and the parts of all fit
+pub record HaveTurns {N : Type 0} (number : N → ℕ) (most : ℕ) (turns : Turns N) (reached : Reached)
+    (owner size count : ℕ) : Type 0 where
+  pub are : AreTurns number most turns
+  pub entries : ℕ
+  pub counted : turns.offer.now.budget ≡ Entries entries
+  pub in_nodes : owner + size ≤ turns.offer.now.nodes
+  pub in_turns : reached.turn + size ≤ turns.offer.now.nodes
+  pub next : (i : ℕ) → i < size → rotated turns.offer.now.nodes turns.rotation (owner + i) ≡ reached.turn + i
+  pub sum : count ≡ parts_count number turns owner size
+  pub fits : count ≤ reached.left
 
 -- and so they have up to the one whose part doesn't fit
 pub record ArePassedBy {N : Type 0} (number : N → ℕ) (turns : Turns N) (mark : List N) (passed : Passed) : Type 0 where

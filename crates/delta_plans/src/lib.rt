@@ -8,8 +8,8 @@
 //! - The round up to which a precise delta goes is found by halving with a step that doubles from the near end: mostly
 //!   it is one of the first. No clause says that sizes rise with the rounds; that few fit and enough don't is all that
 //!   is kept.
-//! - The parts of a level are counted for 64 owners at a time, as turns come to them. Mostly the first part that
-//!   doesn't fit is among the first of them, and the others aren't counted.
+//! - The parts of a level are counted for 64 owners at a time, as turns come to them. Where entries are counted and all
+//!   of these parts fit, the 64 owners are passed at once, and only the last ones are gone over turn by turn.
 //! - Where entries are counted nothing is weighed, and where bytes are, sizes are looked up only if the count times the
 //!   largest size doesn't fit.
 #![tactic(auto)]

@@ -1,13 +1,13 @@
 //! A level that doesn't fit, shared out: the owners take turns from the rotation on, up to the first number that
 //! doesn't fit.
 
-ghost use Rattle.std.specs.Prelude.{◌≡◌, ◌+◌, ◌-◌, ◌<◌, IfOk, IsOkUnless};
+ghost use Rattle.std.specs.Prelude.{◌≡◌, ℕ, ◌+◌, ◌-◌, ◌<◌, ◌≤◌, IfOk, IsOkUnless};
 ghost use Rattle.bench_types.specs.Budget.{amount_of};
 ghost use Rattle.bench_types.specs.declared.faults.Fault.TheVariants.{OutOfMemory};
 ghost use Rattle.delta_plans.specs.Firsts.{by_first};
 ghost use Rattle.delta_plans.specs.OfferInMemory.{marks, weights_in};
 ghost use Rattle.delta_plans.specs.Plans.{weight_on};
-ghost use Rattle.delta_plans.specs.Turns.{part_weight, AreKnownFor, ArePassedBy, AreSharedBy, AreTurns, HasTurn, IsOwnerOfTurn, KnowsPart};
+ghost use Rattle.delta_plans.specs.Turns.{part_weight, parts_count, AreKnownFor, ArePassedBy, AreSharedBy, AreTurns, HasReached, HasTurn, HaveTurns, IsOwnerOfTurn, KnowsPart};
 
 use crate::marked::First;
 use crate::offers::{Level, Offer, Share, number_at};
@@ -24,7 +24,15 @@ struct Passed {
     sent: u32,
 }
 
-/// The parts of so many owners are counted at a time: mostly the first part that doesn't fit is one of them.
+// How many owners had their turn, what is left then, and how many numbers were let through.
+#[derive(Clone, Copy)]
+struct Reached {
+    turn: usize,
+    left: u32,
+    sent: u32,
+}
+
+/// The parts of so many owners are counted at a time.
 const MANY: usize = 64;
 
 /// A level of an offer that the owners share out in turn from the rotation on.
@@ -94,14 +102,16 @@ impl<'a, 'b, N: Number> Turns<'a, 'b, N> {
     // Counts the numbers of some owners' parts, from an owner on. It stands outside the loop over turns, which seldom
     // needs it.
     #[inline(never)]
-    fn count_parts(&self, counts: &mut [N], owner: usize)
-        requires turn { HasTurn N.number N.most self.now owner }
+    fn count_parts(&self, counts: &mut [N], owner: usize, size: usize)
+        requires turns { AreTurns N.number N.most self.now }
+        requires within { owner + size ≤ self.now.offer.now.nodes }
         requires counts { AreKnownFor N.number N.most self.now counts.old }
-        ensures { KnowsPart N.number N.most self.now counts.new owner (marks N.number counts.new owner) }
+        ensures each { (r : ℕ) → owner ≤ r → r < owner + size
+            → marks N.number counts.new r ≡ part_weight N.number (λ _. 1) self.now r }
+        ensures counts { AreKnownFor N.number N.most self.now counts.new }
     {
         let offer = self.offer;
-        let end = (owner + MANY).min(offer.nodes);
-        let some = &mut counts[owner..end];
+        let some = &mut counts[owner..owner + size];
         let near = &self.level.near;
         let far = &self.level.far;
         let low = by_first(self.first, near, far);
@@ -119,8 +129,75 @@ impl<'a, 'b, N: Number> Turns<'a, 'b, N> {
         if N::greatest().is_above(known) {
             return known.widen();
         }
-        self.count_parts(counts, owner);
+        let size = MANY.min(self.offer.nodes - owner);
+        self.count_parts(counts, owner, size);
         number_at(counts, owner).widen()
+    }
+
+    // How many numbers the parts of some owners have, from an owner on.
+    fn count_of_parts(&self, counts: &mut [N], owner: usize, size: usize) -> u32
+        requires turns { AreTurns N.number N.most self.now }
+        requires within { owner + size ≤ self.now.offer.now.nodes }
+        requires counts { AreKnownFor N.number N.most self.now counts.old }
+        ensures count { result ≡ parts_count N.number self.now owner size }
+        ensures counts { AreKnownFor N.number N.most self.now counts.new }
+    {
+        self.count_parts(counts, owner, size);
+        let mut count = 0;
+        for i in 0..size {
+            count += number_at(counts, owner + i).widen();
+        }
+        count
+    }
+
+    // Gives some owners, from an owner on, the far mark.
+    fn pass_some(
+        &self,
+        mark: &mut [N],
+        reached: Reached,
+        owner: usize,
+        size: usize,
+        count: u32,
+    ) -> Reached
+        requires turns { HaveTurns N.number N.most self.now reached owner size count }
+        requires reached { HasReached N.number self.now mark.old reached }
+        ensures reached { HasReached N.number self.now mark.new result }
+        ensures turn { result.turn ≡ reached.turn + size }
+    {
+        for i in 0..size {
+            let far = number_at(&self.level.far, owner + i);
+            mark[owner + i] = far;
+        }
+        Reached {
+            turn: reached.turn + size,
+            left: reached.left - count,
+            sent: reached.sent + count,
+        }
+    }
+
+    // Gives the owners in turn the far mark, many at a time, as long as entries are counted and the parts of all of
+    // these fit.
+    fn pass_many(&self, counts: &mut [N], mark: &mut [N], start: Reached) -> Reached
+        requires turns { AreTurns N.number N.most self.now }
+        requires counts { AreKnownFor N.number N.most self.now counts.old }
+        requires start { HasReached N.number self.now mark.old start }
+        ensures reached { HasReached N.number self.now mark.new result }
+        ensures counts { AreKnownFor N.number N.most self.now counts.new }
+    {
+        let mut reached = start;
+        if let Budget::Entries(_) = self.offer.budget {
+            let nodes = self.offer.nodes;
+            while reached.turn < nodes {
+                let owner = owner_of_turn(reached.turn, nodes, self.rotation);
+                let size = MANY.min(nodes - owner.max(reached.turn));
+                let count = self.count_of_parts(counts, owner, size);
+                if reached.left < count {
+                    return reached;
+                }
+                reached = self.pass_some(mark, reached, owner, size, count);
+            }
+        }
+        reached
     }
 
     // Gives the owners in turn the far mark as long as their parts fit. Answers whose part doesn't.
@@ -133,9 +210,15 @@ impl<'a, 'b, N: Number> Turns<'a, 'b, N> {
         ensures { ArePassedBy N.number self.now mark.new result }
     {
         let nodes = self.offer.nodes;
-        let mut left = room;
-        let mut sent = self.level.whole;
-        for turn in 0..nodes {
+        let start = Reached {
+            turn: 0,
+            left: room,
+            sent: self.level.whole,
+        };
+        let reached = self.pass_many(counts, mark, start);
+        let mut left = reached.left;
+        let mut sent = reached.sent;
+        for turn in reached.turn..nodes {
             let owner = owner_of_turn(turn, nodes, self.rotation);
             let count = self.count_of_part(counts, owner);
             let weight = self.weight_of_part(owner, count);

@@ -26,9 +26,8 @@ returns g c =
     let owner = c.args.owner in
     let old = c.args.counts.now in
     let new = c.count_some_between.new.counts in
-    let size = c.min-end.result - owner in
-    let some : 0 < size = omega (arith, c.min-end.ensures, c.requires.turn.in_nodes) in
-    let within : owner + size ≤ length old = omega (arith, c.min-end.ensures, c.requires.turn.in_nodes, c.requires.counts.size, length-map old number) in
+    let size = owner + c.args.size - owner in
+    let within : owner + size ≤ length old = omega (arith, c.requires.within, c.requires.counts.size, length-map old number) in
     let sized : length new ≡ size = c.count_some_between.auto.counts ∙ length-take-le size (drop owner old) (omega (arith, within, length-drop owner old)) in
     let parts =
     counted number (cells_in number offer) offer.keys (length (take size (drop owner old))) owner turns.first turns.level.now.near.items turns.level.now.far.items (map number new)
@@ -41,8 +40,9 @@ returns g c =
     λ r lt. parts.each r (omega (arith, lt, sized, c.count_some_between.auto.counts))
     in
     record {
-      count =
-          subst (λ j. get_or (map number (put_mid owner size old new)) j 0 ≡ part_weight number (λ _. 1) turns j) {x = owner + 0} {y = owner} (omega arith)
-          (part-here number owner size old new within sized 0 some ∙ here 0 some);
+      each = λ r from upto.
+          let inside : r - owner < size = omega (arith, from, upto) in
+          subst (λ j. get_or (map number (put_mid owner size old new)) j 0 ≡ part_weight number (λ _. 1) turns j) {x = owner + (r - owner)} {y = r} (omega (arith, from))
+          (part-here number owner size old new within sized (r - owner) inside ∙ here (r - owner) inside);
       counts = part-written number owner size old new within sized offer.nodes _ c.requires.counts (λ r lt. inr (here r lt));
     }

@@ -24,5 +24,5 @@ pub use Rattle.model.specs.calls.Numbers.{write_numbered}
 pub use Rattle.model.specs.calls.OwnerListView.{AreWrites, MarksRise, OwnerListView, begun_generation, entries_of, next_entry, written}
 pub use Rattle.model.specs.calls.Writes.{IsNumbered, is_write_of, last_write}
 pub use Rattle.model.specs.declared.writes.Write.{Write}
-pub use Rattle.owner_writes.proofs.Keeping.{entries_whole, kept_begun, kept_pushed, view_begun, view_pushed}
+pub use Rattle.owner_writes.proofs.Keeping.{kept_begun, kept_pushed, view_begun, view_pushed}
 pub use Rattle.owner_writes.proofs.Numbered.{write_from-here, write_from-past}

@@ -43,9 +43,8 @@ impl Model for OwnerList {
 }
 
 impl OwnerList {
-    ghost use Rattle.model.specs.calls.OwnerListView.{entries_of, written, no_writes, with_write, begun_generation, AreWrites};
+    ghost use Rattle.model.specs.calls.OwnerListView.{written, no_writes, with_write, begun_generation, AreWrites};
     ghost use Rattle.owner_lists.specs.Marked.{entry_of};
-    ghost use Rattle.model.specs.calls.Numbers.{write_numbered};
     ghost use Rattle.model.specs.calls.Writes.{IsNumbered};
     ghost use Rattle.owner_lists.specs.Missed.{first_missed};
     ghost use Rattle.owner_lists.specs.Latest.{IsLatest};
@@ -149,27 +148,6 @@ impl OwnerList {
         } else {
             searched_entry(&self.entries[..self.earlier], mark)
         }
-    }
-
-    /// The write of a number, which counts all its writes from 1, those of earlier generations too. One step.
-    pub fn numbered(&self, number: u32) -> Option<Entry>
-        ensures { result ≡ write_numbered (entries_of self.now) number }
-    {
-        entry_numbered(&self.entries, number)
-    }
-
-    /// How many writes there are of all its generations.
-    pub fn count(&self) -> usize
-        ensures { result ≡ length (entries_of self.now) }
-    {
-        self.entries.len()
-    }
-
-    /// How many of them are of earlier generations.
-    pub fn earlier_count(&self) -> usize
-        ensures { result ≡ length self.now.earlier }
-    {
-        self.earlier
     }
 
     /// The last write of each key that was written in its generation, by key. Nothing is copied or walked

@@ -1,6 +1,6 @@
 -- The names of other libraries that these proofs cite, passed on from one place. Declares nothing.
 -- Serves the functions of `staleness`, `Known` and `Totals`.
-pub use Rattle.std.proofs.Common.{All, Bool, List, None, Option, Some, [], ap, arith, cond, eq-eqb, eqb, false, get_or, if◌then◌else◌, inl, inr, le-ltb, length, lt-ltb, ltb, ne_eqb, option_map, refl, subst, sym, true, ℕ, ◌&&◌, ◌*◌, ◌+◌, ◌-◌, ◌<◌, ◌∙◌, ◌∷◌, ◌≡◌, ◌≢◌, ◌≤◌}
+pub use Rattle.std.proofs.Common.{All, Bool, List, None, Option, Some, [], ap, arith, cond, eq-eqb, eqb, false, get_or, if◌then◌else◌, inl, inr, le-ltb, length, lt-ltb, ltb, ne_eqb, option_map, refl, subst, sym, true, ℕ, ◌&&◌, ◌*◌, ◌+◌, ◌-◌, ◌<◌, ◌^◌, ◌∙◌, ◌∷◌, ◌≡◌, ◌≢◌, ◌≤◌}
 pub use Rattle.std.proofs.lemmas.Bool.{cases_lt}
 pub use Rattle.std.proofs.lemmas.List.Elements.{All-head, All-tail}
 pub use Rattle.std.proofs.lemmas.List.FromFn.{length-range_with_len}

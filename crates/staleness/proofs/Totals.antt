@@ -1,14 +1,21 @@
 -- The figures of several parts together.
 -- Serves `figures`, `figures_of_copy` and `joined_all`.
-use Rattle.staleness.proofs.Common.{◌≡◌, ℕ, ◌+◌, ◌*◌, ◌<◌, ◌≤◌, Bool, true, false, eqb, List, length, get_or, All, if◌then◌else◌, inl, inr, ap, ◌∙◌, subst, arith, is_some, range_with_len, cases_lt, length-range_with_len, AllZip-long, at_place, sums, greatest, sum_below-most, fold_below-same, MOST_NODES, MOST_KEYS, Figures, generation_at, is_left_over, staleness_at, node_figures, Table, entry_at, table_of_node, Write}
+use Rattle.staleness.proofs.Common.{◌≡◌, ℕ, ◌+◌, ◌*◌, ◌^◌, ◌<◌, ◌≤◌, Bool, true, false, eqb, List, length, get_or, All, if◌then◌else◌, inl, inr, ap, ◌∙◌, subst, arith, is_some, range_with_len, cases_lt, length-range_with_len, AllZip-long, at_place, sums, greatest, sum_below-most, fold_below-same, MOST_NODES, MOST_KEYS, Figures, generation_at, is_left_over, staleness_at, node_figures, Table, entry_at, table_of_node, Write}
 use Rattle.model.specs.Figures.{figures_of}
-use Rattle.staleness.specs.inner.Totals.{total_below, triple_figures, found_at, AreFew, IsCounted, AreCounted}
+use Rattle.staleness.specs.inner.Totals.{total_below, triple_figures, found_at, AreFew, IsCounted, AreCounted, HaveRoom}
 
 -- as many triples as parts times those of each
 pub total_few : (f : ℕ → Figures) (n most : ℕ) → ((i : ℕ) → i < n → AreFew most (f i)) → AreFew (n * most) (total_below n f)
 total_few f n most few = record {
   stale = sum_below-most (λ i. (f i).stale) n most (λ i lt. (few i lt).stale);
   leftover = sum_below-most (λ i. (f i).leftover) n most (λ i lt. (few i lt).leftover);
+}
+
+-- few and few have room together
+pub room : (m n : ℕ) (f g : Figures) → AreFew m f → AreFew n g → m + n < 2 ^ 64 → HaveRoom f g
+room m n f g few more fits = record {
+  stale = omega (arith, few.stale, more.stale, fits);
+  leftover = omega (arith, few.leftover, more.leftover, fits);
 }
 
 total_same : (f g : ℕ → Figures) (n : ℕ) → ((i : ℕ) → i < n → f i ≡ g i) → total_below n f ≡ total_below n g

@@ -1,6 +1,6 @@
 //! How far the copies of all nodes lag behind their owners.
 
-ghost use Rattle.std.specs.Prelude.{◌≡◌, ◌+◌, ◌*◌, ◌^◌, ◌<◌, ◌≤◌, All, IfOk, IsOkUnless, length};
+ghost use Rattle.std.specs.Prelude.{◌≡◌, ◌*◌, ◌<◌, ◌≤◌, All, IfOk, IsOkUnless, length};
 ghost use Rattle.bench_types.specs.declared.faults.Fault.TheVariants.{OutOfMemory};
 ghost use Rattle.bench_types.specs.declared.limits.TheConstants.{MOST_NODES, MOST_KEYS, MOST_ROUNDS};
 ghost use Rattle.bench_types.specs.Mark.{mark_held};
@@ -9,7 +9,7 @@ ghost use Rattle.model.specs.calls.OwnerListView.{lists_in, written};
 ghost use Rattle.model.specs.calls.Tables.{IsCluster};
 ghost use Rattle.model.specs.calls.Writes.{AreBornBy};
 ghost use Rattle.node_table.specs.NodeTableView.{tables_in};
-ghost use Rattle.staleness.specs.inner.Totals.{version_known, joined, total_below, triple_figures, found_at, AreFew, AreCountable, AreCounted, IsCounted};
+ghost use Rattle.staleness.specs.inner.Totals.{version_known, joined, total_below, triple_figures, found_at, AreFew, AreCountable, AreCounted, HaveRoom, IsCounted};
 
 use bench_types::{Entry, Fault, Figures};
 use node_table::NodeTable;
@@ -98,8 +98,7 @@ fn joined_all(parts: &[Figures]) -> Figures
 }
 
 fn joined(one: Figures, other: Figures) -> Figures
-    requires stale { one.stale + other.stale < 2 ^ 64 }
-    requires leftover { one.leftover + other.leftover < 2 ^ 64 }
+    requires { HaveRoom one other }
     ensures { result ≡ joined one other }
 {
     Figures {

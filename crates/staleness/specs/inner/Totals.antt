@@ -1,5 +1,5 @@
 -- How the figures of a round are counted: triple by triple, and together. Source: this project.
-use Rattle.std.specs.Prelude.{◌≡◌, ℕ, ◌+◌, ◌*◌, ◌≤◌, max, nat_lt, if◌then◌else◌, List, length, All, slice_index_or, Option, None, Some}
+use Rattle.std.specs.Prelude.{◌≡◌, ℕ, ◌+◌, ◌*◌, ◌^◌, ◌<◌, ◌≤◌, max, nat_lt, if◌then◌else◌, List, length, All, slice_index_or, Option, None, Some}
 use Rattle.std.specs.List.{AllZip, range_with_len}
 use Rattle.bench_types.specs.Sums.{sum_below, most_below}
 use Rattle.bench_types.specs.declared.entries.Entry.{Entry}
@@ -33,6 +33,11 @@ joined f g = record {
   greatest = max f.greatest g.greatest;
   leftover = f.leftover + g.leftover;
 }
+
+-- there is room for the counts of both
+pub record HaveRoom (f g : Figures) : Type 0 where
+  pub stale : f.stale + g.stale < 2 ^ 64
+  pub leftover : f.leftover + g.leftover < 2 ^ 64
 
 abbrev pub total_below : ℕ → (ℕ → Figures) → Figures
 total_below n f = record {

@@ -1,33 +1,17 @@
-use Rattle.staleness.proofs.Common.{◌≡◌, ap, ◌∙◌, arith, Figures, lists_in, Table, table_of_node, tables_in, table_indexed}
-use Rattle.staleness.specs.inner.Totals.{total_below, triple_figures}
-use Rattle.staleness.proofs.Totals.{total_few, triple_few}
+use Rattle.staleness.proofs.Common.{◌≡◌, ◌*◌, ap, sym, subst, ◌∙◌, arith, Figures, lists_in, Table, table_of_node, tables_in, table_indexed}
+use Rattle.staleness.specs.inner.Totals.{total_below, triple_figures, AreFew}
+use Rattle.staleness.proofs.Totals.{room, total_few, triple_few}
 use Rattle.staleness.proofs.staleness.figures_of_copy.Goals as goal
 
-pub joined-total-requires-clause-stale : goal.joined-total-requires-clause-stale
-joined-total-requires-clause-stale c =
-    let tables = tables_in c.args.tables.now in
-    let lists = lists_in c.args.lists.now in
-    omega (
-      arith,
-      c.loop-key-test.true,
-      ap (λ (f : Figures). f.stale) c.loop-key.invariant,
-      (total_few (triple_figures c.args.round tables lists c.args.node c.args.owner) c.loop-key.key 1 (λ i lt. triple_few c.args.round tables lists c.args.node c.args.owner i)).stale,
-      ap (λ (f : Figures). f.stale) c.figures_of_triple.ensures,
-      (triple_few c.args.round tables lists c.args.node c.args.owner c.loop-key.key).stale,
-    )
-
-pub joined-total-requires-clause-leftover : goal.joined-total-requires-clause-leftover
-joined-total-requires-clause-leftover c =
-    let tables = tables_in c.args.tables.now in
-    let lists = lists_in c.args.lists.now in
-    omega (
-      arith,
-      c.loop-key-test.true,
-      ap (λ (f : Figures). f.leftover) c.loop-key.invariant,
-      (total_few (triple_figures c.args.round tables lists c.args.node c.args.owner) c.loop-key.key 1 (λ i lt. triple_few c.args.round tables lists c.args.node c.args.owner i)).leftover,
-      ap (λ (f : Figures). f.leftover) c.figures_of_triple.ensures,
-      (triple_few c.args.round tables lists c.args.node c.args.owner c.loop-key.key).leftover,
-    )
+pub joined-total-requires : goal.joined-total-requires
+joined-total-requires c =
+    let figures = triple_figures c.args.round (tables_in c.args.tables.now) (lists_in c.args.lists.now) c.args.node c.args.owner in
+    let each = triple_few c.args.round (tables_in c.args.tables.now) (lists_in c.args.lists.now) c.args.node c.args.owner in
+    let key = c.loop-key.key in
+    room (key * 1) 1 c.loop-key.total c.figures_of_triple.result
+    (subst (AreFew (key * 1)) (sym c.loop-key.invariant) (total_few figures key 1 (λ i lt. each i)))
+    (subst (AreFew 1) (sym c.figures_of_triple.ensures) (each key))
+    (omega (arith, c.loop-key-test.true))
 
 pub returns-clause-figures : goal.returns-clause-figures
 returns-clause-figures c =

@@ -63,32 +63,32 @@ module _ {X : Type 0} (SaysElement : Data → X → Type 0) (once : (value : Dat
       zip_once (list_of items) xs ys a (subst (λ i. AllZip SaysElement (list_of i) ys) (sym same) b)
 
 partition_once : (value : Data) (p q : Partition) → SaysPartition value p → SaysPartition value q → p ≡ q
-partition_once value p q a b =
-    let table = members_of value in
-    let from = number_once table field.PartitionFrom p.from q.from a.from b.from in
-    let to = number_once table field.PartitionTo p.to q.to a.to b.to in
-    let apart = numbers_once table field.PartitionApart p.apart q.apart a.apart b.apart in
-    λ i. record { from = from i; to = to i; apart = apart i }
+partition_once value p q a b = λ i. record {
+  from = number_once (members_of value) field.PartitionFrom p.from q.from a.from b.from i;
+  to = number_once (members_of value) field.PartitionTo p.to q.to a.to b.to i;
+  apart = numbers_once (members_of value) field.PartitionApart p.apart q.apart a.apart b.apart i;
+}
 
 restart_once : (format : ℕ) (value : Data) (r s : Restart) → SaysRestart format value r → SaysRestart format value s → r ≡ s
-restart_once format value r s a b =
-    let table = members_of value in
-    let node = number_once table field.RestartNode r.node s.node a.node b.node in
-    let round = number_once table field.RestartRound r.round s.round a.round b.round in
-    let down = number_once table field.RestartDown r.down s.down a.down b.down in
-    let forget : r.forget ≡ s.forget = elim (has_generations format) as (λ h. has_generations format ≡ h → r.forget ≡ s.forget) [
-      | true ↦ λ has. flag_once table field.RestartForget r.forget s.forget (a.forget has) (b.forget has)
+restart_once format value r s a b = λ i. record {
+  node = number_once (members_of value) field.RestartNode r.node s.node a.node b.node i;
+  round = number_once (members_of value) field.RestartRound r.round s.round a.round b.round i;
+  down = number_once (members_of value) field.RestartDown r.down s.down a.down b.down i;
+  forget = forget i;
+}
+  where
+    forget : r.forget ≡ s.forget
+    forget = elim (has_generations format) as (λ h. has_generations format ≡ h → r.forget ≡ s.forget) [
+      | true ↦ λ has. flag_once (members_of value) field.RestartForget r.forget s.forget (a.forget has) (b.forget has)
       | false ↦ λ has. a.keeps has ∙ sym (b.keeps has)
-    ] refl in
-    λ i. record { node = node i; round = round i; down = down i; forget = forget i }
+    ] refl
 
 load_once : (value : Data) (l m : Load) → SaysLoad value l → SaysLoad value m → l ≡ m
-load_once value l m a b =
-    let table = members_of value in
-    let from = number_once table field.LoadFrom l.from m.from a.from b.from in
-    let to = number_once table field.LoadTo l.to m.to a.to b.to in
-    let writes = number_once table field.LoadWrites l.writes m.writes a.writes b.writes in
-    λ i. record { from = from i; to = to i; writes = writes i }
+load_once value l m a b = λ i. record {
+  from = number_once (members_of value) field.LoadFrom l.from m.from a.from b.from i;
+  to = number_once (members_of value) field.LoadTo l.to m.to a.to b.to i;
+  writes = number_once (members_of value) field.LoadWrites l.writes m.writes a.writes b.writes i;
+}
 
 both : (a b : Bool) → (a && b) ≡ true → (a ≡ true) × (b ≡ true)
 both true b e = (refl, e)
@@ -123,37 +123,23 @@ budget_once format table (Bytes m) (Bytes n) only a b = ap (λ k. Bytes k) (numb
 
 -- no two scenarios are what one document says
 pub Says-once : (table : Members) (s t : Settings) → Says table s → Says table t → s ≡ t
-Says-once table s t a b =
-    let format = number_once table field.Format s.format t.format a.format b.format in
-    let nodes = number_once table field.Nodes s.nodes t.nodes a.nodes b.nodes in
-    let keys = number_once table field.Keys s.keys t.keys a.keys b.keys in
-    let rounds = number_once table field.Rounds s.rounds t.rounds a.rounds b.rounds in
-    let seed = number_once table field.Seed s.seed t.seed a.seed b.seed in
-    let mode = word_once table field.Mode mode_named s.mode t.mode a.mode b.mode in
-    let budget = budget_once s.format table s.budget t.budget a.others a.budget b.budget in
-    let peers = word_once table field.Peers peers_of s.peers t.peers a.peers b.peers in
-    let rotation = word_once table field.Rotation rotation_of s.rotation t.rotation a.rotation b.rotation in
-    let choice = word_once table field.Choice choice_of s.choice t.choice a.choice b.choice in
-    let loss_ppm = number_once table field.LossPpm s.loss_ppm t.loss_ppm a.loss_ppm b.loss_ppm in
-    let writes = number_once table field.Writes s.writes t.writes a.writes b.writes in
-    let partitions = elements_once SaysPartition partition_once table field.Partition s.partitions t.partitions a.partitions b.partitions in
-    let of_one = subst (λ n. HasElements table field.Restart (SaysRestart n) t.restarts) (sym format) b.restarts in
-    let restarts = elements_once (SaysRestart s.format) (restart_once s.format) table field.Restart s.restarts t.restarts a.restarts of_one in
-    let loads = elements_once SaysLoad load_once table field.Load s.loads t.loads a.loads b.loads in
-    λ i. record {
-      format = format i;
-      nodes = nodes i;
-      keys = keys i;
-      rounds = rounds i;
-      seed = seed i;
-      mode = mode i;
-      budget = budget i;
-      peers = peers i;
-      rotation = rotation i;
-      choice = choice i;
-      loss_ppm = loss_ppm i;
-      writes = writes i;
-      partitions = partitions i;
-      restarts = restarts i;
-      loads = loads i;
-    }
+Says-once table s t a b = λ i. record {
+  format = number_once table field.Format s.format t.format a.format b.format i;
+  nodes = number_once table field.Nodes s.nodes t.nodes a.nodes b.nodes i;
+  keys = number_once table field.Keys s.keys t.keys a.keys b.keys i;
+  rounds = number_once table field.Rounds s.rounds t.rounds a.rounds b.rounds i;
+  seed = number_once table field.Seed s.seed t.seed a.seed b.seed i;
+  mode = word_once table field.Mode mode_named s.mode t.mode a.mode b.mode i;
+  budget = budget_once s.format table s.budget t.budget a.others a.budget b.budget i;
+  peers = word_once table field.Peers peers_of s.peers t.peers a.peers b.peers i;
+  rotation = word_once table field.Rotation rotation_of s.rotation t.rotation a.rotation b.rotation i;
+  choice = word_once table field.Choice choice_of s.choice t.choice a.choice b.choice i;
+  loss_ppm = number_once table field.LossPpm s.loss_ppm t.loss_ppm a.loss_ppm b.loss_ppm i;
+  writes = number_once table field.Writes s.writes t.writes a.writes b.writes i;
+  partitions = elements_once SaysPartition partition_once table field.Partition s.partitions t.partitions a.partitions b.partitions i;
+  restarts = elements_once (SaysRestart s.format) (restart_once s.format) table field.Restart s.restarts t.restarts a.restarts restarts' i;
+  loads = elements_once SaysLoad load_once table field.Load s.loads t.loads a.loads b.loads i;
+}
+  where
+    restarts' : HasElements table field.Restart (SaysRestart s.format) t.restarts
+    restarts' = subst (λ n. HasElements table field.Restart (SaysRestart n) t.restarts) (sym (number_once table field.Format s.format t.format a.format b.format)) b.restarts

@@ -201,26 +201,27 @@ module _ (rules rules' : Rules) (nodes keys : ℕ) (writes : WritesBy) (f g : Fo
     second_then : AreCopiesOf writes nodes keys us
     second_then = step_copies rules' nodes keys g e planned writes beside.second
 
+    -- what holds of both tables of a node then
+    at_node : (m n owner : ℕ) → n ≡ m → (t u : Table) → table_of_node ts m ≡ t → table_of_node us m ≡ u → HoldsAsMuchOf owner t u → HoldsAsMuchOf owner (table_of_node ts n) (table_of_node us n)
+    at_node m n owner here t u first second holds =
+        subst (λ k. HoldsAsMuchOf owner (table_of_node ts k) (table_of_node us k)) (sym here)
+        (subst (λ x. HoldsAsMuchOf owner x (table_of_node us m)) (sym first) (subst (HoldsAsMuchOf owner t) (sym second) holds))
+
     as_much-step : (n owner : ℕ) → n < nodes → owner < nodes → HoldsAsMuchOf owner (table_of_node ts n) (table_of_node us n)
     as_much-step n owner lt owner_in = elim (cases_eq owner n) [
       | inl own ↦ subst (λ m. HoldsAsMuchOf m (table_of_node ts n) (table_of_node us n)) (sym own) (own_beside writes nodes keys ts us first_then second_then n lt (generations_then n lt))
       | inr other ↦ elim (cases_eq n e.initiator) [
-        | inl here ↦ subst (λ m. HoldsAsMuchOf owner (table_of_node ts m) (table_of_node us m)) (sym here)
-            (subst (λ t. HoldsAsMuchOf owner t (table_of_node us e.initiator)) (sym (initiator_is rules nodes keys f e planned beside.first.tables))
-            (subst (HoldsAsMuchOf owner (exchanged rules e (of_first e.initiator) (of_first e.responder)).initiator) (sym (initiator_is rules' nodes keys g e planned beside.second.tables))
+        | inl here ↦ at_node e.initiator n owner here _ _ (initiator_is rules nodes keys f e planned beside.first.tables) (initiator_is rules' nodes keys g e planned beside.second.tables)
             (initiators_beside (HoldsAsMuchOf owner) (fate_of e) (digest_size (digest_kind rules'.mode) (of_second e.initiator)) (digest_size (digest_kind rules'.mode) (of_second e.responder)) (of_first e.initiator) (of_second e.initiator)
             (delta_between rules.mode e.rotation rules.budget (of_first e.responder) (of_first e.initiator)) back' forth' none (beside.as_much e.initiator owner planned.initiator owner_in)
-            (delivered e.responder e.initiator owner planned.responder planned.initiator owner_in (λ same. other (same ∙ sym here))))))
+            (delivered e.responder e.initiator owner planned.responder planned.initiator owner_in (λ same. other (same ∙ sym here))))
         | inr not_first ↦ elim (cases_eq n e.responder) [
-          | inl here ↦ subst (λ m. HoldsAsMuchOf owner (table_of_node ts m) (table_of_node us m)) (sym here)
-              (subst (λ t. HoldsAsMuchOf owner t (table_of_node us e.responder)) (sym (responder_is rules nodes keys f e planned beside.first.tables))
-              (subst (HoldsAsMuchOf owner (exchanged rules e (of_first e.initiator) (of_first e.responder)).responder) (sym (responder_is rules' nodes keys g e planned beside.second.tables))
+          | inl here ↦ at_node e.responder n owner here _ _ (responder_is rules nodes keys f e planned beside.first.tables) (responder_is rules' nodes keys g e planned beside.second.tables)
               (responders_beside (HoldsAsMuchOf owner) (fate_of e) (digest_size (digest_kind rules'.mode) (of_second e.initiator)) (digest_size (digest_kind rules'.mode) (of_second e.responder)) (of_first e.responder) (of_second e.responder)
               (delta_between rules.mode e.rotation rules.budget (of_first e.initiator) (of_first e.responder)) back' forth' none (beside.as_much e.responder owner planned.responder owner_in)
-              (delivered e.initiator e.responder owner planned.initiator planned.responder owner_in (λ same. other (same ∙ sym here))))))
-          | inr not_second ↦
-              subst (λ t. HoldsAsMuchOf owner t (table_of_node us n)) (sym (other_is rules nodes keys f e planned beside.first.tables n not_first not_second))
-              (subst (HoldsAsMuchOf owner (of_first n)) (sym (other_is rules' nodes keys g e planned beside.second.tables n not_first not_second)) (beside.as_much n owner lt owner_in))
+              (delivered e.initiator e.responder owner planned.initiator planned.responder owner_in (λ same. other (same ∙ sym here))))
+          | inr not_second ↦ at_node n n owner refl _ _ (other_is rules nodes keys f e planned beside.first.tables n not_first not_second) (other_is rules' nodes keys g e planned beside.second.tables n not_first not_second)
+              (beside.as_much n owner lt owner_in)
         ]
       ]
     ]

@@ -164,8 +164,9 @@ impl<'a, 'b, N: Number> Turns<'a, 'b, N> {
         ensures reached { HasReached N.number self.now mark.new result }
         ensures turn { result.turn ≡ reached.turn + size }
     {
+        let all: &[N] = &self.level.far;
         for i in 0..size {
-            let far = number_at(&self.level.far, owner + i);
+            let far = number_at(all, owner + i);
             mark[owner + i] = far;
         }
         Reached {

@@ -18,7 +18,7 @@ loop-i-preserved g c =
           some-next c.requires.turns c.loop-i.i c.loop-i-test.true c.loop-i.invariant.so_far (number far) (marks number (set c.loop-i.mark owner far))
           (put-here number c.loop-i.mark owner far (omega (arith, c.requires.turns.in_nodes, c.loop-i-test.true, c.loop-i.invariant.size)))
           (λ r lt other. put-other number c.loop-i.mark owner far r other)
-          (c.number_at-far.ensures ∙ ap (λ xs. marks number xs owner) c.deref.ensures.value);
+          (c.number_at-far.ensures ∙ ap (λ xs. marks number xs owner) c.deref-all.ensures.value);
     }
 
 pub overflow_add-result-2 : goal.overflow_add-result-2

@@ -8,10 +8,10 @@ ghost use Rattle.version_tables.specs.Views.{table_in};
 ghost use Rattle.version_tables.specs.inner.Histories.{IsWriteUnder};
 
 use crate::histories::Histories;
-use crate::lags::figures;
+use crate::lags::SharedNumber;
 use crate::tables::{VersionTable, Written};
 use bench_types::{Fault, Figures};
-use planes::{Number, Short};
+use planes::Number;
 use round_tables::{Hands, RoundHistories};
 use std::alloc::Global;
 use std::marker::Brand;
@@ -46,79 +46,6 @@ fn write<N: Number, H: Written>(
     let number = histories.write(node, key, value, born)?;
     table.write_own(key, number);
     Ok(())
-}
-
-/// Numbers that threads may share. What starts threads is written for each type of them, since no proof is had of what
-/// sends a parameter's values to a thread in a generic `impl` of a trait.
-pub trait SharedNumber: Number {
-    ghost use Rattle.std.specs.Prelude.{◌≡◌, ◌≤◌, length, IfOk, IsOkUnless};
-    ghost use denote.Param.Send.{IsSync};
-    ghost use Rattle.bench_types.specs.declared.faults.Fault.TheVariants.{OutOfMemory};
-    ghost use Rattle.bench_types.specs.declared.limits.TheConstants.{MOST_ROUNDS};
-    ghost use Rattle.model.specs.Figures.{figures_of};
-    ghost use Rattle.model.specs.calls.OwnerListView.{lists_in};
-    ghost use Rattle.model.specs.Tables.{HoldsOfEach};
-    ghost use Rattle.model.specs.calls.Tables.{IsCluster};
-    ghost use Rattle.round_tables.specs.Histories.{AreWrittenBy, StandsAmong};
-    ghost use Rattle.version_tables.specs.inner.Beside.{tables_of_views};
-
-    /// The figures at the end of a round, as `figures` has them.
-    fn figures<H: Written, R: Threads + Sync>(
-        rt: &R,
-        alloc: Global,
-        tables: &[VersionTable<Self, H>],
-        histories: &Histories<Self, H>,
-        round: u32,
-        hands: Hands,
-    ) -> Result<Figures, Fault>
-        requires sync { IsSync R.row }
-        requires cluster { IsCluster (length tables.now) (tables_of_views H.lists tables.now) }
-        requires one_list_each { length histories.now.lists ≡ length tables.now }
-        requires round { round ≤ MOST_ROUNDS }
-        requires written { AreWrittenBy round histories.now.lists }
-        requires standing { HoldsOfEach (StandsAmong histories.now.lists) (tables_of_views H.lists tables.now) }
-        ensures figures { IfOk result
-            (λ f. f ≡ figures_of round (tables_of_views H.lists tables.now) (lists_in histories.now.lists)) }
-        ensures only { IsOkUnless result OutOfMemory };
-}
-
-impl SharedNumber for u8 {
-    fn figures<H: Written, R: Threads + Sync>(
-        rt: &R,
-        alloc: Global,
-        tables: &[VersionTable<u8, H>],
-        histories: &Histories<u8, H>,
-        round: u32,
-        hands: Hands,
-    ) -> Result<Figures, Fault> {
-        figures(rt, alloc, tables, histories, round, hands)
-    }
-}
-
-impl SharedNumber for Short {
-    fn figures<H: Written, R: Threads + Sync>(
-        rt: &R,
-        alloc: Global,
-        tables: &[VersionTable<Short, H>],
-        histories: &Histories<Short, H>,
-        round: u32,
-        hands: Hands,
-    ) -> Result<Figures, Fault> {
-        figures(rt, alloc, tables, histories, round, hands)
-    }
-}
-
-impl SharedNumber for u32 {
-    fn figures<H: Written, R: Threads + Sync>(
-        rt: &R,
-        alloc: Global,
-        tables: &[VersionTable<u32, H>],
-        histories: &Histories<u32, H>,
-        round: u32,
-        hands: Hands,
-    ) -> Result<Figures, Fault> {
-        figures(rt, alloc, tables, histories, round, hands)
-    }
 }
 
 impl<N: SharedNumber + Send + Sync, H: Written + Send + Sync> RoundHistories<VersionTable<N, H>>

@@ -1,20 +1,16 @@
 //! The figures of a round, where tables keep versions alone.
 
-ghost use Rattle.std.specs.Prelude.{◌≡◌, ◌≤◌, length, IfOk, IsOkUnless};
+ghost use Rattle.std.specs.Prelude.{◌≡◌, IfOk, IsOkUnless};
 ghost use Rattle.bench_types.specs.declared.faults.Fault.TheVariants.{OutOfMemory};
-ghost use Rattle.bench_types.specs.declared.limits.TheConstants.{MOST_ROUNDS};
 ghost use Rattle.model.specs.Figures.{figures_of};
 ghost use Rattle.model.specs.calls.OwnerListView.{lists_in};
-ghost use Rattle.model.specs.Tables.{HoldsOfEach};
-ghost use Rattle.model.specs.calls.Tables.{IsCluster};
-ghost use Rattle.round_tables.specs.Histories.{AreWrittenBy, StandsAmong};
 ghost use Rattle.version_lags.specs.Pieces.{keys_in, numbers_in};
-ghost use Rattle.version_tables.specs.inner.Beside.{tables_of_views, AreCellsOf};
+ghost use Rattle.version_tables.specs.inner.Beside.{tables_of_views, AreAtRoundEnd, AreCellsOf};
 
 use crate::histories::Histories;
 use crate::tables::{VersionTable, Written};
 use bench_types::{Fault, Figures};
-use planes::Number;
+use planes::{Number, Short};
 use round_tables::Hands;
 use std::alloc::Global;
 use std::thread::Threads;
@@ -53,7 +49,7 @@ fn cells_of<'a, N: Number, H: Written>(
 /// the tables. Then an owner's list is walked over from the first write that some copy misses, if any, to the next
 /// one, where that may be older than what was found so far. It takes memory for the numbers of a table for each
 /// part of the tables. An error is lack of that memory (`OutOfMemory`).
-pub fn figures<N: Number + Send + Sync, H: Written>(
+pub(crate) fn figures<N: Number + Send + Sync, H: Written>(
     rt: &(impl Threads + Sync),
     alloc: Global,
     tables: &[VersionTable<N, H>],
@@ -61,15 +57,9 @@ pub fn figures<N: Number + Send + Sync, H: Written>(
     round: u32,
     hands: Hands,
 ) -> Result<Figures, Fault>
-    requires cluster { IsCluster (length tables.now) (tables_of_views H.lists tables.now) }
-    requires one_list_each { length histories.now.lists ≡ length tables.now }
-    requires round { round ≤ MOST_ROUNDS }
-    requires written { AreWrittenBy round histories.now.lists }
-    requires standing { HoldsOfEach (StandsAmong histories.now.lists)
-        (tables_of_views H.lists tables.now) }
+    requires { AreAtRoundEnd H.lists round tables.now histories.now.lists }
     ensures figures { IfOk result
-        (λ f. f ≡ figures_of round (tables_of_views H.lists tables.now)
-        (lists_in histories.now.lists)) }
+        (λ f. f ≡ figures_of round (tables_of_views H.lists tables.now) (lists_in histories.now.lists)) }
     ensures only { IsOkUnless result OutOfMemory }
 {
     let keys = keys_of(tables);
@@ -83,4 +73,64 @@ pub fn figures<N: Number + Send + Sync, H: Written>(
         ends: histories.ends(),
     };
     version_lags::figures(rt, alloc, &numbers, round, hands)
+}
+
+/// Numbers that threads may share. What starts threads is written for each type of them, since no proof is had of what
+/// sends a parameter's values to a thread in a generic `impl` of a trait.
+pub trait SharedNumber: Number {
+    ghost use denote.Param.Send.{IsSync};
+
+    /// The figures at the end of a round, as `figures` has them.
+    fn figures<H: Written, R: Threads + Sync>(
+        rt: &R,
+        alloc: Global,
+        tables: &[VersionTable<Self, H>],
+        histories: &Histories<Self, H>,
+        round: u32,
+        hands: Hands,
+    ) -> Result<Figures, Fault>
+        requires sync { IsSync R.row }
+        requires ended { AreAtRoundEnd H.lists round tables.now histories.now.lists }
+        ensures figures { IfOk result
+            (λ f. f ≡ figures_of round (tables_of_views H.lists tables.now) (lists_in histories.now.lists)) }
+        ensures only { IsOkUnless result OutOfMemory };
+}
+
+impl SharedNumber for u8 {
+    fn figures<H: Written, R: Threads + Sync>(
+        rt: &R,
+        alloc: Global,
+        tables: &[VersionTable<u8, H>],
+        histories: &Histories<u8, H>,
+        round: u32,
+        hands: Hands,
+    ) -> Result<Figures, Fault> {
+        figures(rt, alloc, tables, histories, round, hands)
+    }
+}
+
+impl SharedNumber for Short {
+    fn figures<H: Written, R: Threads + Sync>(
+        rt: &R,
+        alloc: Global,
+        tables: &[VersionTable<Short, H>],
+        histories: &Histories<Short, H>,
+        round: u32,
+        hands: Hands,
+    ) -> Result<Figures, Fault> {
+        figures(rt, alloc, tables, histories, round, hands)
+    }
+}
+
+impl SharedNumber for u32 {
+    fn figures<H: Written, R: Threads + Sync>(
+        rt: &R,
+        alloc: Global,
+        tables: &[VersionTable<u32, H>],
+        histories: &Histories<u32, H>,
+        round: u32,
+        hands: Hands,
+    ) -> Result<Figures, Fault> {
+        figures(rt, alloc, tables, histories, round, hands)
+    }
 }

@@ -33,6 +33,5 @@ mod taking;
 
 pub use delta_plans::deltas_have_their_sets;
 pub use histories::Histories;
-pub use lags::figures;
 pub use planes::{Number, Short};
 pub use tables::{VersionTable, Written};

@@ -16,7 +16,7 @@ module _ (g : given.Over) (c : goal.After-numbers-1 g) where
       let same = sym c.lists.ensures.value in
       let ends = c.ends.ensures in
       record {
-        may = subst (MayBeCounted c.args.round tables) same (record { together = together; round_limit = c.requires.round; written = c.requires.written });
+        may = subst (MayBeCounted c.args.round tables) same (record { together = together; round_limit = c.requires.round_limit; written = c.requires.written_by });
         few = λ r. subst (λ ls. length (all_writes ls r) < g.N.Number.most) same (c.lists.ensures.so_far r).few;
         are = subst (λ ls. AreNumbersOf tables ls (length ls) c.keys_of-keys.result (numbers_in g.N.Number.number c.deref.result.now) (map g.N.Number.number c.bases.result.now) (map g.N.Number.number c.lasts.result.now)) same
             (numbers-of g.H.Written.lists c.args.tables.now c.args.histories.now.lists together (λ r. (c.lists.ensures.so_far r).begins) g.N.Number.number c.deref.result.now c.keys_of-keys.ensures

@@ -8,7 +8,3 @@ pub mod Models
 pub mod Keys
 pub mod Boards
 pub mod inner
-pub use Rattle.model.specs.Exchanged
-pub use Rattle.model.specs.Tables
-pub use Rattle.model.specs.Folds
-pub use Rattle.dependencies.specs.Neighbours

@@ -5,8 +5,3 @@ pub mod States
 pub mod ListOrder
 pub mod Laws
 pub mod inner
-pub use Rattle.model.specs.Exchanged
-pub use Rattle.model.specs.Tables
-pub use Rattle.model.specs.Folds
-pub use Rattle.model.specs.RoundLists
-pub use Rattle.bench_types.specs.calls.Exchange

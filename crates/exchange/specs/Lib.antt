@@ -1,9 +1,2 @@
 pub mod InMemory
 pub mod inner
-pub use Rattle.model.specs.Candidates
-pub use Rattle.model.specs.Order
-pub use Rattle.model.specs.Picks
-pub use Rattle.reconcile.specs.Digests
-pub use Rattle.model.specs.Deltas
-pub use Rattle.model.specs.Table
-pub use Rattle.node_table.specs.NodeTableView

@@ -20,8 +20,3 @@ pub mod Writes
 pub mod Figures
 pub mod calls
 pub mod inner
-pub use Rattle.bench_types.specs.Entry
-pub use Rattle.bench_types.specs.calls.Exchange
-pub use Rattle.bench_types.specs.Mark
-pub use Rattle.bench_types.specs.Mode
-pub use Rattle.bench_types.specs.Sums

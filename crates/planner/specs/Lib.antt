@@ -1,15 +1,3 @@
 pub mod Stages
 pub mod Plays
 pub mod inner
-pub use Rattle.dependencies.specs.Sharing
-pub use Rattle.dependencies.specs.Neighbours
-pub use Rattle.dependencies.specs.Schedules
-pub use Rattle.dependencies.specs.States
-pub use Rattle.dependencies.specs.ListOrder
-pub use Rattle.dependencies.specs.Laws
-pub use Rattle.model.specs.Exchanged
-pub use Rattle.model.specs.Tables
-pub use Rattle.model.specs.Folds
-pub use Rattle.model.specs.Clusters
-pub use Rattle.model.specs.RoundLists
-pub use Rattle.bench_types.specs.calls.Exchange

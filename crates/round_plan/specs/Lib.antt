@@ -6,4 +6,3 @@ pub mod Words
 pub mod Writes
 pub mod calls
 pub mod inner
-pub use Rattle.bench_types.specs.calls.Exchange

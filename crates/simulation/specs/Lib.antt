@@ -10,19 +10,3 @@ pub mod CatchingUp
 pub mod Formats
 pub mod calls
 pub mod inner
-pub use Rattle.model.specs.Exchanged
-pub use Rattle.model.specs.Spreads
-pub use Rattle.model.specs.States
-pub use Rattle.model.specs.Tables
-pub use Rattle.model.specs.Folds
-pub use Rattle.model.specs.RoundLists
-pub use Rattle.model.specs.Runs
-pub use Rattle.round_plan.specs.Plan
-pub use Rattle.round_plan.specs.Writes
-pub use Rattle.model.specs.Figures
-pub use Rattle.model.specs.calls.OwnParts
-pub use Rattle.model.specs.Writes as OwnerLists
-pub use Rattle.model.specs.calls.OwnerListView
-pub use Rattle.scenario.specs.Settings
-pub use Rattle.model.specs.Table
-pub use Rattle.round_tables.specs.Histories

@@ -10,7 +10,7 @@ ghost use Rattle.workers.specs.inner.Pushes.{AreDealt, pushed};
 ghost use Rattle.workers.specs.inner.Returns.{IsFreshSeat, IsReturned};
 ghost use Rattle.workers.specs.inner.Starts.{AreSeveral, MaySplit};
 ghost use Rattle.workers.specs.inner.Works.{MayWorkOn, HasWorkedOn};
-ghost use Rattle.workers.specs.inner.Workshops.{IsWorkshop};
+ghost use Rattle.workers.specs.inner.Workshops.{IsWorkshopOf};
 ghost use Rattle.workers.specs.inner.Joined.{HasTakenIn, HasRun, HasSeenAll, IsEndOf, IsOfBoard, AreTogether};
 
 use crate::deques::{Limit, Tasks};
@@ -128,8 +128,7 @@ impl<'e, T: MemoryTable + Send + Sync, X: Exchanging<T>, G: Gate + Sync> Worksho
         tasks: Vec<Tasks<L>>,
         meanwhile: F,
     ) -> Result<(Seat<T>, Vec<Stamped>, M), Fault>
-        requires shop { IsWorkshop T.table X.fits self.now }
-        requires limit { L.limit ≡ length self.now.list.now.exchanges }
+        requires shop { IsWorkshopOf T.table X.fits L.limit self.now }
         requires begin { MaySplit T.table self.now.board.now seat (vec_len tasks) }
         requires meanwhile { F.pre meanwhile }
         ensures { HasRun T.table self.now.board.now (F.post meanwhile) (vec_len tasks) result }
@@ -138,8 +137,7 @@ impl<'e, T: MemoryTable + Send + Sync, X: Exchanging<T>, G: Gate + Sync> Worksho
             thread::scope_env(),
             rt,
             move |scope| -> Result<(Seat<T>, Vec<Stamped>, M), Fault>
-                requires shop { IsWorkshop T.table X.fits self.now }
-                requires limit { L.limit ≡ length self.now.list.now.exchanges }
+                requires shop { IsWorkshopOf T.table X.fits L.limit self.now }
                 requires begin { MaySplit T.table self.now.board.now seat (vec_len tasks) }
                 requires meanwhile { F.pre meanwhile }
                 ensures { HasRun T.table self.entry.now.board.now (F.post meanwhile) (vec_len tasks) result }
@@ -168,8 +166,7 @@ impl<'e, T: MemoryTable + Send + Sync, X: Exchanging<T>, G: Gate + Sync> Worksho
         tasks: Vec<Tasks<L>>,
         handles: &mut Vec<Handle<T>>,
     ) -> Result<(), Fault>
-        requires shop { IsWorkshop T.table X.fits self.now }
-        requires limit { L.limit ≡ length self.now.list.now.exchanges }
+        requires shop { IsWorkshopOf T.table X.fits L.limit self.now }
         requires seat { IsFreshSeat T.table self.now.board.now seat.old }
         requires parts { vec_len tasks < (seat_view seat.old).parts }
         requires none { handles.old.items ≡ [] }
@@ -186,8 +183,7 @@ impl<'e, T: MemoryTable + Send + Sync, X: Exchanging<T>, G: Gate + Sync> Worksho
             let started = scope.spawn_with(
                 back,
                 move ||
-                    requires shop { IsWorkshop T.table X.fits self.now }
-                    requires limit { L.limit ≡ length self.now.list.now.exchanges }
+                    requires shop { IsWorkshopOf T.table X.fits L.limit self.now }
                     requires seat { IsFreshSeat T.table self.now.board.now part }
                 { self.work(rt, part, own) },
             );

@@ -5,7 +5,7 @@ use Rattle.workers.proofs.threads.exchange_in_threads.Goals as goal
 
 pub run-requires-clause-shop : goal.run-requires-clause-shop
 run-requires-clause-shop g c = λ κs out.
-    is_workshop g.T.MemoryTable.table g.X.Exchanging.fits _ c.args.tables.items c.in_ok-board.ensures.board c.requires.tables
+    (is_workshop g.T.MemoryTable.table g.X.Exchanging.fits _ c.args.tables.items c.in_ok-board.ensures.board c.requires.tables, c.requires.limit)
 
 pub end-requires-clause-list : goal.end-requires-clause-list
 end-requires-clause-list g c = ap (λ (p : BoardPlan). p.list) c.in_ok-board.ensures.board

@@ -124,7 +124,7 @@ impl<'e, T: MemoryTable + Send + Sync, X: Exchanging<T>, G: Gate + Sync> Worksho
     fn run<L: Limit + Send + Sync, F: FnOnce() -> M + Drop, M: Drop>(
         &self,
         rt: &(impl Threads + Wait + Sync),
-        seat: Seat<T>,
+        mut seat: Seat<T>,
         tasks: Vec<Tasks<L>>,
         meanwhile: F,
     ) -> Result<(Seat<T>, Vec<Stamped>, M), Fault>
@@ -136,13 +136,12 @@ impl<'e, T: MemoryTable + Send + Sync, X: Exchanging<T>, G: Gate + Sync> Worksho
         thread::scope(
             thread::scope_env(),
             rt,
-            move |scope| -> Result<(Seat<T>, Vec<Stamped>, M), Fault>
+            move |scope|
                 requires shop { IsWorkshopOf T.table X.fits L.limit self.now }
                 requires begin { MaySplit T.table self.now.board.now seat (vec_len tasks) }
                 requires meanwhile { F.pre meanwhile }
                 ensures { HasRun T.table self.entry.now.board.now (F.post meanwhile) (vec_len tasks) result }
             {
-                let mut seat = seat;
                 let mut handles = Vec::with_capacity(self.alloc, tasks.len())?;
                 let started = self.start_all(scope, rt, &mut seat, tasks, &mut handles);
                 if started.is_err() {

@@ -42,7 +42,7 @@ pub record HasSeenAll {T : Type 0} (table : T → Table) (board : Board T) (seat
   pub seen : (seat_view seat).seen ≡ length (exchanges_of board)
   pub records : AreRecordsOf (plan_of table board) (seat_view seat) stamps
 
--- so many workers have come to this seat and these stamps, and the call beside them gave what it may
+-- so many workers come to a seat that has seen all and to its records, beside what a call may give, or to a fault
 abbrev pub HasRun : {T M : Type 0} → (T → Table) → Board T → (M → Type 0) → ℕ → Result (Seat T × Vec Stamped Global × M) Fault → Type 0
 HasRun table board gives workers result =
     MatchResult result (λ p. HasSeenAll table board p.0 p.1.items × gives p.2) (IsFaultOfWorkers workers)

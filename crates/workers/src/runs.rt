@@ -55,6 +55,6 @@ pub fn run_list_with<
         let records = exchange_all(alloc, work, &mut tables)?;
         Ok((tables, records, made))
     } else {
-        exchange_in_threads::<Brand, R, T, X, G, F, M>(rt, alloc, work, tables, meanwhile)
+        exchange_in_threads::<Brand, T, X, F, M>(rt, alloc, work, tables, meanwhile)
     }
 }

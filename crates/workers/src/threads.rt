@@ -10,8 +10,8 @@ ghost use Rattle.workers.specs.inner.Pushes.{AreDealt, pushed};
 ghost use Rattle.workers.specs.inner.Returns.{IsFreshSeat, IsReturned};
 ghost use Rattle.workers.specs.inner.Starts.{AreSeveral, MaySplit};
 ghost use Rattle.workers.specs.inner.Works.{MayWorkOn, HasWorkedOn};
-ghost use Rattle.workers.specs.inner.Workshops.{IsWorkshop};
-ghost use Rattle.workers.specs.inner.Joined.{HasTakenIn, HasSeenAll, IsEndOf, IsOfBoard, AreTogether};
+ghost use Rattle.workers.specs.inner.Workshops.{IsWorkshopOf};
+ghost use Rattle.workers.specs.inner.Joined.{HasTakenIn, HasRun, HasSeenAll, IsEndOf, IsOfBoard, AreTogether};
 
 use crate::deques::{Limit, Tasks};
 use crate::gates::Gate;
@@ -43,16 +43,14 @@ type Handle<T> = PromisedHandle<Returned<T>, Back<T>>;
 /// started. A type knows how long the list is.
 pub(crate) fn exchange_in_threads<
     L: Limit + Send + Sync,
-    R: Threads + Wait + Sync,
     T: MemoryTable + Send + Sync,
     X: Exchanging<T>,
-    G: Gate + Sync,
     F: FnOnce() -> M + Drop,
     M: Drop,
 >(
-    rt: &R,
+    rt: &(impl Threads + Wait + Sync),
     alloc: Global,
-    work: Work<X, G>,
+    work: Work<X, impl Gate + Sync>,
     tables: Vec<T>,
     meanwhile: F,
 ) -> Result<(Vec<T>, Vec<Record>, M), Fault>
@@ -73,7 +71,7 @@ pub(crate) fn exchange_in_threads<
         rules: work.rules,
         gate: work.gate,
     };
-    let (seat, stamps, made) = run_workers(rt, &shop, seat, tasks, meanwhile)?;
+    let (seat, stamps, made) = shop.run(rt, seat, tasks, meanwhile)?;
     let (tables, records) = end(alloc, work.list, board, seat, &stamps)?;
     Ok((tables, records, made))
 }
@@ -120,83 +118,81 @@ fn end<T: MemoryTable>(
     Ok((tables, records))
 }
 
-// Starts a thread for each worker, calls `meanwhile` and joins them all. Answers the whole seat, the records of the
-// workers and what the call gave.
-fn run_workers<
-    L: Limit + Send + Sync,
-    R: Threads + Wait + Sync,
-    T: MemoryTable + Send + Sync,
-    X: Exchanging<T>,
-    G: Gate + Sync,
-    F: FnOnce() -> M + Drop,
-    M: Drop,
->(
-    rt: &R,
-    shop: &Workshop<T, X, G>,
-    seat: Seat<T>,
-    tasks: Vec<Tasks<L>>,
-    meanwhile: F,
-) -> Result<(Seat<T>, Vec<Stamped>, M), Fault>
-    requires shop { IsWorkshop T.table X.fits shop.now }
-    requires limit { L.limit ≡ length shop.now.list.now.exchanges }
-    requires begin { MaySplit T.table shop.now.board.now seat (vec_len tasks) }
-    requires meanwhile { F.pre meanwhile }
-    ensures seen { IfOk result (λ p. HasSeenAll T.table shop.now.board.now p.0 p.1.items) }
-    ensures made { IfOk result (λ p. F.post meanwhile p.2) }
-    ensures fault { IfErr result (IsFaultOfWorkers (vec_len tasks)) }
-{
-    thread::scope(
-        thread::scope_env(),
-        rt,
-        |scope| -> Result<(Seat<T>, Vec<Stamped>, M), Fault>
-            requires shop { IsWorkshop T.table X.fits shop.now }
-            requires limit { L.limit ≡ length shop.now.list.now.exchanges }
-            requires begin { MaySplit T.table shop.now.board.now seat (vec_len tasks) }
-            requires meanwhile { F.pre meanwhile }
-            ensures seen { IfOk result (λ p. HasSeenAll T.table shop.entry.now.board.now p.0 p.1.items) }
-            ensures made { IfOk result (λ p. F.post meanwhile p.2) }
-            ensures fault { IfErr result (IsFaultOfWorkers (vec_len tasks)) }
-        { run_in_scope(scope, rt, shop, seat, tasks, meanwhile) },
-    )
-}
-
-fn run_in_scope<
-    's,
-    'e: 's,
-    L: Limit + Send + Sync + 'e,
-    R: Threads + Wait + Sync,
-    T: MemoryTable + Send + Sync,
-    X: Exchanging<T>,
-    G: Gate + Sync,
-    F: FnOnce() -> M + Drop,
-    M: Drop,
->(
-    scope: &Scope<'s, &'e ()>,
-    rt: &'e R,
-    shop: &'e Workshop<'e, T, X, G>,
-    mut seat: Seat<T>,
-    tasks: Vec<Tasks<L>>,
-    meanwhile: F,
-) -> Result<(Seat<T>, Vec<Stamped>, M), Fault>
-    requires shop { IsWorkshop T.table X.fits shop.now }
-    requires limit { L.limit ≡ length shop.now.list.now.exchanges }
-    requires begin { MaySplit T.table shop.now.board.now seat (vec_len tasks) }
-    requires meanwhile { F.pre meanwhile }
-    ensures seen { IfOk result (λ p. HasSeenAll T.table shop.now.board.now p.0 p.1.items) }
-    ensures made { IfOk result (λ p. F.post meanwhile p.2) }
-    ensures fault { IfErr result (IsFaultOfWorkers (vec_len tasks)) }
-{
-    let mut handles = Vec::with_capacity(shop.alloc, tasks.len())?;
-    let started = start_all(scope, rt, shop, &mut seat, tasks, &mut handles);
-    if started.is_err() {
-        shop.board.stop(&mut seat);
+impl<'e, T: MemoryTable + Send + Sync, X: Exchanging<T>, G: Gate + Sync> Workshop<'e, T, X, G> {
+    // Starts a thread for each worker, calls `meanwhile` and joins them all. Answers the whole seat, the records of the
+    // workers and what the call gave.
+    fn run<L: Limit + Send + Sync, F: FnOnce() -> M + Drop, M: Drop>(
+        &self,
+        rt: &(impl Threads + Wait + Sync),
+        mut seat: Seat<T>,
+        tasks: Vec<Tasks<L>>,
+        meanwhile: F,
+    ) -> Result<(Seat<T>, Vec<Stamped>, M), Fault>
+        requires shop { IsWorkshopOf T.table X.fits L.limit self.now }
+        requires begin { MaySplit T.table self.now.board.now seat (vec_len tasks) }
+        requires meanwhile { F.pre meanwhile }
+        ensures { HasRun T.table self.now.board.now (F.post meanwhile) (vec_len tasks) result }
+    {
+        thread::scope(
+            thread::scope_env(),
+            rt,
+            move |scope|
+                requires shop { IsWorkshopOf T.table X.fits L.limit self.now }
+                requires begin { MaySplit T.table self.now.board.now seat (vec_len tasks) }
+                requires meanwhile { F.pre meanwhile }
+                ensures { HasRun T.table self.entry.now.board.now (F.post meanwhile) (vec_len tasks) result }
+            {
+                let mut handles = Vec::with_capacity(self.alloc, tasks.len())?;
+                let started = self.start_all(scope, rt, &mut seat, tasks, &mut handles);
+                if started.is_err() {
+                    self.board.stop(&mut seat);
+                }
+                let made = meanwhile();
+                let joined = join_all(rt, self.alloc, self.board, &mut seat, handles);
+                let stamps = outcome_of(started, joined)?;
+                // A whole seat, so it learns that all exchanges are put back.
+                self.board.look(&mut seat);
+                Ok((seat, stamps, made))
+            },
+        )
     }
-    let made = meanwhile();
-    let joined = join_all(rt, shop.alloc, shop.board, &mut seat, handles);
-    let stamps = outcome_of(started, joined)?;
-    // A whole seat, so it learns that all exchanges are put back.
-    shop.board.look(&mut seat);
-    Ok((seat, stamps, made))
+
+    fn start_all<L: Limit + Send + Sync + 'e>(
+        &'e self,
+        scope: &Scope<'_, &'e ()>,
+        rt: &'e (impl Threads + Wait + Sync),
+        seat: &mut Seat<T>,
+        tasks: Vec<Tasks<L>>,
+        handles: &mut Vec<Handle<T>>,
+    ) -> Result<(), Fault>
+        requires shop { IsWorkshopOf T.table X.fits L.limit self.now }
+        requires seat { IsFreshSeat T.table self.now.board.now seat.old }
+        requires parts { vec_len tasks < (seat_view seat.old).parts }
+        requires none { handles.old.items ≡ [] }
+        requires room { vec_len tasks ≤ vec_capacity handles.old }
+        ensures seat { IsFreshSeat T.table self.now.board.now seat.new }
+        ensures parts { OnOk result ((seat_view seat.new).parts + vec_len handles.new ≡ (seat_view seat.old).parts) }
+        ensures count { OnOk result (vec_len handles.new ≡ vec_len tasks) }
+        ensures promised { All (IsOfBoard self.now.board.now) handles.new.items }
+        ensures only { IsOkUnless result NoThread }
+    {
+        for own in tasks {
+            let part = self.board.split(seat);
+            let back = Back(Snapshot::of(self.board));
+            let started = scope.spawn_with(
+                back,
+                move ||
+                    requires shop { IsWorkshopOf T.table X.fits L.limit self.now }
+                    requires seat { IsFreshSeat T.table self.now.board.now part }
+                { self.work(rt, part, own) },
+            );
+            match started {
+                Ok(handle) => handles.push_reserved(handle),
+                Err(_) => return Err(Fault::NoThread),
+            }
+        }
+        Ok(())
+    }
 }
 
 fn outcome_of(
@@ -210,57 +206,9 @@ fn outcome_of(
     joined
 }
 
-fn start_all<
-    's,
-    'e: 's,
-    L: Limit + Send + Sync + 'e,
-    R: Threads + Wait + Sync,
-    T: MemoryTable + Send + Sync,
-    X: Exchanging<T>,
-    G: Gate + Sync,
->(
-    scope: &Scope<'s, &'e ()>,
-    rt: &'e R,
-    shop: &'e Workshop<'e, T, X, G>,
-    seat: &mut Seat<T>,
-    tasks: Vec<Tasks<L>>,
-    handles: &mut Vec<Handle<T>>,
-) -> Result<(), Fault>
-    requires shop { IsWorkshop T.table X.fits shop.now }
-    requires limit { L.limit ≡ length shop.now.list.now.exchanges }
-    requires seat { IsFreshSeat T.table shop.now.board.now seat.old }
-    requires parts { vec_len tasks < (seat_view seat.old).parts }
-    requires none { handles.old.items ≡ [] }
-    requires room { vec_len tasks ≤ vec_capacity handles.old }
-    ensures seat { IsFreshSeat T.table shop.now.board.now seat.new }
-    ensures parts { OnOk result ((seat_view seat.new).parts + vec_len handles.new ≡ (seat_view seat.old).parts) }
-    ensures count { OnOk result (vec_len handles.new ≡ vec_len tasks) }
-    ensures promised { All (IsOfBoard shop.now.board.now) handles.new.items }
-    ensures only { IsOkUnless result NoThread }
-{
-    for own in tasks {
-        let part = shop.board.split(seat);
-        let back = Back(Snapshot::of(shop.board));
-        let started = scope.spawn_with(
-            back,
-            move || -> Returned<T>
-                requires shop { IsWorkshop T.table X.fits shop.now }
-                requires limit { L.limit ≡ length shop.now.list.now.exchanges }
-                requires seat { IsFreshSeat T.table shop.now.board.now part }
-                ensures { IsReturned T.table shop.entry.now.board.now (seat_view part).parts result }
-            { shop.work(rt, part, own) },
-        );
-        match started {
-            Ok(handle) => handles.push_reserved(handle),
-            Err(_) => return Err(Fault::NoThread),
-        }
-    }
-    Ok(())
-}
-
 // Joins the threads, and their seats to another. Answers the records of all, in the order of joining.
-fn join_all<R: Threads, T: MemoryTable>(
-    rt: &R,
+fn join_all<T: MemoryTable>(
+    rt: &impl Threads,
     alloc: Global,
     board: &Board<T>,
     seat: &mut Seat<T>,

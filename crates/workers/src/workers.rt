@@ -1,6 +1,6 @@
 //! What the workers of a list share, and the body of one of them.
 
-ghost use Rattle.std.specs.Prelude.{◌≡◌, ◌<◌, length, IfOk, OnOk, OnErr, IsOkUnless};
+ghost use Rattle.std.specs.Prelude.{◌≡◌, ◌<◌, IfOk, OnOk, OnErr, IsOkUnless};
 ghost use Rattle.bench_types.specs.declared.faults.Fault.TheVariants.{OutOfMemory};
 ghost use Rattle.board.specs.Weights.{Has};
 ghost use Rattle.board.specs.Boards.{plan_of, seat_view, IsSeatOf, IsHoldOf};
@@ -36,7 +36,7 @@ pub(crate) struct Returned<T> {
 
 impl<'a, T: MemoryTable, X: Exchanging<T>, G: Gate> Workshop<'a, T, X, G> {
     ghost use Rattle.workers.specs.inner.Pushes.{PushesFreed, pushed};
-    ghost use Rattle.workers.specs.inner.Workshops.{IsWorkshop};
+    ghost use Rattle.workers.specs.inner.Workshops.{IsWorkshop, IsWorkshopOf};
     ghost use Rattle.workers.specs.inner.Returns.{HasCarriedOut, HasRecords, IsFreshSeat, IsReturned, SeesTheEnd, StaysAtWork};
 
     /// Carries out exchanges of the list until it sees that all are finished or that a stop was called. On
@@ -47,8 +47,7 @@ impl<'a, T: MemoryTable, X: Exchanging<T>, G: Gate> Workshop<'a, T, X, G> {
         mut seat: Seat<T>,
         mut tasks: Tasks<L>,
     ) -> Returned<T>
-        requires shop { IsWorkshop T.table X.fits self.now }
-        requires limit { L.limit ≡ length self.now.list.now.exchanges }
+        requires shop { IsWorkshopOf T.table X.fits L.limit self.now }
         requires seat { IsFreshSeat T.table self.now.board.now seat }
         ensures { IsReturned T.table self.now.board.now (seat_view seat).parts result }
     {
@@ -65,8 +64,7 @@ impl<'a, T: MemoryTable, X: Exchanging<T>, G: Gate> Workshop<'a, T, X, G> {
         seat: &mut Seat<T>,
         tasks: &mut Tasks<L>,
     ) -> Result<Vec<Stamped>, Fault>
-        requires shop { IsWorkshop T.table X.fits self.now }
-        requires limit { L.limit ≡ length self.now.list.now.exchanges }
+        requires shop { IsWorkshopOf T.table X.fits L.limit self.now }
         requires seat { IsFreshSeat T.table self.now.board.now seat.old }
         ensures seat { IsSeatOf T.table seat.new self.now.board.now }
         ensures stays { StaysAtWork (seat_view seat.old) (seat_view seat.new) }
@@ -103,8 +101,7 @@ impl<'a, T: MemoryTable, X: Exchanging<T>, G: Gate> Workshop<'a, T, X, G> {
         stamps: &mut Vec<Stamped>,
         i: u32,
     ) -> Result<(), Fault>
-        requires shop { IsWorkshop T.table X.fits self.now }
-        requires limit { L.limit ≡ length self.now.list.now.exchanges }
+        requires shop { IsWorkshopOf T.table X.fits L.limit self.now }
         requires within { i < L.limit }
         requires seat { IsSeatOf T.table seat.old self.now.board.now }
         requires records { HasRecords T.table self.now.board.now seat.old stamps.old.items }

@@ -1,10 +1,11 @@
 -- What comes back of workers. Source: this project.
-use Rattle.std.specs.Prelude.{◌≡◌, ℕ, ◌<◌, ◌≤◌, ◌⊎◌, ◌++◌, true, List, length, map, Result, Ok, Vec}
+use Rattle.std.specs.Prelude.{◌≡◌, ℕ, ◌<◌, ◌≤◌, ◌⊎◌, ◌++◌, true, List, length, map, Result, Ok, MatchResult, Vec}
 use Rattle.std.specs.declared.alloc.Global.{Global}
 use Rattle.std.specs.declared.thread.PromisedHandle.{PromisedHandle}
 use Rattle.bench_types.specs.declared.faults.Fault.{Fault}
 use Rattle.bench_types.specs.declared.exchanges.Record.{Record}
 use Rattle.model.specs.Table.{Table}
+use Rattle.model.specs.Runs.{IsFaultOfWorkers}
 use Rattle.model.specs.Folds.{fold_of}
 use Rattle.board.specs.SeatView.{SeatView, IsWhole}
 use Rattle.board.specs.Plan.{BoardPlan}
@@ -40,6 +41,11 @@ pub record HasSeenAll {T : Type 0} (table : T → Table) (board : Board T) (seat
   pub whole : IsWhole (seat_view seat)
   pub seen : (seat_view seat).seen ≡ length (exchanges_of board)
   pub records : AreRecordsOf (plan_of table board) (seat_view seat) stamps
+
+-- so many workers come to a seat that has seen all and to its records, beside what a call may give, or to a fault
+abbrev pub HasRun : {T M : Type 0} → (T → Table) → Board T → (M → Type 0) → ℕ → Result (Seat T × Vec Stamped Global × M) Fault → Type 0
+HasRun table board gives workers result =
+    MatchResult result (λ p. HasSeenAll table board p.0 p.1.items × gives p.2) (IsFaultOfWorkers workers)
 
 -- the tables and the records of list order
 abbrev pub IsEndOf : {T : Type 0} → (T → Table) → BoardPlan → List T → List Record → Type 0

@@ -1,5 +1,5 @@
 -- What the workers of a list share. Source: this project.
-use Rattle.std.specs.Prelude.{◌≡◌}
+use Rattle.std.specs.Prelude.{◌≡◌, ℕ, length}
 use Rattle.model.specs.Table.{Table}
 use Rattle.board.specs.Boards.{plan_of}
 use Rattle.workers.specs.Carrying.{MayCarryOut}
@@ -11,3 +11,7 @@ pub record IsWorkshop {T G S : Type 0} (table : T → Table) (fits : S → Table
   pub same_rules : (plan_of table shop.board.now).rules ≡ shop.rules.now
   pub tables : MayCarryOut (fits shop.shared.now) shop.rules.now shop.list.now.nodes
       (plan_of table shop.board.now).tables
+
+-- and the list has so many exchanges
+abbrev pub IsWorkshopOf : {T G S : Type 0} → (T → Table) → (S → Table → Type 0) → ℕ → Workshop T S G → Type 0
+IsWorkshopOf table fits limit shop = IsWorkshop table fits shop × (limit ≡ length shop.list.now.exchanges)

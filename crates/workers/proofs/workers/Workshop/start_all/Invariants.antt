@@ -1,14 +1,14 @@
 use Rattle.workers.proofs.Common.{◌≡◌, ◌+◌, All, vec_len, vec_capacity, into_iter_len, seat_view}
 use Rattle.workers.specs.inner.Returns.{IsFreshSeat}
 use Rattle.workers.specs.inner.Joined.{IsOfBoard}
-use Rattle.workers.proofs.threads.start_all.Given as goal
+use Rattle.workers.proofs.workers.Workshop.start_all.Given as goal
 
 abbrev pub invariant-loop-own : goal.invariant-loop-own
 invariant-loop-own g l =
     record {
-      seat : IsFreshSeat g.T.MemoryTable.table l.shop.board.now l.seat;
+      seat : IsFreshSeat g.T.MemoryTable.table l.self.board.now l.seat;
       parts : (seat_view l.seat).parts + vec_len l.handles ≡ (seat_view l.fn.seat).parts;
       count : vec_len l.handles + into_iter_len l.own-iterator ≡ into_iter_len l.initial.own-iterator;
       room : vec_capacity l.handles ≡ vec_capacity l.fn.handles;
-      promised : All (IsOfBoard l.shop.board.now) l.handles.items;
+      promised : All (IsOfBoard l.self.board.now) l.handles.items;
     }

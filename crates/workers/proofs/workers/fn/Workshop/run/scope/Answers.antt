@@ -1,5 +1,5 @@
 use Rattle.workers.proofs.Common.{ap, SeatView}
-use Rattle.workers.proofs.threads.run_in_scope.Goals as goal
+use Rattle.workers.proofs.workers.fn.Workshop.run.scope.Goals as goal
 
 pub start_all-started-requires-clause-seat : goal.start_all-started-requires-clause-seat
 start_all-started-requires-clause-seat g c = λ κs out. record {

@@ -1,13 +1,13 @@
 use Rattle.workers.proofs.Common.{◌≡◌, length, vec_len, refl, sym, ap, subst, ◌∙◌, arith, All, All-push}
 use Rattle.workers.specs.inner.Joined.{IsOfBoard}
-use Rattle.workers.proofs.threads.start_all.Goals as goal
+use Rattle.workers.proofs.workers.Workshop.start_all.Goals as goal
 
 pub loop-own-preserved : goal.loop-own-preserved
 loop-own-preserved g c =
     let so_far = c.loop-own.invariant in
     let split = c.split-part.ensures in
     let pushed = c.push_reserved.ensures in
-    let board = c.args.shop.now.board.now in
+    let board = c.args.self.now.board.now in
     let steps = c.in-Some.ensures.steps in
     record {
       seat = record {

@@ -1,5 +1,6 @@
 -- What an owner's list keeps through its calls.
--- Serves the functions of `lists`.
+-- Serves `OwnerList::begin_generation`, `OwnerList::entry`, `OwnerList::first_missed`, `OwnerList::len` and
+-- `OwnerList::write`.
 use Rattle.owner_lists.proofs.Common.{◌≡◌, ℕ, ◌+◌, ◌-◌, ◌^◌, ◌<◌, cond, eqb, Some, List, [], ◌∷◌, ◌++◌, length, map, take, drop, refl, sym, ap, ◌∙◌, subst, arith, nat_cmp, nat_cmp_total, put, find-put, length-drop, length-map, get_or-map, map-append, take_all, Entry, Write, OwnerListView, written, AreWrites, next_entry, write_of_entry, IsNumbered, last_write-push, same_key, view_begun, view_pushed, kept_begun, kept_pushed}
 use Rattle.owner_lists.specs.Latest.{keyed, write_of, IsLatest}
 use Rattle.owner_lists.specs.inner.Kept.{itself, view_of, IsKeptList}

@@ -1,15 +1,8 @@
 -- The least of an owner's numbers that pass a test, key by key.
 -- Serves `least_above` and `least_behind`.
-use Rattle.planes.proofs.Common.{◌≡◌, ℕ, zero, suc, ◌+◌, ◌<◌, ◌≤◌, cond, nat_lt, List, ◌⊎◌, inl, inr, sym, ◌∙◌, arith, below_more, nat_tests, cases_lt, AreChanged, IsLeastBehind, IsLowered, IsMade, Cells, HasEach, HasNoneAbove, IsNextAbove, IsLeastAbove}
+use Rattle.planes.proofs.Common.{◌≡◌, ℕ, zero, suc, ◌+◌, ◌<◌, ◌≤◌, cond, nat_lt, List, ◌⊎◌, inl, inr, sym, ◌∙◌, arith, below_more, nat_tests, cases_lt, AreChanged, IsLeastBehind, IsLeastOf, IsLowered, IsMade, Cells, HasEach, HasNoneAbove, IsNextAbove, IsLeastAbove}
 use Rattle.planes.proofs.Elementwise.{lowered-to}
-use Rattle.planes.proofs.Places.{each-next, each-whole}
-
--- the least of the values below a bound, each of which is no more than the most, and of the most
-pub record IsLeastOf (most : ℕ) (values : ℕ → ℕ) (keys least : ℕ) : Type 0 where
-  pub upto : least ≤ most
-  pub fits : (k : ℕ) → k < keys → values k ≤ most
-  pub no_less : (k : ℕ) → k < keys → least ≤ values k
-  pub is : (least ≡ most) ⊎ ((k : ℕ) × (k < keys) × (values k ≡ least))
+use Rattle.planes.proofs.Places.{each-next}
 
 least-more : (most key x y : ℕ) (values : ℕ → ℕ) → IsLeastOf most values key x → IsLowered most (values key) x y → IsLeastOf most values (key + 1) y
 least-more most key x y values before now = record {
@@ -38,11 +31,9 @@ module _ (nodes most : ℕ) (values : ℕ → ℕ → ℕ) where
   least-next number makes key old new before now step =
       each-next nodes _ _ _ old new before now (λ r x y lt is made. least-more most key x y (values r) is (lowered-to number most makes r x y (values r key) made (step r lt)))
 
-  -- and what they are when there are no more
-  pub least-whole : (is : ℕ → ℕ → Type 0) (key keys : ℕ) (xs : List ℕ) → HasEach nodes (λ r n. IsLeastOf most (values r) key n) xs → keys ≤ key → key ≤ keys → ((r n : ℕ) → IsLeastOf most (values r) keys n → is r n) → HasEach nodes is xs
-  least-whole is key keys xs before le ge step =
-      let whole = each-whole (λ k r n. IsLeastOf most (values r) k n) nodes key keys xs le ge before in
-      record { size = whole.size; each = λ r lt. step r _ (whole.each r lt) }
+-- and what the least ones are
+pub each-turned : (nodes : ℕ) (is other : ℕ → ℕ → Type 0) (xs : List ℕ) → HasEach nodes is xs → ((r n : ℕ) → is r n → other r n) → HasEach nodes other xs
+each-turned nodes is other xs before turn = record { size = before.size; each = λ r lt. turn r _ (before.each r lt) }
 
 -- of those behind the last ones
 pub least_is-behind : (most : ℕ) (cells last : Cells) (keys owner least : ℕ) → IsLeastOf most (λ k. cond (nat_lt (cells owner k) (last owner k)) (cells owner k) most) keys least → IsLeastBehind most cells last keys owner least

@@ -4,7 +4,7 @@
 ghost use Rattle.std.specs.Prelude.{◌≡◌, ℕ, ◌+◌, ◌*◌, ◌<◌, ◌≤◌, ◌&&◌, Bool, length, map, max, nat_le, nat_lt, slice_index, IfOk, IsOkUnless, if◌then◌else◌};
 ghost use Rattle.bench_types.specs.declared.faults.Fault.TheVariants.{OutOfMemory};
 ghost use Rattle.planes.specs.Planes.{count_above, cell, number_ahead, total_above, total_of, AreCovered, ArePlanesChanged, AreSentTaken, HasEach, HasEachPlace, IsGrid, IsNextAbove, MayTake, count_between};
-ghost use Rattle.planes.specs.inner.Loops.{AnswersAs, IsLowered};
+ghost use Rattle.planes.specs.inner.Loops.{AnswersAs, IsLeastOf, MakesAs};
 
 use crate::numbers::Number;
 use crate::owners::{FEW_TO_CHANGE, FEW_TO_COUNT};
@@ -128,6 +128,41 @@ pub fn count_some_between<N: Number>(
     }
 }
 
+// For each owner the least of its numbers that pass a test of place, owner and number, or `N::greatest()` where none
+// does.
+pub(crate) fn least_of<N: Number, F: Fn(usize, usize, N) -> bool>(
+    alloc: Global,
+    cells: &[N],
+    nodes: usize,
+    keys: usize,
+    passes: F,
+) -> Result<Vec<N>, Fault>
+    requires grid { IsGrid nodes keys (length cells.now) }
+    requires passes { (at r : ℕ) (n : N) → at < length cells.now → r < nodes → F.pre passes at r n }
+    ensures least { (test : ℕ → ℕ → ℕ → Bool)
+        → ((at : ℕ) → at < length cells.now → AnswersAs N.number (F.post passes at) nodes (test at))
+        → IfOk result (λ v. HasEach nodes (λ r n. IsLeastOf N.most (λ k. if test (k * nodes + r) r
+        (cell (map N.number cells.now) nodes r k) then cell (map N.number cells.now) nodes r k else N.most) keys n)
+        (map N.number v.items)) }
+    ensures only { IsOkUnless result OutOfMemory }
+{
+    let mut least = all_of(alloc, nodes, N::greatest())?;
+    let all: &mut [N] = &mut least;
+    for key in 0..keys {
+        let start = key * nodes;
+        planes::change(
+            all,
+            |r, number|
+                requires { (start + r < length cells.now) × ((n : N) → F.pre passes (start + r) r n) }
+            {
+                let now = cells[start + r];
+                planes::lowered_to(number, now, passes(start + r, r, now))
+            },
+        );
+    }
+    Ok(least)
+}
+
 /// For each owner the least of its numbers above a mark, or `N::greatest()` where there is none. An error is lack of
 /// memory (`OutOfMemory`).
 pub fn least_above<N: Number>(
@@ -144,61 +179,36 @@ pub fn least_above<N: Number>(
         (slice_index (map N.number low.now) r) n) (map N.number v.items)) }
     ensures only { IsOkUnless result OutOfMemory }
 {
-    let mut least = all_of(alloc, nodes, N::greatest())?;
-    let all: &mut [N] = &mut least;
-    for key in 0..keys {
-        let plane = plane_of(cells, nodes, key);
-        planes::change(
-            all,
-            |r, number| -> N
-                requires { (r < length plane.now) × (r < length low.now) }
-                ensures { IsLowered N.most (if nat_lt (slice_index (map N.number low.entry.now) r)
-                    (slice_index (map N.number plane.entry.now) r) then slice_index (map N.number plane.entry.now) r
-                    else N.most) (N.number number) (N.number result) }
-            {
-                let now = plane[r];
-                number.min_with(planes::pick(now.is_above(low[r]), now, N::greatest()))
-            },
-        );
-    }
-    Ok(least)
+    least_of(
+        alloc,
+        cells,
+        nodes,
+        keys,
+        |_, r, number| number.is_above(low[r]),
+    )
 }
 
-// Keeps the numbers that are above both the peer's and their owner's mark, and puts 0 in place of the others. It
-// answers how many it keeps.
-fn keep_planes_ahead<N: Number>(
+// Changes each number to the one that a closure makes of place, owner and number. It answers how many times the closure
+// says yes beside.
+pub(crate) fn change_all_counting<N: Number, F: Fn(usize, usize, N) -> (N, bool)>(
     numbers: &mut [N],
-    peer: &[N],
     nodes: usize,
     keys: usize,
-    low: &[N],
+    to: F,
 ) -> u32
     requires grid { IsGrid nodes keys (length numbers.old) }
-    requires peer { length peer.now ≡ length numbers.old }
-    requires low { length low.now ≡ nodes }
-    ensures numbers { ArePlanesChanged (λ r k x y. y ≡ number_ahead x (cell (map N.number peer.now) nodes r k)
-        (slice_index (map N.number low.now) r)) nodes keys (map N.number numbers.old) (map N.number numbers.new) }
-    ensures count { result ≡ total_of nodes keys (λ r k. nat_lt (max (cell (map N.number peer.now) nodes r k)
-        (slice_index (map N.number low.now) r)) (cell (map N.number numbers.old) nodes r k)) }
+    requires to { (at r : ℕ) (n : N) → at < length numbers.old → r < nodes → F.pre to at r n }
+    ensures { (made : ℕ → ℕ → ℕ → ℕ) (test : ℕ → ℕ → ℕ → Bool)
+        → ((at : ℕ) → at < length numbers.old → MakesAs N.number (F.post to at) nodes (made at) (test at))
+        → ArePlanesChanged (λ r k x y. y ≡ made (k * nodes + r) r x) nodes keys
+        (map N.number numbers.old) (map N.number numbers.new)
+        × (result ≡ total_of nodes keys (λ r k. test (k * nodes + r) r (cell (map N.number numbers.old) nodes r k))) }
 {
     let mut count = 0;
     for key in 0..keys {
-        let of_peer = plane_of(peer, nodes, key);
         let start = key * nodes;
         let block = &mut numbers[start..start + nodes];
-        count += planes::change_counting(
-            block,
-            |r, number| -> (N, bool)
-                requires { (r < length of_peer.now) × (r < length low.now) }
-                ensures number { N.number result.0 ≡ number_ahead (N.number number)
-                    (slice_index (map N.number of_peer.entry.now) r) (slice_index (map N.number low.entry.now) r) }
-                ensures is_kept { result.1 ≡ nat_lt (max (slice_index (map N.number of_peer.entry.now) r)
-                    (slice_index (map N.number low.entry.now) r)) (N.number number) }
-            {
-                let is_ahead = number.is_above(of_peer[r].max_with(low[r]));
-                (planes::pick(is_ahead, number, N::zero()), is_ahead)
-            },
-        );
+        count += planes::change_counting(block, |r, number| to(start + r, r, number));
     }
     count
 }
@@ -241,7 +251,21 @@ pub fn ahead<N: Number>(
     ensures only { IsOkUnless result OutOfMemory }
 {
     let mut numbers = copied(alloc, cells)?;
-    let count = keep_planes_ahead(&mut numbers, peer, nodes, keys, low);
+    let count = change_all_counting(
+        &mut numbers,
+        nodes,
+        keys,
+        |at, r, number| -> (N, bool)
+            requires { (at < length peer.now) × (r < length low.now) }
+            ensures number { N.number result.0 ≡ number_ahead (N.number number)
+                (slice_index (map N.number peer.entry.now) at) (slice_index (map N.number low.entry.now) r) }
+            ensures is_kept { result.1 ≡ nat_lt (max (slice_index (map N.number peer.entry.now) at)
+                (slice_index (map N.number low.entry.now) r)) (N.number number) }
+        {
+            let is_ahead = number.is_above(peer[at].max_with(low[r]));
+            (planes::pick(is_ahead, number, N::zero()), is_ahead)
+        },
+    );
     Ok(Masked { numbers, count })
 }
 

@@ -1,0 +1,27 @@
+use Rattle.planes.proofs.Common.{◌≡◌, ℕ, ◌+◌, ◌*◌, ◌-◌, ◌<◌, ◌≤◌, ap, arith, rules, length, take, drop, map, length-map, length-drop, length-take-le}
+use Rattle.planes.proofs.Places.{plane-within, block-cells, planes_counted-none, planes_counted-next, planes_counted-all}
+use Rattle.planes.proofs.grids.change_all_counting.Goals as goal
+
+pub loop-key-init : goal.loop-key-init
+loop-key-init g c = record { upto = omega arith; done = λ made test is. planes_counted-none _ _ c.args.nodes (map g.N.Number.number c.args.numbers.now) }
+
+pub loop-key-preserved : goal.loop-key-preserved
+loop-key-preserved g c =
+    let number = g.N.Number.number in
+    let nodes = c.args.nodes in
+    let key = c.loop-key.key in
+    let start : ℕ = key * nodes in
+    let within = plane-within nodes c.args.keys (length c.args.numbers.now) key c.requires.grid c.loop-key-test.true in
+    let size = length-take-le (start + nodes - start) (drop start c.loop-key.numbers) (omega (arith, within, c.loop-key.auto.numbers, length-drop start c.loop-key.numbers)) in
+    record {
+      upto = omega (arith, c.loop-key.invariant.upto, c.change_counting-count.ensures.upto, size);
+      done = λ made test is.
+          let before = c.loop-key.invariant.done made test is in
+          let room : start + nodes ≤ length (map number c.args.numbers.now) = omega (arith, within, length-map c.args.numbers.now number) in
+          planes_counted-next _ _ nodes (map number c.args.numbers.now) number c.loop-key.numbers c.change_counting-count.new.numbers key _ c.loop-key.count c.change_counting-count.result _ _ (omega arith) before room
+          (c.change_counting-count.ensures.done (λ r x. made (start + r) r x) (λ r x. test (start + r) r x) (λ r n both lt call. search (rules, is (start + r) (omega (arith, within, lt, size)) r n both (omega (arith, lt, size)))))
+          (λ r x y lt now. now) (λ r lt. ap (test (start + r) r) (block-cells _ nodes (map number c.args.numbers.now) number c.loop-key.numbers key _ (omega arith) before.planes room r lt));
+    }
+
+pub returns : goal.returns
+returns g c made test is = planes_counted-all _ _ c.args.nodes _ _ c.args.keys c.loop-key.key _ (c.loop-key.invariant.done made test is) c.loop-key-test.false c.loop-key.auto.key-end

@@ -4,7 +4,7 @@
 ghost use Rattle.std.specs.Prelude.{◌≡◌, ℕ, ◌+◌, ◌*◌, ◌<◌, ◌≤◌, ◌&&◌, Bool, length, map, max, nat_le, nat_lt, slice_index, IfOk, IsOkUnless, if◌then◌else◌};
 ghost use Rattle.bench_types.specs.declared.faults.Fault.TheVariants.{OutOfMemory};
 ghost use Rattle.planes.specs.Planes.{count_above, cell, number_ahead, total_above, total_of, AreCovered, ArePlanesChanged, AreSentTaken, HasEach, HasEachPlace, IsGrid, IsNextAbove, MayTake, count_between};
-ghost use Rattle.planes.specs.inner.Loops.{AnswersAs, IsLeastOf, MakesAs};
+ghost use Rattle.planes.specs.inner.Loops.{AnswersAs, GivesAs, IsLeastOf, MakesAs};
 
 use crate::numbers::Number;
 use crate::owners::{FEW_TO_CHANGE, FEW_TO_COUNT};
@@ -128,21 +128,17 @@ pub fn count_some_between<N: Number>(
     }
 }
 
-// For each owner the least of its numbers that pass a test of place, owner and number, or `N::greatest()` where none
-// does.
-pub(crate) fn least_of<N: Number, F: Fn(usize, usize, N) -> bool>(
+// For each owner the least of the numbers that a closure makes of its places, or `N::greatest()` where there are none.
+pub(crate) fn least_of<N: Number, F: Fn(usize, usize) -> N>(
     alloc: Global,
-    cells: &[N],
     nodes: usize,
     keys: usize,
-    passes: F,
+    value: F,
 ) -> Result<Vec<N>, Fault>
-    requires grid { IsGrid nodes keys (length cells.now) }
-    requires passes { (at r : ℕ) (n : N) → at < length cells.now → r < nodes → F.pre passes at r n }
-    ensures least { (test : ℕ → ℕ → ℕ → Bool)
-        → ((at : ℕ) → at < length cells.now → AnswersAs N.number (F.post passes at) nodes (test at))
-        → IfOk result (λ v. HasEach nodes (λ r n. IsLeastOf N.most (λ k. if test (k * nodes + r) r
-        (cell (map N.number cells.now) nodes r k) then cell (map N.number cells.now) nodes r k else N.most) keys n)
+    requires grid { IsGrid nodes keys (keys * nodes) }
+    requires value { (at r : ℕ) → at < keys * nodes → r < nodes → F.pre value at r }
+    ensures least { (values : ℕ → ℕ → ℕ) → GivesAs N.number (F.post value) (keys * nodes) nodes values
+        → IfOk result (λ v. HasEach nodes (λ r n. IsLeastOf N.most (λ k. values (k * nodes + r) r) keys n)
         (map N.number v.items)) }
     ensures only { IsOkUnless result OutOfMemory }
 {
@@ -150,15 +146,7 @@ pub(crate) fn least_of<N: Number, F: Fn(usize, usize, N) -> bool>(
     let all: &mut [N] = &mut least;
     for key in 0..keys {
         let start = key * nodes;
-        planes::change(
-            all,
-            |r, number|
-                requires { (start + r < length cells.now) × ((n : N) → F.pre passes (start + r) r n) }
-            {
-                let now = cells[start + r];
-                planes::lowered_to(number, now, passes(start + r, r, now))
-            },
-        );
+        planes::change(all, |r, number| number.min_with(value(start + r, r)));
     }
     Ok(least)
 }
@@ -181,10 +169,9 @@ pub fn least_above<N: Number>(
 {
     least_of(
         alloc,
-        cells,
         nodes,
         keys,
-        |_, r, number| number.is_above(low[r]),
+        |at, r| planes::pick(cells[at].is_above(low[r]), cells[at], N::greatest()),
     )
 }
 

@@ -56,12 +56,7 @@ pub fn count_behind<N: Number>(
         least,
         nodes,
         keys,
-        |at, _, number|
-            requires { (at < length cells.now) × (at < length last.now) }
-        {
-            let now = cells[at];
-            (number.min_with(now), last[at].is_above(now))
-        },
+        |at, _, number| (number.min_with(cells[at]), last[at].is_above(cells[at])),
     )
 }
 
@@ -84,9 +79,8 @@ pub fn least_behind<N: Number>(
 {
     least_of(
         alloc,
-        cells,
         nodes,
         keys,
-        |at, _, number| last[at].is_above(number),
+        |at, _| planes::pick(last[at].is_above(cells[at]), cells[at], N::greatest()),
     )
 }

@@ -3,7 +3,7 @@
 ghost use Rattle.std.specs.Prelude.{◌≡◌, ℕ, ◌+◌, ◌<◌, ◌≤◌, ◌&&◌, Bool, List, length, map, max, nat_le, nat_lt, slice_index, if◌then◌else◌};
 ghost use Rattle.bench_types.specs.declared.limits.TheConstants.{MOST_NODES};
 ghost use Rattle.planes.specs.Elementwise.{AreChanged};
-ghost use Rattle.planes.specs.inner.Loops.{AnswersAs, AreCountedUpto, IsLowered, IsMade, IsPart, IsSentPlane, MakesAs, count_passing};
+ghost use Rattle.planes.specs.inner.Loops.{AnswersAs, AreCountedUpto, IsMade, IsPart, IsSentPlane, MakesAs, count_passing};
 ghost use Rattle.planes.specs.Planes.{number_taken};
 
 use crate::numbers::Number;
@@ -25,13 +25,6 @@ pub(crate) fn raised_to<N: Number>(number: N, other: N, is_above: bool) -> N
     ensures { N.number result ≡ max (N.number number) (if is_above then N.number other else 0) }
 {
     number.max_with(pick(is_above, other, N::zero()))
-}
-
-// A number lowered to another one that passes.
-pub(crate) fn lowered_to<N: Number>(number: N, other: N, passes: bool) -> N
-    ensures { IsLowered N.most (if passes then N.number other else N.most) (N.number number) (N.number result) }
-{
-    number.min_with(pick(passes, other, N::greatest()))
 }
 
 /// Changes each owner's number to what a closure makes of owner and number.

@@ -1,5 +1,5 @@
 -- What loops over one plane make of it, and what they ask. Source: this project.
-use Rattle.std.specs.Prelude.{◌≡◌, ◌⊎◌, ℕ, ◌+◌, ◌<◌, ◌≤◌, min, nat_lt, Bool, List, length, slice_index, if◌then◌else◌}
+use Rattle.std.specs.Prelude.{◌≡◌, ◌⊎◌, ℕ, ◌+◌, ◌<◌, ◌≤◌, nat_lt, Bool, List, length, slice_index, if◌then◌else◌}
 use Rattle.bench_types.specs.Sums.{sum_below}
 use Rattle.planes.specs.Elementwise.{AreChangedUpto}
 use Rattle.planes.specs.Planes.{number_raised}
@@ -27,6 +27,11 @@ abbrev pub AnswersAs : {N : Type 0} → (N → ℕ) → (ℕ → N → Bool → 
 AnswersAs {N} number answers bound test =
     (r : ℕ) (n : N) (passes : Bool) → r < bound → answers r n passes → passes ≡ test r (number n)
 
+-- each number given for a place and an owner below bounds is that of a function
+abbrev pub GivesAs : {N : Type 0} → (N → ℕ) → (ℕ → ℕ → N → Type 0) → ℕ → ℕ → (ℕ → ℕ → ℕ) → Type 0
+GivesAs {N} number gives size bound values =
+    (at r : ℕ) (n : N) → at < size → r < bound → gives at r n → number n ≡ values at r
+
 -- a number is what a call made of another one
 pub record IsMade {N : Type 0} (number : N → ℕ) (makes : ℕ → N → N → Type 0) (r x y : ℕ) : Type 0 where
   pub from : N
@@ -40,11 +45,6 @@ abbrev pub MakesAs : {N : Type 0} → (N → ℕ) → (ℕ → N → N × Bool �
 MakesAs {N} number makes bound made test =
     (r : ℕ) (n : N) (both : N × Bool) → r < bound → makes r n both
     → (number both.0 ≡ made r (number n)) × (both.1 ≡ test r (number n))
-
--- y is x lowered to another number, which is no more than the most
-pub record IsLowered (most number x y : ℕ) : Type 0 where
-  pub lowered : y ≡ min x number
-  pub fits : number ≤ most
 
 -- the least of the values below a bound, each of which is no more than the most, and of the most
 pub record IsLeastOf (most : ℕ) (values : ℕ → ℕ) (keys least : ℕ) : Type 0 where

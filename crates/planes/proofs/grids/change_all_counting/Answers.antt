@@ -1,4 +1,4 @@
-use Rattle.planes.proofs.Common.{◌≡◌, ℕ, ◌+◌, ◌*◌, ◌-◌, ◌<◌, ◌≤◌, ap, arith, rules, length, take, drop, map, length-map, length-drop, length-take-le}
+use Rattle.planes.proofs.Common.{ℕ, ◌+◌, ◌*◌, ◌-◌, ◌≤◌, ap, arith, rules, length, drop, map, length-map, length-drop, length-take-le}
 use Rattle.planes.proofs.Places.{plane-within, block-cells, planes_counted-none, planes_counted-next, planes_counted-all}
 use Rattle.planes.proofs.grids.change_all_counting.Goals as goal
 
@@ -11,16 +11,18 @@ loop-key-preserved g c =
     let nodes = c.args.nodes in
     let key = c.loop-key.key in
     let start : ℕ = key * nodes in
+    let old = map number c.args.numbers.now in
     let within = plane-within nodes c.args.keys (length c.args.numbers.now) key c.requires.grid c.loop-key-test.true in
+    let room : start + nodes ≤ length old = omega (arith, within, length-map c.args.numbers.now number) in
     let size = length-take-le (start + nodes - start) (drop start c.loop-key.numbers) (omega (arith, within, c.loop-key.auto.numbers, length-drop start c.loop-key.numbers)) in
     record {
       upto = omega (arith, c.loop-key.invariant.upto, c.change_counting-count.ensures.upto, size);
       done = λ made test is.
           let before = c.loop-key.invariant.done made test is in
-          let room : start + nodes ≤ length (map number c.args.numbers.now) = omega (arith, within, length-map c.args.numbers.now number) in
-          planes_counted-next _ _ nodes (map number c.args.numbers.now) number c.loop-key.numbers c.change_counting-count.new.numbers key _ c.loop-key.count c.change_counting-count.result _ _ (omega arith) before room
-          (c.change_counting-count.ensures.done (λ r x. made (start + r) r x) (λ r x. test (start + r) r x) (λ r n both lt call. search (rules, is (start + r) (omega (arith, within, lt, size)) r n both (omega (arith, lt, size)))))
-          (λ r x y lt now. now) (λ r lt. ap (test (start + r) r) (block-cells _ nodes (map number c.args.numbers.now) number c.loop-key.numbers key _ (omega arith) before.planes room r lt));
+          planes_counted-next _ _ nodes old number c.loop-key.numbers c.change_counting-count.new.numbers key _ c.loop-key.count c.change_counting-count.result _ _ (omega arith) before room
+          (c.change_counting-count.ensures.done (λ r. made (start + r) r) (λ r. test (start + r) r)
+          (λ r n both lt call. search (rules, is (start + r) (omega (arith, within, lt, size)) r n both (omega (arith, lt, size)))))
+          (λ r x y lt now. now) (λ r lt. ap (test (start + r) r) (block-cells _ nodes old number c.loop-key.numbers key _ (omega arith) before.planes room r lt));
     }
 
 pub returns : goal.returns

@@ -1,4 +1,4 @@
-use Rattle.planes.proofs.Common.{rules, nat_lt, slice_index, map, cell, IfOk-weaker}
+use Rattle.planes.proofs.Common.{rules, nat_lt, slice_index, map, if◌then◌else◌, cell, IfOk-weaker}
 use Rattle.planes.proofs.Elementwise.{number-at}
 use Rattle.planes.proofs.Behind.{each-turned, least_is-behind}
 use Rattle.planes.proofs.lags.least_behind.Goals as goal
@@ -6,7 +6,9 @@ use Rattle.planes.proofs.lags.least_behind.Goals as goal
 pub returns-clause-least : goal.returns-clause-least
 returns-clause-least g c =
     let number = g.N.Number.number in
-    let cells = cell (map number c.args.cells.now) c.args.nodes in
+    let most = g.N.Number.most in
+    let cells = map number c.args.cells.now in
     let last = map number c.args.last.now in
-    IfOk-weaker c.least_of.result _ _ (λ v is. each-turned _ _ _ _ is (λ r n. least_is-behind g.N.Number.most cells (cell last c.args.nodes) c.args.keys r n))
-    (c.least_of.ensures.least (λ at r n. nat_lt n (slice_index last at)) (λ at within r n passes lt answer. search (rules, number-at number c.args.last.now at)))
+    IfOk-weaker c.least_of.result _ _ (λ v is. each-turned _ _ _ _ is (λ r n. least_is-behind most (cell cells c.args.nodes) (cell last c.args.nodes) c.args.keys r n))
+    (c.least_of.ensures.least (λ at r. if nat_lt (slice_index cells at) (slice_index last at) then slice_index cells at else most)
+    (λ at r n in_cells lt given. search (rules, number-at number c.args.cells.now at, number-at number c.args.last.now at)))

@@ -175,27 +175,27 @@ pub fn least_above<N: Number>(
     )
 }
 
-// Changes each number to the one that a closure makes of place, owner and number. It answers how many times the closure
-// says yes beside.
-pub(crate) fn change_all_counting<N: Number, F: Fn(usize, usize, N) -> (N, bool)>(
+// Changes each number to the one that the closure of its key makes of owner and number. It answers how many times these
+// closures say yes beside.
+pub(crate) fn change_all_counting<N: Number, G: Fn(usize, N) -> (N, bool), F: Fn(usize) -> G>(
     numbers: &mut [N],
     nodes: usize,
     keys: usize,
-    to: F,
+    of_key: F,
 ) -> u32
     requires grid { IsGrid nodes keys (length numbers.old) }
-    requires to { (at r : ℕ) (n : N) → at < length numbers.old → r < nodes → F.pre to at r n }
+    requires of_key { (k : ℕ) → k < keys → F.pre of_key k }
+    requires to { (k r : ℕ) (to : G) (n : N) → k < keys → r < nodes → F.post of_key k to → G.pre to r n }
     ensures { (made : ℕ → ℕ → ℕ → ℕ) (test : ℕ → ℕ → ℕ → Bool)
-        → ((at : ℕ) → at < length numbers.old → MakesAs N.number (F.post to at) nodes (made at) (test at))
-        → ArePlanesChanged (λ r k x y. y ≡ made (k * nodes + r) r x) nodes keys
-        (map N.number numbers.old) (map N.number numbers.new)
-        × (result ≡ total_of nodes keys (λ r k. test (k * nodes + r) r (cell (map N.number numbers.old) nodes r k))) }
+        → ((k : ℕ) (to : G) → k < keys → F.post of_key k to → MakesAs N.number (G.post to) nodes (made k) (test k))
+        → ArePlanesChanged (λ r k x y. y ≡ made k r x) nodes keys (map N.number numbers.old) (map N.number numbers.new)
+        × (result ≡ total_of nodes keys (λ r k. test k r (cell (map N.number numbers.old) nodes r k))) }
 {
     let mut count = 0;
     for key in 0..keys {
         let start = key * nodes;
         let block = &mut numbers[start..start + nodes];
-        count += planes::change_counting(block, |r, number| to(start + r, r, number));
+        count += planes::change_counting(block, of_key(key));
     }
     count
 }
@@ -242,15 +242,20 @@ pub fn ahead<N: Number>(
         &mut numbers,
         nodes,
         keys,
-        |at, r, number| -> (N, bool)
-            requires { (at < length peer.now) × (r < length low.now) }
-            ensures number { N.number result.0 ≡ number_ahead (N.number number)
-                (slice_index (map N.number peer.entry.now) at) (slice_index (map N.number low.entry.now) r) }
-            ensures is_kept { result.1 ≡ nat_lt (max (slice_index (map N.number peer.entry.now) at)
-                (slice_index (map N.number low.entry.now) r)) (N.number number) }
+        |key|
+            requires { key * nodes + nodes ≤ length peer.now }
         {
-            let is_ahead = number.is_above(peer[at].max_with(low[r]));
-            (planes::pick(is_ahead, number, N::zero()), is_ahead)
+            let of_peer = plane_of(peer, nodes, key);
+            move |r, number| -> (N, bool)
+                requires { (r < length of_peer.now) × (r < length low.now) }
+                ensures number { N.number result.0 ≡ number_ahead (N.number number)
+                    (slice_index (map N.number of_peer.entry.now) r) (slice_index (map N.number low.entry.now) r) }
+                ensures is_kept { result.1 ≡ nat_lt (max (slice_index (map N.number of_peer.entry.now) r)
+                    (slice_index (map N.number low.entry.now) r)) (N.number number) }
+            {
+                let is_ahead = number.is_above(of_peer[r].max_with(low[r]));
+                (planes::pick(is_ahead, number, N::zero()), is_ahead)
+            }
         },
     );
     Ok(Masked { numbers, count })

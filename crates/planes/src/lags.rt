@@ -1,6 +1,6 @@
 //! Loops over all planes of a table that compare its numbers with the last ones.
 
-ghost use Rattle.std.specs.Prelude.{◌≡◌, ◌+◌, ◌<◌, length, map, min, nat_lt, slice_index, IfOk, IsOkUnless, if◌then◌else◌};
+ghost use Rattle.std.specs.Prelude.{◌≡◌, ◌+◌, ◌*◌, ◌<◌, ◌≤◌, length, map, min, nat_lt, slice_index, IfOk, IsOkUnless, if◌then◌else◌};
 ghost use Rattle.bench_types.specs.declared.faults.Fault.TheVariants.{OutOfMemory};
 ghost use Rattle.planes.specs.Elementwise.{AreChanged};
 ghost use Rattle.planes.specs.Lags.{IsLeastBehind};
@@ -56,7 +56,22 @@ pub fn count_behind<N: Number>(
         least,
         nodes,
         keys,
-        |at, _, number| (number.min_with(cells[at]), last[at].is_above(cells[at])),
+        |key|
+            requires { (key * nodes + nodes ≤ length cells.now) × (key * nodes + nodes ≤ length last.now) }
+        {
+            let plane = plane_of(cells, nodes, key);
+            let of_last = plane_of(last, nodes, key);
+            move |r, number| -> (N, bool)
+                requires { (r < length plane.now) × (r < length of_last.now) }
+                ensures number { N.number result.0 ≡ min (N.number number)
+                    (slice_index (map N.number plane.entry.now) r) }
+                ensures is_behind { result.1 ≡ nat_lt (slice_index (map N.number plane.entry.now) r)
+                    (slice_index (map N.number of_last.entry.now) r) }
+            {
+                let now = plane[r];
+                (number.min_with(now), of_last[r].is_above(now))
+            }
+        },
     )
 }
 

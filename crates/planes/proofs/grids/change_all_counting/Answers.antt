@@ -1,4 +1,4 @@
-use Rattle.planes.proofs.Common.{ℕ, ◌+◌, ◌*◌, ◌-◌, ◌≤◌, ap, arith, rules, length, drop, map, length-map, length-drop, length-take-le}
+use Rattle.planes.proofs.Common.{ℕ, ◌+◌, ◌*◌, ◌-◌, ◌≤◌, ap, arith, length, drop, map, length-map, length-drop, length-take-le}
 use Rattle.planes.proofs.Places.{plane-within, block-cells, planes_counted-none, planes_counted-next, planes_counted-all}
 use Rattle.planes.proofs.grids.change_all_counting.Goals as goal
 
@@ -20,9 +20,8 @@ loop-key-preserved g c =
       done = λ made test is.
           let before = c.loop-key.invariant.done made test is in
           planes_counted-next _ _ nodes old number c.loop-key.numbers c.change_counting-count.new.numbers key _ c.loop-key.count c.change_counting-count.result _ _ (omega arith) before room
-          (c.change_counting-count.ensures.done (λ r. made (start + r) r) (λ r. test (start + r) r)
-          (λ r n both lt call. search (rules, is (start + r) (omega (arith, within, lt, size)) r n both (omega (arith, lt, size)))))
-          (λ r x y lt now. now) (λ r lt. ap (test (start + r) r) (block-cells _ nodes old number c.loop-key.numbers key _ (omega arith) before.planes room r lt));
+          (c.change_counting-count.ensures.done (made key) (test key) (λ r n both lt call. is key c.of_key.result c.loop-key-test.true c.of_key.ensures r n both (omega (arith, lt, size)) call))
+          (λ r x y lt now. now) (λ r lt. ap (test key r) (block-cells _ nodes old number c.loop-key.numbers key _ (omega arith) before.planes room r lt));
     }
 
 pub returns : goal.returns

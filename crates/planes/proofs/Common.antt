@@ -16,5 +16,5 @@ pub use Rattle.bench_types.specs.declared.limits.TheConstants.{MOST_KEYS, MOST_N
 pub use Rattle.planes.specs.Elementwise.{AreChanged, AreChangedUpto}
 pub use Rattle.planes.specs.Lags.{IsLeastBehind}
 pub use Rattle.planes.specs.Planes.{ArePlanesChanged, ArePlanesChangedUpto, Cells, HasEach, HasNoneAbove, IsGrid, IsLeastAbove, IsNextAbove, IsRaised, cell, count_above, number_ahead, number_raised, number_taken, numbers_taken, total_above, total_of}
-pub use Rattle.planes.specs.inner.Loops.{AnswersAs, AreCountedUpto, AreRaisedUpto, GivesAs, IsLeastOf, IsMade, MakesAs, count_passing}
+pub use Rattle.planes.specs.inner.Loops.{AnswersAs, AreCountedUpto, AreRaisedUpto, IsLeastOf, IsMade, MakesAs, count_passing}
 pub use Rattle.planes.specs.inner.Owners.{HasRaisedOwner}

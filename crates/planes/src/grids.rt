@@ -4,7 +4,7 @@
 ghost use Rattle.std.specs.Prelude.{◌≡◌, ℕ, ◌+◌, ◌*◌, ◌<◌, ◌≤◌, ◌&&◌, Bool, length, map, max, nat_le, nat_lt, slice_index, IfOk, IsOkUnless, if◌then◌else◌};
 ghost use Rattle.bench_types.specs.declared.faults.Fault.TheVariants.{OutOfMemory};
 ghost use Rattle.planes.specs.Planes.{count_above, cell, number_ahead, total_above, total_of, AreCovered, ArePlanesChanged, AreSentTaken, HasEach, HasEachPlace, IsGrid, IsNextAbove, MayTake, count_between};
-ghost use Rattle.planes.specs.inner.Loops.{AnswersAs, GivesAs, IsLeastOf, MakesAs};
+ghost use Rattle.planes.specs.inner.Loops.{AnswersAs, IsLeastOf, MakesAs};
 
 use crate::numbers::Number;
 use crate::owners::{FEW_TO_CHANGE, FEW_TO_COUNT};
@@ -137,7 +137,8 @@ pub(crate) fn least_of<N: Number, F: Fn(usize, usize) -> N>(
 ) -> Result<Vec<N>, Fault>
     requires grid { IsGrid nodes keys (keys * nodes) }
     requires value { (at r : ℕ) → at < keys * nodes → r < nodes → F.pre value at r }
-    ensures least { (values : ℕ → ℕ → ℕ) → GivesAs N.number (F.post value) (keys * nodes) nodes values
+    ensures least { (values : ℕ → ℕ → ℕ)
+        → ((at r : ℕ) (n : N) → at < keys * nodes → r < nodes → F.post value at r n → N.number n ≡ values at r)
         → IfOk result (λ v. HasEach nodes (λ r n. IsLeastOf N.most (λ k. values (k * nodes + r) r) keys n)
         (map N.number v.items)) }
     ensures only { IsOkUnless result OutOfMemory }
@@ -176,7 +177,7 @@ pub fn least_above<N: Number>(
 }
 
 // Changes each number to the one that the closure of its key makes of owner and number. It answers how many times these
-// closures say yes beside.
+// closures say yes beside. Such a closure has slices of its planes: to index whole tables takes longer.
 pub(crate) fn change_all_counting<N: Number, G: Fn(usize, N) -> (N, bool), F: Fn(usize) -> G>(
     numbers: &mut [N],
     nodes: usize,

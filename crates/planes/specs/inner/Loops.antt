@@ -27,11 +27,6 @@ abbrev pub AnswersAs : {N : Type 0} → (N → ℕ) → (ℕ → N → Bool → 
 AnswersAs {N} number answers bound test =
     (r : ℕ) (n : N) (passes : Bool) → r < bound → answers r n passes → passes ≡ test r (number n)
 
--- each number given for a place and an owner below bounds is that of a function
-abbrev pub GivesAs : {N : Type 0} → (N → ℕ) → (ℕ → ℕ → N → Type 0) → ℕ → ℕ → (ℕ → ℕ → ℕ) → Type 0
-GivesAs {N} number gives size bound values =
-    (at r : ℕ) (n : N) → at < size → r < bound → gives at r n → number n ≡ values at r
-
 -- a number is what a call made of another one
 pub record IsMade {N : Type 0} (number : N → ℕ) (makes : ℕ → N → N → Type 0) (r x y : ℕ) : Type 0 where
   pub from : N

@@ -239,26 +239,19 @@ pub fn ahead<N: Number>(
     ensures only { IsOkUnless result OutOfMemory }
 {
     let mut numbers = copied(alloc, cells)?;
-    let count = change_all_counting(
-        &mut numbers,
-        nodes,
-        keys,
-        |key|
-            requires { key * nodes + nodes ≤ length peer.now }
+    let count = change_all_counting(&mut numbers, nodes, keys, |key| {
+        let of_peer = plane_of(peer, nodes, key);
+        move |r, number| -> (N, bool)
+            requires { (r < length of_peer.now) × (r < length low.now) }
+            ensures number { N.number result.0 ≡ number_ahead (N.number number)
+                (slice_index (map N.number of_peer.entry.now) r) (slice_index (map N.number low.entry.now) r) }
+            ensures is_kept { result.1 ≡ nat_lt (max (slice_index (map N.number of_peer.entry.now) r)
+                (slice_index (map N.number low.entry.now) r)) (N.number number) }
         {
-            let of_peer = plane_of(peer, nodes, key);
-            move |r, number| -> (N, bool)
-                requires { (r < length of_peer.now) × (r < length low.now) }
-                ensures number { N.number result.0 ≡ number_ahead (N.number number)
-                    (slice_index (map N.number of_peer.entry.now) r) (slice_index (map N.number low.entry.now) r) }
-                ensures is_kept { result.1 ≡ nat_lt (max (slice_index (map N.number of_peer.entry.now) r)
-                    (slice_index (map N.number low.entry.now) r)) (N.number number) }
-            {
-                let is_ahead = number.is_above(of_peer[r].max_with(low[r]));
-                (planes::pick(is_ahead, number, N::zero()), is_ahead)
-            }
-        },
-    );
+            let is_ahead = number.is_above(of_peer[r].max_with(low[r]));
+            (planes::pick(is_ahead, number, N::zero()), is_ahead)
+        }
+    });
     Ok(Masked { numbers, count })
 }
 

@@ -1,48 +1,24 @@
 -- The least of an owner's numbers that pass a test, key by key.
--- Serves `least_above` and `least_behind`.
-use Rattle.planes.proofs.Common.{◌≡◌, ℕ, zero, suc, ◌+◌, ◌<◌, ◌≤◌, cond, nat_lt, List, ◌⊎◌, inl, inr, sym, ◌∙◌, arith, below_more, nat_tests, cases_lt, AreChanged, IsLeastBehind, IsLowered, IsMade, Cells, HasEach, HasNoneAbove, IsNextAbove, IsLeastAbove}
-use Rattle.planes.proofs.Elementwise.{lowered-to}
-use Rattle.planes.proofs.Places.{each-next, each-whole}
+-- Serves `least_above`, `least_behind` and `least_of`.
+use Rattle.planes.proofs.Common.{◌≡◌, ℕ, zero, suc, ◌+◌, ◌<◌, ◌≤◌, min, cond, nat_lt, List, ◌⊎◌, inl, inr, sym, ◌∙◌, arith, below_more, nat_tests, cases_lt, IsLeastBehind, IsLeastOf, Cells, HasEach, HasNoneAbove, IsNextAbove, IsLeastAbove}
 
--- the least of the values below a bound, each of which is no more than the most, and of the most
-pub record IsLeastOf (most : ℕ) (values : ℕ → ℕ) (keys least : ℕ) : Type 0 where
-  pub upto : least ≤ most
-  pub fits : (k : ℕ) → k < keys → values k ≤ most
-  pub no_less : (k : ℕ) → k < keys → least ≤ values k
-  pub is : (least ≡ most) ⊎ ((k : ℕ) × (k < keys) × (values k ≡ least))
-
-least-more : (most key x y : ℕ) (values : ℕ → ℕ) → IsLeastOf most values key x → IsLowered most (values key) x y → IsLeastOf most values (key + 1) y
-least-more most key x y values before now = record {
-  upto = omega (arith, now.lowered, before.upto);
-  fits = below_more (λ k. values k ≤ most) key before.fits now.fits;
-  no_less = below_more (λ k. y ≤ values k) key (λ k lt. omega (arith, before.no_less k lt, now.lowered)) (omega (arith, now.lowered));
+-- one value more, to which the least one is lowered
+pub least-more : (most key x y : ℕ) (values : ℕ → ℕ) → IsLeastOf most values key x → y ≡ min x (values key) → values key ≤ most → IsLeastOf most values (key + 1) y
+least-more most key x y values before lowered fits = record {
+  upto = omega (arith, lowered, before.upto);
+  fits = below_more (λ k. values k ≤ most) key before.fits fits;
+  no_less = below_more (λ k. y ≤ values k) key (λ k lt. omega (arith, before.no_less k lt, lowered)) (omega (arith, lowered));
   is = elim (cases_lt (values key) x) [
-    | inl lower ↦ inr (key, omega arith, omega (arith, now.lowered, lower))
+    | inl lower ↦ inr (key, omega arith, omega (arith, lowered, lower))
     | inr not_lower ↦
-        let same : x ≡ y = omega (arith, now.lowered, not_lower) in
+        let same : x ≡ y = omega (arith, lowered, not_lower) in
         elim before.is [ inl none ↦ inl (sym same ∙ none) | inr found ↦ inr (found.0, omega (arith, found.1), found.2 ∙ same) ]
   ];
 }
 
--- the values of each owner
-module _ (nodes most : ℕ) (values : ℕ → ℕ → ℕ) where
-  pub least-start : (xs : List ℕ) → HasEach nodes (λ r n. n ≡ most) xs → HasEach nodes (λ r n. IsLeastOf most (values r) 0 n) xs
-  least-start xs start = record {
-    size = start.size;
-    each = λ r lt. record { upto = omega (arith, start.each r lt); fits = λ k none. absurd (omega arith); no_less = λ k none. absurd (omega arith); is = inl (start.each r lt) };
-  }
-
-  -- one plane more, to whose numbers the least ones are lowered
-  pub least-next : {N : Type 0} (number : N → ℕ) (makes : ℕ → N → N → Type 0) (key : ℕ) (old new : List ℕ) → HasEach nodes (λ r n. IsLeastOf most (values r) key n) old → AreChanged (IsMade number makes) old new
-      → ((r : ℕ) → r < nodes → (n m : N) → makes r n m → IsLowered most (values r key) (number n) (number m)) → HasEach nodes (λ r n. IsLeastOf most (values r) (key + 1) n) new
-  least-next number makes key old new before now step =
-      each-next nodes _ _ _ old new before now (λ r x y lt is made. least-more most key x y (values r) is (lowered-to number most makes r x y (values r key) made (step r lt)))
-
-  -- and what they are when there are no more
-  pub least-whole : (is : ℕ → ℕ → Type 0) (key keys : ℕ) (xs : List ℕ) → HasEach nodes (λ r n. IsLeastOf most (values r) key n) xs → keys ≤ key → key ≤ keys → ((r n : ℕ) → IsLeastOf most (values r) keys n → is r n) → HasEach nodes is xs
-  least-whole is key keys xs before le ge step =
-      let whole = each-whole (λ k r n. IsLeastOf most (values r) k n) nodes key keys xs le ge before in
-      record { size = whole.size; each = λ r lt. step r _ (whole.each r lt) }
+-- numbers that are each what another relation says too
+pub each-turned : (nodes : ℕ) (is other : ℕ → ℕ → Type 0) (xs : List ℕ) → HasEach nodes is xs → ((r n : ℕ) → is r n → other r n) → HasEach nodes other xs
+each-turned nodes is other xs before turn = record { size = before.size; each = λ r lt. turn r _ (before.each r lt) }
 
 -- of those behind the last ones
 pub least_is-behind : (most : ℕ) (cells last : Cells) (keys owner least : ℕ) → IsLeastOf most (λ k. cond (nat_lt (cells owner k) (last owner k)) (cells owner k) most) keys least → IsLeastBehind most cells last keys owner least

@@ -6,6 +6,7 @@ pub use Rattle.std.proofs.Math.Seq.{take-add, take-nil}
 pub use Rattle.std.proofs.lemmas.Bool.{cases_lt, le-ltb, lt-ltb, ltb-false, ltb-true}
 pub use Rattle.std.proofs.lemmas.Bool.Decides.{nat_tests}
 pub use Rattle.std.proofs.lemmas.List.{get_or-drop, get_or-map, get_or-replicate, get_or-set_other, get_or-set_same, get_or-take, length-append, length-drop, length-map, length-replicate, length-set, length-take-le, map-append, map-set, places, take-map, with_items_is}
+pub use Rattle.std.proofs.lemmas.Result.{IfOk-weaker}
 pub use Rattle.std.specs.List.{drop-map}
 pub use borrow.Author.Count.{below_more}
 pub use borrow.Rule.Slice.PartMut.{post_of, put_mid}
@@ -15,5 +16,5 @@ pub use Rattle.bench_types.specs.declared.limits.TheConstants.{MOST_KEYS, MOST_N
 pub use Rattle.planes.specs.Elementwise.{AreChanged, AreChangedUpto}
 pub use Rattle.planes.specs.Lags.{IsLeastBehind}
 pub use Rattle.planes.specs.Planes.{ArePlanesChanged, ArePlanesChangedUpto, Cells, HasEach, HasNoneAbove, IsGrid, IsLeastAbove, IsNextAbove, IsRaised, cell, count_above, number_ahead, number_raised, number_taken, numbers_taken, total_above, total_of}
-pub use Rattle.planes.specs.inner.Loops.{AnswersAs, AreCountedUpto, AreRaisedUpto, IsLowered, IsMade, MakesAs, count_passing}
+pub use Rattle.planes.specs.inner.Loops.{AnswersAs, AreCountedUpto, AreRaisedUpto, IsLeastOf, IsMade, MakesAs, count_passing}
 pub use Rattle.planes.specs.inner.Owners.{HasRaisedOwner}

@@ -1,7 +1,7 @@
 -- Sums that a loop counts.
 -- Serves the functions of `grids`, `merges`, `owners` and `planes`, `ByOwner`, `Elementwise`, `Places`,
 -- `delta_plans` and `version_lags`.
-use Rattle.planes.proofs.Common.{◌≡◌, ℕ, suc, ◌+◌, ◌-◌, ◌≤◌, Bool, true, false, cond, ap, ◌∙◌, arith, sum_below, sum_below-most, count_passing}
+use Rattle.planes.proofs.Common.{◌≡◌, ℕ, suc, ◌+◌, ◌≤◌, Bool, true, false, cond, ap, ◌∙◌, arith, sum_below, sum_below-most, count_passing}
 
 pub one_le : (b : Bool) → cond b 1 0 ≤ 1
 one_le true = omega arith

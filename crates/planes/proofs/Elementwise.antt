@@ -1,7 +1,7 @@
 -- Lists that are changed element by element.
--- Serves the functions of `grids`, `lags`, `merges`, `owners` and `planes`, `Behind`, `Places`, `delta_plans`,
--- `version_lags` and `version_tables`.
-use Rattle.planes.proofs.Common.{◌≡◌, ℕ, ◌+◌, ◌<◌, ◌≤◌, List, length, ◌-◌, get_or, set, map, min, refl, sym, ap, ◌∙◌, subst, arith, below_more, get_or-set_same, get_or-set_other, length-set, get_or-map, length-map, map-set, Bool, cond, AreChangedUpto, AreChanged, IsLowered, IsMade, AreCountedUpto}
+-- Serves the functions of `grids`, `lags`, `merges`, `owners` and `planes`, `Places`, `delta_plans`, `version_lags`
+-- and `version_tables`.
+use Rattle.planes.proofs.Common.{◌≡◌, ℕ, ◌+◌, ◌<◌, ◌≤◌, List, length, get_or, set, map, refl, sym, ap, ◌∙◌, subst, arith, below_more, get_or-set_same, get_or-set_other, length-set, get_or-map, length-map, map-set, Bool, cond, AreChangedUpto, AreChanged, IsMade, AreCountedUpto}
 use Rattle.planes.proofs.Counts.{count_next, count_same}
 
 -- what is read at an index, as a number
@@ -60,8 +60,3 @@ made-as number makes r x y f made step = sym made.is ∙ step made.from made.to 
 
 pub made-more : {N : Type 0} (number : N → ℕ) (makes : ℕ → N → N → Type 0) (r x y more : ℕ) → IsMade number makes r x y → ((n m : N) → makes r n m → number m ≡ number n + more) → y ≡ x + more
 made-more number makes r x y more made step = made-as number makes r x y (λ n. n + more) made step
-
-pub lowered-to : {N : Type 0} (number : N → ℕ) (most : ℕ) (makes : ℕ → N → N → Type 0) (r x y other : ℕ) → IsMade number makes r x y → ((n m : N) → makes r n m → IsLowered most other (number n) (number m)) → IsLowered most other x y
-lowered-to number most makes r x y other made step =
-    let now = step made.from made.to made.made in
-    record { lowered = sym made.is ∙ now.lowered ∙ ap (λ n. min n other) made.was; fits = now.fits }

@@ -4,7 +4,7 @@
 ghost use Rattle.std.specs.Prelude.{◌≡◌, ℕ, ◌+◌, ◌*◌, ◌<◌, ◌≤◌, ◌&&◌, Bool, length, map, max, nat_le, nat_lt, slice_index, IfOk, IsOkUnless, if◌then◌else◌};
 ghost use Rattle.bench_types.specs.declared.faults.Fault.TheVariants.{OutOfMemory};
 ghost use Rattle.planes.specs.Planes.{count_above, cell, number_ahead, total_above, total_of, AreCovered, ArePlanesChanged, AreSentTaken, HasEach, HasEachPlace, IsGrid, IsNextAbove, MayTake, count_between};
-ghost use Rattle.planes.specs.inner.Loops.{AnswersAs, IsLowered};
+ghost use Rattle.planes.specs.inner.Loops.{AnswersAs, IsLeastOf, MakesAs};
 
 use crate::numbers::Number;
 use crate::owners::{FEW_TO_CHANGE, FEW_TO_COUNT};
@@ -128,6 +128,30 @@ pub fn count_some_between<N: Number>(
     }
 }
 
+// For each owner the least of the numbers that a closure makes of its places, or `N::greatest()` where there are none.
+pub(crate) fn least_of<N: Number, F: Fn(usize, usize) -> N>(
+    alloc: Global,
+    nodes: usize,
+    keys: usize,
+    value: F,
+) -> Result<Vec<N>, Fault>
+    requires grid { IsGrid nodes keys (keys * nodes) }
+    requires value { (at r : ℕ) → at < keys * nodes → r < nodes → F.pre value at r }
+    ensures least { (values : ℕ → ℕ → ℕ)
+        → ((at r : ℕ) (n : N) → at < keys * nodes → r < nodes → F.post value at r n → N.number n ≡ values at r)
+        → IfOk result (λ v. HasEach nodes (λ r n. IsLeastOf N.most (λ k. values (k * nodes + r) r) keys n)
+        (map N.number v.items)) }
+    ensures only { IsOkUnless result OutOfMemory }
+{
+    let mut least = all_of(alloc, nodes, N::greatest())?;
+    let all: &mut [N] = &mut least;
+    for key in 0..keys {
+        let start = key * nodes;
+        planes::change(all, |r, number| number.min_with(value(start + r, r)));
+    }
+    Ok(least)
+}
+
 /// For each owner the least of its numbers above a mark, or `N::greatest()` where there is none. An error is lack of
 /// memory (`OutOfMemory`).
 pub fn least_above<N: Number>(
@@ -144,61 +168,35 @@ pub fn least_above<N: Number>(
         (slice_index (map N.number low.now) r) n) (map N.number v.items)) }
     ensures only { IsOkUnless result OutOfMemory }
 {
-    let mut least = all_of(alloc, nodes, N::greatest())?;
-    let all: &mut [N] = &mut least;
-    for key in 0..keys {
-        let plane = plane_of(cells, nodes, key);
-        planes::change(
-            all,
-            |r, number| -> N
-                requires { (r < length plane.now) × (r < length low.now) }
-                ensures { IsLowered N.most (if nat_lt (slice_index (map N.number low.entry.now) r)
-                    (slice_index (map N.number plane.entry.now) r) then slice_index (map N.number plane.entry.now) r
-                    else N.most) (N.number number) (N.number result) }
-            {
-                let now = plane[r];
-                number.min_with(planes::pick(now.is_above(low[r]), now, N::greatest()))
-            },
-        );
-    }
-    Ok(least)
+    least_of(
+        alloc,
+        nodes,
+        keys,
+        |at, r| planes::pick(cells[at].is_above(low[r]), cells[at], N::greatest()),
+    )
 }
 
-// Keeps the numbers that are above both the peer's and their owner's mark, and puts 0 in place of the others. It
-// answers how many it keeps.
-fn keep_planes_ahead<N: Number>(
+// Changes each number to the one that the closure of its key makes of owner and number. It answers how many times these
+// closures say yes beside. Such a closure has slices of its planes: to index whole tables takes longer.
+pub(crate) fn change_all_counting<N: Number, G: Fn(usize, N) -> (N, bool), F: Fn(usize) -> G>(
     numbers: &mut [N],
-    peer: &[N],
     nodes: usize,
     keys: usize,
-    low: &[N],
+    of_key: F,
 ) -> u32
     requires grid { IsGrid nodes keys (length numbers.old) }
-    requires peer { length peer.now ≡ length numbers.old }
-    requires low { length low.now ≡ nodes }
-    ensures numbers { ArePlanesChanged (λ r k x y. y ≡ number_ahead x (cell (map N.number peer.now) nodes r k)
-        (slice_index (map N.number low.now) r)) nodes keys (map N.number numbers.old) (map N.number numbers.new) }
-    ensures count { result ≡ total_of nodes keys (λ r k. nat_lt (max (cell (map N.number peer.now) nodes r k)
-        (slice_index (map N.number low.now) r)) (cell (map N.number numbers.old) nodes r k)) }
+    requires of_key { (k : ℕ) → k < keys → F.pre of_key k }
+    requires to { (k r : ℕ) (to : G) (n : N) → k < keys → r < nodes → F.post of_key k to → G.pre to r n }
+    ensures { (made : ℕ → ℕ → ℕ → ℕ) (test : ℕ → ℕ → ℕ → Bool)
+        → ((k : ℕ) (to : G) → k < keys → F.post of_key k to → MakesAs N.number (G.post to) nodes (made k) (test k))
+        → ArePlanesChanged (λ r k x y. y ≡ made k r x) nodes keys (map N.number numbers.old) (map N.number numbers.new)
+        × (result ≡ total_of nodes keys (λ r k. test k r (cell (map N.number numbers.old) nodes r k))) }
 {
     let mut count = 0;
     for key in 0..keys {
-        let of_peer = plane_of(peer, nodes, key);
         let start = key * nodes;
         let block = &mut numbers[start..start + nodes];
-        count += planes::change_counting(
-            block,
-            |r, number| -> (N, bool)
-                requires { (r < length of_peer.now) × (r < length low.now) }
-                ensures number { N.number result.0 ≡ number_ahead (N.number number)
-                    (slice_index (map N.number of_peer.entry.now) r) (slice_index (map N.number low.entry.now) r) }
-                ensures is_kept { result.1 ≡ nat_lt (max (slice_index (map N.number of_peer.entry.now) r)
-                    (slice_index (map N.number low.entry.now) r)) (N.number number) }
-            {
-                let is_ahead = number.is_above(of_peer[r].max_with(low[r]));
-                (planes::pick(is_ahead, number, N::zero()), is_ahead)
-            },
-        );
+        count += planes::change_counting(block, of_key(key));
     }
     count
 }
@@ -241,7 +239,19 @@ pub fn ahead<N: Number>(
     ensures only { IsOkUnless result OutOfMemory }
 {
     let mut numbers = copied(alloc, cells)?;
-    let count = keep_planes_ahead(&mut numbers, peer, nodes, keys, low);
+    let count = change_all_counting(&mut numbers, nodes, keys, |key| {
+        let of_peer = plane_of(peer, nodes, key);
+        move |r, number| -> (N, bool)
+            requires { (r < length of_peer.now) × (r < length low.now) }
+            ensures number { N.number result.0 ≡ number_ahead (N.number number)
+                (slice_index (map N.number of_peer.entry.now) r) (slice_index (map N.number low.entry.now) r) }
+            ensures is_kept { result.1 ≡ nat_lt (max (slice_index (map N.number of_peer.entry.now) r)
+                (slice_index (map N.number low.entry.now) r)) (N.number number) }
+        {
+            let is_ahead = number.is_above(of_peer[r].max_with(low[r]));
+            (planes::pick(is_ahead, number, N::zero()), is_ahead)
+        }
+    });
     Ok(Masked { numbers, count })
 }
 

@@ -1,13 +1,12 @@
 //! Loops over all planes of a table that compare its numbers with the last ones.
 
-ghost use Rattle.std.specs.Prelude.{◌≡◌, ◌+◌, ◌<◌, length, map, min, nat_lt, slice_index, IfOk, IsOkUnless, if◌then◌else◌};
+ghost use Rattle.std.specs.Prelude.{◌≡◌, ◌+◌, ◌*◌, ◌<◌, ◌≤◌, length, map, min, nat_lt, slice_index, IfOk, IsOkUnless, if◌then◌else◌};
 ghost use Rattle.bench_types.specs.declared.faults.Fault.TheVariants.{OutOfMemory};
 ghost use Rattle.planes.specs.Elementwise.{AreChanged};
 ghost use Rattle.planes.specs.Lags.{IsLeastBehind};
 ghost use Rattle.planes.specs.Planes.{cell, total_of, ArePlanesChanged, HasEach, IsGrid};
-ghost use Rattle.planes.specs.inner.Loops.{IsLowered};
 
-use crate::grids::{all_of, plane_of};
+use crate::grids::{change_all_counting, least_of, plane_of};
 use crate::numbers::Number;
 use crate::planes;
 use bench_types::Fault;
@@ -53,15 +52,16 @@ pub fn count_behind<N: Number>(
     ensures least { ArePlanesChanged (λ r k x y. y ≡ min x (cell (map N.number cells.now) nodes r k)) nodes keys
         (map N.number least.old) (map N.number least.new) }
 {
-    let mut count = 0;
-    for key in 0..keys {
-        let plane = plane_of(cells, nodes, key);
-        let of_last = plane_of(last, nodes, key);
-        let start = key * nodes;
-        let block = &mut least[start..start + nodes];
-        count += planes::change_counting(
-            block,
-            |r, number| -> (N, bool)
+    change_all_counting(
+        least,
+        nodes,
+        keys,
+        |key|
+            requires { (key * nodes + nodes ≤ length cells.now) × (key * nodes + nodes ≤ length last.now) }
+        {
+            let plane = plane_of(cells, nodes, key);
+            let of_last = plane_of(last, nodes, key);
+            move |r, number| -> (N, bool)
                 requires { (r < length plane.now) × (r < length of_last.now) }
                 ensures number { N.number result.0 ≡ min (N.number number)
                     (slice_index (map N.number plane.entry.now) r) }
@@ -70,10 +70,9 @@ pub fn count_behind<N: Number>(
             {
                 let now = plane[r];
                 (number.min_with(now), of_last[r].is_above(now))
-            },
-        );
-    }
-    count
+            }
+        },
+    )
 }
 
 /// For each owner the least of its numbers that are below the last ones, or `N::greatest()` where none is. An error is
@@ -93,23 +92,10 @@ pub fn least_behind<N: Number>(
         (map N.number v.items)) }
     ensures only { IsOkUnless result OutOfMemory }
 {
-    let mut least = all_of(alloc, nodes, N::greatest())?;
-    let all: &mut [N] = &mut least;
-    for key in 0..keys {
-        let plane = plane_of(cells, nodes, key);
-        let of_last = plane_of(last, nodes, key);
-        planes::change(
-            all,
-            |r, number| -> N
-                requires { (r < length plane.now) × (r < length of_last.now) }
-                ensures { IsLowered N.most (if nat_lt (slice_index (map N.number plane.entry.now) r)
-                    (slice_index (map N.number of_last.entry.now) r) then slice_index (map N.number plane.entry.now) r
-                    else N.most) (N.number number) (N.number result) }
-            {
-                let now = plane[r];
-                number.min_with(planes::pick(of_last[r].is_above(now), now, N::greatest()))
-            },
-        );
-    }
-    Ok(least)
+    least_of(
+        alloc,
+        nodes,
+        keys,
+        |at, _| planes::pick(last[at].is_above(cells[at]), cells[at], N::greatest()),
+    )
 }

@@ -1,5 +1,5 @@
 -- What loops over one plane make of it, and what they ask. Source: this project.
-use Rattle.std.specs.Prelude.{◌≡◌, ℕ, ◌+◌, ◌<◌, ◌≤◌, min, nat_lt, Bool, List, length, slice_index, if◌then◌else◌}
+use Rattle.std.specs.Prelude.{◌≡◌, ◌⊎◌, ℕ, ◌+◌, ◌<◌, ◌≤◌, nat_lt, Bool, List, length, slice_index, if◌then◌else◌}
 use Rattle.bench_types.specs.Sums.{sum_below}
 use Rattle.planes.specs.Elementwise.{AreChangedUpto}
 use Rattle.planes.specs.Planes.{number_raised}
@@ -41,10 +41,12 @@ MakesAs {N} number makes bound made test =
     (r : ℕ) (n : N) (both : N × Bool) → r < bound → makes r n both
     → (number both.0 ≡ made r (number n)) × (both.1 ≡ test r (number n))
 
--- y is x lowered to another number, which is no more than the most
-pub record IsLowered (most number x y : ℕ) : Type 0 where
-  pub lowered : y ≡ min x number
-  pub fits : number ≤ most
+-- the least of the values below a bound, each of which is no more than the most, and of the most
+pub record IsLeastOf (most : ℕ) (values : ℕ → ℕ) (keys least : ℕ) : Type 0 where
+  pub upto : least ≤ most
+  pub fits : (k : ℕ) → k < keys → values k ≤ most
+  pub no_less : (k : ℕ) → k < keys → least ≤ values k
+  pub is : (least ≡ most) ⊎ ((k : ℕ) × (k < keys) × (values k ≡ least))
 
 -- how many of the places below a bound pass a test
 abbrev pub count_passing : ℕ → (ℕ → Bool) → ℕ

@@ -1,8 +1,19 @@
-use Rattle.planes.proofs.Common.{map, ◌∙◌, with_items_is, cell}
+use Rattle.planes.proofs.Common.{◌≡◌, rules, HasEach, max, nat_lt, slice_index, map, ◌∙◌, with_items_is, length-map, cell, number_ahead}
 use Rattle.planes.proofs.Places.{total-kept}
 use Rattle.planes.proofs.grids.ahead.Goals as goal
 
-pub returns-clause-count : goal.returns-clause-count
-returns-clause-count g c =
-    rw (with_items_is c.in_ok-numbers.numbers c.keep_planes_ahead-count.new.numbers (c.keep_planes_ahead-count.auto.numbers ∙ c.deref_mut.ensures.len))
-    (total-kept c.args.nodes c.args.keys (cell (map g.N.Number.number c.args.peer.now) c.args.nodes) (map g.N.Number.number c.args.low.now) _ _ c.keep_planes_ahead-count.result c.keep_planes_ahead-count.ensures.count c.keep_planes_ahead-count.ensures.numbers)
+pub returns : goal.returns
+returns g c =
+    let number = g.N.Number.number in
+    let low = slice_index (map number c.args.low.now) in
+    let peer = cell (map number c.args.peer.now) c.args.nodes in
+    let all = c.change_all_counting-count.ensures (λ k r x. number_ahead x (peer r k) (low r)) (λ k r x. nat_lt (max (peer r k) (low r)) x)
+    (λ k to in_keys given r n both lt call.
+    let plane : HasEach c.args.nodes (λ r n. n ≡ peer r k) (map number to.0.now) = search rules in
+    let marks : to.1.now ≡ c.args.low.now = search rules in
+    rw (← plane.each r lt, ← marks) call) in
+    rw (with_items_is c.in_ok-numbers.numbers c.change_all_counting-count.new.numbers (c.change_all_counting-count.auto.numbers ∙ c.deref_mut.ensures.len)) (record {
+      ahead = rw (← c.in_ok-numbers.ensures.copy, ← c.deref_mut.ensures.value) (record { size = all.0.size ∙ length-map c.deref_mut.result.now number ∙ rw (c.deref_mut.ensures.value, c.in_ok-numbers.ensures.copy) c.requires.grid.whole; each = all.0.each });
+      count = total-kept c.args.nodes c.args.keys (cell (map number c.args.peer.now) c.args.nodes) (map number c.args.low.now) _ _ c.change_all_counting-count.result all.1 all.0;
+      only = tt;
+    })

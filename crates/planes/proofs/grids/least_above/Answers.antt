@@ -1,23 +1,14 @@
-use Rattle.planes.proofs.Common.{nat_lt, slice_index, subst, ◌∙◌, map, if◌then◌else◌, with_items_is, IsLowered, cell}
-use Rattle.planes.proofs.Behind.{least-start, least-next, least-whole, least_is-above}
+use Rattle.planes.proofs.Common.{rules, nat_lt, slice_index, map, if◌then◌else◌, cell, IfOk-weaker}
+use Rattle.planes.proofs.Elementwise.{number-at}
+use Rattle.planes.proofs.Behind.{each-turned, least_is-above}
 use Rattle.planes.proofs.grids.least_above.Goals as goal
-
-pub loop-key-init : goal.loop-key-init
-loop-key-init g c = least-start c.args.nodes g.N.Number.most _ _ (rw (c.deref_mut-all.ensures.value, ← c.greatest.ensures) c.in_ok-least.ensures.numbers)
-
-pub loop-key-preserved : goal.loop-key-preserved
-loop-key-preserved g c =
-    let number = g.N.Number.number in
-    let most = g.N.Number.most in
-    let low = slice_index (map number c.args.low.now) in
-    least-next c.args.nodes most _ number _ c.loop-key.key _ _ c.loop-key.invariant c.change.ensures
-    (λ r lt n m call. subst (λ x. IsLowered most (if nat_lt (low r) x then x else most) (number n) (number m)) (c.plane_of-plane.ensures.each r lt) call)
 
 pub returns-clause-least : goal.returns-clause-least
 returns-clause-least g c =
     let number = g.N.Number.number in
-    let cells = cell (map number c.args.cells.now) c.args.nodes in
+    let most = g.N.Number.most in
+    let cells = map number c.args.cells.now in
     let low = slice_index (map number c.args.low.now) in
-    rw (with_items_is c.in_ok-least.least c.loop-key.all (c.loop-key.auto.all ∙ c.deref_mut-all.ensures.len))
-    (least-whole c.args.nodes g.N.Number.most _ _ c.loop-key.key c.args.keys _ c.loop-key.invariant c.loop-key-test.false c.loop-key.auto.key-end
-    (λ r n is. least_is-above g.N.Number.most cells c.args.keys r (low r) n is))
+    IfOk-weaker c.least_of.result _ _ (λ v is. each-turned _ _ _ _ is (λ r n. least_is-above most (cell cells c.args.nodes) c.args.keys r (low r) n))
+    (c.least_of.ensures.least (λ at r. if nat_lt (low r) (slice_index cells at) then slice_index cells at else most)
+    (λ at r n in_cells lt given. search (rules, number-at number c.args.cells.now at, number-at number c.args.low.now r)))

@@ -1,22 +1,14 @@
-use Rattle.planes.proofs.Common.{nat_lt, subst, ◌∙◌, map, if◌then◌else◌, with_items_is, IsLowered, cell}
-use Rattle.planes.proofs.Behind.{least-start, least-next, least-whole, least_is-behind}
+use Rattle.planes.proofs.Common.{rules, nat_lt, slice_index, map, if◌then◌else◌, cell, IfOk-weaker}
+use Rattle.planes.proofs.Elementwise.{number-at}
+use Rattle.planes.proofs.Behind.{each-turned, least_is-behind}
 use Rattle.planes.proofs.lags.least_behind.Goals as goal
-
-pub loop-key-init : goal.loop-key-init
-loop-key-init g c = least-start c.args.nodes g.N.Number.most _ _ (rw (c.deref_mut-all.ensures.value, ← c.greatest.ensures) c.in_ok-least.ensures.numbers)
-
-pub loop-key-preserved : goal.loop-key-preserved
-loop-key-preserved g c =
-    let number = g.N.Number.number in
-    let most = g.N.Number.most in
-    let plane = c.plane_of-plane.ensures.each in
-    least-next c.args.nodes most _ number _ c.loop-key.key _ _ c.loop-key.invariant c.change.ensures
-    (λ r lt n m call. subst (λ x. IsLowered most x (number n) (number m)) (λ i. if nat_lt (plane r lt i) (c.plane_of-of_last.ensures.each r lt i) then plane r lt i else most) call)
 
 pub returns-clause-least : goal.returns-clause-least
 returns-clause-least g c =
-    let cells = cell (map g.N.Number.number c.args.cells.now) c.args.nodes in
-    let last = cell (map g.N.Number.number c.args.last.now) c.args.nodes in
-    rw (with_items_is c.in_ok-least.least c.loop-key.all (c.loop-key.auto.all ∙ c.deref_mut-all.ensures.len))
-    (least-whole c.args.nodes g.N.Number.most _ _ c.loop-key.key c.args.keys _ c.loop-key.invariant c.loop-key-test.false c.loop-key.auto.key-end
-    (λ r n is. least_is-behind g.N.Number.most cells last c.args.keys r n is))
+    let number = g.N.Number.number in
+    let most = g.N.Number.most in
+    let cells = map number c.args.cells.now in
+    let last = map number c.args.last.now in
+    IfOk-weaker c.least_of.result _ _ (λ v is. each-turned _ _ _ _ is (λ r n. least_is-behind most (cell cells c.args.nodes) (cell last c.args.nodes) c.args.keys r n))
+    (c.least_of.ensures.least (λ at r. if nat_lt (slice_index cells at) (slice_index last at) then slice_index cells at else most)
+    (λ at r n in_cells lt given. search (rules, number-at number c.args.cells.now at, number-at number c.args.last.now at)))

@@ -73,7 +73,18 @@ fn try_all<R: Print + Eprint + Input + AllocGlobal + Threads + Wait + Sync>(
 ) -> Result<(), Failure> {
     let choice = Choice::from_input(rt)?;
     try_cases(rt, choice)?;
-    try_lists(rt, choice)?;
+    for (place, list) in LISTS.iter().enumerate() {
+        for team in Team::ALL {
+            let trial = Trial {
+                call: Call::RunList,
+                place: CASES.len() + place,
+                team,
+            };
+            if is_chosen(choice, trial) {
+                lists::try_lone(rt, list, trial)?;
+            }
+        }
+    }
     try_many_numbers(rt, choice)?;
     for call in ["read_all", "check_input", "Sim::new"] {
         pass(rt, call)?;
@@ -92,25 +103,6 @@ fn try_cases<R: Print + Eprint + AllocGlobal + Threads + Wait + Sync>(
                 if is_chosen(choice, trial) {
                     try_call(rt, case, trial)?;
                 }
-            }
-        }
-    }
-    Ok(())
-}
-
-fn try_lists<R: Print + Eprint + AllocGlobal + Threads + Wait + Sync>(
-    rt: &R,
-    choice: Option<Choice>,
-) -> Result<(), Failure> {
-    for (place, list) in LISTS.iter().enumerate() {
-        for team in Team::ALL {
-            let trial = Trial {
-                call: Call::RunList,
-                place: CASES.len() + place,
-                team,
-            };
-            if is_chosen(choice, trial) {
-                lists::try_lone(rt, list, trial)?;
             }
         }
     }

@@ -35,8 +35,13 @@ conduct_at format table = do
   loss_ppm ← loss_ppm_at table
   writes ← writes_at table
   Ok (record {
-    mode = mode; budget = budget; peers = peers; rotation = rotation; choice = choice;
-    loss_ppm = loss_ppm; writes = writes;
+    mode = mode;
+    budget = budget;
+    peers = peers;
+    rotation = rotation;
+    choice = choice;
+    loss_ppm = loss_ppm;
+    writes = writes;
   })
 
 -- no table has a key that the format does not list

@@ -37,24 +37,21 @@ pub struct Before {
 /// A round's list, and which of its exchanges wait for which others.
 #[derive(Debug, Drop)]
 pub struct Deps {
-    nodes: u32,
-    unreached: u32,
-    exchanges: Vec<Exchange>,
+    list: RoundList,
     before: Vec<Before>,
     after: Vec<After>,
     first_ready: Vec<u32>,
 }
 
 impl Model for Deps {
-    ghost use Rattle.model.specs.RoundLists.{RoundListView, round_list_view};
+    ghost use Rattle.model.specs.RoundLists.{RoundListView};
     ghost use Rattle.dependencies.specs.inner.Dependencies.{AreKept};
 
     ghost Value = { RoundListView };
 
-    ghost view = { λ d. round_list_view d.nodes d.unreached d.exchanges.items };
+    ghost view = { λ d. d.list };
 
-    ghost invariant = { λ d. AreKept (round_list_view d.nodes d.unreached d.exchanges.items)
-        d.before.items d.after.items d.first_ready.items };
+    ghost invariant = { λ d. AreKept d.list d.before.items d.after.items d.first_ready.items };
 }
 
 impl Deps {
@@ -64,15 +61,13 @@ impl Deps {
         ensures value { IfOk result (λ deps. deps ≡ list.now) }
         ensures only { IsOkUnless result OutOfMemory }
     {
-        let nodes = list.nodes();
         let exchanges = Vec::from_slice(alloc, list.exchanges())?;
-        let before = all_before(alloc, nodes, &exchanges)?;
-        let after = all_after(alloc, nodes, &exchanges)?;
+        let list = RoundList::planned(list.nodes(), list.unreached(), exchanges);
+        let before = all_before(alloc, list.nodes(), list.exchanges())?;
+        let after = all_after(alloc, list.nodes(), list.exchanges())?;
         let first_ready = free_places(alloc, &before)?;
         Ok(Deps {
-            nodes,
-            unreached: list.unreached(),
-            exchanges,
+            list,
             before,
             after,
             first_ready,
@@ -84,7 +79,7 @@ impl Deps {
         ensures value { result ≡ length self.now.exchanges }
         ensures kept { IsRoundPlan self.now }
     {
-        self.exchanges.len() as u32
+        self.list.len()
     }
 
     /// The exchange at a place of the list, from 0.
@@ -93,7 +88,7 @@ impl Deps {
         ensures value { result ≡ exchange_at self.now.exchanges i }
         ensures kept { IsRoundPlan self.now }
     {
-        self.exchanges[i as usize]
+        self.list.exchanges()[i as usize]
     }
 
     /// The exchanges that it waits for.

@@ -74,8 +74,7 @@ module _ {T H : Type 0} (table : T → Table) (lists : H → List OwnerListView)
   module _ (standing : StandAfterRound s (done + 1) (map table new.tables.items) (lists new.histories)) (after : map table new.tables.items ≡ tables_after s (done + 1)) where
     pub step_played : (round : RoundView) → IsLawfulScenario s → HasPlayed table lists s (done + 1) old new round → PlaysNext table (simulation_of lists s cluster done) (simulation_of lists s (Some new) (done + 1)) round
     step_played round lawful played = record {
-      unbroken = unbroken;
-      unfinished = not_done;
+      may = (unbroken, not_done);
       still = refl;
       settings = refl;
       done = refl;

@@ -34,10 +34,13 @@ MayWriteAll May s =
 abbrev pub AreTablesAfter : {T : Type 0} → (T → Table) → SimView T → List T → Type 0
 AreTablesAfter table v tables = v.broken ≡ false → map table tables ≡ tables_after v.settings v.rounds_done
 
+-- a round is left, and none has failed
+abbrev pub MayStep : {T : Type 0} → SimView T → Type 0
+MayStep v = (v.broken ≡ false) × (v.rounds_done < v.settings.rounds)
+
 -- a step that carried out the next round
 pub record PlaysNext {T : Type 0} (table : T → Table) (old new : SimView T) (round : RoundView) : Type 0 where
-  pub unbroken : old.broken ≡ false
-  pub unfinished : old.rounds_done < old.settings.rounds
+  pub may : MayStep old
   pub still : new.broken ≡ false
   pub settings : new.settings ≡ old.settings
   pub done : new.rounds_done ≡ old.rounds_done + 1
@@ -46,10 +49,6 @@ pub record PlaysNext {T : Type 0} (table : T → Table) (old new : SimView T) (r
   pub played : round ≡ played_of new.settings new.rounds_done
   pub sound : AreSound new.settings new.rounds_done (map table new.tables)
   pub kept : OnlyRestartsLowerMarks new.settings new.rounds_done (map table old.tables) (map table new.tables)
-
--- a round is left, and none has failed
-abbrev pub MayStep : {T : Type 0} → SimView T → Type 0
-MayStep v = (v.broken ≡ false) × (v.rounds_done < v.settings.rounds)
 
 -- a step that failed with so many workers
 abbrev pub IsFailedBy : {T : Type 0} → ℕ → SimView T → SimView T → Fault → Type 0

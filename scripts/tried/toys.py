@@ -62,7 +62,8 @@ class Toy:
         """The crates that were proved since this was asked last, in their order."""
         note = self.kit / "proved"
         names = note.read_text().split() if note.exists() else []
-        note.unlink(missing_ok=True)
+        if names:  # (a note that is still empty is being written)
+            note.unlink()
         return names
 
     def call_and_hear(self, name, *words, with_rt=True, **how):

@@ -1,16 +1,17 @@
 -- The names of other libraries that these proofs cite, passed on from one place. Declares nothing.
 -- Serves most of the crate.
-pub use Rattle.std.proofs.Common.{All, Bool, Err, IfErr, IfOk, IfSome, List, None, Ok, Option, Result, Some, [], add-one, ap, append_assoc, arith, cond, drop, drop-cons, false, get_or, inl, inr, length, length-append, refl, subst, suc, sym, take, take-append-drop, true, zero, ℕ, ◌*◌, ◌++◌, ◌+◌, ◌-◌, ◌<◌, ◌∙◌, ◌∷◌, ◌≡◌, ◌≢◌, ◌≤◌}
+pub use Rattle.std.proofs.Common.{Bool, Err, IfErr, IfOk, IfSome, List, None, Ok, Option, Result, Some, [], add-one, ap, append_assoc, arith, cond, drop, drop-cons, false, get_or, inl, inr, length, length-append, refl, subst, suc, sym, take, take-append-drop, true, zero, ℕ, ◌*◌, ◌++◌, ◌+◌, ◌-◌, ◌<◌, ◌∙◌, ◌∷◌, ◌≡◌, ◌≢◌, ◌≤◌}
 pub use Rattle.std.proofs.KnownBytes.{Appends-nil, Appends-trans, Consumes-trans}
 pub use Rattle.std.proofs.lemmas.Bool.{cases_lt}
 pub use Rattle.std.proofs.lemmas.Grind.{flat_map-append}
-pub use Rattle.std.proofs.lemmas.List.{append-nil, get_or_default, length-take, length-take-le, map-id, take_more}
+pub use Rattle.std.proofs.lemmas.List.{append-nil, length-take, length-take-le, map-id, take_more}
 pub use Rattle.std.proofs.lemmas.List.FromFn.{map-range_with_len_more}
 pub use Rattle.std.proofs.lemmas.Option.{same_Some}
 pub use Rattle.std.proofs.lemmas.Result.{IfErr-weaker, on_ok_weaker}
 pub use Rattle.std.specs.Io.KnownBytes.{Consumes}
 pub use Rattle.std.specs.List.{range_with_len}
 pub use Rattle.std.specs.Prelude.{Contains, IsErrAnd, IsSomeAnd, OnOk}
+pub use Rattle.bench_types.proofs.Sums.{sum_below-most}
 pub use Rattle.bench_types.specs.Mode.{modes}
 pub use Rattle.bench_types.specs.Output.{IsWriteFault, IsWritten}
 pub use Rattle.bench_types.specs.declared.faults.Fault.{Fault}
@@ -23,14 +24,13 @@ pub use Rattle.model.specs.calls.Numbers.{write_from, write_numbered}
 pub use Rattle.report.specs.Compare.{compare_header_line, compare_line, compare_lines}
 pub use Rattle.report.specs.Report.{report_header_line, report_line, report_lines}
 pub use Rattle.report.specs.Trace.{trace_header_line, trace_lines}
-pub use Rattle.round_plan.proofs.Growth.{length-own_writes, writes_in_at_most, writes_in_le}
+pub use Rattle.round_plan.proofs.Growth.{length-own_writes, writes_in_le}
 pub use Rattle.round_plan.proofs.Written.{apart-written_upto}
 pub use Rattle.round_plan.specs.Outages.{is_up}
 pub use Rattle.round_plan.specs.Writes.{count_before, own_writes, writes_in, written_upto}
 pub use Rattle.scenario.specs.CheckFault.{IsFaultOfCheck}
 pub use Rattle.scenario.specs.Order.{Says, document_of, first_fault}
 pub use Rattle.scenario.specs.Settings.{IsLawfulScenario, Settings, with_mode}
-pub use Rattle.scenario.specs.declared.elements.Load.{Load}
 pub use Rattle.simulation.proofs.Modes.{written_under}
 pub use Rattle.simulation.specs.Outcomes.{row_in}
 pub use Rattle.simulation.specs.calls.RoundView.{RoundView}

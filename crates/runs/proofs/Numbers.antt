@@ -1,32 +1,35 @@
 -- What the owners of a scenario write may stand under numbers below a bound.
 -- Serves `begin` and `tests_of_runs`.
-use Rattle.runs.proofs.Common.{◌≡◌, ℕ, zero, suc, ◌-◌, ◌*◌, ◌<◌, ◌≤◌, Bool, true, false, cond, List, [], ◌∷◌, length, sym, ap, ◌∙◌, arith, length-append, Some, Contains, same_Some, Entry, MOST_WRITES, write_from, write_numbered, is_up, writes_in, count_before, own_writes, written_upto, length-own_writes, writes_in_le, apart-written_upto, Settings, IsLawfulScenario, MayWriteAll, IsWriteUnder}
-use Rattle.runs.specs.inner.Writes.{AreWrittenIn, HasWritesBelow}
+use Rattle.runs.proofs.Common.{◌≡◌, ℕ, zero, suc, ◌-◌, ◌*◌, ◌<◌, ◌≤◌, Bool, true, false, cond, List, [], ◌∷◌, length, sym, ap, ◌∙◌, arith, length-append, Some, Contains, same_Some, Entry, MOST_WRITES, sum_below-most, write_from, write_numbered, is_up, writes_in, count_before, own_writes, written_upto, length-own_writes, writes_in_le, apart-written_upto, Settings, IsLawfulScenario, MayWriteAll, IsWriteUnder}
+use Rattle.runs.specs.inner.Writes.{AreWrittenIn, HasWritesBelow, writes_if_up}
 
-up_to : (b : Bool) (n most : ℕ) → n ≤ most → cond b n 0 ≤ most
-up_to true n most le = le
-up_to false n most le = omega arith
+up_to : (b : Bool) (n : ℕ) → cond b n 0 ≤ n
+up_to true n = omega arith
+up_to false n = omega arith
 
--- a round adds at most so many
-length-written_upto_le : (s : Settings) (owner most round : ℕ) → ((t : ℕ) → writes_in s t ≤ most) → length (written_upto s owner round) ≤ most * round
-length-written_upto_le s owner most zero limit = omega arith
-length-written_upto_le s owner most (suc round) limit =
+-- a round adds at most what a node writes that is up
+length-written_upto_le : (s : Settings) (owner round : ℕ) → length (written_upto s owner round) ≤ writes_if_up s round
+length-written_upto_le s owner zero = omega arith
+length-written_upto_le s owner (suc round) =
     let before = count_before s owner (suc round) in
     omega (
       arith,
       length-append (written_upto s owner round) (own_writes s owner (suc round) before),
-      length-written_upto_le s owner most round limit,
+      length-written_upto_le s owner round,
       length-own_writes s owner (suc round) before,
-      up_to (is_up s owner (suc round)) (writes_in s (suc round)) most (limit (suc round)),
+      up_to (is_up s owner (suc round)) (writes_in s (suc round)),
     )
 
 -- fewer than a bound are fewer than a greater one
 pub below_more : (s : Settings) (most more : ℕ) → HasWritesBelow most s → most ≤ more → HasWritesBelow more s
-below_more s most more below le = record { lawful = below.lawful; in_round = below.in_round; limit = below.limit; few = omega (arith, below.few, le) }
+below_more s most more below le = record { lawful = below.lawful; few = omega (arith, below.few, le) }
 
 -- the limits of a scenario tell how many they are
 pub below_limits : (s : Settings) (most : ℕ) → IsLawfulScenario s → MOST_WRITES * s.rounds < most → HasWritesBelow most s
-below_limits s most lawful few = record { lawful = lawful; in_round = MOST_WRITES; limit = writes_in_le s lawful; few = few }
+below_limits s most lawful few = record {
+  lawful = lawful;
+  few = omega (arith, few, sum_below-most (λ done. writes_in s (suc done)) s.rounds MOST_WRITES (λ done lt. writes_in_le s lawful (suc done)));
+}
 
 -- what stands under a number is one of so many
 placed : (es : List Entry) (place : ℕ) (e : Entry) → write_from es place ≡ Some e → (place < length es) × Contains es e
@@ -47,7 +50,7 @@ pub may_write_all : (s : Settings) (most : ℕ) (lists : ℕ → List Entry) →
     → MayWriteAll (IsWriteUnder lists most) s
 may_write_all s most lists are below owner number e in_nodes is = record {
   is = under number e is;
-  below = omega (arith, (numbered (written_upto s owner s.rounds) number e is).0, length-written_upto_le s owner below.in_round s.rounds below.limit, below.few);
+  below = omega (arith, (numbered (written_upto s owner s.rounds) number e is).0, length-written_upto_le s owner s.rounds, below.few);
   apart = λ m n d c one other same.
       apart-written_upto s owner s.rounds d c (numbered (written_upto s owner s.rounds) m d (among m d one)).1
       (numbered (written_upto s owner s.rounds) n c (among n c other)).1 same;

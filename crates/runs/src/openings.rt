@@ -1,8 +1,7 @@
 //! The simulation of a scenario, before its first round.
 
-ghost use Rattle.std.specs.Prelude.{◌≡◌, ℕ, ◌+◌, ◌*◌, ◌≤◌, IfOk, IsOkUnless};
+ghost use Rattle.std.specs.Prelude.{◌≡◌, ◌+◌, ◌*◌, ◌≤◌, IfOk, IsOkUnless};
 ghost use Rattle.bench_types.specs.declared.limits.TheConstants.{MOST_ROUNDS, MOST_WRITES};
-ghost use Rattle.round_plan.specs.Writes.{writes_in};
 ghost use Rattle.scenario.specs.Settings.{IsLawfulScenario};
 ghost use Rattle.simulation.specs.calls.Simulation.{MayWriteAll};
 ghost use Rattle.runs.specs.inner.Writes.{AreWrittenIn, HasWritesBelow};
@@ -10,29 +9,23 @@ ghost use Rattle.runs.specs.inner.Starts.{IsAtStart, IsOpened};
 
 use bench_types::Fault;
 use model::MemoryTable;
+use round_plan::writes_in;
 use round_tables::RoundHistories;
 use scenario::Scenario;
 use simulation::Sim;
 use std::alloc::Global;
 use version_tables::{Histories, Short, VersionTable, Written};
 
-fn most_in_a_round(scenario: &Scenario) -> u32
-    ensures limit { (round : ℕ) → writes_in scenario.now round ≤ result }
-    ensures within { result ≤ MOST_WRITES }
-{
-    let loads = scenario.loads();
-    let mut most = scenario.writes();
-    for place in 0..loads.len() {
-        most = most.max(loads[place].writes);
-    }
-    most
-}
-
+// How many writes a node makes that is up in all rounds. Costs a step for each round and load.
 fn most_in_a_run(scenario: &Scenario) -> u32
     ensures below { HasWritesBelow (result + 1) scenario.now }
     ensures within { result ≤ MOST_WRITES * MOST_ROUNDS }
 {
-    most_in_a_round(scenario) * scenario.rounds()
+    let mut most = 0;
+    for done in 0..scenario.rounds() {
+        most += writes_in(scenario, done + 1);
+    }
+    most
 }
 
 // A simulation by tables that keep versions alone, in such numbers.

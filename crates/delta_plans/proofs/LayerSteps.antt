@@ -1,14 +1,15 @@
 -- Layers of an offer, gone over as long as they fit.
 -- Serves `breadth` and `one_more`.
-use Rattle.delta_plans.proofs.Common.{◌≡◌, ℕ, ◌+◌, ◌*◌, ◌<◌, ◌≤◌, cond, ltb, List, length, get_or, map, inl, inr, sym, ap, ◌∙◌, subst, arith, nat_tests, cases_lt, length-map, MOST_NODES, MOST_KEYS, amount_of, Cells, count_between, HasEach, IsNextAbove, IsLeastAbove, AreChanged, sum_below, sum_below-same, sum_below-plus, sum_below-le}
+use Rattle.delta_plans.proofs.Common.{◌≡◌, ℕ, ◌+◌, ◌-◌, ◌*◌, ◌<◌, ◌≤◌, cond, ltb, List, length, get_or, map, inl, inr, sym, ap, ◌∙◌, subst, arith, nat_tests, cases_lt, length-map, MOST_NODES, MOST_KEYS, amount_of, Cells, count_between, HasEach, IsNextAbove, IsLeastAbove, AreChanged, sum_below, sum_below-same, sum_below-plus, sum_below-le}
 use Rattle.delta_plans.specs.declared.offers.Offer.{Offer}
 use Rattle.delta_plans.specs.declared.offers.Step.{Step}
 use Rattle.delta_plans.specs.OfferInMemory.{cells_in, low_in, high_in, marks, weights_in, weight_in, count_in, IsOffer}
-use Rattle.delta_plans.specs.Plans.{raised, IsNextLayer, IsNextMark, AreLayersSoFar}
+use Rattle.delta_plans.specs.declared.marked.First.TheVariants.{Oldest}
+use Rattle.delta_plans.specs.Plans.{raised, AreFarther, IsNextLayer, IsNextMark, AreLayersSoFar}
 use Rattle.delta_plans.specs.LevelMarks.{IsLayerMark}
 use Rattle.delta_plans.proofs.Columns.{where_true}
 use Rattle.delta_plans.proofs.Layers.{counted-next, layer-stays, layer-next}
-use Rattle.delta_plans.proofs.OfferWeights.{offer-few, offer-weighs_none, offer-counts_none}
+use Rattle.delta_plans.proofs.OfferWeights.{offer-few, offer-weighs_none, offer-counts_none, more-farther, left-farther, beyond-farther}
 use Rattle.delta_plans.proofs.WeightLaws.{weight_of-none, weight_of-upto, weight_of-all, sum_below-each_none}
 
 -- the next number, or else the mark itself
@@ -35,8 +36,8 @@ module _ {N : Type 0} {number : N → ℕ} {most : ℕ} {offer : Offer N} (is : 
   low = low_in number offer
 
   -- before the first layer
-  pub layers-first : (step : Step N) → IsNextLayer number offer low step → AreLayersSoFar number offer low (marks number step.marks.items) 0 step.more
-  layers-first step layer = record {
+  pub layers-first : (step : Step N) → IsNextLayer number offer low step → {room : ℕ} → room ≡ amount_of offer.budget → AreLayersSoFar number offer low (marks number step.marks.items) 0 step.more room
+  layers-first step layer all = record {
     layers = 0;
     layered = λ owner lt. record {
       above = omega arith;
@@ -46,10 +47,10 @@ module _ {N : Type 0} {number : N → ℕ} {most : ℕ} {offer : Offer N} (is : 
     next = layer.next;
     more = layer.more;
     whole = sym (offer-counts_none number offer low);
-    within = omega (arith, offer-weighs_none number offer low);
+    left = omega (arith, offer-weighs_none number offer low, all);
   }
 
-  module _ {near far : ℕ → ℕ} {count added : ℕ} (so_far : AreLayersSoFar number offer near far count added) where
+  module _ {near far : ℕ → ℕ} {count added room : ℕ} (so_far : AreLayersSoFar number offer near far count added room) where
     pub layers-far : (owner : ℕ) → owner < offer.nodes → IsLayerMark cells offer.keys owner (low owner) (so_far.layers + 1) (far owner)
     layers-far owner lt = elim (so_far.next owner lt) [
       | inl none ↦
@@ -57,6 +58,9 @@ module _ {N : Type 0} {number : N → ℕ} {most : ℕ} {offer : Offer N} (is : 
           (layer-stays cells offer.keys owner (low owner) so_far.layers (near owner) (so_far.layered owner lt) none.0)
       | inr some ↦ layer-next cells offer.keys owner (low owner) so_far.layers (near owner) (so_far.layered owner lt) (far owner) (is.differ owner lt) some
     ]
+
+    pub layers-farther : (owner : ℕ) → owner < offer.nodes → AreFarther Oldest (low owner) (near owner) (far owner)
+    layers-farther owner lt = ((so_far.layered owner lt).above, (layers-far owner lt).above, elim (so_far.next owner lt) [ inl none ↦ omega (arith, none.1) | inr some ↦ omega (arith, some.above) ])
 
     one_owner : (owner : ℕ) → owner < offer.nodes → count_between cells offer.keys owner (low owner) (far owner) ≡ count_between cells offer.keys owner (low owner) (near owner) + where_true (ltb (near owner) (far owner)) 1
     one_owner owner lt = elim (so_far.next owner lt) [
@@ -83,32 +87,37 @@ module _ {N : Type 0} {number : N → ℕ} {most : ℕ} {offer : Offer N} (is : 
               (λ owner lt. weight_of-upto (λ _. 1) cells offer.keys owner (low owner) (far owner) (high_in number offer owner) (is.covered owner lt)),
         )
 
-    -- where not all fits, a layer that does has something
-    pub layers-more : weight_in number offer low far ≤ amount_of offer.budget → amount_of offer.budget < weight_in number offer low (high_in number offer) → 0 < added
-    layers-more fits cut = elim (cases_lt 0 added) [
-      | inl some ↦ some
-      | inr none ↦ absurd (omega (arith, fits, cut, all (sym so_far.more ∙ omega (arith, none))))
-    ]
-      where
-        all : raised offer.nodes near far ≡ 0 → weight_in number offer low far ≡ weight_in number offer low (high_in number offer)
-        all none = sum_below-same offer.nodes _ _ (λ owner lt. elim (so_far.next owner lt) [
-          | inr some ↦ let stays = sum_below-each_none offer.nodes (λ r. where_true (ltb (near r) (far r)) 1) none owner lt in absurd (grind (arith, nat_tests, some.above))
-          | inl end ↦ weight_of-all (weights_in offer owner) cells offer.keys owner (low owner) (far owner) (high_in number offer owner) (is.covered owner lt) (λ key in_keys. omega (arith, end.1, end.0 key in_keys))
-        ])
+    -- and of the next layer alone
+    pub layers-between : added ≡ count_in number offer near far
+    layers-between = more-farther number offer layers-farther so_far.whole layers-count
 
-    -- one layer more
-    pub layers-next : (step : Step N) → IsNextLayer number offer far step → weight_in number offer low far ≤ amount_of offer.budget → AreLayersSoFar number offer far (marks number step.marks.items) (count + added) step.more
-    layers-next step layer fits = record {
-      layers = so_far.layers + 1;
-      layered = layers-far;
-      next = layer.next;
-      more = layer.more;
-      whole = layers-count;
-      within = fits;
-    }
+    pub layers-beyond : (weight_in number offer near far ≤ room → ⊥) → amount_of offer.budget < weight_in number offer low far
+    layers-beyond = beyond-farther number offer layers-farther so_far.left
 
-    pub layers-farther : (owner : ℕ) → owner < offer.nodes → (low owner ≤ near owner) × (low owner ≤ far owner) × (near owner ≤ far owner)
-    layers-farther owner lt = ((so_far.layered owner lt).above, (layers-far owner lt).above, elim (so_far.next owner lt) [ inl none ↦ omega (arith, none.1) | inr some ↦ omega (arith, some.above) ])
+    module _ {rest : ℕ} (fits : (weight_in number offer near far ≤ room) × (rest ≡ room - weight_in number offer near far)) where
+      -- where not all fits, a layer that does has something
+      pub layers-more : amount_of offer.budget < weight_in number offer low (high_in number offer) → 0 < added
+      layers-more cut = elim (cases_lt 0 added) [
+        | inl some ↦ some
+        | inr none ↦ absurd (omega (arith, left-farther number offer layers-farther so_far.left fits, cut, all (sym so_far.more ∙ omega (arith, none))))
+      ]
+        where
+          all : raised offer.nodes near far ≡ 0 → weight_in number offer low far ≡ weight_in number offer low (high_in number offer)
+          all none = sum_below-same offer.nodes _ _ (λ owner lt. elim (so_far.next owner lt) [
+            | inr some ↦ let stays = sum_below-each_none offer.nodes (λ r. where_true (ltb (near r) (far r)) 1) none owner lt in absurd (grind (arith, nat_tests, some.above))
+            | inl end ↦ weight_of-all (weights_in offer owner) cells offer.keys owner (low owner) (far owner) (high_in number offer owner) (is.covered owner lt) (λ key in_keys. omega (arith, end.1, end.0 key in_keys))
+          ])
+
+      -- one layer more
+      pub layers-next : (step : Step N) → IsNextLayer number offer far step → AreLayersSoFar number offer far (marks number step.marks.items) (count + added) step.more rest
+      layers-next step layer = record {
+        layers = so_far.layers + 1;
+        layered = layers-far;
+        next = layer.next;
+        more = layer.more;
+        whole = layers-count;
+        left = left-farther number offer layers-farther so_far.left fits;
+      }
 
 -- each owner's next mark is counted where it is raised
 pub steps-raised : {N : Type 0} (number : N → ℕ) (most : ℕ) (offer : Offer N) → IsOffer number most offer → (near : ℕ → ℕ) (items old new : List N) (count : ℕ) → old ≡ items

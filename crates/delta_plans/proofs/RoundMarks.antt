@@ -1,19 +1,18 @@
 -- What marks at the ends of rounds let through.
 -- Serves `Rounds::few_rounds`, `Rounds::level`, `Rounds::look` and `version_tables`.
-use Rattle.delta_plans.proofs.Common.{◌≡◌, ℕ, ◌+◌, ◌-◌, ◌<◌, ◌≤◌, true, false, max, map, ltb, List, length, inl, inr, refl, sym, ap, ◌∙◌, subst, transport, arith, nat_tests, nat_lt, length-map, cases_lt, Entry, amount_of, all_writes, Cells, cell, total_of, HasNoneAbove, sum_below-same, sum_below-plus, AreMadeBy, IsRoundMark, numbered-some}
+use Rattle.delta_plans.proofs.Common.{◌≡◌, ℕ, ◌+◌, ◌-◌, ◌<◌, ◌≤◌, max, map, ltb, List, length, Some, None, inl, inr, refl, sym, ap, ◌∙◌, subst, transport, arith, nat_tests, nat_lt, length-map, cases_lt, Entry, amount_of, all_writes, Cells, cell, total_of, HasNoneAbove, sum_below-same, sum_below-plus, AreMadeBy, IsRoundMark, numbered-some}
 use Rattle.delta_plans.specs.declared.marked.First.{First}
 use Rattle.delta_plans.specs.declared.marked.First.TheVariants.{Oldest, Newest}
 use Rattle.delta_plans.specs.declared.offers.Offer.{Offer}
 use Rattle.delta_plans.specs.declared.offers.Level.{Level}
 use Rattle.delta_plans.specs.declared.rounds.Found.{Found}
 use Rattle.delta_plans.specs.declared.rounds.Rounds.{Rounds}
-use Rattle.delta_plans.specs.OfferInMemory.{cells_in, low_in, high_in, marks, weights_in, count_in, IsOffer}
+use Rattle.delta_plans.specs.OfferInMemory.{cells_in, low_in, high_in, marks, weights_in, count_in, IsLeftOf, IsOffer}
 use Rattle.delta_plans.specs.Plans.{weight_on, AreFarther}
 use Rattle.delta_plans.specs.RoundLevels.{end_mark, round_mark, mark_of_rounds, AreFewAndEnough, AreRaised, AreRoundMarks, HasRounds, IsFound, IsLevelOfRounds}
 use Rattle.delta_plans.specs.LevelMarks.{AreRounds}
 use Rattle.delta_plans.specs.Stops.{IsOn}
 use Rattle.delta_plans.specs.Weights.{weight_through, count_all_between, one_each}
-use Rattle.delta_plans.proofs.OfferWeights.{over}
 use Rattle.delta_plans.proofs.Columns.{where_true, sum_below-none}
 use Rattle.delta_plans.proofs.TurnSteps.{through-same}
 use Rattle.delta_plans.proofs.WeightLaws.{part, weight_of-all, weight_of-none}
@@ -114,15 +113,15 @@ module _ {N : Type 0} {number : N → ℕ} {most : ℕ} (rounds : Rounds N) (is 
       (λ owner in_nodes. ap (λ round. end round owner) {x = last - last} {y = 0} (omega arith) ∙ none-made owner in_nodes)
 
   -- the search begins with none, which fit, and all, which don't
-  pub begun : AreFewAndEnough number rounds 0 last 0
-  begun = record {
+  pub begun : {room : ℕ} → room ≡ amount_of offer.budget → AreFewAndEnough number rounds 0 last 0 room
+  begun all = record {
     below = elim (cases_lt 0 last) [
       | inl some ↦ some
       | inr none ↦ absurd (omega (arith, too_many, no_rounds rounds.first (weights_in offer), ap (λ count. weight_on rounds.first number offer (mark rounds.first count)) {x = last} {y = 0} (omega (arith, none))))
     ];
     bound = omega arith;
     counted = sym (no_rounds rounds.first one_each);
-    within = omega (arith, no_rounds rounds.first (weights_in offer));
+    left = omega (arith, no_rounds rounds.first (weights_in offer), all);
     beyond = too_many;
   }
     where
@@ -137,25 +136,30 @@ module _ {N : Type 0} {number : N → ℕ} {most : ℕ} (rounds : Rounds N) (is 
     let_through : (weights : ℕ → ℕ → ℕ) → through rounds.first weights (marks number items) ≡ through rounds.first weights (mark_of_rounds number rounds count)
     let_through weights = through-same weights (cells_in number offer) offer.nodes offer.keys low high (mark_of_rounds number rounds count) (marks number items) rounds.first are.each
 
-    module _ {few enough whole : ℕ} (so_far : AreFewAndEnough number rounds few enough whole) {found : Found} (look : IsFound number rounds items found) where
+    module _ {few enough whole room : ℕ} (so_far : AreFewAndEnough number rounds few enough whole room) {found : Found} (look : IsFound number rounds items found) where
       -- one more look finds more rounds that fit
-      pub further : count < enough → found.fits ≡ true → AreFewAndEnough number rounds count enough found.count
-      further lt fits = record {
-        below = lt;
-        bound = so_far.bound;
-        counted = look.count ∙ let_through one_each;
-        within = omega (arith, look.fits.0 fits, let_through (weights_in offer));
-        beyond = so_far.beyond;
-      }
+      pub further : {rest : ℕ} → count < enough → found.left ≡ Some rest → AreFewAndEnough number rounds count enough found.count rest
+      further {rest} lt fits =
+          let left = subst (IsLeftOf (amount_of offer.budget) (weight_on rounds.first number offer (marks number items))) fits look.left in
+          record {
+            below = lt;
+            bound = so_far.bound;
+            counted = look.count ∙ let_through one_each;
+            left = omega (arith, left.0, left.1, let_through (weights_in offer));
+            beyond = so_far.beyond;
+          }
 
       -- or that fewer are enough
-      pub nearer : few < count → count ≤ enough → found.fits ≡ false → AreFewAndEnough number rounds few count whole
+      pub nearer : few < count → count ≤ enough → found.left ≡ None → AreFewAndEnough number rounds few count whole room
       nearer lt le no_fit = record {
         below = lt;
         bound = omega (arith, so_far.bound, le);
         counted = so_far.counted;
-        within = so_far.within;
-        beyond = omega (arith, over found.fits _ _ look.fits no_fit, let_through (weights_in offer));
+        left = so_far.left;
+        beyond = elim (cases_lt (amount_of offer.budget) (weight_on rounds.first number offer (marks number items))) [
+          | inl above ↦ omega (arith, above, let_through (weights_in offer))
+          | inr upto ↦ absurd (subst (IsLeftOf (amount_of offer.budget) (weight_on rounds.first number offer (marks number items))) no_fit look.left (omega (arith, upto)))
+        ];
       }
 
   -- one round more lets through more
@@ -170,7 +174,7 @@ module _ {N : Type 0} {number : N → ℕ} {most : ℕ} (rounds : Rounds N) (is 
       on Newest = rises (last - enough) (last - few) (omega (arith, is_next, le)) (omega (arith, is_next, le))
 
   -- the level that a few rounds and one more are
-  pub rounds-level : {enough : ℕ} {level : Level N} → AreFewAndEnough number rounds (enough - 1) enough level.whole → AreRoundMarks number rounds (enough - 1) level.near.items → AreRoundMarks number rounds enough level.far.items
+  pub rounds-level : {enough : ℕ} {level : Level N} → AreFewAndEnough number rounds (enough - 1) enough level.whole level.left → AreRoundMarks number rounds (enough - 1) level.near.items → AreRoundMarks number rounds enough level.far.items
       → IsLevelOfRounds number rounds level
   rounds-level {enough} {level} found near far = record {
     is_level = record {
@@ -179,7 +183,7 @@ module _ {N : Type 0} {number : N → ℕ} {most : ℕ} (rounds : Rounds N) (is 
       farther = λ owner in_nodes.
           transport (λ i. AreFarther rounds.first (low owner) (sym (near.each owner in_nodes) i) (sym (far.each owner in_nodes) i)) (farther rounds.first (enough - 1) enough owner (omega (arith, found.below)) found.bound in_nodes);
       whole = found.counted ∙ sym (let_through (enough - 1) level.near.items near one_each);
-      within = omega (arith, found.within, let_through (enough - 1) level.near.items near (weights_in offer));
+      left = omega (arith, found.left, let_through (enough - 1) level.near.items near (weights_in offer));
       beyond = omega (arith, found.beyond, let_through enough level.far.items far (weights_in offer));
     };
     of_rounds = by_ends rounds.first near.each far.each;

@@ -4,11 +4,12 @@ use Rattle.delta_plans.proofs.Common.{◌≡◌, ℕ, zero, suc, ◌+◌, ◌-�
 use Rattle.delta_plans.specs.declared.offers.Offer.{Offer}
 use Rattle.delta_plans.specs.OfferInMemory.{cells_in, low_in, high_in, marks, owner_count_in, weights_in, weight_in, count_in, IsOffer}
 use Rattle.delta_plans.specs.declared.offers.Step.{Step}
-use Rattle.delta_plans.specs.Plans.{IsMarkFrom, AreMarksFrom, AreNextRuns, AreRunsSoFar}
+use Rattle.delta_plans.specs.declared.marked.First.TheVariants.{Oldest}
+use Rattle.delta_plans.specs.Plans.{AreFarther, IsMarkFrom, AreMarksFrom, AreNextRuns, AreRunsSoFar}
 use Rattle.delta_plans.specs.LevelMarks.{IsRunMark, AreRuns}
 use Rattle.delta_plans.specs.Weights.{weight_of}
 use Rattle.delta_plans.proofs.Columns.{where_true, sum_below-none}
-use Rattle.delta_plans.proofs.OfferWeights.{offer-few, offer-weighs_none, offer-counts_none}
+use Rattle.delta_plans.proofs.OfferWeights.{offer-few, offer-weighs_none, offer-counts_none, more-farther, left-farther, beyond-farther}
 use Rattle.delta_plans.proofs.WeightLaws.{weight_of-none, count_between-most, sum_below-each_none}
 
 -- so many times a sum
@@ -81,8 +82,8 @@ module _ {N : Type 0} {number : N → ℕ} {most : ℕ} {offer : Offer N} (is : 
 
   -- runs of one size, which some owners have
   runs-added : {near : ℕ → ℕ} (size count : ℕ) {step : Step N} → AreMarksFrom number offer (size + 1) near → AreNextRuns number offer near size step
-      → count ≡ count_in number offer low near → weight_in number offer low near ≤ amount_of offer.budget → AreRunsSoFar number offer near (marks number step.marks.items) size count step.more
-  runs-added {near} size count {step} longer runs whole within = record {
+      → count ≡ count_in number offer low near → {room : ℕ} → weight_in number offer low near + room ≡ amount_of offer.budget → AreRunsSoFar number offer near (marks number step.marks.items) size count step.more room
+  runs-added {near} size count {step} longer runs whole left = record {
     longer = longer;
     next = next;
     whole = whole;
@@ -90,19 +91,19 @@ module _ {N : Type 0} {number : N → ℕ} {most : ℕ} {offer : Offer N} (is : 
         (λ i. whole i + (runs.more ∙ sym (sum_below-scaled offer.nodes size (λ owner. where_true (eqb (owner_count_in number offer owner) size) 1))) i)
         ∙ sym (sum_below-plus offer.nodes (λ owner. count_between cells offer.keys owner (low owner) (near owner)) (λ owner. where_true (eqb (owner_count_in number offer owner) size) 1 * size))
         ∙ sym (sum_below-same offer.nodes _ _ (λ owner lt. run-count cells offer.keys owner (low owner) (high owner) (is.covered owner lt) size (near owner) (marks number step.marks.items owner) (longer owner lt) (next owner lt)));
-    within = within;
+    left = left;
   }
     where
       next : AreMarksFrom number offer size (marks number step.marks.items)
       next owner lt = from-next (owner_count_in number offer owner) (low owner) (high owner) size (near owner) (marks number step.marks.items owner) (longer owner lt) (runs.marked owner lt)
 
   -- the longest runs are next
-  pub runs-start : {size : ℕ} {step : Step N} → IsLongest size → AreNextRuns number offer low size step → AreRunsSoFar number offer low (marks number step.marks.items) size 0 step.more
-  runs-start {size} longest runs =
+  pub runs-start : {size : ℕ} {step : Step N} → IsLongest size → AreNextRuns number offer low size step → {room : ℕ} → room ≡ amount_of offer.budget → AreRunsSoFar number offer low (marks number step.marks.items) size 0 step.more room
+  runs-start {size} longest runs all =
       runs-added size 0 (λ owner lt. record { all = λ le. absurd (omega (arith, le, longest owner lt)); none = λ _. refl }) runs
-      (sym (offer-counts_none number offer low)) (omega (arith, offer-weighs_none number offer low))
+      (sym (offer-counts_none number offer low)) (omega (arith, offer-weighs_none number offer low, all))
 
-  module _ {near far : ℕ → ℕ} {size count added : ℕ} (so_far : AreRunsSoFar number offer near far size count added) where
+  module _ {near far : ℕ → ℕ} {size count added room : ℕ} (so_far : AreRunsSoFar number offer near far size count added room) where
     pub runs-few : count + added ≤ MOST_NODES * MOST_KEYS
     runs-few = omega (arith, so_far.more, offer-few number most offer is low far)
 
@@ -110,7 +111,7 @@ module _ {N : Type 0} {number : N → ℕ} {most : ℕ} {offer : Offer N} (is : 
     pub runs-some : amount_of offer.budget < weight_in number offer low high → 0 < size
     runs-some cut = elim (cases_lt 0 size) [
       | inl some ↦ some
-      | inr none ↦ absurd (omega (arith, cut, so_far.within, all (omega (arith, none))))
+      | inr none ↦ absurd (omega (arith, cut, so_far.left, all (omega (arith, none))))
     ]
       where
         all : size ≡ 0 → weight_in number offer low near ≡ weight_in number offer low high
@@ -123,10 +124,22 @@ module _ {N : Type 0} {number : N → ℕ} {most : ℕ} {offer : Offer N} (is : 
         ])
 
     module _ (some : 0 < size) where
+      pub runs-farther : (owner : ℕ) → owner < offer.nodes → AreFarther Oldest (low owner) (near owner) (far owner)
+      runs-farther owner lt = run-farther cells offer.keys owner (low owner) (high owner) (is.covered owner lt) size (near owner) (far owner) (so_far.longer owner lt) (so_far.next owner lt) some
+
+      -- so many runs' numbers are next
+      pub runs-between : added ≡ count_in number offer near far
+      runs-between = more-farther number offer runs-farther so_far.whole so_far.more
+
+      pub runs-beyond : (weight_in number offer near far ≤ room → ⊥) → amount_of offer.budget < weight_in number offer low far
+      runs-beyond = beyond-farther number offer runs-farther so_far.left
+
       -- those of one number less
-      pub runs-next : {step : Step N} → weight_in number offer low far ≤ amount_of offer.budget → AreNextRuns number offer far (size - 1) step → AreRunsSoFar number offer far (marks number step.marks.items) (size - 1) (count + added) step.more
+      pub runs-next : {rest : ℕ} {step : Step N} → (weight_in number offer near far ≤ room) × (rest ≡ room - weight_in number offer near far) → AreNextRuns number offer far (size - 1) step
+          → AreRunsSoFar number offer far (marks number step.marks.items) (size - 1) (count + added) step.more rest
       runs-next fits runs =
-          runs-added (size - 1) (count + added) (subst (λ n. AreMarksFrom number offer n far) {x = size} {y = size - 1 + 1} (omega (arith, some)) so_far.next) runs so_far.more fits
+          runs-added (size - 1) (count + added) (subst (λ n. AreMarksFrom number offer n far) {x = size} {y = size - 1 + 1} (omega (arith, some)) so_far.next) runs so_far.more
+          (left-farther number offer runs-farther so_far.left fits)
 
       -- the level at which they end
       pub runs-of_level : AreRuns cells offer.nodes offer.keys low near far
@@ -138,9 +151,6 @@ module _ {N : Type 0} {number : N → ℕ} {most : ℕ} {offer : Offer N} (is : 
         where
           run-marks : (from less : ℕ) (mark : ℕ → ℕ) → from ≡ less + 1 → AreMarksFrom number offer from mark → (owner : ℕ) → owner < offer.nodes → IsRunMark cells offer.keys owner (low owner) less (mark owner)
           run-marks from less mark one marked owner lt = run-mark cells offer.keys owner (low owner) (high owner) (is.covered owner lt) from less (mark owner) one (marked owner lt)
-
-      pub runs-farther : (owner : ℕ) → owner < offer.nodes → (low owner ≤ near owner) × (low owner ≤ far owner) × (near owner ≤ far owner)
-      runs-farther owner lt = run-farther cells offer.keys owner (low owner) (high owner) (is.covered owner lt) size (near owner) (far owner) (so_far.longer owner lt) (so_far.next owner lt) some
 
   -- no owner has more than so many
   pub counts-few : (found : List N) → HasEach offer.nodes (λ r n. n ≡ owner_count_in number offer r) (map number found) → (r : ℕ) → r < length found → get_or (map number found) r 0 ≤ MOST_KEYS

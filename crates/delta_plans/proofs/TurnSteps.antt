@@ -1,6 +1,6 @@
 -- The owners' turns in a level.
 -- Serves the functions of `sharing` and `RoundMarks`.
-use Rattle.delta_plans.proofs.Common.{◌≡◌, ◌≢◌, ℕ, zero, suc, ◌+◌, ◌-◌, ◌*◌, ◌<◌, ◌≤◌, true, false, List, length, get_or, set, map, inl, inr, refl, sym, ap, ◌∙◌, subst, transport, arith, nat_tests, get_or-set_same, get_or-set_other, length-map, map-set, Entries, MOST_NODES, MOST_KEYS, MOST_ENTRY_SIZE, cases_lt, cases_eq, amount_of, all_writes, Cells, HasNoneAbove, sum_below, sum_below-same, sum_below-plus, rotated, rotated-injective, rotated-is, write_numbered}
+use Rattle.delta_plans.proofs.Common.{◌≡◌, ◌≢◌, ℕ, suc, ◌+◌, ◌-◌, ◌*◌, ◌<◌, ◌≤◌, true, false, List, length, get_or, set, map, inl, inr, refl, sym, ap, ◌∙◌, subst, transport, arith, nat_tests, get_or-set_same, get_or-set_other, length-map, map-set, Entries, MOST_NODES, MOST_KEYS, MOST_ENTRY_SIZE, cases_lt, cases_eq, all_writes, Cells, HasNoneAbove, sum_below-same, sum_below-plus, rotated, rotated-injective, rotated-is, write_numbered}
 use Rattle.delta_plans.specs.declared.marked.First.{First}
 use Rattle.delta_plans.specs.declared.marked.First.TheVariants.{Oldest, Newest}
 use Rattle.delta_plans.specs.declared.offers.Offer.{Offer}
@@ -8,14 +8,14 @@ use Rattle.delta_plans.specs.declared.sharing.Reached.{Reached}
 use Rattle.delta_plans.specs.declared.sharing.Turns.{Turns}
 use Rattle.delta_plans.specs.Firsts.{by_first, comes_first}
 use Rattle.delta_plans.specs.OfferInMemory.{cells_in, low_in, high_in, marks, weights_in, IsOffer}
-use Rattle.delta_plans.specs.Plans.{weight_on, count_on, AreFarther}
+use Rattle.delta_plans.specs.Plans.{count_on, AreFarther}
 use Rattle.delta_plans.specs.LevelMarks.{lets_through}
 use Rattle.delta_plans.specs.Sharing.{AreShared}
 use Rattle.delta_plans.specs.Stops.{IsNext, IsOn, IsStopFrom}
 use Rattle.delta_plans.specs.Turns.{part_weight, parts_count, AreTurns, AreTurnsPassed, HasTurn, HaveTurns}
 use Rattle.delta_plans.specs.Weights.{weight_of, weight_from, weight_through, one_each}
 use Rattle.delta_plans.proofs.Columns.{sum_below-changed}
-use Rattle.delta_plans.proofs.WeightLaws.{part, weight_of-split, weight_of-same, weight_of-most, number_share-one}
+use Rattle.delta_plans.proofs.WeightLaws.{part, weight_of-split, weight_of-same, weight_of-most, number_share-one, sum_below-longer}
 use Rattle.delta_plans.proofs.OfferWeights.{offer-few, share-most}
 
 -- the weights from a lower mark on and from a higher one, which may be above all numbers
@@ -75,8 +75,8 @@ module _ {N : Type 0} {number : N → ℕ} {most : ℕ} {turns : Turns N} (are :
   far = marks number turns.level.now.far.items
 
   -- before the first turn
-  pub turns-first : {room : ℕ} → weight_on turns.first number offer near + room ≡ amount_of offer.budget → AreTurnsPassed number turns near 0 room turns.level.now.whole
-  turns-first rest = record { passed = λ r lt before. absurd (omega (arith, before)); waiting = λ r lt _. refl; left = rest; count = are.level.whole }
+  pub turns-first : AreTurnsPassed number turns near 0 turns.level.now.left turns.level.now.whole
+  turns-first = record { passed = λ r lt before. absurd (omega (arith, before)); waiting = λ r lt _. refl; left = are.level.left; count = are.level.whole }
 
   module _ {mark : ℕ → ℕ} {turn left sent : ℕ} (so_far : AreTurnsPassed number turns mark turn left sent) where
     -- not all owners have their turns
@@ -192,14 +192,6 @@ module _ {N : Type 0} {number : N → ℕ} {most : ℕ} {turns : Turns N} {owner
         weight_of-most (weights_in turns.offer.now owner) MOST_ENTRY_SIZE (cells_in number turns.offer.now) turns.offer.now.keys owner first-mark last-mark (λ n. share-most turns.offer.now.budget (write_numbered (all_writes turns.offer.now.lists.now owner) n)),
         ap (λ n. n * MOST_ENTRY_SIZE) none,
       )
-
--- the parts of fewer owners have no more numbers
-sum_below-longer : (f : ℕ → ℕ) (n m : ℕ) → n ≤ m → sum_below n f ≤ sum_below m f
-sum_below-longer f n zero le = omega (arith, ap (λ k. sum_below k f) {x = n} {y = zero} (omega (arith, le)))
-sum_below-longer f n (suc m) le = elim (cases_lt n (suc m)) [
-  | inl below ↦ omega (arith, sum_below-longer f n m (omega (arith, below)))
-  | inr not_below ↦ omega (arith, ap (λ k. sum_below k f) {x = n} {y = suc m} (omega (arith, le, not_below)))
-]
 
 -- owners in a row have their turns one after another
 pub turns-in_row : {N : Type 0} (turns : Turns N) (turn owner size : ℕ) → turns.rotation < turns.offer.now.nodes → rotated turns.offer.now.nodes turns.rotation owner ≡ turn

@@ -63,10 +63,16 @@ count_all_between-most cells zero keys low high = omega arith
 count_all_between-most cells (suc nodes) keys low high = omega (arith, count_all_between-most cells nodes keys low high, count_between-most cells keys nodes (low nodes) (high nodes))
 
 -- one more owner is weighed
-pub weight-next : (weights : ℕ → ℕ → ℕ) (cells : Cells) (owner keys : ℕ) (low high : ℕ → ℕ) (before after here : ℕ) → before ≡ weight_between weights cells owner keys low high → after ≡ before + here
-    → here ≡ weight_of (weights owner) cells keys owner (low owner) (high owner) → after ≡ weight_between weights cells (owner + 1) keys low high
-weight-next weights cells owner keys low high before after here is now of_owner =
-    now ∙ (λ i. is i + of_owner i) ∙ ap (λ n. weight_between weights cells n keys low high) {x = suc owner} {y = owner + 1} (omega arith)
+pub weight-next : (weights : ℕ → ℕ → ℕ) (cells : Cells) (owner keys : ℕ) (low high : ℕ → ℕ) → weight_between weights cells (owner + 1) keys low high ≡ weight_between weights cells owner keys low high + weight_of (weights owner) cells keys owner (low owner) (high owner)
+weight-next weights cells owner keys low high = ap (λ n. weight_between weights cells n keys low high) {x = owner + 1} {y = suc owner} (omega arith)
+
+-- a sum of fewer terms is no more
+pub sum_below-longer : (f : ℕ → ℕ) (n m : ℕ) → n ≤ m → sum_below n f ≤ sum_below m f
+sum_below-longer f n zero le = omega (arith, ap (λ k. sum_below k f) {x = n} {y = zero} (omega (arith, le)))
+sum_below-longer f n (suc m) le = elim (cases_lt n (suc m)) [
+  | inl below ↦ omega (arith, sum_below-longer f n m (omega (arith, below)))
+  | inr not_below ↦ omega (arith, ap (λ k. sum_below k f) {x = n} {y = suc m} (omega (arith, le, not_below)))
+]
 
 -- marks above all numbers let through as much as any such
 module _ (weight : ℕ → ℕ) (cells : Cells) (keys owner low mark high : ℕ) (covered : HasNoneAbove cells keys owner high) where

@@ -1,5 +1,5 @@
 -- What is offered in memory: cells with marks for each owner, and the owners' lists. Source: this project.
-use Rattle.std.specs.Prelude.{◌≡◌, ℕ, ◌<◌, ◌≤◌, List, length, map, slice_index}
+use Rattle.std.specs.Prelude.{◌≡◌, ℕ, ◌-◌, ◌<◌, ◌≤◌, List, Option, SomeIff, length, map, slice_index}
 use Rattle.bench_types.specs.Budget.{amount_of}
 use Rattle.model.specs.calls.OwnerListView.{all_writes}
 use Rattle.planes.specs.Planes.{Cells, cell, count_above, IsGrid, HasNoneAbove}
@@ -53,6 +53,10 @@ pub record IsOffer {N : Type 0} (number : N → ℕ) (most : ℕ) (offer : Offer
 -- so many numbers are offered
 abbrev pub IsCountOffered : {N : Type 0} → (N → ℕ) → Offer N → ℕ → Type 0
 IsCountOffered number offer found = found ≡ count_in number offer (low_in number offer) (high_in number offer)
+
+-- what is left of so much room after what weighs so much, nothing where that doesn't fit
+abbrev pub IsLeftOf : ℕ → ℕ → Option ℕ → Type 0
+IsLeftOf room weight left = SomeIff left (weight ≤ room) (room - weight)
 
 -- an offer that weighs more than the budget
 pub record IsTooLarge {N : Type 0} (number : N → ℕ) (most : ℕ) (offer : Offer N) : Type 0 where

@@ -47,7 +47,7 @@ count_on first number offer mark =
 abbrev pub AreFarther : First → ℕ → ℕ → ℕ → Type 0
 AreFarther first low near far = (low ≤ near) × (low ≤ far) × IsOn first near far
 
--- near marks, which let through so many, and far marks, which are the first that let through more than fits
+-- near marks, which let through so many and leave so much, and far marks, the first that let through more than fits
 pub record IsLevel {N : Type 0} (first : First) (number : N → ℕ) (offer : Offer N) (level : Level N) : Type 0 where
   pub near : length level.near.items ≡ offer.nodes
   pub far : length level.far.items ≡ offer.nodes
@@ -55,12 +55,12 @@ pub record IsLevel {N : Type 0} (first : First) (number : N → ℕ) (offer : Of
       → AreFarther first (low_in number offer owner) (marks number level.near.items owner)
       (marks number level.far.items owner)
   pub whole : level.whole ≡ count_on first number offer (marks number level.near.items)
-  pub within : weight_on first number offer (marks number level.near.items) ≤ amount_of offer.budget
+  pub left : weight_on first number offer (marks number level.near.items) + level.left ≡ amount_of offer.budget
   pub beyond : amount_of offer.budget < weight_on first number offer (marks number level.far.items)
 
 -- layers as far as they were gone over: the first fit, and the next is known
 pub record AreLayersSoFar {N : Type 0} (number : N → ℕ) (offer : Offer N) (near far : ℕ → ℕ)
-    (count added : ℕ) : Type 0 where
+    (count added room : ℕ) : Type 0 where
   pub layers : ℕ
   pub layered : (owner : ℕ) → owner < offer.nodes
       → IsLayerMark (cells_in number offer) offer.keys owner (low_in number offer owner) layers (near owner)
@@ -68,7 +68,7 @@ pub record AreLayersSoFar {N : Type 0} (number : N → ℕ) (offer : Offer N) (n
       → IsNextMark (cells_in number offer) offer.keys owner (near owner) (far owner)
   pub more : added ≡ raised offer.nodes near far
   pub whole : count ≡ count_in number offer (low_in number offer) near
-  pub within : weight_in number offer (low_in number offer) near ≤ amount_of offer.budget
+  pub left : weight_in number offer (low_in number offer) near + room ≡ amount_of offer.budget
 
 -- a mark that goes all the way for owners that have so many numbers, and for others not at all
 pub record IsMarkFrom (count low high size mark : ℕ) : Type 0 where
@@ -102,9 +102,9 @@ pub record AreNextRuns {N : Type 0} (number : N → ℕ) (offer : Offer N) (near
 
 -- runs as far as they were gone over: the longer ones fit, and those of this size are next
 pub record AreRunsSoFar {N : Type 0} (number : N → ℕ) (offer : Offer N) (near far : ℕ → ℕ)
-    (size count added : ℕ) : Type 0 where
+    (size count added room : ℕ) : Type 0 where
   pub longer : AreMarksFrom number offer (size + 1) near
   pub next : AreMarksFrom number offer size far
   pub whole : count ≡ count_in number offer (low_in number offer) near
   pub more : count + added ≡ count_in number offer (low_in number offer) far
-  pub within : weight_in number offer (low_in number offer) near ≤ amount_of offer.budget
+  pub left : weight_in number offer (low_in number offer) near + room ≡ amount_of offer.budget

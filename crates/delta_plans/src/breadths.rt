@@ -38,15 +38,22 @@ pub(crate) fn breadth<N: Number>(alloc: Global, offer: &Offer<N>) -> Result<Leve
 {
     let mut near = Vec::from_slice(alloc, offer.low)?;
     let mut whole = 0;
+    let mut left = offer.budget.amount();
     let first = one_more(alloc, offer, &near)?;
     let mut far = first.marks;
     let mut more = first.more;
-    while offer.fits(whole + more, offer.low, &far) {
+    while let Some(rest) = offer.left_of(left, more, &near, &far) {
         let next = one_more(alloc, offer, &far)?;
         whole += more;
+        left = rest;
         near = far;
         far = next.marks;
         more = next.more;
     }
-    Ok(Level { near, far, whole })
+    Ok(Level {
+        near,
+        far,
+        whole,
+        left,
+    })
 }

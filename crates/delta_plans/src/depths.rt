@@ -62,16 +62,23 @@ pub(crate) fn depth<N: Number>(alloc: Global, offer: &Offer<N>) -> Result<Level<
     let mut size = greatest_of(&counts);
     let mut near = Vec::from_slice(alloc, offer.low)?;
     let mut whole = 0;
+    let mut left = offer.budget.amount();
     let first = next_runs(alloc, offer, &counts, &near, size)?;
     let mut far = first.marks;
     let mut more = first.more;
-    while offer.fits(whole + more, offer.low, &far) {
+    while let Some(rest) = offer.left_of(left, more, &near, &far) {
         size -= 1;
         let next = next_runs(alloc, offer, &counts, &far, size)?;
         whole += more;
+        left = rest;
         near = far;
         far = next.marks;
         more = next.more;
     }
-    Ok(Level { near, far, whole })
+    Ok(Level {
+        near,
+        far,
+        whole,
+        left,
+    })
 }

@@ -3,7 +3,7 @@
 ghost use Rattle.std.specs.Prelude.{◌≡◌, ◌*◌, ◌<◌, ◌≤◌, ◌↔◌, IsTrue, length, if◌then◌else◌};
 ghost use Rattle.bench_types.specs.Budget.{amount_of, largest_share, share_of};
 ghost use Rattle.owner_writes.specs.Kept.{entry_kept};
-ghost use Rattle.delta_plans.specs.OfferInMemory.{cells_in, marks, weight_in, weights_in, AreCounted, HasMarks, HasOwner, HasPlace};
+ghost use Rattle.delta_plans.specs.OfferInMemory.{cells_in, marks, weight_in, weights_in, AreCounted, HasMarks, HasOwner, HasPlace, IsLeftOf};
 ghost use Rattle.delta_plans.specs.Weights.{weight_of};
 
 use bench_types::limits::MOST_ENTRY_SIZE;
@@ -23,12 +23,14 @@ pub struct Offer<'a, N: Number> {
     pub budget: Budget,
 }
 
-/// Near marks let through whole levels, `whole` numbers in all, and far marks one level more, which doesn't fit.
+/// Near marks let through whole levels, `whole` numbers in all, after which so much of the budget is left, and far marks
+/// one level more, which doesn't fit.
 #[derive(Drop)]
 pub(crate) struct Level<N: Number> {
     pub(crate) near: Vec<N>,
     pub(crate) far: Vec<N>,
     pub(crate) whole: u32,
+    pub(crate) left: u32,
 }
 
 /// Marks up to which is sent, or above which where the newest goes first, and how many numbers these are.
@@ -118,32 +120,35 @@ impl<'a, N: Number> Offer<'a, N> {
         weight
     }
 
-    // What all owners' numbers above one mark and up to another take of it.
-    fn weight_of_all(&self, low: &[N], high: &[N]) -> u32
+    // What is left of so many bytes after all owners' numbers above one mark and up to another, if they fit. It stops at
+    // the first owner whose numbers don't.
+    fn bytes_left_of(&self, room: u32, low: &[N], high: &[N]) -> Option<u32>
         requires { HasMarks N.number N.most self.now low.now high.now }
-        ensures { result ≡ weight_in N.number self.now (marks N.number low.now)
-            (marks N.number high.now) }
+        ensures { IsLeftOf room (weight_in N.number self.now (marks N.number low.now)
+            (marks N.number high.now)) result }
     {
-        let mut weight = 0;
+        let mut left = room;
         for owner in 0..self.nodes {
             let from = number_at(low, owner);
             let to = number_at(high, owner);
             if to.is_above(from) {
-                weight += self.weight_of(owner, from, to);
+                let weight = self.weight_of(owner, from, to);
+                left = left.checked_sub(weight)?;
             }
         }
-        weight
+        Some(left)
     }
 
-    /// The same, where it is known how many these are. Entries need no walk then.
-    pub(crate) fn weight(&self, count: u32, low: &[N], high: &[N]) -> u32
+    /// What is left of a part of the budget after them, if they fit, where it is known how many these are. Entries need
+    /// no walk then.
+    pub(crate) fn left_of(&self, room: u32, count: u32, low: &[N], high: &[N]) -> Option<u32>
         requires { AreCounted N.number N.most self.now count low.now high.now }
-        ensures { result
-            ≡ weight_in N.number self.now (marks N.number low.now) (marks N.number high.now) }
+        ensures { IsLeftOf room (weight_in N.number self.now (marks N.number low.now)
+            (marks N.number high.now)) result }
     {
         match self.budget {
-            Budget::Entries(_) => count,
-            Budget::Bytes(_) => self.weight_of_all(low, high),
+            Budget::Entries(_) => room.checked_sub(count),
+            Budget::Bytes(_) => self.bytes_left_of(room, low, high),
         }
     }
 
@@ -157,7 +162,7 @@ impl<'a, N: Number> Offer<'a, N> {
         match self.budget {
             Budget::Entries(amount) => count <= amount,
             Budget::Bytes(amount) => {
-                count * MOST_ENTRY_SIZE <= amount || self.weight_of_all(low, high) <= amount
+                count * MOST_ENTRY_SIZE <= amount || self.bytes_left_of(amount, low, high).is_some()
             }
         }
     }

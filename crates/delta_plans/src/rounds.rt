@@ -11,18 +11,19 @@ use bench_types::Fault;
 use planes::{Ends, Number};
 use std::alloc::Global;
 
-// So many rounds don't fit, and one less do, which have so many numbers.
+// So many rounds don't fit, and one less do, which have so many numbers and leave so much.
 #[derive(Clone, Copy)]
 struct Few {
     enough: u32,
     whole: u32,
+    left: u32,
 }
 
-// What marks let through: how many numbers, and whether they fit.
+// What marks let through: how many numbers, and what these leave if they fit.
 #[derive(Clone, Copy)]
 struct Found {
     count: u32,
-    fits: bool,
+    left: Option<u32>,
 }
 
 /// Rounds of what is offered: where they end, how many numbers are offered, and from which end on rounds are sent.
@@ -48,6 +49,7 @@ impl<'a, 'b, N: Number> Rounds<'a, 'b, N> {
             near,
             far,
             whole: few.whole,
+            left: few.left,
         })
     }
 
@@ -56,26 +58,32 @@ impl<'a, 'b, N: Number> Rounds<'a, 'b, N> {
     fn few_rounds(&self, alloc: Global) -> Result<Few, Fault>
         requires { HasRounds N.number N.most self.now }
         ensures few { IfOk result
-            (λ few. AreFewAndEnough N.number self.now (few.enough - 1) few.enough few.whole) }
+            (λ few. AreFewAndEnough N.number self.now (few.enough - 1) few.enough few.whole few.left) }
         ensures only { IsOkUnless result OutOfMemory }
     {
         let mut few = 0;
         let mut enough = self.ends.rounds;
         let mut whole = 0;
+        let mut left = self.offer.budget.amount();
         let mut step = 1;
         while few + 1 < enough {
             let by = ((enough - few) / 2).min(step);
             let mark = self.mark_after(alloc, few + by)?;
             let found_there = self.look(&mark);
-            if found_there.fits {
+            if let Some(rest) = found_there.left {
                 few += by;
                 whole = found_there.count;
+                left = rest;
                 step = by * 2;
             } else {
                 enough = few + by;
             }
         }
-        Ok(Few { enough, whole })
+        Ok(Few {
+            enough,
+            whole,
+            left,
+        })
     }
 
     fn look(&self, mark: &[N]) -> Found
@@ -84,16 +92,17 @@ impl<'a, 'b, N: Number> Rounds<'a, 'b, N> {
         ensures { IsFound N.number self.now mark.now result }
     {
         let offer = self.offer;
+        let room = offer.budget.amount();
         let above = planes::total_above(offer.cells, offer.nodes, offer.keys, mark, offer.high);
         match self.first {
             First::Oldest => {
                 let count = self.found - above;
-                let fits = offer.fits(count, offer.low, mark);
-                Found { count, fits }
+                let left = offer.left_of(room, count, offer.low, mark);
+                Found { count, left }
             }
             First::Newest => {
-                let fits = offer.fits(above, mark, offer.high);
-                Found { count: above, fits }
+                let left = offer.left_of(room, above, mark, offer.high);
+                Found { count: above, left }
             }
         }
     }

@@ -2,11 +2,9 @@
 //! doesn't fit.
 
 ghost use Rattle.std.specs.Prelude.{◌≡◌, ℕ, ◌+◌, ◌-◌, ◌<◌, ◌≤◌, IfOk, IsOkUnless};
-ghost use Rattle.bench_types.specs.Budget.{amount_of};
 ghost use Rattle.bench_types.specs.declared.faults.Fault.TheVariants.{OutOfMemory};
 ghost use Rattle.delta_plans.specs.Firsts.{by_first};
 ghost use Rattle.delta_plans.specs.OfferInMemory.{marks, weights_in};
-ghost use Rattle.delta_plans.specs.Plans.{weight_on};
 ghost use Rattle.delta_plans.specs.Turns.{part_weight, parts_count, AreKnownFor, ArePassedBy, AreSharedBy, AreTurns, HasReached, HasTurn, HaveTurns, IsOwnerOfTurn, KnowsPart};
 
 use crate::marked::First;
@@ -84,18 +82,6 @@ impl<'a, 'b, N: Number> Turns<'a, 'b, N> {
                     First::Newest => self.offer.weight_of(owner, far, near),
                 }
             }
-        }
-    }
-
-    fn weight_of_whole(&self) -> u32
-        requires { AreTurns N.number N.most self.now }
-        ensures { result ≡ weight_on self.now.first N.number self.now.offer.now
-            (marks N.number self.now.level.now.near.items) }
-    {
-        let offer = self.offer;
-        match self.first {
-            First::Oldest => offer.weight(self.level.whole, offer.low, &self.level.near),
-            First::Newest => offer.weight(self.level.whole, &self.level.near, offer.high),
         }
     }
 
@@ -202,18 +188,16 @@ impl<'a, 'b, N: Number> Turns<'a, 'b, N> {
     }
 
     // Gives the owners in turn the far mark as long as their parts fit. Answers whose part doesn't.
-    fn pass_turns(&self, counts: &mut [N], mark: &mut [N], room: u32) -> Passed
+    fn pass_turns(&self, counts: &mut [N], mark: &mut [N]) -> Passed
         requires turns { AreTurns N.number N.most self.now }
         requires counts { AreKnownFor N.number N.most self.now counts.old }
         requires mark { mark.old ≡ self.now.level.now.near.items }
-        requires room { weight_on self.now.first N.number self.now.offer.now
-            (marks N.number self.now.level.now.near.items) + room ≡ amount_of self.now.offer.now.budget }
         ensures { ArePassedBy N.number self.now mark.new result }
     {
         let nodes = self.offer.nodes;
         let start = Reached {
             turn: 0,
-            left: room,
+            left: self.level.left,
             sent: self.level.whole,
         };
         let reached = self.pass_many(counts, mark, start);
@@ -241,8 +225,7 @@ impl<'a, 'b, N: Number> Turns<'a, 'b, N> {
         requires mark { mark.old ≡ self.now.level.now.near.items }
         ensures { AreSharedBy N.number self.now mark.new result }
     {
-        let room = self.offer.budget.amount() - self.weight_of_whole();
-        let passed = self.pass_turns(counts, mark, room);
+        let passed = self.pass_turns(counts, mark);
         let owner = passed.owner;
         let near = number_at(&self.level.near, owner);
         let far = number_at(&self.level.far, owner);

@@ -2,10 +2,10 @@ use Rattle.delta_plans.proofs.Common.{◌+◌, ◌-◌, ◌<◌, sym, subst, tra
 use Rattle.delta_plans.specs.RoundLevels.{AreFewAndEnough, AreRaised, IsFound}
 use Rattle.delta_plans.proofs.RoundMarks.{begun, further, nearer, rounds-raised}
 use Rattle.delta_plans.proofs.rounds.Rounds.few_rounds.Goals as goal
-use Rattle.delta_plans.proofs.rounds.Rounds.few_rounds.Goals.{then-found_there, else-found_there}
+use Rattle.delta_plans.proofs.rounds.Rounds.few_rounds.Goals.{in-Some, in_default}
 
 pub loop-few-init : goal.loop-few-init
-loop-few-init g c = record { found = begun c.args.self.now c.requires; step = omega arith }
+loop-few-init g c = record { found = begun c.args.self.now c.requires c.amount-left.ensures; step = omega arith }
 
 pub loop-few-preserved : goal.loop-few-preserved
 loop-few-preserved g c =
@@ -14,17 +14,17 @@ loop-few-preserved g c =
     let look = subst (λ xs. IsFound g.N.Number.number rounds xs c.look-found_there.result) c.deref.ensures.value c.look-found_there.ensures in
     let some : 0 < c.min-by.result = omega (arith, c.min-by.ensures, c.loop-few.invariant.step, c.loop-few-test.true) in
     let less : c.loop-few.few + c.min-by.result < c.loop-few.enough = omega (arith, c.min-by.ensures, c.loop-few-test.true) in
-    elim c.if-found_there.branch [
-      | then-found_there w ↦ record {
+    elim c.match-found_there.branch [
+      | in-Some w ↦ record {
         found =
-            transport (λ i. AreFewAndEnough g.N.Number.number rounds (sym w.few-is i) (sym w.enough-is i) (sym w.whole-is i))
-            (further rounds c.requires (c.loop-few.few + c.min-by.result) c.in_ok-mark.mark.items c.in_ok-mark.ensures.marks so_far look less w.if-found_there.true);
+            transport (λ i. AreFewAndEnough g.N.Number.number rounds (sym w.few-is i) (sym w.enough-is i) (sym w.whole-is i) (sym w.left-is i))
+            (further rounds c.requires (c.loop-few.few + c.min-by.result) c.in_ok-mark.mark.items c.in_ok-mark.ensures.marks so_far look less w.in-Some.is);
         step = omega (arith, w.step-is, some);
       }
-      | else-found_there w ↦ record {
+      | in_default w ↦ record {
         found =
-            transport (λ i. AreFewAndEnough g.N.Number.number rounds (sym w.few-is i) (sym w.enough-is i) (sym w.whole-is i))
-            (nearer rounds c.requires (c.loop-few.few + c.min-by.result) c.in_ok-mark.mark.items c.in_ok-mark.ensures.marks so_far look (omega (arith, some)) (omega (arith, less)) w.if-found_there.false);
+            transport (λ i. AreFewAndEnough g.N.Number.number rounds (sym w.few-is i) (sym w.enough-is i) (sym w.whole-is i) (sym w.left-is i))
+            (nearer rounds c.requires (c.loop-few.few + c.min-by.result) c.in_ok-mark.mark.items c.in_ok-mark.ensures.marks so_far look (omega (arith, some)) (omega (arith, less)) w.in_default.is);
         step = omega (arith, w.step-is, c.loop-few.invariant.step);
       }
     ]
@@ -35,5 +35,5 @@ look-found_there-requires-clause-mark g c =
 
 pub returns-clause-few : goal.returns-clause-few
 returns-clause-few g c =
-    subst (λ few. AreFewAndEnough g.N.Number.number c.args.self.now few c.loop-few.enough c.loop-few.whole) {x = c.loop-few.few} {y = c.loop-few.enough - 1}
+    subst (λ few. AreFewAndEnough g.N.Number.number c.args.self.now few c.loop-few.enough c.loop-few.whole c.loop-few.left) {x = c.loop-few.few} {y = c.loop-few.enough - 1}
     (omega (arith, c.loop-few-test.false, c.loop-few.invariant.found.below)) c.loop-few.invariant.found

@@ -9,8 +9,8 @@ pub pass_many-reached-requires-clause-start : goal.pass_many-reached-requires-cl
 pass_many-reached-requires-clause-start g c = record {
   size = ap length c.requires.mark ∙ c.requires.turns.level.near;
   so_far =
-      subst (λ xs. AreTurnsPassed g.N.Number.number c.args.self.now (marks g.N.Number.number xs) 0 c.args.room c.args.self.now.level.now.whole) (sym c.requires.mark)
-      (turns-first c.requires.turns c.requires.room);
+      subst (λ xs. AreTurnsPassed g.N.Number.number c.args.self.now (marks g.N.Number.number xs) 0 c.args.self.now.level.now.left c.args.self.now.level.now.whole) (sym c.requires.mark)
+      (turns-first c.requires.turns);
 }
 
 pub loop-turn-preserved : goal.loop-turn-preserved

@@ -27,10 +27,6 @@ sum_below-one n r f lt others = omega (arith, sum_below-changed n r (f r) (λ _.
 abbrev pub where_true : Bool → ℕ → ℕ
 where_true b n = cond b n 0
 
-pub where_none : (b : Bool) → where_true b 0 ≡ 0
-where_none true = refl
-where_none false = refl
-
 module _ (mode : Mode) (from to : Table) (proper : IsProper from) (lists : ℕ → List Entry) (histories : (owner : ℕ) → IsHistory (lists owner)) (cells : Cells) (low : ℕ → ℕ) (offers : Offers mode from to lists cells low) (c : Item) (in_c : Contains (candidates mode from to) c) where
   abbrev cs : List Item
   cs = candidates mode from to

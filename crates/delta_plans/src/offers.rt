@@ -59,7 +59,6 @@ pub(crate) fn one_if(test: bool) -> u32
     u32::from(test)
 }
 
-// The number at a place.
 pub(crate) fn number_at<N: Number>(numbers: &[N], place: usize) -> N
     requires { place < length numbers.now }
     ensures { N.number result ≡ marks N.number numbers.now place }
@@ -93,7 +92,6 @@ impl<'a, N: Number> Offer<'a, N> {
         }
     }
 
-    // The number of an owner's key.
     pub(crate) fn cell_of(&self, owner: usize, key: usize) -> N
         requires { HasPlace N.number N.most self.now owner key }
         ensures { N.number result ≡ cells_in N.number self.now owner key }

@@ -124,7 +124,6 @@ impl<'a, 'b, N: Number> Rounds<'a, 'b, N> {
     }
 }
 
-// Raises each number to that of another list.
 fn raise<N: Number>(numbers: &mut [N], bounds: &[N])
     requires { length bounds.now ≡ length numbers.old }
     ensures { AreChanged (λ r x y. y ≡ max x (slice_index (map N.number bounds.now) r))

@@ -9,7 +9,7 @@
 //! - Numbers are copied 1024 at a time, which takes fewer instructions than the C library's way to copy many more at
 //!   once.
 //! - What is counted over a plane is counted in its numbers' bits, as a wider sum would halve what a vector instruction
-//!   does: of bytes 64 at a time, each time added into 32 bits, of others all, as they can count more nodes than there
+//!   does: of bytes 192 at a time, each time added into 32 bits, of others all, as they can count more nodes than there
 //!   may be.
 //! - What goes over the same planes goes in one loop: to take numbers and to raise the greatest ones, to count what is
 //!   behind and to lower the least. Where tables are large, each pass waits for memory.

@@ -100,7 +100,7 @@ impl Number for u8 {
     }
 
     fn at_a_time() -> usize {
-        64
+        192
     }
 }
 

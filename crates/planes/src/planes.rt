@@ -20,7 +20,6 @@ pub(crate) fn pick<N: Number>(test: bool, number: N, other: N) -> N
     if test { number } else { other }
 }
 
-// A number raised to another one that is above a mark.
 pub(crate) fn raised_to<N: Number>(number: N, other: N, is_above: bool) -> N
     ensures { N.number result ≡ max (N.number number) (if is_above then N.number other else 0) }
 {

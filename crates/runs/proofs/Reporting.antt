@@ -33,17 +33,6 @@ pub record AreWrittenUpto {T W X : Type 0} (sink : Sink W) (old now : W) (sink' 
   pub report : IsWritten sink old now (report_upto s rounds)
   pub trace : IsWritten sink' old' now' (trace_upto s rounds)
 
--- the headers alone
-pub headers_written : {T W X : Type 0} (sink : Sink W) (old now : W) (sink' : Sink X) (old' now' : X) (sim : SimView T) (format : ℕ) → format ≡ sim.settings.format → sim.broken ≡ false → sim.rounds_done ≡ 0
-    → IsWritten sink old now (report_header_line format) → IsWritten sink' old' now' trace_header_line → AreWrittenUpto sink old now sink' old' now' sim.settings sim 0
-headers_written sink old now sink' old' now' sim format format_is unbroken first header header' = record {
-  settings = refl;
-  unbroken = unbroken;
-  done = first;
-  report = subst (IsWritten sink old now) (ap report_header_line format_is ∙ sym (append-nil (report_header_line sim.settings.format))) header;
-  trace = subst (IsWritten sink' old' now') (sym (append-nil trace_header_line)) header';
-}
-
 range_more : (n : ℕ) → range_with_len 1 (n + 1) ≡ range_with_len 1 n ++ ((n + 1) ∷ [])
 range_more n =
     sym (map-id (range_with_len 1 (n + 1)))

@@ -145,13 +145,6 @@ impl<N: Number, H: Written> Histories<N, H> {
         &self.lists
     }
 
-    /// How many rounds' writes were ended.
-    pub fn rounds(&self) -> u32
-        ensures { result ≡ self.now.rounds }
-    {
-        self.rounds
-    }
-
     // How many writes of earlier generations each owner has made.
     pub(crate) fn bases(&self) -> &[N]
         ensures value { HasEach (length self.now.lists)

@@ -7,7 +7,6 @@ ghost use Rattle.version_tables.specs.inner.Columns.{HasColumn};
 
 use planes::Number;
 
-// Puts 0 in place of each number.
 pub(crate) fn clear<N: Number>(numbers: &mut [N])
     ensures { AreChanged (λ r x y. y ≡ 0) (map N.number numbers.old) (map N.number numbers.new) }
 {
@@ -16,7 +15,6 @@ pub(crate) fn clear<N: Number>(numbers: &mut [N])
     }
 }
 
-// Puts 0 in place of each number but an owner's.
 pub(crate) fn keep_one<N: Number>(numbers: &mut [N], owner: usize)
     requires { owner < length numbers.old }
     ensures { AreChanged (λ r x y. y ≡ (if r == owner then x else 0)) (map N.number numbers.old)
@@ -27,7 +25,6 @@ pub(crate) fn keep_one<N: Number>(numbers: &mut [N], owner: usize)
     numbers[owner] = own;
 }
 
-// The same in each plane.
 pub(crate) fn keep_owner<N: Number>(cells: &mut [N], nodes: usize, keys: usize, owner: usize)
     requires { HasColumn nodes keys (length cells.old) owner }
     ensures { ArePlanesChanged (λ r k x y. y ≡ (if r == owner then x else 0)) nodes keys
@@ -41,7 +38,6 @@ pub(crate) fn keep_owner<N: Number>(cells: &mut [N], nodes: usize, keys: usize, 
     }
 }
 
-// Puts 0 in place of an owner's number in each plane.
 pub(crate) fn clear_owner<N: Number>(cells: &mut [N], nodes: usize, keys: usize, owner: usize)
     requires { HasColumn nodes keys (length cells.old) owner }
     ensures { ArePlanesChanged (λ r k x y. y ≡ (if r == owner then 0 else x)) nodes keys

@@ -1,6 +1,5 @@
 -- What an offer's numbers take of its budget.
--- Serves the functions of `breadths`, `depths`, `marked` and `offers`, `LayerSteps`, `RoundMarks`, `RunSteps` and
--- `TurnSteps`.
+-- Serves the functions of `breadths`, `depths`, `marked` and `offers`, `LayerSteps`, `RunSteps` and `TurnSteps`.
 use Rattle.delta_plans.proofs.Common.{◌≡◌, ℕ, ◌+◌, ◌-◌, ◌*◌, ◌<◌, ◌≤◌, Bool, true, false, inl, inr, List, length, Option, Some, None, sym, ◌∙◌, transport, arith, nat_tests, ◌↔◌, cases_lt, mul-le-mul_right, sum_below-same, sum_below-plus, Entry, Budget, Entries, Bytes, amount_of, MOST_NODES, MOST_KEYS, MOST_ENTRY_SIZE, write_numbered, all_writes}
 use Rattle.delta_plans.specs.declared.offers.Offer.{Offer}
 use Rattle.delta_plans.specs.OfferInMemory.{cells_in, marks, weights_in, weight_in, count_in, AreCounted, IsLeftOf, IsOffer}

@@ -1,6 +1,6 @@
 -- How far the report and the trace have been written.
 -- Serves `write_round`, `write_texts` and `Comparison`.
-use Rattle.runs.proofs.Common.{◌≡◌, ℕ, ◌+◌, ◌<◌, ◌++◌, ◌∷◌, [], List, inl, inr, refl, sym, ap, ◌∙◌, subst, append_assoc, arith, false, Appends-trans, flat_map-append, range_with_len, append-nil, map-id, map-range_with_len_more, Fault, Table, IsFaultOfWorkers, IsWritten, IsWriteFault, trace_header_line, report_header_line, report_line, report_lines, Settings, RoundView, row_in, SimView, PlaysNext, IsStepFault}
+use Rattle.runs.proofs.Common.{◌≡◌, ℕ, ◌+◌, ◌<◌, ◌++◌, ◌∷◌, [], List, inl, inr, sym, ap, ◌∙◌, subst, append_assoc, arith, false, Appends-trans, flat_map-append, range_with_len, append-nil, map-id, map-range_with_len_more, Fault, Table, IsFaultOfWorkers, IsWritten, IsWriteFault, trace_header_line, report_header_line, report_line, report_lines, Settings, RoundView, row_in, SimView, PlaysNext, IsStepFault}
 use Rattle.bench_types.specs.declared.sinks.Sink.{Ghosts as Sink}
 use Rattle.runs.specs.Reports.{rows_upto, trace_in, traces_upto, report_upto, trace_upto, report_text, trace_text}
 use Rattle.runs.specs.Runs.{IsFaultAfter, AreWritten, IsWritingFault, StopsAt, round_after, lines_after, row_after}

@@ -39,16 +39,7 @@ fn cells_of<'a, N: Number, H: Written>(
     Ok(cells)
 }
 
-/// The figures at the end of a round, down nodes included: how many keys of copies are below the
-/// last writes in their owners' lists, by marks, each list of its owner's generation; the greatest
-/// number of rounds since the first write that one of them missed, that round included; and how many
-/// entries of copies are of an older generation than their owner's.
-///
-/// It works in threads where there are enough nodes, of which it takes fewer if several workers have carried out
-/// the round's exchanges; what it answers does not depend on how. Each thread goes once over the numbers of some of
-/// the tables. Then an owner's list is walked over from the first write that some copy misses, if any, to the next
-/// one, where that may be older than what was found so far. It takes memory for the numbers of a table for each
-/// part of the tables. An error is lack of that memory (`OutOfMemory`).
+/// The figures at the end of a round, as `version_lags` counts them. An error is lack of memory (`OutOfMemory`).
 pub(crate) fn figures<N: Number + Send + Sync, H: Written>(
     rt: &(impl Threads + Sync),
     alloc: Global,

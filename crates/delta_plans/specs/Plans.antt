@@ -5,7 +5,7 @@ use Rattle.delta_plans.specs.declared.marked.First.{First}
 use Rattle.bench_types.specs.Budget.{amount_of}
 use Rattle.planes.specs.Planes.{Cells, HasEach, HasNoneAbove, IsLeastAbove}
 use Rattle.bench_types.specs.Sums.{sum_below}
-use Rattle.bench_types.specs.declared.limits.TheConstants.{MOST_KEYS}
+use Rattle.bench_types.specs.declared.limits.TheConstants.{MOST_KEYS, MOST_NODES}
 use Rattle.delta_plans.specs.declared.offers.Offer.{Offer}
 use Rattle.delta_plans.specs.declared.offers.Level.{Level}
 use Rattle.delta_plans.specs.declared.offers.Step.{Step}
@@ -70,6 +70,18 @@ pub record AreLayersSoFar {N : Type 0} (number : N → ℕ) (offer : Offer N) (n
   pub whole : count ≡ count_in number offer (low_in number offer) near
   pub left : weight_in number offer (low_in number offer) near + room ≡ amount_of offer.budget
 
+-- the marks of a level, of which the far ones let through so many numbers more
+pub record HasCome {N : Type 0} (offer : Offer N) (level : Level N) (added : ℕ) : Type 0 where
+  pub near : length level.near.items ≡ offer.nodes
+  pub far : length level.far.items ≡ offer.nodes
+  pub few : level.whole + added ≤ MOST_NODES * MOST_KEYS
+
+-- layers as far as they were gone over, as a level
+pub record HasLayers {N : Type 0} (number : N → ℕ) (offer : Offer N) (level : Level N) (added : ℕ) : Type 0 where
+  pub come : HasCome offer level added
+  pub so_far : AreLayersSoFar number offer (marks number level.near.items) (marks number level.far.items) level.whole
+      added level.left
+
 -- a mark that goes all the way for owners that have so many numbers, and for others not at all
 pub record IsMarkFrom (count low high size mark : ℕ) : Type 0 where
   pub all : size ≤ count → mark ≡ high
@@ -108,3 +120,10 @@ pub record AreRunsSoFar {N : Type 0} (number : N → ℕ) (offer : Offer N) (nea
   pub whole : count ≡ count_in number offer (low_in number offer) near
   pub more : count + added ≡ count_in number offer (low_in number offer) far
   pub left : weight_in number offer (low_in number offer) near + room ≡ amount_of offer.budget
+
+-- and so as a level
+pub record HasRuns {N : Type 0} (number : N → ℕ) (offer : Offer N) (level : Level N) (size added : ℕ) : Type 0 where
+  pub short : size ≤ MOST_KEYS
+  pub come : HasCome offer level added
+  pub so_far : AreRunsSoFar number offer (marks number level.near.items) (marks number level.far.items) size level.whole
+      added level.left

@@ -36,24 +36,14 @@ pub(crate) fn breadth<N: Number>(alloc: Global, offer: &Offer<N>) -> Result<Leve
     ensures level { IfOk result (IsLevelOf ScuttleBreadth N.number offer.now) }
     ensures only { IsOkUnless result OutOfMemory }
 {
-    let mut near = Vec::from_slice(alloc, offer.low)?;
-    let mut whole = 0;
-    let mut left = offer.budget.amount();
+    let near = Vec::from_slice(alloc, offer.low)?;
     let first = one_more(alloc, offer, &near)?;
-    let mut far = first.marks;
+    let mut level = offer.first_level(near, first.marks);
     let mut more = first.more;
-    while let Some(rest) = offer.left_of(left, more, &near, &far) {
-        let next = one_more(alloc, offer, &far)?;
-        whole += more;
-        left = rest;
-        near = far;
-        far = next.marks;
+    while let Some(left) = offer.left_of(level.left, more, &level.near, &level.far) {
+        let next = one_more(alloc, offer, &level.far)?;
+        level = level.next(more, left, next.marks);
         more = next.more;
     }
-    Ok(Level {
-        near,
-        far,
-        whole,
-        left,
-    })
+    Ok(level)
 }

@@ -60,25 +60,15 @@ pub(crate) fn depth<N: Number>(alloc: Global, offer: &Offer<N>) -> Result<Level<
 {
     let counts = counts_above(alloc, offer.cells, offer.nodes, offer.keys, offer.low)?;
     let mut size = greatest_of(&counts);
-    let mut near = Vec::from_slice(alloc, offer.low)?;
-    let mut whole = 0;
-    let mut left = offer.budget.amount();
+    let near = Vec::from_slice(alloc, offer.low)?;
     let first = next_runs(alloc, offer, &counts, &near, size)?;
-    let mut far = first.marks;
+    let mut level = offer.first_level(near, first.marks);
     let mut more = first.more;
-    while let Some(rest) = offer.left_of(left, more, &near, &far) {
+    while let Some(left) = offer.left_of(level.left, more, &level.near, &level.far) {
         size -= 1;
-        let next = next_runs(alloc, offer, &counts, &far, size)?;
-        whole += more;
-        left = rest;
-        near = far;
-        far = next.marks;
+        let next = next_runs(alloc, offer, &counts, &level.far, size)?;
+        level = level.next(more, left, next.marks);
         more = next.more;
     }
-    Ok(Level {
-        near,
-        far,
-        whole,
-        left,
-    })
+    Ok(level)
 }

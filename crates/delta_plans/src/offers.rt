@@ -1,6 +1,6 @@
 //! What is offered, as numbers of writes, what these weigh, and levels of them.
 
-ghost use Rattle.std.specs.Prelude.{◌≡◌, ◌*◌, ◌<◌, ◌≤◌, ◌↔◌, IsTrue, length, if◌then◌else◌};
+ghost use Rattle.std.specs.Prelude.{◌≡◌, ◌+◌, ◌^◌, ◌*◌, ◌<◌, ◌≤◌, ◌↔◌, IsTrue, length, if◌then◌else◌};
 ghost use Rattle.bench_types.specs.Budget.{amount_of, largest_share, share_of};
 ghost use Rattle.owner_writes.specs.Kept.{entry_kept};
 ghost use Rattle.delta_plans.specs.OfferInMemory.{cells_in, marks, weight_in, weights_in, AreCounted, HasMarks, HasOwner, HasPlace, IsLeftOf};
@@ -31,6 +31,21 @@ pub(crate) struct Level<N: Number> {
     pub(crate) far: Vec<N>,
     pub(crate) whole: u32,
     pub(crate) left: u32,
+}
+
+impl<N: Number> Level<N> {
+    /// The level behind it, with its far marks, of which this much is left: it lets through so many numbers more.
+    pub(crate) fn next(self, more: u32, left: u32, far: Vec<N>) -> Level<N>
+        requires { self.whole + more < 2 ^ 32 }
+        ensures { result ≡ record { near = self.far; far = far; whole = self.whole + more; left = left } }
+    {
+        Level {
+            near: self.far,
+            far,
+            whole: self.whole + more,
+            left,
+        }
+    }
 }
 
 /// Marks up to which is sent, or above which where the newest goes first, and how many numbers these are.
@@ -147,6 +162,18 @@ impl<'a, N: Number> Offer<'a, N> {
         match self.budget {
             Budget::Entries(_) => room.checked_sub(count),
             Budget::Bytes(_) => self.bytes_left_of(room, low, high),
+        }
+    }
+
+    /// The first level, with its marks. The near ones let nothing through.
+    pub(crate) fn first_level(&self, near: Vec<N>, far: Vec<N>) -> Level<N>
+        ensures { result ≡ record { near = near; far = far; whole = 0; left = amount_of self.now.budget } }
+    {
+        Level {
+            near,
+            far,
+            whole: 0,
+            left: self.budget.amount(),
         }
     }
 

@@ -24,12 +24,9 @@ loop-owner-preserved g c =
 
 pub returns-in_err-left : goal.returns-in_err-left
 returns-in_err-left g c =
+    let number = g.N.Number.number in
     let self = c.args.self.now in
-    let cells = cells_in g.N.Number.number self in
-    let low = marks g.N.Number.number c.args.low.now in
-    let high = marks g.N.Number.number c.args.high.now in
-    let owner = c.loop-owner.owner in
-    let weight = c.weight_of-weight.ensures.weight ∙ (λ i. weight_of (weights_in self owner) cells self.keys owner (c.number_at-from.ensures i) (c.number_at-to.ensures i)) in
-    let more = sum_below-longer (λ r. weight_of (weights_in self r) cells self.keys r (low r) (high r)) (suc owner) self.nodes (omega (arith, c.loop-owner-test.true)) in
-    subst (IsLeftOf c.args.room (weight_in g.N.Number.number self low high)) (sym c.from_residual.ensures)
+    let weight = c.weight_of-weight.ensures.weight ∙ (λ i. weight_of (weights_in self c.loop-owner.owner) (cells_in number self) self.keys c.loop-owner.owner (c.number_at-from.ensures i) (c.number_at-to.ensures i)) in
+    let more = sum_below-longer (λ r. weight_of (weights_in self r) (cells_in number self) self.keys r (marks number c.args.low.now r) (marks number c.args.high.now r)) (suc c.loop-owner.owner) self.nodes (omega (arith, c.loop-owner-test.true)) in
+    subst (IsLeftOf c.args.room (weight_in number self (marks number c.args.low.now) (marks number c.args.high.now))) (sym c.from_residual.ensures)
     (λ fits. c.in_err-left.ensures (omega (arith, fits, more, weight, c.loop-owner.invariant.left)))

@@ -1,10 +1,9 @@
 -- The columns of the report: its header, its rows and the comparison of the modes go by them. Each format has the
 -- columns that came with it or before, in the order of all. Source: this project.
-use Rattle.std.specs.Prelude.{ℕ, List, codes, nat_le, filter}
+use Rattle.std.specs.Prelude.{ℕ, List, [], ◌∷◌, codes, nat_le, filter}
 use Rattle.bench_types.specs.declared.rows.Row.{Row}
 use Rattle.report.specs.declared.columns.Column.{Column}
 use Rattle.report.specs.declared.columns.Column.TheVariants as column
-use Rattle.report.specs.declared.columns.TheConstants.Column.{ALL}
 
 -- the name of a column, its number in a row, and the first format that has it
 pub record ColumnRule : Type 0 where
@@ -23,6 +22,12 @@ rule_of column.Stale = record { name = codes "stale"; number = λ row. row.stale
 rule_of column.Greatest = record { name = codes "greatest"; number = λ row. row.greatest; since = 1 }
 rule_of column.Leftover = record { name = codes "leftover"; number = λ row. row.leftover; since = 2 }
 
+-- all columns, in order
+abbrev pub all_columns : List Column
+all_columns =
+    column.Round ∷ column.Exchanges ∷ column.Unreached ∷ column.Lost
+    ∷ column.Entries ∷ column.Cut ∷ column.Stale ∷ column.Greatest ∷ column.Leftover ∷ []
+
 -- the columns of a format
 unfoldable pub columns : ℕ → List Column
-columns format = filter (λ c. nat_le (rule_of c).since format) ALL
+columns format = filter (λ c. nat_le (rule_of c).since format) all_columns

@@ -1,3 +1,4 @@
 pub mod Known
+pub mod Skipped
 pub mod Totals
 pub mod Common

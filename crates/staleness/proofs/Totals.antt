@@ -1,8 +1,8 @@
 -- The figures of several parts together.
--- Serves `figures`, `figures_of_copy` and `joined_all`.
-use Rattle.staleness.proofs.Common.{◌≡◌, ℕ, ◌+◌, ◌*◌, ◌^◌, ◌<◌, ◌≤◌, Bool, true, false, eqb, List, length, get_or, All, if◌then◌else◌, inl, inr, ap, ◌∙◌, subst, arith, is_some, range_with_len, cases_lt, length-range_with_len, AllZip-long, at_place, sums, greatest, sum_below-most, fold_below-same, MOST_NODES, MOST_KEYS, Figures, generation_at, is_left_over, staleness_at, node_figures, Table, entry_at, table_of_node, Write}
+-- Serves the functions of `staleness`.
+use Rattle.staleness.proofs.Common.{◌≡◌, ℕ, ◌+◌, ◌*◌, ◌^◌, ◌<◌, ◌≤◌, Bool, true, false, eqb, List, [], length, get_or, All, if◌then◌else◌, inl, inr, sym, ap, ◌∙◌, subst, arith, is_some, range_with_len, cases_lt, length-range_with_len, AllZip-long, at_place, sums, greatest, sum_below-most, fold_below-same, MOST_NODES, MOST_KEYS, Figures, generation_at, is_left_over, staleness_at, node_figures, Table, entry_at, table_of_node, Write, AreBornBy, length-lists_in, list_read, lists_in, written, OwnerListView, length-tables_in, table_indexed, tables_in, NodeTableView}
 use Rattle.model.specs.Figures.{figures_of}
-use Rattle.staleness.specs.inner.Totals.{total_below, triple_figures, found_at, AreFew, IsCounted, AreCounted, HaveRoom}
+use Rattle.staleness.specs.inner.Totals.{total_below, triple_figures, found_at, AreFew, AreCountable, IsCounted, AreCounted, HaveRoom}
 
 -- as many triples as parts times those of each
 pub total_few : (f : ℕ → Figures) (n most : ℕ) → ((i : ℕ) → i < n → AreFew most (f i)) → AreFew (n * most) (total_below n f)
@@ -37,6 +37,19 @@ triple_few round tables lists p r k =
       stale = one_at_most (is_some (staleness_at round tables lists p r k));
       leftover = elim (eqb p r) as (λ b. (if b then 0 else (if is_left_over (generation_at tables r) (entry_at (table_of_node tables p) r k) then 1 else 0)) ≤ 1) [ true ↦ omega arith | false ↦ left ];
     }
+
+-- a table as code reads it knows of all nodes
+pub nodes_read : (round : ℕ) (ks : List NodeTableView) (lists : List (List Write)) → AreCountable round (tables_in ks) lists → (n : ℕ) (k : NodeTableView) → n < length ks → k ≡ get_or ks n k → k.table.nodes ≡ length ks
+nodes_read round ks lists countable n k lt is =
+    ap (λ (t : Table). t.nodes) (table_indexed ks n k lt is)
+    ∙ (countable.cluster.tables n (omega (arith, lt, length-tables_in ks))).nodes
+    ∙ length-tables_in ks
+
+-- and no write of a list as code reads it was made later
+pub born_read : (round : ℕ) (tables : List Table) (lists : List OwnerListView) → AreCountable round tables (lists_in lists) → (r : ℕ) (list : OwnerListView) → r < length tables → list ≡ get_or lists r list → AreBornBy round (written list)
+born_read round tables lists countable r list lt is =
+    let below : r < length lists = omega (arith, lt, countable.one_list_each, length-lists_in lists) in
+    subst (AreBornBy round) (list_read lists r list [] below ∙ sym (ap written is)) (countable.born r [] (omega (arith, below, length-lists_in lists)))
 
 -- those of all nodes
 module _ (round : ℕ) (tables : List Table) (lists : List (List Write)) (parts : List Figures) (each : AreCounted round tables lists parts) where

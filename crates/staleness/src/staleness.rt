@@ -1,6 +1,6 @@
 //! How far the copies of all nodes lag behind their owners.
 
-ghost use Rattle.std.specs.Prelude.{◌≡◌, ◌*◌, ◌<◌, ◌≤◌, All, IfOk, IsOkUnless, length};
+ghost use Rattle.std.specs.Prelude.{◌≡◌, ◌↔◌, ◌*◌, ◌<◌, ◌≤◌, All, IfOk, IsOkUnless, IsTrue, length};
 ghost use Rattle.bench_types.specs.declared.faults.Fault.TheVariants.{OutOfMemory};
 ghost use Rattle.bench_types.specs.declared.limits.TheConstants.{MOST_NODES, MOST_KEYS, MOST_ROUNDS};
 ghost use Rattle.bench_types.specs.Mark.{mark_held};
@@ -9,7 +9,7 @@ ghost use Rattle.model.specs.calls.OwnerListView.{lists_in, written};
 ghost use Rattle.model.specs.calls.Tables.{IsCluster};
 ghost use Rattle.model.specs.calls.Writes.{AreBornBy};
 ghost use Rattle.node_table.specs.NodeTableView.{tables_in};
-ghost use Rattle.staleness.specs.inner.Totals.{version_known, joined, total_below, triple_figures, found_at, AreFew, AreCountable, AreCounted, HaveRoom, IsCounted};
+ghost use Rattle.staleness.specs.inner.Totals.{version_known, joined, total_below, triple_figures, found_at, AreFew, AreCountable, AreCounted, AreCurrent, HaveRoom, IsCounted, IsCurrent};
 
 use bench_types::{Entry, Fault, Figures};
 use node_table::NodeTable;
@@ -41,9 +41,9 @@ const NODES_OF_A_THREAD: usize = 16;
 /// entries of copies are of an older generation than their owner's.
 ///
 /// It works in threads, node by node, where there are enough nodes, and what it answers does not depend on
-/// how. Each key of each copy is looked up in its node's table, and, where it is stale, the first write that it
-/// missed in its owner's list. It takes memory in proportion to the nodes. An error is lack of that memory
-/// (`OutOfMemory`).
+/// how. A copy that equals its owner's own entries is passed over, if these miss nothing of the owner's list. Of
+/// another each key is looked up in its node's table, and, where it is stale, the first write that it missed in its
+/// owner's list. It takes memory in proportion to the nodes. An error is lack of that memory (`OutOfMemory`).
 pub fn figures(
     rt: &(impl Threads + Sync),
     alloc: Global,
@@ -72,17 +72,52 @@ fn figures_of_nodes(
     requires { AreCountable round (tables_in tables.now) (lists_in lists.now) }
     ensures { IfOk result (λ v. AreCounted round (tables_in tables.now) (lists_in lists.now) v.items) }
 {
+    let current = current_nodes(alloc, tables, lists, round)?;
     (0..tables.len())
         .into_par_iter()
         .with_min_len(NODES_OF_A_THREAD)
         .map(
             |node: usize| -> Figures
                 requires { AreCountable round (tables_in tables.now) (lists_in lists.now)
+                    × AreCurrent round (tables_in tables.now) (lists_in lists.now) (length tables.now) current.items
                     × (node < length tables.now) }
                 ensures { IsCounted round (tables_in tables.entry.now) (lists_in lists.entry.now) node result }
-            { figures_of_node(tables, lists, node, round) },
+            { figures_of_node(tables, lists, &current, node, round) },
         )
         .collect(rt, alloc)
+}
+
+// Of each node, in order, whether its own entries miss nothing of its list.
+fn current_nodes(
+    alloc: Global,
+    tables: &[NodeTable],
+    lists: &[OwnerList],
+    round: u32,
+) -> Result<Vec<bool>, AllocError>
+    requires { AreCountable round (tables_in tables.now) (lists_in lists.now) }
+    ensures { IfOk result
+        (λ v. AreCurrent round (tables_in tables.now) (lists_in lists.now) (length tables.now) v.items) }
+{
+    let mut current = Vec::with_capacity(alloc, tables.len())?;
+    for (node, table) in tables.iter().enumerate() {
+        current.push(is_current(table, &lists[node], round))?;
+    }
+    Ok(current)
+}
+
+fn is_current(table: &NodeTable, list: &OwnerList, round: u32) -> bool
+    requires round { round ≤ MOST_ROUNDS }
+    requires born { AreBornBy round (written list.now) }
+    ensures { IsTrue result ↔ IsCurrent round table.now.table (written list.now) }
+{
+    let node = table.node();
+    let generation = table.generation();
+    for key in 0..table.keys() {
+        if staleness_of(list, generation, key, table.get(node, key), round).is_some() {
+            return false;
+        }
+    }
+    true
 }
 
 fn joined_all(parts: &[Figures]) -> Figures
@@ -108,13 +143,25 @@ fn joined(one: Figures, other: Figures) -> Figures
     }
 }
 
-fn figures_of_node(tables: &[NodeTable], lists: &[OwnerList], node: usize, round: u32) -> Figures
+fn figures_of_node(
+    tables: &[NodeTable],
+    lists: &[OwnerList],
+    current: &[bool],
+    node: usize,
+    round: u32,
+) -> Figures
     requires countable { AreCountable round (tables_in tables.now) (lists_in lists.now) }
+    requires current { AreCurrent round (tables_in tables.now) (lists_in lists.now) (length tables.now) current.now }
     requires node { node < length tables.now }
     ensures { IsCounted round (tables_in tables.now) (lists_in lists.now) node result }
 {
     let mut total = NOTHING;
     for owner in 0..tables[node].nodes() {
+        let copy = tables[node].entries_of(owner);
+        let own = tables[owner as usize].entries_of(owner);
+        if current[owner as usize] && copy == own {
+            continue;
+        }
         total = joined(total, figures_of_copy(tables, lists, node, owner, round));
     }
     total

@@ -1,12 +1,13 @@
 -- How the figures of a round are counted: triple by triple, and together. Source: this project.
-use Rattle.std.specs.Prelude.{◌≡◌, ℕ, ◌+◌, ◌*◌, ◌^◌, ◌<◌, ◌≤◌, max, nat_lt, if◌then◌else◌, List, length, All, slice_index_or, Option, None, Some}
+use Rattle.std.specs.Prelude.{◌≡◌, ◌↔◌, ℕ, ◌+◌, ◌*◌, ◌^◌, ◌<◌, ◌≤◌, max, nat_lt, if◌then◌else◌, Bool, IsTrue, List, length, All, slice_index_or, Option, None, Some}
 use Rattle.std.specs.List.{AllZip, range_with_len}
 use Rattle.bench_types.specs.Sums.{sum_below, most_below}
 use Rattle.bench_types.specs.declared.entries.Entry.{Entry}
 use Rattle.bench_types.specs.declared.limits.TheConstants.{MOST_NODES, MOST_KEYS, MOST_ROUNDS}
 use Rattle.bench_types.specs.declared.rows.Figures.{Figures}
-use Rattle.model.specs.Figures.{staleness_at, leftover_at, stale_count, rounds_behind, node_figures}
-use Rattle.model.specs.Table.{Table}
+use Rattle.model.specs.Figures.{staleness_of, staleness_at, leftover_at, stale_count, rounds_behind, node_figures, writes_of_owner}
+use Rattle.model.specs.Table.{Table, mark_at}
+use Rattle.model.specs.Tables.{table_of_node}
 use Rattle.model.specs.calls.Tables.{IsCluster}
 use Rattle.model.specs.calls.Writes.{AreBornBy}
 use Rattle.model.specs.declared.writes.Write.{Write}
@@ -25,6 +26,9 @@ triple_figures round tables lists p r k = record {
   greatest = rounds_behind (staleness_at round tables lists p r k);
   leftover = leftover_at tables p r k;
 }
+
+abbrev pub nothing : Figures
+nothing = record { stale = 0; greatest = 0; leftover = 0 }
 
 -- those of two parts together, and of all parts below a bound
 abbrev pub joined : Figures → Figures → Figures
@@ -47,7 +51,7 @@ total_below n f = record {
 }
 
 abbrev pub found_at : List Figures → ℕ → Figures
-found_at parts i = slice_index_or parts i (record { stale = 0; greatest = 0; leftover = 0 })
+found_at parts i = slice_index_or parts i nothing
 
 -- they count at most so many triples
 pub record AreFew (most : ℕ) (figures : Figures) : Type 0 where
@@ -60,6 +64,17 @@ pub record AreCountable (round : ℕ) (tables : List Table) (lists : List (List 
   pub one_list_each : length lists ≡ length tables
   pub round_limit : round ≤ MOST_ROUNDS
   pub born : All (AreBornBy round) lists
+
+-- a node's own entries miss nothing of its list
+abbrev pub IsCurrent : ℕ → Table → List Write → Type 0
+IsCurrent round t writes =
+    (key : ℕ) → key < t.keys → staleness_of round t.generation writes key (mark_at t t.node key) ≡ None
+
+-- of each of the first so many nodes, in order, whether they do
+pub record AreCurrent (round : ℕ) (tables : List Table) (lists : List (List Write)) (n : ℕ) (current : List Bool) : Type 0 where
+  pub count : length current ≡ n
+  pub each : (r : ℕ) (d : Bool) → r < n →
+      IsTrue (slice_index_or current r d) ↔ IsCurrent round (table_of_node tables r) (writes_of_owner lists r)
 
 -- a node's figures, which count no more than there can be, of no more nodes than there can be
 pub record IsCounted (round : ℕ) (tables : List Table) (lists : List (List Write)) (node : ℕ) (figures : Figures) : Type 0 where

@@ -12,7 +12,7 @@ pub collect-requires-clause-ready : goal.collect-requires-clause-ready
 collect-requires-clause-ready g c κs within =
     let n = length c.args.tables.now in
     let ends = c.into_par_iter.ensures in
-    rw (c.map.ensures.base, c.map.ensures.f, c.with_min_len.ensures.base, ends.0, ends.1) (λ k d lt. ((c.requires, nat_range-All (λ node. node < n) 0 n (λ node low high. high) k d lt), λ y p. tt))
+    rw (c.map.ensures.base, c.map.ensures.f, c.with_min_len.ensures.base, ends.0, ends.1) (λ k d lt. ((c.requires, c.in_ok-current.ensures, nat_range-All (λ node. node < n) 0 n (λ node low high. high) k d lt), λ y p. tt))
 
 pub returns : goal.returns
 returns g c =

@@ -19,6 +19,14 @@ def try_scenarios(room):
     in_entries = {name: it for name, it in in_bytes.items() if name != "budget_bytes"}
     in_entries |= {"format": "1", "budget": "1100", "choice": '"cycle"'}
     holds("60000 / 40 * 523.5", in_bytes, fields(*cluster, "packet=60000", "count=bytes"))
+    # (60750 / 40.5 = 1500 as well)
+    mean = (*cluster[:3], "entry=40.5", "packet=60750")
+    for count, wanted in (("bytes", in_bytes), ("entries", in_entries | {"budget": "1500"})):
+        holds(f"a mean entry of 40.5 bytes in {count}", wanted, fields(*mean, f"count={count}"))
+    said = run(room, TOOLS / "gossip_scenario", *mean, "count=bytes")[1]
+    holds("which is told as it was given", (True, True),
+          ("# 60750 bytes for a delta are 1500 entries of 40.5 bytes.\n" in said,
+           "# budget_bytes = 60750 / 40.5 * 523.5." in said))
     # (44000 / 40 = 1100 entries; * 523.5 = 575850)
     shared = (*cluster, "packet=64000", "digest=20")
     holds("with a digest", "575850", fields(*shared, "count=bytes")["budget_bytes"])
@@ -70,7 +78,7 @@ def try_scenarios(room):
     refuses(room, "rounds would be 0", "gossip_scenario", *shared, "rounds=0")
     refuses(room, "mode is one of", "gossip_scenario", *shared, "mode=depth")
     refuses(room, "leaves no entry", "gossip_scenario", *shared, "mode=precise-oldest")
-    for words in (("entry=41", "packet=40"), ("entry=40", "packet=0", "digest=10")):
+    for words in (("entry=41", "packet=40"), ("entry=40.5", "packet=40"), ("entry=40", "packet=0", "digest=10")):
         refuses(room, f"fewer than the {words[0][6:]} of an entry", "gossip_scenario", *cluster[:3], *words)
     refuses(room, "has bytes", "gossip_scenario", "nodes=2", "keys=1", "writes=1", "entry=0", "packet=9")
     # (one entry of 523.5 bytes)

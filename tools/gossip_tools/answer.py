@@ -319,7 +319,7 @@ class Decision:
             why = all_keys if why == "nodes * keys" else f"{all_keys}; {why}"
         elif self.whole_budget() == it.fits_of_all[self.mode]:
             why = f"what fits; {why}"
-        return f"room for {self.whole_budget()} entries in a delta, {int(in_bytes)} bytes ({why})"
+        return f"room for {self.whole_budget()} entries in a delta, {-(-in_bytes // 1)} bytes ({why})"
 
     def reserve(self):
         """What more than the budget brings, in words; empty where no more fits."""
@@ -716,7 +716,7 @@ def left_out(decision):
         said.append(f"Your sizes: those of the bench are spread evenly up to {1023 / 523.5 * float(told['entry']):.0f} "
                     "bytes, for your mean entry. If your largest is larger, give half of it as entry.")
     else:
-        said.append(f"Sizes: all entries count alike, as {told['entry']} bytes.")
+        said.append(f"Sizes: all entries count alike, as {cluster.plain(told['entry'])} bytes.")
     numbers = scenario.digest_numbers(int(told["nodes"]), it.keys, decision.mode)
     if told["shared"] == "yes" and told["digest"]:
         said.append("The digest is taken off each message, though the last of an exchange has none.")

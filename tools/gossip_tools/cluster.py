@@ -25,7 +25,7 @@ from gossip_tools.commands import Refused
 from gossip_tools.scenario import limited
 
 TEXTS = {"mode": scenario.MODES, "count": ("bytes", "entries"), "shared": ("yes", "no"), "forget": ("yes", "no")}
-DECIMALS = ("loss", "interval", "target")
+DECIMALS = ("entry", "loss", "interval", "target")
 BYTES = ("entry", "packet", "digest")
 USUAL = {"digest": "0", "loss": "0", "fanout": "1", "rounds": None, "seed": "1", "mode": scenario.USUAL_MODE,
          "count": None}
@@ -92,7 +92,7 @@ def number_of(name, text):
         return Fraction(text)
     if re.fullmatch(shape, text):
         raise Refused(f"{name} has too many digits in '{text}': {most}.")
-    kind = "number" if name in DECIMALS else "whole number of bytes" if name in BYTES else "whole number"
+    kind = f"{'' if name in DECIMALS else 'whole '}number{' of bytes' if name in BYTES else ''}"
     advice = instead(name, text)
     raise Refused(f"{name} is a {kind} from 0 on, which '{text}' isn't{': ' if advice else ''}{advice}.")
 
@@ -187,21 +187,22 @@ def main(words):
     room = room_for_delta(it, it["mode"])
     taken = it["packet"] - room
     if it["packet"] < it["entry"]:
-        raise Refused(f"the packet has {it['packet']} bytes, fewer than the {it['entry']} of an entry: give a larger "
-                      "packet, or a shorter entry.")
+        raise Refused(f"the packet has {it['packet']} bytes, fewer than the {plain(it['entry'])} of an entry: give "
+                      "a larger packet, or a shorter entry.")
     if room < it["entry"]:
         raise Refused(f"the digest takes {taken} of the {it['packet']} bytes, which leaves no entry.")
     count = it["count"] or ("bytes" if rules.counts_bytes(room / it["entry"]) else "entries")
     in_bytes = count == "bytes"
     fields = scenario.top(it["nodes"], it["keys"], rounds, it["writes"], it["loss"] * 10000, room / it["entry"],
                           in_bytes, it["mode"], seed)
-    print(f"# {room} bytes for a delta are {float(room / it['entry']):.6g} entries of {it['entry']} bytes.")
+    entry = plain(it["entry"])
+    print(f"# {room} bytes for a delta are {float(room / it['entry']):.6g} entries of {entry} bytes.")
     if it["digest"]:
         print(f"# {taken} more are for a digest of {it['mode']}; for another mode, ask for it.")
         print("# The last message of an exchange has no digest; the room for one is lost there.")
     if in_bytes:
         print("# Entries of format 2 have 24 to 1023 bytes, all as often, 523.5 on average. So the packet is scaled:")
-        print(f"# budget_bytes = {room} / {it['entry']} * 523.5. That your sizes may be spread otherwise is left out.")
+        print(f"# budget_bytes = {room} / {entry} * 523.5. That your sizes may be spread otherwise is left out.")
         print("# Which key is written is left to chance; keys in turn give entries of nearly one size.")
     else:
         print("# All entries count alike: that sizes differ is left out.")

@@ -1,6 +1,7 @@
 """The page of an answer, report.html: one file that needs no network, to be looked at before it is read."""
 import base64
 import html
+import math
 import re
 
 from gossip_tools import answer, cluster, files, plots, read, rules
@@ -56,7 +57,7 @@ def listed(head, said, kind=""):
 def cards(decision, healing, more):
     """The decision in a few large words."""
     it, budget = decision.study, decision.whole_budget()
-    of_budget = f"{int(budget * it.told['entry'])} bytes, {decision.times()}"
+    of_budget = f"{math.ceil(budget * it.told['entry'])} bytes, {decision.times()}"
     if decision.suffices:
         of_budget += f"; packet={decision.packet()}"
         rounds, _, time = answer.lasting(it, decision.worst).partition(", ")

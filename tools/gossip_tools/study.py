@@ -93,7 +93,7 @@ class Study:
     def why_none_fits(self):
         """Why a delta has no room, and how large it would have to be."""
         told, whole = self.told, self.knee_of_all
-        lacks = f"no room for {LEAST} entries of {told['entry']} bytes"
+        lacks = f"no room for {LEAST} entries of {cluster.plain(told['entry'])} bytes"
         enough = f"takes packet={self.packet(self.usual)}"
         if told["shared"] == "no" or not told["digest"]:
             return f"{told['packet']} bytes have {lacks}: room for {self.knee_name} = {whole} of them {enough}."
@@ -135,7 +135,7 @@ class Study:
         """The bytes of a packet with room for so many entries of the whole cluster, nodes * writes where it isn't told,
         with the digest where they share it."""
         digest = self.digest_bytes(mode) if self.told["shared"] == "yes" else 0
-        return int((entries or self.knee_of_all) * self.told["entry"]) + digest
+        return -(-(entries or self.knee_of_all) * self.told["entry"] // 1) + digest
 
     def tells_all(self):
         """The entries to reckon with in place of nodes * writes where a node tells all its keys as it starts, and the

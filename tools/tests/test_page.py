@@ -69,9 +69,9 @@ class Figures:
         return (budget, mode) not in self.rising
 
 
-def decided(rising=()):
+def decided(rising=(), entry=40):
     """100 nodes that write one of 4 keys, of whose 100 entries 50 are looked at too."""
-    words = "nodes=100 keys=4 writes=1 entry=40 packet=4000 mode=scuttle-depth"
+    words = f"nodes=100 keys=4 writes=1 entry={entry} packet=4001 mode=scuttle-depth"
     it = study.Study(cluster.told(words.split(), advise.USUAL, advise.CALL))
     rows = {(100, "scuttle-depth"): [7, 8], (50, "scuttle-depth"): [19, 21]}
     return answer.Decision(it, Figures(rows, rising), "many")
@@ -85,6 +85,13 @@ class Cards(unittest.TestCase):
         for said, card in cases.items():
             self.assertIn(card, page.cards(decided(), None, [("target", said)]))
 
+
+    def test_mean_entries(self):
+        """100 entries of 40.001 bytes are 4000.1 bytes, which a packet of 4000 has no room for."""
+        decision = decided(entry="40.001")
+        self.assertIn("<b>100 entries</b>4001 bytes, nodes * writes; packet=4001</div>", page.cards(decision, None, []))
+        self.assertIn("room for 100 entries in a delta, 4001 bytes (", decision.room())
+        self.assertIn("all entries count alike, as 40.001 bytes.", " ".join(answer.left_out(decision)))
 
     def test_floor(self):
         """It is a card behind the worst staleness, a line of the picture and a sentence below that; where there is none

@@ -42,6 +42,10 @@ class Advice(unittest.TestCase):
         cases = {
             ("nodes", "-5"): "nodes is a whole number from 0 on, which '-5' isn't.",
             ("loss", "-0.5"): "loss is a number from 0 on, which '-0.5' isn't.",
+            ("entry", "-40"): "entry is a number of bytes from 0 on, which '-40' isn't.",
+            ("entry", "1k"): "entry is a number of bytes from 0 on, which '1k' isn't: write entry=1000, or entry=1024 "
+                             "where K is 1024.",
+            ("packet", "9.5"): "packet is a whole number of bytes from 0 on, which '9.5' isn't.",
             ("packet", "9K"): "packet is a whole number of bytes from 0 on, which '9K' isn't: write packet=9000, or "
                               "packet=9216 where K is 1024.",
             ("seed", "1" * 20): f"seed has too many digits in '{'1' * 20}': 19 are the most.",
@@ -55,6 +59,11 @@ class Advice(unittest.TestCase):
             except Refused as why:
                 found[it] = str(why)
         self.assertEqual(cases, found)
+
+    def test_means(self):
+        """The bytes of an entry are a mean, exact to the last decimal."""
+        cases = {"40.5": Fraction(81, 2), "40": Fraction(40), "0.1": Fraction(1, 10), "33.333": Fraction(33333, 1000)}
+        self.assertEqual(cases, {it: cluster.number_of("entry", it) for it in cases})
 
     def test_sizes(self):
         """4096 * 4096 * 16 are 268435456, the most that a scenario takes."""

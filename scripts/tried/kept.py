@@ -1,5 +1,6 @@
-"""Trials of what a sweep keeps beside its reports: the length and check sum of each, and that of the program."""
+"""Trials of what a sweep keeps beside its reports: the check sums of each and of its scenario, and of the program."""
 import hashlib
+import shutil
 
 from tried.calls import COMPARED, TOOLS, gives, program_that, refuses, run
 from trials import PROGRAM, holds
@@ -9,6 +10,7 @@ APART = COMPARED.replace("rounds = 2", "rounds = 12") + "[[partition]]\nfrom = 1
 LAST = "12,0,2,0,0,0,6,12\n"
 NAME = "budget-1.mode-precise-newest"
 SWEEP = ("-o", "kept", "budget=1", "mode=precise-newest")
+MORE = ("-o", "kept", "budget=1,2", "mode=precise-newest")
 NO_PROGRAM = ("gossip_sweep: kept lacks the file program, which says what made its reports: they are taken as made "
               "by this program.\n")
 NO_SUM = "in kept 1 report has no check sum and is taken as it is.\n"
@@ -22,25 +24,62 @@ def times_of(folder):
 def try_damaged_reports(room):
     """A report that isn't what was written never counts, though each of its rows may be one."""
     gives(room, "1 runs in kept\n", "gossip_sweep", *SWEEP, text=APART)
-    report, beside = (room / "kept" / f"{NAME}.{ending}" for ending in ("csv", "sum"))
+    scenario, report, beside = (room / "kept" / f"{NAME}.{ending}" for ending in ("toml", "csv", "sum"))
     whole = report.read_bytes()
-    length_and_sum = f"{len(whole)} {hashlib.sha256(whole).hexdigest()}\n".encode()
-    holds("the last row, and what stands beside", (LAST, length_and_sum),
+    sums = run(room / "kept", "sha256sum", scenario.name, report.name)[1].encode()
+    holds("the last row, and what stands beside", (LAST, sums),
           (whole.decode().splitlines(keepends=True)[-1], beside.read_bytes()))
+    of_before = f"{len(whole)} {hashlib.sha256(whole).hexdigest()}\n".encode()
     cases = {
-        "a digit is lost": (whole.replace(b",6,12\n", b",6,1\n"), length_and_sum, "aren't those of"),
-        "a digit is another": (whole.replace(b",6,12\n", b",6,13\n"), length_and_sum, "aren't those of"),
-        "the sum is cut": (whole, length_and_sum[:40], "aren't those of"),
-        "the sum is empty": (whole, b"", "aren't those of"),
-        "the sum is gone": (whole, None, f"{NAME}.sum, which has its length and check sum, isn't there"),
+        "a digit is lost": (whole.replace(b",6,12\n", b",6,1\n"), sums, f"its check sum isn't that of {NAME}.sum"),
+        "a digit is another": (whole.replace(b",6,12\n", b",6,13\n"), sums, "its check sum isn't that of"),
+        "the sum is cut": (whole, sums[:-40], "its check sum isn't that of"),
+        "the sum is empty": (whole, b"", "its scenario's check sum isn't that of"),
+        "the sum is gone": (whole, None, f"{NAME}.sum, which has its check sum, isn't there"),
+        "the sum is of before": (whole, of_before, f"{NAME}.sum is of an earlier version, which left its scenario out"),
     }
     for case, (text, its_sum, why) in cases.items():
         report.write_bytes(text)
         beside.unlink() if its_sum is None else beside.write_bytes(its_sum)
         refuses(room, why, "gossip_read", "level", "1", "0", "kept")
         status, _, err = run(room, TOOLS / "gossip_sweep", *SWEEP, text=APART)
-        holds(f"it is made again where {case}", (0, True, whole, length_and_sum),
+        holds(f"it is made again where {case}", (0, True, whole, sums),
               (status, f"{NAME} is run again" in err and why in err, report.read_bytes(), beside.read_bytes()))
+
+
+def try_reports_of_other_runs(room):
+    """A report that another run made, or that was made of another scenario, never counts, whatever stands beside it."""
+    gives(room, "2 runs in kept\n", "gossip_sweep", *MORE, text=APART)
+    folder, other = room / "kept", "budget-2.mode-precise-newest"
+    scenario = folder / f"{NAME}.toml"
+    before = {it.name: it.read_bytes() for it in folder.glob("budget-*")}
+
+    def copied():
+        for ending in ("csv", "sum"):
+            shutil.copy(folder / f"{other}.{ending}", folder / f"{NAME}.{ending}")
+
+    def renamed():
+        copied()
+        beside = folder / f"{NAME}.sum"
+        beside.write_text(beside.read_text().replace(other, NAME))
+
+    def edited():
+        scenario.write_text(scenario.read_text().replace("seed = 0", "seed = 1"))
+
+    for change in (copied, renamed, edited):
+        change()
+        why = f"{NAME} (its scenario's check sum isn't that of {NAME}.sum)"
+        refuses(room, f"1 of 2 runs are missing: {why}. The same sweep makes", "gossip_read", "level", "1", "0", "kept")
+        status, out, err = run(room, TOOLS / "gossip_sweep", *MORE, text=APART)
+        holds(f"what was {change.__name__} is made again", (0, "2 runs in kept\n", True, before),
+              (status, out, err.startswith(f"gossip_sweep: {NAME} is run again, as ") and err.count("\n") == 1 or err,
+               {it.name: it.read_bytes() for it in folder.glob("budget-*")}))
+    # (what was run is what the sweep has of the scenario, whatever the file has meanwhile)
+    change = program_that(room, "change", f'echo "#" >>"changed/{NAME}.toml"\nexec "{PROGRAM}" run')
+    gives(room, "1 runs in changed\n", "gossip_sweep", "-o", "changed", *SWEEP[2:], text=APART, GOSSIP_BENCH=change)
+    refuses(room, f"{NAME} (its scenario's check sum isn't that", "gossip_read", "level", "1", "0", "changed")
+    for it in folder.glob("budget-2.*"):
+        it.unlink()
 
 
 def try_other_programs(room):
@@ -81,4 +120,4 @@ def try_folders_of_before(room):
     holds("of two", "gossip_read: in kept 2 reports have no check sum and are taken as they are.\n", err)
 
 
-TRIALS = (try_damaged_reports, try_other_programs, try_folders_of_before)
+TRIALS = (try_damaged_reports, try_reports_of_other_runs, try_other_programs, try_folders_of_before)

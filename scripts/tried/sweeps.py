@@ -1,5 +1,4 @@
 """Trials of gossip_sweep: what it refuses, what it makes, and that it loses nothing, whatever happens to it."""
-import hashlib
 import os
 import resource
 import signal
@@ -105,8 +104,8 @@ def try_runs(room):
     holds("runs of other fields aren't added", of_budgets, sorted(it.name for it in (room / "runs").iterdir()))
 
     kept = room / "runs" / "budget-1.mode-precise-newest.csv"
-    kept.write_text(text := HEADER + "1,2,0,0,4,6,2,1\n2,2,0,0,9,9,9,9\n")
-    kept.with_suffix(".sum").write_text(f"{len(text)} {hashlib.sha256(text.encode()).hexdigest()}\n")
+    kept.write_text(HEADER + "1,2,0,0,4,6,2,1\n2,2,0,0,9,9,9,9\n")
+    kept.with_suffix(".sum").write_text(run(kept.parent, "sha256sum", kept.stem + ".toml", kept.name)[1])
     gives(room, "2 runs in runs\n", "gossip_sweep", "budget=1,65535", "mode=precise-newest", text=COMPARED)
     # (with room for all, exchange 1 of round 1 brings 3 each way, exchange 1 of round 2 one each way)
     gives(room, "budget,mode,percent_cut,greatest_least,greatest_most,stale_least,stale_most\n"

@@ -29,9 +29,10 @@ def check_sum(path):
         return hashlib.file_digest(file, "sha256").hexdigest()
 
 
-def length_and_sum(content):
-    """What stands beside a file of this content, so that it shows where the file is another later."""
-    return f"{len(content)} {hashlib.sha256(content).hexdigest()}\n"
+def check_sums(contents):
+    """What stands beside files of these contents, by name, so that it shows where one is another later. It is what
+    sha256sum prints of them, and checks."""
+    return "".join(f"{hashlib.sha256(content).hexdigest()}  {name}\n" for name, content in contents.items())
 
 
 def text_of(path):

@@ -1,9 +1,9 @@
 """A folder of runs of one scenario: locked while a sweep works in it, and never with a report that isn't whole.
 
 It has the `scenario`, the check sum of the `program`, the `lock`, and for each run its scenario and, once that is
-whole, its report and the report's length and check sum, as budget-600.mode-precise-oldest.toml, .csv and .sum. A run
-writes to a name of its own, `.NAME.PROCESS.part`, and the one who holds the lock renames that. So nobody writes to a
-name that counts.
+whole, its report and the check sums of both, as budget-600.mode-precise-oldest.toml, .csv and .sum. A run writes to a
+name of its own, `.NAME.PROCESS.part`, and the one who holds the lock renames that. So nobody writes to a name that
+counts.
 """
 import contextlib
 import os
@@ -22,7 +22,7 @@ class Folder:
 
     def __init__(self, path, scenario, runs, program):
         self.path, self.scenario, self.runs, self.program = path, scenario, runs, f"{program}\n"
-        self.lengths = {}
+        self.lengths, self.changed = {}, set()
         for name, text in runs.items():
             top = read.settings(text)
             self.lengths[name] = top["format"], top["rounds"]
@@ -84,7 +84,7 @@ class Folder:
         for name, text in self.runs.items():
             it = self.path / f"{name}.toml"
             if not it.exists() or it.read_bytes() != text.encode():
-                (self.path / f"{name}.csv").unlink(missing_ok=True)
+                self.changed.add(name)
                 files.put(it, text)
 
     def lacks(self, name):
@@ -93,7 +93,7 @@ class Folder:
             read.report(self.path / f"{name}.csv", *self.lengths[name])
         except read.NotWhole as why:
             return str(why)
-        return ""
+        return "its scenario was another" if name in self.changed else ""
 
     def part(self, name):
         """Where a run of this process writes."""
@@ -106,8 +106,10 @@ class Folder:
             content = part.read_bytes()
             read.rows_in(content, *self.lengths[name])
             # (in this order, as a report whose sum is another is made again)
-            files.put(report.with_suffix(".sum"), files.length_and_sum(content))
+            contents = {f"{name}.toml": self.runs[name].encode(), report.name: content}
+            files.put(report.with_suffix(".sum"), files.check_sums(contents))
             os.replace(part, report)
+            self.changed.discard(name)
         except read.NotWhole as why:
             return str(why)
         finally:

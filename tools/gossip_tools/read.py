@@ -66,19 +66,30 @@ def rows_in(content, form, rounds):
 
 
 def report(path, form, rounds):
-    """The rows of a report in a folder. Its length and check sum stand beside it, but in folders of earlier versions,
-    which lack the check sum of the program too."""
+    """The rows of a report in a folder. Its scenario's check sum and its own stand beside it, but in folders of the
+    first versions, which lack that of the program too."""
     try:
         content = path.read_bytes()
     except FileNotFoundError:
         raise NotWhole("it isn't there") from None
     rows, beside = rows_in(content, form, rounds), path.with_suffix(".sum")
     if beside.exists():
-        if beside.read_bytes() != files.length_and_sum(content).encode():
-            raise NotWhole(f"its length and check sum aren't those of {beside.name}")
+        scenario = path.with_suffix(".toml")
+        contents = {scenario.name: scenario.read_bytes(), path.name: content}
+        compare(beside.name, beside.read_bytes(), files.check_sums(contents).encode())
     elif path.with_name("program").exists():
-        raise NotWhole(f"{beside.name}, which has its length and check sum, isn't there")
+        raise NotWhole(f"{beside.name}, which has its check sum, isn't there")
     return rows
+
+
+def compare(name, there, wanted):
+    """Says what is another of the check sums that a file has, of a scenario and its report."""
+    if re.fullmatch(rb"[0-9]+ [0-9a-f]{64}\n", there):
+        raise NotWhole(f"{name} is of an earlier version, which left its scenario out")
+    if there.splitlines()[:1] != wanted.splitlines()[:1]:
+        raise NotWhole(f"its scenario's check sum isn't that of {name}")
+    if there != wanted:
+        raise NotWhole(f"its check sum isn't that of {name}")
 
 
 def is_without_sum(path):

@@ -77,6 +77,14 @@ def close(folder, name, process, program):
     return f"{name}: {program} printed no report of it: {lacks}" if lacks else ""
 
 
+def in_memory(text):
+    """A text as a file that has no name, so that nobody changes it."""
+    file = open(os.memfd_create("scenario"), "w+b")
+    file.write(text.encode())
+    file.seek(0)
+    return file
+
+
 def here(folder, names, program, jobs, done):
     """Carries out the runs on this machine, and calls `done` with the name of each, its processor time and how long it
     took. Once one fails none begins."""
@@ -85,11 +93,10 @@ def here(folder, names, program, jobs, done):
         while running or waiting and not failed:
             while waiting and not failed and len(running) < jobs:
                 name = waiting.pop(0)
-                given, part = folder.path / f"{name}.toml", folder.part(name)
-                with Signals.hold(), open(given) as scenario, open(part, "wb") as report:
+                with Signals.hold(), in_memory(folder.runs[name]) as given, open(folder.part(name), "wb") as report:
                     # (a group of its own, so that Ctrl-C comes to the sweep alone, which ends its runs)
                     begun[name] = time.monotonic()
-                    running[name] = subprocess.Popen([program, "run"], stdin=scenario, stdout=report,
+                    running[name] = subprocess.Popen([program, "run"], stdin=given, stdout=report,
                                                      stderr=subprocess.PIPE, process_group=0,
                                                      env={**LARGE_PAGES, **os.environ})
             for name, processor in ended(running):
@@ -206,7 +213,7 @@ def far(folder, names, program, hosts, jobs, done):
     failed = ""
     with tempfile.TemporaryFile() as scenarios, tempfile.TemporaryFile("w+") as told:
         for name in names:
-            scenarios.write((folder.path / f"{name}.toml").read_bytes() + b"\0")
+            scenarios.write(folder.runs[name].encode() + b"\0")
         scenarios.seek(0)
         with gnu_parallel(words, scenarios, told) as process:
             for name, status, text in answers(process.stdout, names):

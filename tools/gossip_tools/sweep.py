@@ -2,9 +2,9 @@
 
 Runs the scenario with each choice of values, in all four modes where `mode` isn't among the fields. The folder, `runs`
 where none is named, gets the scenario and the report of each run, as budget-600.mode-precise-oldest.csv. A report that
-is there as it was made, by its length and check sum in the .sum beside it, isn't made again, so a sweep that was ended
-goes on where it was. A folder takes runs of one scenario and of the same fields in the same order, so that gossip_read
-can read them, by one program, and one sweep at a time.
+is there as it was made, by the check sums in the .sum beside it, its own and its scenario's, isn't made again, so a
+sweep that was ended goes on where it was. A folder takes runs of one scenario and of the same fields in the same order,
+so that gossip_read can read them, by one program, and one sweep at a time.
 
   GOSSIP_BENCH   the program, where it isn't the one beside this tool or the one that is built
   JOBS           how many runs go at once, where it isn't one for each core

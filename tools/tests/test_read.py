@@ -36,11 +36,13 @@ class Reports(unittest.TestCase):
 
 class Kept(unittest.TestCase):
     """What is read of a folder, by what stands there."""
-    SUM = f"{len(TEXT)} {hashlib.sha256(TEXT.encode()).hexdigest()}\n"
+    SCENARIO = "seed = 1\n"
+    OWN = hashlib.sha256(TEXT.encode()).hexdigest()
+    SUM = f"{hashlib.sha256(SCENARIO.encode()).hexdigest()}  seed-1.toml\n{OWN}  seed-1.csv\n"
 
     def lacks(self, **files):
         with tempfile.TemporaryDirectory() as folder:
-            for ending, text in files.items():
+            for ending, text in {"toml": self.SCENARIO, **files}.items():
                 name = ending if ending == "program" else f"seed-1.{ending}"
                 (pathlib.Path(folder) / name).write_text(text)
             try:
@@ -49,17 +51,19 @@ class Kept(unittest.TestCase):
                 return str(why)
 
     def test_sums(self):
-        other = "its length and check sum aren't those of seed-1.sum"
-        cases = ((3, TEXT, self.SUM), (other, TEXT.replace(",9,2\n", ",9,3\n"), self.SUM), (other, TEXT, ""),
-                 (other, TEXT, self.SUM[:-2]), (other, TEXT, self.SUM.replace(str(len(TEXT)), "1", 1)),
-                 ("it is empty", "", self.SUM))
+        own, of_scenario = "its check sum isn't that of seed-1.sum", "its scenario's check sum isn't that of seed-1.sum"
+        before = "seed-1.sum is of an earlier version, which left its scenario out"
+        cases = ((3, TEXT, self.SUM), (own, TEXT.replace(",9,2\n", ",9,3\n"), self.SUM), (of_scenario, TEXT, ""),
+                 (own, TEXT, self.SUM[:-2]), (own, TEXT, self.SUM + "\n"), ("it is empty", "", self.SUM),
+                 (of_scenario, TEXT, self.SUM.replace("seed-1.toml", "seed-2.toml")),
+                 (own, TEXT, self.SUM.replace("seed-1.csv", "seed-2.csv")), (before, TEXT, f"100 {self.OWN}\n"))
         self.assertEqual([it[0] for it in cases], [self.lacks(csv=csv, sum=sum) for _, csv, sum in cases])
+        self.assertEqual(of_scenario, self.lacks(csv=TEXT, sum=self.SUM, toml="seed = 2\n"))
 
     def test_without_sums(self):
-        """Folders of earlier versions have none, neither of reports nor of the program."""
+        """Folders of the first versions have none, neither of reports nor of the program."""
         self.assertEqual(3, self.lacks(csv=TEXT))
-        self.assertEqual("seed-1.sum, which has its length and check sum, isn't there",
-                         self.lacks(csv=TEXT, program="0123\n"))
+        self.assertEqual("seed-1.sum, which has its check sum, isn't there", self.lacks(csv=TEXT, program="0123\n"))
         self.assertEqual("it isn't there", self.lacks(sum=self.SUM))
 
 

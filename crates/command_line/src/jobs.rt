@@ -4,18 +4,20 @@ ghost use Rattle.std.specs.Prelude.{OnOk, IfErr};
 ghost use Rattle.command_words.specs.Workers.{AreLawfulWorkers, HasLawfulWorkers};
 ghost use Rattle.command_line.specs.Jobs.{IsChecked, IsCheckFault, IsReportedWith, IsRunFaultWith, IsPerformed, IsJobFault};
 
+use crate::streams::is_input_or_output;
 use bench_types::{Discard, Fault, Push, Sink, Source, write_text};
 use command_words::Job;
 use runs::{check_input, compare, run};
 use std::alloc::Global;
-use std::fs;
 use std::rt::Files;
 use std::sync::Wait;
 use std::thread::Threads;
+use std::{fs, io};
 
 /// Reads a scenario and does the job: `out` gets what is asked for. The file of a trace is made anew
-/// before anything is read; if it can't be made, the fault is `WriteFailed`. Other faults are those of
-/// `check_input`, `run` and `compare`, and `WriteFailed` if `ok` can't be printed.
+/// before anything is read; if it can't be made, or is the process's own input or output, the fault is
+/// `WriteFailed`. Other faults are those of `check_input`, `run` and `compare`, and `WriteFailed` if `ok`
+/// can't be printed.
 pub fn perform<H: Threads + Wait + Sync + Files, R: Source, W: Sink>(
     rt: &H,
     alloc: Global,
@@ -52,11 +54,19 @@ fn run_with<H: Threads + Wait + Sync + Files, R: Source, W: Sink>(
 {
     match trace {
         None => run(rt, alloc, reader, out, &mut Discard, workers),
-        Some(path) => match fs::create(rt, path) {
+        Some(path) => match trace_file(rt, path) {
             Ok(file) => run(rt, alloc, reader, out, &mut Push::new(file), workers),
             Err(_) => Err(Fault::WriteFailed),
         },
     }
+}
+
+// Makes the file of a trace anew. One that is the process's own input or output is refused, and stays as it is.
+fn trace_file<H: Files>(rt: &H, path: &str) -> io::Result<H::File> {
+    if is_input_or_output(rt, path) {
+        return Err(io::Error::from(io::ErrorKind::InvalidInput));
+    }
+    fs::create(rt, path)
 }
 
 fn check<R: Source, W: Sink>(alloc: Global, reader: &mut R, out: &mut W) -> Result<(), Fault>

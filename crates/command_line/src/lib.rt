@@ -8,6 +8,7 @@
 mod jobs;
 mod processes;
 mod programs;
+mod streams;
 
 pub use command_words::Job;
 pub use jobs::perform;

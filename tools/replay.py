@@ -26,6 +26,7 @@ if sys.version_info < (3, 11):
 import argparse
 import errno
 import os
+import stat
 import tomllib
 from collections import defaultdict
 from contextlib import contextmanager, suppress
@@ -471,13 +472,19 @@ def words_told(name):
     asked, others = words.parse_known_args()
     if others:
         words.error(f"{' '.join(others)} isn't taken: the scenario comes by < FILE, and only run has options")
-    named = {}
+    named = files_of_streams()
     for option in ("trace", "sent", "tables"):
         if path := vars(asked).get(option):
-            first = named.setdefault(file_of(path), option)
-            if first != option:
-                words.error(f"--{first} and --{option} name one file, {path}: name two")
+            first = named.setdefault(file_of(path), f"--{option}")
+            if first != f"--{option}":
+                words.error(f"{first} and --{option} name one file, {path}: name two")
     return vars(asked)
+
+
+def files_of_streams():
+    """What standard input and output are, where that is a file."""
+    found = {"standard input": os.fstat(0), "standard output": os.fstat(1)}
+    return {(it.st_dev, it.st_ino): name for name, it in found.items() if stat.S_ISREG(it.st_mode)}
 
 
 def file_of(path):

@@ -1,6 +1,9 @@
 """Trials of sweeps over several machines, where GNU parallel is there."""
+import contextlib
 import os
+import pathlib
 import shutil
+import signal
 
 from tried.calls import (
     COMPARED, LACKING, TOOLS, fails, gives, is_running, program_that, refuses, started, waits_for, written,
@@ -9,15 +12,19 @@ from trials import PROGRAM, holds
 
 
 def try_several_machines(room):
-    """Runs on another machine, for which a script stands in that gets the words of ssh. It shares this disk."""
+    """Runs on another machine, for which a script stands in that gets the words of ssh. It shares this disk. Where ssh
+    is ended, what it has started there isn't."""
     room, there = room / "machines", room / "machines" / "there"
     there.mkdir(parents=True)
-    # (the host `leaving` is there for the first call alone)
+    # (the hosts `leaving`, `dying` and `silent` are there for the first call alone)
     written(there / "ssh", '#!/bin/sh\nfor word; do shift; case $word in -*) ;; '
             'leaving) mkdir ~/left 2>/dev/null && break; echo "no route to leaving" >&2; exit 255 ;; '
             'slow) echo $$ >~/it && mv ~/it ~/slow; exec sleep 60 ;; '
-            'down) echo "no route to down" >&2; exit 255 ;; *) break ;; esac; done\n[ "$1" != -- ] || shift\n'
-            'cd && exec env -i HOME="$HOME" PATH="$PATH" sh -c "$*"\n')
+            'down) echo "no route to down" >&2; exit 255 ;; '
+            'dying) mkdir ~/died 2>/dev/null && break; echo "Connection closed" >&2; exit 255 ;; '
+            'silent) mkdir ~/silent 2>/dev/null && break; exit 255 ;; '
+            '*) break ;; esac; done\n[ "$1" != -- ] || shift\n'
+            'cd && setsid -w env -i HOME="$HOME" PATH="$PATH" sh -c "$*"\n')
     (room / "home").mkdir()
     far = {"PATH": f"{there}:{os.environ['PATH']}", "HOME": str(room / "home")}
     written(room / "none" / "parallel", "#!/bin/sh\nexit 1\n")
@@ -34,18 +41,42 @@ def try_several_machines(room):
     holds("nothing else at home", {".parallel", "shared 2"}, {it.name for it in (room / "home").iterdir()})
     fails(room, "no route to leaving. 0 of 16 runs stand", 1, "gossip_sweep", "-o", "leaving", *sweep, text=COMPARED,
           HOSTS="leaving", **far)
+    # (a machine that dies is named, though ssh doesn't name it)
+    for hosts, why in (("alpha,dying", "on dying: status 255: Connection closed. "),
+                       ("silent,:", "on silent: status 255. ")):
+        fails(room, why, 1, "gossip_sweep", "-o", "dying", *sweep, text=COMPARED, HOSTS=hosts, **far)
     try_first_starts(room, sweep, far)
     faulty = program_that(room, "faulty", "echo fault 1: out of memory >&2; exit 1")
     fails(room, "status 1: fault 1: out of memory. 0 of 16", 1, "gossip_sweep", "-o", "far", *sweep, text=COMPARED,
           HOSTS="alpha", **far, GOSSIP_BENCH=faulty)
+    try_ends(room, sweep, far)
+
+
+def running_at(home):
+    """The processes that have this folder as their home, as all do of sweeps with other machines here."""
+    found = []
+    for it in pathlib.Path("/proc").glob("[0-9]*/environ"):
+        with contextlib.suppress(OSError):
+            found += [it.parent.name] * (f"HOME={home}\0".encode() in it.read_bytes())
+    return found
+
+
+def try_ends(room, sweep, far):
+    """A sweep that is stopped or killed leaves no run, here or on another machine."""
     hanging = program_that(room, "hanging", "echo $$ >>pids\nexec sleep 60")
-    with started(room, TOOLS / "gossip_sweep", "-o", "stopped", *sweep, text=COMPARED, HOSTS=":,alpha", **far,
-                 GOSSIP_BENCH=hanging) as process:
-        holds("runs begin on machines", True, waits_for(lambda: list(room.glob("**/pids"))))
-        process.terminate()
-        out, err = process.communicate(timeout=60)
-    holds("machines are stopped", (143, "", True),
-          (process.returncode, out, "0 of 16 runs stand in stopped" in err or err))
+    for number, ends in ((signal.SIGTERM, (143, True)), (signal.SIGKILL, (-9, False))):
+        with started(room, TOOLS / "gossip_sweep", "-o", "stopped", *sweep, text=COMPARED, HOSTS=":,alpha", **far,
+                     GOSSIP_BENCH=hanging) as process:
+            holds("runs begin on machines", True, waits_for(lambda: len(list(room.glob("**/pids"))) == 2))
+            process.send_signal(number)
+            out, err = process.communicate(timeout=60)
+        holds(f"machines after {number.name}", (*ends, ""),
+              (process.returncode, "0 of 16 runs stand in stopped" in err, out))
+        holds("nothing runs there", True, waits_for(lambda: not running_at(far["HOME"]), 10))
+        for it in running_at(far["HOME"]):
+            os.kill(int(it), signal.SIGKILL)
+        for it in room.glob("**/pids"):
+            it.unlink()
 
 
 def try_first_starts(room, sweep, far):

@@ -204,6 +204,7 @@ def try_stopping(room):
               "way. 0 of 4 runs stand in stopped; the same command goes on from there.\n", err)
         holds(f"what {ends.name} leaves", ([], []),
               (list(room.glob("stopped/.*.part")), list(room.glob("stopped/*.csv"))))
+    pids.unlink()
     streams = dict.fromkeys(("stdin", "stdout", "stderr"), subprocess.PIPE)
     with subprocess.Popen([TOOLS / "gossip_sweep", *sweep], text=True, cwd=room, **streams,
                           env={**os.environ, "GOSSIP_BENCH": PROGRAM}) as process:
@@ -213,14 +214,15 @@ def try_stopping(room):
         ended = process.wait(timeout=60), process.stdout.read(), process.stderr.read()
     holds("a sweep without a scenario", (130, "", "gossip_sweep: stopped by SIGINT.\n"), ended)
     with started(room, TOOLS / "gossip_sweep", *sweep, text=COMPARED, GOSSIP_BENCH=hanging) as process:
-        holds("a run begins", True, waits_for(lambda: list(room.glob("stopped/.*.part"))))
+        holds("a run begins", True, waits_for(lambda: pids.exists() and len(pids.read_text().split()) == 2))
         process.kill()
         process.communicate(timeout=60)
     runs = [int(it) for it in pids.read_text().split()]
+    holds("the runs of a sweep that was killed end too, with what they have started", True,
+          waits_for(lambda: not any(map(is_running, runs)), 5))
     gives(room, "4 runs in stopped\n", "gossip_sweep", *sweep, text=COMPARED)
-    for it in runs:
-        if is_running(it):
-            os.kill(it, signal.SIGKILL)
+    for it in filter(is_running, runs):
+        os.kill(it, signal.SIGKILL)
     holds("what is left of a sweep that was killed", ([], 4),
           (list(room.glob("stopped/.*.part")), len(list(room.glob("stopped/*.csv")))))
 

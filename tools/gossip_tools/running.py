@@ -21,6 +21,10 @@ NAME = "[A-Za-z0-9_.][A-Za-z0-9_.-]*"
 HOST = f"([1-9][0-9]{{0,3}}/)?(:|({NAME}@)?{NAME})"
 
 
+# The signals that end a process where nothing else is said.
+ENDINGS = signal.SIGINT, signal.SIGTERM, signal.SIGHUP
+
+
 class Failed(Exception):
     """Why a run has no report."""
 
@@ -31,8 +35,7 @@ class Signals:
 
     @classmethod
     def listen(cls):
-        numbers = (signal.SIGINT, signal.SIGTERM, signal.SIGHUP)
-        numbers = [it for it in numbers if signal.getsignal(it) != signal.SIG_IGN]
+        numbers = [it for it in ENDINGS if signal.getsignal(it) != signal.SIG_IGN]
 
         def stop(number, _):
             for it in numbers:
@@ -77,6 +80,47 @@ def close(folder, name, process, program):
     return f"{name}: {program} printed no report of it: {lacks}" if lacks else ""
 
 
+@contextlib.contextmanager
+def group(*first):
+    """A process group that ends with the block, and with this process, however that ends. What is left in it gets the
+    first signals, a second apart, if this process is gone, and is killed.
+
+    Its leader waits at a pipe until nobody has the other end, which the system closes with this process. A child closes
+    that after it has joined the group, so none is missed; of what it starts all is in the group. The death signal that
+    Linux sends for a parent would come to children alone, and not if this process ends before they ask for it.
+    """
+    reader, writer = os.pipe()
+    # (so that no signal that stops the sweep is taken by its leader too)
+    before = signal.pthread_sigmask(signal.SIG_BLOCK, ENDINGS)
+    leader = os.fork()
+    if not leader:
+        lead(reader, first)
+    os.setpgid(leader, leader)
+    signal.pthread_sigmask(signal.SIG_SETMASK, before)
+    os.close(reader)
+    try:
+        yield leader
+    finally:
+        os.killpg(leader, signal.SIGKILL)
+        os.waitpid(leader, 0)
+        os.close(writer)
+
+
+def lead(reader, first):
+    """What the leader of a group does. It holds nothing open but its end of the pipe."""
+    try:
+        os.setpgid(0, 0)
+        os.closerange(0, reader)
+        os.closerange(reader + 1, os.sysconf("SC_OPEN_MAX"))
+        os.read(reader, 1)
+        for number in first:
+            os.killpg(0, number)
+            time.sleep(1)
+        os.killpg(0, signal.SIGKILL)
+    finally:
+        os._exit(1)
+
+
 def in_memory(text):
     """A text as a file that has no name, so that nobody changes it."""
     file = open(os.memfd_create("scenario"), "w+b")
@@ -90,26 +134,24 @@ def here(folder, names, program, jobs, done):
     took. Once one fails none begins."""
     waiting, running, begun, failed = list(names), {}, {}, ""
     try:
-        while running or waiting and not failed:
-            while waiting and not failed and len(running) < jobs:
-                name = waiting.pop(0)
-                with Signals.hold(), in_memory(folder.runs[name]) as given, open(folder.part(name), "wb") as report:
-                    # (a group of its own, so that Ctrl-C comes to the sweep alone, which ends its runs)
-                    begun[name] = time.monotonic()
-                    running[name] = subprocess.Popen([program, "run"], stdin=given, stdout=report,
-                                                     stderr=subprocess.PIPE, process_group=0,
-                                                     env={**LARGE_PAGES, **os.environ})
-            for name, processor in ended(running):
-                with Signals.hold():
-                    why = close(folder, name, running.pop(name), program)
-                    failed = failed or why
-                    if not why:
-                        done(name, processor, time.monotonic() - begun[name])
+        # (a group of their own, so that Ctrl-C comes to the sweep alone, which ends its runs)
+        with group() as runs:
+            while running or waiting and not failed:
+                while waiting and not failed and len(running) < jobs:
+                    name = waiting.pop(0)
+                    with Signals.hold(), in_memory(folder.runs[name]) as given, open(folder.part(name), "wb") as report:
+                        begun[name] = time.monotonic()
+                        running[name] = subprocess.Popen([program, "run"], stdin=given, stdout=report,
+                                                         stderr=subprocess.PIPE, process_group=runs,
+                                                         env={**LARGE_PAGES, **os.environ})
+                for name, processor in ended(running):
+                    with Signals.hold():
+                        why = close(folder, name, running.pop(name), program)
+                        failed = failed or why
+                        if not why:
+                            done(name, processor, time.monotonic() - begun[name])
     finally:
         for name, process in running.items():
-            # (with what it has started, where GOSSIP_BENCH names a script)
-            with contextlib.suppress(ProcessLookupError):
-                os.killpg(process.pid, signal.SIGKILL)
             process.wait()
             process.stderr.close()
             folder.part(name).unlink(missing_ok=True)
@@ -166,9 +208,8 @@ def end(process):
         process.terminate()
         with contextlib.suppress(subprocess.TimeoutExpired):
             process.wait(timeout=1)
-    if process.poll() is None:
-        os.killpg(process.pid, signal.SIGKILL)
-        process.wait()
+    process.kill()
+    process.wait()
 
 
 @contextlib.contextmanager
@@ -176,16 +217,17 @@ def gnu_parallel(words, given, told):
     """GNU parallel, with its input and where it complains. It ends with the block, and with it all that it started."""
     environment = {"HOME": tempfile.gettempdir(), **os.environ, "PARALLEL_SHELL": shutil.which("sh")}
     process = None
-    try:
-        with Signals.hold():
-            process = subprocess.Popen(["parallel", *words], stdin=given, stdout=subprocess.PIPE, stderr=told,
-                                       text=True, env=environment, errors="replace", process_group=0)
-        with process.stdout:
-            yield process
-        process.wait()
-    finally:
-        if process:
-            end(process)
+    with group(signal.SIGTERM, signal.SIGTERM) as runs:
+        try:
+            with Signals.hold():
+                process = subprocess.Popen(["parallel", *words], stdin=given, stdout=subprocess.PIPE, stderr=told,
+                                           text=True, env=environment, errors="replace", process_group=runs)
+            with process.stdout:
+                yield process
+            process.wait()
+        finally:
+            if process:
+                end(process)
 
 
 def start(program, hosts):
@@ -209,13 +251,14 @@ def far(folder, names, program, hosts, jobs, done):
     command = f'echo "begin $PARALLEL_SEQ"; {shlex.quote(program)} run 2>&1; status=$?; echo; ' \
               'echo "end $PARALLEL_SEQ $status"; exit $status'
     words = ["--pipe", "-N1", "--recend", "\\0", "--rrs", "--block", "4M", "--halt", "now,fail=1",
-             "--sshlogin", hosts, *(["--jobs", str(jobs)] if jobs else []), command]
+             "--sshlogin", hosts, *(["--jobs", str(jobs)] if jobs else [])]
     failed = ""
-    with tempfile.TemporaryFile() as scenarios, tempfile.TemporaryFile("w+") as told:
+    with (tempfile.TemporaryFile() as scenarios, tempfile.TemporaryFile("w+", errors="replace") as told,
+          tempfile.NamedTemporaryFile("r") as log):
         for name in names:
             scenarios.write(folder.runs[name].encode() + b"\0")
         scenarios.seek(0)
-        with gnu_parallel(words, scenarios, told) as process:
+        with gnu_parallel([*words, "--joblog", log.name, command], scenarios, told) as process:
             for name, status, text in answers(process.stdout, names):
                 with Signals.hold():
                     folder.part(name).write_text(text)
@@ -224,10 +267,21 @@ def far(folder, names, program, hosts, jobs, done):
                     failed = failed or f"{name}: {reason(status, text) if status else lacks}"
                 else:
                     done(name)
-        told.seek(0)
         if process.returncode or failed:
-            # (what ssh says comes before what GNU parallel says of it)
-            raise Failed(failed or reason(process.returncode, told.readline()))
+            told.seek(0)
+            # (what ssh says stands among what GNU parallel says of it)
+            said = "".join(it for it in told if not it.startswith("parallel: ") and it.strip() != command)
+            raise Failed(failed or why_by_log(log, names, said) or reason(process.returncode, said))
+
+
+def why_by_log(log, names, said):
+    """Which run failed, on which machine, and why, by the log that GNU parallel has of its jobs; empty where none has
+    failed by that."""
+    for line in log.readlines()[1:]:
+        place, host, _, _, _, _, status, number, _ = line.split("\t", 8)
+        if (status, number) != ("0", "0"):
+            return f"{names[int(place) - 1]} on {host}: {reason(-int(number) or int(status), said)}"
+    return ""
 
 
 def answers(lines, names):

@@ -18,6 +18,16 @@ class Missing(Exception):
     """What isn't there to be installed, in a sentence."""
 
 
+def made(folder):
+    """A folder, made where it isn't there."""
+    try:
+        folder.mkdir(parents=True, exist_ok=True)
+    except OSError as error:
+        why = "isn't a folder" if folder.exists() else f"can't be made: {error.strerror}"
+        raise Missing(f"{folder} {why}.") from None
+    return folder
+
+
 def commands():
     """The tools by the names under which they are called."""
     named = {it.name: it for it in sorted(TOOLS.glob("gossip_*")) if it.is_file()}

@@ -59,9 +59,14 @@ def try_install(room):
     written(room / "newer", LACKING.replace("echo", '[ -z "$GLIBC_TUNABLES" ] && exit\necho'))
     status, out, err = run(room, TOP / "scripts/install", there, GOSSIP_BENCH="./newer")
     holds("install tells that AVX2 is needed", (0, True, ""), (status, out.endswith(needs), err))
+    # (a folder that isn't there is made)
+    made = str(room / "a new" / "bin")
+    status, out, err = run(room, TOP / "scripts/install", made)
+    holds("a new folder", (0, f"{made}/gossip_bench, and {made} isn't on the path\n", "", True),
+          (status, out.replace(needs, ""), err, os.access(f"{made}/gossip_bench", os.X_OK)))
     written(room / "lacking", LACKING)
-    for words, variables in (((str(room / "none"),), {}), ((there, there), {}), ((there,), {"GOSSIP_BENCH": "none"}),
-                             ((there,), {"GOSSIP_BENCH": "./lacking"})):
+    for words, variables in (((f"{room}/lacking",), {}), ((f"{room}/lacking/below",), {}), ((there, there), {}),
+                             ((there,), {"GOSSIP_BENCH": "none"}), ((there,), {"GOSSIP_BENCH": "./lacking"})):
         status, out, err = run(room, TOP / "scripts/install", *words, **variables)
         holds(f"install {words}", (2, "", True), (status, out, err.startswith("install: ") and err.count("\n") == 1))
 

@@ -1,5 +1,10 @@
-#!/usr/bin/env -S python3 -S
-"""replay.py: the bench once more, in plain Python: the rules of docs/model.md and docs/formats.md in a form to read.
+#!/bin/sh
+# A shell starts Python, which dies if a folder is its standard input. Each of the two reads the other's lines as a text.
+''''[ -d /dev/stdin ] && { echo "${0##*/}: standard input: Is a directory." >&2; exit 1; }
+exec python3 -S "$0" "$@"
+: <<'# end' # '''
+__doc__ = """\
+replay.py: the bench once more, in plain Python: the rules of docs/model.md and docs/formats.md in a form to read.
 
     replay.py check < SCENARIO
     replay.py run [--trace FILE] [--sent FILE] [--tables FILE] < SCENARIO
@@ -562,3 +567,4 @@ def main():
 
 
 main()
+# end

@@ -53,6 +53,15 @@ def try_closed_streams(room):
             holds(f"the files of {script} with {closed} closed", [], differ(kept, files_of(room)))
 
 
+def try_folders(room):
+    """A folder as standard input is told in a sentence."""
+    folder = os.open(room, os.O_RDONLY)
+    for tool in installed.commands().values():
+        holds(f"{tool.name} on a folder", (1, "", f"{tool.name}: standard input: Is a directory.\n"),
+              run(room, tool, *CALLS.get(tool.name, ()), given=folder))
+    os.close(folder)
+
+
 def try_full_errors(room):
     """What can't be said on standard error ends no work, and changes no status."""
     run(room, TOOLS / "gossip_sweep", "budget=1", text=COMPARED)
@@ -116,4 +125,5 @@ def try_interrupts(room):
         holds(f"{tool.name} is interrupted", ("", "", -signal.SIGINT), ended)
 
 
-TRIALS = (try_closed_streams, try_help, try_full_errors, try_readers_that_are_gone, try_lost_terminals, try_interrupts)
+TRIALS = (try_closed_streams, try_folders, try_help, try_full_errors, try_readers_that_are_gone, try_lost_terminals,
+          try_interrupts)

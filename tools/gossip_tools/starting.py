@@ -1,7 +1,7 @@
 """How a tool starts, whichever of its streams are closed, and ends, whenever Ctrl-C comes.
 
-While Python itself starts, Ctrl-C comes as a traceback. So the first line of a tool has -S, which leaves out site, the
-longest part of that, and signal.py isn't waited for.
+While Python itself starts, Ctrl-C comes as a traceback. So it is started with -S, which leaves out site, the longest
+part of that, and signal.py isn't waited for.
 """
 import _signal
 import importlib

@@ -1,5 +1,5 @@
 #!/bin/sh
-# A shell starts Python, which dies if a folder is its standard input. Each of the two reads the other's lines as a text.
+# A shell starts Python, which dies of a folder as its standard input. Each takes the lines of the other for a text.
 ''''[ -d /dev/stdin ] && { echo "${0##*/}: standard input: Is a directory." >&2; exit 1; }
 exec python3 -S "$0" "$@"
 : <<'# end' # '''

@@ -19,7 +19,9 @@ STYLE = """
 body { font: 16px/1.45 sans-serif; color: var(--text); background: var(--page); max-width: 1080px; margin: 0 auto;
     padding: 0 16px 32px; }
 h1 { font-size: 1.5em; line-height: 1.2; } h2 { font-size: 1.2em; margin: 1.6em 0 .4em; break-after: avoid; }
-.cards { display: grid; grid-template-columns: repeat(auto-fit, minmax(128px, 1fr)); gap: 10px; }
+.cards { display: grid; gap: 10px; grid-auto-flow: dense;
+    grid-template-columns: repeat(auto-fit, minmax(max(120px, (100% - 50px) / var(--columns)), 1fr)); }
+.cards .broad { grid-column: span 2; }
 .cards div { border: 1px solid var(--line); break-inside: avoid; border-radius: 6px; padding: 8px 10px; }
 .cards b { display: block; font-size: 1.25em; }
 .cards .first { background: var(--first); color: #fff; border-color: var(--first); }
@@ -33,15 +35,21 @@ td, th { border: 1px solid var(--line); padding: 3px 8px; text-align: right; }
 td.chosen { background: var(--mark); font-weight: bold; }
 pre { font-size: .8em; white-space: pre-wrap; overflow-wrap: anywhere; background: var(--code); padding: 8px; }
 @media print {
-    body { font-size: 11pt; max-width: none; }
-    .pictures { grid-template-columns: 1fr 1fr; }
-    details { display: none; }
-    .wide { overflow-x: visible; }
-    .before-table { break-after: avoid; }
-    table, tr { break-inside: avoid; }
+    body { font-size: 10pt; max-width: none; padding: 0; }
+    .pictures { grid-template-columns: 1fr 1fr; gap: 8px 16px; }
+    .pictures:has(figure:nth-child(3)) { grid-template-columns: repeat(3, 1fr); }
+    figure img { max-width: 6.4cm; } figcaption { font-size: .8em; }
+    details, td br { display: none; }
+    .wide { overflow-x: visible; } td small { margin-left: .6em; }
+    .before-table { break-inside: avoid; break-after: avoid; }
+    tr { break-inside: avoid; } tbody tr:nth-child(-n+3), tr:last-child { break-before: avoid; }
     thead { display: table-header-group; }
 }
 """
+
+
+# The most cards that stand beside each other.
+MOST_COLUMNS = 5
 
 
 def told(it):
@@ -79,8 +87,19 @@ def cards(decision, healing, more):
     if healing and it.leaves():
         words, _, more = healing.wait(decision.budget).partition(": ")[0].partition(", ")
         rows.append((answer.ROLLING, words, more, ""))
-    return "".join(f'<div class="{kind}">{told(name)}<b>{told(words)}</b>{told(more)}</div>'
-                   for name, words, more, kind in rows)
+    columns, broad = layout([len(name) + len(words) + len(more) for name, words, more, _ in rows])
+    said = "".join(f'<div class="{" ".join(filter(None, (kind, "broad" * (at in broad))))}">{told(name)}'
+                   f"<b>{told(words)}</b>{told(more)}</div>" for at, (name, words, more, kind) in enumerate(rows))
+    return f'<div class="cards" style="--columns: {columns}">{said}</div>'
+
+
+def layout(letters):
+    """How many columns cards with so many letters have, and which of them take two, so that each row is full: those
+    with the most letters."""
+    rows = -(-len(letters) // MOST_COLUMNS)
+    columns = -(-len(letters) // rows)
+    by_letters = sorted(range(len(letters)), key=lambda at: -letters[at])
+    return columns, by_letters[:rows * columns - len(letters)]
 
 
 def below_the_cards(decision, healing):
@@ -108,7 +127,7 @@ def captions(decision, healing):
     floor = "The line `floor` has the seed in the middle of runs that cut nothing, below which none goes. "
     same = plots.lie_on_each_other(decision, lambda *at: decision.found.worst(*at, decision.window))
     same = f"All modes have the same figures from {it.whole(same)} entries on. " if same else ""
-    band = f"The line has the middle of {many} seeds, the band their least and most"
+    band = f"The line has the middle of {many} seeds, bars go from their least to their most"
     healed = captions_of_healing(it, healing.mode, band) if healing else {}
     most = " Of each interval the round with the most is shown." if it.fanout > 1 else ""
     return {
@@ -211,7 +230,7 @@ def make(folder, decision, healing, made, check_sum, missing=(), more=(), head="
 {cluster.plain(it.told['interval'])} s: {it.writes}; calls in an interval, each of which is a round: {it.fanout};
 messages lost: {cluster.plain(it.told['loss'])} %. All figures go from the least to the most of {len(rules.SEEDS)}
 seeds.</p>
-<div class="cards">{cards(decision, healing, more)}</div>
+{cards(decision, healing, more)}
 {below_the_cards(decision, healing)}{paragraphs(missing)}
 {listed("Mind", answer.warnings(decision), "mind")}
 {pictures(folder, decision, healing)}

@@ -24,6 +24,8 @@ set xlabel "{x}" offset 0, 0.4
 set ylabel "{y}"
 """
 LEAST_SHOWN = 20
+# A budget has bars at so many rounds at most, the next one's so far beside them, of the way to the next round.
+MOST_BARS, BESIDE = 40, 0.25
 
 
 def is_there():
@@ -125,23 +127,26 @@ def rounds(decision, name, y, value):
 
 
 def healing(healed, stage, name, y, value):
-    """A column over the rounds since the end of what is to be healed, by budget: the seeds' middle and band."""
+    """A column over the rounds since the end of what is to be healed, by budget: the seeds' middle, and bars from
+    their least to their most where they differ."""
     study, found = healed.study, healed.stages[stage]
     ends, budgets = study.ends(stage), [it for it, _ in found.rows][-len(BUDGETS):]
     taken = [it for budget in budgets for it in healed.taken(stage, budget) if it]
     shown = max(LEAST_SHOWN, min(max(taken, default=0) + 5, study.rounds(stage) - ends))
     text, plots = HEAD.format(name=name, x="rounds since its end", y=y), []
+    step = -(-(shown + 5) // MOST_BARS)
     for at, budget in enumerate(budgets):
         colour, width, _ = BUDGETS[at + len(BUDGETS) - len(budgets)]
         seeds = [read.between(rows, ends - 5, ends + shown) for rows in found.rows[(budget, healed.mode)]]
-        rows = []
-        for of_round in zip(*seeds):
-            values = [value(row) for row in of_round]
-            rows.append((of_round[0]["round"] - ends, rules.middle(values), *rules.band(values)))
-        text += block(f"budget{at}", rows)
-        plots.insert(at, f'$budget{at} using 1:3:4 with filledcurves fillcolor "{colour}" '
-                     "fillstyle transparent solid 0.25 notitle")
-        plots.append(f'$budget{at} using 1:2 with lines linewidth {width} linecolor "{colour}" '
+        values = {it[0]["round"] - ends: [value(row) for row in it] for it in zip(*seeds)}
+        # (the bars of a budget stand beside those of the others, so that all are seen)
+        beside = BESIDE * step * (at - (len(budgets) - 1) / 2)
+        text += block(f"budget{at}", [(number, rules.middle(it)) for number, it in values.items()])
+        text += block(f"bars{at}", [(round(number + beside, 3), *rules.band(it)) for number, it in values.items()
+                                    if min(it) < max(it) and number % step == 0])
+        plots.insert(at, f'$bars{at} using 1:2:(0):($3-$2) with vectors nohead linewidth 1.5 linecolor "{colour}" '
+                     "notitle")
+        plots.append(f'$budget{at} with lines linewidth {width} linecolor "{colour}" '
                      f'title "{study.whole(budget)} entries"')
     return text + f"set xrange [-5:{shown}]\nset yrange [0:*]\nplot " + ", \\\n  ".join(plots) + "\n"
 

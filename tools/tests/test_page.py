@@ -1,5 +1,6 @@
 """The page: its themes and how it is printed."""
 import re
+import types
 import unittest
 
 from gossip_tools import advise, answer, cluster, page, plots, study
@@ -78,6 +79,18 @@ def decided(rising=(), entry=40):
 
 
 class Cards(unittest.TestCase):
+    def test_rows_are_full(self):
+        """However many cards there are, they fill rows of at most five, and those with the longest texts are broad
+        where some have to be."""
+        for more in range(12):
+            said = page.cards(decided(), None, [(f"name {at}", "few: words" + " more" * at) for at in range(more)])
+            columns = int(re.search(r"--columns: (\d+)", said)[1])
+            cards = [(classes, len(re.sub("<.*?>", "", text)))
+                     for classes, text in re.findall('<div class="([a-z ]*)">(.*?)</div>', said)]
+            broad, narrow = ([it for classes, it in cards if ("broad" in classes) == which] for which in (True, False))
+            self.assertEqual((4 + more, 0, True), (len(cards), (len(cards) + len(broad)) % columns, columns <= 5))
+            self.assertGreaterEqual(min(broad, default=1000), max(narrow))
+
     def test_a_missed_target(self):
         """It is a card of the kind of a refusal, and one that is met isn't."""
         cases = {"not met: the worst": '<div class="none">target<b>not met</b>the worst</div>',
@@ -110,6 +123,40 @@ class Cards(unittest.TestCase):
                                       "The line `floor` has " in page.captions(decision, None)["worst"]))
 
 
+class Healed:
+    """Runs of 60 rounds that heal from round 30 on, with the greatest age of all rounds under three seeds."""
+    mode = "scuttle-depth"
+
+    def __init__(self, **greatest):
+        self.study = types.SimpleNamespace(ends=lambda _: 30, rounds=lambda _: 60, whole=lambda budget: budget)
+        rows = {(int(budget[1:]), self.mode): [[{"round": at, "greatest": it} for at in range(1, 61)] for it in seeds]
+                for budget, seeds in greatest.items()}
+        self.stages = {"split": types.SimpleNamespace(rows=rows)}
+
+    def taken(self, *_):
+        return [3]
+
+
+class Healing(unittest.TestCase):
+    def bars(self, **greatest):
+        """The bars of each budget, as (place, least, most), and how the picture is drawn."""
+        script = plots.healing(Healed(**greatest), "split", "split", "y", lambda row: row["greatest"])
+        blocks = [it.splitlines() for it in re.findall(r"\$bars\d << END\n(.*?)\nEND", script, re.S)]
+        return [[tuple(map(float, line.split())) for line in it if "NaN" not in line] for it in blocks], script
+
+    def test_bars_stand_beside_each_other(self):
+        """Two budgets, each with other figures under each seed: all 26 rounds have a bar of each, and no two meet."""
+        (one, other), script = self.bars(b50=(9, 5, 7), b100=(4, 6, 5))
+        self.assertEqual(([(5, 9)] * 26, [(4, 6)] * 26), tuple([it[1:] for it in bars] for bars in (one, other)))
+        places = sorted(it[0] for it in one + other)
+        self.assertEqual(0.25, min(after - before for before, after in zip(places, places[1:])))
+        self.assertNotIn("filledcurves", script)
+
+    def test_seeds_that_agree_have_no_bar(self):
+        (one, other), _ = self.bars(b50=(9, 9, 9), b100=(4, 4, 5))
+        self.assertEqual((0, 26), (len(one), len(other)))
+
+
 class Table(unittest.TestCase):
     def test_not_level_is_told_where_it_stands(self):
         for rising, wanted in (((), ""), ({(50, "scuttle-depth")}, " Not level: this budget isn't enough.")):
@@ -121,6 +168,15 @@ class Table(unittest.TestCase):
 class Printed(unittest.TestCase):
     def test_tables_keep_their_head(self):
         printed = page.STYLE.partition("@media print")[2]
-        for rule in ("table, tr { break-inside: avoid; }", "thead { display: table-header-group; }",
-                     ".before-table { break-after: avoid; }"):
+        for rule in ("tr { break-inside: avoid; }", "tr:nth-child(-n+3), tr:last-child { break-before: avoid; }",
+                     "thead { display: table-header-group; }", "break-inside: avoid; break-after: avoid; }"):
             self.assertIn(rule, printed)
+
+    def test_no_page_is_half_empty(self):
+        """What moves to the next page as a whole is low: no whole table does, and pictures are a quarter of the 27 cm
+        of a page, less 2 for a head and a text; three stand beside each other."""
+        printed = page.STYLE.partition("@media print")[2]
+        self.assertNotRegex(printed, r"[^-]\btable\b[^-{]*{[^}]*break-inside")
+        wide, high = map(int, re.search(r"svg size (\d+), (\d+)", plots.HEAD).groups())
+        self.assertLess(float(re.search(r"figure img { max-width: ([\d.]+)cm", printed)[1]) * high / wide, 27 / 4 - 1.5)
+        self.assertIn("figure:nth-child(3)) { grid-template-columns: repeat(3, 1fr); }", printed)

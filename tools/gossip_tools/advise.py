@@ -3,8 +3,9 @@ gossip_advise [-o FOLDER] target=SECONDS nodes=N keys=N writes=N entry=BYTES [NA
 gossip_advise -o FOLDER
 
 Says which mode and which budget to take for a cluster, how stale its copies get, and how long it takes to heal. It runs
-the modes with what fits and with nodes * writes, under five seeds, on all cores: first few intervals, for a first
-answer, then what is to heal, then many intervals, and up to 800 where staleness may still rise. Last comes a budget
+the modes with what fits and with nodes * writes, on all cores: 20 seeds choose, seed by seed, and 20 others bound what
+they chose, each in a run of an hour where the cluster isn't large. First comes what is chosen, then what bounds it and
+what heals, then smaller budgets, and runs of up to 800 intervals where staleness may still rise. Last comes a budget
 that cuts nothing, for the floor: no mode and no budget does better than that. Where no budget that fits is enough, it
 says so, and what would be. With a target and no packet it looks for the smallest packet that keeps to it. The folder,
 `advice` where none is named, gets the scenarios, the reports, `answer.txt` and the page `report.html`; both have the
@@ -23,12 +24,14 @@ them is run once.
   fanout    how many others a node calls in an interval, 1 where it isn't given. Each call is a round of its own
   loss      how many messages of a hundred are lost, 0 where it isn't given
   interval  its seconds, 1 where it isn't given
+  hours     how long the runs are that bound how old a copy gets: those of `hours=24` say what is exceeded in one day
+            of 21. Where it isn't given, an hour of seconds, or less where that is too much work; the answer tells it
   target    the seconds that the worst copy may be behind. Without a packet the smallest budget and packet that keep to
-            it under all five seeds are looked for, in each mode; with one it is told whether that does. Beside it
-            stand the share of copies that are stale and how old a typical one is
+            it under all seeds are looked for, in each mode; with one it is told whether that does. Beside it stand the
+            share of copies that are stale and how old a typical one is
   restarts  how many nodes restart at once, the size of a group, for the time to wait between groups: such a group
-            restarts in each of ten intervals, and is down for one. Where it isn't given, one node restarts, and with 0
-            none
+            restarts in each of ten intervals, in fewer where that were more than half of the nodes, and is down for
+            one; and one group alone. Where it isn't given, one node restarts, and with 0 none
   forget    `yes`, a node that restarts loses its own state too, as in Cassandra
   split     the longest split, in intervals, 30 where it isn't given; with 0 there is none
   mode      the one that your program has; where it isn't given, each that has room is run
@@ -46,12 +49,12 @@ import sys
 import tomllib
 from fractions import Fraction
 
-from gossip_tools import answer, cluster, files, page, running, scenario, study, sweep, target
+from gossip_tools import answer, cluster, files, page, rules, running, scenario, study, sweep, target
 from gossip_tools.commands import Refused, folder_of, the_program, workers
 from gossip_tools.progress import Progress, in_words
 
 USUAL = {"digest": "0", "shared": "yes", "fanout": "1", "loss": "0", "interval": "1", "restarts": None, "forget": "no",
-         "split": str(study.USUAL_SPLIT), "mode": None, "count": None, "target": None}
+         "split": str(study.USUAL_SPLIT), "mode": None, "count": None, "hours": None, "target": None}
 CALL = "gossip_advise nodes=1000 keys=4 writes=1 entry=40 packet=64000 digest=20 loss=1"
 
 
@@ -115,42 +118,53 @@ class Stages:
     def __init__(self, it, folder, program):
         self.study, self.folder, self.program = it, folder, program
         self.progress = Progress()
-        # (the budgets and modes that were run, by stage)
+        # (the budgets and modes that were run, each with its seeds, by stage)
         self.made = {}
 
-    def runs(self, stage, pairs):
-        """The scenario of a stage, and those of its runs with these budgets and modes, by their names."""
+    def runs(self, stage, seeds):
+        """The scenario of a stage, and those of its runs with these budgets and modes, each under its seeds, by their
+        names."""
         text, runs = self.study.scene(stage), {}
-        for choices in self.study.choices(stage, pairs):
+        for choices in self.study.choices(stage, seeds):
             runs |= sweep.spread(text, choices)
         return text, runs
 
-    def expect(self, mode, budget, *stages):
-        """Reckons with what is still to be run in these stages where this mode takes this budget, for the time left."""
-        it, heals = self.study, {(budget, mode), (self.study.most(mode), mode)}
-        many = it.wanted(mode) | it.next_smaller(budget, mode) | it.for_floor()
-        pairs = {"few": it.wanted(mode), **dict.fromkeys(("many", "longer", "longest"), many),
-                 **dict.fromkeys(it.healing_stages(), heals)}
-        self.progress.plan({f"{stage}/{name}": it.work(stage, *pair) for stage in stages for pair in pairs[stage]
-                            for name in self.runs(stage, {pair})[1]})
+    def works(self, stage, pairs):
+        """The work of each run of a stage with these budgets and modes, by its name."""
+        it = self.study
+        return {f"{stage}/{name}": it.work(stage, *pair) for pair in pairs
+                for name in self.runs(stage, {pair: it.seeds(stage)})[1]}
+
+    def expect(self, decision, *stages):
+        """Reckons with what is still to be run in these stages where this is decided, for the time left."""
+        it, pair = self.study, (decision.budget, decision.mode)
+        most, work = (it.most(decision.mode), decision.mode), {}
+        for stage in stages:
+            pairs = {pair, most} if stage in it.healing_stages() else {pair} if stage in study.BOUNDS else (
+                it.wanted(decision.mode) | it.next_smaller(*pair))
+            work |= self.works(stage, pairs)
+        self.progress.plan(work)
 
     def plan(self, stage, pairs, times):
         """Reckons with these budgets and modes, for the time left, and with as many again so many times."""
-        work = {f"{stage}/{name}": self.study.work(stage, *pair) for pair in pairs
-                for name in self.runs(stage, {pair})[1]}
+        work = self.works(stage, pairs)
         again = {f"{name} {at}": it for at in range(times) for name, it in work.items()}
         self.progress.plan(work | again)
 
-    def carry_out(self, stage, pairs):
-        text, runs = self.runs(stage, pairs)
+    def carry_out(self, stage, pairs, seeds=None):
+        """Makes the runs of a stage with these budgets and modes, under its seeds if no others are told, and reads
+        them."""
+        made = self.made.setdefault(stage, {})
+        for pair in pairs:
+            made[pair] = max(made.get(pair, ()), seeds or self.study.seeds(stage), key=len)
+        text, runs = self.runs(stage, {pair: made[pair] for pair in pairs})
         if to_do := [name for name in runs if not self.progress.is_over(f"{stage}/{name}")]:
             left = f", {in_words(self.progress.left())} in all" if self.progress.left() else ""
             print(f"{stage}: {len(to_do)} runs of {self.study.rounds(stage)} rounds{self.shorter(stage)}{left}",
                   file=sys.stderr, flush=True)
         sweep.carry_out(self.folder / stage, text, runs, self.program, self.progress, os.environ.get("HOSTS"),
                         "gossip_advise")
-        self.made[stage] = self.made.get(stage, set()) | pairs
-        return study.Found(self.study, stage, self.folder / stage, pairs)
+        return study.Found(self.study, stage, self.folder / stage, {pair: made[pair] for pair in pairs})
 
     def shorter(self, stage):
         """Why a stage has fewer rounds than were asked for, in words."""
@@ -159,57 +173,81 @@ class Stages:
             return ""
         return f" (a split of {it.split} stands for {it.told['split']}, as each key is written anew in it)"
 
+    def choose(self, stage, pairs, dropped):
+        """What follows from these runs of a stage. What can't be chosen any more after the first seeds isn't run under
+        the others."""
+        decision = answer.Decision(self.study, self.carry_out(stage, pairs, rules.FIRST), stage, dropped)
+        self.carry_out(stage, decision.may_be_chosen())
+        return answer.Decision(self.study, self.carry_out(stage, pairs, rules.FIRST), stage, dropped)
+
     def decide(self, stage, pairs, dropped=()):
-        """What follows from these runs of a stage, once the mode that is chosen was run with nodes * writes too."""
-        decision = answer.Decision(self.study, self.carry_out(stage, pairs), stage, dropped)
+        """What follows from these runs of a stage, once the mode that is chosen was run with nodes * writes too, and,
+        where that is worse than the largest budget, with those between."""
+        decision = self.choose(stage, pairs, dropped)
         if more := {(self.study.knee, decision.mode)} - pairs:
-            return answer.Decision(self.study, self.carry_out(stage, pairs | more), stage, dropped)
+            pairs = pairs | more
+            decision = self.choose(stage, pairs, dropped)
+        if decision.suffices and decision.budget > self.study.knee:
+            decision = self.choose(stage, pairs | self.study.between(decision.mode), dropped)
         return decision
 
-    def decide_in_time(self, stages, pairs):
+    def decide_in_time(self, stages, pairs, decision=None):
         """What follows from the first of these stages in which a budget is enough, or from the last. From one to the
         next those modes are left out than which another is better."""
-        first, *longer = stages
-        decision = self.decide(first, pairs)
-        for stage in longer:
+        dropped = ()
+        for stage in stages:
+            if decision:
+                self.expect(decision, stage)
+            decision = self.decide(stage, pairs, dropped)
             if decision.suffices:
                 break
-            dropped, kept = decision.why_dropped(), decision.contenders()
-            pairs = {(self.study.most(mode), mode) for mode in kept}
-            self.expect(decision.mode, decision.budget, stage)
-            decision = self.decide(stage, pairs, dropped)
+            dropped = decision.why_dropped()
+            pairs = {(self.study.most(mode), mode) for mode in decision.contenders()}
         return decision
 
-    def look_closer(self, few):
-        """What follows from many intervals, where few can't choose between budgets."""
-        if not (pairs := few.to_look_closer()):
-            return few
-        closer = answer.Decision(self.study, self.carry_out("many", pairs), "many")
-        return closer if closer.suffices else few
+    def bound_of(self, decision, budget):
+        """What bounds a budget in the mode of a decision: longer runs under other seeds."""
+        stage, pair = f"{decision.stage}-bound", (budget, decision.mode)
+        self.plan(stage, {pair}, 0)
+        return answer.Bound(self.study, stage, self.carry_out(stage, {pair}), pair)
+
+    def is_level(self, decision):
+        """Has a decision bounded. Whether `greatest` is level in those runs too."""
+        if not decision.bound:
+            decision.bound = self.bound_of(decision, decision.budget)
+        return decision.bound.is_level()
+
+    def bound_most(self, decision):
+        """Has all that fits bounded too."""
+        decision.bound_of_most = self.bound_of(decision, decision.most)
 
     def look_below(self, decision):
-        """The same decision with smaller budgets beside it, of which the last is worse."""
+        """The same decision with smaller budgets beside it, of which the last is worse under the first seeds."""
         while pairs := self.study.next_smaller(decision.smaller() or decision.budget, decision.mode):
             if pairs <= decision.found.rows.keys():
                 break
             pairs |= decision.found.rows.keys()
-            found = self.carry_out(decision.stage, pairs)
-            decision = answer.Decision(self.study, found, decision.stage, decision.dropped)
+            decision = decision.with_more(self.carry_out(decision.stage, pairs, rules.FIRST))
         return decision
 
     def look_at_floor(self, decision):
-        """Has it what no mode and no budget goes below, from runs that cut nothing: some of its own, else others."""
-        it = self.study
-        decision.floor = decision.found.floor(decision.window)
+        """Has it what no mode and no budget goes below, from runs that cut nothing: its own, or others under the first
+        of these seeds."""
+        it, bound = self.study, decision.bound
+        decision.floor = bound.found.uncut(bound.window)
         if not decision.floor:
-            self.plan(decision.stage, it.for_floor(), 0)
-            decision.floor = self.carry_out(decision.stage, it.for_floor()).floor(decision.window)
+            self.plan(bound.stage, it.for_floor(), 0)
+            found = self.carry_out(bound.stage, it.for_floor(), rules.BOUNDING_FIRST)
+            decision.floor = found.uncut(bound.window)
 
     def heal(self, decision):
-        """What heals, with the budget that is taken and with all that fits."""
-        pairs = {(budget, decision.mode) for budget in (decision.budget, decision.most)}
-        return answer.Healing(self.study, decision.mode, {stage: self.carry_out(stage, pairs)
-                                                          for stage in self.study.healing_stages()})
+        """What heals, with the budget that is taken and, under the first of these seeds, with all that fits."""
+        taken, most = ((budget, decision.mode) for budget in (decision.budget, decision.most))
+        found = {}
+        for stage in self.study.healing_stages():
+            self.carry_out(stage, {taken})
+            found[stage] = self.carry_out(stage, {taken, most}, rules.BOUNDING_FIRST)
+        return answer.Healing(self.study, decision.mode, found)
 
 
 def look(folder):
@@ -255,39 +293,51 @@ class Told:
 
 
 def first_answer(it, stages, told, check_sum):
-    """The first answer, from few intervals, and what heals with its budget. The folder has it until the last answer
-    comes."""
-    stages.expect(it.usual, min(it.knee, it.most(it.usual)), "few", "many", *it.healing_stages())
-    few = stages.look_closer(stages.decide("few", it.wanted(it.usual)))
-    about_target = [f"The target is {target.judged(few)[1]}."] if it.target else []
-    told.tell(answer.first_words(few, call_with_enough(few, stages.folder), about_target))
-    if not few.suffices:
+    """The first answer, from the fewest intervals, with what bounds it and what heals. The folder has it until the last
+    answer comes."""
+    first = stages.decide(it.steady_stages()[0], it.wanted(it.usual))
+    told.tell(answer.first_words(first, call_with_enough(first, stages.folder)))
+    if not first.suffices:
         print(flush=True)
-        return few
-    stages.expect(few.mode, few.budget, "many", *it.healing_stages())
+        return first
+    is_level = stages.is_level(first)
+    about_target = [f"The target is {target.judged(first)[1]}."] if it.target else []
+    told.tell(first.bound.lines() + (about_target if is_level else []))
+    if not is_level:
+        print(flush=True)
+        return first
+    stages.expect(first, first.stage, *it.healing_stages())
     healed = {}
-    for stage in it.healing_stages():
-        healed[stage] = stages.carry_out(stage, {(few.budget, few.mode)})
-        told.tell(answer.Healing(it, few.mode, healed).lines_now(stage, few.budget))
-    healing = answer.Healing(it, few.mode, healed) if healed else None
-    page.make(stages.folder, few, healing, stages.made, check_sum, head="First answer. ")
-    told.tell(answer.last_of_first_words(few, stages.folder))
+    for tells, of_these in it.healing_groups():
+        for stage in of_these:
+            healed[stage] = stages.carry_out(stage, {(first.budget, first.mode)})
+        told.tell(answer.Healing(it, first.mode, healed).lines_now(tells, first.budget))
+    healing = answer.Healing(it, first.mode, healed) if healed else None
+    page.make(stages.folder, first, healing, stages.made, check_sum, head="First answer. ")
+    told.tell(answer.last_of_first_words(first, stages.folder))
     print(flush=True)
-    return few
+    return first
 
 
-def last_answer(it, stages, few):
-    """The last answer, from many intervals, more where they show no level, and what heals with its budget, where one
-    that fits is enough. Where a sum says that few show nothing, there is no first one."""
-    first, *longer = [stage for stage in it.steady_stages() if stage != "few"]
-    pairs = it.wanted(few.mode if few else it.usual)
-    if few:
-        stages.expect(few.mode, few.budget, first, *(it.healing_stages() if few.suffices else ()))
-        pairs |= it.next_smaller(few.budget, few.mode) if few.suffices else set()
-    decision = stages.decide_in_time((first, *longer), pairs)
+def bounded_decision(it, stages, decision):
+    """What is decided and bounded by runs in which `greatest` is level: the first answer, or what follows from more
+    intervals, up to the most."""
+    while not (decision.suffices and stages.is_level(decision)):
+        later = it.steady_stages()[it.steady_stages().index(decision.stage) + 1:]
+        if not later:
+            decision.give_up()
+            break
+        decision = stages.decide_in_time(later, it.wanted(decision.mode), decision)
+    return decision
+
+
+def last_answer(it, stages, first):
+    """The last answer: what is decided, with smaller budgets beside it, and what heals with it, where a budget that
+    fits is enough."""
+    decision = bounded_decision(it, stages, first)
     if not decision.suffices:
         return decision, None
-    stages.expect(decision.mode, decision.budget, decision.stage, *it.healing_stages())
+    stages.expect(decision, decision.stage, *it.healing_stages())
     decision = stages.look_below(decision)
     healing = stages.heal(decision) if it.heals() else None
     stages.look_at_floor(decision)
@@ -298,7 +348,7 @@ def smallest_packet(it, stages, check_sum):
     """The smallest packet that keeps to the target: its search, and its answer and page."""
     search = target.Search(it, stages)
     is_met = search.carry_out()
-    pairs = {search.run_of(mode) for mode in search.modes or [it.usual]}
+    pairs = {search.run_of(mode) for mode in search.modes} | {(search.budget, search.chosen)}
     stages.plan(f"{search.stage}-stop", pairs, 0)
     met = target.Met(search, is_met, target.aged(stages, search.stage, search.found, pairs))
     stages.look_at_floor(met)
@@ -313,6 +363,8 @@ def beside(it, stages, decision):
         return []
     if not decision.suffices:
         return [target.judged(decision)]
+    if decision.budget < decision.most and not it.keeps_to_target(decision.bounded()):
+        stages.bound_most(decision)
     pairs = {(decision.budget, decision.mode)}
     stages.plan(f"{decision.stage}-stop", pairs, 0)
     ages = target.aged(stages, decision.stage, decision.found, pairs)
@@ -326,15 +378,12 @@ def study_of(it, folder, program, check_sum):
         return smallest_packet(it, stages, check_sum)
     if sum_says := answer.at_least(it):
         told.tell(sum_says)
-    few = None
-    if "few" in it.steady_stages():
-        few = first_answer(it, stages, told, check_sum)
-    else:
-        print(flush=True)
-    decision, healing = last_answer(it, stages, few)
-    missing = answer.not_run(decision, call_with_enough(decision, folder), few is not None and few.suffices)
+    first = first_answer(it, stages, told, check_sum)
+    was_enough = bool(first.bound and first.bound.is_level())
+    decision, healing = last_answer(it, stages, first)
+    missing = answer.not_run(decision, call_with_enough(decision, folder), was_enough)
     more = beside(it, stages, decision)
-    before = healing.counted_lines() if healing and few and few.suffices else ()
+    before = healing.counted_lines() if healing and was_enough else ()
     Told(folder).tell(answer.in_words(decision, healing, missing, more), before)
     print("", page.make(folder, decision, healing, stages.made, check_sum, missing, more), sep="\n")
 

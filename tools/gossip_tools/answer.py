@@ -2,6 +2,7 @@
 import textwrap
 
 from gossip_tools import cluster, rules, scenario
+from gossip_tools.study import ONE
 
 
 def span(figure, places=0):
@@ -24,8 +25,11 @@ def listed(names):
 
 
 def in_time(rounds, seconds):
-    """Rounds of so many seconds as time: in seconds, or in minutes where they are many."""
+    """Rounds of so many seconds as time: in seconds, or in minutes or hours where they are many."""
     seconds = [float(it * seconds) for it in rules.band(rounds)]
+    if max(seconds) >= 3600:
+        hours = [it / 3600 for it in seconds]
+        return span(hours, 0 if all(it == int(it) for it in hours) else 1) + " h"
     if max(seconds) >= 600:
         return span([it / 60 for it in seconds], 0) + " min"
     return span(seconds, 0 if all(it == int(it) for it in seconds) else 1) + " s"
@@ -33,8 +37,9 @@ def in_time(rounds, seconds):
 
 def lasting(study, rounds):
     """Rounds as rounds, as intervals where those are others, and as time."""
-    intervals = [it / study.fanout for it in rounds]
-    as_intervals = [f"{span(intervals, 1)} intervals"] if study.fanout > 1 else []
+    places = 1 if any(it % study.fanout for it in rounds) else 0
+    intervals = span([it / study.fanout for it in rounds], places)
+    as_intervals = [f"{intervals} intervals"] if study.fanout > 1 else []
     return ", ".join([in_rounds(rounds), *as_intervals, in_time(rounds, study.seconds)])
 
 
@@ -48,8 +53,52 @@ def unit(study):
     return "rounds" if study.fanout == 1 else "intervals"
 
 
-TOUCH = "as the bands of the seeds touch"
-APART = "as the bands of the seeds don't touch"
+def run_of(study):
+    """How many nodes were run, where that is a tenth, in words."""
+    return f" ({study.nodes} nodes run)" if study.parts > 1 else ""
+
+
+def by_seeds(one, other):
+    """Under how many seeds the one has less than the other, and more, in words."""
+    less, more, seeds = rules.seed_by_seed(one, other)
+    return f"less under {less} of {seeds} seeds, more under {more}"
+
+
+class Bound:
+    """How old a copy gets in most runs, with a budget and a mode that others have chosen: the greatest of all seeds."""
+
+    def __init__(self, study, stage, found, pair):
+        self.study, self.stage, self.found, self.pair = study, stage, found, pair
+        self.window = study.window(stage)
+        self.worst = found.worst(*pair, self.window)
+
+    def is_level(self):
+        """Whether `greatest` is level in these runs too."""
+        return self.found.suffices(*self.pair, self.window)
+
+    def runs(self):
+        """How long the runs are, in words."""
+        first, last = self.window
+        rounds, _, time = lasting(self.study, [last - first + 1]).partition(", ")
+        return f"runs of {rounds} ({time})"
+
+    def holds_in(self):
+        """In which part of how long runs it holds, in words."""
+        return f"{rules.IN_MOST} {self.runs()}"
+
+    def rests_on(self):
+        """What it was read from, in words."""
+        first, last = self.window
+        return (f"the most of `greatest` in rounds {first} to {last} under {len(self.worst)} seeds, others than those "
+                f"that chose, which had {span(self.worst)}")
+
+    def lines(self):
+        """What it adds to a first answer, line by line."""
+        it = self.study
+        if not self.is_level():
+            return [f"In {self.runs()} `greatest` isn't level with that, so runs of more rounds choose."]
+        said = f"{self.holds_in()} no copy is older than {lasting(it, [max(self.worst)])}"
+        return [f"{said[0].upper()}{said[1:]}{run_of(it)}."]
 
 
 class Decision:
@@ -59,6 +108,8 @@ class Decision:
         self.study, self.found, self.stage, self.window = study, found, stage, study.window(stage)
         # (why a mode is no longer run, in words)
         self.dropped = list(dropped)
+        # (what bounds it, once that was run, and all that fits, where a target asks for that)
+        self.bound = self.bound_of_most = None
         # (what no mode and no budget goes below, for each seed: empty where no run shows it, None where none was made)
         self.floor = None
         self.figures = {mode: self.worst_with(study.most(mode), mode) for mode in study.fits
@@ -81,6 +132,26 @@ class Decision:
         self.cut = found.cut(self.budget, self.mode, self.window)
         self.close = [it for it in self.figures if it != self.mode and rules.are_close(self.figures[it], self.worst)]
 
+    def may_be_chosen(self):
+        """The budgets and modes that further seeds may choose: the usual mode and those that may still be better; where
+        it isn't level, those that are, and those that may be the best."""
+        usual, enough = self.usual(), [it for it in self.figures if self.is_enough(self.study.most(it), it)]
+        modes = [*enough, *self.contenders()]
+        if usual in enough:
+            modes = [mode for mode, figure in self.figures.items()
+                     if mode == usual or rules.may_get_better(figure, self.figures[usual])]
+        return {pair for pair in self.found.rows if pair[1] in modes}
+
+    def with_more(self, found):
+        """The same decision with more budgets beside it."""
+        decision = Decision(self.study, found, self.stage, self.dropped)
+        decision.bound = self.bound
+        return decision
+
+    def give_up(self):
+        """No budget is enough, as longer runs show no level, and no more are made."""
+        self.suffices, self.budget = False, self.most
+
     def is_taken(self):
         """Whether its budget is one to take."""
         return self.suffices
@@ -96,8 +167,11 @@ class Decision:
     def meets_target(self):
         """Whether a target was told that is kept to, with the budget that is taken or with all that fits."""
         it = self.study
-        return it.target is not None and self.suffices and any(
-            it.keeps_to_target(figure) for figure in (self.worst, self.figures[self.mode]))
+        return it.target is not None and self.suffices and it.keeps_to_target(self.bounded())
+
+    def bounded(self):
+        """The figure that bounds the worst staleness, or that of the runs that chose where none does yet."""
+        return self.bound.worst if self.bound else self.worst
 
     def usual(self):
         """The mode to begin with, of those that were run."""
@@ -115,7 +189,7 @@ class Decision:
         if not lost:
             return self.dropped
         return [*self.dropped, f"Up to round {self.window[1]} these modes were behind {best} with "
-                f"{in_rounds(self.figures[best])}, and weren't run on, {APART}: {', '.join(lost)}."]
+                f"{in_rounds(self.figures[best])}, under nearly all seeds, and weren't run on: {', '.join(lost)}."]
 
     def worst_with(self, budget, mode):
         return self.found.worst(budget, mode, self.window)
@@ -154,7 +228,7 @@ class Decision:
 
     def most_rounds(self):
         """The most rounds to reckon with, for the whole cluster."""
-        return rules.reckoned(self.worst) if self.study.parts > 1 else max(self.worst)
+        return rules.reckoned(self.bounded()) if self.study.parts > 1 else max(self.bounded())
 
     def at_most(self):
         """The worst staleness to reckon with for the whole cluster, of which a tenth was run."""
@@ -167,12 +241,24 @@ class Decision:
         return f"{it.nodes} nodes run; reckon with {self.at_most()}" if it.parts > 1 else ""
 
     def staleness(self):
-        """The worst staleness, in words."""
-        if not self.suffices:
-            return f"not known: not level within {self.window[1]} rounds{self.at_least()}"
+        """The worst staleness, in words: what bounds it, or what the runs that chose had."""
         it = self.study
-        run = lasting(it, self.worst)
-        return f"{self.at_most()}: the {it.nodes} that were run had {run}" if it.parts > 1 else run
+        if not self.suffices:
+            return f"not known: {self.no_level()}{self.at_least()}"
+        if self.bound is None:
+            return f"{lasting(it, self.worst)} so far{run_of(it)}"
+        if it.parts > 1:
+            return (f"{self.at_most()}: {self.bound.holds_in()} of {it.nodes} nodes no copy is older than "
+                    f"{in_rounds([max(self.bound.worst)])}")
+        return f"{self.bound.holds_in()} no copy is older than {lasting(it, [self.most_rounds()])}"
+
+    def no_level(self):
+        """That no budget that fits has a level that the longest runs show, be it those that choose or those that bound,
+        in words."""
+        if self.bound:
+            level = rules.highest_level(self.bound.window)
+            return f"none keeps a level of at most {level} rounds in {self.bound.runs()}"
+        return f"none has a level of at most {rules.highest_level(self.window)} rounds within {self.window[1]}"
 
     def at_least(self):
         """What a sum says of a worst staleness that isn't known, in words."""
@@ -191,7 +277,7 @@ class Decision:
             return said
         if not self.knee_suffices():
             return f"{said}, where `greatest` isn't level either"
-        return f"{said}, worst staleness {briefly(it, self.worst_with(at_knee, self.mode))} with that"
+        return f"{said}, and {briefly(it, self.worst_with(at_knee, self.mode))} in the runs that chose"
 
     def knee_suffices(self):
         """Whether nodes * writes entries, where they were run, are enough."""
@@ -223,7 +309,7 @@ class Decision:
     def headline(self):
         """The decision, in a few words."""
         if not self.suffices:
-            return f"no budget that fits is enough: none is level within {self.window[1]} rounds"
+            return f"no budget that fits is enough: {self.no_level()}"
         few = ", which are too few" if self.is_too_small() else ""
         return f"{self.mode} with {self.whole_budget()} entries{few}"
 
@@ -238,15 +324,15 @@ class Decision:
             return ""
         if not self.floor:
             return f"none to tell: the largest budget that a scenario takes, {it.ample()} entries, still cuts some"
-        own = "that" if self.floor == self.worst else span(self.worst)
-        chosen = f"; the chosen one has {own}" if self.suffices else ""
-        run = f" ({it.nodes} nodes run)" if it.parts > 1 else ""
-        return f"{rules.FLOOR.format(lasting(it, self.floor))}{chosen}{run}"
+        own = self.bounded()[:len(self.floor)]
+        had = "that" if self.floor == own else span(own)
+        chosen = f"; the chosen one had {had} under the same {len(own)} seeds" if self.suffices else ""
+        return f"{rules.FLOOR.format(lasting(it, self.floor))}{chosen}{run_of(it)}"
 
     def in_window(self):
-        """What the worst staleness was read from, in words."""
+        """What the runs that chose were read for, in words."""
         first, last = self.window
-        return f": the most of `greatest` in rounds {first} to {last}, least and most of {len(rules.SEEDS)} seeds"
+        return f"the most of `greatest` in rounds {first} to {last}, least and most of the seeds"
 
     def shares(self):
         """Whether the digest takes some of the packet."""
@@ -263,11 +349,10 @@ class Decision:
         if not self.is_too_small():
             with_digest = "with the digest " if self.shares() else ""
             return f"{self.mode} with {self.room()}; {with_digest}packet={self.packet()}"
-        it, at_knee = self.study, self.worst_with(self.study.knee, self.mode)
-        behind = f"{'up to' if it.parts == 1 else 'more than'} {lasting(it, [self.most_rounds()])}"
-        most = max(at_knee) if it.parts == 1 else rules.reckoned(at_knee)
-        return (f"{self.mode}, but packet={self.given()} is too small: with {self.room()}, the worst copy is {behind}, "
-                f"behind. With packet={it.packet(self.mode)} it is up to {briefly(it, [most])}")
+        it = self.study
+        at_knee = briefly(it, self.worst_with(it.knee, self.mode))
+        return (f"{self.mode}, but packet={self.given()} is too small: with {self.room()}, the worst copy was "
+                f"{lasting(it, self.worst)}, behind, and with packet={it.packet(self.mode)} {at_knee}{run_of(it)}")
 
     def tells_all(self):
         """What to reckon with where a node tells all its keys as it starts, in words; empty where no groups forget."""
@@ -296,11 +381,12 @@ class Decision:
         if self.ahead or self.dropped and len(runs_on) == 1:
             figure = briefly(self.study, self.figures[self.mode])
             return (f" Of the modes {self.mode} is ahead with that, though it isn't level yet: its `greatest` was at "
-                    f"most {figure} up to round {last}, and the others' higher, {APART}.")
+                    f"most {figure} up to round {last}, and the others' higher under nearly all seeds.")
         if not any(rules.has_left_the_diagonal(it, last) for it in self.figures.values()):
             return (f" No mode can be preferred with that: in each `greatest` is about the number of the round, which "
                     "it can't exceed.")
-        return f" No mode can be preferred with that: of {listed(list(runs_on))} none is ahead, {TOUCH}."
+        return (f" No mode can be preferred with that: of {listed(list(runs_on))} none is ahead under nearly all "
+                "seeds.")
 
     def forgetful(self):
         """What counts where nodes forget and the budget is short, in words; empty where that isn't so."""
@@ -321,15 +407,22 @@ class Decision:
             why = f"what fits; {why}"
         return f"room for {self.whole_budget()} entries in a delta, {-(-in_bytes // 1)} bytes ({why})"
 
+    def more_is_worse(self):
+        """Whether the budget is better than all that fits, which then is no reserve."""
+        return rules.is_better(self.worst, self.figures[self.mode])
+
     def reserve(self):
         """What more than the budget brings, in words; empty where no more fits."""
         if not self.suffices or self.budget == self.most:
             return ""
-        figure = self.figures[self.mode]
-        less = f", though its worst is {max(figure)} in place of {max(self.worst)}"
-        said = TOUCH + (less if max(figure) < max(self.worst) else "")
-        return (f"With {self.all_that_fits()} it is {briefly(self.study, figure)}: no better, {said}. So "
-                f"packet={self.packet()} is enough, and what is above that is a reserve")
+        it, figure = self.study, self.figures[self.mode]
+        said = (f"With {self.all_that_fits()} it is {briefly(it, figure)} in the runs that chose, where the budget has "
+                f"{span(self.worst)}")
+        if self.more_is_worse():
+            return (f"{said}: worse ({by_seeds(figure, self.worst)}). More is worse here, so let a delta carry no more "
+                    "than the budget")
+        return (f"{said}: no better ({by_seeds(figure, self.worst)}). So packet={self.packet()} is enough, and what is "
+                "above that is a reserve")
 
     def why_not_knee(self):
         """Why more than nodes * writes is taken, in words; empty where it isn't."""
@@ -340,23 +433,13 @@ class Decision:
         if not self.knee_suffices():
             return f"{at_knee} `greatest` isn't level"
         worst = self.worst_with(it.knee, self.mode)
-        why = ", and another mode with what fits is better than that"
+        said = f"{at_knee} it is {briefly(it, worst)} in the runs that chose, "
         if self.is_worse(it.knee):
-            why = f": worse, {APART}"
-        elif rules.is_better(self.figures[self.mode], worst):
-            why = f": worse than {self.all_that_fits()}, {APART}"
-        return f"{at_knee} it is {briefly(it, worst)}{why}"
-
-    def to_look_closer(self):
-        """The budgets from nodes * writes on, with the mode, between which few rounds can't choose; none where they
-        can."""
-        it = self.study
-        if not self.suffices or it.knee >= self.most:
-            return set()
-        if not rules.may_turn_over(self.worst_with(it.knee, self.mode), self.figures[self.mode]):
-            return set()
-        between = {pair for pair in it.next_smaller(self.most, self.mode) if pair[0] > it.knee}
-        return between | {(it.knee, self.mode), (self.most, self.mode)}
+            return f"{said}where the budget has {span(self.worst)}: worse ({by_seeds(worst, self.worst)})"
+        figure = self.figures[self.mode]
+        if rules.is_better(figure, worst):
+            return f"{said}worse than {self.all_that_fits()} ({by_seeds(worst, figure)})"
+        return f"{said}and something else that was run is better than that"
 
     def too_close(self):
         """Which figures are too close to call. Those that aren't level say nothing."""
@@ -364,17 +447,17 @@ class Decision:
             return []
         it, whole = self.study, self.study.whole
         said = [f"{mode} with {whole(it.most(mode))} entries, {briefly(it, self.figures[mode])} against "
-                f"{span(self.worst)}" for mode in self.close]
+                f"{span(self.worst)}: {by_seeds(self.figures[mode], self.worst)}" for mode in self.close]
         if smaller := self.smaller():
-            worst = briefly(it, self.worst_with(smaller, self.mode))
-            said.append(f"{self.mode} with as few as {whole(smaller)} entries: {worst}, which touches "
-                        f"{span(self.worst)}")
+            worst = self.worst_with(smaller, self.mode)
+            said.append(f"{self.mode} with as few as {whole(smaller)} entries, {briefly(it, worst)} against "
+                        f"{span(self.worst)}: {by_seeds(worst, self.worst)}")
             if self.budget >= it.knee:
                 said[-1] += f"; still not taken, as staleness rises steeply below {it.knee_name}"
         others = "other mode and smaller budget" if len(self.figures) > 1 else "smaller budget"
         smaller = [budget for budget in self.of_mode() if budget < self.budget]
-        than = "" if all(map(self.is_worse, smaller)) else " than this one or a larger one"
-        return said or [f"none: each {others} that was run is worse{than}, {APART}"]
+        than = "" if all(map(self.is_worse, smaller)) else " than this one or another one"
+        return said or [f"none: each {others} that was run is worse{than}"]
 
     def all_that_fits(self):
         """The largest budget that was looked at, in words."""
@@ -385,29 +468,39 @@ class Decision:
 
 
 class Healing:
-    """How long a split, a restart and a forgotten state take to heal, in the chosen mode."""
+    """How long a split, a restart and a forgotten state take to heal, in the chosen mode. Of a restart the longer time
+    counts, of several groups or of one alone."""
 
     def __init__(self, study, mode, stages):
         self.study, self.mode = study, mode
-        # (by what heals, its runs)
-        tells = study.healing_stages()
-        self.stages = {it: found for stage, found in stages.items() for it in tells.get(stage, (stage,))}
+        # (by what heals, its runs, and those of one group alone)
+        self.stages, self.alone = {}, {}
+        for stage, found in stages.items():
+            heals = self.alone if stage in ONE else self.stages
+            heals |= dict.fromkeys(study.healing_stages().get(stage, (stage,)), found)
         # (at the end of a line, where a tenth was run)
-        self.run = f" ({study.nodes} nodes run)" if study.parts > 1 else ""
+        self.run = run_of(study)
 
     def taken(self, stage, budget):
-        found, ends = self.stages[stage], self.study.ends(stage)
+        """The rounds that it took under each seed; None where it wasn't over in the rounds that were run."""
+        times = [self.taken_in(self.stages[stage], stage, budget, stage)]
+        if stage in self.alone:
+            times.append(self.taken_in(self.alone[stage], stage, budget, f"{stage}-one"))
+        return [None if None in it else max(it) for it in zip(*times)]
+
+    def taken_in(self, found, stage, budget, runs):
         after = {"split": found.split_healed_after, "restart": found.healed_after, "forgotten": found.forgotten_after}
-        return after[stage](budget, self.mode, ends)
+        return after[stage](budget, self.mode, self.study.ends(runs))
 
     def in_words(self, stage, budget):
-        """How long it takes, in words: the rounds, or that they weren't enough, and the time."""
+        """How long it takes at most in most cases, in words: the rounds, or that they weren't enough, and the time with
+        what the seeds had."""
         taken = self.taken(stage, budget)
         if None in taken:
             rounds = self.study.rounds(stage) - self.study.ends(stage)
             return f"not within {rounds} rounds under {taken.count(None)} of {len(taken)} seeds", ""
-        rounds, _, time = lasting(self.study, taken).partition(", ")
-        return rounds, time
+        rounds, _, time = lasting(self.study, [max(taken)]).partition(", ")
+        return f"at most {rounds}", f"{time}, {rules.IN_MOST} cases ({span(taken)} under {len(taken)} seeds)"
 
     def lines(self, stage, budget):
         """What is healed and how long it takes; below the first of them what is counted."""
@@ -426,15 +519,15 @@ class Healing:
                 for_all = f", which stand for {it.told['split']}, as each key is written anew in them"
             return f"of half of the nodes for {it.split} {unit(it)}{for_all}"
         each, groups = it.restarting()
-        harder = ", a harder test than one group" if groups > 1 else ""
+        alone = ", and of such a group alone" if groups > 1 else ""
         if not it.restarts:
             return f"of one node, down for one {unit(it)[:-1]}{forgets(it)}"
-        who = f"of {in_nodes(each)} in each of {groups} {unit(it)}{fewer(it, it.restarts)}"
-        return f"{who}, each down for one{forgets(it)}{harder}"
+        in_each = f" in each of {groups} {unit(it)}" if groups > 1 else ""
+        down = f"each down for one {unit(it)[:-1]}" if each > 1 or groups > 1 else f"down for one {unit(it)[:-1]}"
+        return f"of {in_nodes(each)}{in_each}{fewer(it, it.restarts)}, {down}{forgets(it)}{alone}"
 
-    def lines_now(self, stage, budget):
-        """The lines of a stage as soon as it is run."""
-        tells = self.study.healing_stages()[stage]
+    def lines_now(self, tells, budget):
+        """The lines of what some stages tell, as soon as these are run."""
         lines = [line for it in tells for line in self.lines(it, budget)]
         return lines + ([self.rolling(budget)] if tells == self.study.leaves() else [])
 
@@ -460,37 +553,35 @@ class Healing:
 
     def waited(self, budget):
         """The rounds to wait between the groups of a rolling restart: until what a restart leaves is over under each
-        seed, and some more. None where some of it isn't over in the rounds that were run."""
+        seed. None where some of it isn't over in the rounds that were run."""
         taken = [it for stage in self.study.leaves() for it in self.taken(stage, budget)]
-        return None if None in taken else max(taken) + rules.WAIT_MORE
+        return None if None in taken else max(taken)
 
     def wait(self, budget):
         """How long to wait between the groups of a rolling restart, in words."""
         restarts, rounds = self.study.told["restarts"], self.waited(budget)
-        gone = ", and a forgotten state gone" if len(self.study.leaves()) > 1 else ""
+        gone = " and its forgotten state was gone" if len(self.study.leaves()) > 1 else ""
         if rounds is None:
             return "no wait is known, as not all of this is over in the rounds that were run: take a larger budget"
         group = self.study.group()
         who = f"a group of {group} nodes" if restarts and group > 1 else "a node"
-        return (f"wait {lasting(self.study, [rounds])}, after {who} is up again: {rules.MORE_IN_WORDS} more than "
-                f"it took at most until a restart was healed{gone}, as a later group may take longer; "
-                f"{rules.NO_GUARANTEE}")
+        return (f"wait {lasting(self.study, [rounds])}, after {who} is up again: {rules.IN_MOST} cases a restart was "
+                f"healed{gone} by then")
 
     def has_reserve(self, decision):
         """Whether what heals was run with a reserve."""
-        return decision.budget < decision.most and all((decision.most, self.mode) in it.rows
-                                                       for it in self.stages.values())
+        return decision.budget < decision.most and all(
+            (decision.most, self.mode) in it.rows for it in (*self.stages.values(), *self.alone.values()))
 
     def with_reserve(self, decision):
         """How soon all that fits would heal, in words."""
-        said = []
+        said, seeds = [], 0
         for stage in self.study.heals():
             taken = self.taken(stage, decision.most)
-            healed = f"{ENDS[stage]} after {briefly(self.study, taken)}" if None not in taken else "not over in time"
-            said.append(f"{HEALED[stage]} is {healed}")
-        rounds = self.waited(decision.most) if self.study.leaves() else None
-        said += [f"wait {briefly(self.study, [rounds])} between groups"] if rounds else []
-        return f"if your program fills the packet anyway, {'; '.join(said)}{self.run}"
+            after = "not over in time" if None in taken else f"{ENDS[stage]} after {briefly(self.study, taken)}"
+            said.append(f"{HEALED[stage]} is {after}")
+            seeds = len(taken)
+        return f"if your program fills the packet anyway, {'; '.join(said)}, under {seeds} of the seeds{self.run}"
 
 
 def forgets(study):
@@ -519,46 +610,39 @@ def row(name, said):
     return f"  {name:<19} {said}"
 
 
-def first_words(decision, call="", about_target=()):
-    """The first answer, from few intervals."""
-    it, few, to_knee = decision.study, decision.study.rounds("few"), decision.to_knee()
-    since = f"{few} rounds" if it.fanout == 1 else f"{few // it.fanout} intervals of {it.fanout} rounds"
-    if decision.stage != "few":
-        since += f"; {it.intervals(decision.stage)} for budgets that {it.intervals('few')} can't tell apart"
+def first_words(decision, call=""):
+    """The first answer, from few intervals: what is chosen, and what it can't say yet."""
+    it, to_knee = decision.study, decision.to_knee()
+    since = f"{it.intervals(decision.stage)} {unit(it)}{f' of {it.fanout} rounds' if it.fanout > 1 else ''}"
     if decision.suffices:
         more = (decision.reserve(), decision.why_not_knee())
         said = [f"First answer, from {since}: {decision.takes()}.",
                 f"{decision.tells_all()}." if decision.tells_all() else "",
-                f"Worst staleness {decision.staleness()}.", *about_target, *(f"{it}." for it in more if it),
+                f"Worst staleness {decision.staleness()}, which bounds nothing: runs of other seeds come next.",
+                *(f"{it}." for it in more if it),
                 f"That is below {it.knee_name}. {to_knee}. {else_helps(decision)}" if to_knee else "",
                 decision.forgetful(), *limits(decision),
                 *(of_calls(it) if it.fanout > 1 else [])]
     else:
-        said = [f"First answer, from {since}: no budget that fits is seen to be enough, as none is level within {few} "
-                "rounds.",
+        said = [f"First answer, from {since}: no budget that fits is seen to be enough, as {decision.no_level()}.",
                 decision.most_that_fits(), decision.forgetful(),
-                f"{to_knee}. {else_helps(decision)}" if to_knee else "", *limits(decision), levels_off_later(it)]
+                f"{to_knee}. {else_helps(decision)}" if to_knee else "", *limits(decision), levels_off_later(decision)]
         if call and it.asks_for_healing():
             said += [f"{WHAT_HEALS} are run only if it does. To see them with a budget that is enough:", f"  {call}"]
     return [it for it in said if it]
 
 
-def levels_off_later(study):
+def levels_off_later(decision):
     """How far is looked for a level, in words."""
-    first, *longer = [study.rounds(it) for it in study.steady_stages() if it != "few"]
-    then = f", and where it doesn't, from {' and '.join(map(str, longer))}, and no more" if longer else ""
-    return f"Whether it levels off later is seen from {first} rounds now{then}."
+    it = decision.study
+    stages = it.steady_stages()
+    longer = [str(it.rounds(stage)) for stage in stages[stages.index(decision.stage) + 1:]]
+    return f"Whether it levels off later is seen from {' and then '.join(longer)} rounds, and no more." if longer else ""
 
 
 def at_least(study):
     """What a sum says of the worst staleness before anything is run, in words; empty where it says nothing."""
-    if not study.least_rounds():
-        return []
-    said = [f"By a sum, of the worst staleness: {study.why_at_least()}."]
-    if "few" not in study.steady_stages():
-        said.append(f"So {study.rounds('few')} rounds can't show a level, and there is no first answer. "
-                    f"{levels_off_later(study)}")
-    return said
+    return [f"By a sum, of the worst staleness: {study.why_at_least()}."] if study.least_rounds() else []
 
 
 def last_of_first_words(decision, folder):
@@ -566,13 +650,10 @@ def last_of_first_words(decision, folder):
     it = decision.study
     said = [rules.DOWN_FOR_LONGER] if it.leaves() else []
     if it.heals() and decision.reserve():
-        said.append(f"All these times are for packet={decision.packet()}. If your program fills a larger one anyway, "
-                    "copies heal sooner: the last answer has that in the line `with the reserve`.")
-    moved = rules.FIRST_MOVED_BELOW if decision.budget < it.knee else rules.FIRST_MOVED
-    calls = f"; {rules.FIRST_MOVED_BY_CALLS}" if it.fanout > 1 else ""
-    return [*said, "Now comes the last answer, from more rounds, which takes longer: wait for it before you set a time "
-            f"limit. {rules.FIRST_HELD}, and {moved}{calls}. Until then {folder / 'answer.txt'} and "
-            f"{folder / 'report.html'} have this first answer."]
+        said.append(f"All these times are for packet={decision.packet()}. The last answer has those of a program that "
+                    "fills a larger one anyway, in the line `with the reserve`.")
+    return [*said, "Now comes the last answer, with smaller budgets and the floor. Until then "
+            f"{folder / 'answer.txt'} and {folder / 'report.html'} have this first answer."]
 
 
 WHAT_HEALS = "A split, a restart and a rolling restart"
@@ -603,15 +684,13 @@ def warnings(decision):
         said.append(f"The budget is below {it.knee_name}, the knee above which a larger one hardly helps, so copies "
                     f"lag more than they have to. {decision.to_knee()}. {else_helps(decision)}")
     said += [decision.forgetful()] if decision.forgetful() else []
-    said += [rules.OTHER_SEEDS] if decision.meets_target() else []
     said += decision.own_warnings() + limits(decision)
     if it.in_bytes:
         said.append("With room for so few entries a large one holds up smaller ones behind it: give the delta room for "
                     "one mean entry more than the sum says.")
     if it.parts > 1:
-        calls = f" {rules.TENTH_OF_CALLS}" if it.fanout > 1 else ""
-        said.append(f"A tenth was run, {it.nodes} nodes with a tenth of the packet, in scuttle-depth alone. "
-                    f"{rules.TENTH}{calls}")
+        said.append(f"A tenth was run, {it.nodes} nodes with a tenth of the packet, in scuttle-depth alone, and "
+                    f"{rules.TENTH_MORE[1]} rounds are added to how old a copy gets, as docs/study.md has measured.")
         if not rules.tenth_holds(decision.of_knee()):
             said.append(f"This budget is {decision.times()}, where a tenth wasn't seen to hold.")
     return said + (of_healing(it) if decision.heals() else [])
@@ -650,11 +729,13 @@ def of_healing(it):
     if it.restarts:
         _, groups = it.restarting()
         in_place = fewer(it, it.told["restarts"])
-        said.append(f"{it.group()} is the size of a group that restarts at once{in_place}. What was run are {groups} "
-                    f"such groups, one in each {unit(it)[:-1]}, each down for one. The times count from when the last "
-                    "one is up again.")
-        said.append(f"While nodes restart in each {unit(it)[:-1]}, `greatest` is the number of the round and bounds "
-                    "nothing.")
+        one = unit(it)[:-1]
+        run = f"is one such group, down for one {one}"
+        if groups > 1:
+            run = (f"are {groups} such groups, one in each {one}, each down for one, and one alone. The times count from "
+                   f"when the last one is up again, and the longer one is told. While nodes restart in each {one}, "
+                   "`greatest` is the number of the round and bounds nothing")
+        said.append(f"{it.group()} is the size of a group that restarts at once{in_place}. What was run {run}.")
     return said + ([rules.DOWN_FOR_LONGER] if it.leaves() else [])
 
 
@@ -708,8 +789,8 @@ def left_out(decision):
     """What the model leaves out for this cluster."""
     it, told = decision.study, decision.study.told
     said = [*of_calls(it), "Failure detectors: " + (
-        f"one that needs a heartbeat in time has to wait longer than {lasting(it, [decision.most_rounds()])}; other "
-        "seeds and longer runs may have older copies."
+        f"one that needs a heartbeat in time has to wait longer than {lasting(it, [decision.most_rounds()])}; in 1 of "
+        f"{len(rules.BOUNDING) + 1} such runs, and in longer ones, copies may be older."
         if decision.suffices else "a heartbeat may come later than any limit."),
         "Nodes that join and leave: one that joins is like one that restarts."]
     if it.in_bytes:
@@ -737,7 +818,7 @@ GROUPS = ("Groups: one node restarts at a time here. For a rolling restart in gr
 
 def none_fits(decision):
     """That no budget is enough, in words."""
-    return f"No budget that fits is enough: none is level within {decision.window[1]} rounds"
+    return f"No budget that fits is enough: {decision.no_level()}"
 
 
 def heads(decision):
@@ -753,11 +834,12 @@ def in_words(decision, healing, missing=(), more=()):
     """The answer, line by line, with more names and words beside the worst staleness. Without a budget that is enough
     there is no healing, but the lines on what is missing."""
     takes = f"Take {decision.takes()}." if decision.suffices else f"{none_fits(decision)}. {decision.most_that_fits()}"
-    in_window = decision.in_window() if decision.suffices else ""
+    in_window = f": {decision.bound.rests_on()}" if decision.suffices and decision.bound else ""
     in_mode = "" if decision.suffices else f", in {decision.mode}"
     lines = [takes, *([f"{decision.tells_all()}."] if decision.suffices and decision.tells_all() else []), "",
              row("worst staleness", f"{decision.staleness()}{in_window}"), *(row(*one) for one in more)]
-    for name, said in ((FLOOR, decision.above_floor()), ("a reserve", decision.reserve()),
+    reserve = "more than that" if decision.more_is_worse() else "a reserve"
+    for name, said in ((FLOOR, decision.above_floor()), (reserve, decision.reserve()),
                        (decision.study.knee_name, decision.why_not_knee())):
         lines += [row(name, said)] if said else []
     lines.append(row("share cut", f"{span(decision.cut, 2)} % of what was lacking{in_mode}"))

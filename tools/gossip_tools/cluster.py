@@ -25,7 +25,7 @@ from gossip_tools.commands import Refused
 from gossip_tools.scenario import limited
 
 TEXTS = {"mode": scenario.MODES, "count": ("bytes", "entries"), "shared": ("yes", "no"), "forget": ("yes", "no")}
-DECIMALS = ("entry", "loss", "interval", "target")
+DECIMALS = ("entry", "loss", "interval", "hours", "target")
 BYTES = ("entry", "packet", "digest")
 USUAL = {"digest": "0", "loss": "0", "fanout": "1", "rounds": None, "seed": "1", "mode": scenario.USUAL_MODE,
          "count": None}
@@ -37,7 +37,7 @@ ELSEWHERE = {
     **{name: f" For {name}= there is gossip_scenario, and gossip_sweep runs what that prints."
        for name in ("rounds", "seed")},
     **{name: f" For {name}= there is gossip_advise."
-       for name in ("shared", "interval", "restarts", "forget", "split", "target")},
+       for name in ("shared", "interval", "restarts", "forget", "split", "hours", "target")},
     **{name: " How many runs go at once is said in front of the call, as JOBS=2."
        for name in ("--jobs", "-j", "jobs", "JOBS")},
 }

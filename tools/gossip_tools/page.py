@@ -68,13 +68,15 @@ def cards(decision, healing, more):
     of_budget = f"{math.ceil(budget * it.told['entry'])} bytes, {decision.times()}"
     if decision.suffices:
         of_budget += f"; packet={decision.packet()}"
-        rounds, _, time = answer.lasting(it, decision.worst).partition(", ")
+        rounds, _, time = answer.lasting(it, [decision.most_rounds()]).partition(", ")
         kind = "first" if decision.is_taken() and not decision.is_too_small() else "none"
+        holds_in = decision.bound.holds_in() if decision.bound else ""
+        of_worst = "; ".join(filter(None, (time, holds_in, decision.reckon())))
         rows = [("mode", decision.mode, "", kind), ("budget", f"{budget} entries", of_budget, kind),
-                ("worst staleness", rounds, "; ".join(filter(None, (time, decision.reckon()))), "")]
+                ("worst staleness", f"at most {rounds}", of_worst, "")]
     else:
         rows = [("budget", "none that fits is enough", f"tried: {budget} entries, {of_budget}", "none"),
-                ("worst staleness", "not known", f"not level within {decision.window[1]} rounds", "none")]
+                ("worst staleness", "not known", decision.no_level(), "none")]
     if decision.is_too_small() or not decision.suffices and decision.to_knee():
         rows.append(("enough", f"{it.packet(decision.mode)} bytes", decision.to_knee(), "first"))
     if decision.floor:
@@ -121,18 +123,17 @@ def paragraphs(lines):
 
 def captions(decision, healing):
     """What each picture shows."""
-    it, many = decision.study, len(rules.SEEDS)
+    it = decision.study
     first, last = decision.window
     above = "What is higher than the picture is in the table. "
-    floor = "The line `floor` has the seed in the middle of runs that cut nothing, below which none goes. "
     same = plots.lie_on_each_other(decision, lambda *at: decision.found.worst(*at, decision.window))
     same = f"All modes have the same figures from {it.whole(same)} entries on. " if same else ""
-    band = f"The line has the middle of {many} seeds, bars go from their least to their most"
+    band = f"The line has the middle of {len(rules.BOUNDING)} seeds, bars go from their least to their most"
     healed = captions_of_healing(it, healing.mode, band) if healing else {}
     most = " Of each interval the round with the most is shown." if it.fanout > 1 else ""
     return {
-        "worst": f"The knee: worst staleness in rounds {first} to {last}. Bars go from the least to the most of {many} "
-                 f"seeds, points are the seed in the middle. {above}{same}{floor if decision.floor else ''}",
+        "worst": f"The knee: worst staleness in rounds {first} to {last} of the runs that chose. Bars go from the least "
+                 f"to the most of the seeds, points are the seed in the middle. {above}{same}",
         "cut": f"The share of lacking entries that the budget cut, in the same rounds.",
         "greatest": "The age of the oldest write that some copy lacks, round by round, under seed 1. Each mode has the "
                     f"budget that it would take, as the key says. Wide curves lie below narrow ones.{most}",
@@ -228,8 +229,8 @@ def make(folder, decision, healing, made, check_sum, missing=(), more=(), head="
 <h1>{told(title)}</h1>
 <p>{it.told['nodes']} nodes{tenth}. Keys of each: {it.keys}; writes in an interval of
 {cluster.plain(it.told['interval'])} s: {it.writes}; calls in an interval, each of which is a round: {it.fanout};
-messages lost: {cluster.plain(it.told['loss'])} %. All figures go from the least to the most of {len(rules.SEEDS)}
-seeds.</p>
+messages lost: {cluster.plain(it.told['loss'])} %. Mode and budget were chosen by {len(rules.CHOOSING)} seeds, and
+bounded by {len(rules.BOUNDING)} others: {rules.IN_MOST} runs have no more.</p>
 {cards(decision, healing, more)}
 {below_the_cards(decision, healing)}{paragraphs(missing)}
 {listed("Mind", answer.warnings(decision), "mind")}

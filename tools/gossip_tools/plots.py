@@ -77,8 +77,6 @@ def knee(decision, name, y, figure, capped):
     text += budget_line(decision, budgets[-1])
     if capped and study.target and study.parts == 1:
         text += level_line(study.target, "target", 1, 3)
-    if capped and decision.floor:
-        text += level_line(rules.middle(decision.floor), "floor", 0.12, 4)
     return text + "set clip two\nplot " + ", \\\n  ".join(plots) + "\n"
 
 

@@ -101,7 +101,8 @@ class Runs:
     """The runs of a folder: their fields, the rows of each by the values of its fields, how many have no check sum, and
     what others lack."""
 
-    def __init__(self, folder):
+    def __init__(self, folder, wanted=None):
+        """All of them, or those alone whose values are wanted."""
         self.fields, self.rows, self.missing, self.without_sum = None, {}, {}, 0
         form = None
         for file in sorted(folder.glob("*-*.toml")):
@@ -109,6 +110,8 @@ class Runs:
             self.fields = self.fields or names
             if names != self.fields:
                 raise Refused(f"the runs in {folder} differ in their fields.")
+            if wanted is not None and values not in wanted:
+                continue
             with open(file, "rb") as text:
                 top = settings(scenario.read(text, file))
             if not {"format", "rounds"} <= top.keys():

@@ -5,27 +5,25 @@ seed, and its band goes from the least to the most. An interval has as many roun
 """
 from gossip_tools.scenario import MODES, USUAL_MODE, digest_numbers
 
-SEEDS = (1, 2, 3, 4, 5)
+# The seeds by which a mode and a budget are chosen, and the others that bound what these then bring: those that chose
+# would bound it by the luckiest choice. The first ones show whether a mode may still be better than another, and what
+# bounds nothing.
+CHOOSING = tuple(range(1, 21))
+BOUNDING = tuple(range(21, 41))
+FIRST, BOUNDING_FIRST = CHOOSING[:6], BOUNDING[:6]
 # The intervals of a run and its window. In the first ones the tables fill and look too good, so they are left out.
 FEW, FEW_WINDOW = 60, (31, 60)
 MANY, MANY_WINDOW = 200, (101, 200)
 # The intervals of longer runs, where nothing is level after those. Their windows are their second halves.
 LONGER, LONGEST = 400, 800
 # Parts of `nodes * writes` at which a smaller budget is looked at, as numerator and denominator.
-KNEE = ((1, 4), (1, 2), (3, 4), (1, 1), (3, 2))
-LOOKED_AT = (*KNEE, (2, 1))
+LOOKED_AT = ((1, 4), (1, 2), (3, 4), (1, 1), (3, 2), (2, 1))
 # By the size of their digests, and the usual one before scuttle-breadth, which lags longer below the knee.
 CHEAPEST_FIRST = sorted(MODES, key=lambda mode: (digest_numbers(2, 2, mode), mode != USUAL_MODE))
 FEW_ENTRIES = 50
 # How far a tenth was seen to hold in scuttle-depth: how many rounds more in `greatest` ten times the nodes had, with
 # which parts of `nodes * writes`.
 TENTH_MORE, TENTH_HOLDS = (2, 6), (1, 2)
-TENTH = ("A tenth of the nodes stands for the whole in scuttle-depth: ten times 100 and 400 nodes had "
-         f"{TENTH_MORE[0]} to {TENTH_MORE[1]} rounds more in `greatest`, with a budget of `nodes * writes` to twice "
-         "that, and with half of it 1 to 8 more. At 0.14 of it, with one key, 100, 1000 and 4000 nodes had 25 to 28, "
-         "33 to 36 and 39 to 41 rounds.")
-TENTH_OF_CALLS = ("Where each calls three others, ten times 100 and 400 nodes had 2 to 4 more, but under three seeds "
-                  f"alone, so {TENTH_MORE[1]} are added there too.")
 
 
 def band(figure):
@@ -37,10 +35,23 @@ def middle(figure):
     return sorted(figure)[len(figure) // 2]
 
 
+def seed_by_seed(one, other):
+    """Under how many seeds the one has less than the other, under how many it has more, and how many there are. Both
+    begin with the same seeds; further ones of either say nothing."""
+    pairs = list(zip(one, other))
+    return sum(it < its for it, its in pairs), sum(it > its for it, its in pairs), len(pairs)
+
+
 def is_better(one, other):
-    """"A mode, or a budget, is better where the worst of its five seeds is ahead of the best of the other's": where
-    their bands don't touch."""
-    return max(one) < min(other)
+    """"Better where at least 15 of 20 seeds say so and not more than 2 the other way", and of fewer as large a part."""
+    less, more, seeds = seed_by_seed(one, other)
+    return 4 * less >= 3 * seeds and 10 * more <= seeds
+
+
+def may_get_better(one, other, seeds=len(CHOOSING)):
+    """Whether the one may be better once so many seeds were run."""
+    less, more, there = seed_by_seed(one, other)
+    return 4 * (less + seeds - there) >= 3 * seeds and 10 * more <= seeds
 
 
 def is_far_better(one, other):
@@ -48,24 +59,13 @@ def is_far_better(one, other):
     return is_better(one, other) and 2 * max(one) <= max(other)
 
 
-def may_turn_over(one, other):
-    """Whether few rounds can't tell if the other is better than the one: where their bands have two rounds in common at
-    most. More rounds may make one of them rise."""
-    return max(other) - min(one) <= 1
-
-
-# What became of first answers, by docs/study.md: from `nodes * writes` on, below, and with several calls.
-FIRST_HELD = ("In nineteen clusters of 100 to 400 nodes without fanout= it had the mode, the budget and the wait of "
-              "this one")
-FIRST_MOVED = ("from nodes * writes on a worst staleness at most a round higher; 300 nodes with 2 % loss had two "
-               "rounds more")
-FIRST_MOVED_BELOW = "below nodes * writes a worst staleness up to five rounds higher"
-FIRST_MOVED_BY_CALLS = "300 nodes with fanout=9 had 14 to 19 rounds in place of 12 to 14"
-
-
 def are_close(one, other):
     """Whether two figures are too close to call: neither is better."""
     return not is_better(one, other) and not is_better(other, one)
+
+
+# "Of m + 1 runs with seeds drawn alike, the last has the greatest value with a chance of 1 in m + 1."
+IN_MOST = f"in {len(BOUNDING)} of {len(BOUNDING) + 1}"
 
 
 # What a run that cuts nothing shows.
@@ -86,8 +86,7 @@ def halves(window):
 
 def suffices(in_first_half, in_second_half, window):
     """"A budget suffices where `greatest` is level in both halves of the window." It isn't level where the first half
-    is better than the second: where the bands of the seeds don't touch, and the second is higher, it still rises. Nor
-    is it known to be where it is too high for such a window."""
+    is better than the second: there it still rises. Nor is it known to be where it is too high for such a window."""
     return not is_better(in_first_half, in_second_half) and can_be_level(max(in_first_half + in_second_half), window)
 
 
@@ -149,13 +148,13 @@ def least_staleness(budget, nodes, keys, writes, fanout=1):
 
 
 def most_of(fits, nodes, keys, at_knee):
-    """The largest budget that is looked at: what fits, and no more than twice `nodes * writes`, which hardly cuts, or
-    `nodes * keys`, which never cuts."""
-    return min(fits, 2 * at_knee, nodes * keys)
+    """The largest budget that is looked at: `nodes * keys`, which never cuts, where that fits; else what fits, and no
+    more than twice `nodes * writes`, which hardly cuts."""
+    return nodes * keys if fits >= nodes * keys else min(fits, 2 * at_knee)
 
 
 def least_that_is_taken(figures, others):
-    """"Otherwise take the cheaper one": the least budget than which nothing is better, neither a larger one nor one of
+    """"Otherwise take the smaller one": the least budget than which nothing is better, neither another one nor one of
     the others. The figures are by budget, of those from `nodes * writes` on that suffice. None where there is none."""
     all_of_them = [*figures.values(), *others]
     taken = [budget for budget, it in figures.items() if not any(is_better(other, it) for other in all_of_them)]
@@ -164,7 +163,7 @@ def least_that_is_taken(figures, others):
 
 def smaller_budgets(budget, at_knee):
     """The budgets below one, from the largest on."""
-    return sorted({it for over, under in KNEE if 1 <= (it := at_knee * over // under) < budget}, reverse=True)
+    return sorted({it for over, under in LOOKED_AT if 1 <= (it := at_knee * over // under) < budget}, reverse=True)
 
 
 def mode_of(figures):
@@ -193,17 +192,8 @@ FORGETFUL = ("old state goes sooner in `scuttle-breadth`, but a restart heals la
              "that, or better a larger budget")
 # The most bytes of a packet that is one datagram of UDP.
 DATAGRAM = 65507
-# How many rounds more than the longest of the seeds to wait between groups of a rolling restart. Each group is one draw
-# more: of 95 that waited so two hadn't caught up, and of 95 that forget none, where without it 19 and 3 hadn't.
-WAIT_MORE, MORE_IN_WORDS = 2, "two rounds"
-NO_GUARANTEE = "no guarantee: in a test, of 200 nodes with 6 keys, two of 95 groups that waited so weren't healed"
-# How far a met target holds beyond the seeds: of 150 nodes with 5 keys and a target of 12 rounds, in docs/study.md.
-OTHER_SEEDS = (f"A target is met under the {len(SEEDS)} seeds that were run, which is no guarantee: in a test, of 150 "
-               "nodes with 5 keys, 10 of 25 other seeds had up to three rounds more, and none with 15 % more entries.")
 # What a restart takes where nodes are down for longer than the one round of the test.
-DOWN_FOR_LONGER = ("Nodes that are down for longer take up to two rounds more, which no time above has: one group of 5 "
-                   "of 200 nodes with 6 keys took 4 to 7 rounds to heal where it was down for one, and 6 to 8 where it "
-                   "was down for 60.")
+DOWN_FOR_LONGER = "Nodes that are down for longer may take some rounds more, which no time above has."
 
 
 def healed_level(most_before):

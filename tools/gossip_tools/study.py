@@ -1,17 +1,23 @@
 """The runs that an answer for a cluster rests on: stages, each of them a folder of runs of one scenario.
 
-  few         few intervals, for a first answer: each mode with what it may take, and the chosen one with nodes * writes
+  few         few intervals, which choose: each mode with what it may take, the chosen one with nodes * writes, and with
+              smaller budgets, until one is worse
+  many        many intervals, where that is little work, or few show no level; twice as many, as `longer`; and again, as
+              `longest`
+  few-bound   some intervals to fill, and an hour: with what the runs of few chose, under other seeds, to bound how old
+              a copy gets; so for the others
   split       half of the nodes are set apart for some intervals; under the mode that was chosen
-  restart     nodes restart, by ascending number, and keep their own state; or, where they lose it too,
+  restart     groups of nodes restart, by ascending number, and keep their own state; or, where they lose it too,
   forgotten   the same, in bytes, and they do
-  many        many intervals: as few, and the chosen mode with smaller budgets, until one is worse
-  longer      twice as many, where nothing is level after those; and again, as `longest`
+  restart-one, forgotten-one    one such group alone
   many-stop   many intervals and some without writes, where a target is told: how old a stale copy is; so for the others
 
 What is run is only what may change the answer, and what no budget can better: one that cuts nothing, where none of the
 others does. What heals is run with the budget that is taken, and in the end with all that fits too, where that is more.
 An interval has as many rounds as a node calls others in it, and writes in the first of them.
 """
+from fractions import Fraction
+
 from gossip_tools import cluster, read, rules, scenario
 
 # What is to be healed begins once the tables have filled and `greatest` is level: after so many intervals, of which the
@@ -24,10 +30,21 @@ LEAST = 2
 # How much more processor time a round takes, about: in bytes, in a precise mode, and with less than nodes * writes.
 IN_BYTES, IN_PRECISE, IN_SHORT = 3, 1.5, 1.8
 HEALED = ("split", "restart", "forgotten")
+# The stages with one group alone, and those with several.
+ONE = {"restart-one": "restart", "forgotten-one": "forgotten"}
 WINDOWS = {"few": rules.FEW_WINDOW, "many": rules.MANY_WINDOW, "longer": (rules.LONGER // 2 + 1, rules.LONGER),
            "longest": (rules.LONGEST // 2 + 1, rules.LONGEST)}
 # The stages in which the writes stop, and those that they begin as.
 STOPS = {f"{stage}-stop": stage for stage in WINDOWS}
+# The stages that bound what others have chosen, and the intervals that these leave out, in which the tables fill.
+BOUNDS = {f"{stage}-bound": stage for stage in WINDOWS}
+FILLED = {"few": 50, **{stage: first - 1 for stage, (first, _) in WINDOWS.items() if stage != "few"}}
+# The intervals behind them: an hour of seconds, or less where the work of an answer would be above this. The work of a
+# round is about a nanosecond of processor time for each node, with another one, and key.
+HOUR, SHORTER = 3600, (2400, 1800, 1200, 900, 600, 400, 300, 200, 100)
+BOUND_WORK, MOST_WORK = 2.6e10, 3.6e12
+# The work of many intervals that is little.
+LITTLE_WORK = 2e9
 
 
 class Study:
@@ -69,10 +86,12 @@ class Study:
             raise cluster.Refused(f"no budget that fits keeps the worst staleness below {rules.MANY * self.fanout} "
                                   f"rounds: {self.why_at_least()}.")
         self.target = None if told["target"] is None else self.target_of(told["target"])
+        self.hours = told["hours"]
         self.split = self.split_of(int(told["split"]))
         self.restarts = None if told["restarts"] is None else -(-int(told["restarts"]) // self.parts)
         self.place_healing()
         self.loss = int(told["loss"] * 10000)
+        self.check_hours()
 
     def room(self, it, mode):
         """The entries that a delta of the whole cluster has room for in this mode; without a packet all that are of
@@ -121,7 +140,9 @@ class Study:
 
     def steady_stages(self):
         """The stages that can show a budget to be level, each longer than the one before."""
-        return [it for it in WINDOWS if rules.can_be_level(self.least_rounds(), self.window(it))]
+        is_little = self.work_of(WINDOWS["many"][1]) <= LITTLE_WORK
+        return [it for it in WINDOWS if rules.can_be_level(self.least_rounds(), self.window(it))
+                and not (it == "few" and is_little)]
 
     def asks_for_healing(self):
         """Whether restarts or a split were asked for."""
@@ -195,7 +216,7 @@ class Study:
     def place_healing(self):
         """When what is to be healed begins, in intervals, and how many are run after it."""
         slowness = -(-self.knee // self.most(self.usual))
-        tail = 40 + min(3 * self.keys * slowness, 400)
+        tail = 30 + min(3 * self.keys * slowness, 400)
         if self.fanout > 1:
             # (each interval is a section of the scenario)
             slowness = min(slowness, 10)
@@ -204,13 +225,55 @@ class Study:
         self.before = rules.rounds_of((FILLING * slowness + 1, self.waits), self.fanout)
         self.begins = self.before[1] + 1
 
+    def work_of(self, intervals):
+        """About the nanoseconds of processor time of runs with so many intervals under the seeds that bound."""
+        return len(rules.BOUNDING) * intervals * self.fanout * self.nodes**2 * (self.keys + 1)
+
+    def most_intervals(self):
+        """The most intervals that a scenario takes: in rounds, and in sections where each interval has one."""
+        rounds = scenario.LIMITS["rounds"][1] // self.fanout
+        return min(rounds, scenario.MOST_SECTIONS) if self.fanout > 1 else rounds
+
+    def check_hours(self):
+        """Refuses hours that a scenario doesn't take, or that take too much work."""
+        if self.hours is None:
+            return
+        asked, most = self.asked_for(), self.most_intervals() - max(FILLED.values())
+        most = min(most, int(MOST_WORK / self.work_of(1)))
+        if not 1 <= asked <= most:
+            hours = Fraction(int(100 * most * self.fanout * self.seconds / 3600), 100)
+            raise cluster.Refused(f"hours={cluster.plain(self.hours)} would be {asked} intervals under each seed, and "
+                                  f"from 1 to {most} are run: hours={cluster.plain(hours)} is the most.")
+
+    def asked_for(self):
+        """The intervals of the hours that were told."""
+        return -(-self.hours * 3600 // (self.fanout * self.seconds))
+
+    def bounded(self, stage):
+        """For how many intervals, after those that are left out, runs bound what a stage has chosen."""
+        if self.hours is not None:
+            return int(self.asked_for())
+        left = self.most_intervals() - FILLED[stage]
+        lengths = [it for it in (HOUR, *SHORTER) if it <= left]
+        return next((it for it in lengths if self.work_of(FILLED[stage] + it) <= BOUND_WORK), lengths[-1])
+
     def intervals(self, stage):
         """How many intervals a run of a stage has."""
         if stage in WINDOWS:
             return WINDOWS[stage][1]
+        if stage in BOUNDS:
+            return FILLED[BOUNDS[stage]] + self.bounded(BOUNDS[stage])
         if stage in STOPS:
             return WINDOWS[STOPS[stage]][1] - (-self.target // self.fanout)
-        return self.waits + max(self.split, RESTARTING) + self.tail
+        return self.waits + self.lasts(stage) + self.tail
+
+    def lasts(self, stage):
+        """How many intervals what is to be healed lasts."""
+        return self.split if stage == "split" else 1 if stage in ONE else self.restarting()[1]
+
+    def seeds(self, stage):
+        """The seeds of a stage: of those that choose, where it does, and of those that bound."""
+        return rules.CHOOSING if stage in WINDOWS else rules.FIRST if stage in STOPS else rules.BOUNDING
 
     def rounds(self, stage):
         return self.intervals(stage) * self.fanout
@@ -222,13 +285,16 @@ class Study:
 
     def window(self, stage):
         """The rounds of a stage that are looked at."""
+        if stage in BOUNDS:
+            return rules.rounds_of((FILLED[BOUNDS[stage]] + 1, self.intervals(stage)), self.fanout)
         return rules.rounds_of(WINDOWS[stage], self.fanout)
 
     def restarting(self):
-        """How many nodes restart at once, at least one, and in how many intervals such a group does."""
+        """How many nodes restart at once, at least one, and in how many intervals such a group does: together no more
+        than half of the nodes, as what nobody lacks any more is healed too soon."""
         each = max(1, min(self.restarts or 1, self.nodes // 2, scenario.MOST_SECTIONS))
         most = RESTARTING if self.restarts else 1
-        return each, min(most, self.nodes // each, scenario.MOST_SECTIONS // each)
+        return each, min(most, self.nodes // 2 // each, scenario.MOST_SECTIONS // each)
 
     def group(self):
         """How many nodes restart at once, as told of the whole cluster."""
@@ -236,8 +302,7 @@ class Study:
 
     def ends(self, stage):
         """The last round of what is to be healed."""
-        intervals = self.split if stage == "split" else self.restarting()[1]
-        return self.begins + intervals * self.fanout - 1
+        return self.begins + self.lasts(stage) * self.fanout - 1
 
     def forgets(self):
         return self.told["forget"] == "yes"
@@ -253,20 +318,34 @@ class Study:
         return ("split", *self.leaves()) if self.split else self.leaves()
 
     def healing_stages(self):
-        """The stages that tell what heals, each with what it tells: where nodes forget, their runs tell both."""
+        """The stages that tell what heals, each with what it tells: where nodes forget, their runs tell both. One group
+        alone is run beside several, which may heal sooner than that."""
         restarts = {self.leaves()[-1]: self.leaves()} if self.leaves() else {}
+        if restarts and self.restarting()[1] > 1:
+            restarts |= {f"{stage}-one": tells for stage, tells in restarts.items()}
         return {"split": ("split",), **restarts} if self.split else restarts
+
+    def healing_groups(self):
+        """The same, by what they tell."""
+        groups = {}
+        for stage, tells in self.healing_stages().items():
+            groups.setdefault(tells, []).append(stage)
+        return groups.items()
 
     def wanted(self, mode):
         """The budgets and modes that decide: each mode with what it may take, and this one with nodes * writes."""
         return {(self.most(it), it) for it in self.fits} | {(self.knee, mode)}
+
+    def between(self, mode):
+        """The budgets between nodes * writes and the largest, with this mode."""
+        return {(it, mode) for it in rules.smaller_budgets(self.most(mode), self.knee) if it > self.knee}
 
     def next_smaller(self, budget, mode):
         """The next budget below one that is worth a look, with this mode; none where there isn't one."""
         return {(it, mode) for it in rules.smaller_budgets(budget, self.knee)[:1] if it >= LEAST}
 
     def counts_bytes(self, stage):
-        return self.in_bytes or stage == "forgotten"
+        return self.in_bytes or ONE.get(stage, stage) == "forgotten"
 
     def scene(self, stage):
         """The scenario of a stage. Its budget, mode and seed are other ones in each run."""
@@ -279,32 +358,39 @@ class Study:
         text = scenario.written(fields) + cluster.without_writes(rounds, self.fanout)
         if stage == "split":
             text += scenario.partition(0, self.nodes // 2 - 1, self.begins, self.ends(stage))
-        elif stage in HEALED:
+        elif ONE.get(stage, stage) in HEALED:
             each, _ = self.restarting()
             text += scenario.restarts(self.nodes, each, self.begins, self.ends(stage), self.fanout,
-                                      forget=stage == "forgotten", every=self.fanout)
+                                      forget=self.forgets(), every=self.fanout)
         return text
 
-    def choices(self, stage, pairs):
-        """The choices of values that make the runs of these budgets and modes, and no others."""
-        modes = {budget: tuple(it for it in scenario.MODES if (budget, it) in pairs) for budget, _ in sorted(pairs)}
-        seeds, in_bytes = [str(it) for it in rules.SEEDS], self.counts_bytes(stage)
+    def choices(self, stage, seeds):
+        """The choices of values that make the runs of these budgets and modes, each under its seeds, and no others."""
+        modes = {}
+        for (budget, mode), those in sorted(seeds.items()):
+            modes.setdefault((budget, those), set()).add(mode)
+        alike = {}
+        for (budget, those), in_modes in modes.items():
+            alike.setdefault((those, tuple(it for it in scenario.MODES if it in in_modes)), []).append(budget)
         found = []
-        for those in dict.fromkeys(modes.values()):
-            values = [scenario.budget_field(it, in_bytes) for it in modes if modes[it] == those]
-            found.append({values[0][0]: [str(it) for _, it in values], "seed": seeds, "mode": list(those)})
+        for (those, in_modes), budgets in alike.items():
+            values = [scenario.budget_field(it, self.counts_bytes(stage)) for it in budgets]
+            found.append({values[0][0]: [str(it) for _, it in values], "seed": [str(it) for it in those],
+                          "mode": list(in_modes)})
         return found
 
 
 class Found:
     """The runs of a stage that are there: the rows of each seed, by budget in entries and mode."""
 
-    def __init__(self, study, stage, folder, pairs):
-        self.before = study.before
-        runs, self.rows = read.Runs(folder), {}
-        for budget, mode in sorted(pairs):
+    def __init__(self, study, stage, folder, seeds):
+        self.before, names = study.before, {}
+        for (budget, mode), those in sorted(seeds.items()):
             _, value = scenario.budget_field(budget, study.counts_bytes(stage))
-            self.rows[(budget, mode)] = [runs.rows[(str(value), str(seed), mode)] for seed in rules.SEEDS]
+            names[(budget, mode)] = [(str(value), str(seed), mode) for seed in those]
+        # (others in the folder were read before)
+        runs = read.Runs(folder, {name for those in names.values() for name in those})
+        self.rows = {pair: [runs.rows[name] for name in those] for pair, those in names.items()}
 
     def worst(self, budget, mode, window):
         """The worst staleness in a window, for each seed."""
@@ -314,9 +400,9 @@ class Found:
         """The share that was cut, in per cent, for each seed."""
         return [read.percent_cut(read.between(rows, *window)) for rows in self.rows[(budget, mode)]]
 
-    def floor(self, window):
-        """The worst staleness in a window that no mode and no budget goes below, for each seed: that of a run that cut
-        nothing up to its end. Empty where some seed has none."""
+    def uncut(self, window):
+        """The worst staleness in a window under each seed of a run that cut nothing up to its end, which no mode and no
+        budget goes below. Empty where some seed has none."""
         uncut = [[rows for rows in of_seed if not any(row["cut"] for row in read.between(rows, 1, window[1]))]
                  for of_seed in zip(*self.rows.values())]
         return [max(row["greatest"] for row in read.between(some[0], *window)) for some in uncut] if all(uncut) else []

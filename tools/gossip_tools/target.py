@@ -1,4 +1,7 @@
-"""A target for the worst staleness: the smallest packet that keeps to it, by halving, or whether a decision does.
+"""A target for the worst staleness: the smallest packet that keeps to it, or whether a decision does.
+
+Budgets are halved in each mode by the first of the seeds that choose. That of the mode with the smallest packet is then
+bounded by others, and raised until all of these keep to the target.
 
 Beside the worst staleness stand the share of copies that are stale and how old a typical stale copy is, so that the
 target isn't taken for what is usual.
@@ -10,6 +13,8 @@ from gossip_tools.answer import row
 
 # Budgets aren't halved any further where the next smaller one that was run is an entry or less than a hundredth below.
 FINE = 100
+# By which part a budget is raised that doesn't keep to the target under all seeds, for each so many that don't.
+RAISED, OF_SEEDS = 20, 5
 
 
 def seconds(it):
@@ -22,28 +27,29 @@ def in_time(it):
     return f"{seconds(it)}, or {answer.in_rounds([it.target])}"
 
 
-# What a met target rests on.
-UNDER_SEEDS = f", under the {len(rules.SEEDS)} seeds; no guarantee"
+def above_target(it, worst):
+    """Under how many seeds the worst staleness is above the target."""
+    return sum(not it.keeps_to_target([rounds]) for rounds in worst)
 
 
-def met(it):
+def met(it, bound):
     """That a target is met, in words."""
-    return f"met: the worst staleness is within {in_time(it)}{UNDER_SEEDS}"
+    return f"met: {bound.holds_in()} the worst staleness is within {in_time(it)}"
 
 
 def judged(decision):
     """Whether what was decided for a packet keeps to the target, as a name and words."""
-    it = decision.study
+    it, most = decision.study, decision.bound_of_most
     if not decision.suffices:
         said = f"not met: no budget that fits is enough, where the worst staleness is to be within {in_time(it)}"
-    elif it.keeps_to_target(decision.worst):
-        said = met(it)
-    elif decision.meets_target():
-        said = (f"met with all that fits alone: with {decision.all_that_fits()} the worst staleness is within "
-                f"{in_time(it)}{UNDER_SEEDS}")
+    elif it.keeps_to_target(decision.bounded()):
+        said = met(it, decision.bound)
+    elif most and most.is_level() and it.keeps_to_target(most.worst):
+        said = f"met with all that fits alone, {decision.all_that_fits()}: {met(it, most).removeprefix('met: ')}"
     else:
-        said = (f"not met: the worst staleness is above {in_time(it)}. Without packet= the smallest that keeps to it "
-                "is looked for")
+        above = above_target(it, decision.bounded())
+        said = (f"not met: the worst staleness is above {in_time(it)} in {above} of {len(decision.bounded())} "
+                f"{decision.bound.runs()}. Without packet= the smallest that keeps to it is looked for")
     return "target", said
 
 
@@ -95,8 +101,7 @@ class Search:
 
     def __init__(self, it, stages):
         self.study, self.stages = it, stages
-        self.stage = next(stage for stage in it.steady_stages()
-                          if stage != "few" and rules.can_be_level(it.target, it.window(stage)))
+        self.stage = next(stage for stage in it.steady_stages() if rules.can_be_level(it.target, it.window(stage)))
         least, self.top = self.bounds()
         self.pairs, self.found = set(), None
         # (those that can keep to the target)
@@ -104,6 +109,8 @@ class Search:
         # by mode, the least budget that keeps to the target, and the largest below it that doesn't
         self.least = dict.fromkeys(it.fits, self.top)
         self.below = dict.fromkeys(it.fits, least - 1)
+        # the mode with the smallest packet, its budget, and by budgets what bounds it
+        self.chosen, self.budget, self.bounded = None, self.top, {}
 
     def bounds(self):
         """The least and the largest budget that are looked at: of a tenth those with which it was seen to hold."""
@@ -112,13 +119,13 @@ class Search:
         return (study.LEAST, top) if it.parts == 1 else (it.knee, min(top, rules.TENTH_HOLDS[1] * it.knee))
 
     def run(self, pairs):
-        self.stages.plan(self.stage, pairs, max(map(self.halvings, self.modes)))
+        self.stages.plan(self.stage, pairs, max(map(self.halvings, self.modes), default=0))
         self.pairs |= pairs
-        self.found = self.stages.carry_out(self.stage, self.pairs)
+        self.found = self.stages.carry_out(self.stage, self.pairs, rules.FIRST)
 
     def run_of(self, mode):
-        """The budget and mode whose runs tell what the least budget of a mode brings: where that is the largest, with
-        which nothing is cut, those of the usual mode."""
+        """The budget and mode whose runs tell what the least budget of a mode brings, by halving: where that is the
+        largest, with which nothing is cut, those of the usual mode."""
         pair = self.least[mode], mode
         return pair if pair in self.pairs else (self.least[mode], self.study.usual)
 
@@ -140,8 +147,15 @@ class Search:
         return max(0, math.ceil(math.log2(FINE * (least - below) / least)))
 
     def carry_out(self):
-        """Whether the largest budget keeps to the target in some mode, and then the least of each mode that does. Where
-        nothing can be cut, all modes do the same."""
+        """Whether some budget keeps to the target, the largest that is looked at being the last; then each mode has its
+        least, and that of the mode with the smallest packet is bounded."""
+        self.halve()
+        self.chosen = self.best() if self.modes else self.study.usual
+        return self.bound()
+
+    def halve(self):
+        """Finds the modes whose largest budget keeps to the target, and the least of each. Where nothing can be cut, all
+        modes do the same."""
         it = self.study
         cuts = self.top < (it.nodes - 1) * it.keys
         self.run({(self.top, mode) for mode in (it.fits if cuts else [it.usual])})
@@ -151,7 +165,20 @@ class Search:
             for mode, budget in steps.items():
                 bounds = self.least if self.keeps(budget, mode) else self.below
                 bounds[mode] = budget
-        return bool(self.modes)
+
+    def bound(self):
+        """Raises the least budget of the chosen mode until all the seeds that bound keep to the target. Whether they
+        do."""
+        it, mode, stage = self.study, self.chosen, f"{self.stage}-bound"
+        above, budget = True, self.least[mode]
+        while above and self.top not in self.bounded:
+            pair = budget, mode
+            self.stages.plan(stage, {pair}, 1)
+            bound = self.bounded[budget] = answer.Bound(it, stage, self.stages.carry_out(stage, {pair}), pair)
+            above = above_target(it, bound.worst) if bound.is_level() else len(bound.worst)
+            self.budget, budget = budget, min(self.top, budget + max(1, budget * max(1, above // OF_SEEDS) // RAISED))
+        self.run({(self.budget, mode)})
+        return not above
 
     def packet(self, mode):
         return self.study.packet(mode, self.study.whole(self.least[mode]))
@@ -167,16 +194,17 @@ class Met(answer.Decision):
     def __init__(self, search, is_met, ages):
         self.study, self.found, self.stage, self.window = search.study, search.found, search.stage, ages.window
         self.search, self.is_met, self.ages = search, is_met, ages
-        self.dropped, self.ahead, self.floor = [], None, None
-        self.mode = search.best() if is_met else self.study.usual
-        self.suffices = is_met or self.is_enough(search.top, self.mode)
-        self.budget = self.most = search.least[self.mode]
+        self.dropped, self.ahead, self.floor, self.bound_of_most = [], None, None, None
+        self.mode = search.chosen
+        self.budget = self.most = search.budget
+        self.bound = search.bounded[self.budget]
+        self.suffices = is_met or self.bound.is_level()
         self.figures = {mode: self.worst_with(*search.run_of(mode)) for mode in search.modes or [self.mode]}
-        self.worst = self.figures[self.mode]
-        self.cut = self.found.cut(*search.run_of(self.mode), self.window)
+        self.worst = self.worst_with(self.budget, self.mode)
+        self.cut = self.found.cut(self.budget, self.mode, self.window)
 
     def run_of(self, mode):
-        return self.search.run_of(mode)
+        return (self.budget, mode) if mode == self.mode else self.search.run_of(mode)
 
     def is_taken(self):
         return self.is_met
@@ -210,9 +238,15 @@ class Met(answer.Decision):
         it = self.study
         if not self.is_met:
             return [("target", f"not met: the largest budget that was run has more than {in_time(it)}")]
-        said = [("target", met(it))]
-        below = self.search.below[self.mode]
-        if (below, self.mode) in self.found.rows:
+        said = [("target", met(it, self.bound))]
+        below, smaller = self.search.below[self.mode], [at for at in self.search.bounded if at < self.budget]
+        if smaller:
+            worst = self.search.bounded[max(smaller)].worst
+            above = above_target(it, worst)
+            said.append(("a smaller one", f"{it.whole(max(smaller))} entries: the next smaller budget that was run so "
+                                          f"long has more under {above} of {len(worst)} seeds, up to "
+                                          f"{answer.briefly(it, [max(worst)])}"))
+        elif (below, self.mode) in self.found.rows:
             worst = self.worst_with(below, self.mode)
             level = "" if self.is_enough(below, self.mode) else ", not level"
             said.append(("a smaller one", f"{it.whole(below)} entries: the next smaller budget that was run has "
@@ -227,7 +261,7 @@ class Met(answer.Decision):
 
     def of_mode_in_words(self, mode):
         """What a mode needs, and what it then has."""
-        it, budget, pair = self.study, self.search.least[mode], self.run_of(mode)
+        it, budget, pair = self.study, self.search.least[mode], self.search.run_of(mode)
         age = self.ages.at_most(*pair)
         half = age if self.ages.typical(*pair) is None else f"at most {age}"
         return (f"{it.whole(budget)} entries, packet={self.search.packet(mode)}: worst staleness "
@@ -242,9 +276,10 @@ class Met(answer.Decision):
                      f"{self.room()}: {self.staleness()}. A shorter interval, more calls in it or less loss would "
                      "help."]
         else:
-            lines = [f"To keep the worst staleness within {in_time(it)}, each mode takes, by halving over budgets:",
+            lines = [f"To keep the worst staleness within {in_time(it)}, each mode takes about this, by halving over "
+                     f"budgets under {len(rules.FIRST)} seeds:",
                      *(row(mode, self.of_mode_in_words(mode)) for mode in self.figures), "", f"Take {self.takes()}."]
-        in_window = self.in_window() if self.suffices else ""
+        in_window = f": {self.bound.rests_on()}" if self.suffices else ""
         lines += ["", row("worst staleness", f"{self.staleness()}{in_window}"),
                   *(row(*more) for more in self.more())]
         lines += [row(answer.FLOOR, self.above_floor())] if self.above_floor() else []

@@ -107,20 +107,22 @@ class Cards(unittest.TestCase):
         self.assertIn("all entries count alike, as 40.001 bytes.", " ".join(answer.left_out(decision)))
 
     def test_floor(self):
-        """It is a card behind the worst staleness, a line of the picture and a sentence below that; where there is none
-        to tell, a sentence alone."""
+        """It is a card behind the worst staleness; where there is none to tell, a sentence below the cards alone."""
         decision, best = decided(), "no mode and no budget does better than 7 rounds, 7 s, with these peers and losses"
-        card = f'<div class="">the floor<b>7 rounds</b>{best}; the chosen one has 7 to 8</div>'
+        card = f'<div class="">the floor<b>7 rounds</b>{best}; the chosen one had 7 to 8 under the same 2 seeds</div>'
         none = "The floor: none to tell: the largest budget that a scenario takes, 400 entries, still cuts some"
-        for floor, wanted in ((None, (False, False, False, False)), ([], (False, True, False, False)),
-                              ([7, 7], (True, False, True, True))):
+        for floor, wanted in ((None, (False, False)), ([], (False, True)), ([7, 7], (True, False))):
             decision.floor = floor
-            worst = lambda budget, mode: decision.worst_with(budget, mode)
-            picture = plots.knee(decision, "worst", "rounds", worst, capped=True)
             self.assertEqual(wanted, (card in page.cards(decision, None, []),
-                                      none in page.below_the_cards(decision, None),
-                                      'set arrow from graph 0, first 7 to graph 1, first 7 ' in picture,
-                                      "The line `floor` has " in page.captions(decision, None)["worst"]))
+                                      none in page.below_the_cards(decision, None)))
+
+    def test_what_bounds_it(self):
+        """The time, and in which part of how long runs it holds: 3600 of 100 nodes with 4 keys."""
+        decision = decided()
+        decision.bound = answer.Bound(decision.study, "many-bound", Figures({(100, "scuttle-depth"): [8, 9]}),
+                                      (100, "scuttle-depth"))
+        self.assertIn('<div class="">worst staleness<b>at most 9 rounds</b>9 s; in 20 of 21 runs of 3600 rounds (1 h)</div>',
+                      page.cards(decision, None, []))
 
 
 class Healed:

@@ -60,6 +60,16 @@ class Kept(unittest.TestCase):
         self.assertEqual([it[0] for it in cases], [self.lacks(csv=csv, sum=sum) for _, csv, sum in cases])
         self.assertEqual(of_scenario, self.lacks(csv=TEXT, sum=self.SUM, toml="seed = 2\n"))
 
+    def test_those_that_are_wanted(self):
+        """Of three runs, the last of which has no report, two are read, and one alone where it alone is wanted."""
+        with tempfile.TemporaryDirectory() as folder:
+            for seed in (1, 2, 3):
+                (pathlib.Path(folder) / f"seed-{seed}.toml").write_text("format = 1\nrounds = 3\n")
+            for seed in (1, 2):
+                (pathlib.Path(folder) / f"seed-{seed}.csv").write_text(TEXT)
+            found = [read.Runs(pathlib.Path(folder), wanted) for wanted in (None, {("2",)})]
+        self.assertEqual([(2, 1), (1, 0)], [(len(it.rows), len(it.missing)) for it in found])
+
     def test_without_sums(self):
         """Folders of the first versions have none, neither of reports nor of the program."""
         self.assertEqual(3, self.lacks(csv=TEXT))

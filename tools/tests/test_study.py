@@ -1,7 +1,7 @@
 """What is run for a cluster and what is read of it, with numbers worked out by hand."""
 import unittest
 
-from gossip_tools import advise, cluster, scenario, study
+from gossip_tools import advise, cluster, rules, scenario, study, sweep
 
 ROOMY = "nodes=300 keys=4 writes=2 entry=40 packet=40000"
 SHARED = "nodes=100 keys=4 writes=1 entry=40 packet=6000 digest=10"
@@ -27,9 +27,10 @@ class Numbers(unittest.TestCase):
 
     def test_budgets(self):
         """nodes * writes are 300 * 2 = 600, 100 and 10; a tenth of 10000 is 1000. Of 1000, 125, 1100 and 5 that fit no
-        more than twice that is of use."""
+        more than twice that is of use, but nodes * keys, of which 1200 fit in 48000 bytes."""
         cases = {ROOMY: (600, 1000), SHARED: (100, 125), LARGE: (1000, 1100), FEW: (10, 5),
-                 ROOMY + " digest=0 shared=no fanout=3": (200, 400), SHARED + " fanout=16": (6, 12)}
+                 ROOMY + " fanout=3": (200, 400), ROOMY.replace("40000", "48000") + " fanout=3": (200, 1200),
+                 SHARED + " fanout=16": (6, 12)}
         self.assertEqual(cases, {words: (of(words).knee, of(words).most(DEPTH)) for words in cases})
 
     def test_more_nodes_than_a_scenario_takes(self):
@@ -97,20 +98,21 @@ class Numbers(unittest.TestCase):
         self.assertEqual(cases, {run: it.work(*run) for run in cases})
 
     def test_runs(self):
-        """Modes that have the same budgets are one choice of values."""
-        it = of(SHARED)
-        pairs = it.wanted(DEPTH) | {(75, DEPTH)}
-        seeds = ["1", "2", "3", "4", "5"]
-        self.assertEqual([
-            {"budget": ["50"], "seed": seeds, "mode": [OLDEST, NEWEST]},
-            {"budget": ["75", "100"], "seed": seeds, "mode": [DEPTH]},
-            {"budget": ["125"], "seed": seeds, "mode": [BREADTH, DEPTH]},
-        ], it.choices("many", pairs))
+        """Each budget and mode under its own seeds, and nothing else: what has the same ones is one choice of values."""
+        few, all_of_them = rules.FIRST, rules.CHOOSING
+        seeds = {(125, DEPTH): all_of_them, (100, DEPTH): all_of_them, (75, DEPTH): few, (125, BREADTH): few,
+                 (50, OLDEST): few, (50, NEWEST): few}
+        it, runs = of(SHARED), []
+        for choices in it.choices("many", seeds):
+            runs += sweep.spread(it.scene("many"), choices)
+        self.assertEqual(sorted(f"budget-{budget}.seed-{seed}.mode-{mode}" for (budget, mode), those in seeds.items()
+                                for seed in those), sorted(runs))
+        self.assertEqual(4, len(it.choices("many", seeds)))
 
     def test_bytes(self):
         """Room for 5 entries is counted in bytes, 523.5 each: 5 are 2617, as docs/study.md has them."""
         it = of(FEW)
-        values = [value for choices in it.choices("many", {(budget, DEPTH) for budget in (2, 5, 7, 10)})
+        values = [value for choices in it.choices("many", {(budget, DEPTH): (1,) for budget in (2, 5, 7, 10)})
                   for value in choices["budget_bytes"]]
         self.assertEqual(["1047", "2617", "3664", "5235"], values)
         self.assertIn("format = 2\nnodes = 10\nkeys = 4\nrounds = 200\nseed = 1\n", it.scene("many"))
@@ -133,16 +135,48 @@ class Numbers(unittest.TestCase):
         self.assertEqual(("budget_bytes", 41356), scenario.budget_field(79, True))
 
     def test_stages_that_can_show_a_level(self):
-        """39 * 6 copies at two times 2 entries in a round take 58 rounds, less 6; 60 rounds show no more than 30. With
-        3 entries they take 39, less 6, and with 4 29, less 6. 199 * 8 copies at two times 7 take 113, less 8, and 200
-        rounds show 100."""
-        cases = {"nodes=40 keys=6 packet=80": (52, ["many", "longer", "longest"]),
-                 "nodes=40 keys=6 packet=120": (33, ["many", "longer", "longest"]),
-                 "nodes=40 keys=6 packet=160": (23, ["few", "many", "longer", "longest"]),
+        """39 * 6 copies at two times 2 entries in a round take 58 rounds, less 6; 60 rounds show no more than 30. 199 * 8
+        at two times 7 take 113, less 8, and 200 rounds show 100. 399 * 6 at two times 25 take 47, less 6, and at two
+        times 300 less than 6. 200 rounds under 20 seeds are little work where they take two seconds at a nanosecond for
+        each node, with another one, and key, and one more: up to 316 nodes with 4 keys. Then 60 aren't run."""
+        later = ["many", "longer", "longest"]
+        cases = {"nodes=40 keys=6 packet=80": (52, later), "nodes=400 keys=6 packet=12000": (0, ["few", *later]),
                  "nodes=200 keys=8 packet=280": (105, ["longer", "longest"]),
-                 "nodes=40 keys=6 packet=1600": (0, ["few", "many", "longer", "longest"])}
+                 "nodes=400 keys=6 packet=1000": (41, later), "nodes=316 keys=4 packet=12800": (0, later),
+                 "nodes=317 keys=4 packet=12800": (0, ["few", *later])}
         found = {words: of(f"{words} writes=1 entry=40") for words in cases}
         self.assertEqual(cases, {words: (it.least_rounds(), it.steady_stages()) for words, it in found.items()})
+
+    def test_how_long_runs_are_that_bound(self):
+        """An hour of seconds, behind the intervals that are left out, where 20 such runs take no more than 26 seconds at
+        a nanosecond for each node, with another one, and key, and one more: with 200 nodes and 6 keys 3650 intervals
+        take 20.4. With 1000 and 4 it is 0.1 s for an interval, so 200 after 50, and 100 after the 100 of longer ones.
+        Several calls take one of a scenario's 1000 sections for each interval, 100 or 400 of which are left out."""
+        cases = {("nodes=200 keys=6", "few"): 3600, ("nodes=300 keys=4", "many"): 2400,
+                 ("nodes=1000 keys=4", "few"): 200, ("nodes=1000 keys=4", "many"): 100, ("nodes=4000 keys=1", "few"): 100,
+                 ("nodes=12 keys=2 fanout=3", "many"): 900, ("nodes=12 keys=2 fanout=3", "longest"): 600,
+                 ("nodes=1000 keys=4 hours=1", "few"): 3600, ("nodes=200 keys=6 hours=24", "few"): 86400,
+                 ("nodes=200 keys=6 hours=24 interval=60", "few"): 1440,
+                 ("nodes=12 keys=2 hours=1.5 fanout=3 interval=30", "many"): 180}
+        found = {(words, stage): of(f"{words} writes=1 entry=40 packet=400000").bounded(stage) for words, stage in cases}
+        self.assertEqual(cases, found)
+
+    def test_hours_that_are_too_many(self):
+        """A run has 100000 rounds at most, of which 400 may be left out, and 1000 sections. 3600 seconds of work are ten
+        hours of 1000 nodes with 4 keys, at 0.1 s for an interval."""
+        cases = {"nodes=200 keys=6 hours=30": "108000 intervals .* from 1 to 99600 are run: hours=27.66 is the most",
+                 "nodes=1000 keys=4 hours=11": "39600 intervals .* from 1 to 36000 are run: hours=10 is the most",
+                 "nodes=12 keys=2 fanout=3 hours=1": "3600 intervals .* from 1 to 600 are run: hours=0.16 is the most",
+                 "nodes=12 keys=2 hours=0": "0 intervals under each seed, and from 1 to 99600 are run"}
+        for words, why in cases.items():
+            with self.assertRaisesRegex(cluster.Refused, f"hours=[0-9]+ would be {why}"):
+                of(f"{words} writes=1 entry=40 packet=400000")
+
+    def test_seeds(self):
+        """Those that bound, and tell what heals, are others than those that choose."""
+        cases = {"few": rules.CHOOSING, "many-bound": rules.BOUNDING, "restart-one": rules.BOUNDING,
+                 "split": rules.BOUNDING, "many-stop": rules.FIRST}
+        self.assertEqual(cases, {stage: of(ROOMY).seeds(stage) for stage in cases})
 
     def test_budget_that_a_sum_refuses(self):
         """Room for 28 entries, where 2000 of 50 bytes take 100000, and with the digest of 2000 numbers 120000. Where a
@@ -175,10 +209,16 @@ class Calls(unittest.TestCase):
 
     def test_writes_that_stop(self):
         """After 200 intervals, which are 600 rounds, none for the 7 rounds of a target of 70 s, so for 3 intervals."""
-        it = of(f"{SHARED} fanout=3 interval=30 target=70")
+        it = of(f"{SHARED} fanout=3 interval=30 target=70 hours=1")
         text = it.scene("many-stop")
         self.assertEqual((7, 609, 201, True), (it.target, it.rounds("many-stop"), text.count("[[load]]"),
                                                text.endswith(scenario.load(601, 609, 0))))
+
+    def test_runs_that_bound(self):
+        """An hour is 120 intervals of half a minute, behind 100: the rounds 301 to 660, two of three without writes."""
+        it = of(f"{SHARED} fanout=3 interval=30 hours=1")
+        self.assertEqual((660, (301, 660), 220), (it.rounds("many-bound"), it.window("many-bound"),
+                                                  it.scene("many-bound").count("[[load]]")))
 
     def test_healing(self):
         """After 50 intervals, so in round 151. A split of 40 of them ends with round 270; ten groups are down for an
@@ -213,13 +253,34 @@ class Healing(unittest.TestCase):
         cases = {"": ("split", "restart"), "forget=yes": ("split", "restart", "forgotten"), "split=0": ("restart",),
                  "split=0 restarts=0 forget=yes": (), "restarts=0": ("split",)}
         self.assertEqual(cases, {more: of(f"{ROOMY} {more}").heals() for more in cases})
-        self.assertEqual({"split": ("split",), "forgotten": ("restart", "forgotten")},
-                         of(f"{ROOMY} forget=yes").healing_stages())
+
+    def test_what_is_run_of_it(self):
+        """Beside several groups one alone, where nodes forget as they do there. 150 of 300 nodes are the one group."""
+        split, one, both = {"split": ("split",)}, ("restart",), ("restart", "forgotten")
+        cases = {"": split | {"restart": one}, "forget=yes": split | {"forgotten": both},
+                 "restarts=5": split | {"restart": one, "restart-one": one},
+                 "restarts=5 forget=yes split=0": {"forgotten": both, "forgotten-one": both},
+                 "restarts=150 split=0": {"restart": one}, "restarts=0": split}
+        self.assertEqual(cases, {more: of(f"{ROOMY} {more}").healing_stages() for more in cases})
+        self.assertEqual([("split",), ("forgotten", "forgotten-one")],
+                         [tuple(of_these) for _, of_these in of(f"{ROOMY} restarts=5 forget=yes").healing_groups()])
+        it = of(f"{ROOMY} restarts=5 forget=yes")
+        text = it.scene("forgotten-one")
+        self.assertEqual((5, 5, 5, it.begins, True), (
+            text.count("[[restart]]"), text.count("forget = true\n"), text.count(f"round = {it.begins}\n"),
+            it.ends("forgotten-one"), text.startswith("format = 2\n")))
 
     def test_who_restarts(self):
-        """One node, or a tenth of 50 in each of ten rounds; of 10 nodes 4 in each of two."""
-        cases = {ROOMY: (1, 1, 51), LARGE: (5, 10, 60), FEW + " restarts=4": (4, 2, 102)}
+        """One node, or a tenth of 50 in each of ten rounds; of 100 nodes 20 in each of two, and of 10 nodes 4 in one, as
+        together they are no more than half."""
+        cases = {ROOMY: (1, 1, 51), LARGE: (5, 10, 60), SHARED + " restarts=20": (20, 2, 52),
+                 SHARED + " restarts=60": (50, 1, 51), FEW + " restarts=4": (4, 1, 101)}
         self.assertEqual(cases, {words: (*of(words).restarting(), of(words).ends("restart")) for words in cases})
+        found = {(nodes, each): of(f"nodes={nodes} keys=1 writes=1 entry=40 packet=4000 restarts={each}").restarting()
+                 for nodes in (2, 3, 20, 21, 30) for each in range(1, nodes + 1)}
+        self.assertEqual({}, {told: (each, groups) for told, (each, groups) in found.items()
+                              if not 1 <= each <= each * groups <= max(1, told[0] // 2) or groups > 10})
+        self.assertEqual((10, 1), found[(20, 10)])
 
 
 def rows(*greatest):
@@ -247,7 +308,7 @@ class Reading(unittest.TestCase):
         self.found.rows[(12, NEWEST)] = [rows(2, 3, 9, 9, 9, 9), rows(4, 4, 6, 5, 5, 5)]
         for row in self.found.rows[(12, NEWEST)][1][:5]:
             row["cut"] = 0
-        self.assertEqual({(3, 4): [9, 6], (3, 6): []}, {it: self.found.floor(it) for it in ((3, 4), (3, 6))})
+        self.assertEqual({(3, 4): [9, 6], (3, 6): []}, {it: self.found.uncut(it) for it in ((3, 4), (3, 6))})
 
     def test_healed(self):
         """After round 3 the first seed is back in round 6, the third, and the other in round 4; after round 4 it never

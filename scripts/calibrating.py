@@ -18,7 +18,7 @@ TARGETS = 5
 
 
 class Told(NamedTuple):
-    """A bound that was told, what the seeds had that it comes from, and what fresh ones have; None is without an end."""
+    """A bound that was told, what the seeds behind it had, and what fresh ones have; None is without an end."""
 
     name: str
     bound: float

@@ -637,7 +637,9 @@ def levels_off_later(decision):
     it = decision.study
     stages = it.steady_stages()
     longer = [str(it.rounds(stage)) for stage in stages[stages.index(decision.stage) + 1:]]
-    return f"Whether it levels off later is seen from {' and then '.join(longer)} rounds, and no more." if longer else ""
+    if not longer:
+        return ""
+    return f"Whether it levels off later is seen from {' and then '.join(longer)} rounds, and no more."
 
 
 def at_least(study):
@@ -732,9 +734,9 @@ def of_healing(it):
         one = unit(it)[:-1]
         run = f"is one such group, down for one {one}"
         if groups > 1:
-            run = (f"are {groups} such groups, one in each {one}, each down for one, and one alone. The times count from "
-                   f"when the last one is up again, and the longer one is told. While nodes restart in each {one}, "
-                   "`greatest` is the number of the round and bounds nothing")
+            run = (f"are {groups} such groups, one in each {one}, each down for one, and one alone. The times count "
+                   "from when the last one is up again, and the longer one is told. While nodes restart in each "
+                   f"{one}, `greatest` is the number of the round and bounds nothing")
         said.append(f"{it.group()} is the size of a group that restarts at once{in_place}. What was run {run}.")
     return said + ([rules.DOWN_FOR_LONGER] if it.leaves() else [])
 

@@ -132,8 +132,8 @@ def captions(decision, healing):
     healed = captions_of_healing(it, healing.mode, band) if healing else {}
     most = " Of each interval the round with the most is shown." if it.fanout > 1 else ""
     return {
-        "worst": f"The knee: worst staleness in rounds {first} to {last} of the runs that chose. Bars go from the least "
-                 f"to the most of the seeds, points are the seed in the middle. {above}{same}",
+        "worst": f"The knee: worst staleness in rounds {first} to {last} of the runs that chose. Bars go from the "
+                 f"least to the most of the seeds, points are the seed in the middle. {above}{same}",
         "cut": f"The share of lacking entries that the budget cut, in the same rounds.",
         "greatest": "The age of the oldest write that some copy lacks, round by round, under seed 1. Each mode has the "
                     f"budget that it would take, as the key says. Wide curves lie below narrow ones.{most}",

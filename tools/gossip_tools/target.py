@@ -154,8 +154,8 @@ class Search:
         return self.bound()
 
     def halve(self):
-        """Finds the modes whose largest budget keeps to the target, and the least of each. Where nothing can be cut, all
-        modes do the same."""
+        """Finds the modes whose largest budget keeps to the target, and the least of each. Where nothing can be cut,
+        all modes do the same."""
         it = self.study
         cuts = self.top < (it.nodes - 1) * it.keys
         self.run({(self.top, mode) for mode in (it.fits if cuts else [it.usual])})
@@ -167,18 +167,36 @@ class Search:
                 bounds[mode] = budget
 
     def bound(self):
-        """Raises the least budget of the chosen mode until all the seeds that bound keep to the target. Whether they
-        do."""
-        it, mode, stage = self.study, self.chosen, f"{self.stage}-bound"
-        above, budget = True, self.least[mode]
-        while above and self.top not in self.bounded:
-            pair = budget, mode
-            self.stages.plan(stage, {pair}, 1)
-            bound = self.bounded[budget] = answer.Bound(it, stage, self.stages.carry_out(stage, {pair}), pair)
-            above = above_target(it, bound.worst) if bound.is_level() else len(bound.worst)
-            self.budget, budget = budget, min(self.top, budget + max(1, budget * max(1, above // OF_SEEDS) // RAISED))
-        self.run({(self.budget, mode)})
-        return not above
+        """Raises the least budget of the chosen mode until all the seeds that bound keep to the target, and then looks
+        between that and the largest below it that doesn't. Whether some budget keeps to it."""
+        below, budget, keeps = None, self.least[self.chosen], False
+        while budget:
+            above = self.above(budget)
+            if above:
+                below = budget
+            else:
+                self.budget, keeps = budget, True
+            budget = self.between(below) if keeps else self.raised(budget, above)
+        self.run({(self.budget, self.chosen)})
+        return keeps
+
+    def above(self, budget):
+        """Under how many of the seeds that bound a budget of the chosen mode has more than the target."""
+        stage, pair = f"{self.stage}-bound", (budget, self.chosen)
+        self.stages.plan(stage, {pair}, 1)
+        bound = self.bounded[budget] = answer.Bound(self.study, stage, self.stages.carry_out(stage, {pair}), pair)
+        return above_target(self.study, bound.worst) if bound.is_level() else len(bound.worst)
+
+    def raised(self, budget, above):
+        """The budget to be run after one that has too much under so many seeds; None after the largest."""
+        more = max(1, budget * max(1, above // OF_SEEDS) // RAISED)
+        return min(self.top, budget + more) if budget < self.top else None
+
+    def between(self, below):
+        """The budget to be run between one that keeps to the target and one that doesn't; None where they are close."""
+        if below is None or self.budget - below <= max(1, self.budget // RAISED):
+            return None
+        return (self.budget + below) // 2
 
     def packet(self, mode):
         return self.study.packet(mode, self.study.whole(self.least[mode]))

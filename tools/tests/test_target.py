@@ -77,10 +77,15 @@ class Searched(unittest.TestCase):
             # (what it then brings is known of the seeds that choose too)
             self.assertIn((bounded[-1], DEPTH), search.pairs)
         self.assertEqual(({rules.FIRST}, {None}), tuple(set(search.stages.asked[it]) for it in ("many", "many-bound")))
-        for rising, is_met in (((80,), True), (range(401), False)):
+        search, found = searched("target=10 mode=scuttle-depth", {DEPTH: 800}, 0, range(401))
+        self.assertEqual((False, 400), (found, [*search.bounded][-1]))
+
+    def test_between(self):
+        """With 80 it isn't level under any of 20 seeds, so a fifth more is next, 96, which keeps to it. Between both is
+        88, and 84, from which 80 is a twentieth away. Where 88 isn't level either, 92 is within a twentieth of that."""
+        for rising, budget, bounded in (((80,), 84, [80, 96, 88, 84]), ((80, 88), 92, [80, 96, 88, 92])):
             search, found = searched("target=10 mode=scuttle-depth", {DEPTH: 800}, 0, rising)
-            self.assertEqual((is_met, is_met, not is_met),
-                             (found, len(search.bounded) == 2, [*search.bounded][-1] == 400))
+            self.assertEqual((True, budget, bounded), (found, search.budget, [*search.bounded]))
 
     def test_smallest_packet(self):
         """100 numbers of 10 bytes are 1000 for a scuttle mode and 4000 for a precise one: with 50 entries of 40 bytes

@@ -6,12 +6,13 @@ use Rattle.simulation.specs.CatchingUp.{AllArePassedOn, StalenessIsBounded}
 use Rattle.simulation.specs.Floors.{CutsNothingUpTo}
 use Rattle.simulation.specs.Lists.{list_after, lists_after}
 use Rattle.simulation.specs.Outcomes.{figures_in}
+use Rattle.simulation.specs.Paths.{next_moment}
 use Rattle.simulation.specs.Rounds.{begun, tables_after}
 use Rattle.simulation.specs.Soundness.{writes_by}
 use Rattle.simulation.proofs.Best.{begun_generation}
 use Rattle.simulation.proofs.CatchingUp.{paths_catch_up}
-use Rattle.simulation.proofs.Floors.{copies_after, copies_begun, states_after}
-use Rattle.simulation.proofs.Moments.{sound}
+use Rattle.simulation.proofs.Floors.{copies_after, copies_begun, states_after, uncut_rows}
+use Rattle.simulation.proofs.Moments.{not_after, sound}
 use Rattle.simulation.proofs.Soundness.{counts_after}
 
 -- what was written by a round stands among the writes up to it
@@ -87,7 +88,7 @@ module _ (s : Settings) (lawful : IsLawfulScenario s) (from to : ℕ) (first : 1
     caught_up : IsUpTo (greatest_mark own r) (greatest_mark (table_of_node ts p) r)
     caught_up =
         subst (λ us. IsUpTo (greatest_mark own r) (greatest_mark (table_of_node us p) r)) ((sound s lawful).ends to (omega (arith, first, le)))
-        (paths_catch_up s lawful r r_in (record { round = from; exchanges = 0 }) (record { round = to; exchanges = length (round_list_of s to).exchanges }) p first none (passed r p r_in p_in apart))
+        (paths_catch_up s lawful r r_in (record { round = from; exchanges = 0 }) (record { round = to; exchanges = length (round_list_of s to).exchanges }) p first (uncut_rows s lawful.nodes.0 lawful.nodes.1 lawful.keys.0 lawful.keys.1 to (record { round = to; exchanges = length (round_list_of s to).exchanges }) none (λ n upto. not_after (next_moment n) (record { round = to; exchanges = length (round_list_of s to).exchanges }) upto)) (passed r p r_in p_in apart))
 
     module _ (e : Entry) (there : Contains (writes_upto s r to) e) where
       generation : e.generation ≡ generation_upto s r to

@@ -5,15 +5,15 @@ pub use Rattle.std.proofs.Math.ListN.{get_or-append}
 pub use Rattle.std.proofs.Math.Nat.{add-mod_right, add-mul-mod_self_left, mod-add-div, mod-eq_of_lt, mod-lt, mul-le-mul_right}
 pub use Rattle.std.proofs.Math.Seq.{take-length}
 pub use Rattle.std.proofs.lemmas.Bool.{and_parts, both_ways, cases_eq, cases_lt, eqb-true, le-ltb, lt-ltb, ne_eqb}
-pub use Rattle.std.proofs.lemmas.List.{append-nil, ext_get_or, get_or-append_right, get_or-map, get_or_past, length-map, length-set, length-take-le, map-append, map-set, take-append-drop, take_all, take_more}
-pub use Rattle.std.proofs.lemmas.List.Elements.{All-append, All-contains, All-head, All-nil, All-push, All-tail, All-take, All-weaker, Contains-append_cases}
+pub use Rattle.std.proofs.lemmas.List.{append-nil, ext_get_or, get_or-append_right, get_or-map, get_or_past, length-map, length-set, length-take, length-take-le, map-append, map-set, take-append-drop, take_all, take_more}
+pub use Rattle.std.proofs.lemmas.List.Elements.{All-append, All-cons, All-contains, All-head, All-map, All-nil, All-push, All-tail, All-take, All-weaker, Contains-append_cases}
 pub use Rattle.std.proofs.lemmas.List.FromFn.{get_or-map-range_with_len, get_or-range_with_len, length-map-range_with_len, length-range_with_len, map-range_with_len_more}
 pub use Rattle.std.proofs.lemmas.List.Kept.{AllPairs-filter}
 pub use Rattle.std.proofs.lemmas.List.Sums.{fold-append, fold_more, sum_by-append, sum_by-cons, sum_by-le}
 pub use Rattle.std.proofs.lemmas.Option.{get_or_from_slice_get, same_Some, slice_get-get_or, slice_get_within}
 pub use Rattle.std.proofs.lemmas.Result.{on_ok_weaker}
 pub use Rattle.std.specs.List.{filter, range_with_len, sum_by}
-pub use Rattle.std.specs.Prelude.{Contains, IfSome, is_none, nat_lt, slice_get}
+pub use Rattle.std.specs.Prelude.{Contains, IfSome, IsSomeAnd, is_none, nat_lt, slice_get}
 pub use Rattle.std.specs.declared.cmp.Ordering.TheVariants.{Less}
 pub use Rattle.bench_types.specs.Budget.{largest_share, share_of}
 pub use Rattle.bench_types.specs.calls.Budget.{IsLawfulBudget}
@@ -69,7 +69,7 @@ pub use Rattle.model.specs.declared.writes.Write.{Write}
 pub use Rattle.model.specs.inner.Items.{no_item, place_of}
 pub use Rattle.model.specs.inner.Owns.{KeepOwnParts, KeepsOwn}
 pub use Rattle.model.specs.inner.Writes.{next_write}
-pub use Rattle.round_plan.proofs.Generations.{generation_upto-format_1, generation_upto-next, generation_upto-rises, generation_upto-same, generation_upto_le, restarts-forgets}
+pub use Rattle.round_plan.proofs.Generations.{generation_upto-next, generation_upto-rises, generation_upto-same, generation_upto_le, restarts-forgets}
 pub use Rattle.round_plan.proofs.Growth.{born-own_writes, count_before-grown, count_upto-grown, keys-own_writes, length-writes_before, next-own_writes, next-writes_upto, writes_before-grown, writes_upto-grown, written_upto-grown}
 pub use Rattle.round_plan.proofs.Planned.{planned_list}
 pub use Rattle.round_plan.proofs.Written.{born-writes_upto, is_of, writes_upto-filtered, written-writes_upto}

@@ -1,12 +1,15 @@
 -- Runs that have cut nothing: their copies are states of their owners, and hold as much as those of any other mode and
 -- budget.
--- Serves `uncut_copies_are_states`, `Alike`, `Best`, `Bounds` and `CatchingUp`.
-use Rattle.simulation.proofs.Common.{◌≡◌, ◌≢◌, ℕ, zero, suc, ◌+◌, ◌-◌, ◌<◌, ◌≤◌, true, false, if◌then◌else◌, List, [], ◌∷◌, length, take, drop, fold, All, Some, None, inl, inr, refl, sym, ap, ◌∙◌, subst, arith, Contains, cases_eq, take-append-drop, All-take, Contains-append_cases, fold-append, Entry, Mark, Exchange, Record, IsPlanned, absent, mark_of, mark_held, IsBefore, IsUpTo, absent-first, not_both, up_to-then, Settings, Table, entry_at, mark_at, greatest_mark, greatest_version, with_own_write, with_own_writes, without_others, without_all, table_of_node, AreCopiesOf, own_mark, Folded, exchange_in, fold_of, MissesNone, copy-up_to, greatest_mark-same, greatest_mark-none, CutNothing, MissNone, keeps_records, misses-own, fold_states, HoldsAsMuchOf, as_much-from, entry_at-own_write_other, entry_at-without_all, entry_at-without_others_other, generation_upto, forgets_now, restarts_now, round_list_of, count_upto, count_before, own_writes, written_upto, generation_upto-same, generation_upto-next, restarts-forgets, count_before-grown, next-own_writes, written_upto-grown, planned_list}
-use Rattle.simulation.specs.Floors.{CutsNothingUpTo, UncutCopiesAreStates}
+-- Serves most of the crate.
+use Rattle.simulation.proofs.Common.{◌≡◌, ◌≢◌, ℕ, zero, suc, ◌+◌, ◌-◌, ◌<◌, ◌≤◌, true, false, if◌then◌else◌, List, [], ◌∷◌, length, take, All, Some, None, inl, inr, refl, sym, ap, ◌∙◌, subst, arith, Contains, cases_eq, All-take, Contains-append_cases, Entry, Mark, Exchange, Record, IsPlanned, absent, mark_of, mark_held, IsBefore, IsUpTo, absent-first, not_both, up_to-then, Settings, Table, entry_at, mark_at, greatest_mark, greatest_version, with_own_write, with_own_writes, without_others, without_all, table_of_node, AreCopiesOf, own_mark, MissesNone, copy-up_to, greatest_mark-same, greatest_mark-none, CutNothing, MissNone, misses-own, fold_states, HoldsAsMuchOf, as_much-from, entry_at-own_write_other, entry_at-without_all, entry_at-without_others_other, generation_upto, forgets_now, restarts_now, round_list_of, count_upto, count_before, own_writes, written_upto, generation_upto-same, generation_upto-next, restarts-forgets, count_before-grown, next-own_writes, written_upto-grown, planned_list, get_or_from_slice_get, slice_get_within}
+use Rattle.simulation.specs.Floors.{CutsNothingBefore, CutsNothingUpTo, UncutCopiesAreStates}
+use Rattle.simulation.specs.Healing.{Moment, IsUpToMoment}
 use Rattle.simulation.specs.Outcomes.{row_in}
+use Rattle.simulation.specs.Paths.{next_moment}
 use Rattle.simulation.specs.Rounds.{after_restart, begun, rules_of, round_of, tables_after, records_in}
 use Rattle.simulation.specs.Soundness.{writes_by, tables_within, IsSoundRun}
 use Rattle.simulation.proofs.Begun.{begun_at}
+use Rattle.simulation.proofs.Moments.{not_after, recorded_before}
 use Rattle.simulation.proofs.Rings.{sum_none}
 use Rattle.simulation.proofs.Soundness.{sound_run, counts_after}
 
@@ -68,6 +71,14 @@ pub uncut_records : (records : List Record) → Rattle.simulation.specs.Rows.cut
 uncut_records records none r there =
     let both = sum_none (λ (x : Record). x.back_cut + x.forth_cut) records r none there in
     (omega (arith, both), omega (arith, both))
+
+-- a round, before its exchanges; what comes before that is of an earlier one
+abbrev begins_at : ℕ → Moment
+begins_at round = record { round = round; exchanges = 0 }
+
+in_earlier : (n : Moment) (round : ℕ) → IsUpToMoment (next_moment n) (begins_at round) → n.round < round
+in_earlier n round (inl less) = less
+in_earlier n round (inr (same, le)) = absurd (omega (arith, le))
 
 module _ (s : Settings) (some : 2 ≤ s.nodes) (most : s.nodes ≤ 4096) (some_key : 1 ≤ s.keys) (few_keys : s.keys ≤ 64) where
   sound : IsSoundRun s
@@ -165,34 +176,34 @@ module _ (s : Settings) (some : 2 ≤ s.nodes) (most : s.nodes ≤ 4096) (some_k
                 (up_to-then (mark_of e) (greatest_mark was owner) (own_mark (table_of_node (tables_after s (round - 1)) owner)) upto_was (copy-up_to (writes_by s (round - 1)) s.nodes s.keys (tables_after s (round - 1)) (copies_after (round - 1)) n owner lt owner_in)))
           ]
 
-  -- the records of a beginning of a round's list are among the round's
-  abbrev opened : ℕ → Folded
-  opened round = record { tables = begun s round (tables_after s (round - 1)); records = [] }
-
-  beginning : (round i : ℕ) → CutNothing (records_in s round) → CutNothing (fold_of (rules_of s) (begun s round (tables_after s (round - 1))) (take i (exchanges round))).records
-  beginning round i none r there =
-      none r
-      (subst (λ (f : Folded). Contains f.records r)
-      (sym (fold-append (exchange_in (rules_of s)) (opened round) (take i (exchanges round)) (drop i (exchanges round))) ∙ ap (fold (exchange_in (rules_of s)) (opened round)) (take-append-drop i (exchanges round)))
-      (keeps_records (rules_of s) (drop i (exchanges round)) (fold_of (rules_of s) (begun s round (tables_after s (round - 1))) (take i (exchanges round))) r there))
-
   pub uncut_round : (round : ℕ) → (row_in s round).cut ≡ 0 → CutNothing (records_in s round)
   uncut_round round none = uncut_records (records_in s round) none
 
-  within_states : (round i : ℕ) → 1 ≤ round → CutNothing (records_in s round) → MissNone s.nodes (writes_by s (round - 1)) (tables_after s (round - 1)) → MissNone s.nodes (writes_by s round) (tables_within s round i)
-  within_states round i first none states =
-      fold_states (rules_of s) s.nodes s.keys (writes_by s round) (take i (exchanges round)) (opened round) (All-take (IsPlanned s.nodes) i (exchanges round) (among round)) (copies_begun round first) (begun_states round first states) (beginning round i none)
+  within_states : (m : Moment) → 1 ≤ m.round → CutsNothingBefore s m → MissNone s.nodes (writes_by s (m.round - 1)) (tables_after s (m.round - 1)) → MissNone s.nodes (writes_by s m.round) (tables_within s m.round m.exchanges)
+  within_states m first none states =
+      fold_states (rules_of s) s.nodes s.keys (writes_by s m.round) (take m.exchanges (exchanges m.round)) (record { tables = begun s m.round (tables_after s (m.round - 1)); records = [] }) (All-take (IsPlanned s.nodes) m.exchanges (exchanges m.round) (among m.round)) (copies_begun m.round first) (begun_states m.round first states)
+      (λ r there. let at = recorded_before s m.round m.exchanges r there in none (record m { exchanges = at.0 }) r first (inr (refl, at.1)) at.2)
 
-  pub states_after : (round : ℕ) → CutsNothingUpTo s round → MissNone s.nodes (writes_by s round) (tables_after s round)
-  states_after zero none = λ n owner lt owner_in e there alike upto. absurd (omega (arith, there.1))
-  states_after (suc round) none =
-      let before = states_after round (λ t first le. none t first (omega (arith, le))) in
+  -- where nothing was cut before the round behind one
+  states_ended : (round : ℕ) → CutsNothingBefore s (begins_at (suc round)) → MissNone s.nodes (writes_by s round) (tables_after s round)
+  states_ended zero none = λ n owner lt owner_in e there alike upto. absurd (omega (arith, there.1))
+  states_ended (suc round) none =
+      let m : Moment = record { round = suc round; exchanges = length (exchanges (suc round)) } in
+      let before = states_ended round (λ n r first upto. none n r first (inl (omega (arith, in_earlier n (suc round) upto)))) in
       let same : round ≡ suc round - 1 = omega arith in
       subst (MissNone s.nodes (writes_by s (suc round))) (sound.ends (suc round) (omega arith))
-      (within_states (suc round) (length (exchanges (suc round))) (omega arith) (uncut_round (suc round) (none (suc round) (omega arith) (omega arith))) (subst (λ t. MissNone s.nodes (writes_by s t) (tables_after s t)) same before))
+      (within_states m (omega arith) (λ n r first upto. none n r first (inl (omega (arith, not_after (next_moment n) m upto)))) (subst (λ t. MissNone s.nodes (writes_by s t) (tables_after s t)) same before))
+
+  -- rows tell of all exchanges of their rounds
+  pub uncut_rows : (last : ℕ) (m : Moment) → CutsNothingUpTo s last → ((n : Moment) → IsUpToMoment (next_moment n) m → n.round ≤ last) → CutsNothingBefore s m
+  uncut_rows last m none within n r first upto is =
+      uncut_round n.round (none n.round first (within n upto)) r (n.exchanges, slice_get_within (records_in s n.round) n.exchanges r is, get_or_from_slice_get (records_in s n.round) n.exchanges r r is)
+
+  pub states_after : (round : ℕ) → CutsNothingUpTo s round → MissNone s.nodes (writes_by s round) (tables_after s round)
+  states_after round none = states_ended round (uncut_rows round (begins_at (suc round)) none (λ n upto. omega (arith, in_earlier n (suc round) upto)))
 
   pub copies_are_states : UncutCopiesAreStates s
-  copies_are_states round i first none n owner lt owner_in = record {
-    written = (sound.within round i first).copies.holds n lt owner;
-    last = within_states round i first (uncut_round round (none round first (omega arith))) (states_after (round - 1) (λ t some_round le. none t some_round (omega (arith, le)))) n owner lt owner_in;
+  copies_are_states m first none n owner lt owner_in = record {
+    written = (sound.within m.round m.exchanges first).copies.holds n lt owner;
+    last = within_states m first none (states_ended (m.round - 1) (λ l r some upto. none l r some (inl (omega (arith, first, in_earlier l (suc (m.round - 1)) upto))))) n owner lt owner_in;
   }

@@ -1,8 +1,12 @@
 -- What the two formats have in common.
--- Serves `format_1_leaves_nothing_over` and `the_format_has_no_part`.
-use Rattle.simulation.proofs.Common.{◌≡◌, ℕ, zero, suc, ◌-◌, ◌<◌, Bool, true, false, eqb, if◌then◌else◌, List, length, map, Option, Some, None, refl, ap, ◌∙◌, arith, range_with_len, le-ltb, Entry, Settings, IsLawfulScenario, Table, entry_at, with_own_writes, without_all, without_others, table_of_node, generation_at, is_left_over, leftover_at, fold_of, generation_upto-format_1}
+-- Serves `the_format_has_no_part` and `unforgetful_runs_leave_nothing_over`.
+use Rattle.simulation.proofs.Common.{◌≡◌, ℕ, zero, suc, ◌+◌, ◌-◌, ◌<◌, [], Bool, true, false, eqb, if◌then◌else◌, List, length, map, Option, Some, None, refl, ap, ◌∙◌, arith, range_with_len, le-ltb, Entry, Settings, IsLawfulScenario, Table, entry_at, with_own_writes, without_all, without_others, table_of_node, generation_at, is_left_over, leftover_at, fold_of, All, All-head, All-tail, generation_upto, ◌&&◌, ◌∷◌, get_or}
 use Rattle.model.specs.Figures.{figures_of}
-use Rattle.simulation.specs.Formats.{LeavesNothingOver, FormatHasNoPart}
+use Rattle.round_plan.specs.Outages.{forgets_in, forgets_now, restarts_in}
+use Rattle.scenario.specs.declared.elements.Restart.{Restart}
+use Rattle.std.specs.List.{list_any}
+use Rattle.std.specs.Prelude.{◌||◌}
+use Rattle.simulation.specs.Formats.{NeverForgets, LeavesNothingOver, FormatHasNoPart}
 use Rattle.simulation.specs.Outcomes.{figures_in, row_in}
 use Rattle.simulation.specs.Rounds.{restarted, begun, rules_of, round_of, tables_after, records_in}
 use Rattle.simulation.specs.Rows.{row_of}
@@ -10,8 +14,26 @@ use Rattle.simulation.proofs.Modes.{forgets, restarts, now, same_list, same_list
 use Rattle.simulation.proofs.Rings.{sum_below-none}
 use Rattle.simulation.proofs.Soundness.{sound_run, counts_after}
 
--- in format 1 every generation is 0, so none is below it
-module _ (s : Settings) (lawful : IsLawfulScenario s) (first : s.format ≡ 1) (round : ℕ) where
+none_forget : (s : Settings) → NeverForgets s → (node round : ℕ) → forgets_now s node round ≡ false
+unfolding forgets_now
+none_forget s never node round = any_none s.restarts never
+  where
+    and_false : (b : Bool) → (b && false) ≡ false
+    and_false true = refl
+    and_false false = refl
+
+    any_none : (rs : List Restart) → All (λ (r : Restart). r.forget ≡ false) rs → list_any (forgets_in node round) rs ≡ false
+    any_none [] each = refl
+    any_none (r ∷ rs) each =
+        let here : forgets_in node round r ≡ false = ap (λ b. restarts_in node round r && b) (All-head (λ (x : Restart). x.forget ≡ false) r rs each) ∙ and_false (restarts_in node round r) in
+        (λ i. here i || list_any (forgets_in node round) rs) ∙ any_none rs (All-tail (λ (x : Restart). x.forget ≡ false) r rs each)
+
+first_generation : (s : Settings) → NeverForgets s → (node round : ℕ) → generation_upto s node round ≡ 0
+first_generation s never node zero = refl
+first_generation s never node (suc round) = ap (λ b. generation_upto s node round + (if b then 1 else 0)) (none_forget s never node (suc round)) ∙ omega (arith, first_generation s never node round)
+
+-- where none forgets every generation is 0, so none is below it
+module _ (s : Settings) (lawful : IsLawfulScenario s) (never : NeverForgets s) (round : ℕ) where
   abbrev ts : List Table
   ts = tables_after s round
 
@@ -27,12 +49,12 @@ module _ (s : Settings) (lawful : IsLawfulScenario s) (first : s.format ≡ 1) (
     | false ↦ ap one_if (old (entry_at (table_of_node ts p) r k))
   ]
     where
-      never : generation_at ts r ≡ 0
-      never = (counts_after s lawful.nodes.0 lawful.nodes.1 lawful.keys.0 lawful.keys.1 round r r_in).0 ∙ generation_upto-format_1 s lawful first r round
+      is_first : generation_at ts r ≡ 0
+      is_first = (counts_after s lawful.nodes.0 lawful.nodes.1 lawful.keys.0 lawful.keys.1 round r r_in).0 ∙ first_generation s never r round
 
       old : (o : Option Entry) → is_left_over (generation_at ts r) o ≡ false
       old None = refl
-      old (Some e) = le-ltb e.generation (generation_at ts r) (omega (arith, never))
+      old (Some e) = le-ltb e.generation (generation_at ts r) (omega (arith, is_first))
 
   nothing_over : (figures_in s round).leftover ≡ 0
   unfolding figures_of
@@ -42,7 +64,14 @@ module _ (s : Settings) (lawful : IsLawfulScenario s) (first : s.format ≡ 1) (
       sum_below-none (table_of_node ts p).keys (leftover_at ts p r) (λ k lt. none_over p r k (omega (arith, r_lt, sizes)))))
 
 pub leaves_nothing_over : (s : Settings) → IsLawfulScenario s → LeavesNothingOver s
-leaves_nothing_over s lawful first round = nothing_over s lawful first round
+leaves_nothing_over s lawful = record {
+  unforgetful = λ never round. nothing_over s lawful never round;
+  format_1 = λ first k d lt. stays_false (get_or s.restarts k d).forget (λ it_does. let two : s.format ≡ 2 = (lawful.restarts.each k d lt).forget it_does in absurd (omega (arith, first, two)));
+}
+  where
+    stays_false : (b : Bool) → (b ≡ true → ⊥) → b ≡ false
+    stays_false true never = absurd (never refl)
+    stays_false false never = refl
 
 -- no rule asks for the format's number
 module _ (s : Settings) (format : ℕ) where

@@ -15,6 +15,8 @@ pub mod CatchingUp
 pub mod Best
 pub mod Bounds
 pub mod Alike
+pub mod SmallRings
+pub mod Otherwise
 pub mod Stepping
 pub mod Playing
 pub mod Common

@@ -1,9 +1,8 @@
 -- The moments of a run: what the exchange at one of them does, and what stays from one to a later one.
--- Serves `Bounds`, `CatchingUp`, `Healing`, `Paths` and `Rings`.
-use Rattle.simulation.proofs.Common.{◌≡◌, ℕ, zero, suc, ◌+◌, ◌-◌, ◌<◌, ◌≤◌, Bool, true, false, if◌then◌else◌, List, [], length, take, drop, fold, get_or, Some, inl, inr, refl, sym, ap, ◌∙◌, subst, arith, slice_get, Contains, take-append-drop, take_all, fold-append, fold_more, get_or_from_slice_get, slice_get_within, Exchange, digest_kind, IsPlanned, Settings, IsLawfulScenario, Table, applied, table_of_node, DeltaView, delta_between, digest_size, LosesNothing, fate_of, initiator_after, last_fate, responder_after, sent_until, Folded, exchange_in, fold_of, initiator_is, next_recorded, responder_is, round_list_of, planned_list}
+-- Serves most of the crate.
+use Rattle.simulation.proofs.Common.{◌≡◌, ℕ, zero, suc, ◌+◌, ◌-◌, ◌<◌, ◌≤◌, Bool, true, false, if◌then◌else◌, List, [], length, take, drop, fold, get_or, Some, inl, inr, refl, sym, ap, ◌∙◌, subst, arith, slice_get, Contains, take-append-drop, take_all, fold-append, fold_more, get_or_from_slice_get, slice_get_within, Exchange, digest_kind, IsPlanned, Settings, IsLawfulScenario, Table, applied, table_of_node, DeltaView, delta_between, digest_size, LosesNothing, fate_of, initiator_after, last_fate, responder_after, sent_until, Folded, exchange_in, fold_of, initiator_is, responder_is, round_list_of, planned_list, length-append, get_or-append, length-take, get_or-append_right, slice_get-get_or, Record, Rules, fold_counts_records, exchanged, ◌∷◌}
 use Rattle.bench_types.specs.declared.exchanges.Fate.TheVariants as fate
 use Rattle.simulation.specs.Healing.{Moment, IsUpToMoment, table_at_moment}
-use Rattle.simulation.specs.Paths.{record_at}
 use Rattle.simulation.specs.Rounds.{begun, rules_of, tables_after, records_in}
 use Rattle.simulation.specs.Soundness.{AreSound, tables_within, IsSoundRun}
 use Rattle.simulation.proofs.Soundness.{sound_run}
@@ -21,12 +20,55 @@ cut-answered : (lost : Bool) (d1 d2 : ℕ) (back forth : DeltaView) → (sent_un
 cut-answered true d1 d2 back forth = refl
 cut-answered false d1 d2 back forth = refl
 
-fate-ended : (e : Exchange) → LosesNothing e → fate_of e ≡ fate.Ok
+pub fate-ended : (e : Exchange) → LosesNothing e → fate_of e ≡ fate.Ok
 fate-ended e (came1, came2, came3) = fate-answered e came1 came2 ∙ ap last_fate came3
 
 pub not_after : (m n : Moment) → IsUpToMoment m n → m.round ≤ n.round
 not_after m n (inl less) = omega (arith, less)
 not_after m n (inr (same, le)) = omega (arith, same)
+
+pub moments_then : (l m n : Moment) → IsUpToMoment l m → IsUpToMoment m n → IsUpToMoment l n
+moments_then l m n (inl less) upto = inl (omega (arith, less, not_after m n upto))
+moments_then l m n (inr (same, le)) (inl less) = inl (omega (arith, same, less))
+moments_then l m n (inr (same, le)) (inr (same', le')) = inr (same ∙ same', omega (arith, le, le'))
+
+-- what the exchange at a moment records
+abbrev pub record_at : Settings → Moment → Exchange → Record
+record_at s m e = (exchanged (rules_of s) e (table_at_moment s m e.initiator) (table_at_moment s m e.responder)).sent
+
+-- what is recorded stays in its place
+keeps_place : (rules : Rules) (es : List Exchange) (f : Folded) (k : ℕ) (d : Record) → k < length f.records → get_or (fold (exchange_in rules) f es).records k d ≡ get_or f.records k d
+keeps_place rules [] f k d lt = refl
+keeps_place rules (e ∷ es) f k d lt =
+    let sent : Record = (exchanged rules e (table_of_node f.tables e.initiator) (table_of_node f.tables e.responder)).sent in
+    keeps_place rules es (exchange_in rules f e) k d (omega (arith, lt, length-append f.records (sent ∷ []))) ∙ get_or-append f.records (sent ∷ []) d k lt
+
+-- a round after so many of its exchanges
+module _ (s : Settings) (round i : ℕ) where
+  abbrev all : List Exchange
+  all = (round_list_of s round).exchanges
+
+  abbrev begun_round : Folded
+  begun_round = record { tables = begun s round (tables_after s (round - 1)); records = [] }
+
+  abbrev pub so_far : Folded
+  so_far = fold_of (rules_of s) begun_round.tables (take i all)
+
+  pub all_folded : fold (exchange_in (rules_of s)) so_far (drop i all) ≡ fold (exchange_in (rules_of s)) begun_round all
+  all_folded = sym (fold-append (exchange_in (rules_of s)) begun_round (take i all) (drop i all)) ∙ ap (fold (exchange_in (rules_of s)) begun_round) (take-append-drop i all)
+
+  pub counted : length so_far.records ≡ length (take i all)
+  counted = fold_counts_records (rules_of s) (take i all) begun_round ∙ omega arith
+
+  pub stays_placed : (k : ℕ) (d : Record) → k < length so_far.records → slice_get (records_in s round) k ≡ Some (get_or so_far.records k d)
+  stays_placed k d lt =
+      let within : k < length (records_in s round) = omega (arith, lt, counted, length-take i all, fold_counts_records (rules_of s) all begun_round) in
+      slice_get-get_or (records_in s round) k d within
+      ∙ ap Some (ap (λ (f : Folded). get_or f.records k d) (sym all_folded) ∙ keeps_place (rules_of s) (drop i all) so_far k d lt)
+
+  -- each of their records stands in an earlier place among the round's
+  pub recorded_before : (r : Record) → Contains so_far.records r → (k : ℕ) × (k + 1 ≤ i) × (slice_get (records_in s round) k ≡ Some r)
+  recorded_before r (k, lt, is) = (k, omega (arith, lt, counted, length-take i all), stays_placed k r lt ∙ ap Some is)
 
 module _ (s : Settings) (lawful : IsLawfulScenario s) where
   pub sound : IsSoundRun s
@@ -74,14 +116,20 @@ module _ (s : Settings) (lawful : IsLawfulScenario s) where
     pub next_tables : tables_within s m.round (m.exchanges + 1) ≡ us
     next_tables = ap (λ (f : Folded). f.tables) next_folded
 
-    -- its record is among those of the round
+    -- its record stands in the same place among those of the round
+    pub placed : slice_get (records_in s m.round) m.exchanges ≡ Some (record_at s m e)
+    placed =
+        let before : length folded.records ≡ m.exchanges = omega (arith, in_list, counted s m.round m.exchanges, length-take m.exchanges (exchanges m.round)) in
+        let past : m.exchanges < length (so_far s m.round (m.exchanges + 1)).records = omega (arith, in_list, counted s m.round (m.exchanges + 1), length-take (m.exchanges + 1) (exchanges m.round)) in
+        let none : m.exchanges - m.exchanges ≡ 0 = omega arith in
+        stays_placed s m.round (m.exchanges + 1) m.exchanges (record_at s m e) past
+        ∙ ap Some
+        (ap (λ (f : Folded). get_or f.records m.exchanges (record_at s m e)) next_folded
+        ∙ get_or-append_right folded.records (record_at s m e ∷ []) m.exchanges m.exchanges (record_at s m e) before (omega arith)
+        ∙ ap (λ k. get_or (record_at s m e ∷ []) k (record_at s m e)) none)
+
     pub recorded : Contains (records_in s m.round) (record_at s m e)
-    recorded =
-        subst (λ (f : Folded). Contains f.records (record_at s m e))
-        (sym (ap (λ f. fold (exchange_in (rules_of s)) f (drop (m.exchanges + 1) (exchanges m.round))) next_folded)
-        ∙ sym (fold-append (exchange_in (rules_of s)) opened (take (m.exchanges + 1) (exchanges m.round)) (drop (m.exchanges + 1) (exchanges m.round)))
-        ∙ ap (fold (exchange_in (rules_of s)) opened) (take-append-drop (m.exchanges + 1) (exchanges m.round)))
-        (next_recorded (rules_of s) folded e (drop (m.exchanges + 1) (exchanges m.round)))
+    recorded = (m.exchanges, slice_get_within (records_in s m.round) m.exchanges (record_at s m e) placed, get_or_from_slice_get (records_in s m.round) m.exchanges (record_at s m e) (record_at s m e) placed)
 
     abbrev pub delta : ℕ → ℕ → DeltaView
     delta from to = delta_between s.mode e.rotation s.budget (at from) (at to)

@@ -1,12 +1,12 @@
 -- A path of exchanges makes fresh what its last holder has.
--- Serves `exchanges_make_fresh`, `paths_make_fresh`, `uncut_exchanges_hand_on` and `Rings`.
-use Rattle.simulation.proofs.Common.{◌≡◌, ℕ, ◌+◌, ◌<◌, ◌≤◌, false, Some, inl, inr, refl, sym, ◌∙◌, subst, arith, Bool, true, if◌then◌else◌, slice_get, cases_eq, Exchange, Record, digest_kind, Settings, IsLawfulScenario, applied, table_of_node, DeltaView, digest_size, last_fate, sent_until, sent-uncut, HasAllOf, fresh_from, has_all, hands_on, round_list_of}
+-- Serves `exchanges_make_fresh`, `paths_make_fresh`, `uncut_exchanges_hand_on`, `Rings` and `SmallRings`.
+use Rattle.simulation.proofs.Common.{◌≡◌, ℕ, ◌+◌, ◌<◌, ◌≤◌, false, Some, inl, inr, refl, sym, ◌∙◌, subst, arith, Bool, true, if◌then◌else◌, slice_get, cases_eq, Exchange, Record, digest_kind, Settings, IsLawfulScenario, applied, table_of_node, DeltaView, digest_size, last_fate, sent_until, sent-uncut, HasAllOf, fresh_from, has_all, hands_on, round_list_of, IsSomeAnd}
 use Rattle.bench_types.specs.declared.exchanges.Fate.TheVariants as fate
 use Rattle.simulation.specs.Rounds.{rules_of}
 use Rattle.simulation.specs.Soundness.{writes_by, tables_within}
 use Rattle.simulation.specs.Healing.{Moment, IsFreshAt, ExchangesMakeFresh, SendsOwnPartAt, AnswersWhole, table_at_moment}
-use Rattle.simulation.specs.Paths.{next_moment, SendsCopyAt, back, forth, UncutExchangesHandOn, IsReached, own, stays, handed, PathsMakeFresh}
-use Rattle.simulation.proofs.Moments.{comes_back, comes_forth, delta, folded, here, next_tables, not_after, planned, sound, us}
+use Rattle.simulation.specs.Paths.{next_moment, SendsCopyAt, HandsOn, back, forth, UncutExchangesHandOn, IsReached, own, stays, handed, PathsMakeFresh}
+use Rattle.simulation.proofs.Moments.{comes_back, comes_forth, delta, folded, here, next_tables, not_after, placed, planned, record_at, sound, us}
 use Rattle.simulation.proofs.Healing.{copies_stay}
 
 -- what a record tells of the messages that were lost, and of both deltas
@@ -43,11 +43,24 @@ module _ (s : Settings) (lawful : IsLawfulScenario s) where
     ]
 
     -- where nothing is cut each copy is sent
-    all_sent : (owner from to : ℕ) → from < s.nodes → (delta s lawful m e first listed from to).cut ≡ 0 → SendsCopyAt s m e.rotation owner from to
+    pub all_sent : (owner from to : ℕ) → from < s.nodes → (delta s lawful m e first listed from to).cut ≡ 0 → SendsCopyAt s m e.rotation owner from to
     all_sent owner from to from_in none i own_item there =
         let tables = (here s lawful m e first listed).copies in
         sent-uncut s.mode (table_at_moment s m from) (table_at_moment s m to) e.rotation s.budget (tables.proper from (omega (arith, from_in, tables.tables.size)))
         (omega (arith, (planned s lawful m e first listed).rotation, (tables.tables.tables from from_in).nodes)) none i there
+
+    -- so its record says enough
+    pub hands_on_recorded : (owner : ℕ) → (AnswersWhole (record_at s m e) → HandsOn s m owner e.responder e.initiator) × ((record_at s m e).fate ≡ fate.Ok → (record_at s m e).forth_cut ≡ 0 → HandsOn s m owner e.initiator e.responder)
+    hands_on_recorded owner =
+        let meet = planned s lawful m e first listed in
+        let size : ℕ → ℕ = λ n. digest_size (digest_kind s.mode) (table_at_moment s m n) in (
+          λ whole.
+              let said = answered_whole e.lost1 e.lost2 e.lost3 (size e.initiator) (size e.responder) (delta s lawful m e first listed e.responder e.initiator) (delta s lawful m e first listed e.initiator e.responder) whole in
+              back e listed said.0 said.1 (all_sent owner e.responder e.initiator meet.responder said.2),
+          λ is_ok none.
+              let said = ended_whole e.lost1 e.lost2 e.lost3 (size e.initiator) (size e.responder) (delta s lawful m e first listed e.responder e.initiator) (delta s lawful m e first listed e.initiator e.responder) is_ok none in
+              forth e listed said.0 (all_sent owner e.initiator e.responder meet.initiator said.1),
+        )
 
     -- a node's own part is its copy of itself
     own_sent : (from to : ℕ) → from < s.nodes → SendsOwnPartAt s m e.rotation from to → SendsCopyAt s m e.rotation from from to
@@ -90,12 +103,5 @@ module _ (s : Settings) (lawful : IsLawfulScenario s) where
 
   pub exchanges_hand_on : UncutExchangesHandOn s
   exchanges_hand_on m e owner first listed =
-      let meet = planned s lawful m e first listed in
-      let size : ℕ → ℕ = λ n. digest_size (digest_kind s.mode) (table_at_moment s m n) in (
-        λ whole.
-            let said = answered_whole e.lost1 e.lost2 e.lost3 (size e.initiator) (size e.responder) (delta s lawful m e first listed e.responder e.initiator) (delta s lawful m e first listed e.initiator e.responder) whole in
-            back e listed said.0 said.1 (all_sent m e first listed owner e.responder e.initiator meet.responder said.2),
-        λ is_ok none.
-            let said = ended_whole e.lost1 e.lost2 e.lost3 (size e.initiator) (size e.responder) (delta s lawful m e first listed e.responder e.initiator) (delta s lawful m e first listed e.initiator e.responder) is_ok none in
-            forth e listed said.0 (all_sent m e first listed owner e.initiator e.responder meet.initiator said.1),
-      )
+      subst (λ o. IsSomeAnd o (λ r. (AnswersWhole r → HandsOn s m owner e.responder e.initiator) × (r.fate ≡ fate.Ok → r.forth_cut ≡ 0 → HandsOn s m owner e.initiator e.responder)))
+      (sym (placed s lawful m e first listed)) (hands_on_recorded m e first listed owner)

@@ -1,14 +1,14 @@
 -- On a ring quiet rounds, as many as a node has others, make all copies fresh.
--- Serves `quiet_rings_heal`, `Floors` and `Formats`.
+-- Serves `quiet_rings_heal`, `Floors`, `Formats`, `Otherwise` and `SmallRings`.
 use Rattle.simulation.proofs.Common.{◌≡◌, ◌≢◌, ℕ, zero, suc, ◌+◌, ◌-◌, ◌*◌, ◌/◌, ◌%◌, ◌<◌, ◌≤◌, Bool, true, false, not, ◌&&◌, cond, eqb, if◌then◌else◌, List, [], ◌∷◌, map, length, get_or, All, Some, None, ◌⊎◌, inl, inr, refl, sym, ap, ◌∙◌, subst, arith, slice_get, Contains, range_with_len, filter, sum_by, option_map, mod-lt, mod-eq_of_lt, mod-add-div, add-mul-mod_self_left, add-mod_right, cases_lt, cases_eq, ne_eqb, le-ltb, slice_get-get_or, All-tail, sum_by-cons, get_or-map-range_with_len, length-map-range_with_len, get_or-range_with_len, length-range_with_len, Entry, Mark, mark_of, is_before, IsUpTo, sum_below, most_below, before-no, Ring, Settings, IsLawfulScenario, Table, entry_at, mark_at, greatest_version, table_of_node, writes_of_owner, generation_at, staleness_of, staleness_at, is_left_over, leftover_at, stale_count, rounds_behind, Write, write_of_entry, first_above, generation_upto, is_up, ring_peer, peer_by, peer_of, begins, exchange_of, round_list_of, word_of, count_before, count_upto, own_write_at, writes_in, writes_upto, next-writes_upto, written-writes_upto, HasOwnPart, IsFresh, HasAllOf, has_all, of_generation, not_behind}
 use Rattle.model.specs.Figures.{figures_of}
 use Rattle.simulation.specs.Lists.{list_after, lists_after}
 use Rattle.simulation.specs.Rounds.{tables_after}
 use Rattle.simulation.specs.Soundness.{writes_by, AreSound}
 use Rattle.simulation.specs.Healing.{Moment, IsUpToMoment, LeavesCopy, IsQuiet, HaveWrittenSince, IsHealed, QuietRingsHeal}
-use Rattle.simulation.specs.Paths.{next_moment, record_at, HandsOn, own, stays, handed}
-use Rattle.simulation.proofs.Moments.{ended, recorded, sound}
-use Rattle.simulation.proofs.Paths.{exchanges_hand_on, paths_fresh}
+use Rattle.simulation.specs.Paths.{next_moment, HandsOn, own, stays, handed}
+use Rattle.simulation.proofs.Moments.{ended, record_at, recorded, sound}
+use Rattle.simulation.proofs.Paths.{hands_on_recorded, paths_fresh}
 use Rattle.simulation.proofs.Soundness.{counts_after}
 
 -- so many steps from a start there is one with a given rest
@@ -139,7 +139,7 @@ module _ (s : Settings) (lawful : IsLawfulScenario s) where
           as_new d found (inr first) = omega (arith, first)
           as_new d found (inl forgot) =
               let written : 1 ≤ count_upto s r round = since r r_in (omega (arith, forgot, (counts r r_in).0)) in
-              let own : HasOwnPart (table_of_node ts r) = subst (λ n. 1 ≤ greatest_version (table_of_node ts r) n) (sym (after.copies.tables.tables r r_in).node) (omega (arith, written, (counts r r_in).1)) in
+              let own : HasOwnPart (table_of_node ts r) = subst (λ n. 1 ≤ greatest_version (table_of_node ts r) n) (sym (after.copies.tables.tables r r_in).node) (omega (arith, (counts r r_in).1)) in
               omega (arith, of_generation (writes_by s round) s.nodes s.keys ts after.copies p r p_in r_in (all p r p_in r_in) own k d found)
 
     triples : (fold : ℕ → (ℕ → ℕ) → ℕ) → ((n : ℕ) (f : ℕ → ℕ) → ((i : ℕ) → i < n → f i ≡ 0) → fold n f ≡ 0) → (f : ℕ → ℕ → ℕ → ℕ) → ((p r k : ℕ) → p < s.nodes → r < s.nodes → f p r k ≡ 0) → fold (length ts) (λ p. fold (length ts) (λ r. fold (table_of_node ts p).keys (f p r))) ≡ 0
@@ -180,7 +180,7 @@ module _ (s : Settings) (lawful : IsLawfulScenario s) where
     list_is : (round_list_of s round).exchanges ≡ map (exchange_of s round) (range_with_len 0 s.nodes)
     list_is = ap (map (exchange_of s round)) (filter_all (begins s round) (range_with_len 0 s.nodes) range_begins)
 
-    listed : (n : ℕ) → n < s.nodes → slice_get (round_list_of s round).exchanges n ≡ Some (exchange_of s round n)
+    pub listed : (n : ℕ) → n < s.nodes → slice_get (round_list_of s round).exchanges n ≡ Some (exchange_of s round n)
     listed n lt =
         ap (λ es. slice_get es n) list_is
         ∙ slice_get-get_or (map (exchange_of s round) (range_with_len 0 s.nodes)) n (exchange_of s round n) (omega (arith, lt, length-map-range_with_len (exchange_of s round) 0 s.nodes))
@@ -191,7 +191,7 @@ module _ (s : Settings) (lawful : IsLawfulScenario s) where
     hands n lt =
         let m : Moment = record { round = round; exchanges = n } in
         let e = exchange_of s round n in
-        (exchanges_hand_on s lawful m e e.responder first (listed n lt)).0 (quiet.answered (record_at s m e) (recorded s lawful m e first (listed n lt)))
+        (hands_on_recorded s lawful m e first (listed n lt) e.responder).0 (quiet.answered (record_at s m e) (recorded s lawful m e first (listed n lt)))
 
     -- and leaves what copies have
     leaves : (holder owner : ℕ) → holder < s.nodes → LeavesCopy s holder owner round

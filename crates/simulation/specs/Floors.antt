@@ -1,13 +1,16 @@
 -- How good a run can be. As long as a run has cut nothing, each copy is a state of its owner, and no mode and no
 -- budget do better with the same nodes, peers, losses and writes: so those that cut nothing come to the same. Source:
 -- this project.
-use Rattle.std.specs.Prelude.{◌≡◌, ℕ, ◌≤◌}
+use Rattle.std.specs.Prelude.{◌≡◌, ℕ, ◌≤◌, slice_get, Some}
+use Rattle.bench_types.specs.declared.exchanges.Record.{Record}
 use Rattle.bench_types.specs.declared.exchanges.Rules.{Rules}
 use Rattle.scenario.specs.Settings.{Settings}
 use Rattle.model.specs.States.{HoldStates, HoldAsMuch}
-use Rattle.simulation.specs.Rounds.{tables_after}
+use Rattle.simulation.specs.Rounds.{tables_after, records_in}
 use Rattle.simulation.specs.Outcomes.{figures_in, row_in}
 use Rattle.simulation.specs.Soundness.{writes_by, tables_within}
+use Rattle.simulation.specs.Healing.{Moment, IsUpToMoment}
+use Rattle.simulation.specs.Paths.{next_moment}
 
 -- the same scenario under another mode, with another budget
 abbrev pub with_rules : Settings → Rules → Settings
@@ -17,11 +20,17 @@ with_rules s rules = record s { mode = rules.mode; budget = rules.budget }
 abbrev pub CutsNothingUpTo : Settings → ℕ → Type 0
 CutsNothingUpTo s last = (round : ℕ) → 1 ≤ round → round ≤ last → (row_in s round).cut ≡ 0
 
--- then each copy is a state of its owner, once the round has begun and after each of its exchanges
+-- no exchange before a moment cut anything
+abbrev pub CutsNothingBefore : Settings → Moment → Type 0
+CutsNothingBefore s m =
+    (n : Moment) (r : Record) → 1 ≤ n.round → IsUpToMoment (next_moment n) m
+    → slice_get (records_in s n.round) n.exchanges ≡ Some r → (r.back_cut ≡ 0) × (r.forth_cut ≡ 0)
+
+-- then each copy is a state of its owner
 abbrev pub UncutCopiesAreStates : Settings → Type 0
 UncutCopiesAreStates s =
-    (round i : ℕ) → 1 ≤ round → CutsNothingUpTo s round
-    → HoldStates s.nodes (writes_by s round) (tables_within s round i)
+    (m : Moment) → 1 ≤ m.round → CutsNothingBefore s m
+    → HoldStates s.nodes (writes_by s m.round) (tables_within s m.round m.exchanges)
 
 -- after a round nodes hold as much as in another run, no more copies are stale, and none for longer
 pub record IsAsGood (s other : Settings) (round : ℕ) : Type 0 where

@@ -1,16 +1,14 @@
 -- How freshness spreads. An exchange hands on what its sender holds of any owner: where that is fresh, so is the
 -- receiver's copy afterwards, if nothing of the owner was cut. So a path of exchanges, one after another, makes fresh
 -- what its last holder has, whatever is lost or cut elsewhere. Source: this project.
-use Rattle.std.specs.Prelude.{◌≡◌, ℕ, ◌+◌, ◌<◌, ◌≤◌, false, slice_get, Some}
+use Rattle.std.specs.Prelude.{◌≡◌, ℕ, ◌+◌, ◌<◌, ◌≤◌, false, slice_get, Some, IsSomeAnd}
 use Rattle.bench_types.specs.declared.exchanges.Exchange.{Exchange}
 use Rattle.bench_types.specs.declared.exchanges.Fate.TheVariants as fate
-use Rattle.bench_types.specs.declared.exchanges.Record.{Record}
 use Rattle.scenario.specs.Settings.{Settings}
 use Rattle.model.specs.ExchangeLaws.{LosesNothing}
-use Rattle.model.specs.Exchanged.{exchanged}
 use Rattle.model.specs.Spreads.{SendsCopy}
 use Rattle.round_plan.specs.Plan.{round_list_of}
-use Rattle.simulation.specs.Rounds.{rules_of}
+use Rattle.simulation.specs.Rounds.{rules_of, records_in}
 use Rattle.simulation.specs.Healing.{Moment, IsUpToMoment, IsFreshAt, LeavesCopy, AnswersWhole, table_at_moment}
 
 -- the moment after an exchange
@@ -32,18 +30,15 @@ pub data HandsOn (s : Settings) (m : Moment) (owner : ℕ) : ℕ → ℕ → Typ
       → LosesNothing e → SendsCopyAt s m e.rotation owner e.initiator e.responder
       → HandsOn s m owner e.initiator e.responder
 
--- what the exchange at a moment records
-abbrev pub record_at : Settings → Moment → Exchange → Record
-record_at s m e = (exchanged (rules_of s) e (table_at_moment s m e.initiator) (table_at_moment s m e.responder)).sent
-
--- one whose record says that it was answered in whole hands on each copy to its initiator, and one that ended and cut
--- nothing of its third message each one to its responder
+-- at its place among the round's records one has a record: where that says that it was answered in whole, it hands on
+-- each copy to its initiator, and where it ended and cut nothing of its third message, each one to its responder
 abbrev pub UncutExchangesHandOn : Settings → Type 0
 UncutExchangesHandOn s =
     (m : Moment) (e : Exchange) (owner : ℕ) → 1 ≤ m.round
     → slice_get (round_list_of s m.round).exchanges m.exchanges ≡ Some e
-    → (AnswersWhole (record_at s m e) → HandsOn s m owner e.responder e.initiator)
-    × ((record_at s m e).fate ≡ fate.Ok → (record_at s m e).forth_cut ≡ 0 → HandsOn s m owner e.initiator e.responder)
+    → IsSomeAnd (slice_get (records_in s m.round) m.exchanges) (λ r.
+    (AnswersWhole r → HandsOn s m owner e.responder e.initiator)
+    × (r.fate ≡ fate.Ok → r.forth_cut ≡ 0 → HandsOn s m owner e.initiator e.responder))
 
 -- a path from an owner: it holds its own state; what is held stays while no round begins that doesn't leave it; and
 -- exchanges hand it on

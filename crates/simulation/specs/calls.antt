@@ -2,3 +2,4 @@ pub mod Outcomes
 pub mod RoundView
 pub mod Simulation
 pub mod Standing
+pub mod SmallRings

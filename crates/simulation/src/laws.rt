@@ -38,9 +38,9 @@ pub fn paths_make_fresh()
     ensures { (s : Settings) → IsLawfulScenario s → PathsMakeFresh s }
 {}
 
-/// What an exchange's record says is enough for a path: one that wasn't lost before its answer came and cut nothing
-/// of it hands on each copy to its initiator, and one that lost nothing and cut nothing of its third message each to
-/// its responder.
+/// What stands at an exchange's place among its round's records is enough for a path: one that wasn't lost before its
+/// answer came and cut nothing of it hands on each copy to its initiator, and one that lost nothing and cut nothing of
+/// its third message each to its responder.
 pub fn uncut_exchanges_hand_on()
     ensures { (s : Settings) → IsLawfulScenario s → UncutExchangesHandOn s }
 {}
@@ -88,13 +88,13 @@ pub fn staleness_is_bounded()
     ensures { (s : Settings) → IsLawfulScenario s → StalenessIsBounded s }
 {}
 
-/// In format 1 nothing is ever left over, since no node forgets.
-pub fn format_1_leaves_nothing_over()
+/// Where no restart forgets nothing is ever left over, in either format. In format 1 none does.
+pub fn unforgetful_runs_leave_nothing_over()
     ensures { (s : Settings) → IsLawfulScenario s → LeavesNothingOver s }
 {}
 
-/// The number of the format has no part in tables and rows: a scenario of format 2 in which no node forgets comes to
-/// what it would come to in format 1, by the same budget.
+/// The number of the format has no part in tables and rows: with another one a scenario comes to the same, by the same
+/// budget and restarts.
 pub fn the_format_has_no_part()
     ensures { (s : Settings) → FormatHasNoPart s }
 {}

@@ -22,12 +22,14 @@ mod laws;
 mod plans;
 mod rounds;
 mod sims;
+mod witnesses;
 
 pub use laws::{
-    ample_budgets_cut_nothing, every_run_is_sound, exchanges_make_fresh,
-    format_1_leaves_nothing_over, fresh_copies_stay, paths_make_fresh, quiet_rings_heal,
-    staleness_is_bounded, the_format_has_no_part, uncut_copies_are_states, uncut_exchanges_hand_on,
-    uncut_modes_are_alike, uncut_paths_catch_up, uncut_runs_are_best,
+    ample_budgets_cut_nothing, every_run_is_sound, exchanges_make_fresh, fresh_copies_stay,
+    paths_make_fresh, quiet_rings_heal, staleness_is_bounded, the_format_has_no_part,
+    uncut_copies_are_states, uncut_exchanges_hand_on, uncut_modes_are_alike, uncut_paths_catch_up,
+    uncut_runs_are_best, unforgetful_runs_leave_nothing_over,
 };
 pub use rounds::Round;
 pub use sims::Sim;
+pub use witnesses::{exchanges_come_whole, paths_lead_on, rings_are_lawful, rings_grow_quiet};

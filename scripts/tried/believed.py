@@ -1,5 +1,5 @@
 """Trials of scripts/believed: it holds of the repository, and in a copy it finds each definition that stands elsewhere
-than what means it asks for."""
+than what means it asks for, and each premise of a law that no witness shows."""
 import shutil
 
 from tried.calls import run
@@ -25,6 +25,30 @@ CHANGES = {
              "ghost use Rattle.simulation.specs.calls.Outcomes.{AreRings};\n",
              "pub fn rings_are_rings()\n    ensures { AreRings }\n{}\n")},
         ["simulation.specs.calls.Outcomes.AreRings"],
+    ),
+    "a law alone asks for it": (
+        {"simulation/specs/Healing.antt": (
+            "", "abbrev pub IsIdle : Settings → Type 0\nIsIdle s = s.writes ≡ 0\n\n"
+            "abbrev pub IdleRingsRest : Settings → Type 0\nIdleRingsRest s = IsIdle s → ⊤\n"),
+         "simulation/src/laws.rt": (
+             "ghost use Rattle.simulation.specs.Healing.{IdleRingsRest};\n",
+             "pub fn idle_rings_rest()\n    ensures { (s : Settings) → IdleRingsRest s }\n{}\n"),
+         "simulation/src/witnesses.rt": (
+             "ghost use Rattle.simulation.specs.Healing.{IsIdle};\n",
+             # (a premise stands for nothing that is shown)
+             "pub fn rings_idle()\n    ensures { (s : Settings) → IsLawfulScenario s → IsIdle s }\n{}\n")},
+        ["simulation.specs.Healing.IsIdle comes about"],
+    ),
+    "a witness shows it": (
+        {"simulation/specs/Healing.antt": (
+            "", "abbrev pub IsIdle : Settings → Type 0\nIsIdle s = s.writes ≡ 0\n"),
+         "simulation/src/laws.rt": (
+             "ghost use Rattle.simulation.specs.Healing.{IsIdle};\n",
+             "pub fn idle_rings_rest()\n    ensures { (s : Settings) → IsIdle s → ⊤ }\n{}\n"),
+         "simulation/src/witnesses.rt": (
+             "ghost use Rattle.simulation.specs.Healing.{IsIdle};\n",
+             "pub fn rings_idle()\n    ensures { (forget : Bool) → IsIdle (ring_of_three forget) }\n{}\n")},
+        [],
     ),
     "it names one from further in": (
         {"model/specs/calls/Held.antt": (

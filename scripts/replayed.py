@@ -67,6 +67,9 @@ class Run:
     def restarted(self, round):
         return {it["node"] for it in self.restart if it["round"] == round}
 
+    def forgot(self, round):
+        return {it["node"] for it in self.restart if it["round"] == round and it.get("forget")}
+
     def has_down(self, round):
         return any(it["round"] <= round < it["round"] + it["down"] for it in self.restart)
 

@@ -29,7 +29,7 @@ const FIRST: Exchange = Exchange {
 };
 
 // So many nodes that threads share the list of a round, in which each meets the next one.
-const LONG_RING: [(&str, &str); 1] = [("nodes = 2", "nodes = 2048")];
+const LONG_RING: [(&str, &str); 1] = [("nodes = 2", "nodes = 4096")];
 
 // What makes of them two that are parted, one of which then forgets.
 const FORGETFUL: [(&str, &str); 2] = [
@@ -142,10 +142,10 @@ fn check_list(list: &RoundList) -> Result<(), Failure> {
 }
 
 fn check_long_ring(list: &RoundList) -> Result<(), Failure> {
-    check((list.nodes(), list.len(), list.unreached()) == (2048, 2048, 0))?;
+    check((list.nodes(), list.len(), list.unreached()) == (4096, 4096, 0))?;
     check(
-        list.exchanges().iter().zip(0..2048).all(|(exchange, node)| *exchange
-            == between(node, node.wrapping_add(1) % 2048)),
+        list.exchanges().iter().zip(0..4096).all(|(exchange, node)| *exchange
+            == between(node, node.wrapping_add(1) % 4096)),
     )
 }
 
@@ -164,14 +164,17 @@ fn run_words<R: Eprint + AllocGlobal>(rt: &R, scenario: &Scenario) -> Result<Run
     Ok(retried!(rt, "RunWords::new", RunWords::new(alloc, scenario)))
 }
 
-fn try_round_list_by<R: Eprint + AllocGlobal>(rt: &R, scenario: &Scenario) -> Result<(), Failure> {
+fn try_round_list_by<R: Eprint + AllocGlobal + Threads + Sync>(
+    rt: &R,
+    scenario: &Scenario,
+) -> Result<(), Failure> {
     let alloc = rt.alloc();
     let mut words = run_words(rt, scenario)?;
     words.next_round();
     let list = retried!(
         rt,
         "round_list_by",
-        round_list_by(alloc, scenario, 1, &words)
+        round_list_by(rt, alloc, scenario, 1, &words)
     );
     check_list(&list)
 }

@@ -26,7 +26,7 @@ pub use Rattle.bench_types.specs.declared.limits.TheConstants.{MOST_ROUNDS, MOST
 pub use Rattle.model.proofs.Common.{AreNextAfter, Entry, Exchange, IsNextAfter, IsPlanned, Mark, is_before, mark_of, next_version}
 pub use Rattle.model.specs.RoundLists.{round_list_view}
 pub use Rattle.rand_chacha.specs.ChaCha.{ChaCha, key_of, next_word, word_at}
-pub use Rattle.rayon.proofs.ListFacts.{AllZip-weaken, IfOk-then}
+pub use Rattle.rayon.proofs.ListFacts.{IfOk-then}
 pub use Rattle.rayon.proofs.ToStd.{nat_range-All}
 pub use Rattle.rayon.specs.Numbers.{nat_range}
 pub use Rattle.scenario.specs.Settings.{IsLawfulScenario, Settings}

@@ -1,9 +1,12 @@
 -- The list of a round, node by node.
--- Serves `round_list` and `round_list_by`.
-use Rattle.round_plan.proofs.Common.{◌≡◌, ℕ, ◌+◌, ◌<◌, ◌≤◌, true, false, not, ◌&&◌, List, [], ◌∷◌, ◌++◌, cond, map, take, length, get_or, All, count_by, sym, ap, ◌∙◌, arith, append-nil, length-append, range_with_len, filter, map-append, take_all, All-push, filter_more, get_or-range_with_len, length-range_with_len, get_or-map-range_with_len, length-map-range_with_len, count_by_more_yes, count_by_more_no, Exchange, Settings, IsPlanned, round_list_view}
+-- Serves `round_list_by`.
+use Rattle.round_plan.proofs.Common.{◌≡◌, ℕ, ◌+◌, ◌<◌, ◌≤◌, true, false, not, ◌&&◌, List, [], ◌∷◌, ◌++◌, cond, map, take, length, get_or, All, count_by, refl, subst, sym, ap, ◌∙◌, arith, append-nil, length-append, range_with_len, filter, map-append, take_all, All-push, filter_more, get_or-range_with_len, length-range_with_len, get_or-map-range_with_len, length-map-range_with_len, cond_both, count_by_more_yes, count_by_more_no, Exchange, Settings, IsPlanned, round_list_view}
+use Rattle.round_plan.specs.declared.rounds.Chosen.{Chosen}
+use Rattle.round_plan.specs.declared.rounds.Chosen.TheVariants.{Down, Unreached, Begins}
 use Rattle.round_plan.specs.Outages.{is_up}
 use Rattle.round_plan.specs.Plan.{exchange_of, begins, is_unreached, reaches, round_list_of}
-use Rattle.round_plan.specs.inner.Rounds.{AreChosen}
+use Rattle.round_plan.specs.inner.Rounds.{chosen_of, AreChosen}
+use Rattle.round_plan.proofs.Planned.{planned_at}
 
 -- what the nodes below i begin, and how many of them are unreached
 pub record IsListed (s : Settings) (round i : ℕ) (done : List Exchange) (missed : ℕ) : Type 0 where
@@ -13,14 +16,27 @@ pub record IsListed (s : Settings) (round i : ℕ) (done : List Exchange) (misse
   pub few : missed ≤ i
   pub short : length done ≤ i
 
--- the exchange that was chosen at a place is that node's
-pub chosen_at : (s : Settings) (round i : ℕ) (es : List Exchange) (d : Exchange) → AreChosen s round es → i < length es → (i < s.nodes) × (get_or es i d ≡ exchange_of s round i)
-chosen_at s round i es d chosen lt =
-    let below : i < s.nodes = omega (arith, ap length chosen.value, length-map-range_with_len (exchange_of s round) 0 s.nodes) in
-    (below, ap (λ xs. get_or xs i d) chosen.value ∙ get_or-map-range_with_len (exchange_of s round) 0 s.nodes i i d below (omega arith))
+-- what a choice says of its node
+abbrev pub IsChosen : Settings → ℕ → ℕ → Chosen → Type 0
+IsChosen s round node Down = is_up s node round ≡ false
+IsChosen s round node Unreached = (is_up s node round ≡ true) × (reaches s round node ≡ false)
+IsChosen s round node (Begins e) = (is_up s node round ≡ true) × (reaches s round node ≡ true) × (e ≡ exchange_of s round node)
 
-pub length_chosen : (s : Settings) (round : ℕ) (es : List Exchange) → AreChosen s round es → length es ≡ s.nodes
-length_chosen s round es chosen = ap length chosen.value ∙ length-map-range_with_len (exchange_of s round) 0 s.nodes
+pub is_chosen : (s : Settings) (round node : ℕ) → IsChosen s round node (chosen_of s round node)
+is_chosen s round node =
+    cond_both (is_up s node round) _ _ (IsChosen s round node)
+    (λ up. cond_both (reaches s round node) _ _ (IsChosen s round node) (λ reached. (up, reached, refl)) (λ away. (up, away)))
+    (λ down. down)
+
+-- what was made of the nodes in order: there are as many, and what stands at a place is what that node chose
+module _ (s : Settings) (round : ℕ) (made read : List Chosen) (same : read ≡ made) (are : AreChosen s round made) where
+  pub length_chosen : length read ≡ s.nodes
+  length_chosen = ap length (same ∙ are) ∙ length-map-range_with_len (chosen_of s round) 0 s.nodes
+
+  pub chosen_at : (i : ℕ) (d : Chosen) → i < length read → (i < s.nodes) × (get_or read i d ≡ chosen_of s round i)
+  chosen_at i d lt =
+      let here : i < s.nodes = omega (arith, lt, length_chosen) in
+      (here, ap (λ xs. get_or xs i d) (same ∙ are) ∙ get_or-map-range_with_len (chosen_of s round) 0 s.nodes i i d here (omega arith))
 
 -- all nodes make the round's plan
 pub listed_all : (s : Settings) (round i : ℕ) (done : List Exchange) (missed : ℕ) → IsListed s round i done missed → s.nodes ≤ i → round_list_view s.nodes missed done ≡ round_list_of s round
@@ -55,15 +71,15 @@ module _ (s : Settings) (round i : ℕ) (done : List Exchange) (missed : ℕ) (h
       ∙ sym (count_by_more_no (is_unreached s round) (range_with_len 0 s.nodes) i 0 within (ap (is_unreached s round) node_at ∙ out))
 
   -- the node begins an exchange
-  pub listed_begins : (e : Exchange) → is_up s i round ≡ true → reaches s round i ≡ true → e ≡ exchange_of s round i → IsPlanned s.nodes e → IsListed s round (i + 1) (done ++ e ∷ []) missed
-  listed_begins e up reached is planned = record {
+  pub listed_begins : (e : Exchange) → 2 ≤ s.nodes → is_up s i round ≡ true → reaches s round i ≡ true → e ≡ exchange_of s round i → IsListed s round (i + 1) (done ++ e ∷ []) missed
+  listed_begins e some up reached is = record {
     exchanges =
         (λ j. listed.exchanges j ++ is j ∷ [])
         ∙ sym (map-append (exchange_of s round) (filter (begins s round) (take i (range_with_len 0 s.nodes))) (i ∷ []))
         ∙ ap (λ b. map (exchange_of s round) (filter (begins s round) (take i (range_with_len 0 s.nodes)) ++ cond b (i ∷ []) [])) (sym (λ j. up j && reached j))
         ∙ ap (map (exchange_of s round)) (sym kept);
     unreached = counted_no (λ j. up j && not (reached j));
-    planned = All-push (IsPlanned s.nodes) done e listed.planned planned;
+    planned = All-push (IsPlanned s.nodes) done e listed.planned (subst (IsPlanned s.nodes) (sym is) (planned_at s round i some here));
     few = omega (arith, listed.few);
     short = omega (arith, listed.short, length-append done (e ∷ []));
   }

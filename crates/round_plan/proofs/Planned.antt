@@ -48,7 +48,7 @@ rotation-below : (r : Rotation) (nodes word : ℕ) → 2 ≤ nodes → rotation_
 rotation-below rotation.Random nodes word some = mod-lt word (omega arith)
 rotation-below rotation.Off nodes word some = omega arith
 
-planned_at : (s : Settings) (round node : ℕ) → 2 ≤ s.nodes → node < s.nodes → IsPlanned s.nodes (exchange_of s round node)
+pub planned_at : (s : Settings) (round node : ℕ) → 2 ≤ s.nodes → node < s.nodes → IsPlanned s.nodes (exchange_of s round node)
 planned_at s round node some here =
     let another = another_by s.nodes node some here s.peers round (word_of s node round 0) in
     record { initiator = here; responder = another.0; apart = λ e. another.1 (sym e); rotation = rotation-below s.rotation s.nodes (word_of s node round 4) some }

@@ -1,11 +1,11 @@
 -- The streams of all nodes, as they go on from round to round.
--- Serves `RunWords::next_round`, `draw_next` and `words_of`.
-use Rattle.round_plan.proofs.Common.{◌≡◌, ℕ, ◌+◌, ◌<◌, ◌≤◌, List, length, get_or, ap, ◌∙◌, arith, MOST_ROUNDS, ChaCha, word_at, key_of}
+-- Serves `RunWords::next_round`, `RunWords::of_round`, `draw_next` and `words_of`.
+use Rattle.round_plan.proofs.Common.{◌≡◌, ℕ, ◌+◌, ◌<◌, ◌≤◌, ◌++◌, List, length, take, drop, get_or, append-nil, ap, ◌∙◌, arith, drop_all, take_all, MOST_ROUNDS, ChaCha, word_at, key_of}
 use Rattle.round_plan.specs.declared.run_words.NodeWords.{NodeWords}
 use Rattle.round_plan.specs.declared.words.TheConstants.{ROUND_WORDS}
 use Rattle.round_plan.specs.Words.{position, seed_bytes, word_by}
 use Rattle.round_plan.specs.calls.Words.{AreWordsOf}
-use Rattle.round_plan.specs.inner.Streams.{stream_of, AreNextWords, HasDrawn, HaveDrawn, ArePartsOf}
+use Rattle.round_plan.specs.inner.Streams.{stream_of, AreNextWords, HasDrawn, HaveDrawn, StandBefore, ArePartsOf}
 
 -- the words that come next in a node's stream at the begin of a round are those of the round
 pub words_next : (seed node round : ℕ) (stream : ChaCha) (words : List ℕ) → stream ≡ stream_of seed node round 0 → AreNextWords stream words → AreWordsOf seed node round words
@@ -19,26 +19,33 @@ words_next seed node round stream words is next = record {
       ∙ ap (word_at 10 (key_of (seed_bytes seed)) node) e;
 }
 
+-- what is lent whole comes back whole
+pub back : {X : Type 0} (n : ℕ) (xs ys : List X) → length ys ≡ length xs → length ys ≤ n → take n (ys ++ drop (length ys) xs) ≡ ys
+back n xs ys same le =
+    ap (λ rest. take n (ys ++ rest)) (drop_all (length ys) xs (omega (arith, same)))
+    ∙ ap (take n) (append-nil ys)
+    ∙ take_all n ys le
+
 -- the parts below a place have drawn
 pub record HaveDrawnUpto (old new : List NodeWords) (i : ℕ) : Type 0 where
   pub count : length new ≡ length old
   pub done : (k : ℕ) (d : NodeWords) → k < i → k < length old → HasDrawn (get_or old k d) (get_or new k d)
   pub rest : (k : ℕ) (d : NodeWords) → i ≤ k → get_or new k d ≡ get_or old k d
 
--- they stand in the next round
-pub parts_next : (seed round : ℕ) (old new : List NodeWords) → round < MOST_ROUNDS → ArePartsOf seed round old → HaveDrawn old new → ArePartsOf seed (round + 1) new
-parts_next seed round old new last are drawn = record {
-  last = omega (arith, last);
+-- where they have the words of a round next, they then stand in it
+pub parts_next : (seed round : ℕ) (old new : List NodeWords) → 1 ≤ round → round ≤ MOST_ROUNDS → StandBefore seed round old → HaveDrawn old new → ArePartsOf seed round new
+parts_next seed round old new first last before drawn = record {
+  last = last;
   each = λ node d lt.
       let within : node < length old = omega (arith, lt, drawn.count) in
-      let was = are.each node d within in
+      let was = before node d within in
       let has = drawn.each node d within in
-      let e : position (round + 1) 0 + ROUND_WORDS ≡ position (round + 1 + 1) 0 = omega arith in
+      let e : position round 0 + ROUND_WORDS ≡ position (round + 1) 0 = omega (arith, first) in
       record {
         stream =
             has.stream
-            ∙ ap (λ (g : ChaCha). record g { word_pos = g.word_pos + ROUND_WORDS }) was.stream
+            ∙ ap (λ (g : ChaCha). record g { word_pos = g.word_pos + ROUND_WORDS }) was
             ∙ ap (λ at. record { key = key_of (seed_bytes seed); stream = node; word_pos = at }) e;
-        words = λ _. words_next seed node (round + 1) (get_or old node d).stream (get_or new node d).words was.stream has.words;
+        words = λ _. words_next seed node round (get_or old node d).stream (get_or new node d).words was has.words;
       };
 }

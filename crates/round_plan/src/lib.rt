@@ -9,9 +9,9 @@
 //!   says how a round adds to it (`grows`).
 //! - A generation follows from the scenario, as in how many rounds so far the node forgot (`generation_upto`). So
 //!   `writes_of` doesn't ask for it, and no entry has one that isn't the scenario's.
-//! - `round_list` chooses every node's exchange, also that of a node that is down, in several threads from 2048 nodes
-//!   on, and only then leaves out the nodes out of reach. For these threads it takes the runtime before the allocator,
-//!   and never waits: the crate `rayon` joins them.
+//! - A list is made of what each node is or begins, which `rayon` finds node by node, in several threads where there is
+//!   enough to go over. For these the calls take the runtime before the allocator; they never wait, as `rayon` joins
+//!   the threads.
 //! - `peer` draws its word on a ring too, where nothing uses it: one block is all that it costs.
 //! - A list `apart` rises, so two binary searches tell whether exactly one of two nodes is in it.
 //! - `as_slice` of `Writes` is there because a loop over a slice needs no index and no `None`.

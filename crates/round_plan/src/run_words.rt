@@ -3,7 +3,7 @@
 ghost use Rattle.std.specs.Prelude.{◌≡◌, ◌+◌, ◌^◌, ◌<◌, ◌≤◌, All, length, IfOk, IsOkUnless};
 ghost use Rattle.bench_types.specs.declared.faults.Fault.TheVariants.{OutOfMemory};
 ghost use Rattle.round_plan.specs.calls.Words.{run_words_of, AreWordsOf};
-ghost use Rattle.round_plan.specs.inner.Streams.{ArePartsOf, HaveDrawn};
+ghost use Rattle.round_plan.specs.inner.Streams.{HaveDrawn, StandBefore};
 
 use crate::words::{ROUND_WORDS, next_words, stream_at};
 use bench_types::Fault;
@@ -53,7 +53,27 @@ impl RunWords {
         Ok(RunWords {
             seed: scenario.seed(),
             round: 0,
-            parts: first_parts(alloc, scenario)?,
+            parts: parts_before(alloc, scenario, 1)?,
+        })
+    }
+
+    // The words of a round, whatever was drawn before.
+    pub(crate) fn of_round(
+        alloc: Global,
+        scenario: &Scenario,
+        round: u32,
+    ) -> Result<RunWords, Fault>
+        requires first { 1 ≤ round }
+        requires last { round ≤ MOST_ROUNDS }
+        ensures words { IfOk result (λ words. words ≡ run_words_of scenario.now round) }
+        ensures only { IsOkUnless result OutOfMemory }
+    {
+        let mut parts = parts_before(alloc, scenario, round)?;
+        draw_next(&mut parts);
+        Ok(RunWords {
+            seed: scenario.seed(),
+            round,
+            parts,
         })
     }
 
@@ -76,16 +96,19 @@ impl RunWords {
     }
 }
 
-fn first_parts(alloc: Global, scenario: &Scenario) -> Result<Vec<NodeWords>, Fault>
+// The parts whose streams have the words of a round next, and no words yet.
+fn parts_before(alloc: Global, scenario: &Scenario, round: u32) -> Result<Vec<NodeWords>, Fault>
+    requires first { 1 ≤ round }
+    requires last { round ≤ MOST_ROUNDS }
     ensures count { IfOk result (λ parts. length parts.items ≡ scenario.now.nodes) }
-    ensures parts { IfOk result (λ parts. ArePartsOf scenario.now.seed 0 parts.items) }
+    ensures parts { IfOk result (λ parts. StandBefore scenario.now.seed round parts.items) }
     ensures only { IsOkUnless result OutOfMemory }
 {
     let nodes = scenario.nodes();
     let mut parts = Vec::with_capacity(alloc, nodes as usize)?;
     for node in 0..nodes {
         parts.push(NodeWords {
-            stream: stream_at(scenario, node, 1, 0),
+            stream: stream_at(scenario, node, round, 0),
             words: [0; ROUND_WORDS as usize],
         })?;
     }

@@ -74,7 +74,7 @@ impl<T: MemoryTable + Send + Sync, H: RoundHistories<T>> Cluster<T, H> {
             drawn,
             processors,
         } = self;
-        let Plan { words, list } = drawn.plan(alloc, scenario, round)?;
+        let Plan { words, list } = drawn.plan(rt, alloc, scenario, round)?;
         let (begun, histories) = begin(scenario, tables, histories, &words, round)?;
         let rules = rules_of(scenario);
         let work = Work {
@@ -88,7 +88,14 @@ impl<T: MemoryTable + Send + Sync, H: RoundHistories<T>> Cluster<T, H> {
             requires { MayDraw scenario.now round words }
             ensures drawn { IfOk result (IsDrawnAfter scenario.entry.now round) }
             ensures only { IsOkUnless result OutOfMemory }
-        { drawn_after(words, alloc, scenario, round, workers) };
+        {
+            // (several workers leave this thread idle)
+            if workers == 1 {
+                Ok(Drawn::Words(words))
+            } else {
+                drawn_after(words, rt, alloc, scenario, round)
+            }
+        };
         let (tables, records, drawn) = run_list_with(rt, alloc, work, begun, draw)?;
         let drawn = drawn?;
         let hands = hands_of(rt, workers, processors);

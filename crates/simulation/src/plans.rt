@@ -11,6 +11,7 @@ use model::RoundList;
 use round_plan::{RunWords, round_list_by};
 use scenario::Scenario;
 use std::alloc::Global;
+use std::thread::Threads;
 
 /// The words of a round and its list.
 #[derive(Drop)]
@@ -30,7 +31,13 @@ pub(crate) enum Drawn {
 
 impl Drawn {
     /// The plan of a round: the one at hand, or else it is made. An error is lack of memory (`OutOfMemory`).
-    pub(crate) fn plan(self, alloc: Global, scenario: &Scenario, round: u32) -> Result<Plan, Fault>
+    pub(crate) fn plan(
+        self,
+        rt: &(impl Threads + Sync),
+        alloc: Global,
+        scenario: &Scenario,
+        round: u32,
+    ) -> Result<Plan, Fault>
         requires first { 1 ≤ round }
         requires last { round ≤ MOST_ROUNDS }
         requires before { IsDrawnAfter scenario.now (round - 1) self }
@@ -39,33 +46,34 @@ impl Drawn {
     {
         match self {
             Drawn::Next(plan) => Ok(plan),
-            Drawn::Words(words) => next_plan(words, alloc, scenario, round),
+            Drawn::Words(words) => next_plan(words, rt, alloc, scenario, round),
         }
     }
 }
 
-/// What is drawn after a round, by its words. Several workers leave the caller's thread idle, which then plans the next
-/// round, if there is one. An error is lack of memory (`OutOfMemory`).
+/// What is drawn after a round, by its words: the plan of the next round, if there is one. An error is lack of memory
+/// (`OutOfMemory`).
 pub(crate) fn drawn_after(
     words: RunWords,
+    rt: &(impl Threads + Sync),
     alloc: Global,
     scenario: &Scenario,
     round: u32,
-    workers: u32,
 ) -> Result<Drawn, Fault>
     requires { MayDraw scenario.now round words }
     ensures drawn { IfOk result (IsDrawnAfter scenario.now round) }
     ensures only { IsOkUnless result OutOfMemory }
 {
-    if workers == 1 || round == scenario.rounds() {
+    if round == scenario.rounds() {
         return Ok(Drawn::Words(words));
     }
-    let next = next_plan(words, alloc, scenario, round + 1)?;
+    let next = next_plan(words, rt, alloc, scenario, round + 1)?;
     Ok(Drawn::Next(next))
 }
 
 fn next_plan(
     mut words: RunWords,
+    rt: &(impl Threads + Sync),
     alloc: Global,
     scenario: &Scenario,
     round: u32,
@@ -77,6 +85,6 @@ fn next_plan(
     ensures only { IsOkUnless result OutOfMemory }
 {
     words.next_round();
-    let list = round_list_by(alloc, scenario, round, &words)?;
+    let list = round_list_by(rt, alloc, scenario, round, &words)?;
     Ok(Plan { words, list })
 }

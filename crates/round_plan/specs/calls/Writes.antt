@@ -1,11 +1,11 @@
 -- The writes of a round as a call answers them. Source: this project.
-use Rattle.std.specs.Prelude.{◌≡◌, ℕ, zero, suc, ◌+◌, ◌<◌, if◌then◌else◌, List, [], ◌++◌, length, map, All}
+use Rattle.std.specs.Prelude.{◌≡◌, ℕ, zero, suc, ◌<◌, if◌then◌else◌, List, [], ◌++◌, length, map, All}
 use Rattle.bench_types.specs.declared.entries.Entry.{Entry}
 use Rattle.scenario.specs.Settings.{Settings}
 use Rattle.round_plan.specs.declared.owners.OwnWrite.{OwnWrite}
 use Rattle.round_plan.specs.Generations.{generation_upto}
 use Rattle.round_plan.specs.Outages.{forgets_now}
-use Rattle.round_plan.specs.Writes.{count_before, own_writes, writes_upto}
+use Rattle.round_plan.specs.Writes.{own_writes, writes_upto}
 
 -- those of them that it has made before it writes in a round
 abbrev pub writes_before : Settings → ℕ → ℕ → List Entry

@@ -1,21 +1,27 @@
 -- What the parts of a round say. Source: this project.
-use Rattle.std.specs.Prelude.{◌≡◌, ℕ, List, length, map, All, ◌<◌, ◌≤◌, slice_index}
+use Rattle.std.specs.Prelude.{◌≡◌, ℕ, if◌then◌else◌, List, map, length, ◌<◌, ◌≤◌, slice_index}
 use Rattle.std.specs.List.{range_with_len}
-use Rattle.bench_types.specs.declared.exchanges.Exchange.{Exchange}
-use Rattle.bench_types.specs.calls.Exchange.{IsPlanned}
 use Rattle.bench_types.specs.declared.limits.TheConstants.{MOST_ROUNDS, MOST_WRITES}
 use Rattle.scenario.specs.Settings.{Settings}
-use Rattle.round_plan.specs.Plan.{exchange_of}
+use Rattle.round_plan.specs.declared.rounds.Chosen.{Chosen}
+use Rattle.round_plan.specs.declared.rounds.Chosen.TheVariants.{Down, Unreached, Begins}
+use Rattle.round_plan.specs.Outages.{is_up}
+use Rattle.round_plan.specs.Plan.{exchange_of, reaches}
 use Rattle.round_plan.specs.Writes.{count_before, write_number}
 
 -- a node of a scenario, in a round that a run may have
 abbrev pub IsNodeInRound : Settings → ℕ → ℕ → Type 0
 IsNodeInRound s node round = (node < s.nodes) × (1 ≤ round) × (round ≤ MOST_ROUNDS)
 
--- what each node would begin in a round, whoever is out of reach
-pub record AreChosen (s : Settings) (round : ℕ) (es : List Exchange) : Type 0 where
-  pub value : es ≡ map (exchange_of s round) (range_with_len 0 s.nodes)
-  pub planned : All (IsPlanned s.nodes) es
+-- what a node is in a round, or begins
+abbrev pub chosen_of : Settings → ℕ → ℕ → Chosen
+chosen_of s round node =
+    if is_up s node round
+    then (if reaches s round node then Begins (exchange_of s round node) else Unreached) else Down
+
+-- those of all nodes, in order
+abbrev pub AreChosen : Settings → ℕ → List Chosen → Type 0
+AreChosen s round chosen = chosen ≡ map (chosen_of s round) (range_with_len 0 s.nodes)
 
 abbrev pub AreWriteNumbers : Settings → ℕ → ℕ → ℕ → List ℕ → Type 0
 AreWriteNumbers s node round count_before numbers =

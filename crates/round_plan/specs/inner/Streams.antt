@@ -29,6 +29,11 @@ pub record HaveDrawn (old new : List NodeWords) : Type 0 where
   pub each : (node : ℕ) (d : NodeWords) → node < length old
       → HasDrawn (slice_index_or old node d) (slice_index_or new node d)
 
+-- the streams of all nodes have the words of a round next
+abbrev pub StandBefore : ℕ → ℕ → List NodeWords → Type 0
+StandBefore seed round parts =
+    (node : ℕ) (d : NodeWords) → node < length parts → (slice_index_or parts node d).stream ≡ stream_of seed node round 0
+
 -- a node's part in a round: its stream has the words of the next round next, and its words are those of this one
 pub record IsPartOf (seed round node : ℕ) (part : NodeWords) : Type 0 where
   pub stream : part.stream ≡ stream_of seed node (round + 1) 0

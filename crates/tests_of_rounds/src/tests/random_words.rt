@@ -147,7 +147,7 @@ fn list_by_kept_words(rt: HostRuntime) {
     let scenario = scenario_of(&rt, &[RANDOM, "nodes = 10\n", PLAIN]);
     let mut words = RunWords::new(rt.alloc(), &scenario).expect(&rt, "memory");
     words.next_round();
-    let list = round_list_by(rt.alloc(), &scenario, 1, &words).expect(&rt, "memory");
+    let list = round_list_by(&rt, rt.alloc(), &scenario, 1, &words).expect(&rt, "memory");
     expect_counts(&rt, &list, (10, 0));
     expect(&rt, list.get(0), Some(turned(0, 4, 3)));
 }

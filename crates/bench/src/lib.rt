@@ -9,7 +9,9 @@ use node_table::NodeTable;
 pub use runs::{check_input, compare, read_all, run};
 pub use simulation::{
     Round, ample_budgets_cut_nothing, every_run_is_sound, exchanges_make_fresh, fresh_copies_stay,
-    quiet_rings_heal,
+    paths_make_fresh, quiet_rings_heal, staleness_is_bounded, the_format_has_no_part,
+    uncut_copies_are_states, uncut_exchanges_hand_on, uncut_modes_are_alike, uncut_paths_catch_up,
+    uncut_runs_are_best, unforgetful_runs_leave_nothing_over,
 };
 pub use workers::{FreeGate, Gate};
 

@@ -4,6 +4,7 @@ import html.parser
 import pathlib
 import shlex
 import shutil
+import tomllib
 
 from tried.calls import TOOLS, program_that, refuses, run, started, waits_for
 from trials import PROGRAM, holds
@@ -27,24 +28,77 @@ class Tags(html.parser.HTMLParser):
             self.open.pop()
 
 
-def worst(folder, budget, first, last):
-    """The most of `greatest` in these rounds of each run with this budget in scuttle-depth, by seed."""
-    reports = [(folder / f"budget-{budget}.seed-{seed}.mode-scuttle-depth.csv").read_text() for seed in range(1, 6)]
-    return [max(int(line.split(",")[7]) for line in text.splitlines()[first:last + 1]) for text in reports]
+# The seeds that choose, the first of them, and those that bound.
+CHOOSE, FIRST, BOUND = range(1, 21), range(1, 7), range(21, 41)
+COLUMNS = "round,exchanges,unreached,lost,entries,cut,stale,greatest,leftover".split(",")
 
 
-def cut(report):
-    """What a report has of `cut`, as formats.md has its place."""
-    return {line.split(",")[5] for line in report.read_text().splitlines()[1:]}
+def column(folder, budget, name, seeds, mode="scuttle-depth"):
+    """A column of each run with this budget, by seed, as formats.md has its place."""
+    reports = [(folder / f"{budget}.seed-{seed}.mode-{mode}.csv").read_text() for seed in seeds]
+    return [[int(line.split(",")[COLUMNS.index(name)]) for line in text.splitlines()[1:]] for text in reports]
+
+
+def worst(folder, budget, first, last, seeds=CHOOSE, mode="scuttle-depth"):
+    """The most of `greatest` in these rounds of each run with this budget, by seed."""
+    return [max(it[first - 1:last]) for it in column(folder, f"budget-{budget}", "greatest", seeds, mode)]
+
+
+def budgets_of(folder):
+    return sorted({int(it.name.split(".")[0].partition("-")[2]) for it in folder.glob("budget-*.csv")})
+
+
+def held(one, other):
+    """Under how many seeds the one has less, and more."""
+    pairs = list(zip(one, other))
+    return sum(a < b for a, b in pairs), sum(a > b for a, b in pairs), len(pairs)
+
+
+def is_better(one, other):
+    """"At least 15 of 20 seeds say so and not more than 2 the other way", and of six as large a part."""
+    less, more, seeds = held(one, other)
+    return less >= 0.75 * seeds and more <= 0.1 * seeds
+
+
+def healed(folder, budget):
+    """The rounds after what a stage heals from until `greatest` is at most one round above its most of the 20 rounds
+    before, or more, that count, and until nothing is left over, by seed. After a split rounds count once its first
+    writes would be older than that."""
+    scene = tomllib.loads((folder / "scenario").read_text())
+    restarts, splits = scene.get("restart", []), scene.get("partition", [])
+    begins = min(it.get("round", it.get("from")) for it in restarts + splits)
+    ends = max([it["round"] + it["down"] - 1 for it in restarts] + [it["to"] for it in splits])
+    after, gone = [], []
+    # (the 50 rounds before are of two parts, of 30 to fill and 20 to look at, or of so many times these)
+    for rows in column(folder, budget, "greatest", BOUND):
+        level = max(rows[(begins - 1) * 3 // 5:begins - 1]) + 1
+        first = max(ends + 1, begins + level if splits else 0)
+        after.append(next(at for at in range(first, len(rows) + 1) if rows[at - 1] <= level) - ends)
+    if "leftover" in next(folder.glob("*.csv")).read_text():
+        gone = [next(at for at in range(ends + 1, len(rows) + 1) if not rows[at - 1]) - ends
+                for rows in column(folder, budget, "leftover", BOUND)]
+    return after, gone, len(restarts)
+
+
+def spanned(figure):
+    return f"{min(figure)} to {max(figure)}" if min(figure) < max(figure) else f"{max(figure)}"
 
 
 def as_rounds(figure):
-    return f"{min(figure)} to {max(figure)} rounds" if min(figure) < max(figure) else f"{max(figure)} rounds"
+    return f"{spanned(figure)} rounds"
+
+
+def took(name, what, ends, seeds):
+    """A line on what heals, by what each seed took, a round being a second."""
+    most = max(seeds)
+    return (f"\n  {name:<19} {what}: {ends} after at most {most} round{'s' if most > 1 else ''}, {most} s, in 20 of 21 "
+            f"cases ({spanned(seeds)} under 20 seeds)\n")
 
 
 def try_advice(room):
     """Eight nodes with a key: of 100 entries that fit 8 are of use, with which nothing is ever cut."""
-    cluster = ("nodes=8", "keys=1", "writes=1", "entry=40", "packet=4000", "loss=1", "interval=0.5", "forget=yes")
+    cluster = ("nodes=8", "keys=1", "writes=1", "entry=40", "packet=4000", "loss=1", "interval=0.5", "forget=yes",
+               "hours=0.05")
     advice = room / "advice"
 
     def advise(*words, **how):
@@ -62,8 +116,8 @@ def try_advice(room):
     holds("the budget", "Take scuttle-depth with room for 8 entries in a delta, 320 bytes (nodes * keys, above which "
           "nothing changes; nodes * writes); packet=320.", said.partition("\n")[0])
     holds("nothing is cut, so no other run is made for the floor", (True, True, 8), (
-        "  share cut           0.00 % of what was lacking\n" in said, "; the chosen one has that\n" in said,
-        max(int(it.name.split(".")[0].partition("-")[2]) for it in (advice / "many").glob("*.csv"))))
+        "  share cut           0.00 % of what was lacking\n" in said, "; the chosen one had that under the same 20 seeds\n"
+        in said, max(budgets_of(advice / "many") + budgets_of(advice / "many-bound"))))
     # (what is counted is told with the first answer alone, and kept with the last)
     kept, counted = (advice / "answer.txt").read_text(), [it for it in first.splitlines() if it.startswith(" " * 22)]
     told = [it for it in kept.splitlines() if it not in counted]
@@ -77,7 +131,7 @@ def try_advice(room):
     # (a restart is told of nodes that forget)
     holds("the page has the check sum and the scenarios", [True] * 5 + [False],
           [sum_of_program in text, *(f"gossip_sweep -o {it} budget" in text for it in
-                                     ("few", "many", "split", "forgotten", "restart"))])
+                                     ("many", "many-bound", "split", "forgotten", "restart"))])
     holds("the page says what is counted and how long to wait", (1, 1),
           (text.count("the oldest write that some copy lacked was for the first time no older than usual: at most one"),
            text.count("a rolling restart<b>wait ")))
@@ -108,7 +162,9 @@ def try_advice(room):
                       ("rounds=9", "For rounds= there is gossip_scenario"), ("--jobs=2", "as JOBS=2"),
                       ("interval=100ms", "write interval=0.1."), ("split=1h", "it is in intervals"),
                       ("restarts=9", "of 8 nodes no 9 can restart at once"),
-                      ("restarts=5%", "'5%' isn't."), ("restarts", "Write restarts=VALUE, without a space.")):
+                      ("hours=0", "would be 0 intervals under each seed, and from 1 to 99600 are run"),
+                      ("hours=14", "would be 100800 intervals under each seed, and from 1 to 99600 are run: hours=13.83 "
+                       "is the most"), ("restarts=5%", "'5%' isn't."), ("restarts", "Write restarts=VALUE, without a space.")):
         words = {it.partition("=")[0].replace("delta", "packet"): it for it in (*cluster, word)}
         refuses(room, why, "gossip_advise", "-o", "refused", *words.values())
     refuses(room, "nodes= is missing", "gossip_advise", "-o", "refused")
@@ -121,35 +177,41 @@ def try_advice(room):
 
 
 def try_reserve(room):
-    """Room for 60 entries, where 24 nodes write one of 6 keys: 24 are taken, if the band of the seeds with twice
-    that touches theirs. The figures of both are counted here once more. In both answers they are of 200 rounds, as 60
-    can't choose: there the bands have two rounds in common at most."""
-    words = ("nodes=24", "keys=6", "writes=1", "entry=40", "packet=2400", "count=entries", "split=0", "restarts=0")
+    """Room for 60 entries, where 24 nodes write one of 6 keys: 24 are taken, if no budget from there on is better, nor
+    another mode, seed by seed. Choice, bound and floor are made here once more from the reports. 360 rounds, of a second
+    each, are a tenth of an hour."""
+    words = ("nodes=24", "keys=6", "writes=1", "entry=40", "packet=2400", "count=entries", "split=0", "restarts=0",
+             "hours=0.1")
     status, out, err = run(room, TOOLS / "gossip_advise", "-o", "reserve", *words)
     first, said = out.partition("\n\n")[::2]
-    at_knee, at_most = (worst(room / "reserve" / "few", budget, 31, 60) for budget in (24, 48))
-    holds("60 rounds can't choose", (True, True), (max(at_most) - min(at_knee) <= 1, first.startswith(
-        "First answer, from 60 rounds; 200 for budgets that 60 can't tell apart: scuttle-depth with ")))
-    at_knee, at_most = (worst(room / "reserve" / "many", budget, 101, 200) for budget in (24, 48))
-    is_worse = min(at_knee) > max(at_most)
-    budget = f"{48 if is_worse else 24} entries in a delta, {1920 if is_worse else 960} bytes "
-    though = f", though its worst is {max(at_most)} in place of {max(at_knee)}" if max(at_most) < max(at_knee) else ""
-    other = (f"With nodes * writes = 24 entries it is {as_rounds(at_knee)}: worse" if is_worse else
-             f"With 48 entries (2 times nodes * writes) it is {as_rounds(at_most)}: no better, as the bands of the "
-             f"seeds touch{though}. So packet=960 is enough, and what is above that is a reserve")
+    many, bound = room / "reserve" / "many", room / "reserve" / "many-bound"
+    figures = {it: worst(many, it, 101, 200) for it in budgets_of(many) if it >= 24}
+    others = [worst(many, 48, 101, 200, FIRST, mode) for mode in ("scuttle-breadth", "precise-oldest", "precise-newest")]
+    taken = min(budget for budget, it in figures.items()
+                if not any(is_better(other, it) for other in (*figures.values(), *others)))
+    less, more, _ = held(figures[48], figures[taken])
+    reserve = (f"With 48 entries (2 times nodes * writes) it is {as_rounds(figures[48])} in the runs that chose, where the "
+               f"budget has {spanned(figures[taken])}: no better (less under {less} of 20 seeds, more under {more}). So "
+               f"packet={40 * taken} is enough, and what is above that is a reserve")
     for name, told in (("first", first), ("last", said)):
         holds(f"the budget of the {name} answer", (0, True, True),
-              (status, f"scuttle-depth with room for {budget}" in told, other in told))
+              (status, f"scuttle-depth with room for {taken} entries in a delta, {40 * taken} bytes " in told,
+               reserve in told))
+    figure = worst(bound, taken, 101, 460, BOUND)
+    older = f"n 20 of 21 runs of 360 rounds (360 s) no copy is older than {max(figure)} rounds, {max(figure)} s"
+    holds("what bounds it", (True, True), (
+        f"\nI{older}.\n" in first, f"\n  worst staleness     i{older}: the most of `greatest` in rounds 101 to 460 under "
+        f"20 seeds, others than those that chose, which had {spanned(figure)}\n" in said))
+    holds("the seeds that choose aren't those that bound", (set(CHOOSE), set(BOUND)), tuple(
+        {int(it.name.split(".")[1].partition("-")[2]) for it in folder.glob("*.csv")} for folder in (many, bound)))
     # (24 * 6 entries never cut)
-    cuts = {it for seed in range(1, 6) for it in cut(room / "reserve" / "many" /
-            f"budget-144.seed-{seed}.mode-scuttle-depth.csv")}
-    best, own = worst(room / "reserve" / "many", 144, 101, 200), at_most if is_worse else at_knee
-    seconds = as_rounds(best).replace("rounds", "s")
-    has = "that" if best == own else as_rounds(own).removesuffix(" rounds")
-    holds("the floor", ({"0"}, True), (cuts, f"\n  the floor           no mode and no budget does better than "
-                                       f"{as_rounds(best)}, {seconds}, with these peers and losses; the chosen one has "
-                                       f"{has}\n" in said))
-    holds("nothing that heals is run where none is asked for", ({"few", "many"}, False),
+    cuts = {it for rows in column(bound, "budget-144", "cut", BOUND[:6]) for it in rows}
+    best = worst(bound, 144, 101, 460, BOUND[:6])
+    has = "that" if best == figure[:6] else spanned(figure[:6])
+    holds("the floor", ({0}, True), (cuts, f"\n  the floor           no mode and no budget does better than "
+                                     f"{as_rounds(best)}, {spanned(best)} s, with these peers and losses; the chosen one "
+                                     f"had {has} under the same 6 seeds\n" in said))
+    holds("nothing that heals is run where none is asked for", ({"many", "many-bound"}, False),
           ({it.parent.name for it in (room / "reserve").glob("*/scenario")}, "a split" in out or "a restart" in out))
     # (the name that a packet had before)
     called = [it.replace("packet=", "delta=") for it in words]
@@ -159,36 +221,37 @@ def try_reserve(room):
     holds("one mode", (0, True, {"precise-newest"}), (status, "\nTake precise-newest with room for " in out, names))
 
 
-def column(folder, budget, name):
-    """A column of each run with this budget in scuttle-depth, by seed, as formats.md has its place."""
-    at = {"stale": 6, "greatest": 7}[name]
-    reports = [(folder / f"budget-{budget}.seed-{seed}.mode-scuttle-depth.csv").read_text() for seed in range(1, 6)]
-    return [[int(line.split(",")[at]) for line in text.splitlines()[1:]] for text in reports]
-
-
 def try_target(room):
     """The smallest budget of 24 nodes with 6 keys that keeps the worst staleness within 4 s, or 8 rounds of
-    half a second: counted once more from the reports. A delta of n entries of 40 bytes and a digest of 24 numbers of 10
-    bytes take n * 40 + 240 bytes. 24 * 23 * 6 are 3312 copies."""
-    words = ("nodes=24", "keys=6", "writes=1", "entry=40", "digest=10", "interval=0.5", "count=entries", "loss=1")
+    half a second, under all 20 seeds that bound it: counted once more from the reports. A delta of n entries of 40 bytes
+    and a digest of 24 numbers of 10 bytes take n * 40 + 240 bytes. 24 * 23 * 6 are 3312 copies. 360 rounds are 180 s."""
+    words = ("nodes=24", "keys=6", "writes=1", "entry=40", "digest=10", "interval=0.5", "count=entries", "loss=1",
+             "hours=0.05")
     call = ("-o", "target", "target=4", *words, "mode=scuttle-depth")
     status, out, err = run(room, TOOLS / "gossip_advise", *call)
-    many, stop = room / "target" / "many", room / "target" / "many-stop"
-    budgets = sorted({int(it.name.split(".")[0].partition("-")[2]) for it in many.glob("budget-*.csv")})
-    least = min(it for it in budgets if max(worst(many, it, 101, 200)) <= 8)
-    below = max(it for it in budgets if it < least)
-    holds("one entry less is too few", (1, True), (least - below, max(worst(many, below, 101, 200)) > 8))
+    many, stop, bound = (room / "target" / it for it in ("many", "many-stop", "many-bound"))
+    budgets, bounds = ([it for it in budgets_of(folder) if it < 144] for folder in (many, bound))
+    fewest = min(it for it in budgets if max(worst(many, it, 101, 200, FIRST)) <= 8)
+    below = max(it for it in budgets if it < fewest)
+    holds("one entry less is too few", (1, True), (fewest - below, max(worst(many, below, 101, 200, FIRST)) > 8))
+    # (from there on budgets are raised until none of the seeds is above 8 rounds)
+    *smaller, least = bounds
+    figures = {it: worst(bound, it, 101, 460, BOUND) for it in bounds}
+    holds("all 20 seeds keep to the target, and of the smaller ones not all", (fewest, True, True),
+          (bounds[0], max(figures[least]) <= 8, all(max(figures[it]) > 8 for it in smaller)))
+    above = sum(it > 8 for it in figures[smaller[-1]]) if smaller else 0
     said = (f"Take scuttle-depth with room for {least} entries in a delta, {least * 40} bytes ",
             f"packet={least * 40 + 240}.")
     line = next((it for it in out.splitlines() if it.startswith("Take ")), "")
     holds("the smallest packet", (0, True, True), (status, line.startswith(said[0]), line.endswith(said[1])))
-    holds("the target and the floor", (True, True, True),
+    holds("the target and the floor", (True, True, True, True),
           ("\n  the floor           no mode and no budget does better than " in out,
-           "  target              met: the worst staleness is within 4 s, or 8 rounds, under the 5 seeds; no "
-           "guarantee\n" in out,
-           f"  a smaller one       {below} entries: the next smaller budget that was run has " in out))
-    shares = [100 * sum(it[100:200]) / 100 / 3312 for it in column(many, least, "stale")]
-    half = [next(at for at in range(1, 9) if 2 * it[199 + at] <= it[199]) for it in column(stop, least, "stale")]
+           "  target              met: in 20 of 21 runs of 360 rounds (180 s) the worst staleness is within 4 s, or 8 "
+           "rounds\n" in out, f"  a smaller one       {smaller[-1] if smaller else below} entries: the next smaller budget "
+           in out, f" under {above} of 20 seeds, up to {max(figures[smaller[-1]])} rounds\n" in out if smaller else True))
+    of_least = f"budget-{least}"
+    shares = [100 * sum(it[100:200]) / 100 / 3312 for it in column(many, of_least, "stale", FIRST)]
+    half = [next(at for at in range(1, 9) if 2 * it[199 + at] <= it[199]) for it in column(stop, of_least, "stale", FIRST)]
     spans = [f"{min(it):.0f} to {max(it):.0f}" if f"{min(it):.0f}" < f"{max(it):.0f}" else f"{max(it):.0f}"
              for it in (shares, half)]
     holds("how many copies are stale, and how old a typical one is", (True, True),
@@ -201,7 +264,7 @@ def try_target(room):
     before = {it: it.stat().st_mtime_ns for it in (room / "target").glob("*/*.csv")}
     holds("it is read again", (0, out), run(room, TOOLS / "gossip_advise", "-o", "target")[:2])
     holds("and no run made again", before, {it: it.stat().st_mtime_ns for it in (room / "target").glob("*/*.csv")})
-    for target, verdict in (("4", "met: the worst staleness is within 4 s"),
+    for target, verdict in (("4", "met: in 20 of 21 runs of 360 rounds (180 s) the worst staleness is within 4 s"),
                             ("1", "not met: the worst staleness is above 1 s")):
         status, out, err = run(room, TOOLS / "gossip_advise", "-o", f"judged {target}", *words, "mode=scuttle-depth",
                                f"packet={least * 40 + 240}", f"target={target}", "split=0", "restarts=0")
@@ -225,15 +288,17 @@ def try_target(room):
 
 def try_calls(room):
     """Three calls in an interval: a third of 12 entries is enough, an interval has three rounds, and only the first of
-    them writes. The first 60 intervals are the rounds up to 180."""
+    them writes. The first 200 intervals are the rounds up to 600. 180 s are 300 intervals, behind the first 100."""
     words = ("nodes=12", "keys=2", "writes=1", "entry=40", "packet=160", "count=entries", "fanout=3", "interval=0.6")
-    status, out, err = run(room, TOOLS / "gossip_advise", "-o", "calls", *words)
-    figure = worst(room / "calls" / "few", 4, 91, 180)
-    holds("three calls", (0, "First answer, from 60 intervals of 3 rounds: scuttle-depth with room for 4 entries in a "
-                          "delta, 160 bytes (what fits; nodes * writes / 3); packet=160.", True),
-          (status, out.partition("\n")[0], f"\nWorst staleness {as_rounds(figure)}, " in out))
-    scenario = (room / "calls" / "few" / "scenario").read_text()
-    printed = run(room, TOOLS / "gossip_scenario", *words[:-1])[1]
+    status, out, err = run(room, TOOLS / "gossip_advise", "-o", "calls", *words, "hours=0.05", "mode=scuttle-depth")
+    figure, bound = worst(room / "calls" / "many", 4, 301, 600), worst(room / "calls" / "many-bound", 4, 301, 1200, BOUND)
+    holds("three calls", (0, "First answer, from 200 intervals of 3 rounds: scuttle-depth with room for 4 entries in a "
+                          "delta, 160 bytes (what fits; nodes * writes / 3); packet=160.", True, True),
+          (status, out.partition("\n")[0], f"\nWorst staleness {as_rounds(figure)}, " in out,
+           "\nIn 20 of 21 runs of 900 rounds (300 intervals, 180 s) no copy is older than "
+           f"{max(bound)} rounds, " in out))
+    scenario = (room / "calls" / "many" / "scenario").read_text()
+    printed = run(room, TOOLS / "gossip_scenario", *words[:-1], "rounds=600")[1]
     holds("the rounds without writes are those of gossip_scenario", printed.partition("[[load]]")[2],
           scenario.partition("[[load]]")[2])
     holds("each figure in rounds, intervals and seconds", True,
@@ -242,87 +307,122 @@ def try_calls(room):
 
 
 def try_hopeless_advice(room):
-    """Two entries for 40 nodes that write one each: with any of the modes some write of the first rounds is missing for
-    more than 600 rounds. By a sum it is 39 * 6 / (2 * 2) - 6 at least, which 60 rounds can't show. So it ends after 800
-    rounds, without what heals, and names the 40 * 40 bytes and the call for that."""
-    cluster = ("nodes=40", "keys=6", "writes=1", "entry=40", "packet=80", "digest=10", "shared=no", "restarts=4")
+    """Two entries for 24 nodes that write one of 20 keys each: some write of the first rounds is missing for more than
+    400 rounds. By a sum it is 23 * 20 / (2 * 2) - 20 at least. So it ends after 800 rounds, without what heals, and names
+    the 24 * 40 bytes and the call for that."""
+    cluster = ("nodes=24", "keys=20", "writes=1", "entry=40", "packet=80", "digest=10", "shared=no", "restarts=4",
+               "mode=scuttle-depth", "count=entries", "hours=0.1")
     status, out, err = run(room, TOOLS / "gossip_advise", *cluster, "-o", "no hope")
     first, said = out.partition("\n\n")[::2]
-    enough = "packet=1600 has room for nodes * writes = 40 entries, worst staleness "
-    sum_says = ("By a sum, of the worst staleness: each node has 234 copies to renew and gets about two deltas of 2 "
-                "entries in a round, so it is at least 52 rounds; room for nodes * writes = 40 entries takes "
-                "packet=1600.")
-    holds("a sum is told at once", (0, [sum_says, "So 60 rounds can't show a level, and there is no first answer. "
-                                        "Whether it levels off later is seen from 200 rounds now, and where it "
-                                        "doesn't, from 400 and 800, and no more."]), (status, first.splitlines()))
-    holds("none is enough", (True, True, True),
-          (said.startswith("No budget that fits is enough: none is level within 800 rounds. The most that fits: room "
-                           "for 2 entries in a delta, 80 bytes"),
-           f"  enough              {enough}" in said,
-           "  worst staleness     not known: not level within 800 rounds; by a sum at least 52" in said))
-    holds("nothing is run that heals", ["longer", "longest", "many"],
+    enough = "packet=960 has room for nodes * writes = 24 entries, and "
+    sum_says = ("By a sum, of the worst staleness: each node has 460 copies to renew and gets about two deltas of 2 "
+                "entries in a round, so it is at least 95 rounds; room for nodes * writes = 24 entries takes "
+                "packet=960.")
+    lines = first.splitlines()
+    holds("a sum is told at once", (0, sum_says, "First answer, from 200 rounds: no budget that fits is seen to be enough, "
+                                    "as none has a level of at most 100 rounds within 200.", True),
+          (status, *lines[:2], "Whether it levels off later is seen from 400 and then 800 rounds, and no more." in lines))
+    longest = worst(room / "no hope" / "longest", 2, 401, 800)
+    no_level = "none has a level of at most 400 rounds within 800"
+    holds("none is enough", (True, True, True, True),
+          (max(longest) > 400, said.startswith(f"No budget that fits is enough: {no_level}. The most that fits: room for 2 "
+                                               "entries in a delta, 80 bytes"), f"  enough              {enough}" in said,
+           f"  worst staleness     not known: {no_level}; by a sum at least 95" in said))
+    holds("nothing is run that heals, or bounds", ["longer", "longest", "many"],
           sorted(it.name for it in (room / "no hope").iterdir() if (it / "scenario").exists()))
     page = (room / "no hope" / "report.html").read_text()
-    call = ("gossip_advise -o 'no hope-enough' nodes=40 keys=6 writes=1 entry=40 packet=1600 digest=10 shared=no "
-            "restarts=4")
+    call = ("gossip_advise -o 'no hope-enough' nodes=24 keys=20 writes=1 entry=40 packet=960 digest=10 shared=no "
+            "restarts=4 mode=scuttle-depth count=entries hours=0.1")
     not_run = "were not run, as no budget that fits is enough. To see them with a budget that is:"
     holds("it says so, and how to see it", (True, True, True),
           (f"{not_run}\n  {call}\n" in said, not_run in page, html.escape(call) in page))
     holds("it doesn't tell of groups that were not run", False, "What was run are" in said + page)
     status, out, _ = run(room, TOOLS / "gossip_advise", *shlex.split(call)[1:])
     holds("the call has what was not run", (0, True), (status, "\n  a rolling restart   wait " in out))
-    holds("and the page", (True, True, []), ("<h1>40 nodes: no budget that fits is enough" in page,
+    holds("and the page", (True, True, []), ("<h1>24 nodes: no budget that fits is enough" in page,
                                              "none that fits is enough" in page, Tags(page).open))
 
 
 def try_longer_runs(room):
-    """Five entries for 40 nodes that write one of 6 keys each: a level above 100, which 200 rounds can't tell from
-    none, and of 200 at most, which 400 rounds can. Forty are better, so it says that the packet is too small."""
-    cluster = ("nodes=40", "keys=6", "writes=1", "entry=40", "packet=200", "count=entries", "loss=1", "split=0")
-    status, out, err = run(room, TOOLS / "gossip_advise", "-o", "longer", *cluster, "restarts=2")
+    """Five entries for 24 nodes that write one of 6 keys each: a level above 100, which 200 rounds can't tell from none,
+    and of 200 at most, which 400 rounds can. 24 are better, so it says that the packet is too small."""
+    cluster = ("nodes=24", "keys=6", "writes=1", "entry=40", "packet=200", "count=entries", "loss=1", "split=0",
+               "restarts=2", "mode=scuttle-depth", "hours=0.1")
+    status, out, err = run(room, TOOLS / "gossip_advise", "-o", "longer", *cluster)
     first, said = out.partition("\n\n")[::2]
-    short, long = worst(room / "longer" / "many", 5, 151, 200), worst(room / "longer" / "longer", 5, 201, 400)
-    at_knee = worst(room / "longer" / "longer", 40, 201, 400)
+    short, long = worst(room / "longer" / "many", 5, 101, 200), worst(room / "longer" / "longer", 5, 201, 400)
+    at_knee, bound = (worst(room / "longer" / "longer", 24, 201, 400),
+                      worst(room / "longer" / "longer-bound", 5, 201, 560, BOUND))
     holds("200 rounds can't show the level, 400 can", (0, True, True, True),
-          (status, max(short) > 100, max(long) <= 200, max(at_knee) < min(long)))
-    holds("the first answer says how far is looked", True, "\nWhether it levels off later is seen from 200 rounds now, "
-          "and where it doesn't, from 400 and 800, and no more.\n" in first)
+          (status, max(short) > 100, max(long + bound) <= 200, is_better(at_knee, long)))
+    holds("the first answer says how far is looked", True, "\nWhether it levels off later is seen from 400 and then 800 "
+          "rounds, and no more.\n" in first)
     holds("the longer runs name mode, budget and what is enough", (True, True, True),
           (said.startswith("Take scuttle-depth, but packet=200 is too small: with room for 5 entries in a delta, 200 "
-                           "bytes (what fits; 0.12 times nodes * writes), the worst copy is up to "
-                           f"{max(long)} rounds, {max(long)} s, behind. With packet=1600 it is up to "
-                           f"{max(at_knee)} rounds.\n"),
-           f"\n  worst staleness     {as_rounds(long)}, " in said, "in rounds 201 to 400, least and most of" in said))
-    holds("and how many calls are enough, which are 40 / 5", True,
-          "(fanout=8, as nodes * writes / 8 entries fit)" in said.partition("Mind:")[2])
+                           f"bytes (what fits; 0.21 times nodes * writes), the worst copy was {as_rounds(long)}, "
+                           f"{spanned(long)} s, behind, and with packet=960 {as_rounds(at_knee)}.\n"),
+           "\n  worst staleness     in 20 of 21 runs of 360 rounds (360 s) no copy is older than "
+           f"{max(bound)} rounds, {max(bound)} s: " in said, " in rounds 201 to 560 under 20 seeds, others " in said))
+    holds("and how many calls are enough, which are 24 / 5", True,
+          "(fanout=5, as nodes * writes / 5 entries fit)" in said.partition("Mind:")[2])
     holds("and what heals", True, "\n  a rolling restart   " in said)
     page = (room / "longer" / "report.html").read_text()
     holds("and the page", (True, True, True, []), (
-        "In rounds 201 to 400, by budget" in page, "<h1>40 nodes: scuttle-depth with 5 entries, which are too few</h1>"
-        in page, '<div class="first">enough<b>1600 bytes</b>' in page, Tags(page).open))
+        "In rounds 201 to 400, by budget" in page, "<h1>24 nodes: scuttle-depth with 5 entries, which are too few</h1>"
+        in page, '<div class="first">enough<b>960 bytes</b>' in page, Tags(page).open))
 
 
 def try_advice_below_the_knee(room):
     """Room for 10 entries, where 20 nodes write one key each: both answers name the 20 * 40 bytes, and what counts
-    where nodes forget."""
-    cluster = ("nodes=20", "keys=1", "writes=1", "entry=40", "packet=400", "count=entries", "restarts=2", "forget=yes")
+    where nodes forget. What heals is counted once more from the reports: of a restart the longer time under each seed,
+    of five groups of two, which are half of the nodes, or of one group alone. 10 mean entries are 5235 bytes."""
+    cluster = ("nodes=20", "keys=1", "writes=1", "entry=40", "packet=400", "count=entries", "restarts=2", "forget=yes",
+               "hours=0.1")
     status, out, err = run(room, TOOLS / "gossip_advise", "-o", "below", *cluster)
-    enough = "packet=800 has room for nodes * writes = 20 entries, worst staleness "
+    enough = "packet=800 has room for nodes * writes = 20 entries, and "
     first, said = out.partition("\n\n")[::2]
     mind, forget = said.partition("Mind:")[2], "Nodes forget here, and the budget is below nodes * writes: old state"
     holds("below the knee", (0, True, True, True, True), (
         status, f"\nThat is below nodes * writes. {enough}" in first, enough in mind, f"\n{forget}" in first,
         forget in mind))
+    split, _, _ = healed(room / "below" / "split", "budget-10")
+    groups, one = (healed(room / "below" / it, "budget_bytes-5235") for it in ("forgotten", "forgotten-one"))
+    restart, gone = ([max(it) for it in zip(groups[at], one[at])] for at in (0, 1))
+    what = ("of 2 nodes in each of 5 rounds, each down for one round, and then without its own state, and of such a group "
+            "alone")
+    waits = max(restart + gone)
+    lines = (took("a split", "of half of the nodes for 30 rounds", "healed", split),
+             took("a restart", what, "healed", restart), took("a forgotten state", what, "gone from all copies", gone),
+             f"\n  a rolling restart   wait {waits} rounds, {waits} s, after a group of 2 nodes is up again: in 20 of 21 "
+             "cases a restart was healed and its forgotten state was gone by then\n")
+    for line in lines:
+        holds("both answers tell what the reports have", (True, True), (line in out.partition("\n\n")[0], line in said))
+    holds("half of the nodes restart, or a group", (10, 2), (groups[2], one[2]))
+
+
+def try_restarts_of_half(room):
+    """Of 20 nodes 10 restart at once and forget: one such group is all that may restart, as more would leave nothing old
+    to lack, which was told as healed after a round. What is told is no less than its reports have."""
+    cluster = ("nodes=20", "keys=4", "writes=1", "entry=40", "packet=800", "count=entries", "restarts=10", "forget=yes",
+               "split=0", "mode=scuttle-depth", "hours=0.1")
+    status, out, err = run(room, TOOLS / "gossip_advise", "-o", "half", *cluster)
+    said, budget = out.partition("\n\n")[2], f"budget_bytes-{20 * 1047 // 2}"
+    restart, gone, count = healed(room / "half" / "forgotten", budget)
+    what = "of 10 nodes, each down for one round, and then without its own state"
+    holds("restarts of half", (0, 10, False, True, True, True), (
+        status, count, (room / "half" / "forgotten-one").exists(), min(gone) > 1,
+        took("a restart", what, "healed", restart) in said,
+        took("a forgotten state", what, "gone from all copies", gone) in said))
 
 
 def try_stopping_advice(room):
-    cluster = ("nodes=6", "keys=1", "writes=1", "entry=40", "packet=4000")
+    cluster = ("nodes=6", "keys=1", "writes=1", "entry=40", "packet=4000", "hours=0.1")
     # (the first four runs are as usual, and later ones wait)
     slow = program_that(room, "slow", f'echo >>slow.runs\n'
                         f'for it in 1 2 3 4; do mkdir usual.$it 2>/dev/null && exec "{PROGRAM}" run; done\n'
                         f'[ -e fast ] || sleep 60\nexec "{PROGRAM}" run')
     with started(room, TOOLS / "gossip_advise", "-o", "ended", *cluster, GOSSIP_BENCH=slow) as process:
-        holds("runs are made", True, waits_for(lambda: len(list(room.glob("ended/few/*.csv"))) == 4))
+        holds("runs are made", True, waits_for(lambda: len(list(room.glob("ended/many/*.csv"))) == 4))
         refuses(room, f"ended is in use by process {process.pid}", "gossip_advise", "-o", "ended", *cluster)
         process.terminate()
         out, err = process.communicate(timeout=60)
@@ -333,19 +433,20 @@ def try_stopping_advice(room):
     runs, reports = len((room / "slow.runs").read_text().splitlines()), len(list(room.glob("ended/*/*.csv")))
     # (the two that were stopped are run again)
     holds("it goes on where it was", (0, True, runs - 2), (status, "Take scuttle-depth" in out, reports))
-    # (the 20 runs of the first answer are as usual, and later ones wait)
-    late = program_that(room, "late", f'for it in $(seq 20); do mkdir first.$it 2>/dev/null && exec "{PROGRAM}" run; '
-                        'done\nexec sleep 60')
+    # (those of the first answer are as usual, and those with a smaller budget wait)
+    late = program_that(room, "late", 'text=$(cat)\ncase "$text" in *"budget = 4"*) exec sleep 60;; esac\n'
+                        f'echo "$text" | exec "{PROGRAM}" run')
     words = ("-o", "first", *cluster, "split=0", "restarts=0")
     with started(room, TOOLS / "gossip_advise", *words, GOSSIP_BENCH=late) as process:
-        holds("the first answer is there", True, waits_for(lambda: (room / "first" / "many").exists()))
+        holds("the first answer is there", True,
+              waits_for(lambda: list((room / "first" / "many").glob("budget-4.*")), seconds=60))
         process.terminate()
         out, err = process.communicate(timeout=60)
     answer, page = ((room / "first" / it).read_text() for it in ("answer.txt", "report.html"))
     holds("a stop leaves the first answer", (143, True, True, True, []),
-          (process.returncode, answer.startswith("First answer, from 60 rounds: "), out.startswith(answer),
+          (process.returncode, answer.startswith("First answer, from 200 rounds: "), out.startswith(answer),
            "<h1>First answer. 6 nodes: " in page, Tags(page).open))
 
 
 TRIALS = (try_advice, try_reserve, try_target, try_calls, try_hopeless_advice, try_longer_runs,
-          try_advice_below_the_knee, try_stopping_advice)
+          try_advice_below_the_knee, try_restarts_of_half, try_stopping_advice)

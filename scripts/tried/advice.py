@@ -116,8 +116,9 @@ def try_advice(room):
     holds("the budget", "Take scuttle-depth with room for 8 entries in a delta, 320 bytes (nodes * keys, above which "
           "nothing changes; nodes * writes); packet=320.", said.partition("\n")[0])
     holds("nothing is cut, so no other run is made for the floor", (True, True, 8), (
-        "  share cut           0.00 % of what was lacking\n" in said, "; the chosen one had that under the same 20 seeds\n"
-        in said, max(budgets_of(advice / "many") + budgets_of(advice / "many-bound"))))
+        "  share cut           0.00 % of what was lacking\n" in said,
+        "; the chosen one had that under the same 20 seeds\n" in said,
+        max(budgets_of(advice / "many") + budgets_of(advice / "many-bound"))))
     # (what is counted is told with the first answer alone, and kept with the last)
     kept, counted = (advice / "answer.txt").read_text(), [it for it in first.splitlines() if it.startswith(" " * 22)]
     told = [it for it in kept.splitlines() if it not in counted]
@@ -163,8 +164,9 @@ def try_advice(room):
                       ("interval=100ms", "write interval=0.1."), ("split=1h", "it is in intervals"),
                       ("restarts=9", "of 8 nodes no 9 can restart at once"),
                       ("hours=0", "would be 0 intervals under each seed, and from 1 to 99600 are run"),
-                      ("hours=14", "would be 100800 intervals under each seed, and from 1 to 99600 are run: hours=13.83 "
-                       "is the most"), ("restarts=5%", "'5%' isn't."), ("restarts", "Write restarts=VALUE, without a space.")):
+                      ("hours=14", "would be 100800 intervals under each seed, and from 1 to 99600 are run: "
+                       "hours=13.83 is the most"), ("restarts=5%", "'5%' isn't."),
+                      ("restarts", "Write restarts=VALUE, without a space.")):
         words = {it.partition("=")[0].replace("delta", "packet"): it for it in (*cluster, word)}
         refuses(room, why, "gossip_advise", "-o", "refused", *words.values())
     refuses(room, "nodes= is missing", "gossip_advise", "-o", "refused")
@@ -178,21 +180,21 @@ def try_advice(room):
 
 def try_reserve(room):
     """Room for 60 entries, where 24 nodes write one of 6 keys: 24 are taken, if no budget from there on is better, nor
-    another mode, seed by seed. Choice, bound and floor are made here once more from the reports. 360 rounds, of a second
-    each, are a tenth of an hour."""
+    another mode, seed by seed. Choice, bound and floor are made here once more from the reports. 360 rounds, of a
+    second each, are a tenth of an hour."""
     words = ("nodes=24", "keys=6", "writes=1", "entry=40", "packet=2400", "count=entries", "split=0", "restarts=0",
              "hours=0.1")
     status, out, err = run(room, TOOLS / "gossip_advise", "-o", "reserve", *words)
     first, said = out.partition("\n\n")[::2]
     many, bound = room / "reserve" / "many", room / "reserve" / "many-bound"
     figures = {it: worst(many, it, 101, 200) for it in budgets_of(many) if it >= 24}
-    others = [worst(many, 48, 101, 200, FIRST, mode) for mode in ("scuttle-breadth", "precise-oldest", "precise-newest")]
+    others = [worst(many, 48, 101, 200, FIRST, it) for it in ("scuttle-breadth", "precise-oldest", "precise-newest")]
     taken = min(budget for budget, it in figures.items()
                 if not any(is_better(other, it) for other in (*figures.values(), *others)))
     less, more, _ = held(figures[48], figures[taken])
-    reserve = (f"With 48 entries (2 times nodes * writes) it is {as_rounds(figures[48])} in the runs that chose, where the "
-               f"budget has {spanned(figures[taken])}: no better (less under {less} of 20 seeds, more under {more}). So "
-               f"packet={40 * taken} is enough, and what is above that is a reserve")
+    reserve = (f"With 48 entries (2 times nodes * writes) it is {as_rounds(figures[48])} in the runs that chose, where "
+               f"the budget has {spanned(figures[taken])}: no better (less under {less} of 20 seeds, more under "
+               f"{more}). So packet={40 * taken} is enough, and what is above that is a reserve")
     for name, told in (("first", first), ("last", said)):
         holds(f"the budget of the {name} answer", (0, True, True),
               (status, f"scuttle-depth with room for {taken} entries in a delta, {40 * taken} bytes " in told,
@@ -200,8 +202,8 @@ def try_reserve(room):
     figure = worst(bound, taken, 101, 460, BOUND)
     older = f"n 20 of 21 runs of 360 rounds (360 s) no copy is older than {max(figure)} rounds, {max(figure)} s"
     holds("what bounds it", (True, True), (
-        f"\nI{older}.\n" in first, f"\n  worst staleness     i{older}: the most of `greatest` in rounds 101 to 460 under "
-        f"20 seeds, others than those that chose, which had {spanned(figure)}\n" in said))
+        f"\nI{older}.\n" in first, f"\n  worst staleness     i{older}: the most of `greatest` in rounds 101 to 460 "
+        f"under 20 seeds, others than those that chose, which had {spanned(figure)}\n" in said))
     holds("the seeds that choose aren't those that bound", (set(CHOOSE), set(BOUND)), tuple(
         {int(it.name.split(".")[1].partition("-")[2]) for it in folder.glob("*.csv")} for folder in (many, bound)))
     # (24 * 6 entries never cut)
@@ -209,8 +211,8 @@ def try_reserve(room):
     best = worst(bound, 144, 101, 460, BOUND[:6])
     has = "that" if best == figure[:6] else spanned(figure[:6])
     holds("the floor", ({0}, True), (cuts, f"\n  the floor           no mode and no budget does better than "
-                                     f"{as_rounds(best)}, {spanned(best)} s, with these peers and losses; the chosen one "
-                                     f"had {has} under the same 6 seeds\n" in said))
+                                     f"{as_rounds(best)}, {spanned(best)} s, with these peers and losses; the chosen "
+                                     f"one had {has} under the same 6 seeds\n" in said))
     holds("nothing that heals is run where none is asked for", ({"many", "many-bound"}, False),
           ({it.parent.name for it in (room / "reserve").glob("*/scenario")}, "a split" in out or "a restart" in out))
     # (the name that a packet had before)
@@ -223,8 +225,9 @@ def try_reserve(room):
 
 def try_target(room):
     """The smallest budget of 24 nodes with 6 keys that keeps the worst staleness within 4 s, or 8 rounds of
-    half a second, under all 20 seeds that bound it: counted once more from the reports. A delta of n entries of 40 bytes
-    and a digest of 24 numbers of 10 bytes take n * 40 + 240 bytes. 24 * 23 * 6 are 3312 copies. 360 rounds are 180 s."""
+    half a second, under all 20 seeds that bound it: counted once more from the reports. A delta of n entries of 40
+    bytes and a digest of 24 numbers of 10 bytes take n * 40 + 240 bytes. 24 * 23 * 6 are 3312 copies. 360 rounds are
+    180 s."""
     words = ("nodes=24", "keys=6", "writes=1", "entry=40", "digest=10", "interval=0.5", "count=entries", "loss=1",
              "hours=0.05")
     call = ("-o", "target", "target=4", *words, "mode=scuttle-depth")
@@ -247,11 +250,13 @@ def try_target(room):
     holds("the target and the floor", (True, True, True, True),
           ("\n  the floor           no mode and no budget does better than " in out,
            "  target              met: in 20 of 21 runs of 360 rounds (180 s) the worst staleness is within 4 s, or 8 "
-           "rounds\n" in out, f"  a smaller one       {smaller[-1] if smaller else below} entries: the next smaller budget "
-           in out, f" under {above} of 20 seeds, up to {max(figures[smaller[-1]])} rounds\n" in out if smaller else True))
+           "rounds\n" in out,
+           f"  a smaller one       {smaller[-1] if smaller else below} entries: the next smaller budget " in out,
+           not smaller or f" under {above} of 20 seeds, up to {max(figures[smaller[-1]])} rounds\n" in out))
     of_least = f"budget-{least}"
     shares = [100 * sum(it[100:200]) / 100 / 3312 for it in column(many, of_least, "stale", FIRST)]
-    half = [next(at for at in range(1, 9) if 2 * it[199 + at] <= it[199]) for it in column(stop, of_least, "stale", FIRST)]
+    half = [next(at for at in range(1, 9) if 2 * it[199 + at] <= it[199])
+            for it in column(stop, of_least, "stale", FIRST)]
     spans = [f"{min(it):.0f} to {max(it):.0f}" if f"{min(it):.0f}" < f"{max(it):.0f}" else f"{max(it):.0f}"
              for it in (shares, half)]
     holds("how many copies are stale, and how old a typical one is", (True, True),
@@ -291,7 +296,8 @@ def try_calls(room):
     them writes. The first 200 intervals are the rounds up to 600. 180 s are 300 intervals, behind the first 100."""
     words = ("nodes=12", "keys=2", "writes=1", "entry=40", "packet=160", "count=entries", "fanout=3", "interval=0.6")
     status, out, err = run(room, TOOLS / "gossip_advise", "-o", "calls", *words, "hours=0.05", "mode=scuttle-depth")
-    figure, bound = worst(room / "calls" / "many", 4, 301, 600), worst(room / "calls" / "many-bound", 4, 301, 1200, BOUND)
+    figure = worst(room / "calls" / "many", 4, 301, 600)
+    bound = worst(room / "calls" / "many-bound", 4, 301, 1200, BOUND)
     holds("three calls", (0, "First answer, from 200 intervals of 3 rounds: scuttle-depth with room for 4 entries in a "
                           "delta, 160 bytes (what fits; nodes * writes / 3); packet=160.", True, True),
           (status, out.partition("\n")[0], f"\nWorst staleness {as_rounds(figure)}, " in out,
@@ -308,8 +314,8 @@ def try_calls(room):
 
 def try_hopeless_advice(room):
     """Two entries for 24 nodes that write one of 20 keys each: some write of the first rounds is missing for more than
-    400 rounds. By a sum it is 23 * 20 / (2 * 2) - 20 at least. So it ends after 800 rounds, without what heals, and names
-    the 24 * 40 bytes and the call for that."""
+    400 rounds. By a sum it is 23 * 20 / (2 * 2) - 20 at least. So it ends after 800 rounds, without what heals, and
+    names the 24 * 40 bytes and the call for that."""
     cluster = ("nodes=24", "keys=20", "writes=1", "entry=40", "packet=80", "digest=10", "shared=no", "restarts=4",
                "mode=scuttle-depth", "count=entries", "hours=0.1")
     status, out, err = run(room, TOOLS / "gossip_advise", *cluster, "-o", "no hope")
@@ -319,14 +325,16 @@ def try_hopeless_advice(room):
                 "entries in a round, so it is at least 95 rounds; room for nodes * writes = 24 entries takes "
                 "packet=960.")
     lines = first.splitlines()
-    holds("a sum is told at once", (0, sum_says, "First answer, from 200 rounds: no budget that fits is seen to be enough, "
-                                    "as none has a level of at most 100 rounds within 200.", True),
-          (status, *lines[:2], "Whether it levels off later is seen from 400 and then 800 rounds, and no more." in lines))
+    holds("a sum is told at once", (0, sum_says, "First answer, from 200 rounds: no budget that fits is seen to be "
+                                    "enough, as none has a level of at most 100 rounds within 200.", True),
+          (status, *lines[:2],
+           "Whether it levels off later is seen from 400 and then 800 rounds, and no more." in lines))
     longest = worst(room / "no hope" / "longest", 2, 401, 800)
     no_level = "none has a level of at most 400 rounds within 800"
     holds("none is enough", (True, True, True, True),
-          (max(longest) > 400, said.startswith(f"No budget that fits is enough: {no_level}. The most that fits: room for 2 "
-                                               "entries in a delta, 80 bytes"), f"  enough              {enough}" in said,
+          (max(longest) > 400, said.startswith(f"No budget that fits is enough: {no_level}. The most that fits: room "
+                                               "for 2 entries in a delta, 80 bytes"),
+           f"  enough              {enough}" in said,
            f"  worst staleness     not known: {no_level}; by a sum at least 95" in said))
     holds("nothing is run that heals, or bounds", ["longer", "longest", "many"],
           sorted(it.name for it in (room / "no hope").iterdir() if (it / "scenario").exists()))
@@ -344,8 +352,8 @@ def try_hopeless_advice(room):
 
 
 def try_longer_runs(room):
-    """Five entries for 24 nodes that write one of 6 keys each: a level above 100, which 200 rounds can't tell from none,
-    and of 200 at most, which 400 rounds can. 24 are better, so it says that the packet is too small."""
+    """Five entries for 24 nodes that write one of 6 keys each: a level above 100, which 200 rounds can't tell from
+    none, and of 200 at most, which 400 rounds can. 24 are better, so it says that the packet is too small."""
     cluster = ("nodes=24", "keys=6", "writes=1", "entry=40", "packet=200", "count=entries", "loss=1", "split=0",
                "restarts=2", "mode=scuttle-depth", "hours=0.1")
     status, out, err = run(room, TOOLS / "gossip_advise", "-o", "longer", *cluster)
@@ -355,8 +363,8 @@ def try_longer_runs(room):
                       worst(room / "longer" / "longer-bound", 5, 201, 560, BOUND))
     holds("200 rounds can't show the level, 400 can", (0, True, True, True),
           (status, max(short) > 100, max(long + bound) <= 200, is_better(at_knee, long)))
-    holds("the first answer says how far is looked", True, "\nWhether it levels off later is seen from 400 and then 800 "
-          "rounds, and no more.\n" in first)
+    holds("the first answer says how far is looked", True, "\nWhether it levels off later is seen from 400 and then "
+          "800 rounds, and no more.\n" in first)
     holds("the longer runs name mode, budget and what is enough", (True, True, True),
           (said.startswith("Take scuttle-depth, but packet=200 is too small: with room for 5 entries in a delta, 200 "
                            f"bytes (what fits; 0.21 times nodes * writes), the worst copy was {as_rounds(long)}, "
@@ -388,21 +396,21 @@ def try_advice_below_the_knee(room):
     split, _, _ = healed(room / "below" / "split", "budget-10")
     groups, one = (healed(room / "below" / it, "budget_bytes-5235") for it in ("forgotten", "forgotten-one"))
     restart, gone = ([max(it) for it in zip(groups[at], one[at])] for at in (0, 1))
-    what = ("of 2 nodes in each of 5 rounds, each down for one round, and then without its own state, and of such a group "
-            "alone")
+    what = ("of 2 nodes in each of 5 rounds, each down for one round, and then without its own state, and of such a "
+            "group alone")
     waits = max(restart + gone)
     lines = (took("a split", "of half of the nodes for 30 rounds", "healed", split),
              took("a restart", what, "healed", restart), took("a forgotten state", what, "gone from all copies", gone),
-             f"\n  a rolling restart   wait {waits} rounds, {waits} s, after a group of 2 nodes is up again: in 20 of 21 "
-             "cases a restart was healed and its forgotten state was gone by then\n")
+             f"\n  a rolling restart   wait {waits} rounds, {waits} s, after a group of 2 nodes is up again: in 20 of "
+             "21 cases a restart was healed and its forgotten state was gone by then\n")
     for line in lines:
         holds("both answers tell what the reports have", (True, True), (line in out.partition("\n\n")[0], line in said))
     holds("half of the nodes restart, or a group", (10, 2), (groups[2], one[2]))
 
 
 def try_restarts_of_half(room):
-    """Of 20 nodes 10 restart at once and forget: one such group is all that may restart, as more would leave nothing old
-    to lack, which was told as healed after a round. What is told is no less than its reports have."""
+    """Of 20 nodes 10 restart at once and forget: one such group is all that may restart, as more would leave nothing
+    old to lack, which was told as healed after a round. What is told is no less than its reports have."""
     cluster = ("nodes=20", "keys=4", "writes=1", "entry=40", "packet=800", "count=entries", "restarts=10", "forget=yes",
                "split=0", "mode=scuttle-depth", "hours=0.1")
     status, out, err = run(room, TOOLS / "gossip_advise", "-o", "half", *cluster)

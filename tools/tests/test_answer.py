@@ -66,9 +66,9 @@ class Decided(unittest.TestCase):
         """With the 1000 that fit each seed is a round worse: they are no reserve."""
         found = decided(of_depth({1000: [8, 9], 600: [7, 8]}) | {(1000, NEWEST): [9, 9], (1000, OLDEST): [9, 9]})
         lines = answer.in_words(found, None)
-        self.assertIn("  more than that      With the 1000 entries that fit it is 8 to 9 rounds in the runs that chose, "
-                      "where the budget has 7 to 8: worse (less under 0 of 2 seeds, more under 2). More is worse here, "
-                      "so let a delta carry no more than the budget", lines)
+        self.assertIn("  more than that      With the 1000 entries that fit it is 8 to 9 rounds in the runs that "
+                      "chose, where the budget has 7 to 8: worse (less under 0 of 2 seeds, more under 2). More is "
+                      "worse here, so let a delta carry no more than the budget", lines)
         self.assertEqual((600, []), (found.budget, [it for it in lines if "reserve" in it]))
 
     def test_what_fits_is_better(self):
@@ -88,9 +88,9 @@ class Decided(unittest.TestCase):
         found = decided(of_depth({1000: [9, 9], 900: [9, 10], 600: [10, 10], 450: [13, 14]}) | others)
         self.assertEqual((DEPTH, 900, None), (found.mode, found.budget, found.smaller()))
         lines = answer.in_words(found, None)
-        for line in ("  a reserve           With the 1000 entries that fit it is 9 rounds in the runs that chose, where "
-                     "the budget has 9 to 10: no better (less under 1 of 2 seeds, more under 0). So packet=36000 is "
-                     "enough, and what is above that is a reserve",
+        for line in ("  a reserve           With the 1000 entries that fit it is 9 rounds in the runs that chose, "
+                     "where the budget has 9 to 10: no better (less under 1 of 2 seeds, more under 0). So packet=36000 "
+                     "is enough, and what is above that is a reserve",
                      "  nodes * writes      With nodes * writes = 600 entries it is 10 rounds in the runs that chose, "
                      "worse than the 1000 entries that fit (less under 0 of 2 seeds, more under 2)"):
             self.assertIn(line, lines)
@@ -239,8 +239,8 @@ class Decided(unittest.TestCase):
         300 * 2 / 3 and of 300 * 2 / 4 writes the last are the first that fit. Where it is 11 rounds in place of 21,
         where 600 aren't level, or where a target says that 21 rounds will do, the words are as usual."""
         room = "with room for 150 entries in a delta, 6000 bytes (what fits; 0.25 times nodes * writes)"
-        small = (f"scuttle-depth, but packet=6000 is too small: {room}, the worst copy was 18 to 21 rounds, 9.0 to 10.5 "
-                 "s, behind, and with packet=24000 7 to 8 rounds")
+        small = (f"scuttle-depth, but packet=6000 is too small: {room}, the worst copy was 18 to 21 rounds, 9.0 to "
+                 "10.5 s, behind, and with packet=24000 7 to 8 rounds")
         usual = f"scuttle-depth {room}; packet=6000"
         level, rises = (), [(600, "scuttle-depth")]
         for more, at_knee, rising, said in (("", [7, 8], level, small), ("", [7, 11], level, usual),
@@ -365,8 +365,8 @@ class Decided(unittest.TestCase):
         self.assertEqual("up to 18 rounds, 6 intervals, 6 s, for 10000 nodes: in 20 of 21 runs of 300 rounds (100 "
                          "intervals, 100 s) of 1000 nodes no copy is older than 12 rounds", found.staleness())
         self.assertTrue(found.reserve().startswith(
-            "With 6666 entries (2 times nodes * writes / 3) it is 8 to 11 rounds, 2.7 to 3.7 intervals, 2.7 to 3.7 s in "
-            "the runs that chose, where the budget has 9 to 11: no better"))
+            "With 6666 entries (2 times nodes * writes / 3) it is 8 to 11 rounds, 2.7 to 3.7 intervals, 2.7 to 3.7 s "
+            "in the runs that chose, where the budget has 9 to 11: no better"))
 
     def test_a_tenth(self):
         """1000 of 10000 nodes are run, with a tenth of the 11000 entries that fit. Budgets are told for all."""
@@ -375,8 +375,8 @@ class Decided(unittest.TestCase):
         found = answer.Decision(it, Figures(figures), MANY)
         self.assertEqual("scuttle-depth with room for 11000 entries in a delta, 440000 bytes (what fits; 1.1 times "
                          "nodes * writes); with the digest packet=640000", found.takes())
-        self.assertEqual(["scuttle-depth with as few as 7500 entries, 8 to 9 rounds against 8: less under 0 of 2 seeds, "
-                          "more under 1; still not taken, as staleness rises steeply below nodes * writes"],
+        self.assertEqual(["scuttle-depth with as few as 7500 entries, 8 to 9 rounds against 8: less under 0 of 2 "
+                          "seeds, more under 1; still not taken, as staleness rises steeply below nodes * writes"],
                          found.too_close())
 
     def test_nodes_times_keys(self):
@@ -388,8 +388,8 @@ class Decided(unittest.TestCase):
             self.assertEqual(f"room for 200 entries in a delta, 8000 bytes ({why})", found.room())
 
     def test_what_to_reckon_with(self):
-        """1000 of 10000 nodes had 8 rounds, to which six are added. A round under 20 seeds takes them 0.1 s, so the runs
-        have the least that is run, 100."""
+        """1000 of 10000 nodes had 8 rounds, to which six are added. A round under 20 seeds takes them 0.1 s, so the
+        runs have the least that is run, 100."""
         it = of("nodes=10000 keys=4 writes=1 entry=40 packet=640000 digest=20")
         found = answer.Decision(it, Figures(of_depth({1100: [7, 7]})), MANY)
         found.bound = answer.Bound(it, "many-bound", Figures(of_depth({1100: [8, 7]})), (1100, DEPTH))
@@ -442,12 +442,13 @@ class Bounded(unittest.TestCase):
             self.assertEqual([[f"In 20 of 21 runs of {runs} no copy is older than {oldest}."],
                               [f"In runs of {runs} `greatest` isn't level with that, so runs of more rounds choose."]],
                              [bound.lines() for bound in bounds])
-        self.assertEqual("the most of `greatest` in rounds 101 to 200 under 3 seeds, others than those that chose, which "
-                         "had 7 to 9", bounds[0].rests_on())
+        self.assertEqual("the most of `greatest` in rounds 101 to 200 under 3 seeds, others than those that chose, "
+                         "which had 7 to 9", bounds[0].rests_on())
 
     def bounded(self, *level):
         """What is decided where the runs that bound are level in these stages, and from which of them it was."""
-        it, made, chose = of("nodes=300 keys=4 writes=2 entry=40 packet=40000"), [], of_depth({1000: [9, 9], 600: [9, 9]})
+        it, made = of("nodes=300 keys=4 writes=2 entry=40 packet=40000"), []
+        chose = of_depth({1000: [9, 9], 600: [9, 9]})
 
         class Made:
             @staticmethod
@@ -530,8 +531,8 @@ class Healed(unittest.TestCase):
         """Below the line stands what is counted, in the words of the guide."""
         it = healing(split=[10, 13])
         line, *counted = it.lines("split", 200)
-        self.assertEqual("  a split             of half of the nodes for 30 rounds: healed after at most 13 rounds, 6.5 "
-                         "s, in 20 of 21 cases (10 to 13 under 2 seeds)", line)
+        self.assertEqual("  a split             of half of the nodes for 30 rounds: healed after at most 13 rounds, "
+                         "6.5 s, in 20 of 21 cases (10 to 13 under 2 seeds)", line)
         self.assertEqual(it.counted(), " ".join(map(str.strip, counted)))
         self.assertEqual("Healed after N rounds: N rounds after the last round of the split, or after the last "
                          f"round with a node down, {rules.HEALED.format(31, 50)}", it.counted())
@@ -624,8 +625,8 @@ class Healed(unittest.TestCase):
         both = {"restart": [6, 7], "forgotten": [8, 7]}
         cases = {
             "": "wait 7 rounds, 3.5 s, after a node is up again: in 20 of 21 cases a restart was healed by then",
-            "fanout=5": "wait 7 rounds, 1.4 intervals, 0.7 s, after a node is up again: in 20 of 21 cases a restart was "
-                        "healed by then",
+            "fanout=5": "wait 7 rounds, 1.4 intervals, 0.7 s, after a node is up again: in 20 of 21 cases a restart "
+                        "was healed by then",
             "restarts=5": "wait 7 rounds, 3.5 s, after a group of 5 nodes is up again: in 20 of 21 cases a restart was "
                           "healed by then",
             "restarts=5 forget=yes": "wait 8 rounds, 4 s, after a group of 5 nodes is up again: in 20 of 21 cases a "
@@ -650,8 +651,8 @@ class Healed(unittest.TestCase):
                 "a rolling restart   wait 8 rounds, 4 s, after a group of 5 nodes is up again: "],
             "restarts=80": ["a restart           of 80 nodes, each down for one round: healed after at most 7 rounds",
                             "a rolling restart   wait 7 rounds, 3.5 s, after a group of 80 nodes is up again: "],
-            "restarts=150": ["a restart           of 100 nodes, in place of 150, as half of the nodes stay up, each down "
-                             "for one round: healed after at most 7 rounds",
+            "restarts=150": ["a restart           of 100 nodes, in place of 150, as half of the nodes stay up, each "
+                             "down for one round: healed after at most 7 rounds",
                              "a rolling restart   wait 7 rounds, 3.5 s, after a group of 100 nodes is up again: "],
         }
         for more, begins in cases.items():
@@ -663,9 +664,9 @@ class Healed(unittest.TestCase):
 
     def test_groups_in_words(self):
         """What to mind of groups, as many as there are."""
-        cases = {"restarts=5": "5 is the size of a group that restarts at once. What was run are 10 such groups, one in "
-                               "each round, each down for one, and one alone. The times count from when the last one is "
-                               "up again, and the longer one is told.",
+        cases = {"restarts=5": "5 is the size of a group that restarts at once. What was run are 10 such groups, one "
+                               "in each round, each down for one, and one alone. The times count from when the last "
+                               "one is up again, and the longer one is told.",
                  "restarts=80": "80 is the size of a group that restarts at once. What was run is one such group, down "
                                 "for one round."}
         for more, said in cases.items():

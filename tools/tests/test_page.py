@@ -121,7 +121,8 @@ class Cards(unittest.TestCase):
         decision = decided()
         decision.bound = answer.Bound(decision.study, "many-bound", Figures({(100, "scuttle-depth"): [8, 9]}),
                                       (100, "scuttle-depth"))
-        self.assertIn('<div class="">worst staleness<b>at most 9 rounds</b>9 s; in 20 of 21 runs of 3600 rounds (1 h)</div>',
+        runs = "in 20 of 21 runs of 3600 rounds (1 h)"
+        self.assertIn(f'<div class="">worst staleness<b>at most 9 rounds</b>9 s; {runs}</div>',
                       page.cards(decision, None, []))
 
 

@@ -98,7 +98,8 @@ class Numbers(unittest.TestCase):
         self.assertEqual(cases, {run: it.work(*run) for run in cases})
 
     def test_runs(self):
-        """Each budget and mode under its own seeds, and nothing else: what has the same ones is one choice of values."""
+        """Each budget and mode under its own seeds, and nothing else: what has the same ones is one choice of
+        values."""
         few, all_of_them = rules.FIRST, rules.CHOOSING
         seeds = {(125, DEPTH): all_of_them, (100, DEPTH): all_of_them, (75, DEPTH): few, (125, BREADTH): few,
                  (50, OLDEST): few, (50, NEWEST): few}
@@ -135,8 +136,8 @@ class Numbers(unittest.TestCase):
         self.assertEqual(("budget_bytes", 41356), scenario.budget_field(79, True))
 
     def test_stages_that_can_show_a_level(self):
-        """39 * 6 copies at two times 2 entries in a round take 58 rounds, less 6; 60 rounds show no more than 30. 199 * 8
-        at two times 7 take 113, less 8, and 200 rounds show 100. 399 * 6 at two times 25 take 47, less 6, and at two
+        """39 * 6 copies at two times 2 entries in a round take 58 rounds, less 6; 60 rounds show no more than 30. 199 *
+        8 at two times 7 take 113, less 8, and 200 rounds show 100. 399 * 6 at two times 25 take 47, less 6, and at two
         times 300 less than 6. 200 rounds under 20 seeds are little work where they take two seconds at a nanosecond for
         each node, with another one, and key, and one more: up to 316 nodes with 4 keys. Then 60 aren't run."""
         later = ["many", "longer", "longest"]
@@ -148,22 +149,22 @@ class Numbers(unittest.TestCase):
         self.assertEqual(cases, {words: (it.least_rounds(), it.steady_stages()) for words, it in found.items()})
 
     def test_how_long_runs_are_that_bound(self):
-        """An hour of seconds, behind the intervals that are left out, where 20 such runs take no more than 26 seconds at
-        a nanosecond for each node, with another one, and key, and one more: with 200 nodes and 6 keys 3650 intervals
+        """An hour of seconds, behind the intervals that are left out, where 20 such runs take no more than 26 seconds
+        at a nanosecond for each node, with another one, and key, and one more: with 200 nodes and 6 keys 3650 intervals
         take 20.4. With 1000 and 4 it is 0.1 s for an interval, so 200 after 50, and 100 after the 100 of longer ones.
         Several calls take one of a scenario's 1000 sections for each interval, 100 or 400 of which are left out."""
         cases = {("nodes=200 keys=6", "few"): 3600, ("nodes=300 keys=4", "many"): 2400,
-                 ("nodes=1000 keys=4", "few"): 200, ("nodes=1000 keys=4", "many"): 100, ("nodes=4000 keys=1", "few"): 100,
+                 ("nodes=1000 keys=4", "few"): 200, ("nodes=1000 keys=4", "many"): 100,
+                 ("nodes=4000 keys=1", "few"): 100,
                  ("nodes=12 keys=2 fanout=3", "many"): 900, ("nodes=12 keys=2 fanout=3", "longest"): 600,
                  ("nodes=1000 keys=4 hours=1", "few"): 3600, ("nodes=200 keys=6 hours=24", "few"): 86400,
                  ("nodes=200 keys=6 hours=24 interval=60", "few"): 1440,
                  ("nodes=12 keys=2 hours=1.5 fanout=3 interval=30", "many"): 180}
-        found = {(words, stage): of(f"{words} writes=1 entry=40 packet=400000").bounded(stage) for words, stage in cases}
-        self.assertEqual(cases, found)
+        self.assertEqual(cases, {it: of(f"{it[0]} writes=1 entry=40 packet=400000").bounded(it[1]) for it in cases})
 
     def test_hours_that_are_too_many(self):
-        """A run has 100000 rounds at most, of which 400 may be left out, and 1000 sections. 3600 seconds of work are ten
-        hours of 1000 nodes with 4 keys, at 0.1 s for an interval."""
+        """A run has 100000 rounds at most, of which 400 may be left out, and 1000 sections. 3600 seconds of work are
+        ten hours of 1000 nodes with 4 keys, at 0.1 s for an interval."""
         cases = {"nodes=200 keys=6 hours=30": "108000 intervals .* from 1 to 99600 are run: hours=27.66 is the most",
                  "nodes=1000 keys=4 hours=11": "39600 intervals .* from 1 to 36000 are run: hours=10 is the most",
                  "nodes=12 keys=2 fanout=3 hours=1": "3600 intervals .* from 1 to 600 are run: hours=0.16 is the most",
@@ -271,8 +272,8 @@ class Healing(unittest.TestCase):
             it.ends("forgotten-one"), text.startswith("format = 2\n")))
 
     def test_who_restarts(self):
-        """One node, or a tenth of 50 in each of ten rounds; of 100 nodes 20 in each of two, and of 10 nodes 4 in one, as
-        together they are no more than half."""
+        """One node, or a tenth of 50 in each of ten rounds; of 100 nodes 20 in each of two, and of 10 nodes 4 in one,
+        as together they are no more than half."""
         cases = {ROOMY: (1, 1, 51), LARGE: (5, 10, 60), SHARED + " restarts=20": (20, 2, 52),
                  SHARED + " restarts=60": (50, 1, 51), FEW + " restarts=4": (4, 1, 101)}
         self.assertEqual(cases, {words: (*of(words).restarting(), of(words).ends("restart")) for words in cases})

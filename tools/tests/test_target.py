@@ -169,7 +169,7 @@ class Told(unittest.TestCase):
                 "  a typical one       2 to 3 rounds, 1.0 to 1.5 s: half of the stale copies lack only writes that are "
                 "no older", "  CALL"):
             self.assertIn(line, lines)
-        smaller = next(it for it in lines if it.startswith("  a smaller one       80 entries: the next smaller budget "))
+        smaller = next(it for it in lines if it.startswith("  a smaller one       80 entries: the next smaller "))
         self.assertTrue(smaller.endswith(" has more under 1 of 20 seeds, up to 11 rounds"), smaller)
         self.assertIn("  a smaller one       79 entries: the next smaller budget that was run has 11 rounds",
                       self.told("target=5 interval=0.5 digest=10").in_words("CALL"))
@@ -181,10 +181,10 @@ class Told(unittest.TestCase):
         """With 400 entries each seed has 7 rounds, but the last, which has 2801 / 400."""
         met = self.told("target=6")
         lines = met.in_words("CALL")
-        best = ("The best that can be had, with room for 400 entries in a delta, 16000 bytes (nodes * keys, above which "
-                f"nothing changes; 4 times nodes * writes): {RUNS} (1 h) no copy is older than")
-        self.assertEqual(f"No budget keeps the worst staleness within 6 s, or 6 rounds. {best} 7 rounds, 7 s. A shorter "
-                         "interval, more calls in it or less loss would help.", lines[0])
+        best = ("The best that can be had, with room for 400 entries in a delta, 16000 bytes (nodes * keys, above "
+                f"which nothing changes; 4 times nodes * writes): {RUNS} (1 h) no copy is older than")
+        self.assertEqual(f"No budget keeps the worst staleness within 6 s, or 6 rounds. {best} 7 rounds, 7 s. A "
+                         "shorter interval, more calls in it or less loss would help.", lines[0])
         self.assertEqual("no budget keeps the worst staleness within 6 s", met.headline())
         self.assertNotIn("  CALL", lines)
         lines = self.told("target=7 mode=scuttle-depth", 2801).in_words("CALL")
@@ -192,8 +192,8 @@ class Told(unittest.TestCase):
         self.assertIn("  target              not met: the largest budget that was run has more than 7 s, or 7 rounds",
                       lines)
         met = self.told("target=6", 0, (400,))
-        self.assertIn("  worst staleness     not known: none keeps a level of at most 100 rounds in runs of 3600 rounds "
-                      "(1 h)", met.in_words("CALL"))
+        self.assertIn("  worst staleness     not known: none keeps a level of at most 100 rounds in runs of 3600 "
+                      "rounds (1 h)", met.in_words("CALL"))
 
     def test_older_than_the_target(self):
         search, is_met = searched("target=8 mode=scuttle-depth")
@@ -206,8 +206,8 @@ class Told(unittest.TestCase):
                                                                                           "rounds"))
 
     def test_a_packet(self):
-        """399 entries fit, of which 100 are taken, which the 200 aren't better than: 9 to 10 rounds under the seeds that
-        bound, and with 200 entries, twice nodes * writes, 8 to 9; with 100 one of the two has more than 9."""
+        """399 entries fit, of which 100 are taken, which the 200 aren't better than: 9 to 10 rounds under the seeds
+        that bound, and with 200 entries, twice nodes * writes, 8 to 9; with 100 one of the two has more than 9."""
         choose = {(200, mode): [9, 9] for mode in ROUNDS} | {(100, DEPTH): [9, 9]}
         bounds = {(100, DEPTH): [9, 10], (200, DEPTH): [8, 9]}
         cases = {10: f"met: {RUNS} (1 h) the worst staleness is within 10 s, or 10 rounds",

@@ -1,6 +1,6 @@
--- How good a run can be. As long as a run has cut nothing, each copy is a state of its owner, and no mode and no
--- budget do better with the same nodes, peers, losses and writes: so those that cut nothing come to the same. Source:
--- this project.
+-- How little a run can lag. As long as it has cut nothing, each copy is a state of its owner, and with the same nodes,
+-- peers, losses and writes no mode and no budget has fewer stale copies, or less old ones: so those that cut nothing
+-- come to the same. Source: this project.
 use Rattle.std.specs.Prelude.{◌≡◌, ℕ, ◌≤◌, slice_get, Some}
 use Rattle.bench_types.specs.declared.exchanges.Record.{Record}
 use Rattle.bench_types.specs.declared.exchanges.Rules.{Rules}

@@ -226,10 +226,10 @@ def try_reserve(room):
 def try_target(room):
     """The smallest budget of 24 nodes with 6 keys that keeps the worst staleness within 4 s, or 8 rounds of
     half a second, under all 20 seeds that bound it: counted once more from the reports. A delta of n entries of 40
-    bytes and a digest of 24 numbers of 10 bytes take n * 40 + 240 bytes. 24 * 23 * 6 are 3312 copies. 360 rounds are
-    180 s."""
+    bytes and a digest of 24 numbers of 10 bytes take n * 40 + 240 bytes. 24 * 23 * 6 are 3312 copies. 144 rounds are
+    72 s."""
     words = ("nodes=24", "keys=6", "writes=1", "entry=40", "digest=10", "interval=0.5", "count=entries", "loss=1",
-             "hours=0.05")
+             "hours=0.02")
     call = ("-o", "target", "target=4", *words, "mode=scuttle-depth")
     status, out, err = run(room, TOOLS / "gossip_advise", *call)
     many, stop, bound = (room / "target" / it for it in ("many", "many-stop", "many-bound"))
@@ -239,7 +239,7 @@ def try_target(room):
     holds("one entry less is too few", (1, True), (fewest - below, max(worst(many, below, 101, 200, FIRST)) > 8))
     # (from there on budgets are raised until none of the seeds is above 8 rounds)
     *smaller, least = bounds
-    figures = {it: worst(bound, it, 101, 460, BOUND) for it in bounds}
+    figures = {it: worst(bound, it, 101, 244, BOUND) for it in bounds}
     holds("all 20 seeds keep to the target, and of the smaller ones not all", (fewest, True, True),
           (bounds[0], max(figures[least]) <= 8, all(max(figures[it]) > 8 for it in smaller)))
     above = sum(it > 8 for it in figures[smaller[-1]]) if smaller else 0
@@ -249,7 +249,7 @@ def try_target(room):
     holds("the smallest packet", (0, True, True), (status, line.startswith(said[0]), line.endswith(said[1])))
     holds("the target and the floor", (True, True, True, True),
           ("\n  the floor           no mode and no budget does better than " in out,
-           "  target              met: in 20 of 21 runs of 360 rounds (180 s) the worst staleness is within 4 s, or 8 "
+           "  target              met: in 20 of 21 runs of 144 rounds (72 s) the worst staleness is within 4 s, or 8 "
            "rounds\n" in out,
            f"  a smaller one       {smaller[-1] if smaller else below} entries: the next smaller budget " in out,
            not smaller or f" under {above} of 20 seeds, up to {max(figures[smaller[-1]])} rounds\n" in out))
@@ -269,7 +269,7 @@ def try_target(room):
     before = {it: it.stat().st_mtime_ns for it in (room / "target").glob("*/*.csv")}
     holds("it is read again", (0, out), run(room, TOOLS / "gossip_advise", "-o", "target")[:2])
     holds("and no run made again", before, {it: it.stat().st_mtime_ns for it in (room / "target").glob("*/*.csv")})
-    for target, verdict in (("4", "met: in 20 of 21 runs of 360 rounds (180 s) the worst staleness is within 4 s"),
+    for target, verdict in (("4", "met: in 20 of 21 runs of 144 rounds (72 s) the worst staleness is within 4 s"),
                             ("1", "not met: the worst staleness is above 1 s")):
         status, out, err = run(room, TOOLS / "gossip_advise", "-o", f"judged {target}", *words, "mode=scuttle-depth",
                                f"packet={least * 40 + 240}", f"target={target}", "split=0", "restarts=0")

@@ -790,9 +790,11 @@ def of_calls(it):
 def left_out(decision):
     """What the model leaves out for this cluster."""
     it, told = decision.study, decision.study.told
+    holds_in = f"{decision.bound.holds_in()} no copy is older, and in longer ones some may be" if decision.bound else \
+        "nothing bounds that yet"
     said = [*of_calls(it), "Failure detectors: " + (
-        f"one that needs a heartbeat in time has to wait longer than {lasting(it, [decision.most_rounds()])}; in 1 of "
-        f"{len(rules.BOUNDING) + 1} such runs, and in longer ones, copies may be older."
+        f"one that needs a heartbeat in time has to wait longer than {lasting(it, [decision.most_rounds()])}; "
+        f"{holds_in}."
         if decision.suffices else "a heartbeat may come later than any limit."),
         "Nodes that join and leave: one that joins is like one that restarts."]
     if it.in_bytes:

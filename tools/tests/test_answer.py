@@ -395,8 +395,8 @@ class Decided(unittest.TestCase):
         found.bound = answer.Bound(it, "many-bound", Figures(of_depth({1100: [8, 7]})), (1100, DEPTH))
         self.assertEqual("up to 14 rounds, 14 s, for 10000 nodes: in 20 of 21 runs of 100 rounds (100 s) of 1000 nodes "
                          "no copy is older than 8 rounds", found.staleness())
-        self.assertTrue(any("has to wait longer than 14 rounds, 14 s; in 1 of 21 such runs, and in longer ones, copies "
-                            "may be older." in it for it in answer.left_out(found)))
+        self.assertTrue(any("has to wait longer than 14 rounds, 14 s; in 20 of 21 runs of 100 rounds (100 s) no copy "
+                            "is older, and in longer ones some may be." in it for it in answer.left_out(found)))
 
     def test_no_digest(self):
         """300 numbers of 20 bytes are 6000. It is told in the first answer too."""

@@ -72,7 +72,7 @@ def try_ends(room, sweep, far):
             out, err = process.communicate(timeout=60)
         holds(f"machines after {number.name}", (*ends, ""),
               (process.returncode, "0 of 16 runs stand in stopped" in err, out))
-        holds("nothing runs there", True, waits_for(lambda: not running_at(far["HOME"]), 10))
+        holds(f"nothing runs there after {number.name}", True, waits_for(lambda: not running_at(far["HOME"]), 30))
         for it in running_at(far["HOME"]):
             os.kill(int(it), signal.SIGKILL)
         for it in room.glob("**/pids"):

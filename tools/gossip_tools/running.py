@@ -23,6 +23,9 @@ HOST = f"([1-9][0-9]{{0,3}}/)?(:|({NAME}@)?{NAME})"
 
 # The signals that end a process where nothing else is said.
 ENDINGS = signal.SIGINT, signal.SIGTERM, signal.SIGHUP
+# How GNU parallel ends, and in how many seconds: by its first TERM it begins no more, by the second it ends what runs,
+# which it may have to do on other machines.
+GENTLY = (signal.SIGTERM, 1), (signal.SIGTERM, 10)
 
 
 class Failed(Exception):
@@ -82,8 +85,8 @@ def close(folder, name, process, program):
 
 @contextlib.contextmanager
 def group(*first):
-    """A process group that ends with the block, and with this process, however that ends. What is left in it gets the
-    first signals, a second apart, if this process is gone, and is killed.
+    """A process group that ends with the block, and with this process, however that ends. What is left in it is killed,
+    after the first signals where this process is gone, each with the seconds that are left to end in.
 
     Its leader waits at a pipe until nobody has the other end, which the system closes with this process. A child closes
     that after it has joined the group, so none is missed; of what it starts all is in the group. The death signal that
@@ -113,12 +116,23 @@ def lead(reader, first):
         os.closerange(0, reader)
         os.closerange(reader + 1, os.sysconf("SC_OPEN_MAX"))
         os.read(reader, 1)
-        for number in first:
+        for number, seconds in first:
             os.killpg(0, number)
-            time.sleep(1)
+            until = time.monotonic() + seconds
+            while others_in_group() and time.monotonic() < until:
+                time.sleep(0.05)
         os.killpg(0, signal.SIGKILL)
     finally:
         os._exit(1)
+
+
+def others_in_group():
+    """The other processes in this one's group."""
+    found = []
+    for pid in (int(it) for it in os.listdir("/proc") if it.isdigit()):
+        with contextlib.suppress(ProcessLookupError):
+            found += [pid] * (os.getpgid(pid) == os.getpgrp() and pid != os.getpid())
+    return found
 
 
 def in_memory(text):
@@ -203,11 +217,10 @@ def hosts():
 
 
 def end(process):
-    """Ends GNU parallel: by its first TERM it begins no more, by the second it ends what runs."""
-    for _ in range(2):
-        process.terminate()
+    for number, seconds in GENTLY:
+        process.send_signal(number)
         with contextlib.suppress(subprocess.TimeoutExpired):
-            process.wait(timeout=1)
+            process.wait(timeout=seconds)
     process.kill()
     process.wait()
 
@@ -217,7 +230,7 @@ def gnu_parallel(words, given, told):
     """GNU parallel, with its input and where it complains. It ends with the block, and with it all that it started."""
     environment = {"HOME": tempfile.gettempdir(), **os.environ, "PARALLEL_SHELL": shutil.which("sh")}
     process = None
-    with group(signal.SIGTERM, signal.SIGTERM) as runs:
+    with group(*GENTLY) as runs:
         try:
             with Signals.hold():
                 process = subprocess.Popen(["parallel", *words], stdin=given, stdout=subprocess.PIPE, stderr=told,

@@ -12,7 +12,7 @@ CHOOSING = tuple(range(1, 21))
 BOUNDING = tuple(range(21, 41))
 FIRST, BOUNDING_FIRST = CHOOSING[:6], BOUNDING[:6]
 # The intervals of a run and its window. In the first ones the tables fill and look too good, so they are left out.
-FEW, FEW_WINDOW = 60, (31, 60)
+FEW_WINDOW = (31, 60)
 MANY, MANY_WINDOW = 200, (101, 200)
 # The intervals of longer runs, where nothing is level after those. Their windows are their second halves.
 LONGER, LONGEST = 400, 800

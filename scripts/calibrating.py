@@ -8,7 +8,7 @@ from typing import NamedTuple
 
 import trials
 from gossip_tools import advise, answer, cluster, rules, target
-from gossip_tools.study import ONE, Study
+from gossip_tools.study import Study
 
 FRESH = tuple(range(1001, 1021))
 # Nodes with another node and key that a drawn cluster has at most, so that it is asked within minutes.
@@ -18,7 +18,7 @@ TARGETS = 5
 
 
 class Told(NamedTuple):
-    """A bound that was told, what the seeds behind it had, and what fresh ones have; None is without an end."""
+    """A bound that was told, what the seeds behind it had, and what fresh ones have."""
 
     name: str
     bound: float
@@ -27,15 +27,14 @@ class Told(NamedTuple):
 
     def exceeded(self):
         """Under how many of the fresh seeds it is exceeded."""
-        return sum(it is None or it > self.bound for it in self.fresh)
+        return sum(it > self.bound for it in self.fresh)
 
     def is_loose(self):
         """Whether it is more than 1.3 times the greatest of the fresh ones, and more than 2 rounds above it."""
-        most = max((math.inf if it is None else it for it in self.fresh))
-        return self.bound > max(1.3 * most, most + 2)
+        return self.bound > max(1.3 * max(self.fresh), max(self.fresh) + 2)
 
     def __str__(self):
-        found = [it for it in self.fresh if it is not None]
+        found = [it for it in self.fresh if it < math.inf]
         never = f", {len(self.fresh) - len(found)} never" if len(found) < len(self.fresh) else ""
         return (f"{self.name} {self.bound}: fresh {answer.span(found) if found else 'none'}{never}, exceeded "
                 f"{self.exceeded()} of {len(self.fresh)}{', loose' if self.is_loose() else ''}")
@@ -65,23 +64,27 @@ def drawn(random, at, largest):
     return words
 
 
-def of_healing(it, stages, decision, healing):
-    """The bounds that are told of what heals."""
-    pair, found = (decision.budget, decision.mode), {}
-    for stage in it.healing_stages():
-        found[stage] = stages.carry_out(stage, {pair}, FRESH)
-    fresh = answer.Healing(it, decision.mode, found)
-    times = {what: (healing.taken(what, decision.budget), fresh.taken(what, decision.budget)) for what in it.heals()}
+def times(it, stages, pair, seeds=None):
+    """The rounds until all is over, under each seed, by what heals, and to wait after a restart."""
+    budget, mode = pair
+    found = {stage: stages.carry_out(stage, {pair}, seeds) for stage in it.healing_stages()}
+    healing = answer.Healing(it, mode, found)
+    taken = {what: healing.taken(what, budget) for what in it.heals()}
     if it.leaves():
-        of_leaves = [[None if None in each else max(each) for each in zip(*(times[what][side] for what in it.leaves()))]
-                     for side in (0, 1)]
-        times["wait"] = of_leaves
-    # (where some seed never heals no bound is told)
-    return [Told(what, max(told), told, seen) for what, (told, seen) in times.items() if None not in told]
+        taken["wait"] = answer.latest(taken[what] for what in it.leaves())
+    return {what: [math.inf if rounds is None else rounds for rounds in of_seeds] for what, of_seeds in taken.items()}
+
+
+def of_healing(it, stages, fresh, pair):
+    """The bounds that are told of what heals."""
+    told, seen = times(it, stages, pair), times(it, fresh, pair, FRESH)
+    bounds = [Told(what, rules.bound_of(told[what]), told[what], seen[what]) for what in told]
+    # (where too many seeds never heal none is told)
+    return [it for it in bounds if it.bound < math.inf]
 
 
 class Asked(NamedTuple):
-    """What came of a cluster: its words, in short what was told, the bounds, and whether the last answer has another
+    """What came of a cluster: its words, in short what is told, the bounds, and whether the last answer has another
     mode or budget than the first."""
 
     words: str
@@ -91,55 +94,53 @@ class Asked(NamedTuple):
     moved: bool = False
 
 
-def asked(words, folder, program):
+def decided(it, stages):
+    """What gossip_advise decides and bounds, whether that meets a target, and whether the first answer has another mode
+    or budget. What bounds nothing isn't run, as smaller budgets, a floor and how old a typical copy is."""
+    if it.told["packet"] is None:
+        search = target.Search(it, stages)
+        is_met = search.carry_out()
+        return target.Met(search, is_met, target.Ages(it, search.stage, search.found, None)), is_met, False
+    first = stages.decide(it.steady_stages()[0], it.wanted(it.usual))
+    decision = advise.bounded_decision(it, stages, first)
+    return decision, False, first.suffices and (first.mode, first.budget) != (decision.mode, decision.budget)
+
+
+def asked(words, it, folder, program):
     """Asks for a cluster, and makes the runs that bound the answer again under fresh seeds."""
-    words = [f"{name}={it}" for name, it in words.items()]
-    told, _ = advise.numbers_of(words, folder / "cluster.toml")
-    it = Study(told)
-    folder.mkdir(parents=True)
-    check_sum = advise.keep(folder, told, None, program)
-    fresh = advise.Stages(it, folder, program)
-    with contextlib.redirect_stdout(io.StringIO()), contextlib.redirect_stderr(io.StringIO()):
-        stages, healing, moved = advise.Stages(it, folder, program), None, False
-        if it.told["packet"] is None:
-            search = target.Search(it, stages)
-            is_met = search.carry_out()
-            pairs = {search.run_of(mode) for mode in search.modes} | {(search.budget, search.chosen)}
-            decision = target.Met(search, is_met, target.aged(stages, search.stage, search.found, pairs))
-        else:
-            first = advise.first_answer(it, stages, advise.Told(folder), check_sum)
-            decision, healing = advise.last_answer(it, stages, first)
-            is_met = False
-            moved = first.suffices and (first.mode, first.budget) != (decision.mode, decision.budget)
-        said = decision.headline()
+    stages, fresh = advise.Stages(it, folder, program), advise.Stages(it, folder, program)
+    folder.mkdir()
+    with contextlib.redirect_stderr(io.StringIO()):
+        decision, is_met, moved = decided(it, stages)
         if not decision.suffices:
-            return Asked(" ".join(words), said, [], None, moved)
-        pair = decision.budget, decision.mode
-        found = fresh.carry_out(decision.bound.stage, {pair}, FRESH).worst(*pair, decision.bound.window)
-        bounds = [Told("worst", max(decision.bound.worst), decision.bound.worst, found)]
-        bounds += of_healing(it, fresh, decision, healing) if healing else []
-        of_target = Told("target", it.target, decision.bound.worst, found) if is_met else None
-    return Asked(" ".join(words), said, bounds, of_target, moved)
+            return Asked(words, decision.headline(), [], None, moved)
+        pair, bound = (decision.budget, decision.mode), decision.bound
+        found = fresh.carry_out(bound.stage, {pair}, FRESH).worst(*pair, bound.window)
+        bounds = [Told("worst", max(bound.worst), bound.worst, found)]
+        bounds += of_healing(it, stages, fresh, pair) if decision.heals() else []
+        of_target = Told("target", it.target, bound.worst, found) if is_met else None
+    return Asked(words, decision.headline(), bounds, of_target, moved)
+
+
+def study_of(words):
+    """The cluster that words tell."""
+    return Study(cluster.told(words, advise.USUAL, advise.CALL, {"packet": "target"}))
 
 
 def clusters(seed, count, largest):
-    """The words of so many clusters, drawn by a seed. Those that are refused are drawn again."""
+    """So many clusters, drawn by a seed, each by its words. Those that are refused are drawn again."""
     draw, at = random.Random(seed), 0
     while at < count:
-        words = drawn(draw, at, largest)
-        try:
-            told = cluster.told([f"{name}={it}" for name, it in words.items()], advise.USUAL, advise.CALL,
-                                {"packet": "target"})
-            Study(told)
-        except advise.Refused:
-            continue
-        at += 1
-        yield words
+        words = [f"{name}={it}" for name, it in drawn(draw, at, largest).items()]
+        with contextlib.suppress(advise.Refused):
+            it = study_of(words)
+            at += 1
+            yield " ".join(words), it
 
 
 def asked_all(seed, count, largest, room, say):
-    for at, words in enumerate(clusters(seed, count, largest)):
-        found = asked(words, Path(room, str(at)), trials.PROGRAM)
+    for at, (words, it) in enumerate(clusters(seed, count, largest)):
+        found = asked(words, it, Path(room, str(at)), trials.PROGRAM)
         say(f"{at + 1}. {found.words}\n   {found.said}")
         for it in (*found.bounds, *([found.target] if found.target else [])):
             say(f"   {it}")
@@ -148,11 +149,8 @@ def asked_all(seed, count, largest, room, say):
 
 def restarted(words, folder):
     """The rounds that it takes after restarts until what they leave is over, for each seed, by what is left."""
-    it = Study(cluster.told(words, advise.USUAL, advise.CALL))
-    stages, pair = advise.Stages(it, folder, trials.PROGRAM), (it.knee, it.usual)
-    folder.mkdir(parents=True)
+    it = study_of(words)
+    folder.mkdir()
     with contextlib.redirect_stderr(io.StringIO()):
-        found = {stage: stages.carry_out(stage, {pair}) for stage in it.healing_stages()}
-    healing = answer.Healing(it, it.usual, found)
-    return {what: [math.inf if rounds is None else rounds for rounds in healing.taken(what, it.knee)]
-            for what in it.leaves()}
+        taken = times(it, advise.Stages(it, folder, trials.PROGRAM), (it.knee, it.usual), rules.BOUNDING)
+    return {what: taken[what] for what in it.leaves()}

@@ -28,8 +28,8 @@ class Tags(html.parser.HTMLParser):
             self.open.pop()
 
 
-# The seeds that choose, the first of them, and those that bound.
-CHOOSE, FIRST, BOUND = range(1, 21), range(1, 7), range(21, 41)
+# The seeds that choose, the first of them, and those that bound how old a copy gets and what heals.
+CHOOSE, FIRST, BOUND, HEAL = range(1, 21), range(1, 7), range(21, 41), range(21, 83)
 COLUMNS = "round,exchanges,unreached,lost,entries,cut,stale,greatest,leftover".split(",")
 
 
@@ -70,13 +70,13 @@ def healed(folder, budget):
     ends = max([it["round"] + it["down"] - 1 for it in restarts] + [it["to"] for it in splits])
     after, gone = [], []
     # (the 50 rounds before are of two parts, of 30 to fill and 20 to look at, or of so many times these)
-    for rows in column(folder, budget, "greatest", BOUND):
+    for rows in column(folder, budget, "greatest", HEAL):
         level = max(rows[(begins - 1) * 3 // 5:begins - 1]) + 1
         first = max(ends + 1, begins + level if splits else 0)
         after.append(next(at for at in range(first, len(rows) + 1) if rows[at - 1] <= level) - ends)
     if "leftover" in next(folder.glob("*.csv")).read_text():
         gone = [next(at for at in range(ends + 1, len(rows) + 1) if not rows[at - 1]) - ends
-                for rows in column(folder, budget, "leftover", BOUND)]
+                for rows in column(folder, budget, "leftover", HEAL)]
     return after, gone, len(restarts)
 
 
@@ -89,10 +89,10 @@ def as_rounds(figure):
 
 
 def took(name, what, ends, seeds):
-    """A line on what heals, by what each seed took, a round being a second."""
-    most = max(seeds)
+    """A line on what heals, by what each seed took, a round being a second: one in 21 of 63 is above the third."""
+    most = sorted(seeds)[-3]
     return (f"\n  {name:<19} {what}: {ends} after at most {most} round{'s' if most > 1 else ''}, {most} s, in 20 of 21 "
-            f"cases ({spanned(seeds)} under 20 seeds)\n")
+            f"cases ({spanned(seeds)} under 62 seeds)\n")
 
 
 def try_advice(room):
@@ -398,7 +398,7 @@ def try_advice_below_the_knee(room):
     restart, gone = ([max(it) for it in zip(groups[at], one[at])] for at in (0, 1))
     what = ("of 2 nodes in each of 5 rounds, each down for one round, and then without its own state, and of such a "
             "group alone")
-    waits = max(restart + gone)
+    waits = sorted(max(it) for it in zip(restart, gone))[-3]
     lines = (took("a split", "of half of the nodes for 30 rounds", "healed", split),
              took("a restart", what, "healed", restart), took("a forgotten state", what, "gone from all copies", gone),
              f"\n  a rolling restart   wait {waits} rounds, {waits} s, after a group of 2 nodes is up again: in 20 of "

@@ -58,6 +58,11 @@ def run_of(study):
     return f" ({study.nodes} nodes run)" if study.parts > 1 else ""
 
 
+def latest(times):
+    """The longest of several times, for each seed; None where one of them isn't over."""
+    return [None if None in it else max(it) for it in zip(*times)]
+
+
 def by_seeds(one, other):
     """Under how many seeds the one has less than the other, and more, in words."""
     less, more, seeds = rules.seed_by_seed(one, other)
@@ -486,7 +491,7 @@ class Healing:
         times = [self.taken_in(self.stages[stage], stage, budget, stage)]
         if stage in self.alone:
             times.append(self.taken_in(self.alone[stage], stage, budget, f"{stage}-one"))
-        return [None if None in it else max(it) for it in zip(*times)]
+        return latest(times)
 
     def taken_in(self, found, stage, budget, runs):
         after = {"split": found.split_healed_after, "restart": found.healed_after, "forgotten": found.forgotten_after}
@@ -496,11 +501,13 @@ class Healing:
         """How long it takes at most in most cases, in words: the rounds, or that they weren't enough, and the time with
         what the seeds had."""
         taken = self.taken(stage, budget)
-        if None in taken:
-            rounds = self.study.rounds(stage) - self.study.ends(stage)
-            return f"not within {rounds} rounds under {taken.count(None)} of {len(taken)} seeds", ""
-        rounds, _, time = lasting(self.study, [max(taken)]).partition(", ")
-        return f"at most {rounds}", f"{time}, {rules.IN_MOST} cases ({span(taken)} under {len(taken)} seeds)"
+        bound, over = rules.bound_of(taken), [it for it in taken if it is not None]
+        never = f"not within {self.study.rounds(stage) - self.study.ends(stage)} rounds under {taken.count(None)}"
+        if bound is None:
+            return f"{never} of {len(taken)} seeds", ""
+        rounds, _, time = lasting(self.study, [bound]).partition(", ")
+        others = f", {never}" if None in taken else ""
+        return f"at most {rounds}", f"{time}, {rules.IN_MOST} cases ({span(over)} under {len(over)} seeds{others})"
 
     def lines(self, stage, budget):
         """What is healed and how long it takes; below the first of them what is counted."""
@@ -552,10 +559,9 @@ class Healing:
         return [row("", it) for it in textwrap.wrap(self.counted(), IN_A_ROW)]
 
     def waited(self, budget):
-        """The rounds to wait between the groups of a rolling restart: until what a restart leaves is over under each
-        seed. None where some of it isn't over in the rounds that were run."""
-        taken = [it for stage in self.study.leaves() for it in self.taken(stage, budget)]
-        return None if None in taken else max(taken)
+        """The rounds to wait between the groups of a rolling restart: until all that a restart leaves is over in most
+        cases. None where it isn't in the rounds that were run."""
+        return rules.bound_of(latest(self.taken(stage, budget) for stage in self.study.leaves()))
 
     def wait(self, budget):
         """How long to wait between the groups of a rolling restart, in words."""

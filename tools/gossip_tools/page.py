@@ -128,8 +128,7 @@ def captions(decision, healing):
     above = "What is higher than the picture is in the table. "
     same = plots.lie_on_each_other(decision, lambda *at: decision.found.worst(*at, decision.window))
     same = f"All modes have the same figures from {it.whole(same)} entries on. " if same else ""
-    band = f"The line has the middle of {len(rules.BOUNDING)} seeds, bars go from their least to their most"
-    healed = captions_of_healing(it, healing.mode, band) if healing else {}
+    healed = captions_of_healing(it, healing.mode) if healing else {}
     most = " Of each interval the round with the most is shown." if it.fanout > 1 else ""
     return {
         "worst": f"The knee: worst staleness in rounds {first} to {last} of the runs that chose. Bars go from the "
@@ -142,8 +141,9 @@ def captions(decision, healing):
     }
 
 
-def captions_of_healing(it, mode, band):
+def captions_of_healing(it, mode):
     each, _ = it.restarting()
+    band = "The line has the seed in the middle, bars go from the least to the most of the seeds"
     return {
         "split": f"After a split of half of the nodes for {it.split} {answer.unit(it)}, whose last round is 0, in "
                  f"{mode}. {band}.",
@@ -229,8 +229,8 @@ def make(folder, decision, healing, made, check_sum, missing=(), more=(), head="
 <h1>{told(title)}</h1>
 <p>{it.told['nodes']} nodes{tenth}. Keys of each: {it.keys}; writes in an interval of
 {cluster.plain(it.told['interval'])} s: {it.writes}; calls in an interval, each of which is a round: {it.fanout};
-messages lost: {cluster.plain(it.told['loss'])} %. Mode and budget were chosen by {len(rules.CHOOSING)} seeds, and
-bounded by {len(rules.BOUNDING)} others: {rules.IN_MOST} runs have no more.</p>
+messages lost: {cluster.plain(it.told['loss'])} %. Mode and budget were chosen by {len(rules.CHOOSING)} seeds, and what
+they bring is bounded by others: {rules.IN_MOST} runs have no more.</p>
 {cards(decision, healing, more)}
 {below_the_cards(decision, healing)}{paragraphs(missing)}
 {listed("Mind", answer.warnings(decision), "mind")}

@@ -3,13 +3,15 @@
 A run's worst staleness is the most of `greatest` in the rounds of a window. A figure is a list of them, one for each
 seed, and its band goes from the least to the most. An interval has as many rounds as a node calls others in it.
 """
+import math
+
 from gossip_tools.scenario import MODES, USUAL_MODE, digest_numbers
 
 # The seeds by which a mode and a budget are chosen, and the others that bound what these then bring: those that chose
-# would bound it by the luckiest choice. The first ones show whether a mode may still be better than another, and what
-# bounds nothing.
+# would bound it by the luckiest choice. More of them bound what heals, where that is little work. The first ones show
+# whether a mode may still be better than another, and what bounds nothing.
 CHOOSING = tuple(range(1, 21))
-BOUNDING = tuple(range(21, 41))
+BOUNDING, MORE_BOUNDING = tuple(range(21, 41)), tuple(range(21, 83))
 FIRST, BOUNDING_FIRST = CHOOSING[:6], BOUNDING[:6]
 # The intervals of a run and its window. In the first ones the tables fill and look too good, so they are left out.
 FEW_WINDOW = (31, 60)
@@ -64,8 +66,20 @@ def are_close(one, other):
     return not is_better(one, other) and not is_better(other, one)
 
 
-# "Of m + 1 runs with seeds drawn alike, the last has the greatest value with a chance of 1 in m + 1."
-IN_MOST = f"in {len(BOUNDING)} of {len(BOUNDING) + 1}"
+# What is told as a bound, one in so many further runs exceeds.
+ONE_IN = 21
+IN_MOST = f"in {ONE_IN - 1} of {ONE_IN}"
+
+
+def bounding_rank(seeds):
+    """"Of m + 1 runs with seeds drawn alike, the last is above the k-th greatest of the others with a chance of k in
+    m + 1": the greatest of 20 seeds bounds it, or the third greatest of 62, which varies less."""
+    return max(1, (seeds + 1) // ONE_IN)
+
+
+def bound_of(figure):
+    """What one in 21 further runs exceeds. None is never, above all others."""
+    return sorted(figure, key=lambda it: math.inf if it is None else it)[-bounding_rank(len(figure))]
 
 
 # What a run that cuts nothing shows.

@@ -225,9 +225,9 @@ class Study:
         self.before = rules.rounds_of((FILLING * slowness + 1, self.waits), self.fanout)
         self.begins = self.before[1] + 1
 
-    def work_of(self, intervals):
-        """About the nanoseconds of processor time of runs with so many intervals under the seeds that bound."""
-        return len(rules.BOUNDING) * intervals * self.fanout * self.nodes**2 * (self.keys + 1)
+    def work_of(self, intervals, seeds=rules.BOUNDING):
+        """About the nanoseconds of processor time of runs with so many intervals under these seeds."""
+        return len(seeds) * intervals * self.fanout * self.nodes**2 * (self.keys + 1)
 
     def most_intervals(self):
         """The most intervals that a scenario takes: in rounds, and in sections where each interval has one."""
@@ -272,8 +272,12 @@ class Study:
         return self.split if stage == "split" else 1 if stage in ONE else self.restarting()[1]
 
     def seeds(self, stage):
-        """The seeds of a stage: of those that choose, where it does, and of those that bound."""
-        return rules.CHOOSING if stage in WINDOWS else rules.FIRST if stage in STOPS else rules.BOUNDING
+        """The seeds of a stage: of those that choose, where it does, and of those that bound, more for what heals where
+        the work allows it."""
+        if stage in WINDOWS or stage in STOPS:
+            return rules.CHOOSING if stage in WINDOWS else rules.FIRST
+        work = self.work_of(sum(map(self.intervals, self.healing_stages())), rules.MORE_BOUNDING)
+        return rules.BOUNDING if stage in BOUNDS or work > BOUND_WORK else rules.MORE_BOUNDING
 
     def rounds(self, stage):
         return self.intervals(stage) * self.fanout

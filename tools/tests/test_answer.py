@@ -609,6 +609,17 @@ class Healed(unittest.TestCase):
         line = healing(split=[10, None, None]).lines("split", 200)[0]
         self.assertTrue(line.endswith(": not within 42 rounds under 2 of 3 seeds"), line)
 
+    def test_the_third_of_many(self):
+        """One in 21 of 63 runs may take longer than the third of 62 that take longest, two of them too long to see. A
+        wait is until both are over, under each seed."""
+        times = [*range(1, 61), None, None]
+        self.assertIn(": healed after at most 60 rounds, 30 s, in 20 of 21 cases (1 to 60 under 60 seeds, not within "
+                      "42 rounds under 2)", healing(split=times).lines("split", 200)[0])
+        it = healing("restarts=80 forget=yes", forgotten=[7] * 60 + [9, 9])
+        it.stages["forgotten"].forgotten = [9] + [6] * 61
+        self.assertEqual([7, 6, 9], [*(rules.bound_of(it.taken(what, 200)) for what in it.study.leaves()),
+                                     it.waited(200)])
+
     def test_the_longer_time(self):
         """Of several groups and of one alone, under each seed. Where one of them isn't over in time, it isn't."""
         cases = {((6, 7), (5, 9)): [6, 9], ((9, 4), (5, 4)): [9, 4], ((6, None), (5, 9)): [6, None],

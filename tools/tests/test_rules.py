@@ -16,10 +16,16 @@ def alike(less, more, seeds):
 
 class Better(unittest.TestCase):
     def test_seeds(self):
-        """"Of 20 seeds", and the seeds that choose aren't those that bound; 20 of 21 runs keep to the greatest of
-        20."""
-        self.assertEqual((20, 20, 40), tuple(map(len, (rules.CHOOSING, rules.BOUNDING,
-                                                       {*rules.CHOOSING, *rules.BOUNDING}))))
+        """"Of 20 seeds", and the seeds that choose aren't those that bound, of which the first ones are the same."""
+        self.assertEqual((20, 20, 62, 82), tuple(map(len, (rules.CHOOSING, rules.BOUNDING, rules.MORE_BOUNDING,
+                                                           {*rules.CHOOSING, *rules.MORE_BOUNDING}))))
+        self.assertEqual(rules.BOUNDING, rules.MORE_BOUNDING[:20])
+
+    def test_bound(self):
+        """20 of 21 runs keep to the greatest of 20, as to the second of 41 and to the third of 62. None is never."""
+        cases = {(*range(1, 21),): 20, (*range(41, 0, -1),): 40, (*range(1, 62),): 60, (*range(62, 0, -1),): 60,
+                 (7, 9, 8): 9, (None, *range(20)): None, (None, None, *range(60)): 59, (None,) * 3 + (5,) * 59: None}
+        self.assertEqual(cases, {figure: rules.bound_of(figure) for figure in cases})
         self.assertEqual("in 20 of 21", rules.IN_MOST)
 
     def test_seed_by_seed(self):

@@ -175,9 +175,17 @@ class Numbers(unittest.TestCase):
 
     def test_seeds(self):
         """Those that bound, and tell what heals, are others than those that choose."""
-        cases = {"few": rules.CHOOSING, "many-bound": rules.BOUNDING, "restart-one": rules.BOUNDING,
-                 "split": rules.BOUNDING, "many-stop": rules.FIRST}
+        cases = {"few": rules.CHOOSING, "many-bound": rules.BOUNDING, "restart-one": rules.MORE_BOUNDING,
+                 "split": rules.MORE_BOUNDING, "many-stop": rules.FIRST}
         self.assertEqual(cases, {stage: of(ROOMY).seeds(stage) for stage in cases})
+
+    def test_more_seeds_for_what_heals(self):
+        """A split of 30 intervals and a restart of one take 122 and 93 with 4 keys. 62 such runs take no more than 26
+        seconds at a nanosecond for each node, with another one, and key, and one more, up to 624 nodes."""
+        cases = {(624, ""): 62, (625, ""): 20, (625, "split=0"): 62, (625, "split=0 restarts=9"): 62,
+                 (625, "split=0 restarts=9 fanout=2"): 20}
+        self.assertEqual(cases, {it: len(of(f"nodes={it[0]} keys=4 writes=1 entry=40 packet=100000 {it[1]}").seeds(
+            "restart")) for it in cases})
 
     def test_budget_that_a_sum_refuses(self):
         """Room for 28 entries, where 2000 of 50 bytes take 100000, and with the digest of 2000 numbers 120000. Where a

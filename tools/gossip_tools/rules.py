@@ -12,7 +12,7 @@ from gossip_tools.scenario import MODES, USUAL_MODE, digest_numbers
 # whether a mode may still be better than another, and what bounds nothing.
 CHOOSING = tuple(range(1, 21))
 BOUNDING, MORE_BOUNDING = tuple(range(21, 41)), tuple(range(21, 83))
-FIRST, BOUNDING_FIRST = CHOOSING[:6], BOUNDING[:6]
+FIRST, BOUNDING_FIRST = CHOOSING[:6], BOUNDING[:4]
 # The intervals of a run and its window. In the first ones the tables fill and look too good, so they are left out.
 FEW_WINDOW = (31, 60)
 MANY, MANY_WINDOW = 200, (101, 200)

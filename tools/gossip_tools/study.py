@@ -42,7 +42,7 @@ FILLED = {"few": 50, **{stage: first - 1 for stage, (first, _) in WINDOWS.items(
 # The intervals behind them: an hour of seconds, or less where the work of an answer would be above this. The work of a
 # round is about a nanosecond of processor time for each node, with another one, and key.
 HOUR, SHORTER = 3600, (2400, 1800, 1200, 900, 600, 400, 300, 200, 100)
-BOUND_WORK, MOST_WORK = 2.6e10, 3.6e12
+BOUND_WORK, MOST_WORK = 2.1e10, 3.6e12
 # The work of many intervals that is little.
 LITTLE_WORK = 2e9
 

@@ -207,12 +207,12 @@ def try_reserve(room):
     holds("the seeds that choose aren't those that bound", (set(CHOOSE), set(BOUND)), tuple(
         {int(it.name.split(".")[1].partition("-")[2]) for it in folder.glob("*.csv")} for folder in (many, bound)))
     # (24 * 6 entries never cut)
-    cuts = {it for rows in column(bound, "budget-144", "cut", BOUND[:6]) for it in rows}
-    best = worst(bound, 144, 101, 460, BOUND[:6])
-    has = "that" if best == figure[:6] else spanned(figure[:6])
+    cuts = {it for rows in column(bound, "budget-144", "cut", BOUND[:4]) for it in rows}
+    best = worst(bound, 144, 101, 460, BOUND[:4])
+    has = "that" if best == figure[:4] else spanned(figure[:4])
     holds("the floor", ({0}, True), (cuts, f"\n  the floor           no mode and no budget does better than "
                                      f"{as_rounds(best)}, {spanned(best)} s, with these peers and losses; the chosen "
-                                     f"one had {has} under the same 6 seeds\n" in said))
+                                     f"one had {has} under the same 4 seeds\n" in said))
     holds("nothing that heals is run where none is asked for", ({"many", "many-bound"}, False),
           ({it.parent.name for it in (room / "reserve").glob("*/scenario")}, "a split" in out or "a restart" in out))
     # (the name that a packet had before)

@@ -427,10 +427,10 @@ class Bounded(unittest.TestCase):
     """What bounds a decision, and what is decided where that isn't level."""
 
     def test_words(self):
-        """2400 rounds of half a second are 20 minutes; 600 intervals of three rounds of 10 s are 5 hours, where 1000
+        """1800 rounds of half a second are 15 minutes; 600 intervals of three rounds of 10 s are 5 hours, where 1000
         sections take no more than 900 and the work no more than these; a tenth of 10000 nodes has 100 rounds."""
         roomy = "nodes=300 keys=4 writes=2 entry=40 packet=40000"
-        cases = ((f"{roomy} interval=0.5", "2400 rounds (20 min)", "9 rounds, 4.5 s"),
+        cases = ((f"{roomy} interval=0.5", "1800 rounds (15 min)", "9 rounds, 4.5 s"),
                  (f"{roomy} interval=0.5 hours=1", "7200 rounds (1 h)", "9 rounds, 4.5 s"),
                  (f"{roomy} fanout=3 interval=30", "1800 rounds (600 intervals, 5 h)", "9 rounds, 3 intervals, 90 s"),
                  ("nodes=10000 keys=4 writes=1 entry=40 packet=640000", "100 rounds (100 s)",
@@ -466,15 +466,15 @@ class Bounded(unittest.TestCase):
         return advise.bounded_decision(it, Made, answer.Decision(it, Figures(chose), MANY)), made
 
     def test_later_stages(self):
-        """A bound that isn't level has the longer runs choose; after the longest there is none: 2400 rounds behind 400
+        """A bound that isn't level has the longer runs choose; after the longest there is none: 1800 rounds behind 400
         show a level of up to 400."""
         for level, later in (((MANY,), []), (("longer",), ["longer"]), (("longest",), ["longer", "longest"])):
             found, made = self.bounded(*level)
             self.assertEqual((True, 600, later, level[0]), (found.suffices, found.budget, made, found.stage))
-            self.assertIn(" of 21 runs of 2400 rounds (40 min) no copy is older than 11 rounds, 11 s: the most of ",
+            self.assertIn(" of 21 runs of 1800 rounds (30 min) no copy is older than 11 rounds, 11 s: the most of ",
                           answer.in_words(found, None)[2])
         found, made = self.bounded()
-        why = "none keeps a level of at most 400 rounds in runs of 2400 rounds (40 min)"
+        why = "none keeps a level of at most 400 rounds in runs of 1800 rounds (30 min)"
         self.assertEqual((False, 1000, f"no budget that fits is enough: {why}"),
                          (found.suffices, found.budget, found.headline()))
         self.assertIn(f"  worst staleness     not known: {why}", answer.in_words(found, None))

@@ -149,13 +149,14 @@ class Numbers(unittest.TestCase):
         self.assertEqual(cases, {words: (it.least_rounds(), it.steady_stages()) for words, it in found.items()})
 
     def test_how_long_runs_are_that_bound(self):
-        """An hour of seconds, behind the intervals that are left out, where 20 such runs take no more than 26 seconds
+        """An hour of seconds, behind the intervals that are left out, where 20 such runs take no more than 21 seconds
         at a nanosecond for each node, with another one, and key, and one more: with 200 nodes and 6 keys 3650 intervals
-        take 20.4. With 1000 and 4 it is 0.1 s for an interval, so 200 after 50, and 100 after the 100 of longer ones.
+        take 20.4. With 1000 and 4 it is 0.1 s for an interval, so 100 after 50 or after the 100 of longer ones, and
+        with 800 it is 0.064 s, so 200 after 50.
         Several calls take one of a scenario's 1000 sections for each interval, 100 or 400 of which are left out."""
-        cases = {("nodes=200 keys=6", "few"): 3600, ("nodes=300 keys=4", "many"): 2400,
-                 ("nodes=1000 keys=4", "few"): 200, ("nodes=1000 keys=4", "many"): 100,
-                 ("nodes=4000 keys=1", "few"): 100,
+        cases = {("nodes=200 keys=6", "few"): 3600, ("nodes=300 keys=4", "many"): 1800,
+                 ("nodes=1000 keys=4", "few"): 100, ("nodes=1000 keys=4", "many"): 100,
+                 ("nodes=800 keys=4", "few"): 200, ("nodes=4000 keys=1", "few"): 100,
                  ("nodes=12 keys=2 fanout=3", "many"): 900, ("nodes=12 keys=2 fanout=3", "longest"): 600,
                  ("nodes=1000 keys=4 hours=1", "few"): 3600, ("nodes=200 keys=6 hours=24", "few"): 86400,
                  ("nodes=200 keys=6 hours=24 interval=60", "few"): 1440,
@@ -180,10 +181,10 @@ class Numbers(unittest.TestCase):
         self.assertEqual(cases, {stage: of(ROOMY).seeds(stage) for stage in cases})
 
     def test_more_seeds_for_what_heals(self):
-        """A split of 30 intervals and a restart of one take 122 and 93 with 4 keys. 62 such runs take no more than 26
-        seconds at a nanosecond for each node, with another one, and key, and one more, up to 624 nodes."""
-        cases = {(624, ""): 62, (625, ""): 20, (625, "split=0"): 62, (625, "split=0 restarts=9"): 62,
-                 (625, "split=0 restarts=9 fanout=2"): 20}
+        """A split of 30 intervals and a restart of one take 122 and 93 with 4 keys. 62 such runs take no more than 21
+        seconds at a nanosecond for each node, with another one, and key, and one more, up to 561 nodes."""
+        cases = {(561, ""): 62, (562, ""): 20, (562, "split=0"): 62, (562, "split=0 restarts=9"): 62,
+                 (562, "split=0 restarts=9 fanout=2"): 20}
         self.assertEqual(cases, {it: len(of(f"nodes={it[0]} keys=4 writes=1 entry=40 packet=100000 {it[1]}").seeds(
             "restart")) for it in cases})
 

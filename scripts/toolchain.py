@@ -1,27 +1,40 @@
 """The command rt of the Rattle toolchain as a module, for scripts that do a part of its work: what counts as proved and
-as refused is what it says."""
+as refused is what it says. What they use of it stands here by name; scripts/try looks for it in the toolchain at hand.
+"""
 import importlib.machinery
 import importlib.util
 import os
 import shutil
 import subprocess
 import sys
+from operator import attrgetter
 
 sys.dont_write_bytecode = True
 # The kinds of x86-64 processor that programs are built for: by rt, and where the processor has what the newer one has.
 OLDER, NEWER = "x86-64-v2", "x86-64-v3"
+USED = ("KIT", "Crate.ci", "Crate.link", "Crate.prove", "Crate.words", "checked", "free", "handles_of", "processors",
+        "rtlib.PARTS", "rtlib.crates_below", "rtlib.files_of", "rtlib.guarded", "unread")
 LOADER = "/lib64/ld-linux-x86-64.so.2"
 
 
+class Lacking(Exception):
+    """Why there is no such module, in a sentence."""
+
+
 def load_rt(top):
-    """The module, ready for the crates of the repository at top as rt ci takes them; None without a toolchain."""
+    """The module, ready for the crates of the repository at top as rt ci takes them."""
     path = shutil.which("rt")
     if path is None:
-        return None
+        raise Lacking("the command rt of the Rattle toolchain is not found")
     loader = importlib.machinery.SourceFileLoader("rt_command", os.path.realpath(path))
     rt = importlib.util.module_from_spec(importlib.util.spec_from_loader(loader.name, loader))
     sys.modules[loader.name] = rt
     loader.exec_module(rt)
+    for name in USED:
+        try:
+            attrgetter(name)(rt)
+        except AttributeError:
+            raise Lacking(f"{path} is of another toolchain than the scripts were written for: it lacks {name}") from None
     os.chdir(top)
     rt.Crate.allowed = rt.handles_of(str(top))
     rt.rtlib.Crate = rt.Crate

@@ -1,5 +1,7 @@
 """Trials of scripts/build, by a toolchain that proves nothing: what is proved, what is kept, and what is made anew."""
+import shutil
 import signal
+import sys
 
 from toolchain import NEWER, OLDER, has_newer
 from tried.calls import run, started, waits_for
@@ -91,6 +93,21 @@ def try_failing(room):
     holds("nothing else is left", [], [*toy.top.glob("crates/*/out/rooms-*"), *toy.top.glob("crates/*/out/**/*.part")])
 
 
+def try_toolchains(room):
+    """What the scripts use of rt is in that of the toolchain at hand, if one is; where it isn't, that is told."""
+    toy = Toy(room / "toolchains")
+    rt = toy.kit / "bin/rt"
+    rt.write_text(rt.read_text().replace("def handles_of(", "def handles("))
+    status, said, _ = toy.build()
+    holds("another toolchain", (1, f"gossip_bench: {rt} is of another toolchain than the scripts were written for: it "
+                                "lacks handles_of\n"), (status, said))
+    if not shutil.which("rt"):
+        print("rt isn't there: that it has what the scripts use isn't tried")
+        return
+    script = "import sys, toolchain; rt = toolchain.load_rt(sys.argv[1]); print(len(rt.rtlib.crates_below(sys.argv[1])))"
+    holds("the toolchain at hand", (0, "4\n", ""), run(TOP / "scripts", sys.executable, "-c", script, str(toy.top)))
+
+
 def try_full_disks(room):
     """A disk that is full is told in a sentence, and what was kept counts no less and no more."""
     toy = Toy(room / "full")
@@ -156,4 +173,4 @@ def try_stopping(room):
     holds("what was killed is gone", [], rooms())
 
 
-TRIALS = (try_kept, try_changes_under_way, try_failing, try_full_disks, try_words, try_stopping)
+TRIALS = (try_kept, try_changes_under_way, try_failing, try_toolchains, try_full_disks, try_words, try_stopping)

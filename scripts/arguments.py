@@ -33,3 +33,12 @@ def take_names(text, known):
     if unknown := [it for it in names if it not in known]:
         parser.error(f"{', '.join(unknown)}: the names are {', '.join(known)}")
     return names or known
+
+
+def take_numbers(text, count, seed):
+    """How many are drawn at random, and from which seed; these where none was told."""
+    parser = Parser(text)
+    parser.add_argument("count", nargs="?", type=int, default=count)
+    parser.add_argument("seed", nargs="?", type=int, default=seed)
+    told = parser.parse_args()
+    return told.count, told.seed

@@ -1,17 +1,36 @@
-"""Scenarios as runs of tools/replay.py, for the scripts that try laws: their rows, their exchanges and what nodes hold.
-REPLAY names another replay.py."""
+"""Scenarios as runs of tools/replay.py, for the scripts that try laws: their rows, their exchanges and what nodes hold;
+and the trials of laws, by kinds. REPLAY names another replay.py."""
 import csv
 import os
 import pathlib
 import subprocess
 import sys
 import tempfile
-from collections import defaultdict
+from collections import Counter, defaultdict
 
+import trials
 from trials import TOP
 
 REPLAY = os.environ.get("REPLAY", TOP / "tools" / "replay.py")
 LARGEST = 1023  # bytes of an entry
+by_kind = Counter()
+
+
+def holds(kind, name, is_so):
+    by_kind[kind] += trials.holds(f"{kind}: {name}", True, is_so)
+
+
+def end():
+    """Prints how many trials of each kind have passed, and the last line, and answers the status."""
+    print(", ".join(f"{kind} {number}" for kind, number in by_kind.items()))
+    return trials.end()
+
+
+def reaching(exchange):
+    """Whom the deltas of an exchange have reached, each with their sender, and whether the budget cut the delta."""
+    p, q, fate = int(exchange["initiator"]), int(exchange["responder"]), exchange["fate"]
+    back, forth = [(p, q, exchange["back_cut"] != "0")], [(q, p, exchange["forth_cut"] != "0")]
+    return back * (fate in ("lost3", "ok")) + forth * (fate == "ok")
 
 
 class Run:

@@ -37,6 +37,7 @@ def rows(path, column):
 
 
 def compare(report, trace):
+    """The status, and what is to be said."""
     try:
         told = {it["round"]: [int(it[name]) for name in COLUMNS] for it in report}
         found = {number: [0, 0, 0, 0] for number in told}
@@ -46,52 +47,25 @@ def compare(report, trace):
             found[it["round"]] = [a + b for a, b in zip(before, (1, it["fate"] != "ok", sent, cut))]
     except (KeyError, TypeError, ValueError):
         raise Refused("a line isn't whole.") from None
-    for number in found:
-        if told.get(number) != found[number]:
-            print(f"round {number}, {', '.join(COLUMNS)}: the report {told.get(number)}, the trace {found[number]}")
-            return 1
-    print(f"{len(told)} rounds agree")
-    return 0
+    for number, it in found.items():
+        if told.get(number) != it:
+            return 1, f"round {number}, {', '.join(COLUMNS)}: the report {told.get(number)}, the trace {it}"
+    return 0, f"{len(told)} rounds agree"
 
 
 def main(words):
     if "--help" in words:
-        print(__doc__)
-        return 0
+        return 0, __doc__
     if len(words) != 2:
         raise Refused("usage: check_trace.py REPORT TRACE")
     return compare(rows(words[0], "greatest"), rows(words[1], "forth_cut"))
 
 
-def fill_closed_streams():
-    """A standard stream that is closed fails where it is used, and no file of ours gets its number."""
-    for number, way in enumerate((os.O_WRONLY, os.O_RDONLY, os.O_RDONLY)):
-        try:
-            os.fstat(number)
-        except OSError:
-            os.open(os.devnull, way)
-    sys.stdout = sys.stdout or open(1, "w", closefd=False)
-    sys.stderr = sys.stderr or open(2, "w", closefd=False)
-
-
-def end(status, why):
-    """Ends with this status, also where a stream takes nothing more: what is left for it is dropped."""
-    if why:
-        with contextlib.suppress(OSError):
-            print(f"check_trace.py: {why}", file=sys.stderr)
-    for number, stream in ((1, sys.stdout), (2, sys.stderr)):
-        try:
-            stream.flush()
-        except OSError:
-            os.dup2(os.open(os.devnull, os.O_WRONLY), number)
-    sys.exit(status)
-
-
-fill_closed_streams()
 why = ""
 try:
-    status = main(sys.argv[1:])
-    sys.stdout.flush()
+    status, said = main(sys.argv[1:])
+    # (past Python's own streams, which it lacks where one is closed, and would write to again at the end)
+    os.write(1, f"{said}\n".encode())
 except Refused as refused:
     status, why = 2, str(refused)
 except BrokenPipeError:
@@ -99,4 +73,7 @@ except BrokenPipeError:
 except OSError as error:
     reason = "it is closed" if error.errno == errno.EBADF else error.strerror
     status, why = 2, f"the output can't be written: {reason}."
-end(status, why)
+if why:
+    with contextlib.suppress(OSError):
+        os.write(2, f"check_trace.py: {why}\n".encode(errors="backslashreplace"))
+sys.exit(status)

@@ -3,6 +3,7 @@ import importlib.machinery
 import importlib.util
 import os
 import pathlib
+import shlex
 import subprocess
 import sys
 import tempfile
@@ -81,8 +82,14 @@ def refuses(room, why, script, *words, **how):
     holds(f"{script} {' '.join(words)}: {why}", (2, "", True), (status, out, says_why or err))
 
 
+def refuse(room, table, **how):
+    """Each line of the table is a call, and behind an arrow why it is refused."""
+    for line in table.strip().splitlines():
+        call, _, why = line.partition(" -> ")
+        refuses(room, why, *shlex.split(call), **how)
+
+
 def written(file, text):
-    """Makes a program of this text."""
     file.parent.mkdir(exist_ok=True)
     file.write_text(text)
     file.chmod(0o755)

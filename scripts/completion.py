@@ -1,9 +1,9 @@
-"""Completion of the words of the program and its tools, for bash, zsh and fish, from what they say of themselves."""
-import re
+"""Completion of the words of the program and its tools, for bash, zsh and fish: of the program from its help, of the tools
+from what they declare."""
 from dataclasses import dataclass, field
 
 from installed import PROGRAM
-from gossip_tools import cluster, scenario
+from gossip_tools import scenario, sweep
 
 # The fields that a sweep takes, with the words that a scenario has for some of them.
 FIELDS = {"format": ("1", "2"), **dict.fromkeys(scenario.LIMITS, ()), "mode": scenario.MODES,
@@ -38,31 +38,21 @@ def words_of_program(told):
     yield PROGRAM, Words([*told.commands, "--help"])
 
 
-def words_of_tool(text):
-    """Those of a tool, by its help: what its first lines name, and the first word of each row."""
-    usage = text.partition("\n\n")[0]
-    rows = [name for line in re.findall(r"^  ((?:[a-z]+, )*[a-z]+)  ", text, re.MULTILINE) for name in line.split(", ")]
-    if "FIELD=VALUE" in usage:
-        named, plain = FIELDS, []
-    elif "[NAME=VALUE" in usage:
-        named, plain = {name: cluster.TEXTS.get(name, ()) for name in rows}, []
-    else:
-        named = dict.fromkeys(re.findall(r"\[(\w+)=[A-Z]", usage), ())
-        plain = [name for name in rows if name not in named]
-        plain += [name for line in re.findall(r"\{([a-z,]+)\}", usage)[:1] for name in line.split(",")]
-    options = sorted(set(re.findall(r"\[(--[a-z]+)", text)))
-    before_folder = ["-o"] if "-o FOLDER" in text else []
-    return Words([*plain, *before_folder, *options, "--help", "--version"], named,
-                 before_file=re.findall(r"\[(--[a-z]+) FILE\]", text), before_folder=before_folder,
-                 is_folder="[FOLDER]" in usage, has_lists="FIELD=VALUE" in usage)
+def words_of_tool(tool):
+    named = {it.name: it.values for it in tool.words if it.values is not None}
+    plain = [it.name for it in tool.words if it.values is None and it.name.islower()]
+    options = [it.partition(" ") for it in tool.options]
+    before = {kind: [option for option, _, after in options if after == kind] for kind in ("FILE", "FOLDER")}
+    is_sweep = tool is sweep.TOOL
+    return Words([*plain, *(option for option, _, _ in options), "--help", "--version"], FIELDS if is_sweep else named,
+                 before["FILE"], before["FOLDER"], "[FOLDER]" in tool.calls[0], has_lists=is_sweep)
 
 
 def all_words(told, tools):
-    return {**dict(words_of_program(told)), **{name: words_of_tool(text) for name, text in tools.items()}}
+    return {**dict(words_of_program(told)), **{name: words_of_tool(it) for name, it in tools.items()}}
 
 
 def cases(rows, indent=8):
-    """The rows of a case, each a pattern and what is done."""
     return "".join(f"{'':{indent}}{pattern}) {body} ;;\n" for pattern, body in rows if pattern)
 
 
@@ -154,7 +144,6 @@ compadd -a plain
 
 
 def lines_for_fish(key, words, has_commands):
-    """What fish completes behind a tool, or a command of it."""
     tool, _, first = key.partition(" ")
     behind = f"complete -c {tool}"
     if first:

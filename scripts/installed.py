@@ -1,5 +1,6 @@
 """What is installed beside the program: the one list that scripts/install and scripts/package go by."""
 import os
+import re
 import subprocess
 import sys
 from pathlib import Path
@@ -9,7 +10,10 @@ TOP = Path(__file__).resolve().parent.parent
 TOOLS = TOP / "tools"
 # (where the tools have their Python package)
 sys.path.insert(0, str(TOOLS))
-PROGRAM = "gossip_bench"
+from gossip_tools import starting
+from gossip_tools.words import Tool
+
+PROGRAM, REPLAY = "gossip_bench", "gossip_replay"
 # The loader hides AVX2 by this, and a program that needs it doesn't start.
 OLDER = {"GLIBC_TUNABLES": "glibc.cpu.hwcaps=-AVX2"}
 
@@ -31,17 +35,30 @@ def made(folder):
 def commands():
     """The tools by the names under which they are called."""
     named = {it.name: it for it in sorted(TOOLS.glob("gossip_*")) if it.is_file()}
-    return {**named, "gossip_replay": TOOLS / "replay.py"}
+    return {**named, REPLAY: TOOLS / "replay.py"}
 
 
-def modules():
-    """The Python package of the tools, by where its files stand beside them."""
-    return {it.relative_to(TOOLS).as_posix(): it for it in sorted(TOOLS.glob("gossip_tools/*.py"))}
+def said(*command):
+    """What a command prints, or None where it isn't there or fails."""
+    try:
+        done = subprocess.run(command, capture_output=True, text=True)
+    except OSError:
+        return None
+    return done.stdout if done.returncode == 0 else None
+
+
+def tools():
+    """What the tools declare of their words. Of replay.py, which stands alone, its help says it."""
+    text = said(sys.executable, TOOLS / "replay.py", "--help").replace("replay.py", REPLAY)
+    calls, *parts = text.rstrip().split("\n\n")
+    options = [it.split()[1] for it in calls.splitlines()] + re.findall(r"\[(--\w+ FILE)\]", calls)
+    return {**{name: starting.tool_of(name)[1] for name in starting.TOOLS}, REPLAY: Tool(calls.splitlines(), parts, options)}
 
 
 def beside(program):
     """All that stands in the program's folder, by its place there."""
-    return {PROGRAM: program, **commands(), **modules()}
+    modules = {it.relative_to(TOOLS).as_posix(): it for it in sorted(TOOLS.glob("gossip_tools/*.py"))}
+    return {PROGRAM: program, **commands(), **modules}
 
 
 def starts(program, **variables):

@@ -1,25 +1,13 @@
-"""The pages for man: of the program from what it says of itself, and of each tool, which is its help."""
+"""The pages for man: of the program from its help, and of each tool from what it declares."""
 import re
-import subprocess
 import textwrap
 
 import installed
-from installed import PROGRAM
+from installed import PROGRAM, said
 
 MOST_IN_SHORT = 80
 IN_SHORT = "simulates anti-entropy gossip in a cluster, and compares modes and budgets"
 NEXT = ".br\n"  # what begins a line
-# What stands between a name and what it is, in a line of help.
-GAP = re.compile(r"(?<=\S) {2,}(?=\S)")
-
-
-def said(*command):
-    """What a command prints, or None where it isn't there or fails."""
-    try:
-        done = subprocess.run(command, capture_output=True, text=True)
-    except OSError:
-        return None
-    return done.stdout if done.returncode == 0 else None
 
 
 class Help:
@@ -46,33 +34,8 @@ def escaped(text):
 
 def filled(text):
     """A text in lines that troff sets anew, none of them wide."""
-    lines = textwrap.wrap(escaped(text), 78, break_long_words=False, break_on_hyphens=False)
+    lines = textwrap.wrap(escaped(" ".join(text.split())), 78, break_long_words=False, break_on_hyphens=False)
     return "".join(re.sub("^([.'])", r"\\&\1", line) + "\n" for line in lines)
-
-
-def margin(line):
-    return len(line) - len(line.lstrip())
-
-
-def unwrapped(block):
-    """The lines of a part of a help, each with those in which it goes on."""
-    lines = []
-    for line in block.splitlines():
-        last = lines[-1] if lines else ""
-        goes_on = margin(line) > margin(last) if GAP.search(last.strip()) else margin(line) == 0 == margin(last)
-        if last and goes_on and not GAP.search(line.strip()):
-            lines[-1] += f" {line.strip()}"
-        else:
-            lines.append(line)
-    return lines
-
-
-def set_anew(line):
-    """A whole line of a help: a paragraph, or behind the margin a name with what it is, or what stays as it is."""
-    name, *what = GAP.split(line.strip(), maxsplit=1)
-    if not margin(line):
-        return f".PP\n{filled(line)}"
-    return f".TP\n\\fB{escaped(name)}\\fR\n{filled(*what)}" if what else f".PP\n.nf\n{escaped(name)}\n.fi\n"
 
 
 def head(name, short, package):
@@ -101,14 +64,14 @@ def page_of_program(told, package, documents, which):
     return text + f".SH SEE ALSO\n{others}\n".replace(", ", ",\n")
 
 
-def page_of_tool(name, text, package):
-    """The page of a tool, which is its help."""
-    first, _, rest = text.strip().partition("\n\n")
-    short = re.split(r"[.:]\s", rest.removeprefix(f"{name}: "))[0].replace("\n", " ")
+def page_of_tool(name, tool, package):
+    short = re.split(r"[.:]\s", " ".join(tool.parts[0].split()))[0]
     if len(short) > MOST_IN_SHORT:
         short = short[:MOST_IN_SHORT].rpartition(",")[0]
-    calls = [it.removeprefix("usage: ").partition(" ") for it in first.splitlines()]
-    synopsis = NEXT.join(f".B {escaped(tool)}\n{filled(words)}" for tool, _, words in calls)
-    said = "".join(set_anew(line) for block in rest.split("\n\n") for line in unwrapped(block)).removeprefix(".PP\n")
-    return (f"{head(name, short[:1].lower() + short[1:], package)}.SH SYNOPSIS\n{synopsis}.SH DESCRIPTION\n{said}"
-            f".SH SEE ALSO\n\\fB{escaped(PROGRAM)}\\fR(1)\n")
+    calls = [it.partition(" ") for it in tool.calls]
+    text = f"{head(name, short[:1].lower() + short[1:], package)}.SH SYNOPSIS\n"
+    text += NEXT.join(f".B {escaped(it)}\n{filled(words)}" for it, _, words in calls) + ".SH DESCRIPTION\n"
+    for part in tool.parts:
+        text += f".PP\n{filled(part)}" if isinstance(part, str) else "".join(
+            f".TP\n\\fB{escaped(it.name)}\\fR\n{filled(it.text)}" for it in part)
+    return f"{text}.SH SEE ALSO\n\\fB{escaped(PROGRAM)}\\fR(1)\n"

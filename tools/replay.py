@@ -4,16 +4,15 @@
 exec python3 -S "$0" "$@"
 : <<'# end' # '''
 __doc__ = """\
-replay.py: the bench once more, in plain Python: the rules of docs/model.md and docs/formats.md in a form to read.
+replay.py check < SCENARIO
+replay.py run [--trace FILE] [--sent FILE] [--tables FILE] < SCENARIO
+replay.py compare < SCENARIO
 
-    replay.py check < SCENARIO
-    replay.py run [--trace FILE] [--sent FILE] [--tables FILE] < SCENARIO
-    replay.py compare < SCENARIO
-
-From a scenario in TOML 1.0 it prints what `gossip_bench` prints, and writes the same trace, byte for byte. Two more
-files show what the program doesn't: --sent has a row for each entry that was sent, in the order of sending, and
---tables has every table after each round, by holder, owner and key. It needs Python 3.11 or newer and nothing else. 64
-nodes with 4 keys take some seconds for 30 rounds.
+The bench once more, in plain Python: the rules of docs/model.md and docs/formats.md in a form to read. From a scenario
+in TOML 1.0 it prints what `gossip_bench` prints, and writes the same trace, byte for byte. Two more files show what the
+program doesn't: --sent has a row for each entry that was sent, in the order of sending, and --tables has every table
+after each round, by holder, owner and key. It needs Python 3.11 or newer and nothing else. 64 nodes with 4 keys take
+some seconds for 30 rounds.
 
 The status is 1 after a fault, and 2 where the words are refused. The line of a fault in the scenario is the program's,
 but where something is nested too deep it may be another. What only TOML 1.1 has, such as an inline table over several
@@ -42,7 +41,7 @@ from math import isinf
 from types import SimpleNamespace
 from typing import NamedTuple
 
-VERSION = "2.1"
+NAME, VERSION = os.path.basename(sys.argv[0]), "2.1"
 REPORT = "round,exchanges,unreached,lost,entries,cut,stale,greatest"
 TRACE = "round,index,initiator,responder,fate,digest1,digest2,back,forth,back_cut,forth_cut"
 SENT = "round,index,direction,sender,receiver,arrived,owner,key,generation,version,value,born"
@@ -459,21 +458,16 @@ class Words(argparse.ArgumentParser):
 
     def print_help(self, file=None):
         """(argparse drops it where it can't be written)"""
-        print(self.format_help(), end="", file=file)
+        print(__doc__.replace("replay.py", NAME), end="", file=file)
 
 
-def words_told(name):
+def words_told():
     """The words of the command line, by their names."""
-    words = Words(prog=name, description=__doc__.replace("replay.py", name),
-                  formatter_class=argparse.RawDescriptionHelpFormatter)
-    words.add_argument("--version", action="store_true", help="prints its version")
+    words = Words(prog=NAME)
     commands = words.add_subparsers(dest="command", required=True)
-    commands.add_parser("check", help="checks the scenario and prints ok")
-    options = commands.add_parser("run", help="runs the scenario and prints the report")
-    commands.add_parser("compare", help="runs it under each of the four modes")
-    for file, what in (("trace", "a row for each exchange, as gossip_bench"), ("sent", "a row for each entry sent"),
-                       ("tables", "a row for each entry held after a round")):
-        options.add_argument(f"--{file}", metavar="FILE", help=what)
+    _, options, _ = map(commands.add_parser, ("check", "run", "compare"))
+    for file in ("trace", "sent", "tables"):
+        options.add_argument(f"--{file}", metavar="FILE")
     asked, others = words.parse_known_args()
     if others:
         words.error(f"{' '.join(others)} isn't taken: the scenario comes by < FILE, and only run has options")
@@ -541,15 +535,14 @@ def end(status, why):
 
 
 def main():
-    name = os.path.basename(sys.argv[0])
     fill_closed_streams()
     status, why = 0, ""
     try:
         try:
             if "--version" in sys.argv[1:]:
-                print(name, VERSION)
+                print(NAME, VERSION)
             else:
-                carry_out(words_told(name))
+                carry_out(words_told())
         finally:
             sys.stdout.flush()
     except Fault as fault:
@@ -558,9 +551,9 @@ def main():
         place = error.filename or "the output"
         place = shown(place) if error.errno == errno.ENAMETOOLONG else place
         reason = "it is closed" if error.errno == errno.EBADF else error.strerror
-        status, why = 1, f"{name}: {place}: {reason}."
+        status, why = 1, f"{NAME}: {place}: {reason}."
         if isinstance(error, BrokenPipeError):
-            why = f"{name}: nobody reads {place} any more."
+            why = f"{NAME}: nobody reads {place} any more."
     except SystemExit as ended:
         status = ended.code
     end(status, why)

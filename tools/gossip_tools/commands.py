@@ -98,11 +98,11 @@ def fault_of(error):
     return f"{shown(place) if error.errno == errno.ENAMETOOLONG else place}: {reason(error)}."
 
 
-def answer(name, main, text):
+def answer(name, main, tool):
     """Carries out a tool by the words of the command line, and answers its status."""
     words, status = sys.argv[1:], 0
     if "--help" in words or "-h" in words:
-        print(text.strip())
+        print(tool.help())
     elif "--version" in words:
         print(name, VERSION)
     else:
@@ -111,10 +111,10 @@ def answer(name, main, text):
     return status
 
 
-def run(name, main, text):
+def run(name, main, tool):
     """The status of a tool: what `main` returns, or of what was refused, which it says in a sentence."""
     try:
-        return answer(name, main, text)
+        return answer(name, main, tool)
     except Refused as refused:
         why, status = str(refused), refused.status
     except (Stopped, KeyboardInterrupt) as stopped:

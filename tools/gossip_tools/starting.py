@@ -10,6 +10,13 @@ import os
 import sys
 
 INPUT, OUTPUT, ERROR = 0, 1, 2
+# Of each tool the module, with the function that carries it out and what is said of it.
+TOOLS = {
+    "gossip_advise": ("advise", "main", "TOOL"), "gossip_apart": ("sections", "apart", "APART"),
+    "gossip_live": ("live", "main", "TOOL"), "gossip_read": ("read", "main", "TOOL"),
+    "gossip_restarts": ("sections", "restarts", "RESTARTS"), "gossip_scenario": ("cluster", "main", "TOOL"),
+    "gossip_sweep": ("sweep", "main", "TOOL"),
+}
 
 
 class StandardError(io.TextIOWrapper):
@@ -51,14 +58,20 @@ def end_at_signals():
             _signal.signal(number, _signal.SIG_DFL)
 
 
-def start(name, module, main="main", text="__doc__"):
-    """Ends the process with the status of a tool, of which a module has the function and the text of its help."""
+def tool_of(name):
+    """The function and the words of a tool."""
+    module, *names = TOOLS[name]
+    return [getattr(importlib.import_module(f"gossip_tools.{module}"), it) for it in names]
+
+
+def start(name):
+    """Ends the process with the status of a tool."""
     interrupt = _signal.getsignal(_signal.SIGINT)
     end_at_signals()
     fill_closed_streams()
     commands = importlib.import_module("gossip_tools.commands")
-    tool = importlib.import_module(f"gossip_tools.{module}")
+    main, tool = tool_of(name)
     _signal.signal(_signal.SIGINT, interrupt)
-    status = commands.run(name, getattr(tool, main), getattr(tool, text))
+    status = commands.run(name, main, tool)
     end_at_signals()
     sys.exit(status)

@@ -1,18 +1,4 @@
-"""gossip_sweep [-o FOLDER] FIELD=VALUE,VALUE.. .. < SCENARIO
-
-Runs the scenario with each choice of values, in all four modes where `mode` isn't among the fields. The folder, `runs`
-where none is named, gets the scenario and the report of each run, as budget-600.mode-precise-oldest.csv. A report that
-is there as it was made, by the check sums in the .sum beside it, its own and its scenario's, isn't made again, so a
-sweep that was ended goes on where it was. A folder takes runs of one scenario and of the same fields in the same order,
-so that gossip_read can read them, by one program, and one sweep at a time.
-
-  GOSSIP_BENCH   the program, where it isn't the one beside this tool or the one that is built
-  JOBS           how many runs go at once, where it isn't one for each core
-  HOSTS          the machines, as in HOSTS=:,alpha,8/beta, where `:` is this one: by GNU parallel over ssh. Each has the
-                 program under the same path, and perl, and gets no file. One without GNU parallel of its own makes one
-                 run at a time, unless its cores are told, as 8 of beta. Nothing is run where the program doesn't start
-                 on one of them
-"""
+"""Runs of one scenario with other values of its fields; the tool gossip_sweep."""
 import contextlib
 import errno
 import os
@@ -24,7 +10,22 @@ import sys
 from gossip_tools import files, folders, running, scenario
 from gossip_tools.commands import Refused, fault_of, folder_of, shown, the_program, workers
 from gossip_tools.progress import Progress
+from gossip_tools.words import THE_PROGRAM, Tool, Word
 
+TOOL = Tool(
+    ("gossip_sweep [-o FOLDER] FIELD=VALUE,VALUE.. .. < SCENARIO",),
+    ("""Runs the scenario with each choice of values, in all four modes where `mode` isn't among the fields. The folder,
+     `runs` where none is named, gets the scenario and the report of each run, as budget-600.mode-precise-oldest.csv. A
+     report that is there as it was made, by the check sums in the .sum beside it, its own and its scenario's, isn't
+     made again, so a sweep that was ended goes on where it was. A folder takes runs of one scenario and of the same
+     fields in the same order, so that gossip_read can read them, by one program, and one sweep at a time.""",
+     (THE_PROGRAM,
+      Word("JOBS", "how many runs go at once, where it isn't one for each core"),
+      Word("HOSTS", """the machines, as in HOSTS=:,alpha,8/beta, where `:` is this one: by GNU parallel over ssh. Each
+           has the program under the same path, and perl, and gets no file. One without GNU parallel of its own makes
+           one run at a time, unless its cores are told, as 8 of beta. Nothing is run where the program doesn't start on
+           one of them"""))),
+    ("-o FOLDER",))
 # Faults of files that are there again where the same command is given: something else has to be done first.
 LASTING = {errno.EACCES, errno.EPERM, errno.EROFS, errno.EISDIR, errno.ENOTDIR, errno.ENOENT, errno.ELOOP,
            errno.ENAMETOOLONG}
@@ -139,7 +140,7 @@ def carry_out(path, text, runs, program, progress, hosts=None, what="gossip_swee
 def main(words):
     path, words = folder_of(words, "runs")
     if not words:
-        raise Refused("usage: gossip_sweep [-o FOLDER] FIELD=VALUE,VALUE.. .. < SCENARIO")
+        raise Refused(f"usage: {TOOL.calls[0]}")
     choices = choices_of(words)
     hosts = running.hosts()
     workers()

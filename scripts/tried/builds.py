@@ -104,7 +104,7 @@ def try_toolchains(room):
     if not shutil.which("rt"):
         print("rt isn't there: that it has what the scripts use isn't tried")
         return
-    script = "import sys, toolchain; rt = toolchain.load_rt(sys.argv[1]); print(len(rt.rtlib.crates_below(sys.argv[1])))"
+    script = "import sys, toolchain; print(len(toolchain.load_rt(sys.argv[1]).rtlib.crates_below(sys.argv[1])))"
     holds("the toolchain at hand", (0, "4\n", ""), run(TOP / "scripts", sys.executable, "-c", script, str(toy.top)))
 
 

@@ -82,11 +82,11 @@ def refuses(room, why, script, *words, **how):
     holds(f"{script} {' '.join(words)}: {why}", (2, "", True), (status, out, says_why or err))
 
 
-def refuse(room, table, **how):
-    """Each line of the table is a call, and behind an arrow why it is refused."""
-    for line in table.strip().splitlines():
-        call, _, why = line.partition(" -> ")
-        refuses(room, why, *shlex.split(call), **how)
+def refuse(room, table, *script, **how):
+    """Each line of the table is a call, or words of a script, and behind an arrow why it is refused."""
+    for line in table.strip("\n").splitlines():
+        call, _, why = line.partition("-> ")
+        refuses(room, why, *script, *shlex.split(call), **how)
 
 
 def written(file, text):

@@ -1,89 +1,95 @@
 """Trials of gossip_scenario."""
-from tried.calls import TOOLS, refuses, run
+from tried.calls import TOOLS, refuse, run
 from trials import PROGRAM, holds
 
-
-def try_scenarios(room):
-    def fields(*words):
-        """The fields of the scenario that comes of these numbers."""
-        status, out, err = run(room, TOOLS / "gossip_scenario", *words)
-        holds(f"gossip_scenario {' '.join(words)}", (0, ""), (status, err))
-        return dict(it.split(" = ") for it in out.splitlines() if not it.startswith("#"))
-
-    cluster = ("nodes=1000", "keys=4", "writes=1", "entry=40")
-    in_bytes = {
-        "format": "2", "nodes": "1000", "keys": "4", "rounds": "60", "seed": "1", "mode": '"scuttle-depth"',
-        "budget_bytes": "785250", "peers": '"random"', "rotation": '"random"', "choice": '"random"', "loss_ppm": "0",
-        "writes": "1",
-    }
-    in_entries = {name: it for name, it in in_bytes.items() if name != "budget_bytes"}
-    in_entries |= {"format": "1", "budget": "1100", "choice": '"cycle"'}
-    holds("60000 / 40 * 523.5", in_bytes, fields(*cluster, "packet=60000", "count=bytes"))
-    # (60750 / 40.5 = 1500 as well)
-    mean = (*cluster[:3], "entry=40.5", "packet=60750")
-    for count, wanted in (("bytes", in_bytes), ("entries", in_entries | {"budget": "1500"})):
-        holds(f"a mean entry of 40.5 bytes in {count}", wanted, fields(*mean, f"count={count}"))
-    said = run(room, TOOLS / "gossip_scenario", *mean, "count=bytes")[1]
-    holds("which is told as it was given", (True, True),
-          ("# 60750 bytes for a delta are 1500 entries of 40.5 bytes.\n" in said,
-           "# budget_bytes = 60750 / 40.5 * 523.5." in said))
-    # (44000 / 40 = 1100 entries; * 523.5 = 575850)
-    shared = (*cluster, "packet=64000", "digest=20")
-    holds("with a digest", "575850", fields(*shared, "count=bytes")["budget_bytes"])
-    more = {"rounds": "9", "seed": "7", "mode": '"scuttle-breadth"', "loss_ppm": "5000"}
-    holds("in entries", in_entries | more, fields(*shared, "loss=0.5", "rounds=9", "seed=7", "mode=scuttle-breadth"))
-    # (bytes where a delta has room for fewer than fifty entries: 49.975, and the 49 that a digest leaves)
-    for words, count in ((("packet=2000",), "budget"), (("packet=1999",), "budget_bytes"),
-                         (("packet=21999", "digest=20"), "budget_bytes"), (("packet=22000", "digest=20"), "budget")):
-        holds(f"what is counted with {words}", {"budget", "budget_bytes"} & {count},
-              {"budget", "budget_bytes"} & fields(*cluster, *words).keys())
-    # (a precise digest has a number for each key: 1000 * 4 * 5 = 20000)
-    precise = (*cluster, "packet=64000", "digest=5", "mode=precise-oldest")
-    holds("with a precise digest", "1100", fields(*precise)["budget"])
-    for count in ("bytes", "entries"):
-        printed = run(room, TOOLS / "gossip_scenario", *shared, f"count={count}")[1]
-        holds(f"in {count} it is accepted", (0, "ok\n", ""), run(room, PROGRAM, "check", text=printed))
-
-    # (sixty intervals of three calls)
-    status, called, _ = run(room, TOOLS / "gossip_scenario", *shared, "fanout=3")
-    holds("three calls in an interval", (0, "180", 60, (0, "ok\n", "")),
-          (status, called.partition("rounds = ")[2].partition("\n")[0], called.count("[[load]]"),
-           run(room, PROGRAM, "check", text=called)))
-    refuses(room, "1 to 16 peers", "gossip_scenario", *shared, "fanout=0")
-    refuses(room, "1001 intervals", "gossip_scenario", *shared, "fanout=2", "rounds=2002")
-    refuses(room, "nodes= is missing", "gossip_scenario")
-    refuses(room, "packet= is missing", "gossip_scenario", *cluster)
-    refuses(room, "'loss'", "gossip_scenario", *shared, "loss")
-    refuses(room, "'node=2'", "gossip_scenario", *shared, "node=2")
-    refuses(room, "'keys=5'", "gossip_scenario", *shared, "keys=5")
-    for word in ("loss=1%", "loss=."):
-        refuses(room, "loss is a number", "gossip_scenario", *shared, word)
-    for word in ("rounds=2,000", "seed=-1", "rounds=1.5"):
-        refuses(room, "is a whole number from 0 on", "gossip_scenario", *shared, word)
-    # (what to do instead is told)
-    refuses(room, "take writes=1 and give 1 of 10 rounds writes = 2 by [[load]]", "gossip_scenario", "writes=1.1",
-            *cluster[:2], "entry=40", "packet=64000")
-    refuses(room, "take writes=0 and give 1 of 4 rounds writes = 1 by [[load]]", "gossip_scenario", "writes=0.25",
-            *cluster[:2], "entry=40", "packet=64000")
-    refuses(room, "write packet=64000, or packet=65536 where K is 1024", "gossip_scenario", *cluster, "packet=64KB")
-    refuses(room, "write packet=64000.", "gossip_scenario", *cluster, "packet=64,000")
-    refuses(room, "write loss=1.", "gossip_scenario", *shared, "loss=1%")
-    refuses(room, "take nodes=1000 and packet=6400, a tenth of each, in scuttle-depth", "gossip_scenario",
-            "nodes=10000", *cluster[1:], "packet=64000")
-    refuses(room, "as one key, with a larger entry", "gossip_scenario", "nodes=9", "keys=65", "writes=1", "entry=1",
-            "packet=9")
-    refuses(room, "four decimals", "gossip_scenario", *shared, "loss=0.00001")
-    refuses(room, "loss is in per cent, so from 0 to 100, and not 101", "gossip_scenario", *shared, "loss=101")
-    refuses(room, "write nodes=2000.", "gossip_scenario", "nodes=2k", *cluster[1:], "packet=64000")
-    refuses(room, "rounds would be 0", "gossip_scenario", *shared, "rounds=0")
-    refuses(room, "mode is one of", "gossip_scenario", *shared, "mode=depth")
-    refuses(room, "leaves no entry", "gossip_scenario", *shared, "mode=precise-oldest")
-    for words in (("entry=41", "packet=40"), ("entry=40.5", "packet=40"), ("entry=40", "packet=0", "digest=10")):
-        refuses(room, f"fewer than the {words[0][6:]} of an entry", "gossip_scenario", *cluster[:3], *words)
-    refuses(room, "has bytes", "gossip_scenario", "nodes=2", "keys=1", "writes=1", "entry=0", "packet=9")
-    # (one entry of 523.5 bytes)
-    refuses(room, "budget_bytes would be 523", "gossip_scenario", *cluster, "packet=40")
-    refuses(room, "nodes * nodes * keys", "gossip_scenario", "nodes=4096", "keys=17", "writes=1", "entry=1", "packet=9")
+BUT_NODES = "keys=4 writes=1 entry=40"
+CLUSTER = f"nodes=1000 {BUT_NODES}"
+SHARED = f"{CLUSTER} packet=64000 digest=20"
+MEAN = "nodes=1000 keys=4 writes=1 entry=40.5 packet=60750"
+IN_BYTES = {
+    "format": "2", "nodes": "1000", "keys": "4", "rounds": "60", "seed": "1", "mode": '"scuttle-depth"',
+    "budget_bytes": "785250", "peers": '"random"', "rotation": '"random"', "choice": '"random"', "loss_ppm": "0",
+    "writes": "1",
+}
+IN_ENTRIES = {name: it for name, it in IN_BYTES.items() if name != "budget_bytes"} | {
+    "format": "1", "budget": "1100", "choice": '"cycle"'}
+# The fields of the scenario that comes of these numbers: 60000 / 40 * 523.5, and 60750 / 40.5 = 1500 as well; a digest
+# leaves 44000 / 40 = 1100 entries, * 523.5 = 575850; a precise one has a number for each key, 1000 * 4 * 5 = 20000.
+FIELDS = {
+    f"{CLUSTER} packet=60000 count=bytes": IN_BYTES, f"{MEAN} count=bytes": IN_BYTES,
+    f"{MEAN} count=entries": IN_ENTRIES | {"budget": "1500"},
+    f"{SHARED} count=bytes": IN_BYTES | {"budget_bytes": "575850"},
+    f"{SHARED} loss=0.5 rounds=9 seed=7 mode=scuttle-breadth": IN_ENTRIES | {
+        "rounds": "9", "seed": "7", "mode": '"scuttle-breadth"', "loss_ppm": "5000"},
+    f"{CLUSTER} packet=64000 digest=5 mode=precise-oldest": IN_ENTRIES | {"mode": '"precise-oldest"'},
+}
+# What is counted: bytes where a delta has room for fewer than fifty entries, 49.975, and the 49 that a digest leaves.
+COUNTED = {"packet=2000": "budget", "packet=1999": "budget_bytes", "packet=21999 digest=20": "budget_bytes",
+           "packet=22000 digest=20": "budget"}
+# (budget_bytes would be 523: one entry of 523.5 bytes)
+REFUSED = f"""
+-> nodes= is missing
+{CLUSTER} -> packet= is missing
+{SHARED} loss -> 'loss'
+{SHARED} node=2 -> 'node=2'
+{SHARED} keys=5 -> 'keys=5'
+{SHARED} loss=1% -> loss is a number
+{SHARED} loss=1% -> write loss=1.
+{SHARED} loss=. -> loss is a number
+{SHARED} rounds=2,000 -> is a whole number from 0 on
+{SHARED} seed=-1 -> is a whole number from 0 on
+{SHARED} rounds=1.5 -> is a whole number from 0 on
+{SHARED} fanout=0 -> 1 to 16 peers
+{SHARED} fanout=2 rounds=2002 -> 1001 intervals
+writes=1.1 nodes=1000 keys=4 entry=40 packet=64000 -> take writes=1 and give 1 of 10 rounds writes = 2 by [[load]]
+writes=0.25 nodes=1000 keys=4 entry=40 packet=64000 -> take writes=0 and give 1 of 4 rounds writes = 1 by [[load]]
+{CLUSTER} packet=64KB -> write packet=64000, or packet=65536 where K is 1024
+{CLUSTER} packet=64,000 -> write packet=64000.
+nodes=2k {BUT_NODES} packet=64000 -> write nodes=2000.
+nodes=10000 {BUT_NODES} packet=64000 -> take nodes=1000 and packet=6400, a tenth of each, in scuttle-depth
+nodes=9 keys=65 writes=1 entry=1 packet=9 -> as one key, with a larger entry
+{SHARED} loss=0.00001 -> four decimals
+{SHARED} loss=101 -> loss is in per cent, so from 0 to 100, and not 101
+{SHARED} rounds=0 -> rounds would be 0
+{SHARED} mode=depth -> mode is one of
+{SHARED} mode=precise-oldest -> leaves no entry
+nodes=1000 keys=4 writes=1 entry=41 packet=40 -> fewer than the 41 of an entry
+nodes=1000 keys=4 writes=1 entry=40.5 packet=40 -> fewer than the 40.5 of an entry
+nodes=1000 keys=4 writes=1 entry=40 packet=0 digest=10 -> fewer than the 40 of an entry
+nodes=2 keys=1 writes=1 entry=0 packet=9 -> has bytes
+{CLUSTER} packet=40 -> budget_bytes would be 523
+nodes=4096 keys=17 writes=1 entry=1 packet=9 -> nodes * nodes * keys
+"""
 
 
-TRIALS = (try_scenarios,)
+def fields(room, words):
+    status, out, err = run(room, TOOLS / "gossip_scenario", *words.split())
+    holds(f"gossip_scenario {words}", (0, ""), (status, err))
+    return dict(it.split(" = ") for it in out.splitlines() if not it.startswith("#"))
+
+
+def try_fields(room):
+    for words, wanted in FIELDS.items():
+        holds(words, wanted, fields(room, words))
+    for words, count in COUNTED.items():
+        holds(f"what is counted with {words}", {count}, {"budget", "budget_bytes"} & fields(
+            room, f"{CLUSTER} {words}").keys())
+
+
+def try_what_is_printed(room):
+    """Beside the fields it says what was given, and the program takes all of it."""
+    _, said, _ = run(room, TOOLS / "gossip_scenario", *MEAN.split(), "count=bytes")
+    lines = "# 60750 bytes for a delta are 1500 entries of 40.5 bytes.\n", "# budget_bytes = 60750 / 40.5 * 523.5."
+    holds("it is told as it was given", (True, True), tuple(it in said for it in lines))
+    # (with three calls sixty intervals are 180 rounds)
+    for more, rounds, loads in (("count=bytes", 60, 0), ("count=entries", 60, 0), ("fanout=3", 180, 60)):
+        _, printed, _ = run(room, TOOLS / "gossip_scenario", *SHARED.split(), more)
+        holds(f"with {more} it is accepted", (f"rounds = {rounds}\n" in printed, loads, (0, "ok\n", "")),
+              (True, printed.count("[[load]]"), run(room, PROGRAM, "check", text=printed)))
+
+
+def try_refusals(room):
+    refuse(room, REFUSED, "gossip_scenario")
+
+
+TRIALS = (try_fields, try_what_is_printed, try_refusals)

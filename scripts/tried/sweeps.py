@@ -6,34 +6,62 @@ import subprocess
 import time
 
 from tried.calls import (
-    COMPARED, HEADER, LACKING, SMALL, TOOLS, fails, gives, is_running, program_that, refuses, run, started,
-    takes_signal, waits_for, written,
+    COMPARED, HEADER, LACKING, SMALL, TOOLS, fails, gives, is_running, program_that, refuse, refuses, run,
+    started, takes_signal, waits_for, written,
 )
 from trials import PROGRAM, TOP, holds
 
 
+LONG = "x" * 5000
+# Words of a sweep of the case of formats.md, and why they are refused.
+REFUSED = f"""
+-> usage: gossip_sweep [-o FOLDER] FIELD=VALUE,VALUE.. .. < SCENARIO
+budget -> 'budget' isn't FIELD=VALUE
+budget= -> 'budget=' isn't FIELD=VALUE
+budget=1, -> 'budget=1,' isn't FIELD=VALUE
+budget=1,,2 -> 'budget=1,,2' isn't FIELD=VALUE
+'budget=a b' -> 'budget=a b' isn't FIELD=VALUE
+=1 -> '=1' isn't FIELD=VALUE
+-o -> -o needs a folder
+budget=1 budget=2 -> comes twice
+budget=1,1 -> comes twice
+bugdet=1 -> the field bugdet
+from=1 -> the field from
+{LONG} -> as < {'x' * 60}..
+{LONG}=1 -> the field {'x' * 60}.., where
+-{LONG} -> '-{'x' * 59}..' isn't FIELD=VALUE
+seed=1 mine.toml -> as < mine.toml
+-o one seed=1 -o two -> comes once
+--jobs=2 seed=1 -> as JOBS=2
+"""
+WRONG_HOSTS = ("x/alpha", "/", "é", "-oProxyCommand=true", "a b", "8/", "0/alpha", "8/-o", "me@", "me@-o", "alpha\n")
+# Words, a text, and the fault that the program has in a run of them.
+FAULTS = (
+    ("budget=1,0", COMPARED, "fault 6: field budget"), ("mode=breadth", COMPARED, "fault 6: field mode"),
+    ("format=2", COMPARED, "fault 4: missing field budget_bytes"),
+    ("mode=scuttle-depth", "mode = ''\n", "fault 4: missing field format"),
+)
+
+
 def try_words_of_sweeps(room):
-    for words in ((), ("budget",), ("budget=",), ("budget=1,",), ("budget=1,,2",), ("budget=a b",), ("=1",), ("-o",)):
-        refuses(room, "", "gossip_sweep", *words, text=COMPARED)
-    refuses(room, "comes twice", "gossip_sweep", "budget=1", "budget=2", text=COMPARED)
-    refuses(room, "comes twice", "gossip_sweep", "budget=1,1", text=COMPARED)
-    refuses(room, "the field bugdet", "gossip_sweep", "bugdet=1", text=COMPARED)
-    refuses(room, "the field from", "gossip_sweep", "from=1", text=COMPARED)
+    refuse(room, REFUSED, "gossip_sweep", text=COMPARED)
     refuses(room, "2 lines of the scenario above all sections set the field seed", "gossip_sweep", "seed=1",
             text="seed = 2\n" + COMPARED)
     refuses(room, "the scenario is empty", "gossip_sweep", "seed=1")
-    for word, why in (("x" * 5000, f"as < {'x' * 60}.."), (f"{'x' * 5000}=1", f"the field {'x' * 60}.., where"),
-                      (f"-{'x' * 5000}", f"'-{'x' * 59}..' isn't FIELD=VALUE")):
-        refuses(room, why, "gossip_sweep", word, text=COMPARED)
-    fails(room, f"answer to mode-{'x' * 55}.., so nothing was run.", 1, "gossip_sweep", f"mode={'x' * 5000}",
-          text=COMPARED)
+    fails(room, f"answer to mode-{'x' * 55}.., so nothing was run.", 1, "gossip_sweep", f"mode={LONG}", text=COMPARED)
+    for words, text, fault in FAULTS:
+        status, out, err = run(room, TOOLS / "gossip_sweep", words, text=text)
+        holds(f"sweep of {words}", (1, "", True), (status, out, err.startswith(fault)))
+    holds("no runs are left", False, (room / "runs").exists())
+
+
+def try_variables(room):
+    """Those of the environment that sweeps go by."""
     for jobs in ("0", "-2", "two", "99999"):
         refuses(room, f"JOBS is a whole number from 1 to 9999, which '{jobs}' isn't.", "gossip_sweep", "seed=1",
                 text=COMPARED, JOBS=jobs)
-    for host in ("x/alpha", "/", "é", "-oProxyCommand=true", "a b", "8/", "0/alpha", "8/-o", "me@", "me@-o",
-                 "alpha\n"):
-        for hosts in (host, f":,{host}"):
-            refuses(room, "in HOSTS isn't the name of a machine", "gossip_sweep", "seed=1", text=COMPARED, HOSTS=hosts)
+    for hosts in (it for host in WRONG_HOSTS for it in (host, f":,{host}")):
+        refuses(room, "in HOSTS isn't the name of a machine", "gossip_sweep", "seed=1", text=COMPARED, HOSTS=hosts)
     for hosts in (",", "alpha,,beta", ":, "):
         refuses(room, f"HOSTS is '{hosts}', which lacks the name of a machine", "gossip_sweep", "seed=1", text=COMPARED,
                 HOSTS=hosts)
@@ -41,19 +69,6 @@ def try_words_of_sweeps(room):
                 "packet=4000", HOSTS=hosts)
     refuses(room, "GOSSIP_BENCH names 'no_program'", "gossip_sweep", "seed=1", text=COMPARED,
             GOSSIP_BENCH="no_program")
-    refuses(room, "as < mine.toml", "gossip_sweep", "seed=1", "mine.toml")
-    refuses(room, "comes once", "gossip_sweep", "-o", "one", "seed=1", "-o", "two", text=COMPARED)
-    refuses(room, "as JOBS=2", "gossip_sweep", "--jobs=2", "seed=1", text=COMPARED)
-    holds("no runs are left", False, (room / "runs").exists())
-
-    def answered(name, fault, *words, text=COMPARED):
-        status, out, err = run(room, TOOLS / "gossip_sweep", *words, text=text)
-        holds(name, (1, "", True), (status, out, err.startswith(fault)))
-
-    answered("a value out of range", "fault 6: field budget", "budget=1,0")
-    answered("an unknown mode", "fault 6: field mode", "mode=breadth")
-    answered("another format", "fault 4: missing field budget_bytes", "format=2")
-    answered("a text that isn't whole", "fault 4: missing field format", "mode=scuttle-depth", text="mode = ''\n")
     holds("nor are any of those", False, (room / "runs").exists())
 
 
@@ -94,6 +109,10 @@ def try_runs(room):
     made = report.stat().st_ino
     gives(room, "1 runs in of two\n", "gossip_sweep", "budget=1", "mode=scuttle-depth", "-o", "of two", text=ends)
     holds("it isn't run again", made, report.stat().st_ino)
+
+
+def try_other_folders(room):
+    """A folder of another kind, or with runs of another scenario or other fields, is refused and stays as it is."""
     refuses(room, "another scenario", "gossip_sweep", "budget=1", text=COMPARED.replace("keys = 3", "keys = 2"))
     refuses(room, "has no runs", "gossip_sweep", "-o", ".", "budget=1", text=COMPARED)
     refuses(room, "isn't a folder", "gossip_sweep", "-o", "runs/scenario", "budget=1", text=COMPARED)
@@ -103,6 +122,9 @@ def try_runs(room):
         refuses(room, "has runs of the fields budget, mode:", "gossip_sweep", *words, text=COMPARED)
     holds("runs of other fields aren't added", of_budgets, sorted(it.name for it in (room / "runs").iterdir()))
 
+
+def try_what_is_kept(room):
+    """A report that stands isn't made again, whatever it says."""
     kept = room / "runs" / "budget-1.mode-precise-newest.csv"
     kept.write_text(HEADER + "1,2,0,0,4,6,2,1\n2,2,0,0,9,9,9,9\n")
     kept.with_suffix(".sum").write_text(run(kept.parent, "sha256sum", kept.stem + ".toml", kept.name)[1])
@@ -119,7 +141,9 @@ def try_runs(room):
           "1,scuttle-breadth,50.00,0,1,0,2\n1,scuttle-depth,50.00,0,1,0,2\n1,precise-oldest,50.00,0,1,0,2\n"
           "1,precise-newest,50.00,0,1,0,2\n65535,precise-newest,0.00,0,0,0,0\n", "gossip_read", "window", "1", "2")
 
-    # (a node that forgets in round 2 and is down in it, whose next write comes to the other one in round 3)
+
+def try_forgetting(room):
+    """A node forgets in round 2 and is down in it, and its next write comes to the other one in round 3."""
     forgets = (SMALL / "a_node_forgets.toml").read_text()
     gives(room, "1 runs in forgets\n", "gossip_sweep", "-o", "forgets", "mode=scuttle-breadth", text=forgets)
     gives(room, "mode,percent_cut,greatest_least,greatest_most,stale_least,stale_most,leftover_least,leftover_most\n"
@@ -267,5 +291,5 @@ def try_lasting_faults(room):
           run(room, TOOLS / "gossip_sweep", "-o", name, "budget=1", text=COMPARED))
 
 
-TRIALS = (try_words_of_sweeps, try_long_scenarios, try_runs, try_missing, try_sweeps_at_once, try_stopping,
-          try_wrong_programs, try_lasting_faults)
+TRIALS = (try_words_of_sweeps, try_variables, try_long_scenarios, try_runs, try_other_folders, try_what_is_kept,
+          try_forgetting, try_missing, try_sweeps_at_once, try_stopping, try_wrong_programs, try_lasting_faults)

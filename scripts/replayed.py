@@ -10,6 +10,7 @@ from collections import Counter, defaultdict
 
 import trials
 from trials import TOP
+from gossip_tools import scenario
 
 REPLAY = os.environ.get("REPLAY", TOP / "tools" / "replay.py")
 LARGEST = 1023  # bytes of an entry
@@ -57,11 +58,8 @@ class Run:
         self.fields |= {"budget": entries} if self.format == 1 else {"budget_bytes": LARGEST * entries}
 
     def text(self):
-        lines = [f'{name} = "{it}"' if isinstance(it, str) else f"{name} = {it}" for name, it in self.fields.items()]
-        for array in ("load", "restart", "partition"):
-            for it in getattr(self, array):
-                lines += [f"[[{array}]]", *(f"{name} = {str(value).lower()}" for name, value in it.items())]
-        return "".join(f"{line}\n" for line in lines)
+        arrays = (scenario.sections(it, getattr(self, it)) for it in ("load", "restart", "partition"))
+        return scenario.written(self.fields) + "".join(arrays)
 
     def replay(self):
         with tempfile.TemporaryDirectory() as room:

@@ -19,16 +19,12 @@ def stretched(top, fanout):
     if (loads := len(top.get("load", [])) + top["rounds"]) > scenario.MOST_SECTIONS:
         raise Refused(f"beside the bench a fanout needs {loads} loads, and a scenario takes {scenario.MOST_SECTIONS}: "
                       "take fewer rounds.")
+    spread = {"from": first, "to": last, "round": first, "down": lambda down: down * fanout}
     arrays = ("partition", "restart", "load")
     fields = {name: it for name, it in top.items() if name not in arrays} | {"rounds": last(top["rounds"])}
-    text = scenario.written(fields)
-    for it in top.get("partition", []):
-        text += f"[[partition]]\nfrom = {first(it['from'])}\nto = {last(it['to'])}\napart = {it['apart']}\n"
-    for it in top.get("restart", []):
-        text += f"[[restart]]\nnode = {it['node']}\nround = {first(it['round'])}\ndown = {it['down'] * fanout}\n"
-        text += "forget = true\n" if it.get("forget") else ""
-    for it in top.get("load", []):
-        text += scenario.load(first(it["from"]), last(it["to"]), it["writes"])
+    text = scenario.written(fields) + "".join(scenario.sections(array, (
+        {name: spread.get(name, lambda same: same)(it) for name, it in element.items()}
+        for element in top.get(array, []))) for array in arrays)
     for round in range(1, top["rounds"] + 1):
         text += scenario.load(first(round) + 1, last(round), 0)
     return text

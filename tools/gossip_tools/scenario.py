@@ -40,8 +40,15 @@ def budget_field(entries, in_bytes):
 
 
 def written(fields):
-    """The top of a scenario. Texts are put in quotes, and fields stand in the order in which they are given."""
-    return "".join(f'{name} = "{it}"\n' if isinstance(it, str) else f"{name} = {it}\n" for name, it in fields.items())
+    """Lines of a scenario, in the order in which the fields are given."""
+    def value(it):
+        return f'"{it}"' if isinstance(it, str) else str(it).lower()
+
+    return "".join(f"{name} = {value(it)}\n" for name, it in fields.items())
+
+
+def sections(array, elements):
+    return "".join(f"[[{array}]]\n{written(it)}" for it in elements)
 
 
 def top(nodes, keys, rounds, writes, loss_ppm, entries, in_bytes, mode=USUAL_MODE, seed=1):
@@ -120,4 +127,4 @@ def partition(first, last, first_round, last_round):
 
 def load(first_round, last_round, writes):
     """Another number of writes in these rounds."""
-    return f"[[load]]\nfrom = {first_round}\nto = {last_round}\nwrites = {writes}\n"
+    return sections("load", [{"from": first_round, "to": last_round, "writes": writes}])

@@ -1,6 +1,6 @@
 -- The least of an owner's numbers that pass a test, key by key.
 -- Serves `least_above`, `least_behind` and `least_of`.
-use Rattle.planes.proofs.Common.{◌≡◌, ℕ, zero, suc, ◌+◌, ◌<◌, ◌≤◌, min, cond, nat_lt, List, ◌⊎◌, inl, inr, sym, ◌∙◌, arith, below_more, nat_tests, cases_lt, IsLeastBehind, IsLeastOf, Cells, HasEach, HasNoneAbove, IsNextAbove, IsLeastAbove}
+use Rattle.planes.proofs.Common.{◌≡◌, ℕ, zero, suc, ◌+◌, ◌<◌, ◌≤◌, min, cond, nat_lt, List, ◌⊎◌, inl, inr, sym, ◌∙◌, arith, below_more, nat_tests, cases_lt, IsLeastOf, Cells, HasEach, HasNoneAbove, IsNextAbove, IsLeastAbove}
 
 -- one value more, to which the least one is lowered
 pub least-more : (most key x y : ℕ) (values : ℕ → ℕ) → IsLeastOf most values key x → y ≡ min x (values key) → values key ≤ most → IsLeastOf most values (key + 1) y
@@ -19,19 +19,6 @@ least-more most key x y values before lowered fits = record {
 -- numbers that are each what another relation says too
 pub each-turned : (nodes : ℕ) (is other : ℕ → ℕ → Type 0) (xs : List ℕ) → HasEach nodes is xs → ((r n : ℕ) → is r n → other r n) → HasEach nodes other xs
 each-turned nodes is other xs before turn = record { size = before.size; each = λ r lt. turn r _ (before.each r lt) }
-
--- of those behind the last ones
-pub least_is-behind : (most : ℕ) (cells last : Cells) (keys owner least : ℕ) → IsLeastOf most (λ k. cond (nat_lt (cells owner k) (last owner k)) (cells owner k) most) keys least → IsLeastBehind most cells last keys owner least
-least_is-behind most cells last keys owner least is = record {
-  no_less = λ k lt behind. let at = is.no_less k lt in grind (arith, nat_tests);
-  is = elim is.is [
-    | inl all ↦ inl all
-    | inr (k, lt, here) ↦ elim (cases_lt (cells owner k) (last owner k)) [
-      | inl behind ↦ inr (k, lt, behind, grind (arith, nat_tests))
-      | inr not_behind ↦ inl (grind (arith, nat_tests))
-    ]
-  ];
-}
 
 -- of those above a mark
 some_above : (cells : Cells) (owner mark keys : ℕ) → HasNoneAbove cells keys owner mark ⊎ ((k : ℕ) × (k < keys) × (mark < cells owner k))

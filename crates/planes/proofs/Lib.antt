@@ -2,5 +2,4 @@ pub mod Elementwise
 pub mod Counts
 pub mod Places
 pub mod Behind
-pub mod ByOwner
 pub mod Common

@@ -1,8 +1,6 @@
 -- The numbers of a table's planes, one after another.
 -- Serves the functions of `ends`, `grids`, `lags`, `merges` and `owners`, `delta_plans` and `version_tables`.
-use Rattle.planes.proofs.Common.{◌≡◌, ℕ, Fits, w32, ◌+◌, ◌*◌, ◌-◌, ◌<◌, ◌≤◌, Bool, cond, nat_tests, List, length, get_or, map, take, drop, nat_lt, max, inl, inr, refl, sym, ap, ◌∙◌, subst, arith, rules, places, mul-le-mul_right, below_more, cases_lt, get_or-take, get_or-drop, length-map, length-drop, length-take-le, map-append, take-map, drop-map, put_mid, MOST_NODES, sum_below, sum_below-most, sum_below-same, sum_below-turned, AreChanged, Cells, IsRaised, cell, number_ahead, total_above, total_of, IsGrid, HasEach, ArePlanesChangedUpto, ArePlanesChanged, AreCountedUpto, AreRaisedUpto, number_raised}
-use Rattle.planes.proofs.Elementwise.{changed_all}
-use Rattle.planes.proofs.Counts.{count_le, sum_next}
+use Rattle.planes.proofs.Common.{◌≡◌, ℕ, ◌+◌, ◌*◌, ◌-◌, ◌<◌, ◌≤◌, Bool, cond, List, length, get_or, map, take, drop, max, inl, inr, refl, sym, ap, ◌∙◌, subst, arith, rules, places, mul-le-mul_right, below_more, cases_lt, get_or-take, get_or-drop, length-map, length-drop, length-take-le, map-append, take-map, drop-map, put_mid, sum_below, sum_below-same, sum_below-turned, AreChanged, Cells, IsRaised, cell, total_of, IsGrid, HasEach, ArePlanesChangedUpto, ArePlanesChanged}
 
 -- a key's plane lies within the planes
 pub plane-within : (nodes keys size key : ℕ) → IsGrid nodes keys size → key < keys → key * nodes + nodes ≤ size
@@ -31,12 +29,6 @@ total_whole nodes keys key test x is le ge =
 
 pub total-same : (nodes keys : ℕ) (one other : ℕ → ℕ → Bool) → ((r k : ℕ) → r < nodes → k < keys → one r k ≡ other r k) → total_of nodes keys one ≡ total_of nodes keys other
 total-same nodes keys one other same = sum_below-same nodes _ _ (λ r in_nodes. sum_below-same keys _ _ (λ k in_keys. ap (λ b. cond b 1 0) (same r k in_nodes in_keys)))
-
--- how many are kept: such a number is above the mark, and 0 isn't
-pub total-kept : (nodes keys : ℕ) (peer : ℕ → ℕ → ℕ) (low old new : List ℕ) (count : ℕ) → count ≡ total_of nodes keys (λ r k. nat_lt (max (peer r k) (get_or low r 0)) (cell old nodes r k))
-    → ArePlanesChanged (λ r k x y. y ≡ number_ahead x (peer r k) (get_or low r 0)) nodes keys old new → count ≡ total_above nodes keys new low
-total-kept nodes keys peer low old new count is kept =
-    is ∙ total-same nodes keys _ _ (λ r k in_nodes in_keys. let now = kept.each r k in_nodes in_keys in grind (arith, nat_tests))
 
 map-put_mid : {N : Type 0} (number : N → ℕ) (start nodes : ℕ) (xs ys : List N) → map number (put_mid start nodes xs ys) ≡ put_mid start nodes (map number xs) (map number ys)
 map-put_mid number start nodes xs ys = simp (map-append, take-map, drop-map)
@@ -123,52 +115,6 @@ planes-written changed nodes old number xs ys key n in_block is before within no
           (rw (part-here number (key * nodes) nodes xs ys room size r lt) (written r lt)) k;
       from = λ i le. laid-behind number (key * nodes) nodes xs ys room size i (omega (arith, le)) ∙ before.from i (omega (arith, le));
     })
-
--- the planes of the keys below a bound are changed, and so many places of them pass a test
-pub record ArePlanesCounted (changed : ℕ → ℕ → ℕ → ℕ → Type 0) (test : ℕ → ℕ → Bool) (nodes : ℕ) (old new : List ℕ) (bound passed : ℕ) : Type 0 where
-  pub planes : ArePlanesChangedUpto changed nodes old new bound
-  pub count : passed ≡ sum_below bound (λ k. sum_below nodes (λ r. cond (test r k) 1 0))
-
-module _ (changed : ℕ → ℕ → ℕ → ℕ → Type 0) (test : ℕ → ℕ → Bool) (nodes : ℕ) (old : List ℕ) where
-  pub planes_counted-none : ArePlanesCounted changed test nodes old old 0 0
-  planes_counted-none = record { planes = planes-none changed nodes old; count = refl }
-
-  pub planes_counted-next : {N : Type 0} (number : N → ℕ) (xs ys : List N) (key n count more : ℕ) (in_block : ℕ → ℕ → ℕ → Type 0) (passes : ℕ → Bool)
-      → n ≡ nodes → ArePlanesCounted changed test nodes old (map number xs) key count → key * nodes + nodes ≤ length old
-      → AreCountedUpto in_block passes (map number (take n (drop (key * nodes) xs))) (map number ys) (length (take n (drop (key * nodes) xs))) more
-      → ((r x y : ℕ) → r < nodes → in_block r x y → changed r key x y) → ((r : ℕ) → r < nodes → passes r ≡ test r key)
-      → ArePlanesCounted changed test nodes old (map number (put_mid (key * nodes) n xs ys)) (key + 1) (count + more)
-  planes_counted-next number xs ys key n count more in_block passes is before within now step same =
-      let block = take n (drop (key * nodes) xs) in
-      let size = length-map block number in
-      let cells = plane-cells number nodes key n xs is (omega (arith, within, before.planes.size, length-map xs number)) in
-      record {
-        planes = planes-written changed nodes old number xs ys key n in_block is before.planes within (changed_all in_block (map number block) (map number ys) (length block) now.numbers (omega (arith, size))) step;
-        count = sum_next _ key count more before.count (plane_count nodes passes (λ r. test r key) (length block) more (sym size ∙ cells.size) now.count same);
-      }
-
-  pub planes_counted-fits : (new : List ℕ) (keys key size count : ℕ) → IsGrid nodes keys size → key < keys → ArePlanesCounted changed test nodes old new (key + 1) count → Fits w32 count
-  planes_counted-fits new keys key size count grid lt is =
-      omega (arith, is.count, lt, grid.few_keys, sum_below-most (λ k. sum_below nodes (λ r. cond (test r k) 1 0)) (key + 1) MOST_NODES (λ k _. omega (arith, grid.few_nodes, count_le nodes (λ r. test r k))))
-
-  pub planes_counted-all : (new : List ℕ) (keys key count : ℕ) → ArePlanesCounted changed test nodes old new key count → keys ≤ key → key ≤ keys → ArePlanesChanged changed nodes keys old new × (count ≡ total_of nodes keys test)
-  planes_counted-all new keys key count is le ge = (planes-all changed nodes old new keys key is.planes le, total_whole nodes keys key test count is.count le ge)
-
--- each number of these planes is raised to another table's, where that is above its mark, and so many are
-abbrev pub AreMergedUpto : ℕ → List ℕ → List ℕ → List ℕ → List ℕ → ℕ → ℕ → Type 0
-AreMergedUpto nodes others low old new bound count =
-    ArePlanesCounted (λ r k x y. y ≡ number_raised x (cell others nodes r k) (get_or low r 0)) (λ r k. nat_lt (get_or low r 0) (cell others nodes r k)) nodes old new bound count
-
--- of two tables that take of each other one takes a plane more
-pub merged-next : {N : Type 0} (number : N → ℕ) (nodes key n : ℕ) (others low passed old : List ℕ) (zs xs ys : List N) (came count more : ℕ)
-    → n ≡ nodes → AreMergedUpto nodes old passed others (map number zs) key came → AreMergedUpto nodes others low old (map number xs) key count
-    → key * nodes + nodes ≤ length others → key * nodes + nodes ≤ length old
-    → AreRaisedUpto (map number (take n (drop (key * nodes) zs))) low (map number (take n (drop (key * nodes) xs))) (map number ys) (length (take n (drop (key * nodes) xs))) more
-    → AreMergedUpto nodes others low old (map number (put_mid (key * nodes) n xs ys)) (key + 1) (count + more)
-merged-next number nodes key n others low passed old zs xs ys came count more is waits before behind within now =
-    let block = block-cells _ nodes others number zs key n is waits.planes behind in
-    planes_counted-next _ _ nodes old number xs ys key n count more _ _ is before within now
-    (λ r x y lt made. made ∙ (λ i. number_raised x (block r lt i) (get_or low r 0))) (λ r lt i. nat_lt (get_or low r 0) (block r lt i))
 
 -- a loop over keys has come to its end
 pub each-whole : (is : ℕ → ℕ → ℕ → Type 0) (nodes key keys : ℕ) (xs : List ℕ) → keys ≤ key → key ≤ keys → HasEach nodes (is key) xs → HasEach nodes (is keys) xs

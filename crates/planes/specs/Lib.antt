@@ -1,4 +1,3 @@
 pub mod Elementwise
 pub mod Planes
-pub mod Lags
-pub mod inner
+pub mod Loops

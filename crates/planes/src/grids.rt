@@ -1,37 +1,18 @@
-//! Loops over all planes of a table: `cells[key * nodes + owner]`. Where one answers an error, it is lack of memory
-//! (`OutOfMemory`).
+//! What all planes of a table, `cells[key * nodes + owner]`, tell of each owner. Where a loop answers an error, it is
+//! lack of memory (`OutOfMemory`).
 
 ghost use Rattle.std.specs.Prelude.{◌≡◌, ℕ, ◌+◌, ◌*◌, ◌<◌, ◌≤◌, ◌&&◌, Bool, length, map, max, nat_le, nat_lt, slice_index, IfOk, IsOkUnless, if◌then◌else◌};
 ghost use Rattle.bench_types.specs.declared.faults.Fault.TheVariants.{OutOfMemory};
-ghost use Rattle.planes.specs.Planes.{count_above, cell, number_ahead, total_above, total_of, AreCovered, ArePlanesChanged, AreSentTaken, HasEach, HasEachPlace, IsGrid, IsNextAbove, MayTake, count_between};
-ghost use Rattle.planes.specs.inner.Loops.{AnswersAs, IsLeastOf, MakesAs};
+ghost use Rattle.planes.specs.Planes.{cell, count_above, count_between, HasEach, IsGrid, IsNextAbove};
+ghost use Rattle.planes.specs.Loops.{IsLeastOf};
 
 use crate::numbers::Number;
-use crate::owners::{FEW_TO_CHANGE, FEW_TO_COUNT};
-use crate::{owners, planes};
+use crate::planes;
 use bench_types::Fault;
 use std::alloc::Global;
 
-/// Numbers of which some are kept, with 0 in place of the others, and how many are kept.
-#[derive(Drop)]
-pub struct Masked<N: Number> {
-    pub numbers: Vec<N>,
-    pub count: u32,
-}
-
-/// The numbers that one table sends another of its size. Of each owner those above the low mark and up to the high one
-/// are taken.
-#[derive(Clone, Copy)]
-pub struct Sent<'a, N: Number> {
-    pub cells: &'a [N],
-    pub nodes: usize,
-    pub keys: usize,
-    pub low: &'a [N],
-    pub high: &'a [N],
-}
-
-// The plane of a key.
-pub(crate) fn plane_of<N: Number>(cells: &[N], nodes: usize, key: usize) -> &[N]
+/// The plane of a key.
+pub fn plane_of<N: Number>(cells: &[N], nodes: usize, key: usize) -> &[N]
     requires within { key * nodes + nodes ≤ length cells.now }
     ensures { HasEach nodes (λ r n. n ≡ cell (map N.number cells.now) nodes r key) (map N.number result.now) }
 {
@@ -128,8 +109,9 @@ pub fn count_some_between<N: Number>(
     }
 }
 
-// For each owner the least of the numbers that a closure makes of its places, or `N::greatest()` where there are none.
-pub(crate) fn least_of<N: Number, F: Fn(usize, usize) -> N>(
+/// For each owner the least of the numbers that a closure makes of its places, or `N::greatest()` where there are none.
+/// An error is lack of memory (`OutOfMemory`).
+pub fn least_of<N: Number, F: Fn(usize, usize) -> N>(
     alloc: Global,
     nodes: usize,
     keys: usize,
@@ -174,168 +156,4 @@ pub fn least_above<N: Number>(
         keys,
         |at, r| planes::pick(cells[at].is_above(low[r]), cells[at], N::greatest()),
     )
-}
-
-// Changes each number to the one that the closure of its key makes of owner and number. It answers how many times these
-// closures say yes beside. Such a closure has slices of its planes: to index whole tables takes longer.
-pub(crate) fn change_all_counting<N: Number, G: Fn(usize, N) -> (N, bool), F: Fn(usize) -> G>(
-    numbers: &mut [N],
-    nodes: usize,
-    keys: usize,
-    of_key: F,
-) -> u32
-    requires grid { IsGrid nodes keys (length numbers.old) }
-    requires of_key { (k : ℕ) → k < keys → F.pre of_key k }
-    requires to { (k r : ℕ) (to : G) (n : N) → k < keys → r < nodes → F.post of_key k to → G.pre to r n }
-    ensures { (made : ℕ → ℕ → ℕ → ℕ) (test : ℕ → ℕ → ℕ → Bool)
-        → ((k : ℕ) (to : G) → k < keys → F.post of_key k to → MakesAs N.number (G.post to) nodes (made k) (test k))
-        → ArePlanesChanged (λ r k x y. y ≡ made k r x) nodes keys (map N.number numbers.old) (map N.number numbers.new)
-        × (result ≡ total_of nodes keys (λ r k. test k r (cell (map N.number numbers.old) nodes r k))) }
-{
-    let mut count = 0;
-    for key in 0..keys {
-        let start = key * nodes;
-        let block = &mut numbers[start..start + nodes];
-        count += planes::change_counting(block, of_key(key));
-    }
-    count
-}
-
-/// So many numbers are copied at a time, which takes fewer instructions than the C library's way to copy many more.
-const COPIED: usize = 1024;
-
-fn copied<N: Number>(alloc: Global, cells: &[N]) -> Result<Vec<N>, Fault>
-    ensures copy { IfOk result (λ v. v.items ≡ cells.now) }
-    ensures only { IsOkUnless result OutOfMemory }
-{
-    let mut copy = Vec::with_capacity(alloc, cells.len())?;
-    let mut start = 0;
-    while start < cells.len() {
-        let end = (start + COPIED).min(cells.len());
-        copy.extend_from_slice(&cells[start..end])?;
-        start = end;
-    }
-    Ok(copy)
-}
-
-/// The numbers that are above both the peer's and their owner's mark, and 0 in place of the others. One pass masks them
-/// and counts those that it keeps. An error is lack of memory (`OutOfMemory`).
-pub fn ahead<N: Number>(
-    alloc: Global,
-    cells: &[N],
-    peer: &[N],
-    nodes: usize,
-    keys: usize,
-    low: &[N],
-) -> Result<Masked<N>, Fault>
-    requires grid { IsGrid nodes keys (length cells.now) }
-    requires peer { length peer.now ≡ length cells.now }
-    requires low { length low.now ≡ nodes }
-    ensures ahead { IfOk result (λ m. HasEachPlace nodes keys
-        (λ r k n. n ≡ number_ahead (cell (map N.number cells.now) nodes r k) (cell (map N.number peer.now) nodes r k)
-        (slice_index (map N.number low.now) r)) (map N.number m.numbers.items)) }
-    ensures count { IfOk result
-        (λ m. m.count ≡ total_above nodes keys (map N.number m.numbers.items) (map N.number low.now)) }
-    ensures only { IsOkUnless result OutOfMemory }
-{
-    let mut numbers = copied(alloc, cells)?;
-    let count = change_all_counting(&mut numbers, nodes, keys, |key| {
-        let of_peer = plane_of(peer, nodes, key);
-        move |r, number| -> (N, bool)
-            requires { (r < length of_peer.now) × (r < length low.now) }
-            ensures number { N.number result.0 ≡ number_ahead (N.number number)
-                (slice_index (map N.number of_peer.entry.now) r) (slice_index (map N.number low.entry.now) r) }
-            ensures is_kept { result.1 ≡ nat_lt (max (slice_index (map N.number of_peer.entry.now) r)
-                (slice_index (map N.number low.entry.now) r)) (N.number number) }
-        {
-            let is_ahead = number.is_above(of_peer[r].max_with(low[r]));
-            (planes::pick(is_ahead, number, N::zero()), is_ahead)
-        }
-    });
-    Ok(Masked { numbers, count })
-}
-
-fn total<N: Number, F: Fn(usize, N) -> bool>(
-    cells: &[N],
-    nodes: usize,
-    keys: usize,
-    passes: F,
-) -> u32
-    requires grid { IsGrid nodes keys (length cells.now) }
-    requires passes { (r : ℕ) (n : N) → r < nodes → F.pre passes r n }
-    ensures { (test : ℕ → ℕ → Bool) → AnswersAs N.number (F.post passes) nodes test
-        → result ≡ total_of nodes keys (λ r k. test r (cell (map N.number cells.now) nodes r k)) }
-{
-    let mut total = 0;
-    for key in 0..keys {
-        let plane = plane_of(cells, nodes, key);
-        total += planes::how_many(plane, &passes);
-    }
-    total
-}
-
-/// How many numbers are above their owners' marks, where none is above its owner's high mark. It goes over all planes,
-/// or where only few owners' marks differ and there are many keys, over the keys of these owners.
-pub fn total_above<N: Number>(cells: &[N], nodes: usize, keys: usize, low: &[N], high: &[N]) -> u32
-    requires grid { IsGrid nodes keys (length cells.now) }
-    requires low { length low.now ≡ nodes }
-    requires high { length high.now ≡ nodes }
-    requires covered { AreCovered nodes keys (map N.number cells.now) (map N.number high.now) }
-    ensures { result ≡ total_above nodes keys (map N.number cells.now) (map N.number low.now) }
-{
-    if owners::are_few(keys, low, high, FEW_TO_COUNT) {
-        return owners::total_owners_above(cells, nodes, keys, low, high);
-    }
-    total(cells, nodes, keys, |r, number| number.is_above(low[r]))
-}
-
-/// How many numbers are not 0.
-pub fn total_held<N: Number>(cells: &[N], nodes: usize, keys: usize) -> u32
-    requires grid { IsGrid nodes keys (length cells.now) }
-    ensures { result ≡ total_of nodes keys (λ r k. nat_lt 0 (cell (map N.number cells.now) nodes r k)) }
-{
-    total(cells, nodes, keys, |_, number| number.is_above(N::zero()))
-}
-
-/// How many numbers are not 0 and up to their owners' marks.
-pub fn total_upto<N: Number>(cells: &[N], nodes: usize, keys: usize, high: &[N]) -> u32
-    requires grid { IsGrid nodes keys (length cells.now) }
-    requires high { length high.now ≡ nodes }
-    ensures { result ≡ total_of nodes keys (λ r k. nat_lt 0 (cell (map N.number cells.now) nodes r k)
-        && nat_le (cell (map N.number cells.now) nodes r k) (slice_index (map N.number high.now) r)) }
-{
-    total(
-        cells,
-        nodes,
-        keys,
-        |r, number|
-            requires { r < length high.now }
-        { planes::is_between(number, N::zero(), high[r]) },
-    )
-}
-
-/// Raises each number to the one sent, where that is above its owner's one mark and up to the other, and each owner's
-/// greatest number to the greatest of its numbers then. No number may be above its owner's greatest before. It goes
-/// over all planes, or where only few owners have anything sent and there are many keys, over the keys of these owners.
-pub fn take<N: Number>(cells: &mut [N], greatest: &mut [N], sent: Sent<N>)
-    requires may { MayTake N.number cells.old greatest.old sent }
-    ensures { AreSentTaken N.number sent.entry cells.old greatest.old cells.new greatest.new }
-{
-    if owners::are_few(sent.keys, sent.low, sent.high, FEW_TO_CHANGE) {
-        owners::take_owners(cells, greatest, sent);
-        return;
-    }
-    let Sent {
-        cells: numbers,
-        nodes,
-        keys,
-        low,
-        high,
-    } = sent;
-    for key in 0..keys {
-        let plane = plane_of(numbers, nodes, key);
-        let start = key * nodes;
-        let block = &mut cells[start..start + nodes];
-        planes::take_plane(block, greatest, plane, low, high);
-    }
 }

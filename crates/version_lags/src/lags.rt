@@ -4,7 +4,7 @@ ghost use Rattle.std.specs.Prelude.{◌≡◌, ℕ, ◌+◌, ◌-◌, ◌*◌, �
 ghost use Rattle.bench_types.specs.declared.faults.Fault.TheVariants.{OutOfMemory};
 ghost use Rattle.model.specs.Table.{Table};
 ghost use Rattle.model.specs.calls.OwnerListView.{list_of_owner, lists_in};
-ghost use Rattle.planes.specs.Lags.{IsLeastBehind};
+ghost use Rattle.grids.specs.Lags.{IsLeastBehind};
 ghost use Rattle.planes.specs.Planes.{HasEach};
 ghost use Rattle.bench_types.specs.Sums.{most_below};
 ghost use Rattle.model.specs.Figures.{figures_of};
@@ -12,7 +12,8 @@ ghost use Rattle.version_lags.specs.Pieces.{AreGrids, AreRoundNumbers, Counts, M
 
 use bench_types::{Fault, Figures};
 use owner_writes::OwnerWrites;
-use planes::{Ends, Number, count_behind, least_behind, lower_all, total_upto};
+use grids::{count_behind, least_behind, lower_all, total_upto};
+use planes::{Ends, Number};
 use rayon::join;
 use round_tables::Hands;
 use std::alloc::Global;

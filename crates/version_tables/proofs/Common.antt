@@ -66,12 +66,12 @@ pub use Rattle.model.specs.inner.Held.{entry_in}
 pub use Rattle.owner_writes.proofs.Keeping.{writes_begun, writes_more}
 pub use Rattle.owner_writes.proofs.Numbers.{IsPlaced, numbered-none, numbered-placed, numbered-some, numbered-within, numbers-before, numbers-compare, numbers-up_to, write_from-at, write_from-some}
 pub use Rattle.owner_writes.specs.Numbered.{AreEnds, AreMadeBy, IsHistory, IsNumberedHistory, IsRoundMark, start_before, start_of}
-pub use Rattle.planes.proofs.ByOwner.{owner-next, owner_changed, owners-all, owners-next, owners_changed}
+pub use Rattle.grids.proofs.ByOwner.{owner-next, owner_changed, owners-all, owners-next, owners_changed}
 pub use Rattle.planes.proofs.Elementwise.{number-at, written_next}
 pub use Rattle.planes.proofs.Places.{plane-within, planes-written}
 pub use Rattle.planes.specs.Elementwise.{AreChanged, AreChangedUpto}
 pub use Rattle.planes.specs.Planes.{ArePlanesChanged, ArePlanesChangedUpto, Cells, HasEach, HasEachPlace, HasNoneAbove, IsRaised, cell, count_between, most_ahead, numbers_taken, total_above, total_of}
-pub use Rattle.planes.specs.declared.merges.BothCounts.{BothCounts}
+pub use Rattle.grids.specs.declared.merges.BothCounts.{BothCounts}
 pub use Rattle.round_tables.specs.Histories.{StandsAmong}
 pub use Rattle.version_lags.specs.Missed.{IsLastNumber, IsNumberAt, base_of}
 pub use Rattle.version_lags.specs.Pieces.{AreNumbersAt, AreNumbersOf, AreRoundNumbers, MayBeCounted, StandTogether, keys_in, numbers_at, numbers_in}

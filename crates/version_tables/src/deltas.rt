@@ -16,7 +16,8 @@ use crate::tables::{VersionTable, Written};
 use bench_types::{DigestKind, Fault, Rules};
 use delta_plans::{First, Marked, Offer, Owners, planned, told};
 use model::DeltaCounts;
-use planes::{Masked, Number};
+use grids::Masked;
+use planes::Number;
 use std::alloc::Global;
 
 /// Of each owner what is above the low mark and up to the high one is sent, where it is above the receiver's.
@@ -146,7 +147,7 @@ fn ahead_of<N: Number, H: Written>(
         DigestKind::Precise => {
             let nodes = sender.nodes() as usize;
             let keys = sender.keys() as usize;
-            planes::ahead(alloc, sender.cells(), receiver.cells(), nodes, keys, low)
+            grids::ahead(alloc, sender.cells(), receiver.cells(), nodes, keys, low)
         }
     }
 }
@@ -170,7 +171,7 @@ fn either<'a, N: Number, H: Written>(
             let nodes = sender.nodes() as usize;
             let keys = sender.keys() as usize;
             let cells = sender.cells();
-            let found = planes::total_above(cells, nodes, keys, low, sender.greatest());
+            let found = grids::total_above(cells, nodes, keys, low, sender.greatest());
             Offered { cells, low, found }
         }
         DigestKind::Precise => Offered {

@@ -14,7 +14,8 @@ use crate::histories::Histories;
 use crate::tables::{VersionTable, Written};
 use bench_types::limits::MOST_ENTRY_SIZE;
 use bench_types::{Budget, DigestKind, Rules};
-use planes::{BothCounts, BothMarks, Number};
+use grids::{BothCounts, BothMarks};
+use planes::Number;
 
 fn surely_fit(budget: Budget, count: u32) -> bool
     requires { count ≤ MOST_NODES * MOST_KEYS }
@@ -44,7 +45,7 @@ fn all_ahead_fits<N: Number, H: Written>(
     if surely_fit(budget, most) {
         return true;
     }
-    let count = planes::total_above(from.cells(), nodes, keys, to.greatest(), from.greatest());
+    let count = grids::total_above(from.cells(), nodes, keys, to.greatest(), from.greatest());
     surely_fit(budget, count)
 }
 
@@ -57,7 +58,7 @@ fn all_fits<N: Number, H: Written>(
     ensures { IsTrue result ↔ (SurelyFits budget responder.now initiator.now
         × SurelyFits budget initiator.now responder.now) }
 {
-    let most = planes::most_ahead(initiator.greatest(), responder.greatest(), initiator.keys());
+    let most = grids::most_ahead(initiator.greatest(), responder.greatest(), initiator.keys());
     all_ahead_fits(responder, initiator, budget, most.first)
         && all_ahead_fits(initiator, responder, budget, most.second)
 }
@@ -70,7 +71,7 @@ fn is_current<N: Number, H: Written>(
     ensures { IsTrue result ↔ AreCurrent (bases_in histories.now.lists) table.now }
 {
     let nodes = table.nodes() as usize;
-    planes::total_upto(table.greatest(), nodes, 1, histories.bases()) == 0
+    grids::total_upto(table.greatest(), nodes, 1, histories.bases()) == 0
 }
 
 // Most often no owner has forgotten, which one fast loop tells.
@@ -84,7 +85,7 @@ fn are_current<N: Number, H: Written>(
         × AreCurrent (bases_in histories.now.lists) responder.now) }
 {
     let nodes = initiator.nodes() as usize;
-    if planes::total_held(histories.bases(), nodes, 1) == 0 {
+    if grids::total_held(histories.bases(), nodes, 1) == 0 {
         return true;
     }
     is_current(initiator, histories) && is_current(responder, histories)
@@ -137,7 +138,7 @@ pub(crate) fn merge<N: Number, H: Written>(
         nodes: initiator.nodes as usize,
         keys: initiator.keys as usize,
     };
-    let came = planes::merge(&mut initiator.cells, &mut responder.cells, marks);
-    planes::raise_both(&mut initiator.greatest, &mut responder.greatest);
+    let came = grids::merge(&mut initiator.cells, &mut responder.cells, marks);
+    grids::raise_both(&mut initiator.greatest, &mut responder.greatest);
     came
 }

@@ -11,7 +11,8 @@ use crate::deltas::DeltaMarks;
 use crate::tables::{VersionTable, Written};
 use delta_plans::Owners;
 use owner_writes::OwnerWrites;
-use planes::{Number, Sent};
+use grids::Sent;
+use planes::Number;
 
 fn clear_column<N: Number>(cells: &mut [N], nodes: usize, keys: usize, owner: usize, start: u32)
     requires { HasColumn nodes keys (length cells.old) owner }
@@ -71,7 +72,7 @@ fn drop_older<N: Number>(
         (map N.number cells.old) (map N.number cells.new) }
 {
     let Owners { lists, bases } = owners;
-    if planes::total_upto(before, nodes, 1, bases) == 0 {
+    if grids::total_upto(before, nodes, 1, bases) == 0 {
         return;
     }
     for owner in 0..nodes {
@@ -111,7 +112,7 @@ pub(crate) fn take_unless<N: Number, H: Written>(
         low: &arrival.marks.low,
         high: &arrival.marks.high,
     };
-    planes::take(&mut table.cells, &mut table.greatest, sent);
+    grids::take(&mut table.cells, &mut table.greatest, sent);
     drop_older(
         &mut table.cells,
         sent.nodes,

@@ -7,7 +7,7 @@ use Rattle.bench_types.specs.declared.exchanges.Rules.{Rules}
 use Rattle.bench_types.specs.Budget.{amount_of, largest_share}
 use Rattle.bench_types.specs.Mode.{digest_kind}
 use Rattle.planes.specs.Elementwise.{AreChanged}
-use Rattle.planes.specs.declared.merges.BothCounts.{BothCounts}
+use Rattle.grids.specs.declared.merges.BothCounts.{BothCounts}
 use Rattle.planes.specs.Planes.{cell, most_ahead, number_raised, total_above, ArePlanesChanged}
 use Rattle.version_tables.specs.Views.{VersionTableView, HistoriesView}
 use Rattle.version_tables.specs.Laid.{IsVersionTable}

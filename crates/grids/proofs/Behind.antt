@@ -1,0 +1,16 @@
+-- The least of an owner's numbers that are behind the last ones.
+use Rattle.grids.proofs.Common.{◌≡◌, ℕ, zero, suc, ◌+◌, ◌<◌, ◌≤◌, min, cond, nat_lt, List, ◌⊎◌, inl, inr, sym, ◌∙◌, arith, below_more, nat_tests, cases_lt, IsLeastBehind, IsLeastOf, Cells, HasEach, HasNoneAbove, IsNextAbove, IsLeastAbove}
+
+-- of those behind the last ones
+pub least_is-behind : (most : ℕ) (cells last : Cells) (keys owner least : ℕ) → IsLeastOf most (λ k. cond (nat_lt (cells owner k) (last owner k)) (cells owner k) most) keys least → IsLeastBehind most cells last keys owner least
+least_is-behind most cells last keys owner least is = record {
+  no_less = λ k lt behind. let at = is.no_less k lt in grind (arith, nat_tests);
+  is = elim is.is [
+    | inl all ↦ inl all
+    | inr (k, lt, here) ↦ elim (cases_lt (cells owner k) (last owner k)) [
+      | inl behind ↦ inr (k, lt, behind, grind (arith, nat_tests))
+      | inr not_behind ↦ inl (grind (arith, nat_tests))
+    ]
+  ];
+}
+

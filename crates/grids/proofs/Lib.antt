@@ -1,0 +1,4 @@
+pub mod Counted
+pub mod Behind
+pub mod ByOwner
+pub mod Common

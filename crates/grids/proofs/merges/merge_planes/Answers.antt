@@ -1,0 +1,33 @@
+use Rattle.grids.proofs.Common.{refl, arith, map}
+use Rattle.planes.proofs.Elementwise.{counted_none, counted-same}
+use Rattle.grids.proofs.merges.merge_planes.Goals as goal
+
+pub loop-first-init : goal.loop-first-init
+loop-first-init g c = record {
+  within = omega arith;
+  first_upto = omega arith;
+  second_upto = omega arith;
+  first = counted_none _ (map g.N.Number.number c.args.first.now) _;
+  second = counted_none _ (map g.N.Number.number c.args.second.now) _;
+}
+
+pub loop-first-preserved : goal.loop-first-preserved
+loop-first-preserved g c =
+    let held = c.loop-first.invariant in
+    let parts = c.merge_some-both.ensures.done _ _ _ _ held.first held.second in
+    record {
+      within = omega (arith, held.within, c.loop-first-test.true, c.loop-first.auto.first);
+      first_upto = omega (arith, held.first_upto, c.merge_some-both.ensures.first_upto);
+      second_upto = omega (arith, held.second_upto, c.merge_some-both.ensures.second_upto);
+      first = parts.0;
+      second = parts.1;
+    }
+
+pub returns : goal.returns
+returns g c =
+    let held = c.loop-first.invariant in
+    let parts = c.merge_some-both-2.ensures.done _ _ _ _ held.first held.second in
+    record {
+      first = counted-same _ _ _ _ _ _ _ _ parts.0 (omega (arith, held.within, c.loop-first.auto.first)) refl;
+      second = counted-same _ _ _ _ _ _ _ _ parts.1 (omega (arith, held.within, c.requires.marked.second, c.loop-first.auto.first)) refl;
+    }

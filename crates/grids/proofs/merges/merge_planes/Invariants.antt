@@ -1,0 +1,16 @@
+use Rattle.grids.proofs.Common.{◌-◌, ◌≤◌, length, map, AreRaisedUpto}
+use Rattle.grids.proofs.merges.merge_planes.Given as goal
+
+abbrev pub invariant-loop-first : goal.invariant-loop-first
+invariant-loop-first g l =
+    let number = g.N.Number.number in
+    record {
+      within : l.from ≤ length l.initial.first;
+      first_upto : l.to_first ≤ l.from;
+      second_upto : l.to_second ≤ l.from;
+      first : AreRaisedUpto (map number l.initial.second) (map number l.first_low) (map number l.initial.first) (map number l.first) l.from l.to_first;
+      second : AreRaisedUpto (map number l.initial.first) (map number l.second_low) (map number l.initial.second) (map number l.second) l.from l.to_second;
+    }
+
+abbrev pub decreases-loop-first : goal.decreases-loop-first
+decreases-loop-first g l = length l.initial.first - l.from

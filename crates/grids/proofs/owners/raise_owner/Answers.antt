@@ -1,0 +1,41 @@
+use Rattle.grids.proofs.Common.{◌≡◌, ℕ, ◌+◌, ◌*◌, ◌<◌, nat_lt, max, refl, sym, ◌∙◌, arith, rules, map, length, if◌then◌else◌, length-map, get_or-map, cell}
+use Rattle.planes.proofs.Elementwise.{number-at}
+use Rattle.planes.proofs.Counts.{count_le, sum_next}
+use Rattle.planes.proofs.Places.{plane-within, planes-none, planes-all}
+use Rattle.grids.proofs.ByOwner.{owner-next}
+use Rattle.grids.proofs.owners.raise_owner.Goals as goal
+
+pub loop-key-init : goal.loop-key-init
+loop-key-init g c = record { cells = planes-none _ _ _; count = refl }
+
+pub offset_bounds-cells-key : goal.offset_bounds-cells-key
+offset_bounds-cells-key g c =
+    let inside : c.loop-key.key * c.args.nodes + c.args.owner < length c.loop-key.cells =
+    omega (arith, c.requires.place.within, c.loop-key.auto.cells, plane-within c.args.nodes c.args.keys (length c.args.cells.now) c.loop-key.key c.requires.place.grid c.loop-key-test.true) in
+    search rules
+
+pub loop-key-preserved : goal.loop-key-preserved
+loop-key-preserved g c =
+    let number = g.N.Number.number in
+    let low = number c.args.low in
+    let place : ℕ = c.loop-key.key * c.args.nodes + c.args.owner in
+    let within = plane-within c.args.nodes c.args.keys (length c.args.cells.now) c.loop-key.key c.requires.place.grid c.loop-key-test.true in
+    let other = number-at number c.args.others.now place c.index-others-key.result (omega (arith, within, c.requires.place.within, c.requires.others)) c.index-others-key.is in
+    let at_cell = sym (get_or-map number c.loop-key.cells place c.index-cells-key.result 0 (omega (arith, within, c.requires.place.within, c.loop-key.auto.cells))) ∙ c.loop-key.invariant.cells.from place (omega arith) in
+    let above = c.is_above-is_above.ensures ∙ (λ i. nat_lt low (other i)) in
+    let bit : c.from-count.result ≡ (if c.is_above-is_above.result then 1 else 0) = search rules in
+    record {
+      cells =
+          owner-next _ _ _ _ c.requires.place.within number _ c.loop-key.key c.raised_to.result c.loop-key.invariant.cells (omega (arith, within, length-map c.args.cells.now number))
+          (c.raised_to.ensures ∙ (λ i. max (at_cell i) (if above i then other i else 0)));
+      count = sum_next _ c.loop-key.key c.loop-key.count c.from-count.result c.loop-key.invariant.count (bit ∙ (λ i. if above i then 1 else 0));
+    }
+
+pub overflow_add-count : goal.overflow_add-count
+overflow_add-count g c =
+    omega (arith, (loop-key-preserved g c).count, count_le (c.loop-key.key + 1) (λ k. nat_lt (g.N.Number.number c.args.low) (cell (map g.N.Number.number c.args.others.now) c.args.nodes c.args.owner k)), c.loop-key-test.true, c.requires.place.grid.few_keys)
+
+pub returns : goal.returns
+returns g c =
+    let all : c.loop-key.key ≡ c.args.keys = omega (arith, c.loop-key-test.false, c.loop-key.auto.key-end) in
+    record { cells = planes-all _ _ _ _ c.args.keys c.loop-key.key c.loop-key.invariant.cells c.loop-key-test.false; count = rw (← all) c.loop-key.invariant.count }

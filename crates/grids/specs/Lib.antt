@@ -1,0 +1,3 @@
+pub mod Grids
+pub mod Lags
+pub mod inner

@@ -1,0 +1,34 @@
+-- One owner's numbers, key by key. Source: this project.
+use Rattle.std.specs.Prelude.{◌≡◌, ℕ, ◌<◌, ◌==◌, List, length, map, if◌then◌else◌}
+use Rattle.planes.specs.Planes.{cell, count_above, number_raised, number_taken, AreCovered, ArePlanesChanged, IsGrid, IsRaised}
+use Rattle.grids.specs.declared.grids.Sent.{Sent}
+
+-- a table, of which no number is above its owner's high mark
+pub record IsMarked {N : Type 0} (number : N → ℕ) (nodes keys : ℕ) (cells low high : List N) : Type 0 where
+  pub grid : IsGrid nodes keys (length cells)
+  pub low_count : length low ≡ nodes
+  pub high_count : length high ≡ nodes
+  pub covered : AreCovered nodes keys (map number cells) (map number high)
+
+-- an owner of a table of a size
+pub record IsOwnerOf (nodes keys owner size : ℕ) : Type 0 where
+  pub grid : IsGrid nodes keys size
+  pub within : owner < nodes
+
+-- an owner's numbers once they were raised to those of another table that are above a mark, and so many are
+pub record HasRaisedOwner {N : Type 0} (number : N → ℕ) (nodes keys owner : ℕ) (others : List N) (low : N)
+    (old new : List N) (raised : ℕ) : Type 0 where
+  pub cells : ArePlanesChanged (λ r k x y. y ≡ (if r == owner then number_raised x (cell (map number others) nodes r k)
+      (number low) else x)) nodes keys (map number old) (map number new)
+  pub count : raised ≡ count_above (cell (map number others) nodes) keys owner (number low)
+
+-- an owner's numbers once it took those sent above one mark and up to another, and the greatest of them then, which was
+-- another one before
+pub record HasTakenOwner {N : Type 0} (number : N → ℕ) (sent : Sent N) (owner : ℕ) (low high : N) (old : List N) (had : N)
+    (new : List N) (now : N) : Type 0 where
+  pub cells : ArePlanesChanged (λ r k x y. y ≡ (if r == owner then number_taken x
+      (cell (map number sent.cells.now) sent.nodes r k) (number low) (number high) else x)) sent.nodes sent.keys
+      (map number old) (map number new)
+  pub greatest : IsRaised (λ r k. number_taken (cell (map number old) sent.nodes r k)
+      (cell (map number sent.cells.now) sent.nodes r k) (number low) (number high)) sent.keys owner
+      (number had) (number now)

@@ -1,0 +1,31 @@
+//! Tables of planes, `cells[key * nodes + owner]`: loops over all of their numbers, which count, take, merge or lower
+//! them.
+//!
+//! # Choices
+//!
+//! - Numbers are copied 1024 at a time, which takes fewer instructions than the C library's way to copy many more at
+//!   once.
+//! - What is counted over a plane is counted in its numbers' bits, as a wider sum would halve what a vector instruction
+//!   does: of bytes 192 at a time, each time added into 32 bits, of others all, as they can count more nodes than there
+//!   may be.
+//! - What goes over the same planes goes in one loop: to take numbers and to raise the greatest ones, to count what is
+//!   behind and to lower the least. Where tables are large, each pass waits for memory.
+//! - Where all comes, both ways go in one pass (`merge`). A number of one table that is above the other's greatest one
+//!   goes over; it can't be that one comes back in its place, so neither way has to wait for the other. The pass counts
+//!   what goes each way, and the greatest numbers are raised once behind it.
+//! - Few owners are gone through one by one. An owner whose two marks have nothing between them concerns no loop that
+//!   takes or counts numbers. Where there are 16 keys or more, and at most one in 32 owners has something between its
+//!   marks, or one in 8 where numbers are changed, these owners alone are visited, key by key, in place of whole
+//!   planes. Where two tables are merged, the numbers of such an owner come from the table with the greater mark. The
+//!   contract is the same.
+#![tactic(auto)]
+
+mod counts;
+mod grids;
+mod lags;
+mod merges;
+mod owners;
+
+pub use grids::{Masked, Sent, ahead, take, total_above, total_held, total_upto};
+pub use lags::{count_behind, least_behind, lower, lower_all};
+pub use merges::{BothCounts, BothMarks, merge, most_ahead, raise_both};

@@ -1,0 +1,172 @@
+//! Loops over a few owners of a table, each over all of its keys. The others have nothing above one mark and up to
+//! another, and are passed over.
+
+ghost use Rattle.std.specs.Prelude.{◌≡◌, ◌≤◌, length, map};
+ghost use Rattle.bench_types.specs.declared.limits.TheConstants.{MOST_NODES};
+ghost use Rattle.planes.specs.Planes.{cell, count_above, total_above, HasNoneAbove};
+ghost use Rattle.grids.specs.Grids.{AreBothCovered, AreBothRaised, AreSentTaken, MayTake};
+ghost use Rattle.grids.specs.inner.Owners.{HasRaisedOwner, HasTakenOwner, IsMarked, IsOwnerOf};
+
+use crate::counts;
+use crate::grids::Sent;
+use crate::merges::{BothCounts, BothMarks};
+use planes::Number;
+
+/// So many keys are many: with fewer, planes are the faster way.
+const MANY_KEYS: usize = 16;
+/// Owners are few where they are no more than all divided by this: to count their numbers, or to change them.
+pub(crate) const FEW_TO_COUNT: usize = 32;
+
+pub(crate) const FEW_TO_CHANGE: usize = 8;
+
+// Whether there are many keys, and few owners whose one mark is below the other. It picks the faster of two ways, and
+// both have the same outcome.
+pub(crate) fn are_few<N: Number>(keys: usize, low: &[N], high: &[N], few: usize) -> bool
+    requires few { 1 ≤ few }
+    requires marks { length low.now ≡ length high.now }
+    requires room { length high.now ≤ MOST_NODES }
+{
+    keys >= MANY_KEYS && counts::how_many_above(high, low) as usize <= high.len() / few
+}
+
+fn owner_above<N: Number>(cells: &[N], nodes: usize, keys: usize, owner: usize, low: N) -> u32
+    requires place { IsOwnerOf nodes keys owner (length cells.now) }
+    ensures { result ≡ count_above (cell (map N.number cells.now) nodes) keys owner (N.number low) }
+{
+    let mut count = 0;
+    for key in 0..keys {
+        count += u32::from(cells[key * nodes + owner].is_above(low));
+    }
+    count
+}
+
+// How many numbers are above their owners' low marks. It goes over the owners alone whose high mark is above their low
+// one: the others have none.
+pub(crate) fn total_owners_above<N: Number>(
+    cells: &[N],
+    nodes: usize,
+    keys: usize,
+    low: &[N],
+    high: &[N],
+) -> u32
+    requires marked { IsMarked N.number nodes keys cells.now low.now high.now }
+    ensures { result ≡ total_above nodes keys (map N.number cells.now) (map N.number low.now) }
+{
+    let mut total = 0;
+    for owner in 0..nodes {
+        let mark = low[owner];
+        if high[owner].is_above(mark) {
+            total += owner_above(cells, nodes, keys, owner, mark);
+        }
+    }
+    total
+}
+
+// Raises an owner's numbers to those sent that are above one mark and up to another. It answers the greatest number
+// that the owner has then, and is given the one that it had.
+fn take_owner<N: Number>(cells: &mut [N], sent: Sent<N>, owner: usize, low: N, high: N, had: N) -> N
+    requires place { IsOwnerOf sent.nodes sent.keys owner (length cells.old) }
+    requires sent { length sent.cells.now ≡ length cells.old }
+    requires covered { HasNoneAbove (cell (map N.number cells.old) sent.nodes) sent.keys owner (N.number had) }
+    ensures { HasTakenOwner N.number sent.entry owner low high cells.old had cells.new result }
+{
+    let Sent {
+        cells: numbers,
+        nodes,
+        keys,
+        ..
+    } = sent;
+    let mut greatest = had;
+    for key in 0..keys {
+        let number = numbers[key * nodes + owner];
+        if planes::is_between(number, low, high) {
+            let cell = &mut cells[key * nodes + owner];
+            let raised = cell.max_with(number);
+            *cell = raised;
+            greatest = greatest.max_with(raised);
+        }
+    }
+    greatest
+}
+
+// Takes what is sent of the owners alone whose one mark is below the other.
+pub(crate) fn take_owners<N: Number>(cells: &mut [N], greatest: &mut [N], sent: Sent<N>)
+    requires may { MayTake N.number cells.old greatest.old sent }
+    ensures { AreSentTaken N.number sent.entry cells.old greatest.old cells.new greatest.new }
+{
+    let Sent {
+        nodes,
+        low,
+        high,
+        ..
+    } = sent;
+    for owner in 0..nodes {
+        if high[owner].is_above(low[owner]) {
+            greatest[owner] = take_owner(
+                cells,
+                sent,
+                owner,
+                low[owner],
+                high[owner],
+                greatest[owner],
+            );
+        }
+    }
+}
+
+// Raises an owner's numbers to those of another table that are above a mark. It answers how many these are.
+fn raise_owner<N: Number>(
+    cells: &mut [N],
+    others: &[N],
+    nodes: usize,
+    keys: usize,
+    owner: usize,
+    low: N,
+) -> u32
+    requires place { IsOwnerOf nodes keys owner (length cells.old) }
+    requires others { length others.now ≡ length cells.old }
+    ensures { HasRaisedOwner N.number nodes keys owner others.now low cells.old cells.new result }
+{
+    let mut count = 0;
+    for key in 0..keys {
+        let number = others[key * nodes + owner];
+        let is_above = number.is_above(low);
+        let cell = &mut cells[key * nodes + owner];
+        *cell = planes::raised_to(*cell, number, is_above);
+        count += u32::from(is_above);
+    }
+    count
+}
+
+// Two tables take of each other what is above their marks, of the owners alone of which one mark is above the other.
+// The numbers of such an owner come from the table with the higher mark.
+pub(crate) fn merge_owners<N: Number>(
+    first: &mut [N],
+    second: &mut [N],
+    marks: BothMarks<N>,
+) -> BothCounts
+    requires marked { AreBothCovered N.number marks first.old second.old }
+    ensures { AreBothRaised N.number marks.entry first.old second.old first.new second.new result }
+{
+    let BothMarks {
+        first: first_low,
+        second: second_low,
+        nodes,
+        keys,
+    } = marks;
+    let mut to_first = 0;
+    let mut to_second = 0;
+    for owner in 0..nodes {
+        let mark = first_low[owner];
+        let other = second_low[owner];
+        if other.is_above(mark) {
+            to_first += raise_owner(first, second, nodes, keys, owner, mark);
+        } else if mark.is_above(other) {
+            to_second += raise_owner(second, first, nodes, keys, owner, other);
+        }
+    }
+    BothCounts {
+        first: to_first,
+        second: to_second,
+    }
+}

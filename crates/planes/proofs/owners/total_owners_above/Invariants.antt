@@ -1,6 +1,0 @@
-use Rattle.planes.proofs.Common.{◌≡◌, slice_index, map, sum_below, cell, count_above}
-use Rattle.planes.proofs.owners.total_owners_above.Given as goal
-
-abbrev pub invariant-loop-owner : goal.invariant-loop-owner
-invariant-loop-owner g l =
-    l.total ≡ sum_below l.owner (λ r. count_above (cell (map g.N.Number.number l.cells) l.nodes) l.keys r (slice_index (map g.N.Number.number l.low) r))

@@ -1,0 +1,29 @@
+-- What loops over planes make of what a closure answers. Source: this project.
+use Rattle.std.specs.Prelude.{◌≡◌, ◌⊎◌, ℕ, ◌<◌, ◌≤◌, Bool, List, if◌then◌else◌}
+use Rattle.bench_types.specs.Sums.{sum_below}
+use Rattle.planes.specs.Elementwise.{AreChangedUpto}
+
+-- a number is what a call made of another one
+pub record IsMade {N : Type 0} (number : N → ℕ) (makes : ℕ → N → N → Type 0) (r x y : ℕ) : Type 0 where
+  pub from : N
+  pub to : N
+  pub was : number from ≡ x
+  pub is : number to ≡ y
+  pub made : makes r from to
+
+-- the least of the values below a bound, each of which is no more than the most, and of the most
+pub record IsLeastOf (most : ℕ) (values : ℕ → ℕ) (keys least : ℕ) : Type 0 where
+  pub upto : least ≤ most
+  pub fits : (k : ℕ) → k < keys → values k ≤ most
+  pub no_less : (k : ℕ) → k < keys → least ≤ values k
+  pub is : (least ≡ most) ⊎ ((k : ℕ) × (k < keys) × (values k ≡ least))
+
+-- how many of the places below a bound pass a test
+abbrev pub count_passing : ℕ → (ℕ → Bool) → ℕ
+count_passing bound test = sum_below bound (λ r. if test r then 1 else 0)
+
+-- the numbers below a bound are changed, and so many of them pass a test
+pub record AreCountedUpto (changed : ℕ → ℕ → ℕ → Type 0) (test : ℕ → Bool) (old new : List ℕ)
+    (bound passed : ℕ) : Type 0 where
+  pub numbers : AreChangedUpto changed old new bound
+  pub count : passed ≡ count_passing bound test

@@ -93,7 +93,7 @@ impl<'a, 'b, N: Number> Rounds<'a, 'b, N> {
     {
         let offer = self.offer;
         let room = offer.budget.amount();
-        let above = grids::total_above(offer.cells, offer.nodes, offer.keys, mark, offer.high);
+        let above = planes::total_above(offer.cells, offer.nodes, offer.keys, mark, offer.high);
         match self.first {
             First::Oldest => {
                 let count = self.found - above;

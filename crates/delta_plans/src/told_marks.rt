@@ -64,8 +64,8 @@ fn put_starts<N: Number>(numbers: &mut [N], owners: Owners<N>)
     ensures { AreStarts N.number owners.entry numbers.old numbers.new }
 {
     let Owners { lists, bases } = owners;
-    if grids::total_upto(numbers, numbers.len(), 1, bases) == 0 {
-        grids::lower(numbers, bases);
+    if planes::total_upto(numbers, numbers.len(), 1, bases) == 0 {
+        planes::lower(numbers, bases);
         return;
     }
     for r in 0..numbers.len() {

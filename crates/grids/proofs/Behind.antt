@@ -1,5 +1,5 @@
 -- The least of an owner's numbers that are behind the last ones.
-use Rattle.grids.proofs.Common.{◌≡◌, ℕ, zero, suc, ◌+◌, ◌<◌, ◌≤◌, min, cond, nat_lt, List, ◌⊎◌, inl, inr, sym, ◌∙◌, arith, below_more, nat_tests, cases_lt, IsLeastBehind, IsLeastOf, Cells, HasEach, HasNoneAbove, IsNextAbove, IsLeastAbove}
+use Rattle.grids.proofs.Common.{ℕ, cond, nat_lt, inl, inr, arith, nat_tests, cases_lt, IsLeastBehind, IsLeastOf, Cells}
 
 -- of those behind the last ones
 pub least_is-behind : (most : ℕ) (cells last : Cells) (keys owner least : ℕ) → IsLeastOf most (λ k. cond (nat_lt (cells owner k) (last owner k)) (cells owner k) most) keys least → IsLeastBehind most cells last keys owner least
@@ -13,4 +13,3 @@ least_is-behind most cells last keys owner least is = record {
     ]
   ];
 }
-

@@ -1,25 +1,7 @@
 -- Tables whose owners are gone over one by one.
 -- Serves `merge_owners`, `raise_owner`, `take_owner`, `take_owners`, `total_owners_above` and `version_tables`.
-use Rattle.grids.proofs.Common.{◌≡◌, ◌≢◌, ℕ, Fits, w32, ◌+◌, ◌*◌, ◌<◌, ◌≤◌, ◌==◌, ◌&&◌, true, false, cond, List, length, get_or, set, map, nat_lt, nat_le, max, inl, inr, refl, sym, ap, ◌∙◌, subst, arith, below_more, nat_tests, sum_below-most, mul-le-mul_right, lt-ltb, le-ltb, get_or-set_same, get_or-set_other, length-set, map-set, MOST_KEYS, sum_below, sum_below-same, Cells, cell, count_above, number_raised, number_taken, HasNoneAbove, IsRaised, ArePlanesChanged, ArePlanesChangedUpto, IsGrid, HasRaisedOwner}
-use Rattle.planes.proofs.Counts.{count_le, sum_next}
-
--- the numbers of one owner more are counted
-pub owner_counted : (cells : Cells) (keys : ℕ) (low : ℕ → ℕ) (owner total count mark : ℕ) → total ≡ sum_below owner (λ r. count_above cells keys r (low r)) → count ≡ count_above cells keys owner mark → mark ≡ low owner
-    → total + count ≡ sum_below (owner + 1) (λ r. count_above cells keys r (low r))
-owner_counted cells keys low owner total count mark is now same =
-    sum_next (λ r. count_above cells keys r (low r)) owner total count is (now ∙ ap (count_above cells keys owner) same)
-
--- or there are none
-pub owner_passed : (cells : Cells) (keys : ℕ) (low : ℕ → ℕ) (owner total high : ℕ) → total ≡ sum_below owner (λ r. count_above cells keys r (low r)) → HasNoneAbove cells keys owner high → high ≤ low owner
-    → total ≡ sum_below (owner + 1) (λ r. count_above cells keys r (low r))
-owner_passed cells keys low owner total high is covered le =
-    let none = sum_below-most (λ k. cond (nat_lt (low owner) (cells owner k)) 1 0) keys 0 (λ k lt. omega (arith, ap {B = ℕ} (λ b. cond b 1 0) (le-ltb (low owner) (cells owner k) (omega (arith, covered k lt, le))))) in
-    let one_more = sum_next (λ r. count_above cells keys r (low r)) owner total 0 is (omega (arith, none)) in
-    omega (arith, one_more)
-
-pub owners-fit : (cells : Cells) (nodes keys size : ℕ) (low : ℕ → ℕ) (owner total : ℕ) → IsGrid nodes keys size → owner < nodes → total ≡ sum_below (owner + 1) (λ r. count_above cells keys r (low r)) → Fits w32 total
-owners-fit cells nodes keys size low owner total grid lt is =
-    omega (arith, is, lt, grid.few_nodes, sum_below-most (λ r. count_above cells keys r (low r)) (owner + 1) MOST_KEYS (λ r _. omega (arith, grid.few_keys, count_le keys (λ k. nat_lt (low r) (cells r k)))))
+use Rattle.grids.proofs.Common.{◌≡◌, ◌≢◌, ℕ, Fits, w32, ◌+◌, ◌*◌, ◌<◌, ◌≤◌, ◌==◌, ◌&&◌, true, false, cond, List, length, get_or, set, map, nat_lt, nat_le, max, inl, inr, refl, sym, ap, ◌∙◌, subst, arith, below_more, nat_tests, mul-le-mul_right, lt-ltb, le-ltb, get_or-set_same, get_or-set_other, length-set, map-set, sum_below, sum_below-same, Cells, cell, count_above, number_raised, number_taken, HasNoneAbove, IsRaised, ArePlanesChanged, ArePlanesChangedUpto, IsGrid, HasRaisedOwner}
+use Rattle.planes.proofs.FewOwners.{owner_counted, owner_passed, owners-fit}
 
 -- nothing is taken that isn't above one mark and up to another
 pub taken-none : (x sent low high : ℕ) → (nat_lt low sent && nat_le sent high) ≡ false → number_taken x sent low high ≡ x

@@ -16,6 +16,6 @@ pub use Rattle.bench_types.specs.declared.limits.TheConstants.{MOST_KEYS, MOST_N
 pub use Rattle.planes.specs.Elementwise.{AreChanged, AreChangedUpto}
 pub use Rattle.grids.specs.Lags.{IsLeastBehind}
 pub use Rattle.planes.specs.Planes.{ArePlanesChanged, ArePlanesChangedUpto, Cells, HasEach, HasNoneAbove, IsGrid, IsLeastAbove, IsNextAbove, IsRaised, cell, count_above, number_ahead, number_raised, number_taken, numbers_taken, total_above, total_of}
-pub use Rattle.planes.specs.Loops.{AreCountedUpto, IsLeastOf, IsMade, count_passing}
-pub use Rattle.grids.specs.inner.Loops.{AnswersAs, AreRaisedUpto, MakesAs}
+pub use Rattle.planes.specs.Loops.{AnswersAs, AreCountedUpto, IsLeastOf, IsMade, count_passing}
+pub use Rattle.grids.specs.inner.Loops.{AreRaisedUpto, MakesAs}
 pub use Rattle.grids.specs.inner.Owners.{HasRaisedOwner}

@@ -6,12 +6,12 @@ ghost use Rattle.bench_types.specs.declared.faults.Fault.TheVariants.{OutOfMemor
 ghost use Rattle.planes.specs.Elementwise.{AreChanged};
 ghost use Rattle.planes.specs.Planes.{cell, number_ahead, number_taken, total_above, total_of, AreCovered, ArePlanesChanged, HasEachPlace, IsGrid};
 ghost use Rattle.grids.specs.Grids.{AreSentTaken, MayTake};
-ghost use Rattle.grids.specs.inner.Loops.{AnswersAs, IsSentPlane, MakesAs};
+ghost use Rattle.grids.specs.inner.Loops.{IsSentPlane, MakesAs};
 
-use crate::owners::{FEW_TO_CHANGE, FEW_TO_COUNT};
+use crate::owners::FEW_TO_CHANGE;
 use crate::{counts, owners};
 use bench_types::Fault;
-use planes::{Number, plane_of};
+use planes::{Number, are_few, plane_of};
 use std::alloc::Global;
 
 /// Numbers of which some are kept, with 0 in place of the others, and how many are kept.
@@ -111,65 +111,6 @@ pub fn ahead<N: Number>(
     Ok(Masked { numbers, count })
 }
 
-fn total<N: Number, F: Fn(usize, N) -> bool>(
-    cells: &[N],
-    nodes: usize,
-    keys: usize,
-    passes: F,
-) -> u32
-    requires grid { IsGrid nodes keys (length cells.now) }
-    requires passes { (r : ℕ) (n : N) → r < nodes → F.pre passes r n }
-    ensures { (test : ℕ → ℕ → Bool) → AnswersAs N.number (F.post passes) nodes test
-        → result ≡ total_of nodes keys (λ r k. test r (cell (map N.number cells.now) nodes r k)) }
-{
-    let mut total = 0;
-    for key in 0..keys {
-        let plane = plane_of(cells, nodes, key);
-        total += counts::how_many(plane, &passes);
-    }
-    total
-}
-
-/// How many numbers are above their owners' marks, where none is above its owner's high mark. It goes over all planes,
-/// or where only few owners' marks differ and there are many keys, over the keys of these owners.
-pub fn total_above<N: Number>(cells: &[N], nodes: usize, keys: usize, low: &[N], high: &[N]) -> u32
-    requires grid { IsGrid nodes keys (length cells.now) }
-    requires low { length low.now ≡ nodes }
-    requires high { length high.now ≡ nodes }
-    requires covered { AreCovered nodes keys (map N.number cells.now) (map N.number high.now) }
-    ensures { result ≡ total_above nodes keys (map N.number cells.now) (map N.number low.now) }
-{
-    if owners::are_few(keys, low, high, FEW_TO_COUNT) {
-        return owners::total_owners_above(cells, nodes, keys, low, high);
-    }
-    total(cells, nodes, keys, |r, number| number.is_above(low[r]))
-}
-
-/// How many numbers are not 0.
-pub fn total_held<N: Number>(cells: &[N], nodes: usize, keys: usize) -> u32
-    requires grid { IsGrid nodes keys (length cells.now) }
-    ensures { result ≡ total_of nodes keys (λ r k. nat_lt 0 (cell (map N.number cells.now) nodes r k)) }
-{
-    total(cells, nodes, keys, |_, number| number.is_above(N::zero()))
-}
-
-/// How many numbers are not 0 and up to their owners' marks.
-pub fn total_upto<N: Number>(cells: &[N], nodes: usize, keys: usize, high: &[N]) -> u32
-    requires grid { IsGrid nodes keys (length cells.now) }
-    requires high { length high.now ≡ nodes }
-    ensures { result ≡ total_of nodes keys (λ r k. nat_lt 0 (cell (map N.number cells.now) nodes r k)
-        && nat_le (cell (map N.number cells.now) nodes r k) (slice_index (map N.number high.now) r)) }
-{
-    total(
-        cells,
-        nodes,
-        keys,
-        |r, number|
-            requires { r < length high.now }
-        { planes::is_between(number, N::zero(), high[r]) },
-    )
-}
-
 // Raises the numbers of a plane to those sent that are above one mark and up to another, and each owner's greatest
 // number to its number then.
 fn take_plane<N: Number>(plane: &mut [N], greatest: &mut [N], sent: &[N], low: &[N], high: &[N])
@@ -200,7 +141,7 @@ pub fn take<N: Number>(cells: &mut [N], greatest: &mut [N], sent: Sent<N>)
     requires may { MayTake N.number cells.old greatest.old sent }
     ensures { AreSentTaken N.number sent.entry cells.old greatest.old cells.new greatest.new }
 {
-    if owners::are_few(sent.keys, sent.low, sent.high, FEW_TO_CHANGE) {
+    if are_few(sent.keys, sent.low, sent.high, FEW_TO_CHANGE) {
         owners::take_owners(cells, greatest, sent);
         return;
     }

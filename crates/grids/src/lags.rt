@@ -2,23 +2,13 @@
 
 ghost use Rattle.std.specs.Prelude.{◌≡◌, ◌+◌, ◌*◌, ◌<◌, ◌≤◌, length, map, min, nat_lt, slice_index, IfOk, IsOkUnless, if◌then◌else◌};
 ghost use Rattle.bench_types.specs.declared.faults.Fault.TheVariants.{OutOfMemory};
-ghost use Rattle.planes.specs.Elementwise.{AreChanged};
 ghost use Rattle.grids.specs.Lags.{IsLeastBehind};
 ghost use Rattle.planes.specs.Planes.{cell, total_of, ArePlanesChanged, HasEach, IsGrid};
 
 use crate::grids::change_all_counting;
 use bench_types::Fault;
-use planes::{Number, least_of, plane_of};
+use planes::{Number, least_of, lower, plane_of};
 use std::alloc::Global;
-
-/// Lowers each owner's number to the one in a plane.
-pub fn lower<N: Number>(least: &mut [N], plane: &[N])
-    requires plane { length plane.now ≡ length least.old }
-    ensures least { AreChanged (λ r x y. y ≡ min x (slice_index (map N.number plane.now) r))
-        (map N.number least.old) (map N.number least.new) }
-{
-    planes::change(least, |r, number| number.min_with(plane[r]));
-}
 
 /// Lowers each number to another one.
 pub fn lower_all<N: Number>(least: &mut [N], cells: &[N], nodes: usize, keys: usize)

@@ -5,9 +5,6 @@
 //!
 //! - Numbers are copied 1024 at a time, which takes fewer instructions than the C library's way to copy many more at
 //!   once.
-//! - What is counted over a plane is counted in its numbers' bits, as a wider sum would halve what a vector instruction
-//!   does: of bytes 192 at a time, each time added into 32 bits, of others all, as they can count more nodes than there
-//!   may be.
 //! - What goes over the same planes goes in one loop: to take numbers and to raise the greatest ones, to count what is
 //!   behind and to lower the least. Where tables are large, each pass waits for memory.
 //! - Where all comes, both ways go in one pass (`merge`). A number of one table that is above the other's greatest one
@@ -26,6 +23,6 @@ mod lags;
 mod merges;
 mod owners;
 
-pub use grids::{Masked, Sent, ahead, take, total_above, total_held, total_upto};
-pub use lags::{count_behind, least_behind, lower, lower_all};
+pub use grids::{Masked, Sent, ahead, take};
+pub use lags::{count_behind, least_behind, lower_all};
 pub use merges::{BothCounts, BothMarks, merge, most_ahead, raise_both};

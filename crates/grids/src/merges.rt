@@ -5,11 +5,12 @@ ghost use Rattle.bench_types.specs.declared.limits.TheConstants.{MOST_NODES, MOS
 ghost use Rattle.planes.specs.Elementwise.{AreChanged};
 ghost use Rattle.planes.specs.Planes.{most_ahead};
 ghost use Rattle.grids.specs.Grids.{AreBothCovered, AreBothRaised};
-ghost use Rattle.grids.specs.inner.Loops.{AreBothMarked, AreRaisedUpto, IsPart};
+ghost use Rattle.planes.specs.Loops.{IsPart};
+ghost use Rattle.grids.specs.inner.Loops.{AreBothMarked, AreRaisedUpto};
 
 use crate::owners;
 use crate::owners::FEW_TO_CHANGE;
-use planes::Number;
+use planes::{Number, are_few};
 
 /// A number for what comes to the first of two tables, and one for what comes to the second.
 #[derive(Clone, Copy)]
@@ -135,8 +136,8 @@ pub fn merge<N: Number>(first: &mut [N], second: &mut [N], marks: BothMarks<N>) 
     requires marked { AreBothCovered N.number marks first.old second.old }
     ensures { AreBothRaised N.number marks.entry first.old second.old first.new second.new result }
 {
-    if owners::are_few(marks.keys, marks.first, marks.second, FEW_TO_CHANGE)
-        && owners::are_few(marks.keys, marks.second, marks.first, FEW_TO_CHANGE)
+    if are_few(marks.keys, marks.first, marks.second, FEW_TO_CHANGE)
+        && are_few(marks.keys, marks.second, marks.first, FEW_TO_CHANGE)
     {
         return owners::merge_owners(first, second, marks);
     }

@@ -1,3 +1,4 @@
 pub mod Elementwise
 pub mod Planes
 pub mod Loops
+pub mod Owners

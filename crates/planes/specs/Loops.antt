@@ -1,5 +1,5 @@
 -- What loops over planes make of what a closure answers. Source: this project.
-use Rattle.std.specs.Prelude.{◌≡◌, ◌⊎◌, ℕ, ◌<◌, ◌≤◌, Bool, List, if◌then◌else◌}
+use Rattle.std.specs.Prelude.{◌≡◌, ◌⊎◌, ℕ, ◌+◌, ◌<◌, ◌≤◌, Bool, List, if◌then◌else◌}
 use Rattle.bench_types.specs.Sums.{sum_below}
 use Rattle.planes.specs.Elementwise.{AreChangedUpto}
 
@@ -27,3 +27,13 @@ pub record AreCountedUpto (changed : ℕ → ℕ → ℕ → Type 0) (test : ℕ
     (bound passed : ℕ) : Type 0 where
   pub numbers : AreChangedUpto changed old new bound
   pub count : passed ≡ count_passing bound test
+
+-- so many numbers from one on are a part of all, and a number can count them
+pub record IsPart (most whole from size : ℕ) : Type 0 where
+  pub within : from + size ≤ whole
+  pub few : size ≤ most
+
+-- each answer for an owner below a bound is that of a test of owner and number
+abbrev pub AnswersAs : {N : Type 0} → (N → ℕ) → (ℕ → N → Bool → Type 0) → ℕ → (ℕ → ℕ → Bool) → Type 0
+AnswersAs {N} number answers bound test =
+    (r : ℕ) (n : N) (passes : Bool) → r < bound → answers r n passes → passes ≡ test r (number n)

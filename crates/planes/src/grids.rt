@@ -3,10 +3,11 @@
 
 ghost use Rattle.std.specs.Prelude.{◌≡◌, ℕ, ◌+◌, ◌*◌, ◌<◌, ◌≤◌, ◌&&◌, Bool, length, map, max, nat_le, nat_lt, slice_index, IfOk, IsOkUnless, if◌then◌else◌};
 ghost use Rattle.bench_types.specs.declared.faults.Fault.TheVariants.{OutOfMemory};
-ghost use Rattle.planes.specs.Planes.{cell, count_above, count_between, HasEach, IsGrid, IsNextAbove};
-ghost use Rattle.planes.specs.Loops.{IsLeastOf};
+ghost use Rattle.planes.specs.Planes.{cell, count_above, count_between, total_above, total_of, AreCovered, HasEach, IsGrid, IsNextAbove};
+ghost use Rattle.planes.specs.Loops.{AnswersAs, IsLeastOf};
 
 use crate::numbers::Number;
+use crate::owners::{FEW_TO_COUNT, are_few, total_owners_above};
 use crate::planes;
 use bench_types::Fault;
 use std::alloc::Global;
@@ -155,5 +156,64 @@ pub fn least_above<N: Number>(
         nodes,
         keys,
         |at, r| planes::pick(cells[at].is_above(low[r]), cells[at], N::greatest()),
+    )
+}
+
+fn total<N: Number, F: Fn(usize, N) -> bool>(
+    cells: &[N],
+    nodes: usize,
+    keys: usize,
+    passes: F,
+) -> u32
+    requires grid { IsGrid nodes keys (length cells.now) }
+    requires passes { (r : ℕ) (n : N) → r < nodes → F.pre passes r n }
+    ensures { (test : ℕ → ℕ → Bool) → AnswersAs N.number (F.post passes) nodes test
+        → result ≡ total_of nodes keys (λ r k. test r (cell (map N.number cells.now) nodes r k)) }
+{
+    let mut total = 0;
+    for key in 0..keys {
+        let plane = plane_of(cells, nodes, key);
+        total += planes::how_many(plane, &passes);
+    }
+    total
+}
+
+/// How many numbers are above their owners' marks, where none is above its owner's high mark. It goes over all planes,
+/// or where only few owners' marks differ and there are many keys, over the keys of these owners.
+pub fn total_above<N: Number>(cells: &[N], nodes: usize, keys: usize, low: &[N], high: &[N]) -> u32
+    requires grid { IsGrid nodes keys (length cells.now) }
+    requires low { length low.now ≡ nodes }
+    requires high { length high.now ≡ nodes }
+    requires covered { AreCovered nodes keys (map N.number cells.now) (map N.number high.now) }
+    ensures { result ≡ total_above nodes keys (map N.number cells.now) (map N.number low.now) }
+{
+    if are_few(keys, low, high, FEW_TO_COUNT) {
+        return total_owners_above(cells, nodes, keys, low, high);
+    }
+    total(cells, nodes, keys, |r, number| number.is_above(low[r]))
+}
+
+/// How many numbers are not 0.
+pub fn total_held<N: Number>(cells: &[N], nodes: usize, keys: usize) -> u32
+    requires grid { IsGrid nodes keys (length cells.now) }
+    ensures { result ≡ total_of nodes keys (λ r k. nat_lt 0 (cell (map N.number cells.now) nodes r k)) }
+{
+    total(cells, nodes, keys, |_, number| number.is_above(N::zero()))
+}
+
+/// How many numbers are not 0 and up to their owners' marks.
+pub fn total_upto<N: Number>(cells: &[N], nodes: usize, keys: usize, high: &[N]) -> u32
+    requires grid { IsGrid nodes keys (length cells.now) }
+    requires high { length high.now ≡ nodes }
+    ensures { result ≡ total_of nodes keys (λ r k. nat_lt 0 (cell (map N.number cells.now) nodes r k)
+        && nat_le (cell (map N.number cells.now) nodes r k) (slice_index (map N.number high.now) r)) }
+{
+    total(
+        cells,
+        nodes,
+        keys,
+        |r, number|
+            requires { r < length high.now }
+        { planes::is_between(number, N::zero(), high[r]) },
     )
 }

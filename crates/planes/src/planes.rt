@@ -1,8 +1,9 @@
 //! Loops over planes: for each owner one number.
 
-ghost use Rattle.std.specs.Prelude.{◌≡◌, ℕ, ◌+◌, ◌<◌, ◌≤◌, ◌&&◌, Bool, List, length, map, max, nat_le, nat_lt, slice_index, if◌then◌else◌};
+ghost use Rattle.std.specs.Prelude.{◌≡◌, ℕ, ◌+◌, ◌<◌, ◌≤◌, ◌&&◌, Bool, List, length, map, max, min, nat_le, nat_lt, slice_index, if◌then◌else◌};
+ghost use Rattle.bench_types.specs.declared.limits.TheConstants.{MOST_NODES};
 ghost use Rattle.planes.specs.Elementwise.{AreChanged};
-ghost use Rattle.planes.specs.Loops.{IsMade};
+ghost use Rattle.planes.specs.Loops.{AnswersAs, IsMade, IsPart, count_passing};
 
 use crate::numbers::Number;
 
@@ -36,4 +37,64 @@ pub fn change<N: Number, F: Fn(usize, N) -> N>(numbers: &mut [N], to: F)
     for r in 0..numbers.len() {
         numbers[r] = to(r, numbers[r]);
     }
+}
+
+/// Lowers each owner's number to the one in a plane.
+pub fn lower<N: Number>(least: &mut [N], plane: &[N])
+    requires plane { length plane.now ≡ length least.old }
+    ensures least { AreChanged (λ r x y. y ≡ min x (slice_index (map N.number plane.now) r))
+        (map N.number least.old) (map N.number least.new) }
+{
+    change(least, |r, number| number.min_with(plane[r]));
+}
+
+/// How many numbers of a plane pass a test of owner and number.
+pub fn how_many<N: Number, F: Fn(usize, N) -> bool>(plane: &[N], passes: F) -> u32
+    requires room { length plane.now ≤ MOST_NODES }
+    requires passes { (r : ℕ) (n : N) → r < length plane.now → F.pre passes r n }
+    ensures upto { result ≤ length plane.now }
+    ensures count { (test : ℕ → ℕ → Bool) → AnswersAs N.number (F.post passes) (length plane.now) test
+        → result ≡ count_passing (length plane.now)
+        (λ r. test r (slice_index (map N.number plane.now) r)) }
+{
+    let size = N::at_a_time();
+    let mut count = 0;
+    let mut from = 0;
+    while plane.len() - from >= size {
+        count += how_many_of(plane, from, size, &passes);
+        from += size;
+    }
+    let rest = plane.len() - from;
+    count + how_many_of(plane, from, rest, &passes)
+}
+
+fn how_many_of<N: Number, F: Fn(usize, N) -> bool>(
+    plane: &[N],
+    from: usize,
+    size: usize,
+    passes: F,
+) -> u32
+    requires part { IsPart N.most (length plane.now) from size }
+    requires passes { (r : ℕ) (n : N) → r < length plane.now → F.pre passes r n }
+    ensures upto { result ≤ size }
+    ensures count { (test : ℕ → ℕ → Bool) → AnswersAs N.number (F.post passes) (length plane.now) test
+        → (count : ℕ) → count ≡ count_passing from (λ r. test r (slice_index (map N.number plane.now) r))
+        → count + result ≡ count_passing (from + size) (λ r. test r (slice_index (map N.number plane.now) r)) }
+{
+    let mut count = N::zero();
+    for i in 0..size {
+        let r = from + i;
+        count = count.plus(passes(r, plane[r]));
+    }
+    count.widen()
+}
+
+/// How many numbers of a plane are above their owners' marks.
+pub fn how_many_above<N: Number>(plane: &[N], low: &[N]) -> u32
+    requires low { length low.now ≡ length plane.now }
+    requires room { length plane.now ≤ MOST_NODES }
+    ensures { result ≡ count_passing (length plane.now)
+        (λ r. nat_lt (slice_index (map N.number low.now) r) (slice_index (map N.number plane.now) r)) }
+{
+    how_many(plane, |r, number| number.is_above(low[r]))
 }

@@ -12,8 +12,8 @@ ghost use Rattle.version_lags.specs.Pieces.{AreGrids, AreRoundNumbers, Counts, M
 
 use bench_types::{Fault, Figures};
 use owner_writes::OwnerWrites;
-use grids::{count_behind, least_behind, lower_all, total_upto};
-use planes::{Ends, Number};
+use grids::{count_behind, least_behind, lower_all};
+use planes::{Ends, Number, total_upto};
 use rayon::join;
 use round_tables::Hands;
 use std::alloc::Global;

@@ -171,7 +171,7 @@ fn either<'a, N: Number, H: Written>(
             let nodes = sender.nodes() as usize;
             let keys = sender.keys() as usize;
             let cells = sender.cells();
-            let found = grids::total_above(cells, nodes, keys, low, sender.greatest());
+            let found = planes::total_above(cells, nodes, keys, low, sender.greatest());
             Offered { cells, low, found }
         }
         DigestKind::Precise => Offered {

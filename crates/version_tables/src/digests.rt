@@ -16,7 +16,7 @@ pub(crate) fn digest_size<N: Number, H: Written>(table: &VersionTable<N, H>, mod
 {
     let nodes = table.nodes as usize;
     match mode.digest_kind() {
-        DigestKind::Scuttle => grids::total_held(&table.greatest, nodes, 1),
-        DigestKind::Precise => grids::total_held(&table.cells, nodes, table.keys as usize),
+        DigestKind::Scuttle => planes::total_held(&table.greatest, nodes, 1),
+        DigestKind::Precise => planes::total_held(&table.cells, nodes, table.keys as usize),
     }
 }

@@ -45,7 +45,7 @@ fn all_ahead_fits<N: Number, H: Written>(
     if surely_fit(budget, most) {
         return true;
     }
-    let count = grids::total_above(from.cells(), nodes, keys, to.greatest(), from.greatest());
+    let count = planes::total_above(from.cells(), nodes, keys, to.greatest(), from.greatest());
     surely_fit(budget, count)
 }
 
@@ -71,7 +71,7 @@ fn is_current<N: Number, H: Written>(
     ensures { IsTrue result ↔ AreCurrent (bases_in histories.now.lists) table.now }
 {
     let nodes = table.nodes() as usize;
-    grids::total_upto(table.greatest(), nodes, 1, histories.bases()) == 0
+    planes::total_upto(table.greatest(), nodes, 1, histories.bases()) == 0
 }
 
 // Most often no owner has forgotten, which one fast loop tells.
@@ -85,7 +85,7 @@ fn are_current<N: Number, H: Written>(
         × AreCurrent (bases_in histories.now.lists) responder.now) }
 {
     let nodes = initiator.nodes() as usize;
-    if grids::total_held(histories.bases(), nodes, 1) == 0 {
+    if planes::total_held(histories.bases(), nodes, 1) == 0 {
         return true;
     }
     is_current(initiator, histories) && is_current(responder, histories)

@@ -72,7 +72,7 @@ fn drop_older<N: Number>(
         (map N.number cells.old) (map N.number cells.new) }
 {
     let Owners { lists, bases } = owners;
-    if grids::total_upto(before, nodes, 1, bases) == 0 {
+    if planes::total_upto(before, nodes, 1, bases) == 0 {
         return;
     }
     for owner in 0..nodes {

@@ -1,19 +1,7 @@
 -- One owner's numbers, key by key. Source: this project.
-use Rattle.std.specs.Prelude.{◌≡◌, ℕ, ◌<◌, ◌==◌, List, length, map, if◌then◌else◌}
-use Rattle.planes.specs.Planes.{cell, count_above, number_raised, number_taken, AreCovered, ArePlanesChanged, IsGrid, IsRaised}
+use Rattle.std.specs.Prelude.{◌≡◌, ℕ, ◌==◌, List, map, if◌then◌else◌}
+use Rattle.planes.specs.Planes.{cell, count_above, number_raised, number_taken, ArePlanesChanged, IsRaised}
 use Rattle.grids.specs.declared.grids.Sent.{Sent}
-
--- a table, of which no number is above its owner's high mark
-pub record IsMarked {N : Type 0} (number : N → ℕ) (nodes keys : ℕ) (cells low high : List N) : Type 0 where
-  pub grid : IsGrid nodes keys (length cells)
-  pub low_count : length low ≡ nodes
-  pub high_count : length high ≡ nodes
-  pub covered : AreCovered nodes keys (map number cells) (map number high)
-
--- an owner of a table of a size
-pub record IsOwnerOf (nodes keys owner size : ℕ) : Type 0 where
-  pub grid : IsGrid nodes keys size
-  pub within : owner < nodes
 
 -- an owner's numbers once they were raised to those of another table that are above a mark, and so many are
 pub record HasRaisedOwner {N : Type 0} (number : N → ℕ) (nodes keys owner : ℕ) (others : List N) (low : N)

@@ -1,6 +1,6 @@
-use Rattle.grids.proofs.Common.{rules, nat_lt, slice_index, map}
+use Rattle.planes.proofs.Common.{rules, nat_lt, slice_index, map}
 use Rattle.planes.proofs.Elementwise.{number-at}
-use Rattle.grids.proofs.counts.how_many_above.Goals as goal
+use Rattle.planes.proofs.planes.how_many_above.Goals as goal
 
 pub returns : goal.returns
 returns g c = c.how_many.ensures.count (λ r n. nat_lt (slice_index (map g.N.Number.number c.args.low.now) r) n) (λ r n passes lt answer. search (rules, number-at g.N.Number.number c.args.low.now r))

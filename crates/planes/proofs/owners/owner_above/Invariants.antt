@@ -1,5 +1,5 @@
-use Rattle.grids.proofs.Common.{◌≡◌, map, cell, count_above}
-use Rattle.grids.proofs.owners.owner_above.Given as goal
+use Rattle.planes.proofs.Common.{◌≡◌, map, cell, count_above}
+use Rattle.planes.proofs.owners.owner_above.Given as goal
 
 abbrev pub invariant-loop-key : goal.invariant-loop-key
 invariant-loop-key g l = l.count ≡ count_above (cell (map g.N.Number.number l.cells) l.nodes) l.key l.owner (g.N.Number.number l.low)

@@ -1,8 +1,8 @@
-use Rattle.grids.proofs.Common.{sym, slice_index, ◌∙◌, arith, map, ltb-false, cell}
+use Rattle.planes.proofs.Common.{sym, slice_index, ◌∙◌, arith, map, ltb-false, cell}
 use Rattle.planes.proofs.Elementwise.{number-at}
-use Rattle.grids.proofs.ByOwner.{owner_counted, owner_passed, owners-fit}
-use Rattle.grids.proofs.owners.total_owners_above.Goals as goal
-use Rattle.grids.proofs.owners.total_owners_above.Goals.{then-is_above, else-is_above}
+use Rattle.planes.proofs.FewOwners.{owner_counted, owner_passed, owners-fit}
+use Rattle.planes.proofs.owners.total_owners_above.Goals as goal
+use Rattle.planes.proofs.owners.total_owners_above.Goals.{then-is_above, else-is_above}
 
 pub loop-owner-preserved : goal.loop-owner-preserved
 loop-owner-preserved g c =

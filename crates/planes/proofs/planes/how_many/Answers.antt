@@ -1,6 +1,6 @@
-use Rattle.grids.proofs.Common.{refl, arith}
+use Rattle.planes.proofs.Common.{refl, arith}
 use Rattle.planes.proofs.Counts.{count_same}
-use Rattle.grids.proofs.counts.how_many.Goals as goal
+use Rattle.planes.proofs.planes.how_many.Goals as goal
 
 pub loop-from-preserved : goal.loop-from-preserved
 loop-from-preserved g c = record {

@@ -1,6 +1,6 @@
-use Rattle.grids.proofs.Common.{◌<◌, min, slice_index, arith, length, map, rules, length-map}
+use Rattle.planes.proofs.Common.{◌<◌, min, slice_index, arith, length, map, rules, length-map}
 use Rattle.planes.proofs.Elementwise.{made-as, number-at}
-use Rattle.grids.proofs.lags.lower.Goals as goal
+use Rattle.planes.proofs.planes.lower.Goals as goal
 
 pub returns : goal.returns
 returns g c = record {

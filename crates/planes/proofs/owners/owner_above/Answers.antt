@@ -1,8 +1,8 @@
-use Rattle.grids.proofs.Common.{◌≡◌, ◌+◌, ◌*◌, nat_lt, ◌∙◌, arith, rules, map, length, if◌then◌else◌, cell}
+use Rattle.planes.proofs.Common.{◌≡◌, ◌+◌, ◌*◌, nat_lt, ◌∙◌, arith, rules, map, length, if◌then◌else◌, cell}
 use Rattle.planes.proofs.Elementwise.{number-at}
 use Rattle.planes.proofs.Counts.{count_le, sum_next}
 use Rattle.planes.proofs.Places.{plane-within}
-use Rattle.grids.proofs.owners.owner_above.Goals as goal
+use Rattle.planes.proofs.owners.owner_above.Goals as goal
 
 pub loop-key-preserved : goal.loop-key-preserved
 loop-key-preserved g c =

@@ -1,7 +1,7 @@
-use Rattle.grids.proofs.Common.{◌≡◌, sym, ◌∙◌, ap, arith, length, map, length-map, cell}
+use Rattle.planes.proofs.Common.{◌≡◌, sym, ◌∙◌, ap, arith, length, map, length-map, cell}
 use Rattle.planes.proofs.Counts.{sum_next}
 use Rattle.planes.proofs.Places.{plane_count, total_whole}
-use Rattle.grids.proofs.grids.total.Goals as goal
+use Rattle.planes.proofs.grids.total.Goals as goal
 
 pub loop-key-preserved : goal.loop-key-preserved
 loop-key-preserved g c =

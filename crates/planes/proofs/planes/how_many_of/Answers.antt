@@ -1,7 +1,7 @@
-use Rattle.grids.proofs.Common.{ℕ, ◌+◌, ◌<◌, ◌∙◌, arith, ap, length, if◌then◌else◌}
+use Rattle.planes.proofs.Common.{ℕ, ◌+◌, ◌<◌, ◌∙◌, arith, ap, length, if◌then◌else◌}
 use Rattle.planes.proofs.Elementwise.{number-at}
 use Rattle.planes.proofs.Counts.{one_le, count_next, count_same}
-use Rattle.grids.proofs.counts.how_many_of.Goals as goal
+use Rattle.planes.proofs.planes.how_many_of.Goals as goal
 
 pub loop-i-init : goal.loop-i-init
 loop-i-init g c = record { upto = omega (arith, c.zero-count.ensures); count = λ test is count before. count_same _ _ _ _ _ before (omega arith) (omega (arith, c.zero-count.ensures)) }

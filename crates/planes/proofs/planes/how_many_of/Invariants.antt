@@ -1,5 +1,5 @@
-use Rattle.grids.proofs.Common.{ℕ, ◌+◌, ◌≤◌, Bool, length, slice_index, map, AnswersAs, count_passing, ◌≡◌}
-use Rattle.grids.proofs.counts.how_many_of.Given as goal
+use Rattle.planes.proofs.Common.{ℕ, ◌+◌, ◌≤◌, Bool, length, slice_index, map, AnswersAs, count_passing, ◌≡◌}
+use Rattle.planes.proofs.planes.how_many_of.Given as goal
 
 abbrev pub invariant-loop-i : goal.invariant-loop-i
 invariant-loop-i g l = record {

@@ -1,5 +1,5 @@
-use Rattle.grids.proofs.Common.{◌≡◌, ℕ, ◌*◌, ◌≤◌, Bool, map, if◌then◌else◌, sum_below, cell, AnswersAs}
-use Rattle.grids.proofs.grids.total.Given as goal
+use Rattle.planes.proofs.Common.{◌≡◌, ℕ, ◌*◌, ◌≤◌, Bool, map, if◌then◌else◌, sum_below, cell, AnswersAs}
+use Rattle.planes.proofs.grids.total.Given as goal
 
 abbrev pub invariant-loop-key : goal.invariant-loop-key
 invariant-loop-key g l = record {

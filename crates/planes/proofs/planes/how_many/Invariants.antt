@@ -1,5 +1,5 @@
-use Rattle.grids.proofs.Common.{◌≡◌, ℕ, ◌-◌, ◌≤◌, Bool, length, slice_index, map, AnswersAs, count_passing}
-use Rattle.grids.proofs.counts.how_many.Given as goal
+use Rattle.planes.proofs.Common.{◌≡◌, ℕ, ◌-◌, ◌≤◌, Bool, length, slice_index, map, AnswersAs, count_passing}
+use Rattle.planes.proofs.planes.how_many.Given as goal
 
 abbrev pub invariant-loop-from : goal.invariant-loop-from
 invariant-loop-from g l = record {

@@ -1,5 +1,5 @@
-use Rattle.grids.proofs.Common.{◌≡◌, slice_index, map, sum_below, cell, count_above}
-use Rattle.grids.proofs.owners.total_owners_above.Given as goal
+use Rattle.planes.proofs.Common.{◌≡◌, slice_index, map, sum_below, cell, count_above}
+use Rattle.planes.proofs.owners.total_owners_above.Given as goal
 
 abbrev pub invariant-loop-owner : goal.invariant-loop-owner
 invariant-loop-owner g l =

@@ -1,6 +1,6 @@
-use Rattle.grids.proofs.Common.{rules, nat_lt, slice_index, map}
+use Rattle.planes.proofs.Common.{rules, nat_lt, slice_index, map}
 use Rattle.planes.proofs.Elementwise.{number-at}
-use Rattle.grids.proofs.grids.total_above.Goals as goal
+use Rattle.planes.proofs.grids.total_above.Goals as goal
 
 pub returns : goal.returns
 returns g c =

@@ -1,17 +1,17 @@
 -- The names of other libraries that these proofs cite, passed on from one place. Declares nothing.
 -- Serves most of the crate.
-pub use Rattle.std.proofs.Common.{All, Bool, Err, IfErr, IfOk, IfSome, List, None, Ok, Option, Result, Some, Vec, [], add-one, ap, arith, false, get_or, if◌then◌else◌, inl, inr, length, length-append, map, refl, replicate, rules, set, subst, suc, sym, take, true, vec_capacity, vec_len, zero, ℕ, ◌%◌, ◌++◌, ◌+◌, ◌-◌, ◌<◌, ◌||◌, ◌∙◌, ◌∷◌, ◌≡◌, ◌≢◌, ◌≤◌, ◌⊎◌}
+pub use Rattle.std.proofs.Common.{All, Bool, IfOk, IfSome, List, None, Ok, Option, Result, Some, Vec, [], add-one, ap, arith, drop, false, get_or, if◌then◌else◌, inl, inr, length, length-append, map, refl, rules, set, subst, suc, sym, take, true, vec_capacity, vec_len, zero, ℕ, ◌%◌, ◌++◌, ◌+◌, ◌-◌, ◌<◌, ◌||◌, ◌∙◌, ◌∷◌, ◌≡◌, ◌≢◌, ◌≤◌, ◌⊎◌}
 pub use Rattle.std.proofs.Math.Nat.{mod-lt}
-pub use Rattle.std.proofs.lemmas.Bool.{cases_Bool, cases_eq, cases_lt, false≢true}
+pub use Rattle.std.proofs.lemmas.Bool.{cases_Bool, cases_eq, cases_lt, or_right}
 pub use Rattle.std.proofs.lemmas.Bool.Decides.{nat_tests}
-pub use Rattle.std.proofs.lemmas.List.{append_assoc, get_or-append-add, get_or-map, get_or-set_other, get_or-set_same, get_or_append_left, length-map, length-replicate, length-set, map-append, map-set, same_lists, set-append_left, set-append_right, take_all, take_more}
+pub use Rattle.std.proofs.lemmas.List.{append_assoc, get_or-append-add, get_or-map, get_or-set_other, get_or-set_same, get_or_append_left, length-map, length-set, map-append, map-set, same_lists, set-append_left, set-append_right, take_all}
 pub use Rattle.std.proofs.lemmas.List.Elements.{All-append, All-cons, All-drop, All-head, All-nil, All-push, All-tail, All-take, All-weaker, Contains-append_left, Contains-append_right}
 pub use Rattle.std.proofs.lemmas.List.FromFn.{get_or-range_with_len, length-range_with_len}
 pub use Rattle.std.proofs.lemmas.List.Sums.{fold_more}
-pub use Rattle.std.proofs.lemmas.Option.{get_or_from_slice_get, slice_get_within}
+pub use Rattle.std.proofs.lemmas.Option.{get_or_from_slice_get}
 pub use Rattle.std.proofs.lemmas.Result.{IfOk-weaker, MatchResult-weaker}
 pub use Rattle.std.specs.List.{filter, range_with_len}
-pub use Rattle.std.specs.Prelude.{Contains, nat_le, slice_get}
+pub use Rattle.std.specs.Prelude.{Contains, MatchResult, nat_le, slice_get}
 pub use Rattle.std.specs.Vec.Iter.{into_iter_items, into_iter_len}
 pub use Rattle.std.specs.declared.alloc.Global.{Global}
 pub use Rattle.std.specs.declared.thread.PromisedHandle.{PromisedHandle}
@@ -22,17 +22,15 @@ pub use Rattle.board.proofs.Claimed.{now_held}
 pub use Rattle.board.proofs.Meeting.{may_be_exchanged}
 pub use Rattle.board.proofs.Releases.{successor_within}
 pub use Rattle.board.proofs.Returning.{may_be_put_back}
-pub use Rattle.board.proofs.Sums.{only-other, only-same, total-append, upto, upto-none, upto-one, upto-sum}
+pub use Rattle.board.proofs.Sums.{only-other, only-same, total-append}
 pub use Rattle.board.specs.Boards.{Among, AreLeft, HasMadeAll, IsHoldOf, IsMadeOf, IsPutBack, IsSeatOf, MayPutBack, plan_of, seat_view}
 pub use Rattle.board.specs.Laws.{IsCarriedOut}
 pub use Rattle.board.specs.Plan.{BoardPlan, exchanged_at, initiator_of, responder_of, table_at}
-pub use Rattle.board.specs.SeatView.{SeatView, joined}
+pub use Rattle.board.specs.SeatView.{ALL_PARTS, SeatView, joined}
 pub use Rattle.board.specs.Weights.{Has, only, times}
 pub use Rattle.board.specs.declared.boards.Board.{Board}
 pub use Rattle.board.specs.declared.boards.Freed.{Freed}
 pub use Rattle.board.specs.declared.boards.Hold.{Hold}
-pub use Rattle.collector.specs.Outcomes.{IsMissing, Outcomes, no_outcomes, with_outcome}
-pub use Rattle.collector.specs.declared.collectors.Stamped.{Stamped}
 pub use Rattle.crossbeam_deque.specs.Tasks.{Pushes, Takes}
 pub use Rattle.dependencies.proofs.Moves.{record_kept}
 pub use Rattle.dependencies.specs.Neighbours.{as_list, first_ready_of, is_first_ready, successors}

@@ -1,10 +1,15 @@
 -- Seats and records of workers, taken in one after another.
--- Serves `join_all`.
-use Rattle.workers.proofs.Common.{◌≡◌, ℕ, ◌≤◌, ◌⊎◌, Bool, true, false, ◌||◌, if◌then◌else◌, List, ◌∷◌, ◌++◌, length, map, All, inl, inr, refl, sym, ap, ◌∙◌, subst, arith, Result, Ok, Err, IfOk, Vec, nat_le, Global, nat_tests, map-append, All-append, All-head, All-tail, PromisedHandle, Fault, SeatView, joined, BoardPlan, exchanged_at, Board, Stamped}
-use Rattle.workers.specs.inner.Returns.{AreRecordsOf, HasNoMoreToDo}
-use Rattle.workers.specs.inner.Joined.{IsOfBoard, AreTogether, IsJoined}
+-- Serves `join_all` and `with_more`.
+use Rattle.workers.proofs.Common.{◌≡◌, ℕ, ◌+◌, ◌≤◌, ◌⊎◌, Bool, true, false, ◌||◌, if◌then◌else◌, List, ◌∷◌, ◌++◌, length, All, inl, inr, refl, sym, ap, ◌∙◌, subst, arith, Result, Ok, IfOk, MatchResult, OutOfMemory, Vec, nat_le, Global, nat_tests, cases_lt, or_right, All-head, All-tail, PromisedHandle, Fault, Table, SeatView, joined, BoardPlan, plan_of, seat_view, IsSeatOf, Board, Record, Has, times, only, total-append}
+use Rattle.workers.specs.declared.gathering.Stamped.{Stamped}
+use Rattle.workers.specs.inner.Stamps.{with_records}
+use Rattle.workers.specs.inner.Gathering.{HoldsRecords, HasGathered}
+use Rattle.workers.specs.inner.Returns.{AreRecordsOf, HasNoMoreToDo, IsReturned}
+use Rattle.workers.specs.inner.Joined.{IsOfBoard, HasTakenIn, HasTakenOneIn}
+use Rattle.workers.specs.declared.gathering.Gathered.{Gathered}
 use Rattle.workers.specs.declared.threads.Back.{Back}
 use Rattle.workers.specs.declared.workers.Returned.{Returned}
+use Rattle.workers.proofs.Gathered.{stands_written, length-with_records}
 
 -- the first of the handles that are left, and the rest
 pub first_of_board : {T : Type 0} (board : Board T) (left rest : List (PromisedHandle (Returned T) (Back T))) (h : PromisedHandle (Returned T) (Back T)) → All (IsOfBoard board) left → left ≡ h ∷ rest → IsOfBoard board h × All (IsOfBoard board) rest
@@ -15,40 +20,66 @@ first_of_board board left rest h all is =
 greater_right : (a b : ℕ) → b ≤ (if nat_le a b then b else a)
 greater_right a b = grind (arith, nat_tests)
 
-or_true : (b : Bool) → (b || true) ≡ true
-or_true true = refl
-or_true false = refl
-
 or_false : (b : Bool) → (b || false) ≡ b
 or_false true = refl
 or_false false = refl
 
-module _ (plan : BoardPlan) (workers : ℕ) (start old part : SeatView) where
-  abbrev IsSent : Stamped → Type 0
-  IsSent s = s.outcome ≡ (exchanged_at plan s.index).sent
-
+module _ (plan : BoardPlan) (old part : SeatView) where
   ends_joined : HasNoMoreToDo plan part → (length plan.list.exchanges ≤ (joined old part).seen) ⊎ ((joined old part).is_stopped ≡ true)
   ends_joined no_more = elim no_more.ends [
     | inl seen ↦ inl (omega (arith, greater_right old.seen part.seen, seen))
-    | inr stopped ↦ inr (ap (λ b. old.is_stopped || b) stopped ∙ or_true old.is_stopped)
+    | inr stopped ↦ inr (or_right old.is_stopped part.is_stopped stopped)
   ]
 
-  joined_one : (k : ℕ) (one other : List Stamped) → IsJoined plan k start old one → AreRecordsOf plan part other → HasNoMoreToDo plan part → IsJoined plan workers start (joined old part) (one ++ other)
-  joined_one k one other so_far records no_more = record {
-    records = record {
-      made = map-append (λ (s : Stamped). s.index) one other ∙ ap (λ l. l ++ map (λ (s : Stamped). s.index) other) so_far.records.made ∙ ap (λ l. old.made ++ l) records.made;
-      sent = All-append IsSent one other so_far.records.sent records.sent;
-    };
-    halted = ap (λ b. old.is_halted || b) no_more.unhalted ∙ or_false old.is_halted ∙ so_far.halted;
-    ends = λ some. ends_joined no_more;
+  -- the records of both
+  holds_joined : (records : List Record) (stamps : List Stamped) → HoldsRecords plan old.made records → AreRecordsOf plan part stamps → HoldsRecords plan (old.made ++ part.made) (with_records records stamps)
+  holds_joined records stamps holds more = record {
+    size = length-with_records records stamps ∙ holds.size;
+    each = λ i has. stands_written plan records stamps i holds.size more.each (elim (cases_lt 0 (times i old.made)) [
+      | inl before ↦ inl (holds.each i before)
+      | inr none ↦ inr (subst (λ made. Has made i) (sym more.made) (omega (arith, has, none, total-append (only i) old.made part.made)))
+    ]);
   }
 
-  pub joined_more : (k : ℕ) (all more both : Result (Vec Stamped Global) Fault) → IfOk all (λ stamps. IsJoined plan k start old stamps.items)
-      → IfOk more (λ stamps. AreRecordsOf plan part stamps.items × HasNoMoreToDo plan part)
-      → IfOk both (AreTogether all more)
-      → IfOk both (λ stamps. IsJoined plan workers start (joined old part) stamps.items)
-  joined_more k all more (Err fault) so_far returned together = tt
-  joined_more k all more (Ok stamps) so_far returned (one, other, first, second, items) =
-      let before = subst (λ r. IfOk r (λ stamps. IsJoined plan k start old stamps.items)) first so_far in
-      let next = subst (λ r. IfOk r (λ stamps. AreRecordsOf plan part stamps.items × HasNoMoreToDo plan part)) second returned in
-      subst (IsJoined plan workers start (joined old part)) (sym items) (joined_one k one.items other.items before next.0 next.1)
+module _ {T : Type 0} (table : T → Table) (board : Board T) where
+  pub gathered_in : (before : Result (Gathered T) Fault) (old : Gathered T) → before ≡ Ok old → MatchResult before (HasGathered table board) (λ f. f ≡ OutOfMemory) → HasGathered table board old
+  gathered_in before old was all = subst (λ r. MatchResult r (HasGathered table board) (λ f. f ≡ OutOfMemory)) was all
+
+  pub returned_records : (returned : Returned T) (stamps : Vec Stamped Global) → IsReturned table board 1 returned → returned.outcome ≡ Ok stamps → AreRecordsOf (plan_of table board) (seat_view returned.seat) stamps.items
+  returned_records returned stamps back was =
+      (subst (λ r. IfOk r (λ (v : Vec Stamped Global). AreRecordsOf (plan_of table board) (seat_view returned.seat) v.items × HasNoMoreToDo (plan_of table board) (seat_view returned.seat))) was back.records).0
+
+  pub taken_none : (n : ℕ) (g : Gathered T) → n ≡ 0 → HasGathered table board g → HasTakenIn table board n g g
+  taken_none n g none is = record {
+    gathered = is;
+    parts = omega arith;
+    halted = refl;
+    ends = λ some. absurd (omega (arith, some, none));
+  }
+
+  pub taken_more : (k n : ℕ) (start : Gathered T) (before : Result (Gathered T) Fault) (new : Gathered T) → n ≡ k + 1 → IfOk before (HasTakenIn table board k start) → HasTakenOneIn table board before new → HasTakenIn table board n start new
+  taken_more k n start before new next so_far one =
+      let old = subst (λ r. IfOk r (HasTakenIn table board k start)) one.was so_far in
+      record {
+        gathered = one.joined.gathered;
+        parts = omega (arith, next, one.joined.parts, old.parts);
+        halted = one.joined.halted ∙ old.halted;
+        ends = λ some. one.joined.ends (omega arith);
+      }
+
+  pub taken_one : (old new : Gathered T) (returned : Returned T) (stamps : Vec Stamped Global) → HasGathered table board old → IsReturned table board 1 returned → returned.outcome ≡ Ok stamps
+      → IsSeatOf table new.seat board → seat_view new.seat ≡ joined (seat_view old.seat) (seat_view returned.seat) → new.records.items ≡ with_records old.records.items stamps.items → HasTakenIn table board 1 old new
+  taken_one old new returned stamps is back was of_board same written =
+      let plan = plan_of table board in
+      let part = seat_view returned.seat in
+      let came = subst (λ r. IfOk r (λ stamps. AreRecordsOf plan part stamps.items × HasNoMoreToDo plan part)) was back.records in
+      record {
+        gathered = record {
+          of_board = of_board;
+          records = subst (λ (v : SeatView). HoldsRecords plan v.made new.records.items) (sym same)
+              (subst (HoldsRecords plan (joined (seat_view old.seat) part).made) (sym written) (holds_joined plan (seat_view old.seat) part old.records.items stamps.items is.records came.0));
+        };
+        parts = ap (λ (v : SeatView). v.parts) same ∙ ap (λ n. (seat_view old.seat).parts + n) back.same_parts;
+        halted = ap (λ (v : SeatView). v.is_halted) same ∙ ap (λ b. (seat_view old.seat).is_halted || b) came.1.unhalted ∙ or_false (seat_view old.seat).is_halted;
+        ends = λ some. subst (λ (v : SeatView). (length plan.list.exchanges ≤ v.seen) ⊎ (v.is_stopped ≡ true)) (sym same) (ends_joined plan (seat_view old.seat) part came.1);
+      }

@@ -2,7 +2,7 @@ pub mod Moves
 pub mod Holds
 pub mod Pairs
 pub mod Turns
-pub mod Collecting
+pub mod Gathered
 pub mod Joining
 pub mod Ordered
 pub mod Dealing

@@ -1,4 +1,5 @@
 pub mod Turns
+pub mod Stamps
 pub mod Gathering
 pub mod Joined
 pub mod Starts

@@ -4,7 +4,7 @@
 //! # Choices
 //!
 //! - A worker keeps its records to itself until it ends. Nothing is shared but the board, the deques and what is only
-//!   read. So an exchange takes no lock, and a record is copied twice at the end: into one list, and into list order.
+//!   read. So an exchange takes no lock, and a record is copied once at the end, to its place in list order.
 //! - The length of the list reaches the rule of a deque by a type, `Limit`, since a rule of `crossbeam_deque` has no
 //!   value to read. The one call that starts the workers picks it.
 //! - That a thread couldn't start goes before all else, and a function of three lines has that as its contract

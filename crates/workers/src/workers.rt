@@ -7,9 +7,9 @@ ghost use Rattle.board.specs.Boards.{plan_of, seat_view, IsSeatOf, IsHoldOf};
 
 use crate::deques::{Limit, Tasks};
 use crate::gates::Gate;
+use crate::gathering::Stamped;
 use bench_types::{Fault, Rules};
 use board::{Board, Claim, Freed, Hold, Seat};
-use collector::Stamped;
 use crossbeam_utils::Backoff;
 use model::{Exchanging, MemoryTable, RoundList};
 use std::alloc::Global;

@@ -8,17 +8,22 @@ use Rattle.board.specs.Boards.{plan_of, seat_view, IsSeatOf, IsPutBack}
 use Rattle.board.specs.declared.boards.Board.{Board}
 use Rattle.board.specs.declared.boards.Freed.{Freed}
 use Rattle.board.specs.declared.boards.Seat.{Seat}
-use Rattle.collector.specs.declared.collectors.Stamped.{Stamped}
+use Rattle.workers.specs.declared.gathering.Stamped.{Stamped}
 use Rattle.workers.specs.declared.workers.Returned.{Returned}
 
 -- what was made ready stands in the list
 abbrev pub AreOfList : BoardPlan → Freed → Type 0
 AreOfList plan freed = IfSome freed.first (λ j. j < length plan.list.exchanges) × IfSome freed.second (λ j. j < length plan.list.exchanges)
 
--- an exchange was put back, and its record is the one of list order
+-- the record that an exchange of the list has in list order
+pub record IsRecordOf (plan : BoardPlan) (stamped : Stamped) : Type 0 where
+  pub within : stamped.index < length plan.list.exchanges
+  pub sent : stamped.outcome ≡ (exchanged_at plan stamped.index).sent
+
+-- an exchange was put back, and this is its record
 pub record HasDone (plan : BoardPlan) (old : SeatView) (i : ℕ) (stamped : Stamped) (freed : Freed) (new : SeatView) : Type 0 where
   pub index : stamped.index ≡ i
-  pub sent : stamped.outcome ≡ (exchanged_at plan i).sent
+  pub stamp : IsRecordOf plan stamped
   pub put_back : IsPutBack plan old i freed new
   pub of_list : AreOfList plan freed
 
@@ -38,10 +43,10 @@ pub record IsFreshSeat {T : Type 0} (table : T → Table) (board : Board T) (sea
   pub made : (seat_view seat).made ≡ []
   pub unhalted : (seat_view seat).is_halted ≡ false
 
--- the record that each of its exchanges has in list order, in the order in which the seat put them back
+-- the records of its exchanges, in the order in which the seat put them back
 pub record AreRecordsOf (plan : BoardPlan) (v : SeatView) (stamps : List Stamped) : Type 0 where
   pub made : map (λ s. s.index) stamps ≡ v.made
-  pub sent : All (λ s. s.outcome ≡ (exchanged_at plan s.index).sent) stamps
+  pub each : All (IsRecordOf plan) stamps
 
 abbrev pub HasRecords : {T : Type 0} → (T → Table) → Board T → Seat T → List Stamped → Type 0
 HasRecords table board seat stamps = AreRecordsOf (plan_of table board) (seat_view seat) stamps

@@ -22,7 +22,10 @@ returns-clause-done g c =
     let shop = c.args.self.now in
     let plan = plan_of g.T.MemoryTable.table shop.board.now in record {
       index = refl;
-      sent = sent_in_order g.T.MemoryTable.table g.X.Exchanging.fits shop c.requires.shop c.exchanges.result.now c.exchanges.ensures.value c.args.hold c.requires.hold c.exchange.new.initiator c.exchange.new.responder c.in_ok-outcome.outcome c.in_ok-outcome.ensures.ok;
+      stamp = record {
+        within = c.requires.seat.within c.args.hold.index c.requires.held;
+        sent = sent_in_order g.T.MemoryTable.table g.X.Exchanging.fits shop c.requires.shop c.exchanges.result.now c.exchanges.ensures.value c.args.hold c.requires.hold c.exchange.new.initiator c.exchange.new.responder c.in_ok-outcome.outcome c.in_ok-outcome.ensures.ok;
+      };
       put_back = c.put_back-freed.ensures.put_back;
       of_list = freed_in_list plan c.args.hold.index (c.requires.seat.within c.args.hold.index c.requires.held) (seat_view c.args.seat.now) c.put_back-freed.result (seat_view c.put_back-freed.new.seat) c.put_back-freed.ensures.put_back;
     }

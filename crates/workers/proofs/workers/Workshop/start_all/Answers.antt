@@ -1,4 +1,4 @@
-use Rattle.workers.proofs.Common.{◌≡◌, length, vec_len, refl, sym, ap, subst, ◌∙◌, arith, All, All-push}
+use Rattle.workers.proofs.Common.{sym, ap, subst, ◌∙◌, arith, All, All-push}
 use Rattle.workers.specs.inner.Joined.{IsOfBoard}
 use Rattle.workers.proofs.workers.Workshop.start_all.Goals as goal
 
@@ -15,20 +15,9 @@ loop-own-preserved g c =
         made = ap (λ v. v.made) split.left ∙ so_far.seat.made;
         unhalted = ap (λ v. v.is_halted) split.left ∙ so_far.seat.unhalted;
       };
-      parts = omega (arith, so_far.parts, so_far.count, steps.1, pushed.len, ap (λ v. v.parts) split.left, c.requires.parts, c.into_iter-own-iterator.ensures.into_iter_gives.1);
+      parts = omega (arith, so_far.parts, so_far.count, steps.1, pushed.len, ap (λ v. v.parts) split.left, c.requires.start.several, c.into_iter-own-iterator.ensures.into_iter_gives.1);
       count = omega (arith, so_far.count, steps.1, pushed.len);
-      room = pushed.capacity ∙ so_far.room;
+      room = omega (arith, pushed.capacity, so_far.room);
       promised = subst (All (IsOfBoard board)) (sym pushed.items)
           (All-push (IsOfBoard board) c.loop-own.handles.items c.in-Ok.handle so_far.promised (ap (λ p. p.0.value) c.in-Ok.ensures.ok ∙ c.of.ensures));
-    }
-
-pub loop-own-init : goal.loop-own-init
-loop-own-init g c =
-    let empty : vec_len c.args.handles.now ≡ 0 = omega (arith, ap length c.requires.none, c.args.handles.now.ok.0) in
-    record {
-      seat = c.requires.seat;
-      parts = omega (arith, empty);
-      count = omega (arith, empty);
-      room = refl;
-      promised = λ k d lt. absurd (omega (arith, lt, ap length c.requires.none));
     }

@@ -1,6 +1,7 @@
-use Rattle.workers.proofs.Common.{◌≡◌, ℕ, List, [], ◌∷◌, ◌++◌, map, All, sym, ap, ◌∙◌, subst, arith, append_assoc, map-append, All-append, All-cons, SeatView, BoardPlan, exchanged_at, Freed, Stamped, as_list, plan_of, seat_view, now_held}
+use Rattle.workers.proofs.Common.{◌≡◌, ℕ, List, [], ◌∷◌, ◌++◌, map, All, sym, ap, ◌∙◌, subst, append_assoc, map-append, All-push, SeatView, BoardPlan, Freed, as_list, plan_of, seat_view, now_held}
+use Rattle.workers.specs.declared.gathering.Stamped.{Stamped}
 use Rattle.workers.specs.inner.Pushes.{pushed}
-use Rattle.workers.specs.inner.Returns.{HasDone, AreRecordsOf}
+use Rattle.workers.specs.inner.Returns.{HasDone, IsRecordOf, AreRecordsOf}
 use Rattle.workers.proofs.workers.Workshop.try_one.Goals as goal
 
 -- with one more, after a claim that leaves what was made
@@ -14,9 +15,7 @@ one_more_record plan old claimed new stamps more i stamped freed same pushed so_
       ∙ ap (λ l. l ++ stamped.index ∷ []) (so_far.made ∙ sym same)
       ∙ ap (λ j. claimed.made ++ j ∷ []) done.index
       ∙ sym (ap (λ (v : SeatView). v.made) done.put_back.seat);
-  sent = subst (All (λ (s : Stamped). s.outcome ≡ (exchanged_at plan s.index).sent)) (sym pushed)
-      (All-append (λ (s : Stamped). s.outcome ≡ (exchanged_at plan s.index).sent) stamps (stamped ∷ []) so_far.sent
-      (All-cons (λ (s : Stamped). s.outcome ≡ (exchanged_at plan s.index).sent) stamped [] (done.sent ∙ ap (λ j. (exchanged_at plan j).sent) (sym done.index)) (λ k d lt. absurd (omega arith))));
+  each = subst (All (IsRecordOf plan)) (sym pushed) (All-push (IsRecordOf plan) stamps stamped so_far.each done.stamp);
 }
 
 pub carry_out-requires-clause-held : goal.carry_out-requires-clause-held

@@ -1,10 +1,11 @@
 -- The names of other libraries that these proofs cite, passed on from one place. Declares nothing.
 -- Serves most of the crate.
-pub use Rattle.std.proofs.Common.{Bool, Err, IfErr, IfOk, IfSome, List, None, Ok, Option, Result, Some, [], add-one, ap, append_assoc, arith, cond, drop, drop-cons, false, get_or, inl, inr, length, length-append, refl, subst, suc, sym, take, take-append-drop, true, zero, ℕ, ◌*◌, ◌++◌, ◌+◌, ◌-◌, ◌<◌, ◌∙◌, ◌∷◌, ◌≡◌, ◌≢◌, ◌≤◌}
+pub use Rattle.std.proofs.Common.{Bool, Err, IfErr, IfOk, IfSome, List, None, Ok, Option, Result, Some, [], add-one, ap, append_assoc, arith, cond, drop, drop-cons, false, get_or, inl, inr, length, length-append, refl, rules, subst, suc, sym, take, take-append-drop, true, zero, ℕ, ◌*◌, ◌++◌, ◌+◌, ◌-◌, ◌<◌, ◌∙◌, ◌∷◌, ◌≡◌, ◌≢◌, ◌≤◌}
+pub use Rattle.std.proofs.Math.Path.{transport}
 pub use Rattle.std.proofs.KnownBytes.{Appends-nil, Appends-trans, Consumes-trans}
 pub use Rattle.std.proofs.lemmas.Bool.{cases_lt}
 pub use Rattle.std.proofs.lemmas.Grind.{flat_map-append}
-pub use Rattle.std.proofs.lemmas.List.{append-nil, length-take, length-take-le, map-id, take_more}
+pub use Rattle.std.proofs.lemmas.List.{append-nil, length-take, length-take-le, map-id, take_all, take_more}
 pub use Rattle.std.proofs.lemmas.List.FromFn.{map-range_with_len_more}
 pub use Rattle.std.proofs.lemmas.Option.{same_Some}
 pub use Rattle.std.proofs.lemmas.Result.{IfErr-weaker, on_ok_weaker}
@@ -33,6 +34,7 @@ pub use Rattle.scenario.specs.Order.{Says, document_of, first_fault}
 pub use Rattle.scenario.specs.Settings.{IsLawfulScenario, Settings, with_mode}
 pub use Rattle.simulation.proofs.Modes.{written_under}
 pub use Rattle.simulation.specs.Outcomes.{row_in}
+pub use Rattle.simulation.specs.calls.Outcomes.{played_of}
 pub use Rattle.simulation.specs.calls.RoundView.{RoundView}
 pub use Rattle.simulation.specs.calls.Simulation.{IsStepFault, MayWriteAll, PlaysNext, SimView}
 pub use Rattle.version_tables.specs.inner.Histories.{IsWriteUnder}

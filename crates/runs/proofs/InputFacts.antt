@@ -8,15 +8,20 @@ use Rattle.runs.specs.Inputs.{Gave, GaveUpTo, IsReadWhole, IsRead, IsInputFault}
 pub gave_more : {R : Type 0} (source : Source R) (old now new : R) (text chunk : List ℕ) (count : ℕ)
     → Consumes (source.left old) (source.left now) text → Consumes (source.left now) (source.left new) (take count chunk) → count ≤ length chunk
     → Gave source old new (length text + count)
-gave_more source old now new text chunk count so_far more bound =
-    (text ++ take count chunk, Consumes-trans (source.left old) (source.left now) (source.left new) text (take count chunk) so_far more, length-append text (take count chunk) ∙ ap (λ n. length text + n) (length-take-le count chunk bound))
+gave_more source old now new text chunk count so_far more bound = (
+  text ++ take count chunk,
+  Consumes-trans (source.left old) (source.left now) (source.left new) text (take count chunk) so_far more,
+  length-append
+      text (take count chunk) ∙ ap (λ n. length text + n) (length-take-le count chunk bound),
+)
 
 -- what was given is at most anything above its number
 pub gave_up_to : {R : Type 0} (source : Source R) (old new : R) (n most : ℕ) → Gave source old new n → n ≤ most → GaveUpTo source old new most
 gave_up_to source old new n most gave bound = let number = gave.2 in (gave.0, gave.1, omega arith)
 
 -- who gave more than a text may have had more than that
-pub had_more : (old new : Option (List ℕ)) (bytes : List ℕ) (most : ℕ) → Consumes old new bytes → length bytes ≡ most + 1 → IfSome old (λ all. most < length all)
+pub had_more : (old new : Option (List ℕ)) (bytes : List ℕ) (most : ℕ) → Consumes old new bytes → length bytes ≡ most + 1
+    → IfSome old (λ all. most < length all)
 had_more None new bytes most given size = tt
 had_more (Some all) None bytes most given size = absurd given
 had_more (Some all) (Some rest) bytes most given size = omega (arith, length-append bytes rest, ap length given)
@@ -26,7 +31,8 @@ only_false true never = absurd (never refl)
 only_false false never = refl
 
 -- who hasn't failed at the last pull hadn't at the first
-pub was_sound : {R : Type 0} (source : Source R) (old now : R) → (source.failed old ≡ true → now ≡ old) → (source.failed now ≡ true → ⊥) → source.failed old ≡ false
+pub was_sound : {R : Type 0} (source : Source R) (old now : R) → (source.failed old ≡ true → now ≡ old) → (source.failed now ≡ true → ⊥)
+    → source.failed old ≡ false
 was_sound source old now stays sound =
     only_false (source.failed old) (λ failed. sound (subst (λ r. source.failed r ≡ true) (sym (stays failed)) failed))
 
@@ -37,19 +43,22 @@ at_fault (Err handed) fault P is holds = subst P (sym is) holds
 
 -- the check of a text that was read whole accepts it, or comes to its fault
 module _ {R : Type 0} (source : Source R) (old new : R) (text : List ℕ) (whole : IsReadWhole source old new text) where
-  pub accepted : (answer : Result Settings Fault) → IfOk answer (λ s. IsSomeAnd (document_of text) (λ table. Says table s)) → OnOk answer (first_fault (document_of text) ≡ None)
+  pub accepted : (answer : Result Settings Fault) → IfOk answer (λ s. IsSomeAnd (document_of text) (λ table. Says table s))
+      → OnOk answer (first_fault (document_of text) ≡ None)
       → IfOk answer (λ s. IsRead source old new (Ok s))
   accepted (Ok s) says no_fault = record { text = text; whole = whole; says = says; no_fault = no_fault; first = tt }
   accepted (Err fault) says no_fault = tt
 
-  refused : (fault : Fault) → IsFaultOfCheck fault → fault ≢ OutOfMemory → (fault ≢ OutOfMemory → first_fault (document_of text) ≡ Some fault) → IsInputFault source old new fault
+  refused : (fault : Fault) → IsFaultOfCheck fault → fault ≢ OutOfMemory → (fault ≢ OutOfMemory → first_fault (document_of text) ≡ Some fault)
+      → IsInputFault source old new fault
   refused fault of_check other first = inr (record {
     of_check = of_check;
     not_memory = other;
     read = record { text = text; whole = whole; says = tt; no_fault = tt; first = first other };
   })
 
-  pub fault_of_check : (answer : Result Settings Fault) → IfErr answer IsFaultOfCheck → IfErr answer (λ fault. fault ≢ OutOfMemory → first_fault (document_of text) ≡ Some fault) → IfErr answer (IsInputFault source old new)
+  pub fault_of_check : (answer : Result Settings Fault) → IfErr answer IsFaultOfCheck
+      → IfErr answer (λ fault. fault ≢ OutOfMemory → first_fault (document_of text) ≡ Some fault) → IfErr answer (IsInputFault source old new)
   fault_of_check (Ok s) of_check first = tt
   fault_of_check (Err OutOfMemory) of_check first =
       inl (record { given = (text, whole.given, whole.within); sound = whole.sound; was_sound = whole.was_sound })

@@ -1,4 +1,6 @@
 pub mod InputFacts
+pub mod Texts
+pub mod Turns
 pub mod Reporting
 pub mod Comparison
 pub mod Endings

@@ -1,37 +1,14 @@
 -- How far the report and the trace have been written.
--- Serves `write_round`, `write_texts` and `Comparison`.
-use Rattle.runs.proofs.Common.{◌≡◌, ℕ, ◌+◌, ◌<◌, ◌++◌, ◌∷◌, [], List, inl, inr, sym, ap, ◌∙◌, subst, append_assoc, arith, false, Appends-trans, flat_map-append, range_with_len, append-nil, map-id, map-range_with_len_more, Fault, Table, IsFaultOfWorkers, IsWritten, IsWriteFault, trace_header_line, report_header_line, report_line, report_lines, Settings, RoundView, row_in, SimView, PlaysNext, IsStepFault}
+-- Serves `write_run` and `ReportAndTraceRoundWriter::write`.
+use Rattle.runs.proofs.Common.{◌≡◌, ℕ, zero, suc, ◌+◌, ◌++◌, ◌∷◌, [], inl, inr, refl, sym, ap, ◌∙◌, subst, transport, append_assoc, arith, add-one, flat_map-append, range_with_len, append-nil, map-id, map-range_with_len_more, Fault, IsWritten, IsWriteFault, trace_header_line, report_header_line, report_line, report_lines, Settings, row_in}
 use Rattle.bench_types.specs.declared.sinks.Sink.{Ghosts as Sink}
+use Rattle.runs.specs.declared.outputs.ReportAndTrace.{ReportAndTrace}
 use Rattle.runs.specs.Reports.{rows_upto, trace_in, traces_upto, report_upto, trace_upto, report_text, trace_text}
-use Rattle.runs.specs.Runs.{IsFaultAfter, AreWritten, IsWritingFault, StopsAt, round_after, lines_after, row_after}
-use Rattle.runs.specs.inner.Rows.{lines_of, WritesNextTexts, IsNextTextsFault}
-
--- one text behind another
-pub written_then : {W : Type 0} (sink : Sink W) (old now new : W) (text next : List ℕ) → IsWritten sink old now text → IsWritten sink now new next → IsWritten sink old new (text ++ next)
-written_then sink old now new text next first second = record {
-  taken = Appends-trans (sink.taken old) (sink.taken now) (sink.taken new) text next first.taken second.taken;
-  flushed = second.flushed;
-  sound = second.sound;
-  was_sound = first.was_sound;
-}
-
--- a fault behind a text
-pub fault_behind : {W : Type 0} (sink : Sink W) (old now new : W) (text whole next : List ℕ) (fault : Fault) → IsWritten sink old now text → IsFaultAfter sink now new whole next fault → IsFaultAfter sink old new (text ++ whole) next fault
-fault_behind sink old now new text whole next fault first stop = (stop.0, written_then sink old now stop.0 text whole first stop.1, stop.2)
-
--- a round was played, and its lines and its row written
-pub texts_are_next : {T W X : Type 0} (table : T → Table) (sim sim' : SimView T) (sink : Sink W) (old new : W) (sink' : Sink X) (old' new' : X) (round : RoundView) → PlaysNext table sim sim' round
-    → (lines line : List ℕ) → lines ≡ lines_of round → line ≡ report_line sim'.settings.format round.row → IsWritten sink' old' new' lines → IsWritten sink old new line → WritesNextTexts table sim sim' sink old new sink' old' new'
-texts_are_next table sim sim' sink old new sink' old' new' round played lines line these this first second =
-    record { round = round; played = played; lines = subst (IsWritten sink' old' new') these first; row = subst (IsWritten sink old new) this second }
-
--- both texts after so many rounds
-pub record AreWrittenUpto {T W X : Type 0} (sink : Sink W) (old now : W) (sink' : Sink X) (old' now' : X) (s : Settings) (sim : SimView T) (rounds : ℕ) : Type 0 where
-  pub settings : sim.settings ≡ s
-  pub unbroken : sim.broken ≡ false
-  pub done : sim.rounds_done ≡ rounds
-  pub report : IsWritten sink old now (report_upto s rounds)
-  pub trace : IsWritten sink' old' now' (trace_upto s rounds)
+use Rattle.runs.specs.Runs.{AreWritten, AreWrittenUpto, IsWritingFault, StopsInRound, at_lines, at_row, in_rounds}
+use Rattle.runs.specs.inner.Outputs.{KeepsTexts, WritesTexts, StopsInTexts}
+use Rattle.runs.specs.inner.Rounds.{AreWrittenInTurn, StopsInTurn, IsFaultInTurn}
+use Rattle.runs.proofs.Turns.{fault_told}
+use Rattle.runs.proofs.Texts.{written_then}
 
 range_more : (n : ℕ) → range_with_len 1 (n + 1) ≡ range_with_len 1 n ++ ((n + 1) ∷ [])
 range_more n =
@@ -53,79 +30,101 @@ trace_more s rounds =
     ∙ sym (append_assoc trace_header_line (traces_upto s rounds) (trace_in s (rounds + 1) ++ []))
     ∙ ap (λ lines. trace_upto s rounds ++ lines) (append-nil (trace_in s (rounds + 1)))
 
--- where a round is left and none has failed, the fault of a step is that of its workers
-pub step_fault : {T : Type 0} (workers : ℕ) (sim sim' : SimView T) (fault : Fault) → sim.broken ≡ false → sim.rounds_done < sim.settings.rounds → IsStepFault workers sim sim' fault → IsFaultOfWorkers workers fault
-step_fault workers sim sim' fault unbroken more stop = elim stop [
-  | inl failed ↦ failed.0
-  | inr refused ↦ elim refused.0 [
-    | inl broken ↦ absurd (cc (broken.1, unbroken))
-    | inr finished ↦ absurd (omega (arith, more, finished.2))
+-- what is kept in two steps
+kept_then : {W X : Type 0} (old now new : ReportAndTrace W X) → KeepsTexts old now → KeepsTexts now new → KeepsTexts old new
+kept_then old now new first second = record { format = second.format ∙ first.format; writer = second.writer ∙ first.writer; trace = second.trace ∙ first.trace }
+
+-- both headers are written
+pub record HaveHeaders {W X : Type 0} (sink : Sink W) (sink' : Sink X) (s : Settings) (start : W) (start' : X) (old : ReportAndTrace W X) : Type 0 where
+  pub format_is : old.format ≡ s.format
+  pub report : IsWritten sink start old.writer.now (report_header_line old.format)
+  pub trace : IsWritten sink' start' old.trace.now trace_header_line
+
+module _ {W X : Type 0} (sink : Sink W) (sink' : Sink X) (s : Settings) (start : W) (start' : X) (old : ReportAndTrace W X)
+    (headers : HaveHeaders sink sink' s start start' old) where
+  abbrev Upto : ReportAndTrace W X → ℕ → Type 0
+  Upto now rounds = AreWrittenUpto sink start now.writer.now sink' start' now.trace.now s rounds
+
+  -- the next round's lines, and its row
+  report_next : (now : ReportAndTrace W X) (new : W) (rounds : ℕ) → KeepsTexts old now → IsWritten sink start now.writer.now (report_upto s rounds)
+      → IsWritten sink now.writer.now new (report_line now.format (row_in s (rounds + 1))) → IsWritten sink start new (report_upto s (rounds + 1))
+  report_next now new rounds kept so_far row =
+      subst (IsWritten sink start new) (sym (report_more s rounds))
+      (written_then sink start now.writer.now new (report_upto s rounds) (report_line s.format (row_in s (rounds + 1))) so_far
+      (subst (λ f. IsWritten sink now.writer.now new (report_line f (row_in s (rounds + 1)))) (kept.format ∙ headers.format_is) row))
+
+  trace_next : (now : ReportAndTrace W X) (new : X) (rounds : ℕ) → IsWritten sink' start' now.trace.now (trace_upto s rounds)
+      → IsWritten sink' now.trace.now new (trace_in s (rounds + 1)) → IsWritten sink' start' new (trace_upto s (rounds + 1))
+  trace_next now new rounds so_far lines =
+      subst (IsWritten sink' start' new) (sym (trace_more s rounds)) (written_then sink' start' now.trace.now new (trace_upto s rounds)
+      (trace_in s (rounds + 1)) so_far lines)
+
+  -- what was written round by round are the two texts
+  texts_upto : (now : ReportAndTrace W X) (rounds : ℕ) → AreWrittenInTurn (WritesTexts sink sink') s old now rounds → KeepsTexts old now × Upto now rounds
+  texts_upto now zero same =
+      subst (λ n. KeepsTexts old n × Upto n 0) (sym same) (
+        record { format = refl; writer = refl; trace = refl },
+        record {
+          report = subst (IsWritten sink start old.writer.now)
+              (ap report_header_line headers.format_is ∙ sym (append-nil (report_header_line s.format))) headers.report;
+          trace = subst
+              (IsWritten sink' start' old.trace.now) (sym (append-nil trace_header_line)) headers.trace;
+        },
+      )
+  texts_upto now (suc rounds) (before, so_far, next) =
+      let upto = texts_upto before rounds so_far in
+      let step = rw (← add-one) at next in (
+        kept_then old before now upto.0 next.kept,
+        subst (Upto now) (add-one rounds)
+            (record {
+              report = report_next before now.writer.now rounds upto.0 upto.1.report step.row;
+              trace = trace_next before now.trace.now rounds
+                  upto.1.trace step.lines;
+            }),
+      )
+
+  -- and a fault among them is one among the texts
+  stops_in_round : (now : ReportAndTrace W X) (fault : Fault) (rounds : ℕ) → StopsInTurn (WritesTexts sink sink') (StopsInTexts sink sink') s old now
+      fault rounds → StopsInRound sink start now.writer.now sink' start' now.trace.now s rounds fault
+  stops_in_round now fault rounds (before, so_far, stop) =
+      let upto = texts_upto before rounds so_far in
+      elim stop.stops [
+        | inl lines ↦ at_lines (subst (λ w. IsWritten sink start w (report_upto s rounds)) (sym lines.1) upto.1.report)
+            (before.trace.now, upto.1.trace, lines.0)
+        | inr row ↦ at_row (trace_next before now.trace.now rounds upto.1.trace row.0) (
+          before.writer.now,
+          upto.1.report,
+          subst (λ f. IsWriteFault sink before.writer.now now.writer.now (report_line f (row_in s (rounds + 1)))
+              fault) (upto.0.format ∙ headers.format_is) row.1,
+        )
+      ]
+
+  kept_at_fault : (now : ReportAndTrace W X) (workers : ℕ) (fault : Fault) → IsFaultInTurn (WritesTexts sink sink') (StopsInTexts sink sink') s old now
+      workers fault → KeepsTexts old now
+  kept_at_fault now workers fault stop = elim stop.stops [
+    | inl lost ↦ (texts_upto now stop.rounds lost.1).0
+    | inr (before, so_far, cut) ↦ kept_then old before now (texts_upto before stop.rounds so_far).0 cut.kept
   ]
-]
 
-module _ {T W X : Type 0} (sink : Sink W) (old now : W) (sink' : Sink X) (old' now' : X) (s : Settings) (sim : SimView T) (rounds : ℕ) (so_far : AreWrittenUpto sink old now sink' old' now' s sim rounds) where
-  -- the next round wasn't played
-  stops_before : (workers : ℕ) (sim' : SimView T) (fault : Fault) → rounds < s.rounds → IsStepFault workers sim sim' fault → StopsAt sink old now sink' old' now' s workers fault (round_after rounds)
-  stops_before workers sim' fault more stop =
-      let left : sim.rounds_done < sim.settings.rounds = subst (λ (t : Settings). sim.rounds_done < t.rounds) (sym so_far.settings) (omega (arith, more, so_far.done)) in
-      (more, step_fault workers sim sim' fault so_far.unbroken left stop, so_far.report, so_far.trace)
+-- what stands behind the ends, once they are given back
+module _ {W X : Type 0} (sink : Sink W) (sink' : Sink X) (s : Settings) (start : W) (start' : X) (old now : ReportAndTrace W X) (end : W) (end' : X) where
+  pub stops_in_texts : (workers : ℕ) (fault : Fault) → IsFaultInTurn (WritesTexts sink sink') (StopsInTexts sink sink') s old now workers fault
+      → HaveHeaders sink sink' s start start' old
+      → (old.writer.ghost_name ≡ now.writer.ghost_name → end ≡ now.writer.now) → (old.trace.ghost_name ≡ now.trace.ghost_name → end' ≡ now.trace.now)
+      → IsWritingFault sink start end sink' start' end' s workers fault
+  stops_in_texts workers fault stop headers writer trace =
+      let kept = kept_at_fault sink sink' s start start' old headers now workers fault stop in
+      transport (λ i. IsWritingFault sink start (sym (writer (sym kept.writer)) i) sink' start' (sym (trace (sym kept.trace)) i) s workers fault)
+      (in_rounds (fault_told (λ rounds written. (texts_upto sink sink' s start start' old headers now rounds written).1)
+      (stops_in_round sink sink' s start start' old headers now fault) stop))
 
-  -- all rounds were
-  pub all_written : rounds ≡ s.rounds → AreWritten sink old now sink' old' now' s
+  pub texts_written : AreWrittenInTurn (WritesTexts sink sink') s old now s.rounds → HaveHeaders sink sink' s start start' old
+      → (old.writer.ghost_name ≡ now.writer.ghost_name → end ≡ now.writer.now) → (old.trace.ghost_name ≡ now.trace.ghost_name → end' ≡ now.trace.now)
+      → AreWritten sink start end sink' start' end' s
   unfolding report_text trace_text
-  all_written all = record {
-    report = subst (λ n. IsWritten sink old now (report_upto s n)) all so_far.report;
-    trace = subst (λ n. IsWritten sink' old' now' (trace_upto s n)) all so_far.trace;
-  }
-
-  -- the next round was played
-  module _ (table : T → Table) (sim' : SimView T) (round : RoundView) (played : PlaysNext table sim sim' round) where
-    settings_are : sim'.settings ≡ s
-    settings_are = played.settings ∙ so_far.settings
-
-    done_now : sim'.rounds_done ≡ rounds + 1
-    done_now = played.done ∙ ap (λ n. n + 1) so_far.done
-
-    lines_here : lines_of round ≡ trace_in s (rounds + 1)
-    lines_here = ap lines_of played.played ∙ (λ i. trace_in (settings_are i) (done_now i))
-
-    row_here : report_line sim'.settings.format round.row ≡ report_line s.format (row_in s (rounds + 1))
-    row_here = λ i. report_line (settings_are i).format ((ap (λ (r : RoundView). r.row) played.played ∙ (λ j. row_in (settings_are j) (done_now j))) i)
-
-    traced : (after' : X) → IsWritten sink' now' after' (lines_of round) → IsWritten sink' old' after' (trace_upto s (rounds + 1))
-    traced after' lines =
-        subst (IsWritten sink' old' after') (sym (trace_more s rounds)) (written_then sink' old' now' after' (trace_upto s rounds) (trace_in s (rounds + 1)) so_far.trace (subst (IsWritten sink' now' after') lines_here lines))
-
-    stops_in_lines : (after' : X) (workers : ℕ) (fault : Fault) → rounds < s.rounds → IsWriteFault sink' now' after' (lines_of round) fault → StopsAt sink old now sink' old' after' s workers fault (lines_after rounds)
-    stops_in_lines after' workers fault more stop = (more, so_far.report, (now', so_far.trace, subst (λ l. IsWriteFault sink' now' after' l fault) lines_here stop))
-
-    stops_in_row : (after : W) (after' : X) (workers : ℕ) (fault : Fault) → rounds < s.rounds → IsWritten sink' now' after' (lines_of round) → IsWriteFault sink now after (report_line sim'.settings.format round.row) fault
-        → StopsAt sink old after sink' old' after' s workers fault (row_after rounds)
-    stops_in_row after after' workers fault more lines stop =
-        (more, (now, so_far.report, subst (λ l. IsWriteFault sink now after l fault) row_here stop), traced after' lines)
-
-    pub one_more : (after : W) (after' : X) → IsWritten sink' now' after' (lines_of round) → IsWritten sink now after (report_line sim'.settings.format round.row) → AreWrittenUpto sink old after sink' old' after' s sim' (rounds + 1)
-    one_more after after' lines row = record {
-      settings = settings_are;
-      unbroken = played.still;
-      done = done_now;
-      report = subst (IsWritten sink old after) (sym (report_more s rounds)) (written_then sink old now after (report_upto s rounds) (report_line s.format (row_in s (rounds + 1))) so_far.report (subst (IsWritten sink now after) row_here row));
-      trace = traced after' lines;
-    }
-
-  -- the next round wasn't played, or its texts weren't written
-  pub stops_at_round : (table : T → Table) (sim' : SimView T) (after : W) (after' : X) (workers : ℕ) (fault : Fault) → rounds < s.rounds → IsNextTextsFault table sim sim' sink now after sink' now' after' workers fault → IsWritingFault sink old after sink' old' after' s workers fault
-  stops_at_round table sim' after after' workers fault more stop = elim stop [
-    | inl lost ↦ record {
-      place = round_after rounds;
-      stops = subst (λ w. StopsAt sink old w sink' old' after' s workers fault (round_after rounds)) (sym lost.1)
-          (subst (λ w. StopsAt sink old now sink' old' w s workers fault (round_after rounds)) (sym lost.2) (stops_before workers sim' fault more lost.0));
-    }
-    | inr (round, played, cut) ↦ elim cut [
-      | inl line ↦ record {
-        place = lines_after rounds;
-        stops = subst (λ w. StopsAt sink old w sink' old' after' s workers fault (lines_after rounds)) (sym line.1) (stops_in_lines table sim' round played after' workers fault more line.0);
+  texts_written written headers writer trace =
+      let upto = texts_upto sink sink' s start start' old headers now s.rounds written in
+      record {
+        report = subst (λ w. IsWritten sink start w (report_upto s s.rounds)) (sym (writer (sym upto.0.writer))) upto.1.report;
+        trace = subst (λ x. IsWritten sink' start' x (trace_upto s s.rounds)) (sym (trace (sym upto.0.trace))) upto.1.trace;
       }
-      | inr row ↦ record { place = row_after rounds; stops = stops_in_row table sim' round played after after' workers fault more row.0 row.1 }
-    ]
-  ]

@@ -1,20 +1,19 @@
 -- The comparison of the modes: the header, and for each mode, in order, a line for each round of the scenario under
 -- that mode. `source` and `sink` have the words of the two ends; `old` and `new` are states before and after the call.
 -- Source: this project.
-use Rattle.std.specs.Prelude.{◌≡◌, ℕ, ◌+◌, ◌<◌, ◌⊎◌, ◌++◌, ◌∷◌, List, Ok, flat_map}
+use Rattle.std.specs.Prelude.{◌≡◌, ℕ, ◌+◌, ◌⊎◌, ◌++◌, ◌∷◌, List, Ok, flat_map}
 use Rattle.bench_types.specs.declared.exchanges.Mode.{Mode}
 use Rattle.bench_types.specs.Mode.{modes}
 use Rattle.bench_types.specs.declared.faults.Fault.{Fault}
 use Rattle.bench_types.specs.declared.sinks.Sink.{Ghosts as Sink}
 use Rattle.bench_types.specs.declared.sources.Source.{Ghosts as Source}
-use Rattle.model.specs.Runs.{IsFaultOfWorkers}
 use Rattle.report.specs.Compare.{compare_header_line, compare_line, compare_lines}
 use Rattle.bench_types.specs.Output.{IsWritten, IsWriteFault}
 use Rattle.scenario.specs.Settings.{Settings, with_mode}
 use Rattle.simulation.specs.Outcomes.{row_in}
 use Rattle.runs.specs.Inputs.{IsRead, IsInputFault}
 use Rattle.runs.specs.Reports.{rows_upto}
-use Rattle.runs.specs.Runs.{IsFaultAfter}
+use Rattle.runs.specs.Runs.{IsFaultAfter, IsFaultInRounds}
 
 -- the lines of the first so many rounds of a scenario
 abbrev pub lines_upto : Settings → ℕ → List ℕ
@@ -27,39 +26,40 @@ lines_under s mode = lines_upto (with_mode s mode) s.rounds
 abbrev pub lines_of_modes : Settings → List Mode → List ℕ
 lines_of_modes s ms = flat_map (lines_under s) ms
 
+-- the comparison of these modes, and of all
+abbrev pub comparison_of : Settings → List Mode → List ℕ
+comparison_of s ms = (compare_header_line s.format) ++ lines_of_modes s ms
+
 unfoldable pub comparison_text : Settings → List ℕ
-comparison_text s = (compare_header_line s.format) ++ lines_of_modes s modes
+comparison_text s = comparison_of s modes
 
--- a text was written, and then the next round wasn't carried out, or writing its line came to this fault
-abbrev pub IsFaultInRound : {W : Type 0} → Sink W → W → W → List ℕ → List ℕ → ℕ → Fault → Type 0
-IsFaultInRound sink old new whole line workers fault =
-    (IsFaultOfWorkers workers fault × IsWritten sink old new whole)
-    ⊎ IsFaultAfter sink old new whole line fault
+module _ {W : Type 0} (sink : Sink W) (old new : W) (whole : List ℕ) (s : Settings) where
+  -- the text `whole` and the lines of the first so many rounds of a scenario were written
+  abbrev pub AreLinesWritten : ℕ → Type 0
+  AreLinesWritten rounds = IsWritten sink old new (whole ++ lines_upto s rounds)
 
--- the text `whole` and the lines of the first so many rounds of a scenario were written, and then the next round or its
--- line came to this fault
-pub record IsFaultInRounds {W : Type 0} (sink : Sink W) (old new : W) (whole : List ℕ) (s : Settings) (workers : ℕ)
-    (fault : Fault) : Type 0 where
-  pub rounds : ℕ
-  pub within : rounds < s.rounds
-  pub stops : IsFaultInRound sink old new (whole ++ lines_upto s rounds)
-      (compare_line s.format s.mode (row_in s (rounds + 1))) workers fault
+  -- and then writing the next round's line came to this fault
+  abbrev pub StopsAtLine : Fault → ℕ → Type 0
+  StopsAtLine fault rounds =
+      IsFaultAfter sink old new (whole ++ lines_upto s rounds)
+      (compare_line s.format s.mode (row_in s (rounds + 1))) fault
 
--- the text `whole` and all lines of the first of these modes were written, and then writing those of the next mode
--- came to this fault
-pub record IsFaultInModes {W : Type 0} (sink : Sink W) (old new : W) (whole : List ℕ) (s : Settings) (ms : List Mode)
-    (workers : ℕ) (fault : Fault) : Type 0 where
-  pub done : List Mode
-  pub next : Mode
-  pub rest : List Mode
-  pub order : ms ≡ done ++ (next ∷ rest)
-  pub stops : IsFaultInRounds sink old new (whole ++ lines_of_modes s done) (with_mode s next) workers fault
+  -- the fault of the rounds and of writing their lines, behind that text
+  abbrev pub IsFaultInLines : ℕ → Fault → Type 0
+  IsFaultInLines workers fault = IsFaultInRounds s workers fault AreLinesWritten (StopsAtLine fault)
 
--- the fault of a comparison behind its reading: at the header, or behind it
-abbrev pub IsComparingFault : {W : Type 0} → Sink W → W → W → Settings → ℕ → Fault → Type 0
-IsComparingFault sink old new s workers fault =
-    IsWriteFault sink old new (compare_header_line s.format) fault
-    ⊎ IsFaultInModes sink old new (compare_header_line s.format) s modes workers fault
+module _ {W : Type 0} (sink : Sink W) (old new : W) (s : Settings) (workers : ℕ) (fault : Fault) where
+  -- the header and all lines of the first modes were written, and then those of the next one came to this fault
+  pub record IsFaultInModes : Type 0 where
+    pub done : List Mode
+    pub next : Mode
+    pub rest : List Mode
+    pub order : modes ≡ done ++ (next ∷ rest)
+    pub stops : IsFaultInLines sink old new (comparison_of s done) (with_mode s next) workers fault
+
+  -- the fault of a comparison behind its reading: at the header, or behind it
+  abbrev pub IsComparingFault : Type 0
+  IsComparingFault = IsWriteFault sink old new (compare_header_line s.format) fault ⊎ IsFaultInModes
 
 module _ {R W : Type 0} (source : Source R) (reader reader' : R) (sink : Sink W) (old new : W) where
   -- a scenario was read, and its comparison was written; its own mode has no effect on it

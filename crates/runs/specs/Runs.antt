@@ -29,41 +29,37 @@ pub record AreWritten {W X : Type 0} (sink : Sink W) (old new : W) (sink' : Sink
   pub report : IsWritten sink old new (report_text s)
   pub trace : IsWritten sink' old' new' (trace_text s)
 
--- where a run stops: at a header, or in a round, which wasn't carried out, or at its lines of the trace or at its row
--- of the report behind them; the number is that of the rounds before
-pub data StoppingPlace : Type 0 where
-  report_header : StoppingPlace
-  trace_header : StoppingPlace
-  round_after : ℕ → StoppingPlace
-  lines_after : ℕ → StoppingPlace
-  row_after : ℕ → StoppingPlace
+-- rounds of a scenario are carried out and written, one after another, and one of them wasn't carried out, or writing it
+-- came to this fault: `Wrote` says that so many were written, and `Stops` that so many were and what the next one came to
+pub record IsFaultInRounds (s : Settings) (workers : ℕ) (fault : Fault) (Wrote Stops : ℕ → Type 0) : Type 0 where
+  pub rounds : ℕ
+  pub within : rounds < s.rounds
+  pub stops : (IsFaultOfWorkers workers fault × Wrote rounds) ⊎ Stops rounds
 
-module _ {W X : Type 0} (sink : Sink W) (old new : W) (sink' : Sink X) (old' new' : X) (s : Settings) (workers : ℕ)
-    (fault : Fault) where
-  -- all that stands before this place was written, and then the round, or writing what stands there, came to the fault
-  abbrev pub StopsAt : StoppingPlace → Type 0
-  StopsAt report_header = IsWriteFault sink old new (report_header_line s.format) fault × (new' ≡ old')
-  StopsAt trace_header =
-      IsWritten sink old new (report_header_line s.format)
-      × IsWriteFault sink' old' new' trace_header_line fault
-  StopsAt (round_after rounds) =
-      (rounds < s.rounds)
-      × IsFaultOfWorkers workers fault
-      × IsWritten sink old new (report_upto s rounds)
-      × IsWritten sink' old' new' (trace_upto s rounds)
-  StopsAt (lines_after rounds) =
-      (rounds < s.rounds)
-      × IsWritten sink old new (report_upto s rounds)
-      × IsFaultAfter sink' old' new' (trace_upto s rounds) (trace_in s (rounds + 1)) fault
-  StopsAt (row_after rounds) =
-      (rounds < s.rounds)
-      × IsFaultAfter sink old new (report_upto s rounds) (report_line s.format (row_in s (rounds + 1))) fault
-      × IsWritten sink' old' new' (trace_upto s (rounds + 1))
+module _ {W X : Type 0} (sink : Sink W) (old new : W) (sink' : Sink X) (old' new' : X) (s : Settings) where
+  -- the headers, and what stands behind them of the first so many rounds, were written
+  pub record AreWrittenUpto (rounds : ℕ) : Type 0 where
+    pub report : IsWritten sink old new (report_upto s rounds)
+    pub trace : IsWritten sink' old' new' (trace_upto s rounds)
 
-  -- the fault of the rounds and of writing the report and the trace
-  pub record IsWritingFault : Type 0 where
-    pub place : StoppingPlace
-    pub stops : StopsAt place
+  -- and then writing the next round's lines of the trace, or its row of the report behind them, came to this fault
+  pub data StopsInRound (rounds : ℕ) (fault : Fault) : Type 0 where
+    at_lines : IsWritten sink old new (report_upto s rounds)
+        → IsFaultAfter sink' old' new' (trace_upto s rounds) (trace_in s (rounds + 1)) fault
+        → StopsInRound rounds fault
+    at_row : IsWritten sink' old' new' (trace_upto s (rounds + 1))
+        → IsFaultAfter sink old new (report_upto s rounds) (report_line s.format (row_in s (rounds + 1))) fault
+        → StopsInRound rounds fault
+
+  -- the fault of the rounds and of writing the report and the trace: at a header, or in a round
+  pub data IsWritingFault (workers : ℕ) (fault : Fault) : Type 0 where
+    at_report_header : IsWriteFault sink old new (report_header_line s.format) fault → new' ≡ old'
+        → IsWritingFault workers fault
+    at_trace_header : IsWritten sink old new (report_header_line s.format)
+        → IsWriteFault sink' old' new' trace_header_line fault
+        → IsWritingFault workers fault
+    in_rounds : IsFaultInRounds s workers fault AreWrittenUpto (λ rounds. StopsInRound rounds fault)
+        → IsWritingFault workers fault
 
 module _ {R W X : Type 0} (source : Source R) (reader reader' : R)
     (sink : Sink W) (old new : W) (sink' : Sink X) (old' new' : X) where

@@ -1,3 +1,4 @@
 pub mod Starts
 pub mod Writes
-pub mod Rows
+pub mod Rounds
+pub mod Outputs

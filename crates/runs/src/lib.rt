@@ -19,7 +19,9 @@
 mod comparing;
 mod inputs;
 mod openings;
+mod outputs;
 mod resources;
+mod rounds;
 mod runs;
 
 pub use comparing::compare;

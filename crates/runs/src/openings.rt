@@ -1,11 +1,11 @@
 //! The simulation of a scenario, before its first round.
 
-ghost use Rattle.std.specs.Prelude.{◌≡◌, ◌+◌, ◌*◌, ◌≤◌, IfOk, IsOkUnless};
+ghost use Rattle.std.specs.Prelude.{◌+◌, ◌*◌, ◌≤◌};
 ghost use Rattle.bench_types.specs.declared.limits.TheConstants.{MOST_ROUNDS, MOST_WRITES};
 ghost use Rattle.scenario.specs.Settings.{IsLawfulScenario};
 ghost use Rattle.simulation.specs.calls.Simulation.{MayWriteAll};
 ghost use Rattle.runs.specs.inner.Writes.{AreWrittenIn, HasWritesBelow};
-ghost use Rattle.runs.specs.inner.Starts.{IsAtStart, IsOpened};
+ghost use Rattle.runs.specs.inner.Starts.{AnswersBegun, IsBegun, IsOpened};
 
 use bench_types::Fault;
 use model::MemoryTable;
@@ -45,9 +45,8 @@ pub(crate) fn begin<L: Written + Send + Sync>(
     scenario: Scenario,
 ) -> Result<Opened<L>, Fault>
     requires { AreWrittenIn L.lists scenario }
-    ensures begun { IfOk result (λ begun. IsOpened begun scenario) }
+    ensures begun { AnswersBegun (IsOpened scenario) result }
     ensures lawful { IsLawfulScenario scenario }
-    ensures only { IsOkUnless result Fault.OutOfMemory }
 {
     let most = most_in_a_run(&scenario);
     if most < u8::MAX as u32 {
@@ -64,8 +63,7 @@ fn open<T: MemoryTable + Send + Sync, K: RoundHistories<T>>(
     scenario: Scenario,
 ) -> Result<Sim<T, K>, Fault>
     requires may_write { MayWriteAll K.may_write scenario }
-    ensures begun { IfOk result (λ sim. IsAtStart sim × (sim.settings ≡ scenario)) }
-    ensures only { IsOkUnless result Fault.OutOfMemory }
+    ensures { AnswersBegun (IsBegun scenario) result }
 {
     match Sim::of(alloc, scenario) {
         Ok(sim) => Ok(sim),

@@ -2,27 +2,20 @@
 
 ghost use Rattle.std.specs.Prelude.{Ok, IfOk, OnOk, IfErr};
 ghost use Rattle.runs.specs.Inputs.{IsRead, IsInputFault};
-ghost use Rattle.runs.specs.inner.Writes.{AreWrittenIn};
-ghost use Rattle.runs.specs.inner.Starts.{IsAtStart};
-ghost use Rattle.runs.specs.inner.Rows.{WritesNextTexts, IsNextTextsFault};
 ghost use Rattle.runs.specs.Runs.{AreWritten, IsWritingFault, IsReported, IsRunFault, TellsOfFailing, ComesOnceAccepted};
 ghost use Rattle.model.specs.Runs.{AreWorkers};
 
 use crate::inputs::read_all;
-use crate::openings::{Opened, begin};
+use crate::outputs::ReportAndTrace;
 use crate::resources::Resources;
+use crate::rounds::write_rounds;
 use bench_types::{Fault, Sink, Source};
-use model::MemoryTable;
-use report::{report_header, trace_header, write_report_row, write_trace_rows};
-use round_tables::RoundHistories;
+use report::{report_header, trace_header};
 use scenario::{Scenario, read};
-use simulation::Sim;
 use std::alloc::Global;
 use std::marker::Brand;
 use std::sync::Wait;
 use std::thread::Threads;
-use version_tables::Written;
-use workers::FreeGate;
 
 /// Reads a scenario, and writes the report of its run to `writer` and its trace to `trace`: the two
 /// headers, and after each round its exchanges and its row. Pass `Discard` if no trace is wanted.
@@ -54,7 +47,7 @@ pub fn run<H: Threads + Wait + Sync, R: Source, W: Sink, X: Sink>(
 {
     let scenario = check_input(alloc, reader)?;
     let resources = Resources { rt, alloc, workers };
-    write_run::<Brand, H, W, X>(&resources, scenario, writer, trace)
+    write_run(&resources, scenario, writer, trace)
 }
 
 /// Reads a scenario whole and checks it. An error is that of `read_all`, or else the fault of the first check
@@ -68,69 +61,26 @@ pub fn check_input<R: Source>(alloc: Global, reader: &mut R) -> Result<Scenario,
     read(alloc, &bytes)
 }
 
-fn write_run<L: Written + Send + Sync, H: Threads + Wait + Sync, W: Sink, X: Sink>(
+fn write_run<H: Threads + Wait + Sync, W: Sink, X: Sink>(
     resources: &Resources<H>,
     scenario: Scenario,
     writer: &mut W,
     trace: &mut X,
 ) -> Result<(), Fault>
-    requires { AreWrittenIn L.lists scenario }
     ensures written { OnOk result
         (AreWritten W.Sink writer.old writer.new X.Sink trace.old trace.new scenario) }
-    ensures fault { IfErr result
-        (IsWritingFault W.Sink writer.old writer.new X.Sink trace.old trace.new scenario resources.now.workers) }
-{
-    match begin::<L>(resources.alloc, scenario)? {
-        Opened::Byte(mut sim) => write_texts(resources, &mut sim, writer, trace),
-        Opened::Narrow(mut sim) => write_texts(resources, &mut sim, writer, trace),
-        Opened::Wide(mut sim) => write_texts(resources, &mut sim, writer, trace),
-    }
-}
-
-fn write_texts<
-    T: MemoryTable + Send + Sync,
-    K: RoundHistories<T>,
-    H: Threads + Wait + Sync,
-    W: Sink,
-    X: Sink,
->(resources: &Resources<H>, sim: &mut Sim<T, K>, writer: &mut W, trace: &mut X) -> Result<(), Fault>
-    requires { IsAtStart sim.old }
-    ensures written { OnOk result
-        (AreWritten W.Sink writer.old writer.new X.Sink trace.old trace.new sim.old.settings) }
-    ensures fault { IfErr result
-        (IsWritingFault W.Sink writer.old writer.new X.Sink trace.old trace.new sim.old.settings
+    ensures fault { IfErr result (IsWritingFault W.Sink writer.old writer.new X.Sink trace.old trace.new scenario
         resources.now.workers) }
 {
-    report_header(resources.alloc, writer, sim.format())?;
+    let format = scenario.format();
+    report_header(resources.alloc, writer, format)?;
     trace_header(resources.alloc, trace)?;
-    for _ in 0..sim.rounds() {
-        write_round(resources, sim, writer, trace)?;
-    }
-    Ok(())
-}
-
-// The next round of a simulation: its exchanges, then its row.
-fn write_round<
-    T: MemoryTable + Send + Sync,
-    K: RoundHistories<T>,
-    H: Threads + Wait + Sync,
-    W: Sink,
-    X: Sink,
->(resources: &Resources<H>, sim: &mut Sim<T, K>, writer: &mut W, trace: &mut X) -> Result<(), Fault>
-    ensures written { OnOk result
-        (WritesNextTexts T.table sim.old sim.new W.Sink writer.old writer.new X.Sink trace.old
-        trace.new) }
-    ensures fault { IfErr result (IsNextTextsFault T.table sim.old sim.new
-        W.Sink writer.old writer.new X.Sink trace.old trace.new resources.now.workers) }
-{
-    let round = sim.step(resources.rt, resources.workers, &FreeGate)?;
-    let row = round.row();
-    write_trace_rows(
-        resources.alloc,
+    let mut output = ReportAndTrace {
+        alloc: resources.alloc,
+        format,
+        writer,
         trace,
-        row.round,
-        round.list(),
-        round.records(),
-    )?;
-    write_report_row(resources.alloc, writer, sim.format(), &row)
+    };
+    write_rounds::<Brand, H, ReportAndTrace<W, X>>(resources, scenario, &mut output)?;
+    Ok(())
 }

@@ -1,6 +1,7 @@
--- What stands before the first round: a simulation, and a sink. Source: this project.
-use Rattle.std.specs.Prelude.{◌≡◌, true, false}
-use Rattle.bench_types.specs.declared.sinks.Sink.{Ghosts as Sink}
+-- What stands before the first round. Source: this project.
+use Rattle.std.specs.Prelude.{◌≡◌, false, Result, IfOk, IsOkUnless}
+use Rattle.bench_types.specs.declared.faults.Fault.{Fault}
+use Rattle.bench_types.specs.declared.faults.Fault.TheVariants.{OutOfMemory}
 use Rattle.runs.specs.declared.openings.Opened.{Opened}
 use Rattle.runs.specs.declared.openings.Opened.TheVariants.{Byte, Narrow, Wide}
 use Rattle.scenario.specs.Settings.{Settings}
@@ -10,13 +11,16 @@ use Rattle.simulation.specs.calls.Simulation.{SimView}
 abbrev pub IsAtStart : {T : Type 0} → SimView T → Type 0
 IsAtStart sim = (sim.broken ≡ false) × (sim.rounds_done ≡ 0)
 
--- the sink hasn't failed, and all that it took is passed on
-pub record IsReady {W : Type 0} (sink : Sink W) (now : W) : Type 0 where
-  pub sound : sink.failed now ≡ false
-  pub flushed : sink.flushed now ≡ true
+-- a simulation of these settings, before its first round
+abbrev pub IsBegun : {T : Type 0} → Settings → SimView T → Type 0
+IsBegun s sim = IsAtStart sim × (sim.settings ≡ s)
 
--- the simulation of these settings, before its first round
-abbrev pub IsOpened : {L : Type 0} → Opened L → Settings → Type 0
-IsOpened (Byte sim) s = IsAtStart sim × (sim.settings ≡ s)
-IsOpened (Narrow sim) s = IsAtStart sim × (sim.settings ≡ s)
-IsOpened (Wide sim) s = IsAtStart sim × (sim.settings ≡ s)
+abbrev pub IsOpened : {L : Type 0} → Settings → Opened L → Type 0
+IsOpened s (Byte sim) = IsBegun s sim
+IsOpened s (Narrow sim) = IsBegun s sim
+IsOpened s (Wide sim) = IsBegun s sim
+
+-- what is begun so, or lack of memory
+pub record AnswersBegun {A : Type 0} (Begun : A → Type 0) (answer : Result A Fault) : Type 0 where
+  pub begun : IfOk answer Begun
+  pub only : IsOkUnless answer OutOfMemory

@@ -5,7 +5,8 @@ use Rattle.runs.proofs.inputs.read_all.Goals as goal
 
 pub returns-then-count-space-clause-fault : goal.returns-then-count-space-clause-fault
 returns-then-count-space-clause-fault g c =
-    let more = gave_more g.R.Source _ _ _ c.loop-count.text.items c.pull.new.buf c.in-Ok.count c.loop-count.invariant.given c.in-Ok.ensures.bytes c.in-Ok.ensures.bound in
+    let more = gave_more g.R.Source _ _ _ c.loop-count.text.items c.pull.new.buf c.in-Ok.count c.loop-count.invariant.given c.in-Ok.ensures.bytes
+    c.in-Ok.ensures.bound in
     let room : length c.pull.new.buf ≤ c.min-room.result = rw (c.pull.auto.buf, length-take) (omega arith) in
     let all : length c.loop-count.text.items + c.in-Ok.count ≡ MOST_BYTES + 1 = omega (arith, c.loop-count.text.ok.0, c.in-Ok.ensures.bound) in
     let gave = subst (Gave g.R.Source _ _) all more in
@@ -19,7 +20,8 @@ returns-then-count-space-clause-fault g c =
 pub returns-in_err-extend_from_slice-clause-fault :
     goal.returns-in_err-extend_from_slice-clause-fault
 returns-in_err-extend_from_slice-clause-fault g c =
-    let more = gave_more g.R.Source _ _ _ c.loop-count.text.items c.pull.new.buf c.in-Ok.count c.loop-count.invariant.given c.in-Ok.ensures.bytes c.in-Ok.ensures.bound in
+    let more = gave_more g.R.Source _ _ _ c.loop-count.text.items c.pull.new.buf c.in-Ok.count c.loop-count.invariant.given c.in-Ok.ensures.bytes
+    c.in-Ok.ensures.bound in
     let bound : length c.loop-count.text.items + c.in-Ok.count ≤ MOST_BYTES = omega (arith, c.loop-count.text.ok.0) in
     at_fault c.from_residual.result OutOfMemory _ c.from_residual.ensures.1
     (record {

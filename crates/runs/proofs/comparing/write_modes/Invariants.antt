@@ -1,6 +1,0 @@
-use Rattle.runs.proofs.Comparison.{AreModesWritten}
-use Rattle.runs.proofs.comparing.write_modes.Given as goal
-
-abbrev pub invariant-loop-mode : goal.invariant-loop-mode
-invariant-loop-mode g l =
-    AreModesWritten g.W.Sink l.initial.writer l.writer l.initial.scenario l.modes l.scenario l.mode-index

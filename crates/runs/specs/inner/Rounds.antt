@@ -1,0 +1,32 @@
+-- The rounds of a scenario and what they are written to, of whatever kind that is: `Wrote` says what it is once a round
+-- was written, from what it was before, and `Stops` what it is where writing a round came to a fault.
+-- Source: this project.
+use Rattle.std.specs.Prelude.{◌≡◌, ℕ, zero, suc, ◌+◌, Result, OnOk, IfOk, IfErr}
+use Rattle.bench_types.specs.declared.faults.Fault.{Fault}
+use Rattle.runs.specs.Runs.{IsFaultInRounds}
+use Rattle.scenario.specs.Settings.{Settings}
+use Rattle.simulation.specs.calls.Outcomes.{played_of}
+use Rattle.simulation.specs.calls.RoundView.{RoundView}
+
+module _ {O : Type 0} (Wrote : O → O → RoundView → Type 0) (s : Settings) (old : O) where
+  -- the first so many rounds were written, one after another
+  abbrev pub AreWrittenInTurn : O → ℕ → Type 0
+  AreWrittenInTurn new zero = new ≡ old
+  AreWrittenInTurn new (suc done) = (now : O) × AreWrittenInTurn now done × Wrote now new (played_of s (suc done))
+
+module _ {O : Type 0} (Wrote : O → O → RoundView → Type 0) (Stops : O → O → RoundView → Fault → Type 0)
+    (s : Settings) (old new : O) where
+  -- and then writing the next one came to this fault
+  abbrev pub StopsInTurn : Fault → ℕ → Type 0
+  StopsInTurn fault done =
+      (now : O) × AreWrittenInTurn Wrote s old now done × Stops now new (played_of s (done + 1)) fault
+
+  -- the fault of the rounds and of writing them
+  abbrev pub IsFaultInTurn : ℕ → Fault → Type 0
+  IsFaultInTurn workers fault = IsFaultInRounds s workers fault (AreWrittenInTurn Wrote s old new) (StopsInTurn fault)
+
+  -- what comes of all rounds: they are written, and the scenario comes back, or a fault in them
+  pub record AnswersRounds (workers : ℕ) (answer : Result Settings Fault) : Type 0 where
+    pub same : IfOk answer (λ back. back ≡ s)
+    pub written : OnOk answer (AreWrittenInTurn Wrote s old new s.rounds)
+    pub fault : IfErr answer (IsFaultInTurn workers)

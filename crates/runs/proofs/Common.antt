@@ -2,8 +2,7 @@
 -- Serves most of the crate.
 pub use Rattle.std.proofs.Common.{Bool, Err, IfErr, IfOk, IfSome, List, None, Ok, Option, Result, Some, [], add-one, ap, append_assoc, arith, cond, drop, drop-cons, false, get_or, inl, inr, length, length-append, refl, rules, subst, suc, sym, take, take-append-drop, true, zero, ℕ, ◌*◌, ◌++◌, ◌+◌, ◌-◌, ◌<◌, ◌∙◌, ◌∷◌, ◌≡◌, ◌≢◌, ◌≤◌}
 pub use Rattle.std.proofs.Math.Path.{transport}
-pub use Rattle.std.proofs.KnownBytes.{Appends-nil, Appends-trans, Consumes-trans}
-pub use Rattle.std.proofs.lemmas.Bool.{cases_lt}
+pub use Rattle.std.proofs.KnownBytes.{Appends-trans, Consumes-trans}
 pub use Rattle.std.proofs.lemmas.Grind.{flat_map-append}
 pub use Rattle.std.proofs.lemmas.List.{append-nil, length-take, length-take-le, map-id, take_all, take_more}
 pub use Rattle.std.proofs.lemmas.List.FromFn.{map-range_with_len_more}
@@ -11,7 +10,7 @@ pub use Rattle.std.proofs.lemmas.Option.{same_Some}
 pub use Rattle.std.proofs.lemmas.Result.{IfErr-weaker, on_ok_weaker}
 pub use Rattle.std.specs.Io.KnownBytes.{Consumes}
 pub use Rattle.std.specs.List.{range_with_len}
-pub use Rattle.std.specs.Prelude.{Contains, IsErrAnd, IsSomeAnd, OnOk}
+pub use Rattle.std.specs.Prelude.{Contains, IsErrAnd, IsSomeAnd, OnOk, flat_map}
 pub use Rattle.bench_types.proofs.Sums.{sum_below-most}
 pub use Rattle.bench_types.specs.Mode.{modes}
 pub use Rattle.bench_types.specs.Output.{IsWriteFault, IsWritten}
@@ -24,7 +23,7 @@ pub use Rattle.model.specs.Table.{Table}
 pub use Rattle.model.specs.calls.Numbers.{write_from, write_numbered}
 pub use Rattle.report.specs.Compare.{compare_header_line, compare_line, compare_lines}
 pub use Rattle.report.specs.Report.{report_header_line, report_line, report_lines}
-pub use Rattle.report.specs.Trace.{trace_header_line, trace_lines}
+pub use Rattle.report.specs.Trace.{trace_header_line}
 pub use Rattle.round_plan.proofs.Growth.{length-own_writes, writes_in_le}
 pub use Rattle.round_plan.proofs.Written.{apart-written_upto}
 pub use Rattle.round_plan.specs.Outages.{is_up}
@@ -32,7 +31,6 @@ pub use Rattle.round_plan.specs.Writes.{count_before, own_writes, writes_in, wri
 pub use Rattle.scenario.specs.CheckFault.{IsFaultOfCheck}
 pub use Rattle.scenario.specs.Order.{Says, document_of, first_fault}
 pub use Rattle.scenario.specs.Settings.{IsLawfulScenario, Settings, with_mode}
-pub use Rattle.simulation.proofs.Modes.{written_under}
 pub use Rattle.simulation.specs.Outcomes.{row_in}
 pub use Rattle.simulation.specs.calls.Outcomes.{played_of}
 pub use Rattle.simulation.specs.calls.RoundView.{RoundView}

@@ -1,10 +1,11 @@
 -- How far a comparison of the modes has been written.
--- Serves `write_comparison`.
-use Rattle.runs.proofs.Common.{◌≡◌, ℕ, zero, suc, ◌+◌, ◌<◌, ◌≤◌, ◌++◌, ◌∷◌, [], List, length, take, drop, get_or, inl, inr, refl, sym, ap, ◌∙◌, subst, append_assoc, arith, add-one, drop-cons, take-append-drop, flat_map-append, append-nil, take_all, take_more, map-range_with_len_more, Mode, Fault, modes, compare_header_line, compare_line, compare_lines, IsWritten, IsWriteFault, Settings, with_mode, row_in}
+-- Serves `compare` and `write_comparison`.
+use Rattle.runs.proofs.Common.{◌≡◌, ℕ, zero, suc, ◌+◌, ◌<◌, ◌≤◌, ◌++◌, ◌∷◌, [], List, length, take, drop, get_or, inl, inr, refl, sym, ap, ◌∙◌, subst, append_assoc, arith, add-one, drop-cons, take-append-drop, flat_map-append, append-nil, take_all, take_more, flat_map, map-range_with_len_more, Mode, Fault, modes, compare_header_line, compare_line, compare_lines, IsWritten, IsWriteFault, Settings, with_mode, row_in}
 use Rattle.bench_types.specs.declared.sinks.Sink.{Ghosts as Sink}
 use Rattle.runs.specs.declared.outputs.ModeRows.{ModeRows}
-use Rattle.runs.specs.Comparisons.{lines_upto, lines_under, lines_of_modes, comparison_of, comparison_text, StopsAtLine, IsComparingFault, IsFaultInLines}
+use Rattle.runs.specs.Comparisons.{lines_upto, lines_under, comparison_of, comparison_text, IsComparingFault, IsFaultInLines}
 use Rattle.runs.specs.Reports.{rows_upto}
+use Rattle.runs.specs.Runs.{IsFaultAfter}
 use Rattle.runs.specs.inner.Outputs.{KeepsRows, WritesRow, StopsInRow}
 use Rattle.runs.specs.inner.Rounds.{AreWrittenInTurn, StopsInTurn, IsFaultInTurn}
 use Rattle.runs.proofs.Turns.{fault_told}
@@ -47,7 +48,7 @@ module _ {W : Type 0} (sink : Sink W) (s : Settings) (start : W) (old : ModeRows
 
   -- and a fault among them is one among the lines
   stops_at_line : (now : ModeRows W) (fault : Fault) (rounds : ℕ) → StopsInTurn (WritesRow sink) (StopsInRow sink) s old now fault rounds
-      → StopsAtLine sink start now.writer.now whole s fault rounds
+      → IsFaultAfter sink start now.writer.now (whole ++ lines_upto s rounds) (compare_line s.format s.mode (row_in s (rounds + 1))) fault
   stops_at_line now fault rounds (then, so_far, stop) =
       let upto = lines_written then rounds so_far in
       (then.writer.now, upto.1, subst (λ l. IsWriteFault sink then.writer.now now.writer.now l fault) (line_is then rounds upto.0) stop.stops)
@@ -103,7 +104,7 @@ module _ {W : Type 0} (sink : Sink W) (start now end : W) (s current under : Set
   modes_next =
       ap (comparison_of s) (take_more modes i d below)
       ∙ ap (λ l. (compare_header_line s.format) ++ l) (flat_map-append (lines_under s) (take i modes) (next_mode ∷ []))
-      ∙ sym (append_assoc (compare_header_line s.format) (lines_of_modes s (take i modes)) (lines_under s next_mode ++ []))
+      ∙ sym (append_assoc (compare_header_line s.format) (flat_map (lines_under s) (take i modes)) (lines_under s next_mode ++ []))
       ∙ ap (λ l. whole ++ l) (append-nil (lines_under s next_mode))
 
   module _ (rows : AreRowsOf old now s.format next_mode) where

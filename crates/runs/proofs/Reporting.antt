@@ -1,5 +1,5 @@
 -- How far the report and the trace have been written.
--- Serves `write_run` and `ReportAndTraceRoundWriter::write`.
+-- Serves `write_run`.
 use Rattle.runs.proofs.Common.{◌≡◌, ℕ, zero, suc, ◌+◌, ◌++◌, ◌∷◌, [], inl, inr, refl, sym, ap, ◌∙◌, subst, transport, append_assoc, arith, add-one, flat_map-append, range_with_len, append-nil, map-id, map-range_with_len_more, Fault, IsWritten, IsWriteFault, trace_header_line, report_header_line, report_line, report_lines, Settings, row_in}
 use Rattle.bench_types.specs.declared.sinks.Sink.{Ghosts as Sink}
 use Rattle.runs.specs.declared.outputs.ReportAndTrace.{ReportAndTrace}

@@ -1,5 +1,5 @@
 -- One text behind another.
--- Serves `write_comparison` and `write_run`.
+-- Serves `Comparison` and `Reporting`.
 use Rattle.runs.proofs.Common.{◌++◌, List, ℕ, Appends-trans, IsWritten}
 use Rattle.bench_types.specs.declared.sinks.Sink.{Ghosts as Sink}
 

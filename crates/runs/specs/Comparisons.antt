@@ -19,34 +19,25 @@ use Rattle.runs.specs.Runs.{IsFaultAfter, IsFaultInRounds}
 abbrev pub lines_upto : Settings → ℕ → List ℕ
 lines_upto s rounds = compare_lines s.format s.mode (rows_upto s rounds)
 
--- the lines of all its rounds under a mode, and under these modes in turn
+-- the lines of all its rounds under a mode
 abbrev pub lines_under : Settings → Mode → List ℕ
 lines_under s mode = lines_upto (with_mode s mode) s.rounds
 
-abbrev pub lines_of_modes : Settings → List Mode → List ℕ
-lines_of_modes s ms = flat_map (lines_under s) ms
-
--- the comparison of these modes, and of all
+-- the comparison of these modes in turn, and of all
 abbrev pub comparison_of : Settings → List Mode → List ℕ
-comparison_of s ms = (compare_header_line s.format) ++ lines_of_modes s ms
+comparison_of s ms = (compare_header_line s.format) ++ flat_map (lines_under s) ms
 
 unfoldable pub comparison_text : Settings → List ℕ
 comparison_text s = comparison_of s modes
 
-module _ {W : Type 0} (sink : Sink W) (old new : W) (whole : List ℕ) (s : Settings) where
-  -- the text `whole` and the lines of the first so many rounds of a scenario were written
-  abbrev pub AreLinesWritten : ℕ → Type 0
-  AreLinesWritten rounds = IsWritten sink old new (whole ++ lines_upto s rounds)
-
-  -- and then writing the next round's line came to this fault
-  abbrev pub StopsAtLine : Fault → ℕ → Type 0
-  StopsAtLine fault rounds =
-      IsFaultAfter sink old new (whole ++ lines_upto s rounds)
-      (compare_line s.format s.mode (row_in s (rounds + 1))) fault
-
-  -- the fault of the rounds and of writing their lines, behind that text
-  abbrev pub IsFaultInLines : ℕ → Fault → Type 0
-  IsFaultInLines workers fault = IsFaultInRounds s workers fault AreLinesWritten (StopsAtLine fault)
+-- the text `whole` and the lines of the first so many rounds of a scenario were written, and then the next round or its
+-- line came to this fault
+abbrev pub IsFaultInLines : {W : Type 0} → Sink W → W → W → List ℕ → Settings → ℕ → Fault → Type 0
+IsFaultInLines sink old new whole s workers fault =
+    IsFaultInRounds s workers fault
+    (λ rounds. IsWritten sink old new (whole ++ lines_upto s rounds))
+    (λ rounds. IsFaultAfter sink old new (whole ++ lines_upto s rounds)
+    (compare_line s.format s.mode (row_in s (rounds + 1))) fault)
 
 module _ {W : Type 0} (sink : Sink W) (old new : W) (s : Settings) (workers : ℕ) (fault : Fault) where
   -- the header and all lines of the first modes were written, and then those of the next one came to this fault

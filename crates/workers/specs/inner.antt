@@ -4,6 +4,7 @@ pub mod Gathering
 pub mod Joined
 pub mod Starts
 pub mod Returns
+pub mod AtWork
 pub mod Deques
 pub mod Pushes
 pub mod Workshops

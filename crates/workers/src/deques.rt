@@ -136,8 +136,8 @@ impl<L: Limit> Tasks<L> {
     pub(crate) fn deal(alloc: Global, workers: u32, ready: &[u32]) -> Result<Vec<Tasks<L>>, Fault>
         requires some { 1 ≤ workers }
         requires within { AllBelow L.limit ready.now }
-        ensures one_each { IfOk result (λ tasks. vec_len tasks ≡ workers) }
-        ensures dealt { IfOk result (λ tasks. AreDealt ready.now (map pushed tasks.items) (length ready.now)) }
+        ensures dealt { IfOk result (λ tasks. (vec_len tasks ≡ workers)
+            × AreDealt ready.now (map pushed tasks.items) (length ready.now)) }
         ensures only { IsOkUnless result OutOfMemory }
     {
         let count = workers as usize;

@@ -9,7 +9,7 @@ ghost use Rattle.workers.specs.Carrying.{MayCarryOut};
 
 use crate::gates::Gate;
 use crate::works::Work;
-use bench_types::{Exchange, Fault, Record, Rules};
+use bench_types::{Exchange, Fault, Record};
 use model::{Exchanging, MemoryTable};
 use std::alloc::Global;
 
@@ -26,32 +26,32 @@ pub(crate) fn exchange_all<T: MemoryTable, X: Exchanging<T>, G: Gate>(
     let mut records = Vec::with_capacity(alloc, work.list.len() as usize)?;
     for (i, plan) in work.list.exchanges().iter().enumerate() {
         work.gate.enter(i as u32);
-        let sent = exchange_pair(alloc, work.shared, tables, plan, work.rules)?;
+        let sent = exchange_pair(alloc, &work, tables, plan)?;
         work.gate.leave(i as u32);
         records.push(sent)?;
     }
     Ok(records)
 }
 
-fn exchange_pair<T: MemoryTable, X: Exchanging<T>>(
+fn exchange_pair<T: MemoryTable, X: Exchanging<T>, G>(
     alloc: Global,
-    shared: &X,
+    work: &Work<X, G>,
     tables: &mut [T],
     plan: &Exchange,
-    rules: &Rules,
 ) -> Result<Record, Fault>
-    requires tables { MayCarryOut (X.fits shared.now) rules.now (length tables.old) (map T.table tables.old) }
+    requires tables { MayCarryOut (X.fits work.now.shared.now) work.now.rules.now (length tables.old)
+        (map T.table tables.old) }
     requires planned { IsPlanned (length tables.old) plan.now }
-    ensures exchanged { IfOk result (IsPairExchanged T.table rules.now plan.now tables.old tables.new) }
+    ensures exchanged { IfOk result (IsPairExchanged T.table work.now.rules.now plan.now tables.old tables.new) }
     ensures only { IsOkUnless result OutOfMemory }
 {
     let initiator = plan.initiator as usize;
     let responder = plan.responder as usize;
     if initiator < responder {
         let (below, from) = tables.split_at_mut(responder);
-        shared.exchange(alloc, &mut below[initiator], &mut from[0], plan, rules)
+        work.shared.exchange(alloc, &mut below[initiator], &mut from[0], plan, work.rules)
     } else {
         let (below, from) = tables.split_at_mut(initiator);
-        shared.exchange(alloc, &mut from[0], &mut below[responder], plan, rules)
+        work.shared.exchange(alloc, &mut from[0], &mut below[responder], plan, work.rules)
     }
 }

@@ -1,9 +1,8 @@
 //! What the workers of a list share, and the body of one of them.
 
-ghost use Rattle.std.specs.Prelude.{◌≡◌, ◌<◌, IfOk, OnOk, OnErr, IsOkUnless};
+ghost use Rattle.std.specs.Prelude.{◌≡◌, ◌<◌, MatchResult, OnOk, IsOkUnless};
 ghost use Rattle.bench_types.specs.declared.faults.Fault.TheVariants.{OutOfMemory};
-ghost use Rattle.board.specs.Weights.{Has};
-ghost use Rattle.board.specs.Boards.{plan_of, seat_view, IsSeatOf, IsHoldOf};
+ghost use Rattle.board.specs.Boards.{plan_of, seat_view, IsSeatOf};
 
 use crate::deques::{Limit, Tasks};
 use crate::gates::Gate;
@@ -26,6 +25,14 @@ pub(crate) struct Workshop<'a, T: MemoryTable, X: Exchanging<T>, G> {
     pub gate: &'a G,
 }
 
+/// A worker: its seat, where it finds exchanges, and the records of those that it has put back.
+#[derive(Drop)]
+pub(crate) struct Worker<T, L: Limit> {
+    pub seat: Seat<T>,
+    pub tasks: Tasks<L>,
+    pub stamps: Vec<Stamped>,
+}
+
 /// What a worker comes back with: its seat, and the records of the exchanges that it has put back, or
 /// lack of memory.
 #[derive(Drop)]
@@ -35,90 +42,88 @@ pub(crate) struct Returned<T> {
 }
 
 impl<'a, T: MemoryTable, X: Exchanging<T>, G: Gate> Workshop<'a, T, X, G> {
-    ghost use Rattle.workers.specs.inner.Pushes.{PushesFreed, pushed};
     ghost use Rattle.workers.specs.inner.Workshops.{IsWorkshop, IsWorkshopOf};
-    ghost use Rattle.workers.specs.inner.Returns.{HasCarriedOut, HasRecords, IsFreshSeat, IsReturned, SeesTheEnd, StaysAtWork};
+    ghost use Rattle.workers.specs.inner.AtWork.{HasWorked, IsWorker, StaysAtWork};
+    ghost use Rattle.workers.specs.inner.Returns.{HasCarriedOut, IsFreshSeat, IsHeldOf, IsReturned, SeesTheEnd};
 
     /// Carries out exchanges of the list until it sees that all are finished or that a stop was called. On
     /// lack of memory it calls for a stop.
     pub(crate) fn work<L: Limit, R: Wait>(
         &self,
         rt: &R,
-        mut seat: Seat<T>,
-        mut tasks: Tasks<L>,
+        seat: Seat<T>,
+        tasks: Tasks<L>,
     ) -> Returned<T>
         requires shop { IsWorkshopOf T.table X.fits L.limit self.now }
         requires seat { IsFreshSeat T.table self.now.board.now seat }
         ensures { IsReturned T.table self.now.board.now (seat_view seat).parts result }
     {
-        let outcome = self.carry_out_all(rt, &mut seat, &mut tasks);
-        if outcome.is_err() {
-            self.board.stop(&mut seat);
+        let mut worker = Worker {
+            seat,
+            tasks,
+            stamps: Vec::new(self.alloc),
+        };
+        match self.carry_out_all(rt, &mut worker) {
+            Ok(()) => Returned {
+                seat: worker.seat,
+                outcome: Ok(worker.stamps),
+            },
+            Err(fault) => {
+                self.board.stop(&mut worker.seat);
+                Returned {
+                    seat: worker.seat,
+                    outcome: Err(fault),
+                }
+            }
         }
-        Returned { seat, outcome }
     }
 
     fn carry_out_all<L: Limit, R: Wait>(
         &self,
         rt: &R,
-        seat: &mut Seat<T>,
-        tasks: &mut Tasks<L>,
-    ) -> Result<Vec<Stamped>, Fault>
+        worker: &mut Worker<T, L>,
+    ) -> Result<(), Fault>
         requires shop { IsWorkshopOf T.table X.fits L.limit self.now }
-        requires seat { IsFreshSeat T.table self.now.board.now seat.old }
-        ensures seat { IsSeatOf T.table seat.new self.now.board.now }
-        ensures stays { StaysAtWork (seat_view seat.old) (seat_view seat.new) }
-        ensures records { IfOk result (λ stamps. HasRecords T.table self.now.board.now seat.new stamps.items) }
-        ensures ends { OnOk result (SeesTheEnd (plan_of T.table self.now.board.now) (seat_view seat.new)) }
-        ensures pushes { OnOk result
-            (PushesFreed (seat_view seat.old) (pushed tasks.old) (seat_view seat.new) (pushed tasks.new)) }
+        requires worker { IsWorker T.table self.now.board.now worker.old }
+        ensures stays { StaysAtWork T.table self.now.board.now worker.old worker.new }
+        ensures worked { OnOk result (HasWorked T.table self.now.board.now worker.old worker.new) }
+        ensures ends { OnOk result (SeesTheEnd (plan_of T.table self.now.board.now) (seat_view worker.new.seat)) }
         ensures only { IsOkUnless result OutOfMemory }
     {
-        let mut stamps = Vec::new(self.alloc);
         let backoff = Backoff::new();
         for _ in rt.forever() {
             // Whether all exchanges are put back, or a stop was called.
-            let progress = self.board.look(seat);
+            let progress = self.board.look(&mut worker.seat);
             if progress.stopped || progress.finished == self.list.len() {
                 break;
             }
-            if let Some(i) = tasks.next() {
-                self.try_one(seat, tasks, &mut stamps, i)?;
+            if let Some(i) = worker.tasks.next() {
+                self.try_one(worker, i)?;
                 backoff.reset();
             } else {
                 backoff.snooze();
             }
         }
-        Ok(stamps)
+        Ok(())
     }
 
     // Claims an exchange, and where it is held carries it out and keeps its record. What that made ready
     // goes on the worker's own deque.
-    fn try_one<L: Limit>(
-        &self,
-        seat: &mut Seat<T>,
-        tasks: &mut Tasks<L>,
-        stamps: &mut Vec<Stamped>,
-        i: u32,
-    ) -> Result<(), Fault>
+    fn try_one<L: Limit>(&self, worker: &mut Worker<T, L>, i: u32) -> Result<(), Fault>
         requires shop { IsWorkshopOf T.table X.fits L.limit self.now }
         requires within { i < L.limit }
-        requires seat { IsSeatOf T.table seat.old self.now.board.now }
-        requires records { HasRecords T.table self.now.board.now seat.old stamps.old.items }
-        ensures seat { IsSeatOf T.table seat.new self.now.board.now }
-        ensures stays { StaysAtWork (seat_view seat.old) (seat_view seat.new) }
-        ensures records { OnOk result (HasRecords T.table self.now.board.now seat.new stamps.new.items) }
-        ensures pushes { OnOk result
-            (PushesFreed (seat_view seat.old) (pushed tasks.old) (seat_view seat.new) (pushed tasks.new)) }
+        requires worker { IsWorker T.table self.now.board.now worker.old }
+        ensures stays { StaysAtWork T.table self.now.board.now worker.old worker.new }
+        ensures worked { OnOk result (HasWorked T.table self.now.board.now worker.old worker.new) }
         ensures only { IsOkUnless result OutOfMemory }
     {
-        let Claim::Held(hold) = self.board.claim(seat, i) else {
+        let Claim::Held(hold) = self.board.claim(&mut worker.seat, i) else {
             return Ok(());
         };
-        let (stamped, freed) = self.carry_out(seat, hold)?;
-        tasks.push_freed(freed.first)?;
-        tasks.push_freed(freed.second)?;
-        stamps.push(stamped)?;
+        let (stamped, freed) = self.carry_out(&mut worker.seat, hold)?;
+        worker.tasks.push_freed(freed.first)?;
+        worker.tasks.push_freed(freed.second)?;
+        worker.stamps.push(stamped)?;
         Ok(())
     }
 
@@ -131,14 +136,11 @@ impl<'a, T: MemoryTable, X: Exchanging<T>, G: Gate> Workshop<'a, T, X, G> {
         mut hold: Hold<T>,
     ) -> Result<(Stamped, Freed), Fault>
         requires shop { IsWorkshop T.table X.fits self.now }
-        requires seat { IsSeatOf T.table seat.old self.now.board.now }
-        requires held { Has (seat_view seat.old).held hold.index }
-        requires hold { IsHoldOf T.table (plan_of T.table self.now.board.now) hold.index hold }
+        requires hold { IsHeldOf T.table self.now.board.now seat.old hold }
         ensures seat { IsSeatOf T.table seat.new self.now.board.now }
-        ensures done { IfOk result
-            (λ done. HasCarriedOut T.table self.now.board.now seat.old hold.index done.0 done.1 seat.new) }
-        ensures err { OnErr result (seat_view seat.new ≡ seat_view seat.old) }
-        ensures only { IsOkUnless result OutOfMemory }
+        ensures done { MatchResult result
+            (λ done. HasCarriedOut T.table self.now.board.now seat.old hold.index done.0 done.1 seat.new)
+            (λ f. (f ≡ OutOfMemory) × (seat_view seat.new ≡ seat_view seat.old)) }
     {
         let index = hold.index;
         let plan = self.list.exchanges()[index as usize];

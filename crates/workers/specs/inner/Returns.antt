@@ -4,9 +4,11 @@ use Rattle.bench_types.specs.declared.faults.Fault.TheVariants.{OutOfMemory}
 use Rattle.model.specs.Table.{Table}
 use Rattle.board.specs.SeatView.{SeatView}
 use Rattle.board.specs.Plan.{BoardPlan, exchanged_at}
-use Rattle.board.specs.Boards.{plan_of, seat_view, IsSeatOf, IsPutBack}
+use Rattle.board.specs.Weights.{Has}
+use Rattle.board.specs.Boards.{plan_of, seat_view, IsSeatOf, IsHoldOf, IsPutBack}
 use Rattle.board.specs.declared.boards.Board.{Board}
 use Rattle.board.specs.declared.boards.Freed.{Freed}
+use Rattle.board.specs.declared.boards.Hold.{Hold}
 use Rattle.board.specs.declared.boards.Seat.{Seat}
 use Rattle.workers.specs.declared.gathering.Stamped.{Stamped}
 use Rattle.workers.specs.declared.workers.Returned.{Returned}
@@ -32,10 +34,11 @@ abbrev pub HasCarriedOut : {T : Type 0} → (T → Table) → Board T → Seat T
 HasCarriedOut table board old i stamped freed new =
     HasDone (plan_of table board) (seat_view old) i stamped freed (seat_view new)
 
--- a worker's seat keeps its parts, and whether it has called for a stop
-pub record StaysAtWork (old new : SeatView) : Type 0 where
-  pub parts : new.parts ≡ old.parts
-  pub is_halted : new.is_halted ≡ old.is_halted
+-- a hold of a seat's, with the tables that its exchange finds in list order
+pub record IsHeldOf {T : Type 0} (table : T → Table) (board : Board T) (seat : Seat T) (hold : Hold T) : Type 0 where
+  pub of_board : IsSeatOf table seat board
+  pub held : Has (seat_view seat).held hold.index
+  pub is_hold : IsHoldOf table (plan_of table board) hold.index hold
 
 -- a seat of the board that has put nothing back and hasn't called for a stop
 pub record IsFreshSeat {T : Type 0} (table : T → Table) (board : Board T) (seat : Seat T) : Type 0 where

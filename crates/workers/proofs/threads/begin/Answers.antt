@@ -29,8 +29,8 @@ returns-clause-begun g c =
               (c.in_ok-records.ensures.size ∙ c.len.ensures.value ∙ sym (ap (λ (p : BoardPlan). length p.list.exchanges) made));
         };
         first = c.in_ok-board.ensures.seat.1;
-        several = subst AreSeveral (sym c.in_ok-tasks.ensures.one_each) c.requires.work.several;
+        several = subst AreSeveral (sym c.in_ok-tasks.ensures.dealt.0) c.requires.work.several;
       };
-      one_each = c.in_ok-tasks.ensures.one_each;
-      dealt = subst (λ l. AreDealt l (map pushed c.in_ok-tasks.tasks.items) (length l)) ready c.in_ok-tasks.ensures.dealt;
+      one_each = c.in_ok-tasks.ensures.dealt.0;
+      dealt = subst (λ l. AreDealt l (map pushed c.in_ok-tasks.tasks.items) (length l)) ready c.in_ok-tasks.ensures.dealt.1;
     }

@@ -11,4 +11,5 @@ loop-place-preserved g c =
     }
 
 pub returns-clause-dealt : goal.returns-clause-dealt
-returns-clause-dealt g c = subst (AreDealt c.args.ready.now (map pushed c.loop-place.tasks.items)) (omega (arith, c.loop-place-test.false, c.loop-place.auto.place-end)) c.loop-place.invariant.dealt
+returns-clause-dealt g c =
+    (search rules, subst (AreDealt c.args.ready.now (map pushed c.loop-place.tasks.items)) (omega (arith, c.loop-place-test.false, c.loop-place.auto.place-end)) c.loop-place.invariant.dealt)

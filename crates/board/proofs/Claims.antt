@@ -1,6 +1,6 @@
 -- A claim and the moves of tables keep the rule.
 -- Serves `Finishing`, `Moving` and `Steps`.
-use Rattle.board.proofs.Common.{◌≡◌, ◌≢◌, ℕ, ◌+◌, ◌<◌, true, false, eqb, List, [], ◌∷◌, length, get_or, set, Some, inl, inr, refl, sym, ap, ◌∙◌, subst, arith, length-set, get_or-set_same, get_or-set_other, cases_eq, some, none, dite, ℕ_discrete, get_elem?, set-get_or, either, State, Me, step, Act, keeps, takes, gives, chain, Valid, carried_after, homes_after, stepped, Allows, set_here, set_else, takes_part, initiator_part, responder_part, not_initiator, not_responder, part_cases}
+use Rattle.board.proofs.Common.{◌≡◌, ◌≢◌, ℕ, ◌+◌, ◌<◌, true, false, eqb, List, [], ◌∷◌, length, get_or, set, Some, inl, inr, refl, sym, ap, ◌∙◌, subst, arith, length-set, get_or-set_same, get_or-set_other, cases_eq, some, none, dite, ℕ_discrete, get_elem?, set-get_or, either, State, step, Act, keeps, takes, chain, Valid, carried_after, stepped, Allows, set_here, set_else, takes_part, initiator_part, responder_part, not_initiator, not_responder, part_cases}
 use Rattle.atomic_table.proofs.Lists.{exchanged}
 use Rattle.board.specs.Weights.{only}
 use Rattle.board.specs.SeatView.{SeatView, with_told}

@@ -58,10 +58,6 @@ pub total_same : {A : Type 0} (f g : A → ℕ) (l : List A) → ((v : A) → f 
 total_same f g [] each = refl
 total_same f g (x ∷ xs) each = omega (arith, each x, total_same f g xs each)
 
-pub total_le : {A : Type 0} (f g : A → ℕ) (l : List A) → ((v : A) → f v ≤ g v) → total f l ≤ total g l
-total_le f g [] each = omega arith
-total_le f g (x ∷ xs) each = omega (arith, each x, total_le f g xs each)
-
 pub only-same : (k : ℕ) → only k k ≡ 1
 only-same k = ap (λ b. cond b 1 0) (eq-eqb k k refl)
 

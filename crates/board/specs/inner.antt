@@ -1,2 +1,4 @@
 pub mod Codes
 pub mod Plays
+pub mod Raws
+pub mod InSlots

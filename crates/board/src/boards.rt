@@ -1,15 +1,16 @@
 //! A board, the seats that use it, and what its calls answer.
-ghost use Rattle.std.specs.Prelude.{List, ◌≡◌, ◌+◌, ◌/◌, ◌<◌, ◌≤◌, None, Some, [], length, map, reverse, IfSome, IfErr, IfOk, IsOkUnless, vec_capacity};
+ghost use Rattle.std.specs.Prelude.{List, ◌≡◌, ◌+◌, ◌/◌, ◌<◌, ◌≤◌, None, Some, [], length, map, reverse, IfErr, IfOk, IsOkUnless, vec_capacity};
 ghost use Rattle.bench_types.specs.declared.faults.Fault.TheVariants.{OutOfMemory};
 ghost use Rattle.model.specs.calls.RoundLists.{IsRoundPlan};
 ghost use Rattle.dependencies.specs.inner.Slots.{in_place};
 ghost use Rattle.std.specs.Mem.Slots.{slots_items, slots_len, IsFull};
 ghost use Rattle.bench_types.specs.declared.faults.Fault.TheVariants.{Unfinished};
 ghost use Rattle.model.specs.calls.Tables.{IsCluster};
-ghost use Rattle.board.specs.SeatView.{IsWhole, first_seat, split_left, split_right, joined, with_held};
+ghost use Rattle.board.specs.SeatView.{IsWhole, first_seat, split_left, split_right, joined};
 ghost use Rattle.board.specs.Keys.{IsBoardKey};
-ghost use Rattle.board.specs.Seats.{resting, IsApart, IsInformed};
-ghost use Rattle.board.specs.inner.Plays.{HasOut, OwesNext, IsReleased, HasFinished, first_words_of};
+ghost use Rattle.board.specs.Seats.{IsApart, IsInformed};
+ghost use Rattle.board.specs.inner.Plays.{first_words_of};
+ghost use Rattle.board.specs.inner.InSlots.{AreInSlots};
 
 use crate::plays::{
     BoardKey, Both, Empty, Finish, Halt, Look, Order, Part, Release, Retake, Show, Take,
@@ -87,7 +88,8 @@ pub struct Board<T: MemoryTable> {
 }
 
 impl<T: MemoryTable> Board<T> {
-    ghost use Rattle.board.specs.Boards.{IsMadeOf, board_id, plan_of, exchanges_of, seat_view, IsSeatOf, Claims, MayPutBack, IsPutBack, IsHoldOf, Looks, HasStopped, AreLeft, IsUnfinished, HasMadeAll};
+    ghost use Rattle.board.specs.Boards.{IsMadeOf, plan_of, exchanges_of, seat_view, IsSeatOf, Claims, MayPutBack, IsPutBack, Looks, HasStopped, AreLeft, IsUnfinished, HasMadeAll};
+    ghost use Rattle.board.specs.inner.Raws.{HasClaimed, HasTakenOut, MayPutIn, HasPutIn, OwesRelease, HasReleased};
 
     /// A board of a list's exchanges and the tables of its nodes, in order, and the first seat, which has
     /// all parts. An error is lack of memory (`OutOfMemory`), and the tables are then given up. Costs a step
@@ -139,12 +141,8 @@ impl<T: MemoryTable> Board<T> {
     }
 
     fn take_out(&self, raw: &mut Raw<T>, i: u32) -> Hold<T>
-        requires within { i < length (exchanges_of self.now) }
-        requires id { raw.old.table_id ≡ board_id self.now }
-        requires out { HasOut T.table (plan_of T.table self.now) i raw.old.me }
-        ensures id { raw.new.table_id ≡ raw.old.table_id }
-        ensures seat { raw.new.me ≡ (resting (plan_of T.table self.now) (with_held raw.old.me.0.seat i), []) }
-        ensures hold { IsHoldOf T.table (plan_of T.table self.now) i result }
+        requires { HasClaimed T.table self.now i raw.old }
+        ensures { HasTakenOut T.table self.now i raw.old result raw.new }
     {
         let exchange = self.deps.exchange(i);
         let shared = &self.table.shared;
@@ -181,13 +179,8 @@ impl<T: MemoryTable> Board<T> {
     }
 
     fn put_in(&self, raw: &mut Raw<T>, hold: Hold<T>)
-        requires within { hold.index < length (exchanges_of self.now) }
-        requires id { raw.old.table_id ≡ board_id self.now }
-        requires rests { raw.old.me ≡ (resting (plan_of T.table self.now) raw.old.me.0.seat, []) }
-        requires parts { 0 < raw.old.me.0.seat.parts }
-        requires hold { MayPutBack T.table (plan_of T.table self.now) raw.old.me.0.seat hold }
-        ensures id { raw.new.table_id ≡ raw.old.table_id }
-        ensures seat { HasFinished (plan_of T.table self.now) raw.old.me.0.seat hold.index raw.new.me }
+        requires { MayPutIn T.table self.now raw.old hold }
+        ensures { HasPutIn T.table self.now raw.old hold.index raw.new }
     {
         let Hold {
             index,
@@ -205,11 +198,8 @@ impl<T: MemoryTable> Board<T> {
 
     // Releases an exchange, if there is one. Names it where this made it ready.
     fn release(&self, raw: &mut Raw<T>, next: Option<u32>) -> Option<u32>
-        requires id { raw.old.table_id ≡ board_id self.now }
-        requires owes { OwesNext (plan_of T.table self.now) raw.old.me next }
-        ensures id { raw.new.table_id ≡ raw.old.table_id }
-        ensures none { next ≡ None → (result ≡ None) × (raw.new.me ≡ raw.old.me) }
-        ensures released { IfSome next (λ j. IsReleased (plan_of T.table self.now) raw.old.me j result raw.new.me) }
+        requires { OwesRelease T.table self.now raw.old next }
+        ensures { HasReleased T.table self.now raw.old next result raw.new }
     {
         let j = next?;
         let found = self
@@ -304,8 +294,7 @@ fn first_words(alloc: Global, deps: &Deps) -> Result<Vec<u64>, Fault>
 }
 
 fn into_slots<T: Drop>(alloc: Global, mut tables: Vec<T>) -> Result<(Vec<Option<T>>, Vec<T>), Fault>
-    ensures slots { IfOk result (λ p. p.0.items ≡ map in_place tables.items) }
-    ensures room { IfOk result (λ p. (p.1.items ≡ []) × (length tables.items ≤ vec_capacity p.1)) }
+    ensures moved { IfOk result (λ p. AreInSlots tables.items p.0.items p.1) }
     ensures only { IsOkUnless result OutOfMemory }
 {
     let mut slots = Vec::with_capacity(alloc, tables.len())?;
@@ -319,8 +308,7 @@ fn into_slots<T: Drop>(alloc: Global, mut tables: Vec<T>) -> Result<(Vec<Option<
 }
 
 fn all_out<T: Drop>(mut closed: Closed<Option<T>, Global>, mut room: Vec<T>) -> Vec<T>
-    requires full { IsFull closed.slots }
-    requires room { (room.items ≡ []) × (slots_len closed.slots ≤ vec_capacity room) }
+    requires room { IsFull closed.slots × (room.items ≡ []) × (slots_len closed.slots ≤ vec_capacity room) }
     ensures { (kept : List T) → slots_items closed.slots ≡ map in_place kept → result.items ≡ kept }
 {
     for i in 0..closed.slot_count() {

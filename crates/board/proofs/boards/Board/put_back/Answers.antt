@@ -6,25 +6,37 @@ use Rattle.board.proofs.Calls.{at_rest, seat_of_me, owes_first, owes_second, aft
 use Rattle.board.proofs.boards.Board.put_back.Given as given
 use Rattle.board.proofs.boards.Board.put_back.Goals as goal
 
-pub put_in-requires-clause-rests : goal.put_in-requires-clause-rests
-put_in-requires-clause-rests g c = at_rest (plan_of g.T.MemoryTable.table c.args.self.now) c.args.seat.now.raw.me c.requires.seat.plan c.requires.seat.rests
+pub put_in-requires : goal.put_in-requires
+put_in-requires g c = record {
+  within = c.requires.seat.within c.args.hold.index c.requires.hold.held;
+  id = c.requires.seat.id;
+  rests = at_rest (plan_of g.T.MemoryTable.table c.args.self.now) c.args.seat.now.raw.me c.requires.seat.plan c.requires.seat.rests;
+  parts = c.requires.seat.rests.parts;
+  may = c.requires.hold;
+}
 
-pub release-first-requires-clause-owes : goal.release-first-requires-clause-owes
-release-first-requires-clause-owes g c =
+pub release-first-requires : goal.release-first-requires
+release-first-requires g c =
     let plan = plan_of g.T.MemoryTable.table c.args.self.now in
     let i = c.args.hold.index in
-    let after = c.after-after.ensures ∙ ap (λ l. successors l.exchanges i) c.args.self.now.planned.1 in
-    subst (λ x. IfSome x (λ j. (j < length (exchanges_of c.args.self.now)) × OwesTo plan c.put_in.new.raw.me j)) (sym (ap (λ a. a.first) after))
-    (owes_first plan (seat_view c.args.seat.now) i c.put_in.new.raw.me c.put_in.ensures.seat c.requires.seat.rests.parts (c.requires.seat.within i c.requires.hold.held))
+    let after = c.after-after.ensures ∙ ap (λ l. successors l.exchanges i) c.args.self.now.planned.1 in record {
+      id = c.put_in.ensures.id ∙ c.requires.seat.id;
+      owes =
+          subst (λ x. IfSome x (λ j. (j < length (exchanges_of c.args.self.now)) × OwesTo plan c.put_in.new.raw.me j)) (sym (ap (λ a. a.first) after))
+          (owes_first plan (seat_view c.args.seat.now) i c.put_in.new.raw.me c.put_in.ensures.seat c.requires.seat.rests.parts (c.requires.seat.within i c.requires.hold.held));
+    }
 
-pub release-second-requires-clause-owes : goal.release-second-requires-clause-owes
-release-second-requires-clause-owes g c =
+pub release-second-requires : goal.release-second-requires
+release-second-requires g c =
     let plan = plan_of g.T.MemoryTable.table c.args.self.now in
     let i = c.args.hold.index in
-    let after = c.after-after.ensures ∙ ap (λ l. successors l.exchanges i) c.args.self.now.planned.1 in
-    subst (λ x. IfSome x (λ j. (j < length (exchanges_of c.args.self.now)) × OwesTo plan c.release-first.new.raw.me j)) (sym (ap (λ a. a.second) after))
-    (owes_second plan (seat_view c.args.seat.now) i c.put_in.new.raw.me c.put_in.ensures.seat c.requires.seat.rests.parts (c.requires.seat.within i c.requires.hold.held) c.release-first.new.raw.me c.release-first.result
-    (λ none. c.release-first.ensures.none (ap (λ a. a.first) after ∙ none)) (subst (λ x. IfSome x (λ j. IsReleased plan c.put_in.new.raw.me j c.release-first.result c.release-first.new.raw.me)) (ap (λ a. a.first) after) c.release-first.ensures.released))
+    let after = c.after-after.ensures ∙ ap (λ l. successors l.exchanges i) c.args.self.now.planned.1 in record {
+      id = c.release-first.ensures.id ∙ c.put_in.ensures.id ∙ c.requires.seat.id;
+      owes =
+          subst (λ x. IfSome x (λ j. (j < length (exchanges_of c.args.self.now)) × OwesTo plan c.release-first.new.raw.me j)) (sym (ap (λ a. a.second) after))
+          (owes_second plan (seat_view c.args.seat.now) i c.put_in.new.raw.me c.put_in.ensures.seat c.requires.seat.rests.parts (c.requires.seat.within i c.requires.hold.held) c.release-first.new.raw.me c.release-first.result
+          (λ none. c.release-first.ensures.none (ap (λ a. a.first) after ∙ none)) (subst (λ x. IfSome x (λ j. IsReleased plan c.put_in.new.raw.me j c.release-first.result c.release-first.new.raw.me)) (ap (λ a. a.first) after) c.release-first.ensures.released));
+    }
 
 -- what the two releases leave
 put_back : (g : given.Over) (c : goal.After-release-second g) (new : Seat g.row.T.Denot) → new.raw ≡ c.release-second.new.raw → IsSeatOf g.T.MemoryTable.table new c.args.self.now

@@ -11,7 +11,7 @@ use Rattle.board.proofs.boards.Board.put_in.Goals as goal
 use Rattle.board.proofs.boards.Board.put_in.Goals.{After-load, After-exchange-2}
 
 pub load-requires : goal.load-requires
-load-requires g c = (c.requires.id, word_within c.args.self.now c.args.hold.index c.requires.within, retake_allowed g.T.MemoryTable.table (plan_of g.T.MemoryTable.table c.args.self.now) _ _ c.args.raw.now.me c.args.raw.now.me.0.seat c.requires.parts c.requires.rests c.args.hold.index c.requires.hold.held)
+load-requires g c = (c.requires.id, word_within c.args.self.now c.args.hold.index c.requires.within, retake_allowed g.T.MemoryTable.table (plan_of g.T.MemoryTable.table c.args.self.now) _ _ c.args.raw.now.me c.args.raw.now.me.0.seat c.requires.parts c.requires.rests c.args.hold.index c.requires.may.held)
 
 -- a seat on its way to put both tables of an exchange back
 abbrev on_its_way : {T : Type 0} (plan : BoardPlan) (v : SeatView) (i : ℕ) → Me (Option T) View
@@ -47,11 +47,14 @@ pub fetch_add-requires : goal.fetch_add-requires
 fetch_add-requires g c = (
   search rules,
   word_zero c.args.self.now,
-  finish_allowed g.T.MemoryTable.table (plan_of g.T.MemoryTable.table c.args.self.now) _ _ c.exchange-2.new.seat.me (without_held c.args.raw.now.me.0.seat c.args.hold.index) c.requires.parts c.args.hold.index c.args.hold.initiator c.args.hold.responder c.requires.hold.initiator c.requires.hold.responder
+  finish_allowed g.T.MemoryTable.table (plan_of g.T.MemoryTable.table c.args.self.now) _ _ c.exchange-2.new.seat.me (without_held c.args.raw.now.me.0.seat c.args.hold.index) c.requires.parts c.args.hold.index c.args.hold.initiator c.args.hold.responder c.requires.may.initiator c.requires.may.responder
       (filled g (goal.at.fetch_add-requires g c).After-exchange-2 (goes g (goal.at.fetch_add-requires g c).After-load)),
 )
 
-pub returns-clause-seat : goal.returns-clause-seat
-returns-clause-seat g c =
-    finished_of g.T.MemoryTable.table (plan_of g.T.MemoryTable.table c.args.self.now) c.args.raw.now.me.0.seat c.args.hold.index c.fetch_add.result c.exchange-2.new.seat.me c.fetch_add.new.seat.me (step c.args.self.now.table.shared.table_id.slots 0 2 0 none) _
-    (filled g (goal.at.returns-clause-seat g c).After-exchange-2 (goes g (goal.at.returns-clause-seat g c).After-load)) c.fetch_add.ensures.2
+pub returns : goal.returns
+returns g c = record {
+  id = search rules;
+  seat =
+      finished_of g.T.MemoryTable.table (plan_of g.T.MemoryTable.table c.args.self.now) c.args.raw.now.me.0.seat c.args.hold.index c.fetch_add.result c.exchange-2.new.seat.me c.fetch_add.new.seat.me (step c.args.self.now.table.shared.table_id.slots 0 2 0 none) _
+      (filled g (goal.at.returns g c).After-exchange-2 (goes g (goal.at.returns g c).After-load)) c.fetch_add.ensures.2;
+}

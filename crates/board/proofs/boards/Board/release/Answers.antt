@@ -17,16 +17,22 @@ fetch_sub-found-requires g c =
     let owes = owed g (goal.at.fetch_sub-found-requires g c).In_ok-j in
     (c.requires.id, word_within c.args.self.now c.in_ok-j.j owes.0, release_allowed g.T.MemoryTable.table (plan_of g.T.MemoryTable.table c.args.self.now) _ _ c.args.raw.now.me c.args.raw.now.me.0.seat owes.1.parts owes.1.by c.in_ok-j.j owes.1.more owes.0 owes.1.seat)
 
-pub returns-then-found-eq1-clause-released : goal.returns-then-found-eq1-clause-released
-returns-then-found-eq1-clause-released g c =
+pub returns-then-found-eq1 : goal.returns-then-found-eq1
+returns-then-found-eq1 g c =
     let j = c.in_ok-j.j in
-    let some : c.args.next ≡ Some j = search rules in
-    subst (λ x. IfSome x (λ k. IsReleased (plan_of g.T.MemoryTable.table c.args.self.now) c.args.raw.now.me k (Some j) c.fetch_sub-found.new.seat.me)) (sym some)
-    (released_last g.T.MemoryTable.table (plan_of g.T.MemoryTable.table c.args.self.now) c.args.raw.now.me c.fetch_sub-found.new.seat.me j c.fetch_sub-found.result (step c.args.self.now.table.shared.table_id.slots (j + 1) 1 0 none) (owed g (goal.at.returns-then-found-eq1-clause-released g c).In_ok-j).1 refl c.fetch_sub-found.ensures.2 (search rules))
+    let some : c.args.next ≡ Some j = search rules in record {
+      id = search rules;
+      none = λ is. cc;
+      released = subst (λ x. IfSome x (λ k. IsReleased (plan_of g.T.MemoryTable.table c.args.self.now) c.args.raw.now.me k (Some j) c.fetch_sub-found.new.seat.me)) (sym some)
+          (released_last g.T.MemoryTable.table (plan_of g.T.MemoryTable.table c.args.self.now) c.args.raw.now.me c.fetch_sub-found.new.seat.me j c.fetch_sub-found.result (step c.args.self.now.table.shared.table_id.slots (j + 1) 1 0 none) (owed g (goal.at.returns-then-found-eq1 g c).In_ok-j).1 refl c.fetch_sub-found.ensures.2 (search rules));
+    }
 
-pub returns-else-found-eq1-clause-released : goal.returns-else-found-eq1-clause-released
-returns-else-found-eq1-clause-released g c =
+pub returns-else-found-eq1 : goal.returns-else-found-eq1
+returns-else-found-eq1 g c =
     let j = c.in_ok-j.j in
-    let some : c.args.next ≡ Some j = search rules in
-    subst (λ x. IfSome x (λ k. IsReleased (plan_of g.T.MemoryTable.table c.args.self.now) c.args.raw.now.me k None c.fetch_sub-found.new.seat.me)) (sym some)
-    (released_more g.T.MemoryTable.table (plan_of g.T.MemoryTable.table c.args.self.now) c.args.raw.now.me c.fetch_sub-found.new.seat.me j c.fetch_sub-found.result (step c.args.self.now.table.shared.table_id.slots (j + 1) 1 0 none) (owed g (goal.at.returns-else-found-eq1-clause-released g c).In_ok-j).1 refl c.fetch_sub-found.ensures.2 (search rules))
+    let some : c.args.next ≡ Some j = search rules in record {
+      id = search rules;
+      none = λ is. cc;
+      released = subst (λ x. IfSome x (λ k. IsReleased (plan_of g.T.MemoryTable.table c.args.self.now) c.args.raw.now.me k None c.fetch_sub-found.new.seat.me)) (sym some)
+          (released_more g.T.MemoryTable.table (plan_of g.T.MemoryTable.table c.args.self.now) c.args.raw.now.me c.fetch_sub-found.new.seat.me j c.fetch_sub-found.result (step c.args.self.now.table.shared.table_id.slots (j + 1) 1 0 none) (owed g (goal.at.returns-else-found-eq1 g c).In_ok-j).1 refl c.fetch_sub-found.ensures.2 (search rules));
+    }

@@ -38,12 +38,16 @@ load-requires g c =
           out.seat (ap (λ e. e.initiator) found) (ap (λ e. e.responder) found) c.exchange-responder.ensures.3 c.turn.ensures.2 None c.exchange-initiator.new.seat.me c.exchange-initiator.ensures.3),
     )
 
-pub returns-clause-seat : goal.returns-clause-seat
-returns-clause-seat g c =
+pub returns : goal.returns
+returns g c =
     let plan = plan_of g.T.MemoryTable.table c.args.self.now in
     let out = c.requires.out in
-    let found = c.exchange-exchange.ensures.value ∙ ap (λ l. exchange_at l.exchanges c.args.i) c.args.self.now.planned.1 in
-    emptied_of g.T.MemoryTable.table plan c.args.raw.now.me.0.seat c.args.i c.load.result c.exchange-initiator.new.seat.me c.load.new.seat.me (step c.args.self.now.table.shared.table_id.slots 0 0 0 none) _
-    (both_out (view plan c.args.raw.now.me.0.seat (c.args.i ∷ []) []) (initiator_of plan c.args.i) (responder_of plan c.args.i) c.exchange-exchange.result.initiator c.exchange-exchange.result.responder (Some out.initiator) (Some out.responder) None c.args.raw.now.me c.exchange-responder.new.seat.me c.turn.new.self.me
-    out.seat (ap (λ e. e.initiator) found) (ap (λ e. e.responder) found) c.exchange-responder.ensures.3 c.turn.ensures.2 None c.exchange-initiator.new.seat.me c.exchange-initiator.ensures.3)
-    c.load.ensures.2
+    let found = c.exchange-exchange.ensures.value ∙ ap (λ l. exchange_at l.exchanges c.args.i) c.args.self.now.planned.1 in record {
+      id = search rules;
+      seat =
+          emptied_of g.T.MemoryTable.table plan c.args.raw.now.me.0.seat c.args.i c.load.result c.exchange-initiator.new.seat.me c.load.new.seat.me (step c.args.self.now.table.shared.table_id.slots 0 0 0 none) _
+          (both_out (view plan c.args.raw.now.me.0.seat (c.args.i ∷ []) []) (initiator_of plan c.args.i) (responder_of plan c.args.i) c.exchange-exchange.result.initiator c.exchange-exchange.result.responder (Some out.initiator) (Some out.responder) None c.args.raw.now.me c.exchange-responder.new.seat.me c.turn.new.self.me
+          out.seat (ap (λ e. e.initiator) found) (ap (λ e. e.responder) found) c.exchange-responder.ensures.3 c.turn.ensures.2 None c.exchange-initiator.new.seat.me c.exchange-initiator.ensures.3)
+          c.load.ensures.2;
+      is_hold = search rules;
+    }

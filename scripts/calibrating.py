@@ -34,10 +34,8 @@ class Told(NamedTuple):
         return self.bound > max(1.3 * max(self.fresh), max(self.fresh) + 2)
 
     def __str__(self):
-        found = [it for it in self.fresh if it < math.inf]
-        never = f", {len(self.fresh) - len(found)} never" if len(found) < len(self.fresh) else ""
-        return (f"{self.name} {self.bound}: fresh {answer.span(found) if found else 'none'}{never}, exceeded "
-                f"{self.exceeded()} of {len(self.fresh)}{', loose' if self.is_loose() else ''}")
+        return (f"{self.name} {self.bound}: fresh {answer.span(self.fresh)}, exceeded {self.exceeded()} of "
+                f"{len(self.fresh)}{', loose' if self.is_loose() else ''}")
 
 
 def drawn(random, at, largest):
@@ -57,10 +55,8 @@ def drawn(random, at, largest):
     part = random.choice((0.25, 0.5, 0.75, 1, 1, 1.2, 1.5, 2, math.inf))
     budget = max(2, nodes * keys if part == math.inf else min(math.ceil(part * knee), nodes * keys))
     words |= {"packet": 40 * budget, "split": random.choice((0, 10, 30, 100)), "forget": random.choice(("yes", "no"))}
-    if group := random.choice((None, 0, 1, 0.05, 0.2, 0.4)):
-        words["restarts"] = max(1, round(group * nodes)) if group < 1 else 1
-    elif group == 0:
-        words["restarts"] = 0
+    if (group := random.choice((None, 0, 1, 0.05, 0.2, 0.4))) is not None:
+        words["restarts"] = group if group in (0, 1) else max(1, round(group * nodes))
     return words
 
 
@@ -84,14 +80,13 @@ def of_healing(it, stages, fresh, pair):
 
 
 class Asked(NamedTuple):
-    """What came of a cluster: its words, in short what is told, the bounds, and whether the last answer has another
-    mode or budget than the first."""
+    """What is told of a cluster: in short, the bounds, that of a target, and whether the last answer has another mode
+    or budget than the first."""
 
-    words: str
     said: str
     bounds: list
     target: Told | None
-    moved: bool = False
+    moved: bool
 
 
 def decided(it, stages):
@@ -106,20 +101,20 @@ def decided(it, stages):
     return decision, False, first.suffices and (first.mode, first.budget) != (decision.mode, decision.budget)
 
 
-def asked(words, it, folder, program):
+def asked(it, folder):
     """Asks for a cluster, and makes the runs that bound the answer again under fresh seeds."""
-    stages, fresh = advise.Stages(it, folder, program), advise.Stages(it, folder, program)
+    stages, fresh = (advise.Stages(it, folder, trials.PROGRAM) for _ in range(2))
     folder.mkdir()
     with contextlib.redirect_stderr(io.StringIO()):
         decision, is_met, moved = decided(it, stages)
-        if not decision.suffices:
-            return Asked(words, decision.headline(), [], None, moved)
-        pair, bound = (decision.budget, decision.mode), decision.bound
-        found = fresh.carry_out(bound.stage, {pair}, FRESH).worst(*pair, bound.window)
-        bounds = [Told("worst", max(bound.worst), bound.worst, found)]
-        bounds += of_healing(it, stages, fresh, pair) if decision.heals() else []
-        of_target = Told("target", it.target, bound.worst, found) if is_met else None
-    return Asked(words, decision.headline(), bounds, of_target, moved)
+        bounds, of_target, bound = [], None, decision.bound
+        if decision.suffices:
+            pair = decision.budget, decision.mode
+            seen = fresh.carry_out(bound.stage, {pair}, FRESH).worst(*pair, bound.window)
+            bounds = [Told("worst", max(bound.worst), bound.worst, seen)]
+            bounds += of_healing(it, stages, fresh, pair) if decision.heals() else []
+            of_target = Told("target", it.target, bound.worst, seen) if is_met else None
+    return Asked(decision.headline(), bounds, of_target, moved)
 
 
 def study_of(words):
@@ -140,10 +135,9 @@ def clusters(seed, count, largest):
 
 def asked_all(seed, count, largest, room, say):
     for at, (words, it) in enumerate(clusters(seed, count, largest)):
-        found = asked(words, it, Path(room, str(at)), trials.PROGRAM)
-        say(f"{at + 1}. {found.words}\n   {found.said}")
-        for it in (*found.bounds, *([found.target] if found.target else [])):
-            say(f"   {it}")
+        say(f"{at + 1}. {words}")
+        found = asked(it, Path(room, str(at)))
+        say("\n".join(f"   {line}" for line in (found.said, *found.bounds, found.target) if line))
         yield found
 
 

@@ -225,10 +225,6 @@ class Stages:
             decision.bound = self.bound_of(decision, decision.budget)
         return decision.bound.is_level()
 
-    def bound_most(self, decision):
-        """Has all that fits bounded too."""
-        decision.bound_of_most = self.bound_of(decision, decision.most)
-
     def look_below(self, decision):
         """The same decision with smaller budgets beside it, of which the last is worse under the first seeds."""
         while pairs := self.study.next_smaller(decision.smaller() or decision.budget, decision.mode):
@@ -244,9 +240,9 @@ class Stages:
         it, bound = self.study, decision.bound
         decision.floor = bound.found.uncut(bound.window)
         if not decision.floor:
-            self.plan(bound.stage, it.for_floor(), 0)
-            found = self.carry_out(bound.stage, it.for_floor(), rules.BOUNDING_FIRST)
-            decision.floor = found.uncut(bound.window)
+            ample = {(it.ample(), it.usual)}
+            self.plan(bound.stage, ample, 0)
+            decision.floor = self.carry_out(bound.stage, ample, rules.BOUNDING_FIRST).uncut(bound.window)
 
     def heal(self, decision):
         """What heals, with the budget that is taken and, under the first of these seeds, with all that fits."""
@@ -306,24 +302,21 @@ def first_answer(it, stages, told, check_sum):
     first = stages.decide(it.steady_stages()[0], it.wanted(it.usual))
     told.tell(answer.first_words(first, call_with_enough(first, stages.folder)))
     if not first.suffices:
-        print(flush=True)
         return first
     is_level = stages.is_level(first)
     about_target = [f"The target is {target.judged(first)[1]}."] if it.target else []
     told.tell(first.bound.lines() + (about_target if is_level else []))
     if not is_level:
-        print(flush=True)
         return first
     stages.expect(first, first.stage, *it.healing_stages())
     healed = {}
     for tells, of_these in it.healing_groups():
         for stage in of_these:
             healed[stage] = stages.carry_out(stage, {(first.budget, first.mode)})
-        told.tell(answer.Healing(it, first.mode, healed).lines_now(tells, first.budget))
+        told.tell(answer.Healing(it, first.mode, healed).lines_of(tells, first.budget))
     healing = answer.Healing(it, first.mode, healed) if healed else None
     page.make(stages.folder, first, healing, stages.made, check_sum, head="First answer. ")
     told.tell(answer.last_of_first_words(first, stages.folder))
-    print(flush=True)
     return first
 
 
@@ -372,7 +365,7 @@ def beside(it, stages, decision):
     if not decision.suffices:
         return [target.judged(decision)]
     if decision.budget < decision.most and not it.keeps_to_target(decision.bounded()):
-        stages.bound_most(decision)
+        decision.bound_of_most = stages.bound_of(decision, decision.most)
     pairs = {(decision.budget, decision.mode)}
     stages.plan(f"{decision.stage}-stop", pairs, 0)
     ages = target.aged(stages, decision.stage, decision.found, pairs)
@@ -387,6 +380,7 @@ def study_of(it, folder, program, check_sum):
     if sum_says := answer.at_least(it):
         told.tell(sum_says)
     first = first_answer(it, stages, told, check_sum)
+    print(flush=True)
     was_enough = bool(first.bound and first.bound.is_level())
     decision, healing = last_answer(it, stages, first)
     missing = answer.not_run(decision, call_with_enough(decision, folder), was_enough)

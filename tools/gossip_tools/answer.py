@@ -15,10 +15,6 @@ def in_rounds(figure):
     return f"{span(figure)} round{'s' if max(figure) != 1 else ''}"
 
 
-def in_nodes(count):
-    return f"{count} node{'s' if count != 1 else ''}"
-
-
 def listed(names):
     *others, last = names
     return f"{', '.join(others)} and {last}" if others else last
@@ -488,10 +484,8 @@ class Healing:
 
     def taken(self, stage, budget):
         """The rounds that it took under each seed; None where it wasn't over in the rounds that were run."""
-        times = [self.taken_in(self.stages[stage], stage, budget, stage)]
-        if stage in self.alone:
-            times.append(self.taken_in(self.alone[stage], stage, budget, f"{stage}-one"))
-        return latest(times)
+        runs = {stage: self.stages[stage], f"{stage}-one": self.alone.get(stage)}
+        return latest(self.taken_in(found, stage, budget, name) for name, found in runs.items() if found)
 
     def taken_in(self, found, stage, budget, runs):
         after = {"split": found.split_healed_after, "restart": found.healed_after, "forgotten": found.forgotten_after}
@@ -531,22 +525,12 @@ class Healing:
             return f"of one node, down for one {unit(it)[:-1]}{forgets(it)}"
         in_each = f" in each of {groups} {unit(it)}" if groups > 1 else ""
         down = f"each down for one {unit(it)[:-1]}" if each > 1 or groups > 1 else f"down for one {unit(it)[:-1]}"
-        return f"of {in_nodes(each)}{in_each}{fewer(it, it.restarts)}, {down}{forgets(it)}{alone}"
+        return f"of {each} node{'s' if each != 1 else ''}{in_each}{fewer(it, it.restarts)}, {down}{forgets(it)}{alone}"
 
-    def lines_now(self, tells, budget):
-        """The lines of what some stages tell, as soon as these are run."""
-        lines = [line for it in tells for line in self.lines(it, budget)]
-        return lines + ([self.rolling(budget)] if tells == self.study.leaves() else [])
-
-    def all_lines(self, budget):
-        """The lines of all stages."""
-        it = self.study
-        lines = [line for stage in it.heals() for line in self.lines(stage, budget)]
-        return lines + ([self.rolling(budget)] if it.leaves() else [])
-
-    def rolling(self, budget):
-        """The line that says how long to wait between the groups of a rolling restart."""
-        return row(ROLLING, f"{self.wait(budget)}{self.run}")
+    def lines_of(self, heals, budget):
+        """The lines of what heals, and below a restart how long to wait between the groups of a rolling one."""
+        lines = [line for stage in heals for line in self.lines(stage, budget)]
+        return lines + ([row(ROLLING, f"{self.wait(budget)}{self.run}")] if "restart" in heals else [])
 
     def counted(self):
         """What the rounds of a split and of a restart are, in words."""
@@ -826,11 +810,6 @@ GROUPS = ("Groups: one node restarts at a time here. For a rolling restart in gr
           "forget=yes, where a node loses its own state too.")
 
 
-def none_fits(decision):
-    """That no budget is enough, in words."""
-    return f"No budget that fits is enough: {decision.no_level()}"
-
-
 def heads(decision):
     """What to mind, what is too close to call and what is left out, line by line."""
     lines = []
@@ -843,7 +822,8 @@ def heads(decision):
 def in_words(decision, healing, missing=(), more=()):
     """The answer, line by line, with more names and words beside the worst staleness. Without a budget that is enough
     there is no healing, but the lines on what is missing."""
-    takes = f"Take {decision.takes()}." if decision.suffices else f"{none_fits(decision)}. {decision.most_that_fits()}"
+    takes = (f"Take {decision.takes()}." if decision.suffices else
+             f"No budget that fits is enough: {decision.no_level()}. {decision.most_that_fits()}")
     in_window = f": {decision.bound.rests_on()}" if decision.suffices and decision.bound else ""
     in_mode = "" if decision.suffices else f", in {decision.mode}"
     lines = [takes, *([f"{decision.tells_all()}."] if decision.suffices and decision.tells_all() else []), "",
@@ -854,7 +834,7 @@ def in_words(decision, healing, missing=(), more=()):
         lines += [row(name, said)] if said else []
     lines.append(row("share cut", f"{span(decision.cut, 2)} % of what was lacking{in_mode}"))
     if healing:
-        lines += healing.all_lines(decision.budget)
+        lines += healing.lines_of(decision.study.heals(), decision.budget)
         if healing.has_reserve(decision):
             lines.append(row("with the reserve", healing.with_reserve(decision)))
     if not decision.suffices and decision.to_knee():

@@ -66,20 +66,15 @@ def are_close(one, other):
     return not is_better(one, other) and not is_better(other, one)
 
 
-# What is told as a bound, one in so many further runs exceeds.
+# One in so many further runs exceeds what is told as a bound.
 ONE_IN = 21
 IN_MOST = f"in {ONE_IN - 1} of {ONE_IN}"
 
 
-def bounding_rank(seeds):
-    """"Of m + 1 runs with seeds drawn alike, the last is above the k-th greatest of the others with a chance of k in
-    m + 1": the greatest of 20 seeds bounds it, or the third greatest of 62, which varies less."""
-    return max(1, (seeds + 1) // ONE_IN)
-
-
 def bound_of(figure):
-    """What one in 21 further runs exceeds. None is never, above all others."""
-    return sorted(figure, key=lambda it: math.inf if it is None else it)[-bounding_rank(len(figure))]
+    """"Of m + 1 runs with seeds drawn alike, the last is above the k-th greatest of the others with a chance of k in
+    m + 1": the greatest of 20, or the third greatest of 62, which varies less. None is never, above all others."""
+    return sorted(figure, key=lambda it: math.inf if it is None else it)[-max(1, (len(figure) + 1) // ONE_IN)]
 
 
 # What a run that cuts nothing shows.

@@ -199,10 +199,6 @@ class Study:
                 entries * scenario.LARGEST + scenario.MEAN, scenario.LIMITS["budget_bytes"][1]))
         return min(entries, most)
 
-    def for_floor(self):
-        """The budget and mode that show what no mode and no budget goes below, where no other run does."""
-        return {(self.ample(), self.usual)}
-
     def keeps_to_target(self, figure):
         """Whether a worst staleness is within the target under all seeds, for the whole cluster."""
         return (rules.reckoned(figure) if self.parts > 1 else max(figure)) <= self.target

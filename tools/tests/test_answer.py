@@ -550,10 +550,8 @@ class Healed(unittest.TestCase):
 
     def test_nothing_that_leaves(self):
         """With restarts=0 no wait is told."""
-        self.assertEqual(["a split", "Healed after"],
-                         [it.strip()[:len(name)] for it, name in
-                          zip(healing("restarts=0", split=[10, 13]).all_lines(200), ("a split", "Healed after"))])
-        self.assertFalse([it for it in healing("restarts=0", split=[10, 13]).all_lines(200) if answer.ROLLING in it])
+        it = healing("restarts=0", split=[10, 13])
+        self.assertEqual(it.lines("split", 200), it.lines_of(it.study.heals(), 200))
 
     def test_with_the_reserve(self):
         """250 entries fit, where 200 are taken."""
@@ -610,15 +608,13 @@ class Healed(unittest.TestCase):
         self.assertTrue(line.endswith(": not within 42 rounds under 2 of 3 seeds"), line)
 
     def test_the_third_of_many(self):
-        """One in 21 of 63 runs may take longer than the third of 62 that take longest, two of them too long to see. A
-        wait is until both are over, under each seed."""
-        times = [*range(1, 61), None, None]
+        """Of 62 runs two may take longer than what is told. A wait is until both are over, under each seed."""
         self.assertIn(": healed after at most 60 rounds, 30 s, in 20 of 21 cases (1 to 60 under 60 seeds, not within "
-                      "42 rounds under 2)", healing(split=times).lines("split", 200)[0])
+                      "42 rounds under 2)", healing(split=[*range(1, 61), None, None]).lines("split", 200)[0])
         it = healing("restarts=80 forget=yes", forgotten=[7] * 60 + [9, 9])
         it.stages["forgotten"].forgotten = [9] + [6] * 61
-        self.assertEqual([7, 6, 9], [*(rules.bound_of(it.taken(what, 200)) for what in it.study.leaves()),
-                                     it.waited(200)])
+        self.assertEqual([7, 6, 9], [rules.bound_of(it.taken("restart", 200)), rules.bound_of(
+            it.taken("forgotten", 200)), it.waited(200)])
 
     def test_the_longer_time(self):
         """Of several groups and of one alone, under each seed. Where one of them isn't over in time, it isn't."""
@@ -644,7 +640,7 @@ class Healed(unittest.TestCase):
                                      "restart was healed and its forgotten state was gone by then",
         }
         self.assertEqual(cases, {more: healing(more, **both).wait(200) for more in cases})
-        self.assertEqual(f"  a rolling restart   {cases['']}", healing(**both).rolling(200))
+        self.assertEqual(f"  a rolling restart   {cases['']}", healing(**both).lines_of(["restart"], 200)[-1])
         self.assertEqual("no wait is known, as not all of this is over in the rounds that were run: take a larger "
                          "budget", healing(restart=[6, None], forgotten=[7, 8]).wait(200))
 
@@ -669,7 +665,7 @@ class Healed(unittest.TestCase):
         for more, begins in cases.items():
             it = of(f"nodes=200 keys=4 writes=1 entry=40 packet=8000 interval=0.5 split=0 {more}")
             runs = {stage: Taken([6, 7], forgotten=[6, 8]) for stage in it.healing_stages()}
-            lines = answer.Healing(it, DEPTH, runs).lines_now(it.leaves(), 200)
+            lines = answer.Healing(it, DEPTH, runs).lines_of(it.leaves(), 200)
             self.assertEqual(begins, [line[2:2 + len(start)] for line, start in
                                       zip((line for line in lines if not line.startswith("   ")), begins)])
 

@@ -23,7 +23,6 @@ class Missing(Exception):
 
 
 def made(folder):
-    """A folder, made where it isn't there."""
     try:
         folder.mkdir(parents=True, exist_ok=True)
     except OSError as error:
@@ -33,7 +32,6 @@ def made(folder):
 
 
 def commands():
-    """The tools by the names under which they are called."""
     named = {it.name: it for it in sorted(TOOLS.glob("gossip_*")) if it.is_file()}
     return {**named, REPLAY: TOOLS / "replay.py"}
 
@@ -84,5 +82,4 @@ def the_program():
 
 
 def needs_newer(program):
-    """Whether it needs an x86-64-v3 processor."""
     return starts(program, **OLDER)[0] is None

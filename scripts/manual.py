@@ -28,7 +28,6 @@ class Help:
 
 
 def escaped(text):
-    """A text as troff takes it."""
     return re.sub(r"^([.'])", r"\\&\1", text.replace("\\", r"\e").replace("-", r"\-"), flags=re.MULTILINE)
 
 

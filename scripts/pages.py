@@ -89,5 +89,4 @@ def renamed(text):
 
 
 def in_package(text, page):
-    """A page of this repository as a package has it."""
     return renamed(linked(without_marks(text, page), page))

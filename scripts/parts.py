@@ -24,7 +24,6 @@ class Part(NamedTuple):
 
 
 def clock(seconds):
-    """Seconds as minutes and seconds."""
     return f"{round(seconds) // 60:>3}:{round(seconds) % 60:02}"
 
 

@@ -130,7 +130,6 @@ def binary64(text):
 
 
 def integers(value):
-    """All integers in a value, however deep."""
     if isinstance(value, int):
         yield value
     elif isinstance(value, (dict, list)):

@@ -57,7 +57,6 @@ def run(room, script, *words, **how):
 
 
 def imported(script):
-    """A script of Python as a module."""
     name = f"imported_{script.name}"
     loader = importlib.machinery.SourceFileLoader(name, str(script))
     made = importlib.util.module_from_spec(importlib.util.spec_from_loader(name, loader))

@@ -66,7 +66,6 @@ FORGETS = "[[restart]]\nnode = 9\nround = 14\ndown = 1\nforget = true\n"
 
 
 def columns(entry):
-    """As replay.py writes an entry."""
     return entry.owner, entry.key, entry.mark >> 32, entry.mark % 2**32, entry.value, entry.born
 
 

@@ -19,7 +19,6 @@ PROGRESS = re.compile(r"^gossip_bench: (still )?proving .*\n", re.MULTILINE)
 
 
 def small_files(most):
-    """What limits the bytes of a file in a process, as a disk does that is full."""
     def limit():
         # (a write fails then, and the signal that comes with it doesn't end the process)
         signal.signal(signal.SIGXFSZ, signal.SIG_IGN)

@@ -91,7 +91,6 @@ def instead(name, text):
 
 
 def number_of(name, text):
-    """The number that is given for a name."""
     shape, taken, most = DECIMAL if name in DECIMALS else WHOLE
     if re.fullmatch(taken, text):
         return Fraction(text)

@@ -88,7 +88,6 @@ def drop_output():
 
 
 def reason(error):
-    """Why a call of the system failed, in words."""
     return "it is closed" if error.errno == errno.EBADF else error.strerror
 
 

@@ -24,7 +24,6 @@ def part_of(path):
 
 
 def check_sum(path):
-    """The SHA-256 of a file."""
     with open(path, "rb") as file:
         return hashlib.file_digest(file, "sha256").hexdigest()
 

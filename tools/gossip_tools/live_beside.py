@@ -42,14 +42,12 @@ def intervals(rows, fanout):
 
 
 def scenarios(text, fanout, seeds):
-    """What the bench is to run, by its names."""
     if fanout > 1:
         text = stretched(read.settings(text), fanout)
     return {f"the scenario under seed {seed}": scenario.set_field(text, "seed", seed) for seed in range(1, seeds + 1)}
 
 
 def reports(runs, program, fanout):
-    """The rows of the bench under each seed, by intervals."""
     found = []
     for name, text in runs.items():
         top = read.settings(text)

@@ -67,11 +67,9 @@ class Figures:
         return row
 
     def end(self, parts):
-        """Takes how many datagrams the nodes of each process have sent and received."""
         self.sent, self.received = map(sum, zip(*parts))
 
     def lost(self):
-        """Datagrams that the machine lost."""
         return max(self.sent - self.received, 0)
 
     def is_worthless(self):

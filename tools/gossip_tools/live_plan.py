@@ -43,7 +43,6 @@ class Plan:
         return entry.value % PADDINGS if self.format == 2 else 0
 
     def size(self, entry):
-        """How much of the budget it takes."""
         return ENTRY.size + self.padding(entry) if self.format == 2 else 1
 
     def largest_message(self):

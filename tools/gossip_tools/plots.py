@@ -150,7 +150,6 @@ def healing(healed, stage, name, y, value):
 
 
 def all_of(decision, healed):
-    """The scripts of all pictures, by name."""
     study, window = decision.study, decision.window
     copies = study.nodes * (study.nodes - 1) * study.keys
     of_node = (study.nodes - 1) * study.keys

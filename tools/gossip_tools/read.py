@@ -131,7 +131,6 @@ class Runs:
             raise Refused(f"there are no runs in {folder}{below}.")
 
     def in_order(self):
-        """The runs, numbers by size and modes in their usual order."""
         return sorted(self.rows, key=place)
 
     def what_is_missing(self):
@@ -164,7 +163,6 @@ def between(rows, first, last):
 
 
 def window(rows, first, last):
-    """What the rounds have, by the name of its column."""
     rows = between(rows, first, last)
     found = {"percent_cut": f"{percent_cut(rows):.2f}"}
     for name in ("greatest", "stale", "leftover"):

@@ -65,7 +65,6 @@ class Signals:
 
 
 def reason(status, told):
-    """Why a run ended with this status, in words."""
     ended = f"it was ended by {signal.Signals(-status).name}" if status < 0 else f"status {status}"
     lines = [it for it in told.splitlines() if it.strip()]
     more = ", as on a full disk" if lines and lines[-1].startswith("fault 13:") else ""
@@ -127,7 +126,6 @@ def lead(reader, first):
 
 
 def others_in_group():
-    """The other processes in this one's group."""
     found = []
     for pid in (int(it) for it in os.listdir("/proc") if it.isdigit()):
         with contextlib.suppress(ProcessLookupError):
@@ -174,7 +172,6 @@ def here(folder, names, program, jobs, done):
 
 
 def processor_of_ended():
-    """The processor time of all processes that have ended and were asked for."""
     used = resource.getrusage(resource.RUSAGE_CHILDREN)
     return used.ru_utime + used.ru_stime
 

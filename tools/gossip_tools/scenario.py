@@ -115,7 +115,6 @@ def restarts(nodes, each, first_round, last_round, down, forget=False, first=0, 
 
 
 def partition(first, last, first_round, last_round):
-    """A partition that sets the nodes `first` to `last` apart in these rounds."""
     if not first <= last <= 4095:
         raise Refused(f"{first} to {last} aren't nodes, which are 0 to 4095.")
     if not 1 <= first_round <= last_round:
@@ -126,5 +125,4 @@ def partition(first, last, first_round, last_round):
 
 
 def load(first_round, last_round, writes):
-    """Another number of writes in these rounds."""
     return sections("load", [{"from": first_round, "to": last_round, "writes": writes}])

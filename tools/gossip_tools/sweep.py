@@ -32,7 +32,6 @@ LASTING = {errno.EACCES, errno.EPERM, errno.EROFS, errno.EISDIR, errno.ENOTDIR, 
 
 
 def choices_of(words):
-    """The fields with their values, in order."""
     choices = {}
     for word in words:
         if not re.fullmatch("[a-z_]+=[A-Za-z0-9_-]+(,[A-Za-z0-9_-]+)*", word):
@@ -63,7 +62,6 @@ def spread(text, choices, name=""):
 
 
 def given_scenario():
-    """The scenario that comes by standard input."""
     if sys.stdin.isatty():
         print("gossip_sweep: the scenario is read from here, as none comes by < SCENARIO.", file=sys.stderr)
     with files.named("standard input"):

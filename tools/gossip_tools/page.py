@@ -230,7 +230,7 @@ def make(folder, decision, healing, made, check_sum, missing=(), more=(), head="
 <p>{it.told['nodes']} nodes{tenth}. Keys of each: {it.keys}; writes in an interval of
 {cluster.plain(it.told['interval'])} s: {it.writes}; calls in an interval, each of which is a round: {it.fanout};
 messages lost: {cluster.plain(it.told['loss'])} %. Mode and budget were chosen by {len(rules.CHOOSING)} seeds, and what
-they bring is bounded by others: {rules.IN_MOST} runs have no more.</p>
+they bring is bounded by others, {rules.IN_MOST} runs.</p>
 {cards(decision, healing, more)}
 {below_the_cards(decision, healing)}{paragraphs(missing)}
 {listed("Mind", answer.warnings(decision), "mind")}

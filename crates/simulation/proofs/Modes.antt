@@ -1,6 +1,6 @@
 -- What owners write, who restarts and who meets whom is the same in each format, under each mode and with each budget.
--- Serves `Alike`, `Best`, `Formats` and `runs`.
-use Rattle.simulation.proofs.Common.{◌≡◌, ℕ, zero, suc, ◌+◌, ◌++◌, [], map, if◌then◌else◌, refl, range_with_len, Mode, Rules, next_version, write_of_entry, generation_upto, round_list_of, word_of, number_by, count_upto, count_before, numbered_write, own_writes, writes_upto, written_upto, Settings, with_mode}
+-- Serves `Alike`, `Best` and `Formats`.
+use Rattle.simulation.proofs.Common.{◌≡◌, ℕ, zero, suc, ◌+◌, ◌++◌, [], map, if◌then◌else◌, refl, range_with_len, Rules, next_version, write_of_entry, generation_upto, round_list_of, word_of, number_by, count_upto, count_before, numbered_write, own_writes, writes_upto, written_upto, Settings}
 use Rattle.round_plan.specs.Outages.{forgets_now, is_up, restarts_now, separated}
 use Rattle.round_plan.specs.Writes.{writes_in}
 use Rattle.simulation.specs.Lists.{lists_after}
@@ -42,7 +42,9 @@ module _ (s : Settings) (format : ℕ) (rules : Rules) where
     before (suc round) = λ i. if forgets (suc round) i then 0 else counted round i
 
     pub now : (round : ℕ) → own_writes s' n round (count_before s' n round) ≡ own_writes s n round (count_before s n round)
-    now round = λ i. if up round i then map (λ place. numbered_write s.keys round (generation round i) (number_by s.choice (word round (8 + place) i) (next_version (before round i + place))) (before round i + place)) (range_with_len 0 (many round i)) else []
+    now round = λ i. if up round i then map (λ place. numbered_write s.keys round (generation round i)
+        (number_by s.choice (word round (8 + place) i) (next_version (before round i + place))) (before round i + place))
+        (range_with_len 0 (many round i)) else []
 
     pub written : (round : ℕ) → written_upto s' n round ≡ written_upto s n round
     written zero = refl
@@ -58,6 +60,3 @@ module _ (s : Settings) (format : ℕ) (rules : Rules) where
 
   pub same_lists : (round : ℕ) → lists_after s' round ≡ lists_after s round
   same_lists round = λ i. map (λ n. map write_of_entry (current n round i)) (range_with_len 0 s.nodes)
-
-pub written_under : (s : Settings) (mode : Mode) (n round : ℕ) → written_upto (with_mode s mode) n round ≡ written_upto s n round
-written_under s mode = written s s.format (record { mode = mode; budget = s.budget })

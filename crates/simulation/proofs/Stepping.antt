@@ -26,9 +26,11 @@ lists_are s round ts lists standing =
     at_each : (n : ℕ) → n < length (lists_in lists) → get_or (lists_in lists) n [] ≡ get_or (lists_after s round) n []
     at_each n lt =
         let below : n < s.nodes = omega (arith, lt, length-lists_in lists, standing.list_count) in
-        list_read lists n no_writes [] (omega (arith, lt, length-lists_in lists)) ∙ ap (map write_of_entry) (standing.owners n below).writes ∙ sym (get_or-map-range_with_len (list_after s round) 0 s.nodes n n [] below (omega arith))
+        list_read lists n no_writes [] (omega (arith, lt, length-lists_in lists)) ∙ ap (map write_of_entry) (standing.owners n below).writes ∙ sym
+        (get_or-map-range_with_len (list_after s round) 0 s.nodes n n [] below (omega arith))
 
-figures_are : (s : Settings) (round : ℕ) (ts : List Table) (lists : List OwnerListView) → StandAfterRound s round ts lists → ts ≡ tables_after s round → figures_of round ts (lists_in lists) ≡ figures_in s round
+figures_are : (s : Settings) (round : ℕ) (ts : List Table) (lists : List OwnerListView) → StandAfterRound s round ts lists → ts ≡ tables_after s round
+    → figures_of round ts (lists_in lists) ≡ figures_in s round
 figures_are s round ts lists standing is = λ i. figures_of round (is i) (lists_are s round ts lists standing i)
 
 unfolded : (s : Settings) (done : ℕ) → tables_after s (suc done) ≡ (round_of s (suc done) (tables_after s done)).tables
@@ -41,7 +43,8 @@ tables_after-more s done =
     ap (tables_after s) next ∙ unfolded s done ∙ ap (λ n. (round_of s n (tables_after s done)).tables) (sym next)
 
 -- the tables that a round leaves
-pub left_after : (s : Settings) (round : ℕ) (before new : List Table) (records : List Record) → 1 ≤ round → before ≡ tables_after s (round - 1) → round_of s round before ≡ record { tables = new; records = records } → new ≡ tables_after s round
+pub left_after : (s : Settings) (round : ℕ) (before new : List Table) (records : List Record) → 1 ≤ round → before ≡ tables_after s (round - 1)
+    → round_of s round before ≡ record { tables = new; records = records } → new ≡ tables_after s round
 left_after s round before new records first before_is round_was =
     let next : round - 1 + 1 ≡ round = omega (arith, first) in
     sym (ap (λ (f : Folded). f.tables) round_was)
@@ -49,7 +52,9 @@ left_after s round before new records first before_is round_was =
     ∙ sym (tables_after-more s (round - 1))
     ∙ ap (tables_after s) next
 
-module _ {T H : Type 0} (table : T → Table) (lists : H → List OwnerListView) (Ended : H → ℕ → Type 0) (May : ℕ → ℕ → Entry → Type 0) (s : Settings) (cluster : Option (Cluster T H)) (old new : Cluster T H) (done : ℕ) (so_far : IsInside table lists Ended May s cluster done) (is : cluster ≡ Some old) (not_done : done < s.rounds) where
+module _ {T K : Type 0} (table : T → Table) (lists : K → List OwnerListView) (Ended : K → ℕ → Type 0) (May : ℕ → ℕ → Entry → Type 0) (s : Settings)
+    (cluster : Option (Cluster T K)) (old new : Cluster T K) (done : ℕ) (so_far : IsInside table lists Ended May s cluster done)
+    (is : cluster ≡ Some old) (not_done : done < s.rounds) where
   previous : done ≡ done + 1 - 1
   previous = omega arith
 
@@ -71,8 +76,10 @@ module _ {T H : Type 0} (table : T → Table) (lists : H → List OwnerListView)
     drawn = subst (λ c. IfSome c (λ d. IsDrawnAfter s done d.drawn)) is so_far.drawn;
   })
 
-  module _ (standing : StandAfterRound s (done + 1) (map table new.tables.items) (lists new.histories)) (after : map table new.tables.items ≡ tables_after s (done + 1)) where
-    pub step_played : (round : RoundView) → IsLawfulScenario s → HasPlayed table lists s (done + 1) old new round → PlaysNext table (simulation_of lists s cluster done) (simulation_of lists s (Some new) (done + 1)) round
+  module _ (standing : StandAfterRound s (done + 1) (map table new.tables.items) (lists new.histories))
+      (after : map table new.tables.items ≡ tables_after s (done + 1)) where
+    pub step_played : (round : RoundView) → IsLawfulScenario s → HasPlayed table lists s (done + 1) old new round
+        → PlaysNext table (simulation_of lists s cluster done) (simulation_of lists s (Some new) (done + 1)) round
     step_played round lawful played = record {
       may = (unbroken, not_done);
       still = refl;
@@ -82,8 +89,10 @@ module _ {T H : Type 0} (table : T → Table) (lists : H → List OwnerListView)
       standing = standing;
       sound = subst (AreSound s (done + 1)) (sym after) ((sound_run s lawful.nodes.0 lawful.nodes.1 lawful.keys.0 lawful.keys.1).after (done + 1));
       kept = subst (λ ts. OnlyRestartsLowerMarks s (done + 1) ts (map table new.tables.items)) (sym before_held)
-          (subst (OnlyRestartsLowerMarks s (done + 1) (tables_after s done)) (sym after) (round_rises s lawful.nodes.0 lawful.nodes.1 lawful.keys.0 lawful.keys.1 done));
-      played = played ∙ (λ i. played_with (done + 1) (round_list_of s (done + 1)) (records i) (figures_are s (done + 1) (map table new.tables.items) (lists new.histories) standing after i));
+          (subst (OnlyRestartsLowerMarks s (done + 1) (tables_after s done)) (sym after)
+          (round_rises s lawful.nodes.0 lawful.nodes.1 lawful.keys.0 lawful.keys.1 done));
+      played = played ∙ (λ i. played_with (done + 1) (round_list_of s (done + 1)) (records i)
+          (figures_are s (done + 1) (map table new.tables.items) (lists new.histories) standing after i));
     }
       where
         before_held : map table (tables_held cluster) ≡ tables_after s done

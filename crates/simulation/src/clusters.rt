@@ -5,7 +5,7 @@ ghost use Rattle.bench_types.specs.declared.faults.Fault.TheVariants.{OutOfMemor
 ghost use Rattle.scenario.specs.Settings.{IsLawfulScenario};
 ghost use Rattle.model.specs.calls.OwnerListView.{written};
 ghost use Rattle.model.specs.Tables.{AreProper};
-ghost use Rattle.model.specs.Runs.{AreWorkers, IsFaultOfWorkers};
+ghost use Rattle.model.specs.Runs.{IsFaultOfWorkers};
 ghost use Rattle.round_plan.specs.calls.Words.{run_words_of, AreWordsOf};
 ghost use Rattle.simulation.specs.Rounds.{opening_tables, after_restart, rules_of};
 ghost use Rattle.simulation.specs.inner.InMemory.{HasBegun, IsBeforeRound, IsBegun, LeavesOthers, TablesStand, IsOwnerIn, IsRestartedIn, WritesIn};
@@ -14,65 +14,61 @@ ghost use Rattle.simulation.specs.inner.Plans.{IsDrawnAfter, MayDraw};
 ghost use Rattle.simulation.specs.inner.Steps.{IsRoundOf, MayWriteOwn};
 
 use crate::plans::{Drawn, Plan, drawn_after};
+use crate::resources::Resources;
 use crate::rounds::Round;
 use bench_types::limits::MOST_ROUNDS;
 use bench_types::{Fault, Rules};
 use model::MemoryTable;
 use round_plan::{OwnWrite, ROUND_WORDS, RunWords, forgets_now, restarts_now, writes_by};
-use round_tables::{Hands, RoundHistories};
+use round_tables::RoundHistories;
 use scenario::Scenario;
 use std::alloc::Global;
-use std::num::NonZeroUsize;
 use std::sync::Wait;
-use std::thread::{Threads, available_parallelism};
+use std::thread::Threads;
 use workers::{Gate, Work, run_list_with};
 
-/// What all nodes hold, what each has written, what is drawn of the rounds, and the processors, once a round has asked
-/// for them.
+/// What all nodes hold, what each has written, and what is drawn of the rounds.
 #[derive(Drop)]
-pub(crate) struct Cluster<T: MemoryTable, H: RoundHistories<T>> {
+pub(crate) struct Cluster<T: MemoryTable, K: RoundHistories<T>> {
     pub(crate) tables: Vec<T>,
-    histories: H,
+    histories: K,
     drawn: Drawn,
-    processors: Option<NonZeroUsize>,
 }
 
-impl<T: MemoryTable + Send + Sync, H: RoundHistories<T>> Cluster<T, H> {
-    pub(crate) fn new(alloc: Global, scenario: &Scenario) -> Result<Cluster<T, H>, Fault>
-        ensures opens { IfOk result (IsAfterRound T.table H.lists H.has_ended scenario.now 0) }
+impl<T: MemoryTable + Send + Sync, K: RoundHistories<T>> Cluster<T, K> {
+    pub(crate) fn new(alloc: Global, scenario: &Scenario) -> Result<Cluster<T, K>, Fault>
+        ensures opens { IfOk result (IsAfterRound T.table K.lists K.has_ended scenario.now 0) }
         ensures only { IsOkUnless result OutOfMemory }
     {
         Ok(Cluster {
-            tables: empty_tables::<T, H>(alloc, scenario)?,
-            histories: H::new(alloc, scenario.nodes())?,
+            tables: empty_tables::<T, K>(alloc, scenario)?,
+            histories: K::new(alloc, scenario.nodes())?,
             drawn: Drawn::Words(RunWords::new(alloc, scenario)?),
-            processors: None,
         })
     }
 
     /// A round. Where it fails, the tables are given up.
-    pub(crate) fn play<R: Threads + Wait + Sync, G: Gate + Sync>(
+    pub(crate) fn play<H: Threads + Wait + Sync, G: Gate + Sync>(
         self,
-        rt: &R,
-        alloc: Global,
+        resources: &Resources<H>,
         scenario: &Scenario,
         round: u32,
-        workers: u32,
         gate: &G,
-    ) -> Result<(Cluster<T, H>, Round), Fault>
-        requires workers { AreWorkers workers }
+    ) -> Result<(Cluster<T, K>, Round), Fault>
         requires lawful { IsLawfulScenario scenario.now }
-        requires round { IsRoundOf H.may_write scenario.now round }
-        requires before { IsAfterRound T.table H.lists H.has_ended scenario.now (round - 1) self }
-        ensures after { IfOk result (λ p. IsAfterRound T.table H.lists H.has_ended scenario.now round p.0) }
-        ensures played { IfOk result (λ p. HasPlayed T.table H.lists scenario.now round self p.0 p.1) }
-        ensures fault { IfErr result (IsFaultOfWorkers workers) }
+        requires round { IsRoundOf K.may_write scenario.now round }
+        requires before { IsAfterRound T.table K.lists K.has_ended scenario.now (round - 1) self }
+        ensures after { IfOk result (λ p. IsAfterRound T.table K.lists K.has_ended scenario.now round p.0) }
+        ensures played { IfOk result (λ p. HasPlayed T.table K.lists scenario.now round self p.0 p.1) }
+        ensures fault { IfErr result (IsFaultOfWorkers resources.now.hands.workers) }
     {
+        let rt = resources.rt;
+        let alloc = resources.alloc;
+        let hands = resources.hands;
         let Cluster {
             tables,
             histories,
             drawn,
-            processors,
         } = self;
         let Plan { words, list } = drawn.plan(rt, alloc, scenario, round)?;
         let (begun, histories) = begin(scenario, tables, histories, &words, round)?;
@@ -82,7 +78,7 @@ impl<T: MemoryTable + Send + Sync, H: RoundHistories<T>> Cluster<T, H> {
             list: &list,
             rules: &rules,
             gate,
-            workers,
+            workers: hands.workers,
         };
         let draw = move || -> Result<Drawn, Fault>
             requires { MayDraw scenario.now round words }
@@ -90,7 +86,7 @@ impl<T: MemoryTable + Send + Sync, H: RoundHistories<T>> Cluster<T, H> {
             ensures only { IsOkUnless result OutOfMemory }
         {
             // (several workers leave this thread idle)
-            if workers == 1 {
+            if hands.workers == 1 {
                 Ok(Drawn::Words(words))
             } else {
                 drawn_after(words, rt, alloc, scenario, round)
@@ -98,7 +94,6 @@ impl<T: MemoryTable + Send + Sync, H: RoundHistories<T>> Cluster<T, H> {
         };
         let (tables, records, drawn) = run_list_with(rt, alloc, work, begun, draw)?;
         let drawn = drawn?;
-        let hands = hands_of(rt, workers, processors);
         let lag = histories.figures(rt, alloc, &tables, round, hands)?;
         let played = Round::of(round, list, records, lag);
         Ok((
@@ -106,23 +101,9 @@ impl<T: MemoryTable + Send + Sync, H: RoundHistories<T>> Cluster<T, H> {
                 tables,
                 histories,
                 drawn,
-                processors: Some(hands.processors),
             },
             played,
         ))
-    }
-}
-
-// So many workers, and the processors, or one where the system doesn't say. A run asks for these once: that takes
-// longer than a small round.
-fn hands_of(rt: &impl Threads, workers: u32, known: Option<NonZeroUsize>) -> Hands {
-    let processors = match known {
-        Some(processors) => processors,
-        None => available_parallelism(rt).unwrap_or(NonZeroUsize::MIN),
-    };
-    Hands {
-        workers,
-        processors,
     }
 }
 
@@ -136,7 +117,7 @@ fn rules_of(scenario: &Scenario) -> Rules
     }
 }
 
-fn empty_tables<T: MemoryTable, H: RoundHistories<T>>(
+fn empty_tables<T: MemoryTable, K: RoundHistories<T>>(
     alloc: Global,
     scenario: &Scenario,
 ) -> Result<Vec<T>, Fault>
@@ -148,25 +129,25 @@ fn empty_tables<T: MemoryTable, H: RoundHistories<T>>(
     let keys = scenario.keys();
     let mut tables = Vec::with_capacity(alloc, nodes as usize)?;
     for node in 0..nodes {
-        tables.push(H::empty_table(alloc, node, nodes, keys)?)?;
+        tables.push(K::empty_table(alloc, node, nodes, keys)?)?;
     }
     Ok(tables)
 }
 
 // What a round begins with: its restarts and its writes, by node.
-fn begin<T: MemoryTable, H: RoundHistories<T>>(
+fn begin<T: MemoryTable, K: RoundHistories<T>>(
     scenario: &Scenario,
     mut tables: Vec<T>,
-    mut histories: H,
+    mut histories: K,
     words: &RunWords,
     round: u32,
-) -> Result<(Vec<T>, H), Fault>
-    requires round { IsRoundOf H.may_write scenario.now round }
+) -> Result<(Vec<T>, K), Fault>
+    requires round { IsRoundOf K.may_write scenario.now round }
     requires words { words.now ≡ run_words_of scenario.now round }
-    requires ended { H.has_ended histories (round - 1) }
-    requires standing { TablesStand T.table H.lists scenario.now (round - 1) tables.items histories }
+    requires ended { K.has_ended histories (round - 1) }
+    requires standing { TablesStand T.table K.lists scenario.now (round - 1) tables.items histories }
     ensures begun { IfOk result
-        (λ p. HasBegun T.table H.lists H.has_ended H.fits scenario.now round tables.items p.0.items p.1) }
+        (λ p. HasBegun T.table K.lists K.has_ended K.fits scenario.now round tables.items p.0.items p.1) }
     ensures only { IsOkUnless result OutOfMemory }
 {
     for node in 0..scenario.nodes() {
@@ -186,20 +167,20 @@ fn begin<T: MemoryTable, H: RoundHistories<T>>(
 
 // What a node begins a round with: its restarts, and then its writes. No other node's table or list matters
 // to it.
-fn begin_node<T: MemoryTable, H: RoundHistories<T>>(
+fn begin_node<T: MemoryTable, K: RoundHistories<T>>(
     scenario: &Scenario,
     node: u32,
     table: &mut T,
-    histories: &mut H,
+    histories: &mut K,
     words: &[u32; ROUND_WORDS as usize],
     round: u32,
 ) -> Result<(), Fault>
-    requires round { IsRoundOf H.may_write scenario.now round }
+    requires round { IsRoundOf K.may_write scenario.now round }
     requires words { AreWordsOf scenario.now.seed node round words.now }
-    requires before { IsBeforeRound T.table H.lists H.has_ended scenario.now round node table.old histories.old }
-    ensures owner { OnOk result (IsOwnerIn T.table H.lists scenario.now round node table.new histories.new) }
+    requires before { IsBeforeRound T.table K.lists K.has_ended scenario.now round node table.old histories.old }
+    ensures owner { OnOk result (IsOwnerIn T.table K.lists scenario.now round node table.new histories.new) }
     ensures table { OnOk result (IsBegun T.table scenario.now round node table.old table.new) }
-    ensures others { OnOk result (LeavesOthers H.lists H.has_ended round node histories.old histories.new) }
+    ensures others { OnOk result (LeavesOthers K.lists K.has_ended round node histories.old histories.new) }
     ensures only { IsOkUnless result OutOfMemory }
 {
     restart(scenario, node, table, histories, round);
@@ -208,39 +189,39 @@ fn begin_node<T: MemoryTable, H: RoundHistories<T>>(
 }
 
 // The restarts of a node in a round: they empty its copies of all others, or where it forgets its whole table.
-fn restart<T: MemoryTable, H: RoundHistories<T>>(
+fn restart<T: MemoryTable, K: RoundHistories<T>>(
     scenario: &Scenario,
     node: u32,
     table: &mut T,
-    histories: &mut H,
+    histories: &mut K,
     round: u32,
 )
-    requires { IsBeforeRound T.table H.lists H.has_ended scenario.now round node table.old histories.old }
-    ensures owner { IsRestartedIn T.table H.lists scenario.now round node table.new histories.new }
+    requires { IsBeforeRound T.table K.lists K.has_ended scenario.now round node table.old histories.old }
+    ensures owner { IsRestartedIn T.table K.lists scenario.now round node table.new histories.new }
     ensures table { T.table table.new ≡ after_restart scenario.now round node (T.table table.old) }
-    ensures others { LeavesOthers H.lists H.has_ended round node histories.old histories.new }
+    ensures others { LeavesOthers K.lists K.has_ended round node histories.old histories.new }
 {
     if forgets_now(scenario, node, round) {
         histories.forget(table);
     } else if restarts_now(scenario, node, round) {
-        H::restart(table);
+        K::restart(table);
     }
 }
 
-fn write_own<T: MemoryTable, H: RoundHistories<T>>(
+fn write_own<T: MemoryTable, K: RoundHistories<T>>(
     table: &mut T,
-    histories: &mut H,
+    histories: &mut K,
     writes: &[OwnWrite],
     round: u32,
 ) -> Result<(), Fault>
     requires first { 1 ≤ round }
     requires last { round ≤ MOST_ROUNDS }
-    requires ended { H.has_ended histories.old (round - 1) }
-    requires may { MayWriteOwn H.may_write round writes.now (T.table table.old) (H.lists histories.old) }
+    requires ended { K.has_ended histories.old (round - 1) }
+    requires may { MayWriteOwn K.may_write round writes.now (T.table table.old) (K.lists histories.old) }
     ensures written { OnOk result
-        (WritesIn T.table H.lists round writes.now table.old table.new histories.old histories.new) }
+        (WritesIn T.table K.lists round writes.now table.old table.new histories.old histories.new) }
     ensures others { OnOk result
-        (LeavesOthers H.lists H.has_ended round (T.table table.old).node histories.old histories.new) }
+        (LeavesOthers K.lists K.has_ended round (T.table table.old).node histories.old histories.new) }
     ensures only { IsOkUnless result OutOfMemory }
 {
     for write in writes {

@@ -20,6 +20,7 @@
 mod clusters;
 mod laws;
 mod plans;
+mod resources;
 mod rounds;
 mod sims;
 mod witnesses;

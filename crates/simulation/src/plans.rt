@@ -30,7 +30,7 @@ pub(crate) enum Drawn {
 }
 
 impl Drawn {
-    /// The plan of a round: the one at hand, or else it is made. An error is lack of memory (`OutOfMemory`).
+    /// The plan of a round: the one at hand, or else it is made.
     pub(crate) fn plan(
         self,
         rt: &(impl Threads + Sync),
@@ -51,8 +51,7 @@ impl Drawn {
     }
 }
 
-/// What is drawn after a round, by its words: the plan of the next round, if there is one. An error is lack of memory
-/// (`OutOfMemory`).
+/// What is drawn after a round, by its words: the plan of the next round, if there is one.
 pub(crate) fn drawn_after(
     words: RunWords,
     rt: &(impl Threads + Sync),

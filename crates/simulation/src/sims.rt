@@ -8,13 +8,15 @@ ghost use Rattle.simulation.specs.Rounds.{opening_tables};
 ghost use Rattle.simulation.specs.calls.Simulation.{AreTablesAfter, MayWriteAll, PlaysNext, MayStep, IsRefusedBy, IsStepFault};
 
 use crate::clusters::Cluster;
+use crate::resources::{Resources, processors_of};
 use crate::rounds::Round;
 use bench_types::{Fault, Mode};
 use model::MemoryTable;
-use round_tables::{RoundHistories, TakesAll};
+use round_tables::{Hands, RoundHistories, TakesAll};
 use scenario::Scenario;
 use std::alloc::Global;
 use std::marker::Model;
+use std::num::NonZeroUsize;
 use std::sync::Wait;
 use std::thread::Threads;
 use workers::Gate;
@@ -22,14 +24,16 @@ use workers::Gate;
 /// A simulation of a scenario, with tables of one representation or another. A fault within a round breaks
 /// it: its tables are then given up.
 #[derive(Drop)]
-pub struct Sim<T: MemoryTable, H: RoundHistories<T>> {
+pub struct Sim<T: MemoryTable, K: RoundHistories<T>> {
     alloc: Global,
     scenario: Scenario,
-    cluster: Option<Cluster<T, H>>,
+    cluster: Option<Cluster<T, K>>,
     rounds_done: u32,
+    // Once a round has asked for them.
+    processors: Option<NonZeroUsize>,
 }
 
-impl<T: MemoryTable, H: RoundHistories<T>> Model for Sim<T, H> {
+impl<T: MemoryTable, K: RoundHistories<T>> Model for Sim<T, K> {
     ghost use Rattle.simulation.specs.calls.Simulation.{SimView};
     ghost use Rattle.simulation.specs.inner.Insides.{IsInside, simulation_of, simulation_code};
 
@@ -37,15 +41,15 @@ impl<T: MemoryTable, H: RoundHistories<T>> Model for Sim<T, H> {
 
     ghost coded = { simulation_code T.code };
 
-    ghost view = { λ s. simulation_of H.lists s.scenario s.cluster s.rounds_done };
+    ghost view = { λ s. simulation_of K.lists s.scenario s.cluster s.rounds_done };
 
-    ghost invariant = { λ s. IsInside T.table H.lists H.has_ended H.may_write s.scenario s.cluster s.rounds_done };
+    ghost invariant = { λ s. IsInside T.table K.lists K.has_ended K.may_write s.scenario s.cluster s.rounds_done };
 }
 
-impl<T: MemoryTable + Send + Sync, H: TakesAll<T>> Sim<T, H> {
+impl<T: MemoryTable + Send + Sync, K: TakesAll<T>> Sim<T, K> {
     /// The simulation before its first round, where all tables are empty. It takes memory for the
     /// nodes, and hands the scenario back where that is refused (`OutOfMemory`).
-    pub fn new(alloc: Global, scenario: Scenario) -> Result<Sim<T, H>, (Fault, Scenario)>
+    pub fn new(alloc: Global, scenario: Scenario) -> Result<Sim<T, K>, (Fault, Scenario)>
         ensures opens { IfOk result
             (λ sim. (sim.settings ≡ scenario) × (sim.rounds_done ≡ 0) × (sim.broken ≡ false)) }
         ensures empty { IfOk result (λ sim. map T.table sim.tables ≡ opening_tables scenario) }
@@ -55,11 +59,11 @@ impl<T: MemoryTable + Send + Sync, H: TakesAll<T>> Sim<T, H> {
     }
 }
 
-impl<T: MemoryTable + Send + Sync, H: RoundHistories<T>> Sim<T, H> {
+impl<T: MemoryTable + Send + Sync, K: RoundHistories<T>> Sim<T, K> {
     /// The simulation before its first round, as `new` makes it, with histories that may ask something of what
     /// is written in the run.
-    pub fn of(alloc: Global, scenario: Scenario) -> Result<Sim<T, H>, (Fault, Scenario)>
-        requires { MayWriteAll H.may_write scenario }
+    pub fn of(alloc: Global, scenario: Scenario) -> Result<Sim<T, K>, (Fault, Scenario)>
+        requires { MayWriteAll K.may_write scenario }
         ensures opens { IfOk result
             (λ sim. (sim.settings ≡ scenario) × (sim.rounds_done ≡ 0) × (sim.broken ≡ false)) }
         ensures empty { IfOk result (λ sim. map T.table sim.tables ≡ opening_tables scenario) }
@@ -71,6 +75,7 @@ impl<T: MemoryTable + Send + Sync, H: RoundHistories<T>> Sim<T, H> {
                 scenario,
                 cluster: Some(cluster),
                 rounds_done: 0,
+                processors: None,
             }),
             Err(fault) => Err((fault, scenario)),
         }
@@ -85,9 +90,9 @@ impl<T: MemoryTable + Send + Sync, H: RoundHistories<T>> Sim<T, H> {
     /// It answers `Broken` where an earlier round failed and `Finished` where all rounds are done, and then
     /// changes nothing. Any other fault breaks the simulation: `OutOfMemory`, or `NoThread` where a worker
     /// couldn't be started.
-    pub fn step<R: Threads + Wait + Sync, G: Gate + Sync>(
+    pub fn step<H: Threads + Wait + Sync, G: Gate + Sync>(
         &mut self,
-        rt: &R,
+        rt: &H,
         workers: u32,
         gate: &G,
     ) -> Result<Round, Fault>
@@ -99,8 +104,18 @@ impl<T: MemoryTable + Send + Sync, H: RoundHistories<T>> Sim<T, H> {
         let Some(cluster) = self.cluster.take() else {
             return Err(Fault::Broken);
         };
+        let processors = processors_of(rt, self.processors);
+        self.processors = Some(processors);
+        let resources = Resources {
+            rt,
+            alloc: self.alloc,
+            hands: Hands {
+                workers,
+                processors,
+            },
+        };
         let next = self.rounds_done + 1;
-        let (cluster, round) = cluster.play(rt, self.alloc, &self.scenario, next, workers, gate)?;
+        let (cluster, round) = cluster.play(&resources, &self.scenario, next, gate)?;
         self.cluster = Some(cluster);
         self.rounds_done += 1;
         Ok(round)
@@ -156,6 +171,7 @@ impl<T: MemoryTable + Send + Sync, H: RoundHistories<T>> Sim<T, H> {
             scenario,
             cluster: _,
             rounds_done: _,
+            processors: _,
         } = self;
         scenario
     }

@@ -20,18 +20,18 @@ simulation_code {T} table_code =
     code_by (Settings × (ℕ × (Bool × (List T × List OwnerListView)))) (coded× (scenario.the_row).coded (coded× coded_ℕ (coded× coded_bool (coded× (coded_list table_code) (coded_list list_code))))) (λ s. (s.settings, (s.rounds_done, (s.broken, (s.tables, s.lists))))) (λ p. record { settings = p.0; rounds_done = p.1.0; broken = p.1.1.0; tables = p.1.1.1.0; lists = p.1.1.1.1 }) (λ _. refl)
 
 -- what the nodes hold, and the lists of their writes
-abbrev pub tables_of : {T H : Type 0} → (T → Table) → Cluster T H → List Table
+abbrev pub tables_of : {T K : Type 0} → (T → Table) → Cluster T K → List Table
 tables_of table c = map table c.tables.items
 
-abbrev pub tables_held : {T H : Type 0} → Option (Cluster T H) → List T
+abbrev pub tables_held : {T K : Type 0} → Option (Cluster T K) → List T
 tables_held (Some c) = c.tables.items
 tables_held None = []
 
-abbrev pub lists_held : {T H : Type 0} → (H → List OwnerListView) → Option (Cluster T H) → List OwnerListView
+abbrev pub lists_held : {T K : Type 0} → (K → List OwnerListView) → Option (Cluster T K) → List OwnerListView
 lists_held lists (Some c) = lists c.histories
 lists_held lists None = []
 
-abbrev pub simulation_of : {T H : Type 0} → (H → List OwnerListView) → Settings → Option (Cluster T H) → ℕ
+abbrev pub simulation_of : {T K : Type 0} → (K → List OwnerListView) → Settings → Option (Cluster T K) → ℕ
     → SimView T
 simulation_of lists s cluster done = record {
   settings = s;
@@ -49,23 +49,23 @@ pub record IsSimulation {T : Type 0} (table : T → Table) (v : SimView T) : Typ
 
 -- and what lies in it: histories of which so many rounds have ended, and what is drawn after the last of them; the
 -- tables may hold what the run writes
-pub record IsInside {T H : Type 0} (table : T → Table) (lists : H → List OwnerListView) (Ended : H → ℕ → Type 0)
-    (May : ℕ → ℕ → Entry → Type 0) (s : Settings) (cluster : Option (Cluster T H)) (done : ℕ) : Type 0 where
+pub record IsInside {T K : Type 0} (table : T → Table) (lists : K → List OwnerListView) (Ended : K → ℕ → Type 0)
+    (May : ℕ → ℕ → Entry → Type 0) (s : Settings) (cluster : Option (Cluster T K)) (done : ℕ) : Type 0 where
   pub simulation : IsSimulation table (simulation_of lists s cluster done)
   pub ended : IfSome cluster (λ c. Ended c.histories done)
   pub drawn : IfSome cluster (λ c. IsDrawnAfter s done c.drawn)
   pub may_write : MayWriteAll May s
 
 -- what a round of a cluster answers
-abbrev pub HasPlayed : {T H : Type 0} → (T → Table) → (H → List OwnerListView) → Settings → ℕ
-    → Cluster T H → Cluster T H → RoundView → Type 0
+abbrev pub HasPlayed : {T K : Type 0} → (T → Table) → (K → List OwnerListView) → Settings → ℕ
+    → Cluster T K → Cluster T K → RoundView → Type 0
 HasPlayed table lists s round old new =
     IsPlayedFrom s round (tables_of table old) (tables_of table new) (lists new.histories)
 
 -- a cluster after a round: what its nodes hold and have written is what the definition gives, its histories have ended
 -- the round, and what is drawn is that of the round or of the next one
-pub record IsAfterRound {T H : Type 0} (table : T → Table) (lists : H → List OwnerListView) (Ended : H → ℕ → Type 0)
-    (s : Settings) (round : ℕ) (c : Cluster T H) : Type 0 where
+pub record IsAfterRound {T K : Type 0} (table : T → Table) (lists : K → List OwnerListView) (Ended : K → ℕ → Type 0)
+    (s : Settings) (round : ℕ) (c : Cluster T K) : Type 0 where
   pub standing : StandAfterRound s round (tables_of table c) (lists c.histories)
   pub tables : tables_of table c ≡ tables_after s round
   pub ended : Ended c.histories round

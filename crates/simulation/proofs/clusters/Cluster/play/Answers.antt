@@ -10,17 +10,25 @@ pub run_list_with-requires-clause-tables : goal.run_list_with-requires-clause-ta
 run_list_with-requires-clause-tables g c _ _ = record {
   cluster =
       subst (λ n. IsCluster n (map g.T.MemoryTable.table c.in_ok-begun.begun.items)) (sym (ap (λ (l : RoundListView). l.nodes) c.in_ok-words.ensures.plan.list))
-      (nodes_cluster g.T.MemoryTable.table c.args.scenario.now c.args.round c.in_ok-begun.begun.items (g.H.RoundHistories.lists c.in_ok-begun.histories) c.in_ok-begun.ensures.begun.standing);
+      (nodes_cluster g.T.MemoryTable.table c.args.scenario.now c.args.round c.in_ok-begun.begun.items (g.K.RoundHistories.lists c.in_ok-begun.histories)
+      c.in_ok-begun.ensures.begun.standing);
   each_fits = λ n lt.
-      c.in_ok-begun.ensures.begun.fits _ (each_begun c.args.scenario.now c.args.round _ _ _ c.requires.lawful c.requires.round.first c.requires.before.tables c.in_ok-begun.ensures.begun.tables c.in_ok-begun.ensures.begun.standing n lt);
-  budget = subst (λ (r : Rules). IsLawfulBudget r.budget) (sym c.rules_of-rules.ensures) (lawful_budget c.args.scenario.now.format c.args.scenario.now.budget c.requires.lawful.budget);
+      c.in_ok-begun.ensures.begun.fits _ (each_begun c.args.scenario.now c.args.round _ _ _ c.requires.lawful c.requires.round.first
+      c.requires.before.tables c.in_ok-begun.ensures.begun.tables c.in_ok-begun.ensures.begun.standing n lt);
+  budget = subst (λ (r : Rules). IsLawfulBudget r.budget) (sym c.rules_of-rules.ensures)
+      (lawful_budget c.args.scenario.now.format c.args.scenario.now.budget c.requires.lawful.budget);
 }
 
 -- the tables as the figures read them, and the lists
-read : (g : given.Over) (c : goal.After-deref g) → IsLeft g.T.MemoryTable.table c.args.scenario.now c.args.round c.deref.result.now (g.H.RoundHistories.lists c.in_ok-begun.histories)
+read : (g : given.Over) (c : goal.After-deref g) → IsLeft g.T.MemoryTable.table c.args.scenario.now c.args.round c.deref.result.now
+    (g.K.RoundHistories.lists c.in_ok-begun.histories)
 read g c =
-    subst (λ ts. IsLeft g.T.MemoryTable.table c.args.scenario.now c.args.round ts (g.H.RoundHistories.lists c.in_ok-begun.histories)) (sym c.deref.ensures.value)
-    (is_left g.T.MemoryTable.table c.args.scenario.now c.args.round c.in_ok-words.field-0.list _ _ _ c.in_ok-tables.tables.items c.in_ok-tables.records.items _ c.requires.lawful c.requires.round.first (subst IsRoundPlan c.list.view_is c.list.invariant) c.in_ok-words.ensures.plan.list c.rules_of-rules.ensures c.requires.before.tables c.in_ok-begun.ensures.begun.tables c.in_ok-begun.ensures.begun.standing c.in_ok-tables.ensures.exchanged)
+    subst (λ ts. IsLeft g.T.MemoryTable.table c.args.scenario.now c.args.round ts (g.K.RoundHistories.lists c.in_ok-begun.histories))
+    (sym c.deref.ensures.value)
+    (is_left g.T.MemoryTable.table c.args.scenario.now c.args.round c.in_ok-words.field-0.list _ _ _ c.in_ok-tables.tables.items
+    c.in_ok-tables.records.items _ c.requires.lawful c.requires.round.first (subst IsRoundPlan c.list.view_is c.list.invariant)
+    c.in_ok-words.ensures.plan.list c.rules_of-rules.ensures c.requires.before.tables c.in_ok-begun.ensures.begun.tables
+    c.in_ok-begun.ensures.begun.standing c.in_ok-tables.ensures.exchanged)
 
 pub figures-requires-clause-cluster : goal.figures-requires-clause-cluster
 figures-requires-clause-cluster g c = standing_cluster g.T.MemoryTable.table c.args.scenario.now c.args.round c.deref.result.now _ (read g c).standing
@@ -36,22 +44,37 @@ figures-requires-clause-standing g c = (read g c).each
 
 pub of-played-requires : goal.of-played-requires
 of-played-requires g c =
-    one_record_each c.args.scenario.now c.args.round c.in_ok-words.field-0.list (subst IsRoundPlan c.list.view_is c.list.invariant) c.in_ok-words.ensures.plan.list _ _ _ c.in_ok-tables.records.items c.in_ok-tables.ensures.exchanged
+    one_record_each c.args.scenario.now c.args.round c.in_ok-words.field-0.list (subst IsRoundPlan c.list.view_is c.list.invariant)
+    c.in_ok-words.ensures.plan.list _ _ _ c.in_ok-tables.records.items c.in_ok-tables.ensures.exchanged
 
 -- what the round leaves
-left : (g : given.Over) (c : goal.After-result-1 g) → IsLeft g.T.MemoryTable.table c.args.scenario.now c.args.round c.in_ok-tables.tables.items (g.H.RoundHistories.lists c.in_ok-begun.histories)
+left : (g : given.Over) (c : goal.After-of-played g) → IsLeft g.T.MemoryTable.table c.args.scenario.now c.args.round c.in_ok-tables.tables.items
+    (g.K.RoundHistories.lists c.in_ok-begun.histories)
 left g c =
-    is_left g.T.MemoryTable.table c.args.scenario.now c.args.round c.in_ok-words.field-0.list _ _ _ c.in_ok-tables.tables.items c.in_ok-tables.records.items _ c.requires.lawful c.requires.round.first (subst IsRoundPlan c.list.view_is c.list.invariant) c.in_ok-words.ensures.plan.list c.rules_of-rules.ensures c.requires.before.tables c.in_ok-begun.ensures.begun.tables c.in_ok-begun.ensures.begun.standing c.in_ok-tables.ensures.exchanged
+    is_left g.T.MemoryTable.table c.args.scenario.now c.args.round c.in_ok-words.field-0.list _ _ _ c.in_ok-tables.tables.items
+    c.in_ok-tables.records.items _ c.requires.lawful c.requires.round.first (subst IsRoundPlan c.list.view_is c.list.invariant)
+    c.in_ok-words.ensures.plan.list c.rules_of-rules.ensures c.requires.before.tables c.in_ok-begun.ensures.begun.tables
+    c.in_ok-begun.ensures.begun.standing c.in_ok-tables.ensures.exchanged
 
 pub returns-clause-after : goal.returns-clause-after
 returns-clause-after g c =
     let is = left g c in
-    record { standing = is.standing; tables = is.after; ended = c.in_ok-begun.ensures.begun.ended; drawn = subst (λ r. IfOk r (IsDrawnAfter c.args.scenario.now c.args.round)) c.in_ok-drawn.was c.in_ok-tables.ensures.made.0 }
+    record {
+      standing = is.standing;
+      tables = is.after;
+      ended = c.in_ok-begun.ensures.begun.ended;
+      drawn = subst
+          (λ r. IfOk r (IsDrawnAfter c.args.scenario.now c.args.round)) c.in_ok-drawn.was c.in_ok-tables.ensures.made.0;
+    }
 
 pub returns-clause-played : goal.returns-clause-played
 returns-clause-played g c =
-    let lists = g.H.RoundHistories.lists c.in_ok-begun.histories in
-    played_is c.args.scenario.now c.args.round (map g.T.MemoryTable.table c.args.self.tables.items) (map g.T.MemoryTable.table c.in_ok-tables.tables.items) lists c.in_ok-words.field-0.list c.in_ok-tables.records.items c.in_ok-lag.lag c.of-played.result c.in_ok-words.ensures.plan.list
-    (round_is c.args.scenario.now c.args.round c.in_ok-words.field-0.list (subst IsRoundPlan c.list.view_is c.list.invariant) c.in_ok-words.ensures.plan.list _ _ _ c.in_ok-tables.records.items c.in_ok-tables.ensures.exchanged (map g.T.MemoryTable.table c.args.self.tables.items) c.in_ok-begun.ensures.begun.tables c.rules_of-rules.ensures)
+    let lists = g.K.RoundHistories.lists c.in_ok-begun.histories in
+    played_is c.args.scenario.now c.args.round (map g.T.MemoryTable.table c.args.self.tables.items)
+    (map g.T.MemoryTable.table c.in_ok-tables.tables.items) lists c.in_ok-words.field-0.list c.in_ok-tables.records.items c.in_ok-lag.lag
+    c.of-played.result c.in_ok-words.ensures.plan.list
+    (round_is c.args.scenario.now c.args.round c.in_ok-words.field-0.list (subst IsRoundPlan c.list.view_is c.list.invariant)
+    c.in_ok-words.ensures.plan.list _ _ _ c.in_ok-tables.records.items c.in_ok-tables.ensures.exchanged
+    (map g.T.MemoryTable.table c.args.self.tables.items) c.in_ok-begun.ensures.begun.tables c.rules_of-rules.ensures)
     (c.in_ok-lag.ensures.figures ∙ ap (λ ts. figures_of c.args.round (map g.T.MemoryTable.table ts) (lists_in lists)) c.deref.ensures.value)
     c.of-played.ensures

@@ -11,6 +11,9 @@
 //!   in memory and no list in them, so the contract of `run` can be read without the code.
 //! - `run` takes the runtime by reference, as `step` does, for the workers and for the threads of a round's figures.
 //!   They may wait. `run` and `compare` call no gate, so they pass `FreeGate`, where `step` takes any.
+//! - A run and a comparison are one loop over the rounds (`rounds.rt`) and differ in what each round is written to
+//!   (`outputs.rt`). What that holds by reference stays the same, which its relations say: else no caller would know
+//!   what becomes of its ends.
 //! - A comparison's text doesn't depend on the scenario's own mode, which the contract of `compare` says (`own_mode` of
 //!   `IsCompared`) beside the text itself. The scenario goes from mode to mode by value: `Sim::into_scenario` hands it
 //!   back, so nothing is copied.

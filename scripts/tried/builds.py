@@ -116,6 +116,8 @@ def try_full_disks(room):
         lines = said.splitlines()
         says_why = lines[0].startswith("gossip_bench: not built: ") and lines[0].endswith("File too large.")
         holds(f"no file above {most} bytes", (1, 1, True), (status, len(lines), says_why))
+    # (its seconds were being noted)
+    (toy.top / "crates/low/out/seconds").write_text("")
     holds("with room", (0, True), (toy.build()[0], toy.program.exists()))
     before = toy.program.read_bytes()
     toy.add("gossip_bench", "pub fn later()")

@@ -13,7 +13,7 @@ from trials import TOP, holds, passed
 def try_help(room):
     tools = sorted(it for it in TOOLS.glob("gossip_*") if it.is_file())
     holds("there are tools", True, len(tools) >= 5)
-    for tool in (*tools, GUIDE / "check_trace.py", TOP / "scripts/install", TOP / "scripts/package"):
+    for tool in (*tools, GUIDE / "check_trace.py"):
         status, out, err = run(room, tool, "--help")
         holds(f"{tool.name} --help", (0, True, ""), (status, out.startswith(tool.name) and out.count("\n") > 1, err))
     for name, tool in installed.commands().items():

@@ -11,8 +11,8 @@ ghost use Rattle.model.specs.Figures.{figures_of};
 ghost use Rattle.version_lags.specs.Pieces.{AreGrids, AreRoundNumbers, Counts, MayCount, MayWalk, WalksFrom, most_lag};
 
 use bench_types::{Fault, Figures};
-use owner_writes::OwnerWrites;
 use grids::{count_behind, least_behind, lower_all};
+use owner_writes::OwnerWrites;
 use planes::{Ends, Number, total_upto};
 use rayon::join;
 use round_tables::Hands;

@@ -15,8 +15,8 @@ use crate::histories::Histories;
 use crate::tables::{VersionTable, Written};
 use bench_types::{DigestKind, Fault, Rules};
 use delta_plans::{First, Marked, Offer, Owners, planned, told};
-use model::DeltaCounts;
 use grids::Masked;
+use model::DeltaCounts;
 use planes::Number;
 use std::alloc::Global;
 

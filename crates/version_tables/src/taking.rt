@@ -10,8 +10,8 @@ ghost use Rattle.version_tables.specs.inner.Taken.{drop_start, drop_starts, numb
 use crate::deltas::DeltaMarks;
 use crate::tables::{VersionTable, Written};
 use delta_plans::Owners;
-use owner_writes::OwnerWrites;
 use grids::Sent;
+use owner_writes::OwnerWrites;
 use planes::Number;
 
 fn clear_column<N: Number>(cells: &mut [N], nodes: usize, keys: usize, owner: usize, start: u32)

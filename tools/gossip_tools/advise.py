@@ -137,25 +137,27 @@ class Stages:
             runs |= sweep.spread(text, choices)
         return text, runs
 
-    def works(self, stage, pairs):
-        """The work of each run of a stage with these budgets and modes, by its name."""
+    def works(self, stage, pairs, seeds=None):
+        """The work of each run of a stage with these budgets and modes, by its name, under its seeds if no others are
+        told."""
         it = self.study
         return {f"{stage}/{name}": it.work(stage, *pair) for pair in pairs
-                for name in self.runs(stage, {pair: it.seeds(stage)})[1]}
+                for name in self.runs(stage, {pair: seeds or it.seeds(stage)})[1]}
 
     def expect(self, decision, *stages):
         """Reckons with what is still to be run in these stages where this is decided, for the time left."""
         it, pair = self.study, (decision.budget, decision.mode)
         most, work = (it.most(decision.mode), decision.mode), {}
         for stage in stages:
-            pairs = {pair, most} if stage in it.healing_stages() else {pair} if stage in study.BOUNDS else (
-                it.wanted(decision.mode) | it.next_smaller(*pair))
-            work |= self.works(stage, pairs)
+            if stage in it.healing_stages():
+                work |= self.works(stage, {pair}) | self.works(stage, {most}, rules.BOUNDING_FIRST)
+            else:
+                work |= self.works(stage, it.wanted(decision.mode) | it.next_smaller(*pair))
         self.progress.plan(work)
 
-    def plan(self, stage, pairs, times):
+    def plan(self, stage, pairs, times, seeds=None):
         """Reckons with these budgets and modes, for the time left, and with as many again so many times."""
-        work = self.works(stage, pairs)
+        work = self.works(stage, pairs, seeds)
         again = {f"{name} {at}": it for at in range(times) for name, it in work.items()}
         self.progress.plan(work | again)
 
@@ -241,7 +243,7 @@ class Stages:
         decision.floor = bound.found.uncut(bound.window)
         if not decision.floor:
             ample = {(it.ample(), it.usual)}
-            self.plan(bound.stage, ample, 0)
+            self.plan(bound.stage, ample, 0, rules.BOUNDING_FIRST)
             decision.floor = self.carry_out(bound.stage, ample, rules.BOUNDING_FIRST).uncut(bound.window)
 
     def heal(self, decision):

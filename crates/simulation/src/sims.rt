@@ -10,7 +10,7 @@ ghost use Rattle.simulation.specs.calls.Simulation.{AreTablesAfter, MayWriteAll,
 use crate::clusters::Cluster;
 use crate::resources::{Resources, processors_of};
 use crate::rounds::Round;
-use bench_types::{Fault, Mode};
+use bench_types::Fault;
 use model::MemoryTable;
 use round_tables::{Hands, RoundHistories, TakesAll};
 use scenario::Scenario;
@@ -174,21 +174,6 @@ impl<T: MemoryTable + Send + Sync, K: RoundHistories<T>> Sim<T, K> {
             processors: _,
         } = self;
         scenario
-    }
-
-    /// The format of the scenario's text, and so of its report.
-    pub fn format(&self) -> u32
-        ensures value { result ≡ self.now.settings.format }
-        ensures limits { (1 ≤ result) × (result ≤ 2) }
-    {
-        self.scenario.format()
-    }
-
-    /// The mode of the exchanges.
-    pub fn mode(&self) -> Mode
-        ensures { result ≡ self.now.settings.mode }
-    {
-        self.scenario.mode()
     }
 
     /// How many rounds there are in all.

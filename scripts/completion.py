@@ -1,5 +1,5 @@
-"""Completion of the words of the program and its tools, for bash, zsh and fish: of the program from its help, of the tools
-from what they declare."""
+"""Completion of the words of the program and its tools, for bash, zsh and fish, from the program's help and from what
+the tools declare."""
 from dataclasses import dataclass, field
 
 from installed import PROGRAM

@@ -50,7 +50,8 @@ def tools():
     text = said(sys.executable, TOOLS / "replay.py", "--help").replace("replay.py", REPLAY)
     calls, *parts = text.rstrip().split("\n\n")
     options = [it.split()[1] for it in calls.splitlines()] + re.findall(r"\[(--\w+ FILE)\]", calls)
-    return {**{name: starting.tool_of(name)[1] for name in starting.TOOLS}, REPLAY: Tool(calls.splitlines(), parts, options)}
+    declared = {name: starting.tool_of(name)[1] for name in starting.TOOLS}
+    return {**declared, REPLAY: Tool(calls.splitlines(), parts, options)}
 
 
 def beside(program):

@@ -34,7 +34,8 @@ def load_rt(top):
         try:
             attrgetter(name)(rt)
         except AttributeError:
-            raise Lacking(f"{path} is of another toolchain than the scripts were written for: it lacks {name}") from None
+            raise Lacking(f"{path} is of another toolchain than the scripts were written for: it lacks {name}"
+                          ) from None
     os.chdir(top)
     rt.Crate.allowed = rt.handles_of(str(top))
     rt.rtlib.Crate = rt.Crate

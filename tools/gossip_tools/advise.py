@@ -16,15 +16,15 @@ TOOL = Tool(
      "gossip_advise [-o FOLDER] target=SECONDS nodes=N keys=N writes=N entry=BYTES [NAME=VALUE ..]",
      "gossip_advise -o FOLDER"),
     ("""Says which mode and which budget to take for a cluster, how stale its copies get, and how long it takes to heal.
-     It runs the modes with what fits and with nodes * writes, on all cores: 20 seeds choose, seed by seed, and 20 others
-     bound what they chose, each in a run of an hour where the cluster isn't large. First comes what is chosen, then what
-     bounds it and what heals, then smaller budgets, and runs of up to 800 intervals where staleness may still rise. Last
-     comes a budget that cuts nothing, for the floor: no mode and no budget does better than that. Where no budget that
-     fits is enough, it says so, and what would be. With a target and no packet it looks for the smallest packet that
-     keeps to it. The folder, `advice` where none is named, gets the scenarios, the reports, `answer.txt` and the page
-     `report.html`; both have the first answer until the last one comes. It can be stopped, which loses the runs under
-     way: the same call goes on. Without numbers it takes those that the folder has. Restarts and a split may be asked
-     for in one call, so that what comes before them is run once.""",
+     It runs the modes with what fits and with nodes * writes, on all cores: 20 seeds choose, seed by seed, and 20
+     others bound what they chose, each in a run of an hour where the cluster isn't large. First comes what is chosen,
+     then what bounds it and what heals, then smaller budgets, and runs of up to 800 intervals where staleness may still
+     rise. Last comes a budget that cuts nothing, for the floor: no mode and no budget does better than that. Where no
+     budget that fits is enough, it says so, and what would be. With a target and no packet it looks for the smallest
+     packet that keeps to it. The folder, `advice` where none is named, gets the scenarios, the reports, `answer.txt`
+     and the page `report.html`; both have the first answer until the last one comes. It can be stopped, which loses the
+     runs under way: the same call goes on. Without numbers it takes those that the folder has. Restarts and a split may
+     be asked for in one call, so that what comes before them is run once.""",
      (Word("nodes", "how many nodes there are", ()),
       Word("keys", "the things that each node tells of itself", ()),
       Word("writes", "how many of these change in an interval", ()),
@@ -33,8 +33,8 @@ TOOL = Tool(
            not told otherwise by `shared`. The 64 KB of a UDP datagram are at most 65507 bytes. `delta` is another name
            of it""", ()),
       Word("digest", """the bytes that a digest has for each node (in a precise mode for each key): what names the node,
-           its generation and its version, as sent: about 20 for an IPv4 address, port, generation and version in binary,
-           60 and more with host names or UUIDs. Where it isn't given it is 0, and digests are free""", ()),
+           its generation and its version, as sent: about 20 for an IPv4 address, port, generation and version in
+           binary, 60 and more with host names or UUIDs. Where it isn't given it is 0, and digests are free""", ()),
       Word("shared", """`yes`, where it isn't given: digest and delta share the packet; `no`, the digest has one of its
            own""", cluster.TEXTS["shared"]),
       Word("fanout", """how many others a node calls in an interval, 1 where it isn't given. Each call is a round of its

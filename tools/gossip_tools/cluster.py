@@ -17,8 +17,8 @@ TOOL = Tool(
       Word("keys", "the things that a node tells of itself, from 1 to 64", ()),
       Word("writes", "how many of them change in an interval, from 0 to 8", ()),
       ENTRY,
-      Word("packet", """the bytes of a packet, less what else is in it, such as headers: what a delta may take, and where
-           digest and delta share a packet, both together. `delta` is another name of it""", ()),
+      Word("packet", """the bytes of a packet, less what else is in it, such as headers: what a delta may take, and
+           where digest and delta share a packet, both together. `delta` is another name of it""", ()),
       Word("digest", """the bytes that the digest has for each node (in a precise mode for each key), where it shares
            the packet with the delta: what names the node, its generation and its version, as sent; 0 where it
            doesn't""", ()),
@@ -177,6 +177,26 @@ def without_writes(rounds, fanout):
     return "".join(scenario.load(it, min(it + fanout - 2, rounds), 0) for it in firsts)
 
 
+def remarks(it, room, in_bytes, loads):
+    """What the scenario stands for, and what it leaves out."""
+    entry, fanout = plain(it["entry"]), int(it["fanout"])
+    yield f"{room} bytes for a delta are {float(room / it['entry']):.6g} entries of {entry} bytes."
+    if it["digest"]:
+        yield f"{it['packet'] - room} more are for a digest of {it['mode']}; for another mode, ask for it."
+        yield "The last message of an exchange has no digest; the room for one is lost there."
+    if in_bytes:
+        yield "Entries of format 2 have 24 to 1023 bytes, all as often, 523.5 on average. So the packet is scaled:"
+        yield f"budget_bytes = {room} / {entry} * 523.5. That your sizes may be spread otherwise is left out."
+        yield "Which key is written is left to chance; keys in turn give entries of nearly one size."
+    else:
+        yield "All entries count alike: that sizes differ is left out."
+    if loads:
+        yield f"An interval is {fanout} rounds, one for each call. `greatest` is in rounds: divide it by {fanout}."
+    left = ["latency"] + ["more than one peer a round"] * (fanout == 1) + ["generations"] * (not in_bytes)
+    yield f"Left out: {', '.join(left)}, failure detectors, nodes that join or leave."
+    yield "Not asked for: restarts (gossip_restarts), partitions (gossip_apart), rounds with other writes."
+
+
 def main(words):
     it = told(words, USUAL, "gossip_scenario nodes=300 keys=4 writes=1 entry=40 packet=60000")
     check_limits(it)
@@ -196,20 +216,6 @@ def main(words):
     in_bytes = count == "bytes"
     fields = scenario.top(it["nodes"], it["keys"], rounds, it["writes"], it["loss"] * 10000, room / it["entry"],
                           in_bytes, it["mode"], seed)
-    entry = plain(it["entry"])
-    print(f"# {room} bytes for a delta are {float(room / it['entry']):.6g} entries of {entry} bytes.")
-    if it["digest"]:
-        print(f"# {taken} more are for a digest of {it['mode']}; for another mode, ask for it.")
-        print("# The last message of an exchange has no digest; the room for one is lost there.")
-    if in_bytes:
-        print("# Entries of format 2 have 24 to 1023 bytes, all as often, 523.5 on average. So the packet is scaled:")
-        print(f"# budget_bytes = {room} / {entry} * 523.5. That your sizes may be spread otherwise is left out.")
-        print("# Which key is written is left to chance; keys in turn give entries of nearly one size.")
-    else:
-        print("# All entries count alike: that sizes differ is left out.")
-    if loads:
-        print(f"# An interval is {fanout} rounds, one for each call. `greatest` is in rounds: divide it by {fanout}.")
-    left = ["latency"] + ["more than one peer a round"] * (fanout == 1) + ["generations"] * (not in_bytes)
-    print(f"# Left out: {', '.join(left)}, failure detectors, nodes that join or leave.")
-    print("# Not asked for: restarts (gossip_restarts), partitions (gossip_apart), rounds with other writes.")
+    for line in remarks(it, room, in_bytes, loads):
+        print(f"# {line}")
     print(scenario.written(fields) + loads, end="")

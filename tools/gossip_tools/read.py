@@ -15,8 +15,8 @@ TOOL = Tool(
      one too). With --seeds the runs that differ in their seed alone have one line, and each column goes from its least
      to its most over the seeds. Where a run has no whole report, it says which and ends with status 2; with --partial
      it says so and goes on with the others.""",
-     (Word("window", """what was cut in the rounds FROM to TO, in per cent of all that was lacking, and the least and the
-           most of `greatest` and of `stale` there, and of `leftover` in format 2"""),
+     (Word("window", """what was cut in the rounds FROM to TO, in per cent of all that was lacking, and the least and
+           the most of `greatest` and of `stale` there, and of `leftover` in format 2"""),
       Word("level", """the first round from FROM on in which `greatest` is at most LEVEL, and how many rounds it took,
            FROM among them; or `never`"""),
       Word("leftover", "the same of `leftover`, which format 2 alone has"))),
@@ -197,6 +197,22 @@ def over_seeds(fields, found):
     return fields[:at] + fields[at + 1:], spans
 
 
+def figures(runs, folder, what, first, second):
+    """What is asked of each run, by the values of its fields."""
+    found, last = {}, second if what == "window" else first
+    for values in runs.in_order():
+        rows = runs.rows[values]
+        if not 1 <= first <= last <= len(rows):
+            raise Refused(f"the rounds {first} to {last} aren't in all runs: one has {len(rows)}.")
+        if what == "window":
+            found[values] = window(rows, first, last)
+        elif what == "leftover" and what not in rows[0]:
+            raise Refused(f"the runs in {folder} are of format 1, which has no column leftover.")
+        else:
+            found[values] = level("greatest" if what == "level" else what, rows, first, second)
+    return found
+
+
 def main(words):
     partial, seeds = "--partial" in words, "--seeds" in words
     words = [word for word in words if word not in ("--partial", "--seeds")]
@@ -209,9 +225,8 @@ def main(words):
         folder, words = pathlib.Path(words[3]), words[:3]
     if len(words) != 3 or words[0] not in ("window", "level", "leftover"):
         raise Refused("usage: gossip_read window FROM TO [FOLDER], or level FROM LEVEL [FOLDER], or leftover likewise")
-    first = number(words[1], "FROM", 1)
-    second = number(words[2], "TO", 1) if words[0] == "window" else number(words[2], "LEVEL")
-    last = second if words[0] == "window" else first
+    what, first = words[0], number(words[1], "FROM", 1)
+    second = number(words[2], "TO", 1) if what == "window" else number(words[2], "LEVEL")
     runs = Runs(folder)
     if seeds and "seed" not in runs.fields:
         raise Refused(f"the runs in {folder} have no field seed of their own.")
@@ -221,18 +236,9 @@ def main(words):
         print(f"gossip_read: {runs.what_is_missing()}", file=sys.stderr)
     if runs.without_sum:
         print(f"gossip_read: {told_without_sum(runs.without_sum, folder)}", file=sys.stderr)
-    found = {}
-    for values in runs.in_order():
-        rows = runs.rows[values]
-        if not 1 <= first <= last <= len(rows):
-            raise Refused(f"the rounds {first} to {last} aren't in all runs: one has {len(rows)}.")
-        if words[0] == "window":
-            found[values] = window(rows, first, last)
-        elif words[0] == "leftover" and "leftover" not in rows[0]:
-            raise Refused(f"the runs in {folder} are of format 1, which has no column leftover.")
-        else:
-            found[values] = level("greatest" if words[0] == "level" else "leftover", rows, first, second)
-    fields, found = over_seeds(runs.fields, found) if seeds else (runs.fields, found)
+    fields, found = runs.fields, figures(runs, folder, what, first, second)
+    if seeds:
+        fields, found = over_seeds(fields, found)
     print(*fields, *next(iter(found.values())), sep=",")
     for values, columns in found.items():
         print(*values, *columns.values(), sep=",")

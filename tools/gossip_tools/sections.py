@@ -6,8 +6,8 @@ from gossip_tools.words import Tool, Word
 
 RESTARTS = Tool(
     ("gossip_restarts NODES EACH FROM TO DOWN [forget] [first=NODE] [every=ROUNDS]",),
-    ("""Prints a scenario's restarts: in each of the rounds FROM to TO the next EACH of NODES nodes restart, in ascending
-     order of number, and are down for DOWN rounds. A scenario takes at most 1000.""",
+    ("""Prints a scenario's restarts: in each of the rounds FROM to TO the next EACH of NODES nodes restart, in
+     ascending order of number, and are down for DOWN rounds. A scenario takes at most 1000.""",
      (Word("forget", "they lose their own state too, which needs format 2"),
       Word("first", """the node that restarts first, 0 where it isn't given. To go on where an earlier call ended, give
            the number of restarts that it made: after `gossip_restarts 300 2 11 20 1`, which makes 20, take first=20""",

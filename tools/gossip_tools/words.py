@@ -29,9 +29,11 @@ class Tool(NamedTuple):
 
     def help(self):
         width = max((len(it.name) for it in self.words), default=0) + 4
-        return "\n\n".join(["\n".join(self.calls), *(
-            filled(part) if isinstance(part, str) else
-            "\n".join(filled(it.text, f"  {it.name}".ljust(width), " " * width) for it in part) for part in self.parts)])
+        blocks = ["\n".join(self.calls)]
+        for part in self.parts:
+            rows = [("", part)] if isinstance(part, str) else [(f"  {it.name}".ljust(width), it.text) for it in part]
+            blocks.append("\n".join(filled(text, name, " " * len(name)) for name, text in rows))
+        return "\n\n".join(blocks)
 
 
 def filled(text, first="", behind=""):

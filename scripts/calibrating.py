@@ -10,7 +10,7 @@ import trials
 from gossip_tools import advise, answer, cluster, rules, target
 from gossip_tools.study import Study
 
-FRESH = tuple(range(1001, 1021))
+FRESH, JUDGING = tuple(range(1001, 1063)), 20
 # Nodes with another node and key that a drawn cluster has at most, so that it is asked within minutes.
 MOST_WORK = 3e6
 # Each so-many-th cluster has a target and no packet.
@@ -18,24 +18,31 @@ TARGETS = 5
 
 
 class Told(NamedTuple):
-    """A bound that was told, what the seeds behind it had, and what fresh ones have."""
+    """A bound that was told, what the seeds behind it had, what 20 fresh ones have, and what as many fresh ones as are
+    behind it would tell."""
 
     name: str
     bound: float
     bounding: list
     fresh: list
+    again: float
 
     def exceeded(self):
         """Under how many of the fresh seeds it is exceeded."""
         return sum(it > self.bound for it in self.fresh)
 
     def is_loose(self):
-        """Whether it is more than 1.3 times the greatest of the fresh ones, and more than 2 rounds above it."""
-        return self.bound > max(1.3 * max(self.fresh), max(self.fresh) + 2)
+        """Whether it is more than 1.3 times what fresh ones would tell, and more than 2 rounds above it."""
+        return self.bound > max(1.3 * self.again, self.again + 2)
 
     def __str__(self):
-        return (f"{self.name} {self.bound}: fresh {answer.span(self.fresh)}, exceeded {self.exceeded()} of "
-                f"{len(self.fresh)}{', loose' if self.is_loose() else ''}")
+        return (f"{self.name} {self.bound}: fresh {answer.span(self.fresh)}, which exceed it {self.exceeded()} times and "
+                f"would tell {self.again}{', loose' if self.is_loose() else ''}")
+
+
+def told_of(name, told, seen, bound=None):
+    """What was told by some seeds, and what fresh ones have; the bound where it isn't that of these seeds."""
+    return Told(name, bound or rules.bound_of(told), told, seen[:JUDGING], rules.bound_of(seen))
 
 
 def drawn(random, at, largest):
@@ -73,8 +80,8 @@ def times(it, stages, pair, seeds=None):
 
 def of_healing(it, stages, fresh, pair):
     """The bounds that are told of what heals."""
-    told, seen = times(it, stages, pair), times(it, fresh, pair, FRESH)
-    bounds = [Told(what, rules.bound_of(told[what]), told[what], seen[what]) for what in told]
+    told, seen = times(it, stages, pair), times(it, fresh, pair, FRESH[:len(it.seeds("split"))])
+    bounds = [told_of(what, told[what], seen[what]) for what in told]
     # (where too many seeds never heal none is told)
     return [it for it in bounds if it.bound < math.inf]
 
@@ -110,10 +117,10 @@ def asked(it, folder):
         bounds, of_target, bound = [], None, decision.bound
         if decision.suffices:
             pair = decision.budget, decision.mode
-            seen = fresh.carry_out(bound.stage, {pair}, FRESH).worst(*pair, bound.window)
-            bounds = [Told("worst", max(bound.worst), bound.worst, seen)]
+            seen = fresh.carry_out(bound.stage, {pair}, FRESH[:JUDGING]).worst(*pair, bound.window)
+            bounds = [told_of("worst", bound.worst, seen)]
             bounds += of_healing(it, stages, fresh, pair) if decision.heals() else []
-            of_target = Told("target", it.target, bound.worst, seen) if is_met else None
+            of_target = told_of("target", bound.worst, seen, it.target) if is_met else None
     return Asked(decision.headline(), bounds, of_target, moved)
 
 

@@ -18,31 +18,25 @@ TARGETS = 5
 
 
 class Told(NamedTuple):
-    """A bound that was told, what the seeds behind it had, what 20 fresh ones have, and what as many fresh ones as are
-    behind it would tell."""
+    """A bound that was told, what the seeds behind it had, and what as many fresh ones have, of which 20 judge it."""
 
     name: str
     bound: float
     bounding: list
     fresh: list
-    again: float
 
     def exceeded(self):
-        """Under how many of the fresh seeds it is exceeded."""
-        return sum(it > self.bound for it in self.fresh)
+        """Under how many of the seeds that judge it is exceeded."""
+        return sum(it > self.bound for it in self.fresh[:JUDGING])
 
     def is_loose(self):
         """Whether it is more than 1.3 times what fresh ones would tell, and more than 2 rounds above it."""
-        return self.bound > max(1.3 * self.again, self.again + 2)
+        likely = rules.bound_of(self.fresh)
+        return self.bound > max(1.3 * likely, likely + 2)
 
     def __str__(self):
-        return (f"{self.name} {self.bound}: fresh {answer.span(self.fresh)}, which exceed it {self.exceeded()} times and "
-                f"would tell {self.again}{', loose' if self.is_loose() else ''}")
-
-
-def told_of(name, told, seen, bound=None):
-    """What was told by some seeds, and what fresh ones have; the bound where it isn't that of these seeds."""
-    return Told(name, bound or rules.bound_of(told), told, seen[:JUDGING], rules.bound_of(seen))
+        return (f"{self.name} {self.bound}: fresh {answer.span(self.fresh)} tell {rules.bound_of(self.fresh)}, "
+                f"exceeded {self.exceeded()} of {JUDGING}{', loose' if self.is_loose() else ''}")
 
 
 def drawn(random, at, largest):
@@ -81,7 +75,7 @@ def times(it, stages, pair, seeds=None):
 def of_healing(it, stages, fresh, pair):
     """The bounds that are told of what heals."""
     told, seen = times(it, stages, pair), times(it, fresh, pair, FRESH[:len(it.seeds("split"))])
-    bounds = [told_of(what, told[what], seen[what]) for what in told]
+    bounds = [Told(what, rules.bound_of(told[what]), told[what], seen[what]) for what in told]
     # (where too many seeds never heal none is told)
     return [it for it in bounds if it.bound < math.inf]
 
@@ -118,9 +112,9 @@ def asked(it, folder):
         if decision.suffices:
             pair = decision.budget, decision.mode
             seen = fresh.carry_out(bound.stage, {pair}, FRESH[:JUDGING]).worst(*pair, bound.window)
-            bounds = [told_of("worst", bound.worst, seen)]
+            bounds = [Told("worst", max(bound.worst), bound.worst, seen)]
             bounds += of_healing(it, stages, fresh, pair) if decision.heals() else []
-            of_target = told_of("target", bound.worst, seen, it.target) if is_met else None
+            of_target = Told("target", it.target, bound.worst, seen) if is_met else None
     return Asked(decision.headline(), bounds, of_target, moved)
 
 

@@ -6,8 +6,7 @@ from installed import PROGRAM
 from gossip_tools import scenario, sweep
 
 # The fields that a sweep takes, with the words that a scenario has for some of them.
-FIELDS = {"format": ("1", "2"), **dict.fromkeys(scenario.LIMITS, ()), "mode": scenario.MODES,
-          "peers": ("random", "ring"), "rotation": ("random", "none"), "choice": ("random", "cycle")}
+FIELDS = {"format": [*map(str, scenario.FORMATS)], **dict.fromkeys(scenario.LIMITS, ()), **scenario.WORDS}
 # What fish asks of the word that it completes.
 NAMED = 'string match -q "{}=*" -- (commandline -ct)'
 NO_NAME_YET = f"not {NAMED.format('*')}"

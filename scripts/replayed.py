@@ -34,6 +34,11 @@ def reaching(exchange):
     return back * (fate in ("lost3", "ok")) + forth * (fate == "ok")
 
 
+def drawn_words(chance):
+    """One for each field that takes words."""
+    return {field: chance.choice(words) for field, words in scenario.WORDS.items()}
+
+
 class Run:
     """A scenario, and what it comes to: the rows of its report, its exchanges, and what each node holds of each owner,
     by rounds."""

@@ -16,7 +16,7 @@ from gossip_tools import live
 from gossip_tools.live_figures import Figures
 from gossip_tools.live_node import Node, decoded
 from gossip_tools.live_worker import Told, marks_of
-from gossip_tools.scenario import MODES
+from gossip_tools.scenario import FORMATS, MODES
 
 CLUSTER = """format = 1
 nodes = 16
@@ -63,6 +63,8 @@ to = 22
 writes = 0
 """
 FORGETS = "[[restart]]\nnode = 9\nround = 14\ndown = 1\nforget = true\n"
+# By the format, a budget that cuts, and what only that format has.
+OF_FORMAT = {1: ("budget = 5", ""), 2: ("budget_bytes = 1023", FORGETS)}
 
 
 def columns(entry):
@@ -126,7 +128,8 @@ def try_following_traces(room):
     """A live node sends and holds what replay.py does, entry by entry, where both meet the same and lose the same, and
     the figures are those of the report."""
     for mode in MODES:
-        for form, budget, more in ((1, "budget = 5", ""), (2, "budget_bytes = 1023", FORGETS)):
+        for form in FORMATS:
+            budget, more = OF_FORMAT[form]
             text = f"format = {form}\nmode = '{mode}'\n{budget}\n{MISHAPS}{more}"
             replayed = run(room, TOOLS / "replay.py", "run", "--trace", "trace.csv", "--sent", "sent.csv", "--tables",
                            "tables.csv", text=text)

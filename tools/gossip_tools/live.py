@@ -35,6 +35,8 @@ TOOL = Tool(
 USUAL = {"interval": "1", "latency": "0", "fanout": "1", "beside": None, "window": "10"}
 MOST = {"interval": 3600, "latency": 100, "fanout": 4095, "beside": 100, "window": 100000}
 LEAST_INTERVAL = 0.01
+# The columns of the bench that a live cluster lacks, behind that of the round.
+LACKING = ("exchanges", "unreached", "lost")
 WORTHLESS = 4  # the status
 
 
@@ -106,7 +108,7 @@ def main(words):
     text = scenario_given()
     sweep.check({"the scenario": text}, program)
     plan = plan_of(text, asked)
-    columns = ["entries", "cut", "stale", "greatest", *(["leftover"] if plan.format == 2 else [])]
+    columns = [it for it in read.COLUMNS[plan.format][1:] if it not in LACKING]
     figures, benches = Figures(plan), []
     if asked["beside"]:
         runs = live_beside.scenarios(text, plan.fanout, asked["beside"])

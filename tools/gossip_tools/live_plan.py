@@ -69,7 +69,10 @@ class Plan:
 
     def peers_of(self, node, round):
         """Whom a node calls in an interval: as many others as the fanout says."""
+        others = self.nodes - 1
         if self.peers == "random":
-            return [it + (it >= node) for it in random.sample(range(self.nodes - 1), self.fanout)]
-        begun = (round - 1) * self.fanout
-        return [(node + 1 + (begun + call) % (self.nodes - 1)) % self.nodes for call in range(self.fanout)]
+            return [it + (it >= node) for it in random.sample(range(others), self.fanout)]
+        if self.peers == "ring":
+            begun = (round - 1) * self.fanout
+            return [(node + 1 + (begun + call) % others) % self.nodes for call in range(self.fanout)]
+        raise ValueError(self.peers)

@@ -21,8 +21,8 @@ TOOL = Tool(
            FROM among them; or `never`"""),
       Word("leftover", "the same of `leftover`, which format 2 alone has"))),
     ("-o FOLDER", "--seeds", "--partial"))
-COLUMNS = ["round", "exchanges", "unreached", "lost", "entries", "cut", "stale", "greatest"]
-OF_FORMAT_2 = [*COLUMNS, "leftover"]
+OF_FORMAT_1 = ["round", "exchanges", "unreached", "lost", "entries", "cut", "stale", "greatest"]
+COLUMNS = {1: OF_FORMAT_1, 2: [*OF_FORMAT_1, "leftover"]}  # by the format
 
 
 class NotWhole(Exception):
@@ -39,7 +39,7 @@ def settings(text):
 
 def rows_of(text, form, rounds):
     """The rows of a report, in numbers, where it is that of a scenario of this format with so many rounds."""
-    header = COLUMNS if form == 1 else OF_FORMAT_2
+    header = COLUMNS[form]
     first, _, rest = text.partition("\n")
     if not text:
         raise NotWhole("it is empty")
@@ -114,7 +114,7 @@ class Runs:
                 continue
             with open(file, "rb") as text:
                 top = settings(scenario.read(text, file))
-            if not {"format", "rounds"} <= top.keys():
+            if top.get("format") not in scenario.FORMATS or "rounds" not in top:
                 raise Refused(f"{file} isn't the scenario of a run.")
             if top["format"] != (form := form or top["format"]):
                 raise Refused(f"the runs in {folder} are of two formats.")

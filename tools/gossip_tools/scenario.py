@@ -4,7 +4,10 @@ from fractions import Fraction
 
 from gossip_tools.commands import Refused, shown
 
+FORMATS = (1, 2)
 MODES = ("scuttle-breadth", "scuttle-depth", "precise-oldest", "precise-newest")
+# What the fields of words take.
+WORDS = {"mode": MODES, "peers": ("random", "ring"), "rotation": ("random", "none"), "choice": ("random", "cycle")}
 USUAL_MODE = "scuttle-depth"
 LIMITS = {
     "nodes": (2, 4096), "keys": (1, 64), "writes": (0, 8), "rounds": (1, 100000), "seed": (0, 2**63 - 1),

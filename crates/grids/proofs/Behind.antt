@@ -1,4 +1,5 @@
 -- The least of an owner's numbers that are behind the last ones.
+-- Serves `least_behind`.
 use Rattle.grids.proofs.Common.{ℕ, cond, nat_lt, inl, inr, arith, nat_tests, cases_lt, IsLeastBehind, IsLeastOf, Cells}
 
 -- of those behind the last ones

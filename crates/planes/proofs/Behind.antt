@@ -1,5 +1,5 @@
 -- The least of an owner's numbers that pass a test, key by key.
--- Serves `least_above`, `least_behind` and `least_of`.
+-- Serves `least_above`, `least_of` and `grids`.
 use Rattle.planes.proofs.Common.{◌≡◌, ℕ, zero, suc, ◌+◌, ◌<◌, ◌≤◌, min, cond, nat_lt, List, ◌⊎◌, inl, inr, sym, ◌∙◌, arith, below_more, nat_tests, cases_lt, IsLeastOf, Cells, HasEach, HasNoneAbove, IsNextAbove, IsLeastAbove}
 
 -- one value more, to which the least one is lowered

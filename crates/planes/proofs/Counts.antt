@@ -1,6 +1,6 @@
 -- Sums that a loop counts.
--- Serves the functions of `grids`, `merges`, `owners` and `planes`, `ByOwner`, `Elementwise`, `Places`,
--- `delta_plans` and `version_lags`.
+-- Serves the functions of `grids`, `owners` and `planes`, `Elementwise`, `FewOwners`, `delta_plans`, `grids` and
+-- `version_lags`.
 use Rattle.planes.proofs.Common.{◌≡◌, ℕ, suc, ◌+◌, ◌≤◌, Bool, true, false, cond, ap, ◌∙◌, arith, sum_below, sum_below-most, count_passing}
 
 pub one_le : (b : Bool) → cond b 1 0 ≤ 1

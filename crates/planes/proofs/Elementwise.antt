@@ -1,6 +1,6 @@
 -- Lists that are changed element by element.
--- Serves the functions of `grids`, `lags`, `merges`, `owners` and `planes`, `Places`, `delta_plans`, `version_lags`
--- and `version_tables`.
+-- Serves the functions of `grids`, `owners` and `planes`, `delta_plans`, `grids`, `version_lags` and
+-- `version_tables`.
 use Rattle.planes.proofs.Common.{◌≡◌, ℕ, ◌+◌, ◌<◌, ◌≤◌, List, length, get_or, set, map, refl, sym, ap, ◌∙◌, subst, arith, below_more, get_or-set_same, get_or-set_other, length-set, get_or-map, length-map, map-set, Bool, cond, AreChangedUpto, AreChanged, IsMade, AreCountedUpto}
 use Rattle.planes.proofs.Counts.{count_next, count_same}
 

@@ -1,4 +1,5 @@
 -- Owners whose numbers are counted one by one.
+-- Serves `total_owners_above` and `grids`.
 use Rattle.planes.proofs.Common.{◌≡◌, ℕ, Fits, w32, ◌+◌, ◌<◌, ◌≤◌, cond, nat_lt, ap, ◌∙◌, arith, sum_below-most, le-ltb, MOST_KEYS, sum_below, Cells, count_above, HasNoneAbove, IsGrid}
 use Rattle.planes.proofs.Counts.{count_le, sum_next}
 

@@ -69,8 +69,8 @@ impl Field {
         }
     }
 
-    // The table that has it.
-    pub(crate) fn table(self) -> TableName
+    /// The table that has it.
+    pub fn table(self) -> TableName
         ensures { result ≡ table_of self }
     {
         match self {
@@ -108,8 +108,8 @@ pub enum TableName {
 }
 
 impl TableName {
-    // What it is called in a fault's line.
-    pub(crate) fn name(self) -> &'static str
+    /// What it is called in a fault's line.
+    pub fn name(self) -> &'static str
         ensures { result.now ≡ table_name self }
     {
         match self {

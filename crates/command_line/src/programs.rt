@@ -8,6 +8,7 @@ ghost use Rattle.command_line.specs.Statuses.{IsTold, told_of};
 ghost use Rattle.command_line.specs.inner.Statuses.{IsOutcomeTold, status_of};
 
 use crate::jobs::perform;
+use crate::lines::line_of;
 use bench_types::{Discard, Fault, Push, Sink, Source, write_text};
 use command_words::{NoJob, job_of};
 use std::alloc::Global;
@@ -59,7 +60,7 @@ pub(crate) fn status_of<E: Sink>(done: Result<(), Fault>, err: &mut E) -> u8
     match done {
         Ok(()) => DONE,
         Err(fault) => {
-            let mut line = fault.line();
+            let mut line = line_of(&fault);
             line.push_str("\n");
             tell(line.as_str(), err);
             FAULT

@@ -1,7 +1,9 @@
 -- The line that the program prints of each fault, without the line's end. Source: this project.
-use Rattle.std.specs.Prelude.{ℕ, List, ◌++◌, codes, decimal}
+use Rattle.std.specs.Prelude.{ℕ, List, [], ◌++◌, codes, decimal}
 use Rattle.bench_types.specs.declared.faults.Fault.{Fault}
 use Rattle.bench_types.specs.declared.faults.Fault.TheVariants as fault
+use Rattle.bench_types.specs.declared.fillings.Filling.{Filling}
+use Rattle.bench_types.specs.declared.fillings.Filling.TheVariants as filling
 use Rattle.bench_types.specs.declared.limits.TheConstants.{MOST_BYTES, MOST_ENTRIES, MOST_ENTRY_SIZE}
 use Rattle.bench_types.specs.calls.Field.{field_text, table_name}
 
@@ -26,3 +28,10 @@ fault_line fault.Unfinished = codes "fault 17: exchanges are unfinished"
 fault_line fault.NotAllowed = codes "fault 18: this exchange may not start"
 fault_line fault.NotRunning = codes "fault 19: this exchange is not running"
 fault_line fault.BudgetTooSmall = codes "fault 20: budget_bytes is below " ++ decimal MOST_ENTRY_SIZE
+
+-- how what tells one fault from others of its kind is printed
+abbrev pub filling_text : Filling → List ℕ
+filling_text filling.Nothing = []
+filling_text (filling.Number number) = decimal number
+filling_text (filling.Field field) = field_text field
+filling_text (filling.Table table) = table_name table

@@ -1,5 +1,5 @@
 -- Marks are in a total order, and the later of two comes behind neither.
--- Serves `model`, `owner_lists` and `reconcile`.
+-- Serves `model` and `reconcile`.
 use Rattle.std.proofs.Common.{◌≡◌, ℕ, ◌+◌, ◌≤◌, true, false, eqb, ◌||◌, ◌&&◌, Option, Some, None, cond, if◌then◌else◌, ◌⊎◌, inl, inr, refl, sym, ap, ◌∙◌, subst, arith}
 use Rattle.std.specs.Prelude.{nat_lt}
 use Rattle.std.proofs.lemmas.Bool.{cases_lt, cases_eq, lt-ltb, le-ltb, eq-eqb, ne_eqb, both_ways}

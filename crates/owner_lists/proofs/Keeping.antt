@@ -1,18 +1,9 @@
 -- What an owner's list keeps through its calls.
--- Serves `OwnerList::begin_generation`, `OwnerList::entry`, `OwnerList::first_missed`, `OwnerList::len` and
--- `OwnerList::write`.
-use Rattle.owner_lists.proofs.Common.{◌≡◌, ℕ, ◌+◌, ◌-◌, ◌^◌, ◌<◌, cond, eqb, Some, List, [], ◌∷◌, ◌++◌, length, map, take, drop, refl, sym, ap, ◌∙◌, subst, arith, nat_cmp, nat_cmp_total, put, find-put, length-drop, length-map, get_or-map, map-append, take_all, Entry, Write, OwnerListView, written, AreWrites, next_entry, write_of_entry, IsNumbered, last_write-push, same_key, view_begun, view_pushed, kept_begun, kept_pushed}
+-- Serves `OwnerList::begin_generation`, `OwnerList::first_missed`, `OwnerList::len` and `OwnerList::write`.
+use Rattle.owner_lists.proofs.Common.{◌≡◌, ℕ, ◌+◌, ◌^◌, ◌<◌, cond, eqb, Some, List, [], ◌∷◌, ◌++◌, length, refl, sym, ap, ◌∙◌, subst, arith, nat_cmp, nat_cmp_total, put, find-put, length-append, length-map, get_or-map, map-append, Entry, Write, OwnerListView, written, AreWrites, next_entry, with_write, begun_generation, writes_more, writes_begun, write_of_entry, IsNumbered, last_write-push, same_key}
 use Rattle.owner_lists.specs.Latest.{keyed, write_of, IsLatest}
-use Rattle.owner_lists.specs.inner.Kept.{itself, view_of, IsKeptList}
+use Rattle.owner_lists.specs.inner.Kept.{IsKeptList}
 use Rattle.owner_lists.proofs.Rising.{rising_put}
-
--- what stands from a place on, as it is lent
-pub sliced : (n : ℕ) (es : List Entry) → take (length es - n) (drop n es) ≡ drop n es
-sliced n es = take_all (length es - n) (drop n es) (omega (arith, length-drop n es))
-
-pub all_themselves : (es : List Entry) → map itself es ≡ es
-all_themselves [] = refl
-all_themselves (e ∷ es) = ap (λ xs. e ∷ xs) (all_themselves es)
 
 pub numbered_kept : (v : OwnerListView) → AreWrites v → IsNumbered (written v)
 numbered_kept v is i d lt =
@@ -31,25 +22,20 @@ latest_pushed ws latest latest' w ends is = record {
       ∙ sym (last_write-push ws w q);
 }
 
-module _ (es : List Entry) (n g : ℕ) (latest : List Write) (list : IsKeptList es n g latest) where
-  abbrev v : OwnerListView
-  v = view_of es n g
+module _ (v : OwnerListView) (latest : List Write) (list : IsKeptList v latest) where
+  -- the next generation
+  pub list_begun : IsKeptList (begun_generation v) []
+  list_begun = record { writes = writes_begun v list.writes; few = omega arith; ends = record { rising = tt; last = λ key. refl } }
 
-  pub list_begun : (m : ℕ) (latest' : List Write) → m ≡ length es → latest' ≡ [] → IsKeptList es m (g + 1) latest'
-  list_begun m latest' all none = record {
-    kept = kept_begun itself es n g list.kept m all;
-    ends = subst (λ ws. IsLatest ws (written (view_of es m (g + 1)))) (sym none)
-        (subst (λ u. IsLatest [] (written u)) (sym (view_begun itself es n g m all)) (record { rising = tt; last = λ key. refl }));
-  }
-
-  pub list_written : (e : Entry) (key value born : ℕ) (latest' : List Write) → e ≡ next_entry v key value born → length v.current + 1 < 2 ^ 32 → put nat_cmp e.key (write_of_entry e) (keyed latest) ≡ keyed latest' → IsKeptList (es ++ e ∷ []) n g latest'
-  list_written e key value born latest' next few is = record {
-    kept = kept_pushed itself es n g list.kept e key value born next few;
-    ends = subst (IsLatest latest') (sym shown) (latest_pushed (written v) latest latest' (write_of_entry e) list.ends is);
+  -- one more write
+  pub list_written : (key value born : ℕ) (w : Write) (latest' : List Write) → w ≡ write_of_entry (next_entry v key value born) → length v.current + 1 < 2 ^ 32 → put nat_cmp w.key w (keyed latest) ≡ keyed latest' → IsKeptList (with_write v key value born) latest'
+  list_written key value born w latest' next few is = record {
+    writes = writes_more v list.writes key value born;
+    few = omega (arith, few, length-append v.current (next_entry v key value born ∷ []));
+    ends = subst (IsLatest latest') (sym shown) (latest_pushed (written v) latest latest' w list.ends is);
   }
     where
-      shown : written (view_of (es ++ e ∷ []) n g) ≡ written v ++ write_of_entry e ∷ []
+      shown : written (with_write v key value born) ≡ written v ++ w ∷ []
       shown =
-          ap written (view_pushed itself es n g list.kept e key value born next)
-          ∙ map-append write_of_entry v.current (next_entry v key value born ∷ [])
-          ∙ ap (λ x. written v ++ write_of_entry x ∷ []) (sym next)
+          map-append write_of_entry v.current (next_entry v key value born ∷ [])
+          ∙ ap (λ x. written v ++ x ∷ []) (sym next)

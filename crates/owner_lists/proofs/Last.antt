@@ -1,6 +1,6 @@
 -- The last write of a key, and the first one that was missed.
 -- Serves `OwnerList::first_missed`, `first_from` and `staleness`.
-use Rattle.owner_lists.proofs.Common.{◌≡◌, ◌≢◌, ℕ, zero, suc, ◌+◌, ◌<◌, ◌≤◌, Bool, true, false, cond, eqb, ltb, ◌&&◌, List, [], ◌∷◌, length, get_or, drop, drop-cons, map, reverse, Some, None, IfSome, All, if◌then◌else◌, refl, sym, ap, ◌∙◌, subst, arith, find, option_or, lt-ltb, le-ltb, eq-eqb, ne_eqb, reverse-append, drop_all, get_or-map, length-map, find-append, All-head, All-tail, Write, Entry, write_of_entry, IsNumbered, is_write_of, last_write}
+use Rattle.owner_lists.proofs.Common.{Kept, entry_kept, ◌≡◌, ◌≢◌, ℕ, zero, suc, ◌+◌, ◌<◌, ◌≤◌, Bool, true, false, cond, eqb, ltb, ◌&&◌, List, [], ◌∷◌, length, get_or, drop, drop-cons, map, reverse, Some, None, IfSome, All, if◌then◌else◌, refl, sym, ap, ◌∙◌, subst, arith, find, option_or, lt-ltb, le-ltb, eq-eqb, ne_eqb, reverse-append, drop_all, get_or-map, length-map, find-append, All-head, All-tail, Write, Entry, write_of_entry, IsNumbered, is_write_of, last_write}
 use Rattle.owner_lists.specs.Missed.{is_missed, first_missed}
 
 -- a write at the front is the last of its key where none follows
@@ -84,23 +84,27 @@ All-find P test (v ∷ ws) w all found =
       | false ↦ λ later. All-find P test ws w (All-tail P v ws all) later
     ] found
 
--- the first write of a key from a place on stands there, or behind it, among entries
-module _ (es : List Entry) (key at : ℕ) where
-  next_entry : (e : Entry) → at < length es → drop at (map write_of_entry es) ≡ write_of_entry (get_or es at e) ∷ drop (suc at) (map write_of_entry es)
-  next_entry e lt =
-      drop-cons (map write_of_entry es) at (write_of_entry e) (omega (arith, lt, length-map es write_of_entry))
-      ∙ ap (λ w. w ∷ drop (suc at) (map write_of_entry es)) (get_or-map write_of_entry es at e (write_of_entry e) lt)
+-- the first write of a key from a place on stands there, or behind it
+module _ (kept : List Kept) (key at : ℕ) where
+  abbrev es : List Entry
+  es = map entry_kept kept
 
-  pub first_here : (e : Entry) → at < length es → (get_or es at e).key ≡ key → find (is_write_of key) (drop at (map write_of_entry es)) ≡ Some (write_of_entry (get_or es at e))
-  first_here e lt same =
-      ap (find (is_write_of key)) (next_entry e lt)
-      ∙ ap (λ b. cond b (Some (write_of_entry (get_or es at e))) (find (is_write_of key) (drop (suc at) (map write_of_entry es)))) (eq-eqb (get_or es at e).key key same)
+  next_write : (k : Kept) → at < length kept → drop at (map write_of_entry es) ≡ write_of_entry (entry_kept (get_or kept at k)) ∷ drop (suc at) (map write_of_entry es)
+  next_write k lt =
+      drop-cons (map write_of_entry es) at (write_of_entry (entry_kept k)) (omega (arith, lt, length-map es write_of_entry, length-map kept entry_kept))
+      ∙ ap (λ w. w ∷ drop (suc at) (map write_of_entry es))
+      (get_or-map write_of_entry es at (entry_kept k) (write_of_entry (entry_kept k)) (omega (arith, lt, length-map kept entry_kept)) ∙ ap write_of_entry (get_or-map entry_kept kept at k (entry_kept k) lt))
 
-  pub first_later : (e : Entry) → at < length es → (get_or es at e).key ≢ key → find (is_write_of key) (drop at (map write_of_entry es)) ≡ find (is_write_of key) (drop (at + 1) (map write_of_entry es))
-  first_later e lt other =
-      ap (find (is_write_of key)) (next_entry e lt)
-      ∙ ap (λ b. cond b (Some (write_of_entry (get_or es at e))) (find (is_write_of key) (drop (suc at) (map write_of_entry es)))) (ne_eqb (get_or es at e).key key other)
+  pub first_here : (k : Kept) → at < length kept → (get_or kept at k).key ≡ key → find (is_write_of key) (drop at (map write_of_entry es)) ≡ Some (write_of_entry (entry_kept (get_or kept at k)))
+  first_here k lt same =
+      ap (find (is_write_of key)) (next_write k lt)
+      ∙ ap (λ b. cond b (Some (write_of_entry (entry_kept (get_or kept at k)))) (find (is_write_of key) (drop (suc at) (map write_of_entry es)))) (eq-eqb (get_or kept at k).key key same)
+
+  pub first_later : (k : Kept) → at < length kept → (get_or kept at k).key ≢ key → find (is_write_of key) (drop at (map write_of_entry es)) ≡ find (is_write_of key) (drop (at + 1) (map write_of_entry es))
+  first_later k lt other =
+      ap (find (is_write_of key)) (next_write k lt)
+      ∙ ap (λ b. cond b (Some (write_of_entry (entry_kept (get_or kept at k)))) (find (is_write_of key) (drop (suc at) (map write_of_entry es)))) (ne_eqb (get_or kept at k).key key other)
       ∙ ap (λ n. find (is_write_of key) (drop n (map write_of_entry es))) {x = suc at} {y = at + 1} (omega arith)
 
-  pub first_nowhere : length es ≤ at → find (is_write_of key) (drop at (map write_of_entry es)) ≡ None
-  first_nowhere past = ap (find (is_write_of key)) (drop_all at (map write_of_entry es) (omega (arith, past, length-map es write_of_entry)))
+  pub first_nowhere : length kept ≤ at → find (is_write_of key) (drop at (map write_of_entry es)) ≡ None
+  first_nowhere past = ap (find (is_write_of key)) (drop_all at (map write_of_entry es) (omega (arith, past, length-map es write_of_entry, length-map kept entry_kept)))

@@ -1,4 +1,3 @@
 pub mod Missed
 pub mod Latest
-pub mod Marked
 pub mod inner

@@ -1,29 +1,25 @@
 //! All that one owner wrote, in order.
 
-ghost use Rattle.std.specs.Prelude.{◌≡◌, ◌+◌, ◌^◌, ◌<◌, ◌==◌, Result, Ok, Err, OnOk, OnErr, IfOk, IfErr, IsOkUnless, length, map, find, drop, vec_len, vec_capacity};
+ghost use Rattle.std.specs.Prelude.{◌≡◌, ◌+◌, ◌^◌, ◌<◌, ◌==◌, Result, Ok, Err, Some, None, MatchOption, OnOk, OnErr, IfOk, IfErr, IsOkUnless, length, map, find, drop, vec_len, vec_capacity};
 ghost use Rattle.std.specs.FinMap.{put as put_entry};
 ghost use Rattle.std.specs.Ordering.{nat_cmp};
-ghost use Rattle.owner_lists.specs.Marked.{has_mark};
-ghost use Rattle.model.specs.calls.OwnerListView.{MarksRise};
 ghost use Rattle.model.specs.Writes.{write_of_entry};
 ghost use Rattle.model.specs.calls.Writes.{is_write_of};
+ghost use Rattle.owner_writes.specs.Kept.{entry_kept};
 ghost use Rattle.owner_lists.specs.Latest.{keyed, write_of, KeysRise};
 ghost use Rattle.owner_lists.specs.inner.Keys.{IsIndexOfKey, IsGapForKey};
-ghost use Rattle.model.specs.calls.Numbers.{write_numbered};
 ghost use Rattle.bench_types.specs.declared.faults.Fault.TheVariants.{OutOfMemory};
 
-use bench_types::{Entry, Fault, Mark};
+use bench_types::Fault;
 use model::Write;
+use owner_writes::{Kept, OwnerWrites};
 use std::alloc::Global;
 use std::marker::Model;
 
-/// All writes of one owner. What was written under a mark never changes.
+/// All writes of one owner. What was written never changes.
 #[derive(Drop)]
 pub struct OwnerList {
-    // Those of its earlier generations, so many, and then those of the one that it is in.
-    entries: Vec<Entry>,
-    earlier: usize,
-    generation: u32,
+    writes: OwnerWrites,
     // The last write of each key in the generation, by key.
     latest: Vec<Write>,
 }
@@ -31,20 +27,20 @@ pub struct OwnerList {
 impl Model for OwnerList {
     ghost use Rattle.model.specs.calls.OwnerListView.{OwnerListView};
     ghost use Rattle.owner_writes.specs.inner.Codes.{list_code};
-    ghost use Rattle.owner_lists.specs.inner.Kept.{view_of, IsKeptList};
+    ghost use Rattle.owner_lists.specs.inner.Kept.{IsKeptList};
 
     ghost Value = { OwnerListView };
 
     ghost coded = { list_code };
 
-    ghost view = { λ l. view_of l.entries.items l.earlier l.generation };
+    ghost view = { λ l. l.writes };
 
-    ghost invariant = { λ l. IsKeptList l.entries.items l.earlier l.generation l.latest.items };
+    ghost invariant = { λ l. IsKeptList l.writes l.latest.items };
 }
 
 impl OwnerList {
-    ghost use Rattle.model.specs.calls.OwnerListView.{written, no_writes, with_write, begun_generation, AreWrites};
-    ghost use Rattle.owner_lists.specs.Marked.{entry_of};
+    ghost use Rattle.model.specs.calls.OwnerListView.{entries_of, written, no_writes, with_write, begun_generation, AreWrites};
+    ghost use Rattle.model.specs.calls.Numbers.{write_numbered};
     ghost use Rattle.model.specs.calls.Writes.{IsNumbered};
     ghost use Rattle.owner_lists.specs.Missed.{first_missed};
     ghost use Rattle.owner_lists.specs.Latest.{IsLatest};
@@ -54,9 +50,7 @@ impl OwnerList {
         ensures { result ≡ no_writes }
     {
         OwnerList {
-            entries: Vec::new(alloc),
-            earlier: 0,
-            generation: 0,
+            writes: OwnerWrites::new(alloc),
             latest: Vec::new(alloc),
         }
     }
@@ -81,26 +75,17 @@ impl OwnerList {
         ensures only { IsOkUnless result OutOfMemory }
     {
         let version = self.len() + 1;
-        let entry = Entry {
-            key,
-            generation: self.generation,
-            version,
-            value,
-            born,
-        };
         self.latest.reserve(1)?;
-        self.entries.push(entry)?;
+        self.writes.write(key, value, born)?;
         put(&mut self.latest, Write { key, version, born });
         Ok(())
     }
 
-    /// All that was written is gone, and the list is in generation 0, as a new one. It keeps its room.
+    /// All that was written is gone, and the list is in generation 0, as a new one. It takes no memory.
     pub fn forget(&mut self)
         ensures { self.new ≡ no_writes }
     {
-        self.entries.clear();
-        self.earlier = 0;
-        self.generation = 0;
+        self.writes = OwnerWrites::new(*self.latest.allocator());
         self.latest.clear();
     }
 
@@ -110,8 +95,7 @@ impl OwnerList {
         requires { self.old.generation + 1 < 2 ^ 32 }
         ensures { self.new ≡ begun_generation self.old }
     {
-        self.earlier = self.entries.len();
-        self.generation += 1;
+        self.writes.begin_generation();
         self.latest.clear();
     }
 
@@ -120,7 +104,7 @@ impl OwnerList {
         ensures value { result ≡ length self.now.current }
         ensures numbered { IsNumbered (written self.now) }
     {
-        (self.entries.len() - self.earlier) as u32
+        self.writes.len()
     }
 
     /// Whether the owner has written nothing in its generation.
@@ -135,19 +119,15 @@ impl OwnerList {
         ensures value { result ≡ self.now.generation }
         ensures writes { AreWrites self.now }
     {
-        self.generation
+        self.writes.generation()
     }
 
-    /// The write with a mark, of any generation. In the owner's generation it is one step, in an earlier one
-    /// a binary search among the writes of all these.
-    pub fn entry(&self, mark: Mark) -> Option<Entry>
-        ensures { result ≡ entry_of self.now mark }
+    /// The write of a number, which counts all its writes from 1, those of earlier generations too. One step.
+    pub fn numbered(&self, number: u32) -> Option<&Kept>
+        ensures { MatchOption result (write_numbered (entries_of self.now) number ≡ None)
+            (λ kept. write_numbered (entries_of self.now) number ≡ Some (entry_kept kept.now)) }
     {
-        if mark.generation == self.generation {
-            entry_numbered(&self.entries[self.earlier..], mark.version)
-        } else {
-            searched_entry(&self.entries[..self.earlier], mark)
-        }
+        self.writes.numbered(number)
     }
 
     /// The last write of each key that was written in its generation, by key. Nothing is copied or walked
@@ -167,7 +147,7 @@ impl OwnerList {
     {
         let last = write_in(&self.latest, key)?;
         if version < last.version {
-            first_from(&self.entries[self.earlier..], key, version as usize)
+            first_from(self.writes.current(), key, version as usize)
         } else {
             None
         }
@@ -184,41 +164,20 @@ fn write_in(writes: &[Write], key: u32) -> Option<Write>
     }
 }
 
-fn first_from(entries: &[Entry], key: u32, from: usize) -> Option<Write>
-    ensures { result ≡ find (is_write_of key) (drop from (map write_of_entry entries.now)) }
+fn first_from(writes: &[Kept], key: u32, from: usize) -> Option<Write>
+    ensures { result ≡ find (is_write_of key) (drop from (map write_of_entry (map entry_kept writes.now))) }
 {
-    for at in from..entries.len() {
-        let entry = entries[at];
-        if entry.key == key {
+    for at in from..writes.len() {
+        let write = &writes[at];
+        if write.key == key {
             return Some(Write {
                 key,
-                version: entry.version,
-                born: entry.born,
+                version: write.version,
+                born: write.born,
             });
         }
     }
     None
-}
-
-fn entry_numbered(entries: &[Entry], number: u32) -> Option<Entry>
-    ensures { result ≡ write_numbered entries.now number }
-{
-    match number.checked_sub(1) {
-        Some(place) => entries.get(place as usize).copied(),
-        None => None,
-    }
-}
-
-fn searched_entry(entries: &[Entry], mark: Mark) -> Option<Entry>
-    requires { MarksRise entries.now }
-    ensures { result ≡ find (has_mark mark) entries.now }
-{
-    let at = entries.partition_point(|entry| entry.mark().is_before(mark));
-    match entries.get(at) {
-        Some(entry) if entry.mark() == mark => Some(*entry),
-        Some(_) => None,
-        None => None,
-    }
 }
 
 // Where the write of a key is, or where it would go. It is at its own place where all lesser keys have one.

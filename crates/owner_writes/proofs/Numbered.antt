@@ -1,5 +1,5 @@
 -- The write of a number.
--- Serves `OwnerWrites::numbered`, `owner_lists` and `version_lags`.
+-- Serves `OwnerWrites::numbered` and `version_lags`.
 use Rattle.owner_writes.proofs.Common.{◌≡◌, ℕ, zero, suc, ◌<◌, ◌≤◌, List, [], ◌∷◌, length, get_or, map, Some, None, refl, sym, ap, ◌∙◌, arith, get_or-map, length-map, Entry, write_from, write_numbered}
 
 pub write_from-here : (es : List Entry) (place : ℕ) (d : Entry) → place < length es → write_from es place ≡ Some (get_or es place d)

@@ -1,6 +1,6 @@
 //! All that one owner wrote, in order.
 
-ghost use Rattle.std.specs.Prelude.{◌≡◌, ◌+◌, ◌^◌, ◌<◌, ◌≤◌, Some, None, MatchOption, OnOk, OnErr, IsOkUnless, length};
+ghost use Rattle.std.specs.Prelude.{◌≡◌, ◌+◌, ◌^◌, ◌<◌, ◌≤◌, Some, None, MatchOption, OnOk, OnErr, IsOkUnless, length, map};
 ghost use Rattle.bench_types.specs.declared.faults.Fault.TheVariants.{OutOfMemory};
 
 use bench_types::Fault;
@@ -91,6 +91,20 @@ impl OwnerWrites {
     {
         self.earlier = self.kept.len();
         self.generation += 1;
+    }
+
+    /// How often the owner began another generation.
+    pub fn generation(&self) -> u32
+        ensures { result ≡ self.now.generation }
+    {
+        self.generation
+    }
+
+    /// Its writes of its generation, in order. Nothing is copied or walked over.
+    pub fn current(&self) -> &[Kept]
+        ensures { map entry_kept result.now ≡ self.now.current }
+    {
+        &self.kept[self.earlier..]
     }
 
     /// How many writes there are of its generation.

@@ -29,11 +29,27 @@ const STALE: Figures = Figures {
     ..NO_FIGURES
 };
 
+// Whether a list of generation 0 has a write of its owner.
+fn has_write(list: &OwnerList, written: &Item) -> bool {
+    let entry = written.entry;
+    match list.numbered(entry.version) {
+        Some(kept) => {
+            kept.key == entry.key
+                && kept.version == entry.version
+                && kept.value == entry.value
+                && kept.born == entry.born
+        }
+        None => false,
+    }
+}
+
 // Whether a list has the first so many of them, and no other.
 fn has_written(list: &OwnerList, count: u32) -> bool {
     list.len() == count
-        && WRITTEN.iter().take(count as usize).all(|written| list.entry(written.entry.mark())
-            == Some(written.entry))
+        && WRITTEN
+            .iter()
+            .take(count as usize)
+            .all(|written| has_write(list, written))
 }
 
 // The owner writes its key in a round.

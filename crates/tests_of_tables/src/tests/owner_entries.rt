@@ -1,7 +1,6 @@
-//! An owner that wrote in two of its three generations: what stands under each mark.
+//! An owner that wrote in two of its three generations: which write has which number.
 
 use crate::tests::comparing::expect_at;
-use bench_types::{Entry, Mark};
 use staleness::OwnerList;
 use std::alloc::Global;
 use std::process::Abort;
@@ -11,20 +10,15 @@ const FIRST: [[u32; 3]; 3] = [[5, 70, 1], [3, 71, 1], [5, 72, 2]];
 
 const LAST: [[u32; 3]; 2] = [[3, 90, 6], [4, 91, 7]];
 
-// A generation and a version, and the key, the value and the round of the write with that mark, if there is one.
-const UNDER: [([u32; 2], Option<[u32; 3]>); 12] = [
-    ([0, 0], None),
-    ([0, 1], Some([5, 70, 1])),
-    ([0, 2], Some([3, 71, 1])),
-    ([0, 3], Some([5, 72, 2])),
-    ([0, 4], None),
-    ([1, 0], None),
-    ([1, 1], None),
-    ([2, 0], None),
-    ([2, 1], Some([3, 90, 6])),
-    ([2, 2], Some([4, 91, 7])),
-    ([2, 3], None),
-    ([3, 1], None),
+// A number, and the version, the key, the value and the round of its write, if there is one.
+const NUMBERED: [(u32, Option<[u32; 4]>); 7] = [
+    (0, None),
+    (1, Some([1, 5, 70, 1])),
+    (2, Some([2, 3, 71, 1])),
+    (3, Some([3, 5, 72, 2])),
+    (4, Some([1, 3, 90, 6])),
+    (5, Some([2, 4, 91, 7])),
+    (6, None),
 ];
 
 fn write_all(rt: &impl Abort, list: &mut OwnerList, writes: &[[u32; 3]]) {
@@ -48,17 +42,6 @@ fn written(rt: &impl Abort, alloc: Global) -> OwnerList {
     list
 }
 
-// The entry of a mark.
-fn entry_under(mark: Mark, [key, value, born]: [u32; 3]) -> Entry {
-    Entry {
-        key,
-        generation: mark.generation,
-        version: mark.version,
-        value,
-        born,
-    }
-}
-
 // Its generation, and how many writes it has of it.
 fn expect_counts(rt: &impl Abort, list: &OwnerList, wanted: [u32; 2]) {
     expect_at(
@@ -69,29 +52,20 @@ fn expect_counts(rt: &impl Abort, list: &OwnerList, wanted: [u32; 2]) {
     );
 }
 
-fn expect_under(
-    rt: &impl Abort,
-    list: &OwnerList,
-    [generation, version]: [u32; 2],
-    wanted: Option<[u32; 3]>,
-) {
-    let mark = Mark {
-        generation,
-        version,
-    };
-    let wanted = match wanted {
-        Some(write) => Some(entry_under(mark, write)),
+fn expect_numbered(rt: &impl Abort, list: &OwnerList, number: u32, wanted: Option<[u32; 4]>) {
+    let found = match list.numbered(number) {
+        Some(write) => Some([write.version, write.key, write.value, write.born]),
         None => None,
     };
-    expect_at(rt, list.entry(mark), wanted, "entry");
+    expect_at(rt, found, wanted, "write");
 }
 
 #[test]
-fn a_write_of_any_generation_stands_under_its_mark(rt: HostRuntime) {
+fn a_write_of_any_generation_has_its_number(rt: HostRuntime) {
     let list = written(&rt, rt.alloc());
     expect_counts(&rt, &list, [2, 2]);
-    for (mark, wanted) in UNDER {
-        expect_under(&rt, &list, mark, wanted);
+    for (number, wanted) in NUMBERED {
+        expect_numbered(&rt, &list, number, wanted);
     }
 }
 
@@ -100,7 +74,7 @@ fn a_list_that_forgot_is_as_a_new_one(rt: HostRuntime) {
     let mut list = written(&rt, rt.alloc());
     list.forget();
     expect_counts(&rt, &list, [0, 0]);
-    for (mark, _) in UNDER {
-        expect_under(&rt, &list, mark, None);
+    for (number, _) in NUMBERED {
+        expect_numbered(&rt, &list, number, None);
     }
 }

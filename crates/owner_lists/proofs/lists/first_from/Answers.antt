@@ -1,18 +1,21 @@
-use Rattle.owner_lists.proofs.Common.{Some, get_or, sym, ◌∙◌, Entry, write_of_entry}
+use Rattle.owner_lists.proofs.Common.{Some, sym, ap, ◌∙◌, write_of_entry, entry_kept}
 use Rattle.owner_lists.proofs.Last.{first_here, first_later, first_nowhere}
 use Rattle.owner_lists.proofs.lists.first_from.Goals as goal
 
-abbrev no_entry : Entry
-no_entry = record { key = 0; generation = 0; version = 0; value = 0; born = 0 }
-
-pub returns-then-entry-key : goal.returns-then-entry-key
-returns-then-entry-key c =
+pub returns-then-write-key : goal.returns-then-write-key
+returns-then-write-key c =
+    let k = c.index-writes-at.result in
+    let same = sym c.index-writes-at.is in
     sym (c.loop-at.invariant
-    ∙ first_here c.args.entries.now c.args.key c.loop-at.at no_entry c.loop-at-test.true c.if-entry-key.true
-    ∙ (λ i. Some (record (write_of_entry (get_or c.args.entries.now c.loop-at.at no_entry)) { key = c.if-entry-key.true i })))
+    ∙ first_here c.args.writes.now c.args.key c.loop-at.at k c.loop-at-test.true (ap (λ x. x.key) same ∙ c.if-write-key.true)
+    ∙ ap (λ x. Some (write_of_entry (entry_kept x))) same
+    ∙ (λ i. Some (record (write_of_entry (entry_kept k)) { key = c.if-write-key.true i })))
 
 pub loop-at-preserved : goal.loop-at-preserved
-loop-at-preserved c = c.loop-at.invariant ∙ first_later c.args.entries.now c.args.key c.loop-at.at no_entry c.loop-at-test.true c.if-entry-key.false
+loop-at-preserved c =
+    let k = c.index-writes-at.result in
+    c.loop-at.invariant
+    ∙ first_later c.args.writes.now c.args.key c.loop-at.at k c.loop-at-test.true (λ same. c.if-write-key.false (ap (λ x. x.key) c.index-writes-at.is ∙ same))
 
 pub returns : goal.returns
-returns c = sym (c.loop-at.invariant ∙ first_nowhere c.args.entries.now c.args.key c.loop-at.at c.loop-at-test.false)
+returns c = sym (c.loop-at.invariant ∙ first_nowhere c.args.writes.now c.args.key c.loop-at.at c.loop-at-test.false)

@@ -1,13 +1,13 @@
-use Rattle.owner_lists.proofs.Common.{◌≡◌, ◌≤◌, IfSome, None, List, find, map, drop, sym, ap, ◌∙◌, subst, Entry, Write, written, AreWrites, write_of_entry, is_write_of, last_write, IsNumbered}
+use Rattle.owner_lists.proofs.Common.{◌≡◌, ◌≤◌, ◌<◌, ◌^◌, length, length-map, arith, IfSome, None, find, map, drop, sym, ap, ◌∙◌, subst, Write, OwnerListView, written, AreWrites, write_of_entry, is_write_of, last_write, IsNumbered}
 use Rattle.owner_lists.specs.Latest.{write_of}
 use Rattle.owner_lists.specs.Missed.{first_missed}
 use Rattle.owner_lists.proofs.Last.{first_missed-drop, fresh}
-use Rattle.owner_lists.proofs.Keeping.{sliced, all_themselves, numbered_kept}
+use Rattle.owner_lists.proofs.Keeping.{numbered_kept}
 use Rattle.owner_lists.proofs.lists.OwnerList.first_missed.Goals as goal
 use Rattle.owner_lists.proofs.lists.OwnerList.first_missed.Goals.{After-write_in}
 
 numbered : (c : After-write_in) → IsNumbered (written c.args.self.now)
-numbered c = numbered_kept c.args.self.now (subst AreWrites c.self.view_is c.self.invariant.kept.writes)
+numbered c = numbered_kept c.args.self.now (subst AreWrites c.self.view_is c.self.invariant.writes)
 
 -- where the last write of the key is no newer
 none_missed : (c : After-write_in) → IfSome c.write_in.result (λ (w : Write). w.version ≤ c.args.version) → None ≡ first_missed (written c.args.self.now) c.args.key c.args.version
@@ -21,11 +21,8 @@ returns-in_err-last-clause-missed c = c.from_residual.ensures ∙ none_missed (g
 
 pub returns-then-version-last-clause-missed : goal.returns-then-version-last-clause-missed
 returns-then-version-last-clause-missed c =
-    let l = c.self.inside in
     c.first_from.ensures
-    ∙ ap (λ (es : List Entry). find (is_write_of c.args.key) (drop c.args.version (map write_of_entry es)))
-    (sliced l.earlier c.deref-then-version-last.result.now ∙ ap (drop l.earlier) c.deref-then-version-last.ensures.value ∙ sym (all_themselves (drop l.earlier l.entries.items)))
-    ∙ ap (λ v. find (is_write_of c.args.key) (drop c.args.version (written v))) c.self.view_is
+    ∙ ap (λ es. find (is_write_of c.args.key) (drop c.args.version (map write_of_entry es))) (c.current.ensures ∙ ap (λ (v : OwnerListView). v.current) c.self.view_is)
     ∙ sym (first_missed-drop (written c.args.self.now) c.args.key c.args.version (numbered (goal.at.returns-then-version-last-clause-missed c).After-write_in))
 
 pub returns-else-version-last-clause-missed : goal.returns-else-version-last-clause-missed
@@ -39,3 +36,15 @@ returns-then-version-last-clause-numbered c = numbered (goal.at.returns-then-ver
 
 pub returns-else-version-last-clause-numbered : goal.returns-else-version-last-clause-numbered
 returns-else-version-last-clause-numbered c = numbered (goal.at.returns-else-version-last-clause-numbered c).After-write_in
+
+few : (c : After-write_in) → length (written c.args.self.now) < 2 ^ 32
+few c = omega (arith, c.self.invariant.few, ap (λ (v : OwnerListView). length v.current) c.self.view_is, length-map c.args.self.now.current write_of_entry)
+
+pub returns-in_err-last-clause-few : goal.returns-in_err-last-clause-few
+returns-in_err-last-clause-few c = few (goal.at.returns-in_err-last-clause-few c).After-write_in
+
+pub returns-then-version-last-clause-few : goal.returns-then-version-last-clause-few
+returns-then-version-last-clause-few c = few (goal.at.returns-then-version-last-clause-few c).After-write_in
+
+pub returns-else-version-last-clause-few : goal.returns-else-version-last-clause-few
+returns-else-version-last-clause-few c = few (goal.at.returns-else-version-last-clause-few c).After-write_in

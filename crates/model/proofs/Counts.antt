@@ -51,15 +51,3 @@ count_by-not q (x ∷ xs) =
       | true ↦ λ e. omega (arith, rest, count_by-cons_true q x xs e, count_by-cons_false (λ y. not (q y)) x xs (ap not e))
       | false ↦ λ e. omega (arith, rest, count_by-cons_false q x xs e, count_by-cons_true (λ y. not (q y)) x xs (ap not e))
     ] refl
-
--- where none is counted each fails
-pub count_by-none : {X : Type 0} (q : X → Bool) (xs : List X) → count_by q xs ≡ 0 → (x : X) → Contains xs x → q x ≡ false
-count_by-none q [] none x (k, lt, is) = absurd (omega arith)
-count_by-none q (y ∷ xs) none x (zero, lt, is) = elim (q y) as (λ b. q y ≡ b → q x ≡ false) [
-  | true ↦ λ e. absurd (omega (arith, none, count_by-cons_true q y xs e))
-  | false ↦ λ e. ap q (sym is) ∙ e
-] refl
-count_by-none q (y ∷ xs) none x (suc k, lt, is) = elim (q y) as (λ b. q y ≡ b → q x ≡ false) [
-  | true ↦ λ e. absurd (omega (arith, none, count_by-cons_true q y xs e))
-  | false ↦ λ e. count_by-none q xs (sym (count_by-cons_false q y xs e) ∙ none) x (k, omega arith, is)
-] refl

@@ -132,12 +132,3 @@ module _ {X : Type 0} (size : X → ℕ) where
 pub sum_by-ones : {X : Type 0} (size : X → ℕ) → ((x : X) → size x ≡ 1) → (xs : List X) → sum_by size xs ≡ length xs
 sum_by-ones size one [] = refl
 sum_by-ones size one (x ∷ xs) = omega (arith, sum_by-cons size x xs, one x, sum_by-ones size one xs)
-
--- and so many fit
-pub fitting-ones : {X : Type 0} (n : ℕ) (xs : List X) → fitting (λ x. 1) n xs ≡ take n xs
-fitting-ones zero xs = fitting-zero (λ x. 1) (λ x. omega arith) xs
-fitting-ones (suc n) [] = refl
-fitting-ones (suc n) (x ∷ xs) =
-    fitting-cons_true (λ x. 1) (suc n) x xs (le-leb 1 (suc n) (omega arith))
-    ∙ ap (λ m. x ∷ fitting (λ x. 1) m xs) {x = suc n - 1} {y = n} (omega arith)
-    ∙ ap (λ ys. x ∷ ys) (fitting-ones n xs)

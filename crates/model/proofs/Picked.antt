@@ -48,11 +48,6 @@ item_from-past [] n le = refl
 item_from-past (x ∷ xs) zero le = absurd (omega arith)
 item_from-past (x ∷ xs) (suc n) le = item_from-past xs n (omega arith)
 
-item_from-drop : {X : Type 0} (xs : List X) (a n : ℕ) → item_from (drop a xs) n ≡ item_from xs (a + n)
-item_from-drop xs zero n = ap (item_from xs) (omega arith)
-item_from-drop [] (suc a) n = refl
-item_from-drop (x ∷ xs) (suc a) n = item_from-drop xs a n ∙ ap (item_from (x ∷ xs)) {x = suc (a + n)} {y = suc a + n} (omega arith)
-
 -- to look up index after index is to take the front
 nothing_more : {X : Type 0} (at : ℕ → Option X) (a n : ℕ) → ((m : ℕ) → at (a + m) ≡ None) → filter_map at (range_with_len a n) ≡ []
 nothing_more at a zero none = refl

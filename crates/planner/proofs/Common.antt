@@ -1,7 +1,7 @@
 -- The names of other libraries that these proofs cite, passed on from one place. Declares nothing.
 -- Serves the functions of `plays` and `schedules`, `Places`, `Playing`, `Stages` and `Standings`.
 pub use Rattle.std.proofs.Common.{All, Bool, List, None, Option, Some, [], ap, arith, false, fold, get_or, if◌then◌else◌, inl, inr, length, map, not, refl, replicate, set, slice_get, subst, suc, sym, take, true, zero, ℕ, ◌&&◌, ◌++◌, ◌+◌, ◌<◌, ◌==◌, ◌||◌, ◌∙◌, ◌∷◌, ◌≡◌, ◌≢◌, ◌≤◌}
-pub use Rattle.std.proofs.lemmas.Bool.{both_ways, cases_Bool, cases_eq, cases_lt, cond-true, eq-eqb, false≢true, lt-ltb, ne_eqb}
+pub use Rattle.std.proofs.lemmas.Bool.{both_ways, cases_Bool, cases_eq, cases_lt, cond-true, eq-eqb, false≢true, lt-ltb, ne_eqb, or_right}
 pub use Rattle.std.proofs.lemmas.List.{append-nil, append_assoc, get_or-set_other, get_or-set_same, get_or_past, get_or_read, length-map, length-set, take_all, take_more}
 pub use Rattle.std.proofs.lemmas.List.Elements.{All-cons, All-head, All-nil, All-tail, filter_map-append}
 pub use Rattle.std.proofs.lemmas.List.Sums.{count_by-le-length, fold-append, sum_by-cons}

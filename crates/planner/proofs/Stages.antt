@@ -1,6 +1,6 @@
 -- How far the exchanges are after some events, step by step.
 -- Serves `play` and `Playing`.
-use Rattle.planner.proofs.Common.{◌≡◌, ◌≢◌, ℕ, zero, suc, ◌+◌, ◌<◌, ◌≤◌, ◌==◌, Bool, true, false, not, ◌&&◌, ◌||◌, if◌then◌else◌, List, [], ◌∷◌, ◌++◌, length, get_or, set, map, inl, inr, refl, sym, ap, ◌∙◌, subst, arith, count_by, cases_eq, cases_lt, cases_Bool, eq-eqb, ne_eqb, cond-true, both_ways, get_or-set_same, get_or-set_other, length-set, length-map, get_or_past, sum_by-cons, count_by-le-length, Exchange, RoundListView, Event, Start, Finish, is_started, is_finished, is_running, MayStart, IsLawful, AreFinished, or_none, lawful_none, lawful_push, started-start, started-finish, finished-start, finished-finish, history_of}
+use Rattle.planner.proofs.Common.{◌≡◌, ◌≢◌, ℕ, zero, suc, ◌+◌, ◌<◌, ◌≤◌, ◌==◌, Bool, true, false, not, ◌&&◌, ◌||◌, if◌then◌else◌, List, [], ◌∷◌, ◌++◌, length, get_or, set, map, inl, inr, refl, sym, ap, ◌∙◌, subst, arith, count_by, or_right, cases_eq, cases_lt, cases_Bool, eq-eqb, ne_eqb, cond-true, both_ways, get_or-set_same, get_or-set_other, length-set, length-map, get_or_past, sum_by-cons, count_by-le-length, Exchange, RoundListView, Event, Start, Finish, is_started, is_finished, is_running, MayStart, IsLawful, AreFinished, or_none, lawful_none, lawful_push, started-start, started-finish, finished-start, finished-finish, history_of}
 use Rattle.planner.specs.declared.schedules.Stage.{Stage}
 use Rattle.planner.specs.declared.schedules.Stage.TheVariants.{Waiting, Running, Done}
 use Rattle.planner.specs.Stages.{ScheduleView, standing_of, stage_in, stage_after, CanStart, with_stage, waiting_at_first, not_started, is_over}
@@ -30,14 +30,10 @@ done_part true s is = refl
 done_part false true is = absurd (cc)
 done_part false false is = absurd (cc)
 
-or_true : (b : Bool) → (b || true) ≡ true
-or_true true = refl
-or_true false = refl
-
 -- the stage of an exchange after one more event, of its own or of another one
 module _ (before : List Event) (i j : ℕ) where
   own : (b : Bool) → j ≡ i → (b || (j == i)) ≡ true
-  own b same = ap (λ t. b || t) (eq-eqb j i same) ∙ or_true b
+  own b same = or_right b (j == i) (eq-eqb j i same)
 
   others : (b : Bool) → j ≢ i → (b || (j == i)) ≡ b
   others b other = ap (λ t. b || t) (ne_eqb j i other) ∙ or_none b

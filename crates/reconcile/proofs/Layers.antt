@@ -1,6 +1,6 @@
 -- Items that stand by turn, then by version and then by key, and are taken layer by layer, are in the order of their
 -- scuttle mode.
--- Serves `by_length`, `by_rank`, `scuttle_delta`, `Answering` and `Turned`.
+-- Serves the functions of `suffixes`, `Answering`, `SuffixLayers` and `Turned`.
 use Rattle.reconcile.proofs.Common.{◌≡◌, ℕ, zero, suc, ◌+◌, ◌<◌, ◌≤◌, ◌^◌, Bool, true, false, cond, not, ◌&&◌, eqb, ltb, List, [], ◌∷◌, ◌++◌, length, get_or, All, ◌⊎◌, inl, inr, refl, sym, ap, ◌∙◌, subst, arith, filter, Contains, IsPermutation, AllPairs, IsSorted, Ordering, Less, Greater, nat_cmp, ordering_then, ordering_reverse, is_lt, cases_lt, cases_order, eq-eqb, eqb-true, ne_eqb, lt-ltb, le-ltb, append-nil, append_assoc, length-append, All-nil, All-head, All-tail, All-append, All-weaker, All-contains, Contains-get_or, filter_passes, AllPairs-filter, count_by-le-length, length_permutation, Contains-permutation, IsPermutation-refl, IsPermutation-sym, IsPermutation-trans, IsPermutation-append_left, IsPermutation-filter_both, Item, Mode, ScuttleBreadth, ScuttleDepth, PreciseOldest, PreciseNewest, nat_cmp-less, nat_cmp-equal, nat_cmp-greater, IsScuttleMode, rotated, rank_among, owner_count, sending_order, fitting, left_after, sending_total, sending_order-ascending, length-fitting-le, fitting-zero, fitting-append, left_after-append, AllPairs-append}
 use Rattle.reconcile.specs.inner.Suffixes.{layer_of, layered, reversed, lengths_first}
 
@@ -14,13 +14,18 @@ filter-twice p q r same (c ∷ cs) =
       | false ↦ λ e. rest ∙ ap (λ b. cond b (c ∷ filter r cs) (filter r cs)) (sym e)
     ] (same c)
 
-filter-none : (p : Item → Bool) (cs : List Item) → All (λ c. p c ≡ false) cs → filter p cs ≡ []
+-- what passes no test counts for nothing, and what passes each is all kept
+pub filter-none : {X : Type 0} (p : X → Bool) (xs : List X) → All (λ x. p x ≡ false) xs → filter p xs ≡ []
 filter-none p [] none = refl
-filter-none p (c ∷ cs) none = ap (λ b. cond b (c ∷ filter p cs) (filter p cs)) (All-head (λ d. p d ≡ false) c cs none) ∙ filter-none p cs (All-tail (λ d. p d ≡ false) c cs none)
+filter-none p (x ∷ xs) none =
+    ap (λ b. cond b (x ∷ filter p xs) (filter p xs)) (All-head (λ y. p y ≡ false) x xs none)
+    ∙ filter-none p xs (All-tail (λ y. p y ≡ false) x xs none)
 
-filter-each : (p : Item → Bool) (cs : List Item) → All (λ c. p c ≡ true) cs → filter p cs ≡ cs
+pub filter-each : {X : Type 0} (p : X → Bool) (xs : List X) → All (λ x. p x ≡ true) xs → filter p xs ≡ xs
 filter-each p [] each = refl
-filter-each p (c ∷ cs) each = ap (λ b. cond b (c ∷ filter p cs) (filter p cs)) (All-head (λ d. p d ≡ true) c cs each) ∙ ap (λ ds. c ∷ ds) (filter-each p cs (All-tail (λ d. p d ≡ true) c cs each))
+filter-each p (x ∷ xs) each =
+    ap (λ b. cond b (x ∷ filter p xs) (filter p xs)) (All-head (λ y. p y ≡ true) x xs each)
+    ∙ ap (λ ys. x ∷ ys) (filter-each p xs (All-tail (λ y. p y ≡ true) x xs each))
 
 module _ (number : Item → ℕ) (least : ℕ) (cs : List Item) where
   abbrev is_below : ℕ → Item → Bool

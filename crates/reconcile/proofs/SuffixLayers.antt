@@ -1,10 +1,11 @@
 -- A layer of the items of suffixes is what each suffix sends in it.
 -- Serves the functions of `parcels` and `suffixes`.
-use Rattle.reconcile.proofs.Common.{◌≡◌, ◌≢◌, ◌⊎◌, ℕ, zero, suc, ◌+◌, ◌<◌, ◌≤◌, ◌^◌, Bool, true, false, cond, ◌&&◌, eqb, ltb, List, [], ◌∷◌, ◌++◌, length, map, take, get_or, max, All, inl, inr, refl, sym, ap, ◌∙◌, subst, arith, filter, count_by, AllPairs, flat_map, ltb-false, cases_order, eq-eqb, ne_eqb, flat_map-append, append-nil, map-append, take_more, length-append, length-map, length-flat_map-take, All-filter, filter-append, All-nil, All-cons, All-weaker, All-head, All-tail, All-append, All-map, AllPairs-filter, sum_by-append, Entry, Item, StandsBefore, rank_among, owner_count, count_by-cons_true, count_by-cons_false}
+use Rattle.reconcile.proofs.Common.{◌≡◌, ◌≢◌, ◌⊎◌, ℕ, zero, suc, ◌+◌, ◌<◌, ◌≤◌, ◌^◌, Bool, true, false, cond, ◌&&◌, eqb, ltb, List, [], ◌∷◌, ◌++◌, length, map, take, get_or, max, All, inl, inr, refl, sym, ap, ◌∙◌, subst, arith, filter, count_by, AllPairs, flat_map, ltb-false, cases_eq, eq-eqb, ne_eqb, flat_map-append, append-nil, map-append, take_more, length-append, length-map, length-flat_map-take, All-filter, filter-append, All-nil, All-cons, All-weaker, All-head, All-tail, All-append, All-map, AllPairs-filter, sum_by-append, Entry, Item, StandsBefore, rank_among, owner_count, count_by-cons_true, count_by-cons_false}
 use Rattle.reconcile.specs.inner.Newer.{item_with}
 use Rattle.reconcile.specs.inner.Suffixes.{suffix_items, items_of_suffixes, AreSuffixes, rank_in, ranked, of_length, lengths_first, layer_of, reversed}
 use Rattle.reconcile.specs.declared.suffixes.Suffix.{Suffix}
 use Rattle.reconcile.proofs.Ranked.{count_by-front_le, rank-le, ranked-beyond, versions-rise}
+use Rattle.reconcile.proofs.Layers.{filter-none, filter-each}
 use Rattle.reconcile.proofs.Turned.{owners-items}
 
 abbrev pub no_suffix : Suffix
@@ -44,15 +45,6 @@ suffixes-more part suffixes n d lt =
     ap (λ is. flat_map part (take n suffixes) ++ is) (sym (append-nil (part (get_or suffixes n d))))
     ∙ sym (flat_map-append part (take n suffixes) (get_or suffixes n d ∷ []))
     ∙ ap (flat_map part) (sym (take_more suffixes n d lt))
-
--- what passes no test counts for nothing, and what passes each is all kept
-filter-none : {X : Type 0} (p : X → Bool) (xs : List X) → All (λ x. p x ≡ false) xs → filter p xs ≡ []
-filter-none p [] none = refl
-filter-none p (x ∷ xs) none = ap (λ b. cond b (x ∷ filter p xs) (filter p xs)) (All-head (λ y. p y ≡ false) x xs none) ∙ filter-none p xs (All-tail (λ y. p y ≡ false) x xs none)
-
-filter-each : {X : Type 0} (p : X → Bool) (xs : List X) → All (λ x. p x ≡ true) xs → filter p xs ≡ xs
-filter-each p [] each = refl
-filter-each p (x ∷ xs) each = ap (λ b. cond b (x ∷ filter p xs) (filter p xs)) (All-head (λ y. p y ≡ true) x xs each) ∙ ap (λ ys. x ∷ ys) (filter-each p xs (All-tail (λ y. p y ≡ true) x xs each))
 
 filter-map : {X Y : Type 0} (p : Y → Bool) (f : X → Y) (xs : List X) → filter p (map f xs) ≡ map f (filter (λ x. p (f x)) xs)
 filter-map p f [] = refl
@@ -161,12 +153,6 @@ module _ (suffixes : List Suffix) (are : AreSuffixes suffixes) where
     where
       suffix-le : (k : ℕ) (d : Suffix) → k < length suffixes → length (get_or suffixes k d).entries.now ≤ length (items_of_suffixes suffixes)
       suffix-le k d lt = omega (arith, length-flat_map-take suffix_items suffixes k d lt, length-map (get_or suffixes k d).entries.now (item_with (get_or suffixes k d).owner))
-
-      cases_eq : (a b : ℕ) → (a ≡ b) ⊎ (a ≢ b)
-      cases_eq a b = elim (cases_order a b) [
-        | inl same ↦ inl same
-        | inr differ ↦ inr (λ e. elim differ [ inl less ↦ absurd (omega arith) | inr more ↦ absurd (omega arith) ])
-      ]
 
   pub within-length : (most : ℕ) → most < 2 ^ 32 → All (λ (r : Suffix). length r.entries.now ≤ most) suffixes → All (IsLengthBelow most) (items_of_suffixes suffixes)
   within-length most fits long = All-suffixes (IsLengthBelow most) suffixes (λ k d lt.

@@ -12,14 +12,6 @@ pub record HaveBegun (s : Settings) (round : ℕ) (old new : List Table) (lists 
   pub done : (p : ℕ) → p < n → p < s.nodes → (table_of_node new p ≡ begun_table s round p (table_of_node old p)) × IsOwner s round p (table_of_node new p) (list_of_owner lists p)
   pub rest : (p : ℕ) → n ≤ p → p < s.nodes → (table_of_node new p ≡ table_of_node old p) × IsOwner s (round - 1) p (table_of_node new p) (list_of_owner lists p)
 
-pub begun_none : (s : Settings) (round : ℕ) (tables : List Table) (lists : List OwnerListView) → StandAfterRound s (round - 1) tables lists → HaveBegun s round tables tables lists 0
-begun_none s round tables lists standing = record {
-  table_count = standing.table_count;
-  list_count = standing.list_count;
-  done = λ p lt below. absurd (omega arith);
-  rest = λ p le below. (refl, standing.owners p below);
-}
-
 -- one more node has
 module _ (s : Settings) (round : ℕ) (old new : List Table) (lists : List OwnerListView) (n : ℕ) (so_far : HaveBegun s round old new lists n) (below : n < s.nodes) where
   pub begun_more : (t : Table) (lists' : List OwnerListView) → t ≡ begun_table s round n (table_of_node new n) → IsOwner s round n t (list_of_owner lists' n) → OthersStay n lists lists' → HaveBegun s round old (set new n t) lists' (n + 1)

@@ -7,7 +7,7 @@ use Rattle.scenario.specs.declared.parts.Conduct.{Conduct}
 use Rattle.scenario.specs.Budgets.{budget_at}
 use Rattle.scenario.specs.Fields.{◌>>=◌, only_fields}
 use Rattle.scenario.specs.Top.{format_at, nodes_at, keys_at, rounds_at, seed_at, mode_at, peers_at, rotation_at, choice_at, loss_ppm_at, writes_at, top_fields}
-use Rattle.scenario.specs.Order.{size_checked, document_of}
+use Rattle.scenario.specs.Order.{size_checked}
 use Rattle.bench_types.specs.declared.faults.Fault.TheVariants.{NotToml}
 use Rattle.bench_types.specs.declared.fields.Field.TheVariants as field
 use Rattle.bench_types.specs.declared.fields.TableName.TheVariants as name
@@ -82,7 +82,3 @@ checked table = do
 abbrev pub document_checked : Option Members → Result Settings Fault
 document_checked None = Err NotToml
 document_checked (Some table) = checked table
-
--- the check of a text
-abbrev pub text_checked : List ℕ → Result Settings Fault
-text_checked bytes = document_checked (document_of bytes)

@@ -45,34 +45,64 @@ impl Fault {
         match self {
             Fault::OutOfMemory => ("fault 1: out of memory", Filling::Nothing, ""),
             Fault::NotToml => ("fault 2: input is not TOML", Filling::Nothing, ""),
-            Fault::TooLong => {
-                ("fault 3: input is longer than ", Filling::Number(MOST_BYTES as u64), " bytes")
-            }
+            Fault::TooLong => (
+                "fault 3: input is longer than ",
+                Filling::Number(MOST_BYTES as u64),
+                " bytes",
+            ),
             Fault::Missing(field) => ("fault 4: missing field ", Filling::Field(*field), ""),
-            Fault::WrongType(field) => ("fault 5: wrong type of field ", Filling::Field(*field), ""),
-            Fault::OutOfRange(field) => ("fault 6: field ", Filling::Field(*field), " is out of range"),
-            Fault::UnknownField(table) => {
-                ("fault 7: unknown field in table ", Filling::Table(*table), "")
-            }
-            Fault::TooLarge => {
-                ("fault 8: nodes * nodes * keys is above ", Filling::Number(MOST_ENTRIES), "")
-            }
-            Fault::NoThread => ("fault 9: a thread could not be started", Filling::Nothing, ""),
+            Fault::WrongType(field) => (
+                "fault 5: wrong type of field ",
+                Filling::Field(*field),
+                "",
+            ),
+            Fault::OutOfRange(field) => (
+                "fault 6: field ",
+                Filling::Field(*field),
+                " is out of range",
+            ),
+            Fault::UnknownField(table) => (
+                "fault 7: unknown field in table ",
+                Filling::Table(*table),
+                "",
+            ),
+            Fault::TooLarge => (
+                "fault 8: nodes * nodes * keys is above ",
+                Filling::Number(MOST_ENTRIES),
+                "",
+            ),
+            Fault::NoThread => (
+                "fault 9: a thread could not be started",
+                Filling::Nothing,
+                "",
+            ),
             Fault::Broken => ("fault 10: broken by an earlier fault", Filling::Nothing, ""),
             Fault::Finished => ("fault 11: no round is left", Filling::Nothing, ""),
             Fault::ReadFailed => ("fault 12: reading failed", Filling::Nothing, ""),
             Fault::WriteFailed => ("fault 13: writing failed", Filling::Nothing, ""),
             Fault::Stranger => ("fault 14: no exchange has this stamp", Filling::Nothing, ""),
             Fault::Double => ("fault 15: this stamp has a record", Filling::Nothing, ""),
-            Fault::NoRecord(exchange) => {
-                ("fault 16: no record of exchange ", Filling::Number(u64::from(*exchange)), "")
-            }
+            Fault::NoRecord(exchange) => (
+                "fault 16: no record of exchange ",
+                Filling::Number(u64::from(*exchange)),
+                "",
+            ),
             Fault::Unfinished => ("fault 17: exchanges are unfinished", Filling::Nothing, ""),
-            Fault::NotAllowed => ("fault 18: this exchange may not start", Filling::Nothing, ""),
-            Fault::NotRunning => ("fault 19: this exchange is not running", Filling::Nothing, ""),
-            Fault::BudgetTooSmall => {
-                ("fault 20: budget_bytes is below ", Filling::Number(u64::from(MOST_ENTRY_SIZE)), "")
-            }
+            Fault::NotAllowed => (
+                "fault 18: this exchange may not start",
+                Filling::Nothing,
+                "",
+            ),
+            Fault::NotRunning => (
+                "fault 19: this exchange is not running",
+                Filling::Nothing,
+                "",
+            ),
+            Fault::BudgetTooSmall => (
+                "fault 20: budget_bytes is below ",
+                Filling::Number(u64::from(MOST_ENTRY_SIZE)),
+                "",
+            ),
         }
     }
 }

@@ -6,6 +6,7 @@
 #![tactic(auto)]
 
 mod jobs;
+mod lines;
 mod processes;
 mod programs;
 mod streams;

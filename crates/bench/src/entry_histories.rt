@@ -1,29 +1,35 @@
-//! What a simulation keeps beside tables that have their entries themselves: the owners' lists alone.
+//! What a simulation keeps beside tables that have their entries themselves: the owners' lists.
 
 use bench_types::{Exchange, Fault, Figures, Record, Rules};
 use exchange::exchange;
 use model::Exchanging;
 use node_table::NodeTable;
 use owner_lists::OwnerList;
-use round_tables::{Hands, RoundHistories, TakesAll};
+use round_tables::{Resources, RoundHistories, TakesAll};
 use staleness::figures;
 use std::alloc::Global;
 use std::marker::Model;
 use std::thread::Threads;
 
-/// The lists of all owners, beside tables with entries.
+/// The lists of all owners, beside tables with entries, how many keys each has, and how many rounds were ended.
 #[derive(Drop)]
 pub struct EntryHistories {
     lists: Vec<OwnerList>,
+    keys: u32,
+    rounds: u32,
 }
 
 impl Model for EntryHistories {
-    ghost use Rattle.std.specs.Prelude.{List};
-    ghost use Rattle.model.specs.calls.OwnerListView.{OwnerListView};
+    ghost use Rattle.owner_writes.specs.inner.Codes.{list_code};
+    ghost use Rattle.round_tables.specs.Histories.{HistoriesView, histories_code, KeepLimits};
 
-    ghost Value = { List OwnerListView };
+    ghost Value = { HistoriesView };
 
-    ghost view = { λ h. h.lists.items };
+    ghost coded = { histories_code list_code };
+
+    ghost view = { λ h. record { lists = h.lists.items; keys = h.keys; rounds = h.rounds } };
+
+    ghost invariant = { λ h. KeepLimits (record { lists = h.lists.items; keys = h.keys; rounds = h.rounds }) };
 }
 
 impl Exchanging<NodeTable> for EntryHistories {
@@ -44,22 +50,24 @@ impl Exchanging<NodeTable> for EntryHistories {
 }
 
 impl RoundHistories<NodeTable> for EntryHistories {
-    ghost lists = { λ h. h };
-
-    ghost has_ended = { λ _ _. Unit {0} };
+    ghost kept = { λ h. h };
 
     ghost may_write = { λ _ _ _. Unit {0} };
 
-    fn new(alloc: Global, nodes: u32) -> Result<EntryHistories, Fault> {
+    fn new(alloc: Global, nodes: u32, keys: u32) -> Result<EntryHistories, Fault> {
         let mut lists = Vec::with_capacity(alloc, nodes as usize)?;
         for _ in 0..nodes {
             lists.push(OwnerList::new(alloc))?;
         }
-        Ok(EntryHistories { lists })
+        Ok(EntryHistories {
+            lists,
+            keys,
+            rounds: 0,
+        })
     }
 
-    fn empty_table(alloc: Global, node: u32, nodes: u32, keys: u32) -> Result<NodeTable, Fault> {
-        NodeTable::new(alloc, node, nodes, keys)
+    fn empty_table(&self, alloc: Global, node: u32) -> Result<NodeTable, Fault> {
+        NodeTable::new(alloc, node, self.lists.len() as u32, self.keys)
     }
 
     fn restart(table: &mut NodeTable) {
@@ -76,31 +84,30 @@ impl RoundHistories<NodeTable> for EntryHistories {
         self.lists[owner as usize].len()
     }
 
-    fn write(
-        &mut self,
-        table: &mut NodeTable,
-        key: u32,
-        value: u32,
-        born: u32,
-    ) -> Result<(), Fault> {
+    fn write(&mut self, table: &mut NodeTable, key: u32, value: u32) -> Result<(), Fault> {
+        let born = self.rounds + 1;
         let list = &mut self.lists[table.node() as usize];
         table.write_own(key, value, born)?;
         list.write(key, value, born)
     }
 
-    fn end_writes(&mut self, _round: u32) -> Result<(), Fault> {
+    fn end_writes(&mut self) -> Result<(), Fault> {
+        self.rounds += 1;
         Ok(())
     }
 
     fn figures<R: Threads + Sync>(
         &self,
-        rt: &R,
-        alloc: Global,
+        resources: &Resources<R>,
         tables: &[NodeTable],
-        round: u32,
-        _hands: Hands,
     ) -> Result<Figures, Fault> {
-        figures(rt, alloc, tables, &self.lists, round)
+        figures(
+            resources.rt,
+            resources.alloc,
+            tables,
+            &self.lists,
+            self.rounds,
+        )
     }
 }
 

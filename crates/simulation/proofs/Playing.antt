@@ -1,6 +1,6 @@
 -- A round, from the tables with which it begins to those that its exchanges leave.
 -- Serves `Cluster::play`.
-use Rattle.simulation.proofs.Common.{◌≡◌, ℕ, ◌-◌, ◌≤◌, All, List, [], length, map, sym, ap, ◌∙◌, subst, arith, length-map, IsLawfulBudget, IsPlanned, Budget, Entries, Bytes, Record, Rules, Figures, Table, KeepOwnParts, Folded, fold_of, AreTablesInOrder, AreProper, HoldsOfEach, IsCluster, fold_counts_tables, fold_counts_records, fold_keeps_own, fold_proper, cluster_of, RoundListView, IsRoundPlan, round_list_of, Settings, IsBudgetOf, IsLawfulScenario, figures_of, OwnerListView, lists_in, StandsAmong}
+use Rattle.simulation.proofs.Common.{◌≡◌, ℕ, ◌-◌, ◌≤◌, All, List, [], length, map, sym, ap, ◌∙◌, subst, arith, length-map, IsLawfulBudget, IsPlanned, Budget, Entries, Bytes, Record, Rules, Figures, Table, KeepOwnParts, Folded, fold_of, AreTablesInOrder, AreProper, HoldsOfEach, IsCluster, fold_counts_tables, fold_counts_records, fold_keeps_own, fold_proper, cluster_of, RoundListView, IsRoundPlan, round_list_of, Settings, IsBudgetOf, IsLawfulScenario, figures_of, OwnerListView, lists_in, HistoriesView, StandsAmong}
 use Rattle.simulation.specs.calls.Outcomes.{played_with}
 use Rattle.simulation.specs.inner.Steps.{IsPlayedFrom}
 use Rattle.simulation.specs.calls.RoundView.{RoundView}
@@ -60,27 +60,27 @@ module _ (s : Settings) (round : ℕ) (list : RoundListView) (plan : IsRoundPlan
     round_is = (λ i. fold_of (sym rules_are i) (sym begun_is i) (sym list_is i).exchanges) ∙ exchanged
 
 -- what the exchanges find and leave, where those before the round are the tables of the definition
-pub each_begun : (s : Settings) (round : ℕ) (before old : List Table) (lists : List OwnerListView) → IsLawfulScenario s → 1 ≤ round → before ≡ tables_after s (round - 1) → old ≡ begun s round before → StandAfterRound s round old lists → HoldsOfEach (StandsAmong lists) old
-each_begun s round before old lists lawful first after begun_is standing =
-    each_among s round old lists standing
+pub each_begun : (s : Settings) (round : ℕ) (before old : List Table) (h : HistoriesView) → IsLawfulScenario s → 1 ≤ round → before ≡ tables_after s (round - 1) → old ≡ begun s round before → h.keys ≡ s.keys → StandAfterRound s round old h.lists → HoldsOfEach (StandsAmong h) old
+each_begun s round before old h lawful first after begun_is keys standing =
+    each_among s round old h keys standing
     (subst (AreSound s round) (sym (begun_is ∙ ap (begun s round) after)) (begun_sound s lawful.nodes.0 lawful.nodes.1 lawful.keys.0 lawful.keys.1 round first))
 
-pub record IsLeft {T : Type 0} (table : T → Table) (s : Settings) (round : ℕ) (tables : List T) (lists : List OwnerListView) : Type 0 where
-  pub standing : StandAfterRound s round (map table tables) lists
+pub record IsLeft {T : Type 0} (table : T → Table) (s : Settings) (round : ℕ) (tables : List T) (h : HistoriesView) : Type 0 where
+  pub standing : StandAfterRound s round (map table tables) h.lists
   pub after : map table tables ≡ tables_after s round
-  pub each : HoldsOfEach (StandsAmong lists) (map table tables)
+  pub each : HoldsOfEach (StandsAmong h) (map table tables)
 
-pub is_left : {T : Type 0} (table : T → Table) (s : Settings) (round : ℕ) (list : RoundListView) (rules : Rules) (before old : List Table) (new : List T) (records : List Record) (lists : List OwnerListView) → IsLawfulScenario s → 1 ≤ round
-    → IsRoundPlan list → list ≡ round_list_of s round → rules ≡ rules_of s → before ≡ tables_after s (round - 1) → old ≡ begun s round before → StandAfterRound s round old lists
-    → fold_of rules old list.exchanges ≡ record { tables = map table new; records = records } → IsLeft table s round new lists
-is_left table s round list rules before old new records lists lawful first plan list_is rules_are after begun_is standing exchanged = record {
+pub is_left : {T : Type 0} (table : T → Table) (s : Settings) (round : ℕ) (list : RoundListView) (rules : Rules) (before old : List Table) (new : List T) (records : List Record) (h : HistoriesView) → IsLawfulScenario s → 1 ≤ round
+    → IsRoundPlan list → list ≡ round_list_of s round → rules ≡ rules_of s → before ≡ tables_after s (round - 1) → old ≡ begun s round before → h.keys ≡ s.keys → StandAfterRound s round old h.lists
+    → fold_of rules old list.exchanges ≡ record { tables = map table new; records = records } → IsLeft table s round new h
+is_left table s round list rules before old new records h lawful first plan list_is rules_are after begun_is keys standing exchanged = record {
   standing = stands;
   after = left;
-  each = each_among s round (map table new) lists stands (subst (AreSound s round) (sym left) ((sound_run s lawful.nodes.0 lawful.nodes.1 lawful.keys.0 lawful.keys.1).after round));
+  each = each_among s round (map table new) h keys stands (subst (AreSound s round) (sym left) ((sound_run s lawful.nodes.0 lawful.nodes.1 lawful.keys.0 lawful.keys.1).after round));
 }
   where
-    stands : StandAfterRound s round (map table new) lists
-    stands = standing_exchanged s round list plan list_is rules old (map table new) records exchanged lists standing
+    stands : StandAfterRound s round (map table new) h.lists
+    stands = standing_exchanged s round list plan list_is rules old (map table new) records exchanged h.lists standing
 
     left : map table new ≡ tables_after s round
     left = left_after s round before (map table new) records first after (round_is s round list plan list_is rules old (map table new) records exchanged before begun_is rules_are)

@@ -1,12 +1,19 @@
 -- What holds of all nodes at the beginning, and still holds after exchanges, restarts and writes.
 -- Serves the functions of `clusters`, `Playing` and `Soundness`.
-use Rattle.simulation.proofs.Common.{◌≡◌, ℕ, ◌+◌, ◌-◌, ◌<◌, ◌≤◌, true, false, if◌then◌else◌, All, List, [], ◌∷◌, ◌++◌, length, map, inl, inr, refl, sym, ap, ◌∙◌, subst, arith, length-append, Contains, cases_lt, append_assoc, append-nil, get_or_past, length-map, All-nil, length-map-range_with_len, Entry, Mark, AreNextAfter, LEAST_KEYS, MOST_NODES, MOST_KEYS, Table, empty_table, entry_at, greatest_mark, with_own_write, with_own_writes, without_others, without_all, IsProper, entry_at-without_all, entry_at-without_others_own, greatest_mark-empty_table, greatest_mark-without_all, greatest_mark-without_others_own, proper-empty_table, proper-without_all, proper-without_others, OwnWrite, generation_upto, forgets_now, count_before, own_writes, writes_upto, written_upto, born_in, writes_before, generation_upto-same, generation_upto-next, next-own_writes, length-writes_before, writes_before-grown, writes_upto-grown, written_upto-grown, Settings, OwnerListView, all_writes, entries_of, no_writes, begun_generation, list_of_owner, write_of_entry, own_part-empty, KeepsOwn, KeepOwnParts, own_list, BirthsRise, AreWrittenBy, StandsBeside, StandsAmong, table_of_node, AreProper, HoldsOfEach, generation-written, table_of_node-made, still_table_of}
+use Rattle.simulation.proofs.Common.{◌≡◌, ℕ, ◌+◌, ◌-◌, ◌<◌, ◌≤◌, true, false, if◌then◌else◌, All, List, [], ◌∷◌, ◌++◌, length, map, inl, inr, refl, sym, ap, ◌∙◌, subst, arith, length-append, Contains, cases_lt, append_assoc, append-nil, get_or_past, length-map, All-nil, length-map-range_with_len, Entry, Mark, AreNextAfter, LEAST_KEYS, MOST_NODES, MOST_KEYS, Table, empty_table, entry_at, greatest_mark, with_own_write, with_own_writes, without_others, without_all, IsProper, entry_at-without_all, entry_at-without_others_own, greatest_mark-empty_table, greatest_mark-without_all, greatest_mark-without_others_own, proper-empty_table, proper-without_all, proper-without_others, OwnWrite, generation_upto, forgets_now, count_before, own_writes, writes_upto, written_upto, born_in, writes_before, generation_upto-same, generation_upto-next, next-own_writes, length-writes_before, writes_before-grown, writes_upto-grown, written_upto-grown, Settings, OwnerListView, all_writes, entries_of, no_writes, begun_generation, list_of_owner, write_of_entry, own_part-empty, KeepsOwn, KeepOwnParts, own_list, BirthsRise, AreWrittenBy, HistoriesView, StandsBeside, StandsAmong, StaysBesideLists, table_of_node, AreProper, HoldsOfEach, generation-written, table_of_node-made, still_table_of}
 use Rattle.simulation.specs.Rounds.{opening_tables}
 use Rattle.simulation.specs.calls.Simulation.{MayWriteAll}
 use Rattle.simulation.specs.Soundness.{AreSound}
 use Rattle.simulation.proofs.Written.{born_upto, births_rise, may_write_each}
 use Rattle.simulation.specs.calls.Standing.{IsOwnerOf, IsOwner, StandAfterRound}
-use Rattle.simulation.specs.inner.Steps.{MayWriteEach, HasWritten, HasRestarted}
+use Rattle.simulation.specs.inner.Steps.{HaveEnded, MayWriteEach, HasWritten, HasRestarted}
+
+-- the round that comes next, and histories beside which nothing has changed
+pub next_round : {s : Settings} {round : ℕ} {h : HistoriesView} → 1 ≤ round → HaveEnded s (round - 1) h → h.rounds + 1 ≡ round
+next_round first ended = omega (arith, first, ended.rounds)
+
+pub still_ended : {s : Settings} {round : ℕ} {old new : HistoriesView} → StaysBesideLists old new → HaveEnded s round old → HaveEnded s round new
+still_ended stays ended = record { keys = stays.keys ∙ ended.keys; rounds = stays.rounds ∙ ended.rounds }
 
 -- own writes leave whose table it is, and its bounds
 node-with_own_writes : (t : Table) (es : List Entry) → (with_own_writes t es).node ≡ t.node
@@ -202,11 +209,12 @@ beside_own s n generation writes all round t lists is = subst (λ m. StandsBesid
 })
 
 -- each table among the lists, where each entry that it holds is a write of its owner
-pub each_among : (s : Settings) (round : ℕ) (ts : List Table) (lists : List OwnerListView) → StandAfterRound s round ts lists → AreSound s round ts → HoldsOfEach (StandsAmong lists) ts
-each_among s round ts lists is sound n lt = record {
+pub each_among : (s : Settings) (round : ℕ) (ts : List Table) (h : HistoriesView) → h.keys ≡ s.keys → StandAfterRound s round ts h.lists → AreSound s round ts → HoldsOfEach (StandsAmong h) ts
+each_among s round ts h keys is sound n lt = record {
   nodes = own.table.nodes ∙ sym is.list_count;
+  keys = own.table.keys ∙ sym keys;
   proper = own.proper;
-  own = beside_own s n (generation_upto s n round) (writes_upto s n round) (written_upto s n round) round (table_of_node ts n) lists own;
+  own = beside_own s n (generation_upto s n round) (writes_upto s n round) (written_upto s n round) round (table_of_node ts n) h.lists own;
   holds = λ owner key e held.
       let in_nodes : owner < s.nodes = omega (arith, (own.proper.in_place owner key e held).owner_below, own.table.nodes) in
       subst (λ es. Contains es e × (e.key ≡ key)) (sym (is.owners owner in_nodes).all) (sound.copies.holds n below owner key e held);
@@ -215,5 +223,5 @@ each_among s round ts lists is sound n lt = record {
     below : n < s.nodes
     below = omega (arith, lt, is.table_count)
 
-    own : IsOwner s round n (table_of_node ts n) (list_of_owner lists n)
+    own : IsOwner s round n (table_of_node ts n) (list_of_owner h.lists n)
     own = is.owners n below

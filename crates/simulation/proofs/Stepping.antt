@@ -1,6 +1,6 @@
 -- A step that carries out the next round.
 -- Serves `Sim::step` and `Playing`.
-use Rattle.simulation.proofs.Common.{◌≡◌, ℕ, ◌<◌, ◌≤◌, List, [], length, map, get_or, sym, ◌∙◌, arith, suc, ◌+◌, ◌-◌, false, Option, Some, refl, ap, subst, ext_get_or, get_or-map-range_with_len, length-map-range_with_len, Table, Settings, IsLawfulScenario, OwnerListView, no_writes, lists_in, write_of_entry, length-lists_in, list_read, figures_of, is_none, IfSome, Folded, Entry, Record, round_list_of}
+use Rattle.simulation.proofs.Common.{◌≡◌, ℕ, ◌<◌, ◌≤◌, List, [], length, map, get_or, sym, ◌∙◌, arith, suc, ◌+◌, ◌-◌, false, Option, Some, refl, ap, subst, ext_get_or, get_or-map-range_with_len, length-map-range_with_len, Table, Settings, IsLawfulScenario, HistoriesView, OwnerListView, no_writes, lists_in, write_of_entry, length-lists_in, list_read, figures_of, is_none, IfSome, Folded, Entry, Record, round_list_of}
 use Rattle.simulation.specs.Rounds.{tables_after, round_of, records_in}
 use Rattle.simulation.specs.Lists.{list_after, lists_after}
 use Rattle.simulation.specs.Outcomes.{figures_in}
@@ -11,6 +11,7 @@ use Rattle.simulation.specs.calls.RoundView.{RoundView}
 use Rattle.simulation.specs.Soundness.{AreSound, OnlyRestartsLowerMarks}
 use Rattle.simulation.specs.inner.Insides.{IsInside, IsAfterRound, HasPlayed, simulation_of, tables_held, lists_held}
 use Rattle.simulation.specs.inner.Plans.{IsDrawnAfter}
+use Rattle.simulation.specs.inner.Steps.{HaveEnded}
 use Rattle.simulation.specs.calls.Simulation.{PlaysNext}
 use Rattle.simulation.proofs.Soundness.{sound_run, round_rises}
 
@@ -52,8 +53,8 @@ left_after s round before new records first before_is round_was =
     ∙ sym (tables_after-more s (round - 1))
     ∙ ap (tables_after s) next
 
-module _ {T K : Type 0} (table : T → Table) (lists : K → List OwnerListView) (Ended : K → ℕ → Type 0) (May : ℕ → ℕ → Entry → Type 0) (s : Settings)
-    (cluster : Option (Cluster T K)) (old new : Cluster T K) (done : ℕ) (so_far : IsInside table lists Ended May s cluster done)
+module _ {T K : Type 0} (table : T → Table) (kept : K → HistoriesView) (May : ℕ → ℕ → Entry → Type 0) (s : Settings)
+    (cluster : Option (Cluster T K)) (old new : Cluster T K) (done : ℕ) (so_far : IsInside table kept May s cluster done)
     (is : cluster ≡ Some old) (not_done : done < s.rounds) where
   previous : done ≡ done + 1 - 1
   previous = omega arith
@@ -68,18 +69,18 @@ module _ {T K : Type 0} (table : T → Table) (lists : K → List OwnerListView)
   tables_before = before ∙ ap (tables_after s) previous
 
   -- what a round asks of the one that it begins with
-  pub after_before : IsAfterRound table lists Ended s (done + 1 - 1) old
-  after_before = subst (λ r. IsAfterRound table lists Ended s r old) previous (record {
-    standing = subst (λ c. StandAfterRound s done (map table (tables_held c)) (lists_held lists c)) is (so_far.simulation.standing unbroken);
+  pub after_before : IsAfterRound table kept s (done + 1 - 1) old
+  after_before = subst (λ r. IsAfterRound table kept s r old) previous (record {
+    standing = subst (λ c. StandAfterRound s done (map table (tables_held c)) (lists_held kept c)) is (so_far.simulation.standing unbroken);
     tables = before;
-    ended = subst (λ c. IfSome c (λ d. Ended d.histories done)) is so_far.ended;
+    ended = subst (λ c. IfSome c (λ d. HaveEnded s done (kept d.histories))) is so_far.ended;
     drawn = subst (λ c. IfSome c (λ d. IsDrawnAfter s done d.drawn)) is so_far.drawn;
   })
 
-  module _ (standing : StandAfterRound s (done + 1) (map table new.tables.items) (lists new.histories))
+  module _ (standing : StandAfterRound s (done + 1) (map table new.tables.items) (kept new.histories).lists)
       (after : map table new.tables.items ≡ tables_after s (done + 1)) where
-    pub step_played : (round : RoundView) → IsLawfulScenario s → HasPlayed table lists s (done + 1) old new round
-        → PlaysNext table (simulation_of lists s cluster done) (simulation_of lists s (Some new) (done + 1)) round
+    pub step_played : (round : RoundView) → IsLawfulScenario s → HasPlayed table kept s (done + 1) old new round
+        → PlaysNext table (simulation_of kept s cluster done) (simulation_of kept s (Some new) (done + 1)) round
     step_played round lawful played = record {
       may = (unbroken, not_done);
       still = refl;
@@ -92,7 +93,7 @@ module _ {T K : Type 0} (table : T → Table) (lists : K → List OwnerListView)
           (subst (OnlyRestartsLowerMarks s (done + 1) (tables_after s done)) (sym after)
           (round_rises s lawful.nodes.0 lawful.nodes.1 lawful.keys.0 lawful.keys.1 done));
       played = played ∙ (λ i. played_with (done + 1) (round_list_of s (done + 1)) (records i)
-          (figures_are s (done + 1) (map table new.tables.items) (lists new.histories) standing after i));
+          (figures_are s (done + 1) (map table new.tables.items) (kept new.histories).lists standing after i));
     }
       where
         before_held : map table (tables_held cluster) ≡ tables_after s done

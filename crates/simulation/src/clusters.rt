@@ -1,26 +1,24 @@
 //! All nodes' tables and the histories of their owners, and how a round changes them.
 
-ghost use Rattle.std.specs.Prelude.{◌≡◌, ◌+◌, ◌-◌, ◌<◌, ◌≤◌, map, IfOk, IfErr, OnOk, IsOkUnless};
+ghost use Rattle.std.specs.Prelude.{◌≡◌, ◌+◌, ◌-◌, map, IfOk, IfErr, OnOk, IsOkUnless};
 ghost use Rattle.bench_types.specs.declared.faults.Fault.TheVariants.{OutOfMemory};
 ghost use Rattle.scenario.specs.Settings.{IsLawfulScenario};
 ghost use Rattle.model.specs.calls.OwnerListView.{written};
-ghost use Rattle.model.specs.Tables.{AreProper};
 ghost use Rattle.model.specs.Runs.{IsFaultOfWorkers};
 ghost use Rattle.round_plan.specs.calls.Words.{run_words_of, AreWordsOf};
 ghost use Rattle.simulation.specs.Rounds.{opening_tables, after_restart, rules_of};
-ghost use Rattle.simulation.specs.inner.InMemory.{HasBegun, IsBeforeRound, IsBegun, LeavesOthers, TablesStand, IsOwnerIn, IsRestartedIn, WritesIn};
+ghost use Rattle.round_tables.specs.Histories.{AreNewHistories};
+ghost use Rattle.simulation.specs.inner.InMemory.{HasBegun, IsBeforeRound, IsBegun, TablesStand, IsOwnerIn, IsRestartedIn, WritesIn};
 ghost use Rattle.simulation.specs.inner.Insides.{HasPlayed, IsAfterRound};
 ghost use Rattle.simulation.specs.inner.Plans.{IsDrawnAfter, MayDraw};
-ghost use Rattle.simulation.specs.inner.Steps.{IsRoundOf, MayWriteOwn};
+ghost use Rattle.simulation.specs.inner.Steps.{HaveEnded, IsRoundOf, LeavesOthers, MayWriteOwn};
 
 use crate::plans::{Drawn, Plan, drawn_after};
-use crate::resources::Resources;
 use crate::rounds::Round;
-use bench_types::limits::MOST_ROUNDS;
 use bench_types::{Fault, Rules};
 use model::MemoryTable;
 use round_plan::{OwnWrite, ROUND_WORDS, RunWords, forgets_now, restarts_now, writes_by};
-use round_tables::RoundHistories;
+use round_tables::{Resources, RoundHistories};
 use scenario::Scenario;
 use std::alloc::Global;
 use std::sync::Wait;
@@ -37,12 +35,13 @@ pub(crate) struct Cluster<T: MemoryTable, K: RoundHistories<T>> {
 
 impl<T: MemoryTable + Send + Sync, K: RoundHistories<T>> Cluster<T, K> {
     pub(crate) fn new(alloc: Global, scenario: &Scenario) -> Result<Cluster<T, K>, Fault>
-        ensures opens { IfOk result (IsAfterRound T.table K.lists K.has_ended scenario.now 0) }
+        ensures opens { IfOk result (IsAfterRound T.table K.kept scenario.now 0) }
         ensures only { IsOkUnless result OutOfMemory }
     {
+        let histories = K::new(alloc, scenario.nodes(), scenario.keys())?;
         Ok(Cluster {
-            tables: empty_tables::<T, K>(alloc, scenario)?,
-            histories: K::new(alloc, scenario.nodes())?,
+            tables: empty_tables(alloc, scenario, &histories)?,
+            histories,
             drawn: Drawn::Words(RunWords::new(alloc, scenario)?),
         })
     }
@@ -57,9 +56,9 @@ impl<T: MemoryTable + Send + Sync, K: RoundHistories<T>> Cluster<T, K> {
     ) -> Result<(Cluster<T, K>, Round), Fault>
         requires lawful { IsLawfulScenario scenario.now }
         requires round { IsRoundOf K.may_write scenario.now round }
-        requires before { IsAfterRound T.table K.lists K.has_ended scenario.now (round - 1) self }
-        ensures after { IfOk result (λ p. IsAfterRound T.table K.lists K.has_ended scenario.now round p.0) }
-        ensures played { IfOk result (λ p. HasPlayed T.table K.lists scenario.now round self p.0 p.1) }
+        requires before { IsAfterRound T.table K.kept scenario.now (round - 1) self }
+        ensures after { IfOk result (λ p. IsAfterRound T.table K.kept scenario.now round p.0) }
+        ensures played { IfOk result (λ p. HasPlayed T.table K.kept scenario.now round self p.0 p.1) }
         ensures fault { IfErr result (IsFaultOfWorkers resources.now.hands.workers) }
     {
         let rt = resources.rt;
@@ -94,7 +93,7 @@ impl<T: MemoryTable + Send + Sync, K: RoundHistories<T>> Cluster<T, K> {
         };
         let (tables, records, drawn) = run_list_with(rt, alloc, work, begun, draw)?;
         let drawn = drawn?;
-        let lag = histories.figures(rt, alloc, &tables, round, hands)?;
+        let lag = histories.figures(resources, &tables)?;
         let played = Round::of(round, list, records, lag);
         Ok((
             Cluster {
@@ -120,16 +119,16 @@ fn rules_of(scenario: &Scenario) -> Rules
 fn empty_tables<T: MemoryTable, K: RoundHistories<T>>(
     alloc: Global,
     scenario: &Scenario,
+    histories: &K,
 ) -> Result<Vec<T>, Fault>
+    requires begun { AreNewHistories scenario.now.nodes scenario.now.keys (K.kept histories.now) }
     ensures tables { IfOk result (λ v. map T.table v.items ≡ opening_tables scenario.now) }
-    ensures proper { IfOk result (λ v. AreProper (map T.table v.items)) }
     ensures only { IsOkUnless result OutOfMemory }
 {
     let nodes = scenario.nodes();
-    let keys = scenario.keys();
     let mut tables = Vec::with_capacity(alloc, nodes as usize)?;
     for node in 0..nodes {
-        tables.push(K::empty_table(alloc, node, nodes, keys)?)?;
+        tables.push(histories.empty_table(alloc, node)?)?;
     }
     Ok(tables)
 }
@@ -144,10 +143,10 @@ fn begin<T: MemoryTable, K: RoundHistories<T>>(
 ) -> Result<(Vec<T>, K), Fault>
     requires round { IsRoundOf K.may_write scenario.now round }
     requires words { words.now ≡ run_words_of scenario.now round }
-    requires ended { K.has_ended histories (round - 1) }
-    requires standing { TablesStand T.table K.lists scenario.now (round - 1) tables.items histories }
+    requires ended { HaveEnded scenario.now (round - 1) (K.kept histories) }
+    requires standing { TablesStand T.table K.kept scenario.now (round - 1) tables.items histories }
     ensures begun { IfOk result
-        (λ p. HasBegun T.table K.lists K.has_ended K.fits scenario.now round tables.items p.0.items p.1) }
+        (λ p. HasBegun T.table K.kept K.fits scenario.now round tables.items p.0.items p.1) }
     ensures only { IsOkUnless result OutOfMemory }
 {
     for node in 0..scenario.nodes() {
@@ -161,7 +160,7 @@ fn begin<T: MemoryTable, K: RoundHistories<T>>(
             round,
         )?;
     }
-    histories.end_writes(round)?;
+    histories.end_writes()?;
     Ok((tables, histories))
 }
 
@@ -177,15 +176,15 @@ fn begin_node<T: MemoryTable, K: RoundHistories<T>>(
 ) -> Result<(), Fault>
     requires round { IsRoundOf K.may_write scenario.now round }
     requires words { AreWordsOf scenario.now.seed node round words.now }
-    requires before { IsBeforeRound T.table K.lists K.has_ended scenario.now round node table.old histories.old }
-    ensures owner { OnOk result (IsOwnerIn T.table K.lists scenario.now round node table.new histories.new) }
+    requires before { IsBeforeRound T.table K.kept scenario.now round node table.old histories.old }
+    ensures owner { OnOk result (IsOwnerIn T.table K.kept scenario.now round node table.new histories.new) }
     ensures table { OnOk result (IsBegun T.table scenario.now round node table.old table.new) }
-    ensures others { OnOk result (LeavesOthers K.lists K.has_ended round node histories.old histories.new) }
+    ensures others { OnOk result (LeavesOthers node (K.kept histories.old) (K.kept histories.new)) }
     ensures only { IsOkUnless result OutOfMemory }
 {
     restart(scenario, node, table, histories, round);
     let writes = writes_by(scenario, node, round, histories.count(node), words);
-    write_own(table, histories, writes.as_slice(), round)
+    write_own(table, histories, writes.as_slice())
 }
 
 // The restarts of a node in a round: they empty its copies of all others, or where it forgets its whole table.
@@ -196,10 +195,10 @@ fn restart<T: MemoryTable, K: RoundHistories<T>>(
     histories: &mut K,
     round: u32,
 )
-    requires { IsBeforeRound T.table K.lists K.has_ended scenario.now round node table.old histories.old }
-    ensures owner { IsRestartedIn T.table K.lists scenario.now round node table.new histories.new }
+    requires { IsBeforeRound T.table K.kept scenario.now round node table.old histories.old }
+    ensures owner { IsRestartedIn T.table K.kept scenario.now round node table.new histories.new }
     ensures table { T.table table.new ≡ after_restart scenario.now round node (T.table table.old) }
-    ensures others { LeavesOthers K.lists K.has_ended round node histories.old histories.new }
+    ensures others { LeavesOthers node (K.kept histories.old) (K.kept histories.new) }
 {
     if forgets_now(scenario, node, round) {
         histories.forget(table);
@@ -208,24 +207,22 @@ fn restart<T: MemoryTable, K: RoundHistories<T>>(
     }
 }
 
+// Writes of the round that comes next.
 fn write_own<T: MemoryTable, K: RoundHistories<T>>(
     table: &mut T,
     histories: &mut K,
     writes: &[OwnWrite],
-    round: u32,
 ) -> Result<(), Fault>
-    requires first { 1 ≤ round }
-    requires last { round ≤ MOST_ROUNDS }
-    requires ended { K.has_ended histories.old (round - 1) }
-    requires may { MayWriteOwn K.may_write round writes.now (T.table table.old) (K.lists histories.old) }
+    requires may { MayWriteOwn K.may_write ((K.kept histories.old).rounds + 1) writes.now (T.table table.old)
+        (K.kept histories.old) }
     ensures written { OnOk result
-        (WritesIn T.table K.lists round writes.now table.old table.new histories.old histories.new) }
+        (WritesIn T.table K.kept writes.now table.old table.new histories.old histories.new) }
     ensures others { OnOk result
-        (LeavesOthers K.lists K.has_ended round (T.table table.old).node histories.old histories.new) }
+        (LeavesOthers (T.table table.old).node (K.kept histories.old) (K.kept histories.new)) }
     ensures only { IsOkUnless result OutOfMemory }
 {
     for write in writes {
-        histories.write(table, write.key, write.value, round)?;
+        histories.write(table, write.key, write.value)?;
     }
     Ok(())
 }

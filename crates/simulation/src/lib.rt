@@ -20,7 +20,7 @@
 mod clusters;
 mod laws;
 mod plans;
-mod resources;
+mod processors;
 mod rounds;
 mod sims;
 mod witnesses;

@@ -8,11 +8,11 @@ ghost use Rattle.simulation.specs.Rounds.{opening_tables};
 ghost use Rattle.simulation.specs.calls.Simulation.{AreTablesAfter, MayWriteAll, PlaysNext, MayStep, IsRefusedBy, IsStepFault};
 
 use crate::clusters::Cluster;
-use crate::resources::{Resources, processors_of};
+use crate::processors::processors_of;
 use crate::rounds::Round;
 use bench_types::Fault;
 use model::MemoryTable;
-use round_tables::{Hands, RoundHistories, TakesAll};
+use round_tables::{Hands, Resources, RoundHistories, TakesAll};
 use scenario::Scenario;
 use std::alloc::Global;
 use std::marker::Model;
@@ -41,9 +41,9 @@ impl<T: MemoryTable, K: RoundHistories<T>> Model for Sim<T, K> {
 
     ghost coded = { simulation_code T.code };
 
-    ghost view = { λ s. simulation_of K.lists s.scenario s.cluster s.rounds_done };
+    ghost view = { λ s. simulation_of K.kept s.scenario s.cluster s.rounds_done };
 
-    ghost invariant = { λ s. IsInside T.table K.lists K.has_ended K.may_write s.scenario s.cluster s.rounds_done };
+    ghost invariant = { λ s. IsInside T.table K.kept K.may_write s.scenario s.cluster s.rounds_done };
 }
 
 impl<T: MemoryTable + Send + Sync, K: TakesAll<T>> Sim<T, K> {

@@ -34,5 +34,5 @@ pub use Rattle.owner_writes.specs.declared.writes.Kept.{Kept}
 pub use Rattle.planes.proofs.Counts.{count_le, sum_next}
 pub use Rattle.planes.proofs.Elementwise.{number-at}
 pub use Rattle.grids.specs.Lags.{IsLeastBehind}
-pub use Rattle.planes.specs.Planes.{ArePlanesChanged, HasEach, HasEachPlace, IsGrid, cell, total_of}
-pub use Rattle.round_tables.specs.Histories.{BirthsRise, StandsBeside}
+pub use Rattle.planes.specs.Planes.{ArePlanesChanged, HasEach, IsGrid, cell, total_of}
+pub use Rattle.round_tables.specs.Histories.{BirthsRise, HistoriesView, StandsBeside}

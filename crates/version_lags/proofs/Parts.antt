@@ -2,19 +2,19 @@
 -- Serves `+rest`, `Numbers::piece_of`, `figures` and `Whole`.
 use Rattle.version_lags.proofs.Common.{◌≡◌, ℕ, zero, suc, ◌+◌, ◌*◌, ◌<◌, ◌≤◌, min, Bool, cond, List, [], length, get_or, map, slice_index, sym, ap, ◌∙◌, arith, Bor, get_or-map, length-map, MOST_NODES, MOST_KEYS, Table, sum_below, total_of, ArePlanesChanged, sum_below-most, count_le, sum_next}
 use Rattle.version_lags.specs.declared.lags.RoundNumbers.{RoundNumbers}
-use Rattle.version_lags.specs.Pieces.{StandTogether, numbers_in, table_at, cells_in, last_cells, is_stale, is_left, total_below, AreGrids, AreNumbersOf, IsTotal, least_below, CountsPiece}
+use Rattle.version_lags.specs.Pieces.{histories_of, StandTogether, numbers_in, table_at, cells_in, last_cells, is_stale, is_left, total_below, AreGrids, AreNumbersOf, IsTotal, least_below, CountsPiece}
 use Rattle.version_lags.proofs.Pieces.{none_upto}
 
 -- the numbers of tables make grids
-pub grids-of : {N : Type 0} (number : N → ℕ) (numbers : RoundNumbers N) (tables : List Table) → StandTogether tables numbers.lists.now
-    → AreNumbersOf tables numbers.lists.now (length numbers.lists.now) numbers.keys (numbers_in number numbers.cells.now) (map number numbers.bases.now) (map number numbers.last.now) → AreGrids number numbers
+pub grids-of : {N : Type 0} (number : N → ℕ) (numbers : RoundNumbers N) (tables : List Table) → StandTogether tables (histories_of numbers)
+    → AreNumbersOf tables (histories_of numbers) (numbers_in number numbers.cells.now) (map number numbers.bases.now) (map number numbers.last.now) → AreGrids number numbers
 grids-of number numbers tables together are =
     let last = length-map numbers.last.now number in
     record {
       grid = record {
-        whole = sym last ∙ are.lasts.size ∙ (λ i. sym are.keys_are i * sym are.nodes_are i);
-        few_nodes = omega (arith, together.few_nodes, are.nodes_are);
-        few_keys = omega (arith, together.few_keys, are.keys_are);
+        whole = sym last ∙ are.lasts.size;
+        few_nodes = omega (arith, together.few_nodes, together.one_list_each);
+        few_keys = together.few_keys;
       };
       count = sym (length-map numbers.cells.now (λ x. map number x.now)) ∙ are.count;
       based = sym (length-map numbers.bases.now number) ∙ are.based.size;

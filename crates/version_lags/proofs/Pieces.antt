@@ -1,8 +1,8 @@
 -- How long a table's copy has been behind, and whether it is left over, by the number of what it holds.
 -- Serves `Parts`, `Walks` and `Whole`.
-use Rattle.version_lags.proofs.Common.{◌≡◌, ℕ, ◌<◌, false, ◌&&◌, List, [], length, Some, if◌then◌else◌, inl, inr, sym, ap, ◌∙◌, subst, arith, nat_lt, nat_le, cases_lt, cases_eq, le-ltb, lt-ltb, eq-eqb, ne_eqb, lt-leb, Entry, mark_held, Table, entry_at, table_of_node, OwnerListView, entries_of, list_of_owner, lists_in, no_writes, write_numbered, list_read, StandsBeside, generation_at, staleness_of, staleness_at, is_left_over, leftover_at, stale_count}
+use Rattle.version_lags.proofs.Common.{◌≡◌, ℕ, ◌<◌, false, ◌&&◌, List, [], length, Some, if◌then◌else◌, inl, inr, sym, ap, ◌∙◌, subst, arith, nat_lt, nat_le, cases_lt, cases_eq, le-ltb, lt-ltb, eq-eqb, ne_eqb, lt-leb, Entry, mark_held, Table, entry_at, table_of_node, OwnerListView, entries_of, list_of_owner, lists_in, no_writes, write_numbered, list_read, HistoriesView, StandsBeside, generation_at, staleness_of, staleness_at, is_left_over, leftover_at, stale_count}
 use Rattle.version_lags.specs.Missed.{base_of, IsNumberAt, number_staleness, IsLastNumber}
-use Rattle.version_lags.specs.Pieces.{keys_in, StandTogether, MayBeCounted}
+use Rattle.version_lags.specs.Pieces.{StandTogether, MayBeCounted}
 use Rattle.version_lags.proofs.Lagging.{last_fresh, stale_by_number, left_over-by_number, own_is_last, key_held}
 
 -- what is 0, or above how many writes are of earlier generations, is of no earlier one
@@ -12,7 +12,10 @@ none_upto c base above = elim (cases_lt 0 c) [
   | inr none ↦ ap (λ b. b && nat_le c base) (le-ltb 0 c none)
 ]
 
-module _ (tables : List Table) (lists : List OwnerListView) (are : StandTogether tables lists) where
+module _ (tables : List Table) (h : HistoriesView) (are : StandTogether tables h) where
+  abbrev lists : List OwnerListView
+  lists = h.lists
+
   beside : (r : ℕ) → r < length tables → StandsBeside (table_of_node tables r) (list_of_owner lists r)
   beside r lt = subst (λ o. StandsBeside (table_of_node tables r) (list_of_owner lists o)) (are.cluster.tables r lt).node (are.standing r lt).own
 
@@ -23,28 +26,31 @@ module _ (tables : List Table) (lists : List OwnerListView) (are : StandTogether
       (ap (λ o. entry_at (table_of_node tables r) o k) (are.cluster.tables r lt).node ∙ at.held) at.written
 
   -- each key that an owner wrote is one of the keys
-  pub key_within : (r m : ℕ) (e : Entry) → r < length tables → write_numbered (entries_of (list_of_owner lists r)) m ≡ Some e → base_of (list_of_owner lists r) < m → e.key < keys_in tables
+  pub key_within : (r m : ℕ) (e : Entry) → r < length tables → write_numbered (entries_of (list_of_owner lists r)) m ≡ Some e → base_of (list_of_owner lists r) < m → e.key < h.keys
   key_within r m e lt is current =
-      omega (arith, key_held (list_of_owner lists r) (are.writes r) (table_of_node tables r) (are.standing r lt).proper (beside r lt) m e is current, (are.cluster.tables r lt).keys)
+      omega (arith, key_held (list_of_owner lists r) (are.writes r) (table_of_node tables r) (are.standing r lt).proper (beside r lt) m e is current, (are.standing r lt).keys)
 
-module _ (round : ℕ) (tables : List Table) (lists : List OwnerListView) (are : MayBeCounted round tables lists) (p r k c : ℕ) (in_p : p < length tables) (in_r : r < length tables) (at : IsNumberAt lists (table_of_node tables p) r k c) where
+module _ (tables : List Table) (h : HistoriesView) (are : MayBeCounted tables h) (p r k c : ℕ) (in_p : p < length tables) (in_r : r < length tables) (at : IsNumberAt h.lists (table_of_node tables p) r k c) where
+  abbrev round : ℕ
+  round = h.rounds
+
   abbrev list : OwnerListView
-  list = list_of_owner lists r
+  list = list_of_owner h.lists r
 
   at_own : p ≡ r → IsLastNumber list k c
-  at_own same = own_last tables lists are.together r k c in_r (subst (λ q. IsNumberAt lists (table_of_node tables q) r k c) same at)
+  at_own same = own_last tables h are.together r k c in_r (subst (λ q. IsNumberAt h.lists (table_of_node tables q) r k c) same at)
 
   generation : generation_at tables r ≡ list.generation
-  generation = (beside tables lists are.together r in_r).generation
+  generation = (beside tables h are.together r in_r).generation
 
   -- a copy has been behind for as long as its number
-  pub place_staleness : staleness_at round tables (lists_in lists) p r k ≡ number_staleness round list k c
+  pub place_staleness : staleness_at round tables (lists_in h.lists) p r k ≡ number_staleness round list k c
   place_staleness = elim (cases_eq p r) [
     | inl same ↦ rw (eq-eqb p r same) (sym (last_fresh list (are.together.writes r) (are.written.in_order r) round k c c (at_own same) (omega arith) at.written))
-    | inr other ↦ rw (ne_eqb p r other) (λ i. staleness_of round (generation i) (list_read lists r no_writes [] (omega (arith, in_r, are.together.one_list_each)) i) k (mark_held (at.held i)))
+    | inr other ↦ rw (ne_eqb p r other) (λ i. staleness_of round (generation i) (list_read h.lists r no_writes [] (omega (arith, in_r, are.together.one_list_each)) i) k (mark_held (at.held i)))
   ]
 
-  pub place_stale : (last : ℕ) → IsLastNumber list k last → stale_count (staleness_at round tables (lists_in lists) p r k) ≡ (if nat_lt c last then 1 else 0)
+  pub place_stale : (last : ℕ) → IsLastNumber list k last → stale_count (staleness_at round tables (lists_in h.lists) p r k) ≡ (if nat_lt c last then 1 else 0)
   place_stale last is = ap stale_count place_staleness ∙ stale_by_number list (are.together.writes r) (are.written.in_order r) round k last c is at.written
 
   -- of a node's own part nothing is left over

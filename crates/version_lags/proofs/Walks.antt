@@ -3,7 +3,7 @@
 use Rattle.version_lags.proofs.Common.{◌≡◌, ℕ, zero, suc, ◌+◌, ◌-◌, ◌*◌, ◌<◌, ◌≤◌, max, List, length, map, get_or, Some, inl, inr, refl, sym, ap, ◌∙◌, subst, arith, mul-le-mul_right, cases_lt, Entry, OwnerListView, entries_of, list_of_owner, write_numbered, most_below, rounds_behind, IsRoundMark, numbered-placed, numbered-within, length-map, number-at, HasEach, IsLeastBehind}
 use Rattle.version_lags.specs.declared.lags.Lags.{Lags}
 use Rattle.version_lags.specs.Missed.{base_of, number_staleness, NonePassUpto}
-use Rattle.version_lags.specs.Pieces.{MayWalk, WalksFrom, cells_in, last_cells, most_lag}
+use Rattle.version_lags.specs.Pieces.{MayWalk, WalksFrom, cells_in, histories_of, last_cells, most_lag}
 use Rattle.version_lags.proofs.Missed.{numbers-born}
 use Rattle.version_lags.proofs.Lagging.{lag-upto, lag-since}
 use Rattle.version_lags.proofs.Pieces.{key_within}
@@ -49,7 +49,7 @@ walks-from number most lags may firsts behind owner first list among is list_is 
   where
     keyed : (m : ℕ) (e : Entry) → write_numbered (entries_of (list_of_owner lags.numbers.lists.now owner)) m ≡ Some e → base_of (list_of_owner lags.numbers.lists.now owner) < m → e.key < lags.numbers.keys
     keyed m e there current =
-        omega (arith, key_within may.tables lags.numbers.lists.now may.are.may.together owner m e (omega (arith, among, may.are.may.together.one_list_each)) there current, may.are.are.keys_are)
+        key_within may.tables (histories_of lags.numbers) may.are.may.together owner m e (omega (arith, among, may.are.may.together.one_list_each)) there current
 
 module _ {N : Type 0} {number : N → ℕ} {most owner first : ℕ} {lags : Lags N} {list : OwnerListView} (walks : WalksFrom number most lags owner first list) where
   abbrev all : List Entry
@@ -59,8 +59,8 @@ module _ {N : Type 0} {number : N → ℕ} {most owner first : ℕ} {lags : Lags
   least = cells_in lags.numbers (map number lags.least.now) owner
 
   -- no copy has been behind for longer than since the writes behind a place
-  walk-upto : (place longest : ℕ) → NonePassUpto list least place → ((m : ℕ) (e : Entry) → place < m → write_numbered all m ≡ Some e → lags.round - e.born + 1 ≤ longest) → most_lag number lags owner list ≤ longest
-  walk-upto place longest none upto = most_below-le _ lags.numbers.keys longest (λ k in_keys. lag-upto list walks.writes walks.in_order lags.round k (least k) longest (walks.written k in_keys) (λ m e missed.
+  walk-upto : (place longest : ℕ) → NonePassUpto list least place → ((m : ℕ) (e : Entry) → place < m → write_numbered all m ≡ Some e → lags.numbers.ends.rounds - e.born + 1 ≤ longest) → most_lag number lags owner list ≤ longest
+  walk-upto place longest none upto = most_below-le _ lags.numbers.keys longest (λ k in_keys. lag-upto list walks.writes walks.in_order lags.numbers.ends.rounds k (least k) longest (walks.written k in_keys) (λ m e missed.
       elim (cases_lt place m) [
         | inl behind ↦ upto m e behind missed.written
         | inr before ↦ absurd (omega (arith, missed.over, none m e missed.written missed.current before, ap least missed.keyed))
@@ -70,13 +70,13 @@ module _ {N : Type 0} {number : N → ℕ} {most owner first : ℕ} {lags : Lags
   walk-none place none past = omega (arith, walk-upto place 0 none (λ m e behind is. absurd (omega (arith, past, behind, (numbered-within all m e is).1))))
 
   -- no write is of a later round
-  pub born-upto : (m : ℕ) (e : Entry) → write_numbered all m ≡ Some e → e.born ≤ lags.round
+  pub born-upto : (m : ℕ) (e : Entry) → write_numbered all m ≡ Some e → e.born ≤ lags.numbers.ends.rounds
   born-upto m e is =
       let at = numbered-placed all m e is in
       omega (arith, walks.born at.place e at.within, ap (λ (x : Entry). x.born) (at.there e))
 
   -- where all behind the number was written after a round, none has been behind for longer than since then
-  pub lag-recent : (since mark longest : ℕ) → IsRoundMark all 0 since mark → mark ≤ first → lags.round ≤ since + longest → most_lag number lags owner list ≤ longest
+  pub lag-recent : (since mark longest : ℕ) → IsRoundMark all 0 since mark → mark ≤ first → lags.numbers.ends.rounds ≤ since + longest → most_lag number lags owner list ≤ longest
   lag-recent since mark longest marked upto_first recent = walk-upto (max (base_of list) first) longest walks.start (λ m e past is.
       omega (arith, marked.above m e (omega (arith, past)) is (omega (arith, upto_first, past)), born-upto m e is, recent))
 
@@ -100,12 +100,12 @@ module _ {N : Type 0} {number : N → ℕ} {most owner first : ℕ} {lags : Lags
       pub walk-read : (x : N) → x ≡ get_or lags.least.now (e.key * length lags.numbers.lists.now + owner) x → number x ≡ least e.key
       walk-read x read = number-at number lags.least.now (e.key * length lags.numbers.lists.now + owner) x walk-index read
 
-      pub walk-found : NonePassUpto list least place → least e.key ≤ place → lags.round - e.born + 1 ≡ most_lag number lags owner list
+      pub walk-found : NonePassUpto list least place → least e.key ≤ place → lags.numbers.ends.rounds - e.born + 1 ≡ most_lag number lags owner list
       walk-found none over = omega (
         arith,
-        walk-upto place (lags.round - e.born + 1) none (λ m d behind is_d. omega (arith, numbers-born all walks.in_order (place + 1) m e d is is_d (omega (arith, behind)))),
-        most_below-has (λ k. rounds_behind (number_staleness lags.round list k (least k))) lags.numbers.keys e.key in_keys,
-        lag-since list walks.writes walks.in_order lags.round e.key (least e.key) (place + 1) e (walks.written e.key in_keys)
+        walk-upto place (lags.numbers.ends.rounds - e.born + 1) none (λ m d behind is_d. omega (arith, numbers-born all walks.in_order (place + 1) m e d is is_d (omega (arith, behind)))),
+        most_below-has (λ k. rounds_behind (number_staleness lags.numbers.ends.rounds list k (least k))) lags.numbers.keys e.key in_keys,
+        lag-since list walks.writes walks.in_order lags.numbers.ends.rounds e.key (least e.key) (place + 1) e (walks.written e.key in_keys)
             (record { written = is; current = omega (arith, current); keyed = refl; over = omega (arith, over) }),
       )
 

@@ -12,7 +12,7 @@ use Rattle.model.specs.calls.OwnerListView.{OwnerListView, all_writes, entries_o
 use Rattle.model.specs.calls.Numbers.{write_numbered}
 use Rattle.bench_types.specs.Sums.{sum_below, most_below}
 use Rattle.planes.specs.Planes.{cell, total_of, Cells, HasEach, HasEachPlace, IsGrid}
-use Rattle.round_tables.specs.Histories.{BirthsRise, AreWrittenBy, StandsAmong}
+use Rattle.round_tables.specs.Histories.{HistoriesView, BirthsRise, AreWrittenBy, StandsAmong}
 use Rattle.model.specs.Figures.{rounds_behind}
 use Rattle.version_lags.specs.declared.lags.Lags.{Lags}
 use Rattle.version_lags.specs.declared.lags.Numbers.{Numbers}
@@ -21,24 +21,20 @@ use Rattle.version_lags.specs.declared.lags.RoundNumbers.{RoundNumbers}
 use Rattle.owner_writes.specs.Numbered.{AreEnds}
 use Rattle.version_lags.specs.Missed.{base_of, number_staleness, IsLastNumber, IsNumberAt, NonePassUpto}
 
--- how many keys each node has
-abbrev pub keys_in : List Table → ℕ
-keys_in tables = (table_of_node tables 0).keys
-
--- the tables of all nodes beside the owners' lists
-pub record StandTogether (tables : List Table) (lists : List OwnerListView) : Type 0 where
+-- the tables of all nodes beside the histories
+pub record StandTogether (tables : List Table) (h : HistoriesView) : Type 0 where
   pub cluster : IsCluster (length tables) tables
-  pub one_list_each : length lists ≡ length tables
+  pub one_list_each : length h.lists ≡ length tables
   pub few_nodes : length tables ≤ MOST_NODES
-  pub few_keys : keys_in tables ≤ MOST_KEYS
-  pub writes : (owner : ℕ) → AreWrites (list_of_owner lists owner)
-  pub standing : HoldsOfEach (StandsAmong lists) tables
+  pub few_keys : h.keys ≤ MOST_KEYS
+  pub writes : (owner : ℕ) → AreWrites (list_of_owner h.lists owner)
+  pub standing : HoldsOfEach (StandsAmong h) tables
 
 -- what the figures of a round are counted from
-pub record MayBeCounted (round : ℕ) (tables : List Table) (lists : List OwnerListView) : Type 0 where
-  pub together : StandTogether tables lists
-  pub round_limit : round ≤ MOST_ROUNDS
-  pub written : AreWrittenBy round lists
+pub record MayBeCounted (tables : List Table) (h : HistoriesView) : Type 0 where
+  pub together : StandTogether tables h
+  pub round_limit : h.rounds ≤ MOST_ROUNDS
+  pub written : AreWrittenBy h.rounds h.lists
 
 -- the numbers of tables, as code has them
 abbrev pub numbers_in : {N : Type 0} → (N → ℕ) → List (Bor (List N)) → List (List ℕ)
@@ -47,18 +43,20 @@ numbers_in number cells = map (λ x. map number x.now) cells
 abbrev pub numbers_at : List (List ℕ) → ℕ → List ℕ
 numbers_at cells p = slice_index_or cells p []
 
+-- the histories beside which code has these numbers
+abbrev pub histories_of : {N : Type 0} → RoundNumbers N → HistoriesView
+histories_of numbers = record { lists = numbers.lists.now; keys = numbers.keys; rounds = numbers.ends.rounds }
+
 -- the numbers of what a node's table holds
-abbrev pub AreNumbersAt : List Table → List OwnerListView → ℕ → List ℕ → Type 0
-AreNumbersAt tables lists node cells = HasEachPlace (length tables) (keys_in tables) (IsNumberAt lists (table_of_node tables node)) cells
+abbrev pub AreNumbersAt : List Table → HistoriesView → ℕ → List ℕ → Type 0
+AreNumbersAt tables h node cells = HasEachPlace (length h.lists) h.keys (IsNumberAt h.lists (table_of_node tables node)) cells
 
 -- the numbers of all tables, and beside them the last numbers, and how many writes are of earlier generations
-pub record AreNumbersOf (tables : List Table) (lists : List OwnerListView) (nodes keys : ℕ) (cells : List (List ℕ)) (bases last : List ℕ) : Type 0 where
-  pub nodes_are : nodes ≡ length tables
-  pub keys_are : keys ≡ keys_in tables
-  pub count : length cells ≡ nodes
-  pub cells_are : (p : ℕ) → p < nodes → AreNumbersAt tables lists p (numbers_at cells p)
-  pub based : HasEach nodes (λ r n. n ≡ base_of (list_of_owner lists r)) bases
-  pub lasts : HasEachPlace (length tables) (keys_in tables) (λ owner key number. IsLastNumber (list_of_owner lists owner) key number) last
+pub record AreNumbersOf (tables : List Table) (h : HistoriesView) (cells : List (List ℕ)) (bases last : List ℕ) : Type 0 where
+  pub count : length cells ≡ length h.lists
+  pub cells_are : (p : ℕ) → p < length h.lists → AreNumbersAt tables h p (numbers_at cells p)
+  pub based : HasEach (length h.lists) (λ r n. n ≡ base_of (list_of_owner h.lists r)) bases
+  pub lasts : HasEachPlace (length h.lists) h.keys (λ owner key number. IsLastNumber (list_of_owner h.lists owner) key number) last
 
 -- the numbers of a table, and the last ones, by owner and key
 abbrev pub cells_in : {N : Type 0} → RoundNumbers N → List ℕ → Cells
@@ -130,17 +128,17 @@ pub record AreRoundEnds {N : Type 0} (number : N → ℕ) (numbers : RoundNumber
       (cell (map number numbers.ends.numbers.now) (length numbers.lists.now))
 
 -- the numbers of these tables at the end of a round
-pub record AreRoundNumbers {N : Type 0} (number : N → ℕ) (most round : ℕ) (numbers : RoundNumbers N) (tables : List Table) : Type 0 where
-  pub may : MayBeCounted round tables numbers.lists.now
+pub record AreRoundNumbers {N : Type 0} (number : N → ℕ) (most : ℕ) (numbers : RoundNumbers N) (tables : List Table) : Type 0 where
+  pub may : MayBeCounted tables (histories_of numbers)
   pub few : (owner : ℕ) → length (all_writes numbers.lists.now owner) < most
-  pub are : AreNumbersOf tables numbers.lists.now (length numbers.lists.now) numbers.keys (numbers_in number numbers.cells.now)
+  pub are : AreNumbersOf tables (histories_of numbers) (numbers_in number numbers.cells.now)
       (map number numbers.bases.now) (map number numbers.last.now)
   pub ends : AreRoundEnds number numbers
 
 -- beside the least numbers held, the owners' lists may be walked over
 pub record MayWalk {N : Type 0} (number : N → ℕ) (most : ℕ) (lags : Lags N) : Type 0 where
   pub tables : List Table
-  pub are : AreRoundNumbers number most lags.round lags.numbers tables
+  pub are : AreRoundNumbers number most lags.numbers tables
   pub grid : IsGrid (length lags.numbers.lists.now) lags.numbers.keys (length lags.least.now)
   pub lasts : HasEachPlace (length lags.numbers.lists.now) lags.numbers.keys (λ r k y. IsLastNumber (list_of_owner lags.numbers.lists.now r) k y) (map number lags.numbers.last.now)
   pub written : (r k : ℕ) → r < length lags.numbers.lists.now → k < lags.numbers.keys → cells_in lags.numbers (map number lags.least.now) r k ≤ length (all_writes lags.numbers.lists.now r)
@@ -149,10 +147,10 @@ pub record MayWalk {N : Type 0} (number : N → ℕ) (most : ℕ) (lags : Lags N
 pub record WalksFrom {N : Type 0} (number : N → ℕ) (most : ℕ) (lags : Lags N) (owner first : ℕ) (list : OwnerListView) : Type 0 where
   pub among : owner < length lags.numbers.lists.now
   pub grid : IsGrid (length lags.numbers.lists.now) lags.numbers.keys (length lags.least.now)
-  pub round_limit : lags.round ≤ MOST_ROUNDS
+  pub round_limit : lags.numbers.ends.rounds ≤ MOST_ROUNDS
   pub writes : AreWrites list
   pub few : length (entries_of list) < most
-  pub born : All (λ e. e.born ≤ lags.round) (entries_of list)
+  pub born : All (λ e. e.born ≤ lags.numbers.ends.rounds) (entries_of list)
   pub in_order : BirthsRise (entries_of list)
   pub keyed : (m : ℕ) (e : Entry) → write_numbered (entries_of list) m ≡ Some e → base_of list < m → e.key < lags.numbers.keys
   pub written : (k : ℕ) → k < lags.numbers.keys → cells_in lags.numbers (map number lags.least.now) owner k ≤ length (entries_of list)
@@ -161,4 +159,4 @@ pub record WalksFrom {N : Type 0} (number : N → ℕ) (most : ℕ) (lags : Lags
 -- the most rounds that a copy of an owner's keys has been behind
 abbrev pub most_lag : {N : Type 0} → (N → ℕ) → Lags N → ℕ → OwnerListView → ℕ
 most_lag number lags owner list =
-    most_below lags.numbers.keys (λ k. rounds_behind (number_staleness lags.round list k (cells_in lags.numbers (map number lags.least.now) owner k)))
+    most_below lags.numbers.keys (λ k. rounds_behind (number_staleness lags.numbers.ends.rounds list k (cells_in lags.numbers (map number lags.least.now) owner k)))

@@ -15,7 +15,7 @@ use grids::{count_behind, least_behind, lower_all};
 use owner_writes::OwnerWrites;
 use planes::{Ends, Number, total_upto};
 use rayon::join;
-use round_tables::Hands;
+use round_tables::{Hands, Resources};
 use std::alloc::Global;
 use std::mem::size_of_val;
 use std::thread::Threads;
@@ -126,7 +126,6 @@ impl<'a, N: Number + Send + Sync> Numbers<'a, N> {
 struct Lags<'a, N: Number> {
     numbers: RoundNumbers<'a, N>,
     least: &'a [N],
-    round: u32,
 }
 
 impl<'a, N: Number> Lags<'a, N> {
@@ -137,7 +136,7 @@ impl<'a, N: Number> Lags<'a, N> {
         ensures { result ≡ most_lag N.number self.now owner list.now }
     {
         let least = self.least;
-        let round = self.round;
+        let round = self.numbers.ends.rounds;
         let nodes = self.numbers.lists.len();
         if first.widen() == N::greatest().widen() {
             return 0;
@@ -167,12 +166,10 @@ impl<'a, N: Number> Lags<'a, N> {
         let mut greatest = 0;
         for owner in 0..nodes {
             let first = firsts[owner];
-            let since = self.round.saturating_sub(greatest);
-            if since <= numbers.ends.rounds {
-                let row = numbers.ends.row(nodes, since);
-                if row[owner].is_upto(first) {
-                    continue;
-                }
+            let since = numbers.ends.rounds.saturating_sub(greatest);
+            let row = numbers.ends.row(nodes, since);
+            if row[owner].is_upto(first) {
+                continue;
             }
             let lag = self.lag_of_owner(&numbers.lists[owner], owner, first);
             greatest = greatest.max(lag);
@@ -222,10 +219,10 @@ fn counted<N: Number + Send + Sync>(
     numbers.rest_from(rt, alloc, 0)
 }
 
-/// The figures of the tables at the end of a round, down nodes included: how many keys of copies are below the last
-/// writes in their owners' lists, by marks, each list of its owner's generation; the greatest number of rounds since the
-/// first write that one of them missed, that round included; and how many entries of copies are of an older generation
-/// than their owner's.
+/// The figures of the tables at the end of the last round, down nodes included: how many keys of copies are below the
+/// last writes in their owners' lists, by marks, each list of its owner's generation; the greatest number of rounds since
+/// the first write that one of them missed, that round included; and how many entries of copies are of an older
+/// generation than their owner's.
 ///
 /// It works in threads where there are enough nodes, of which it takes fewer if several workers have carried out
 /// the round's exchanges; what it answers does not depend on how. Each thread goes once over the numbers of some of
@@ -233,23 +230,20 @@ fn counted<N: Number + Send + Sync>(
 /// one, where that may be older than what was found so far. It takes memory for the numbers of a table for each
 /// part of the tables. An error is lack of that memory (`OutOfMemory`).
 pub fn figures<N: Number + Send + Sync>(
-    rt: &(impl Threads + Sync),
-    alloc: Global,
+    resources: &Resources<impl Threads + Sync>,
     numbers: &RoundNumbers<N>,
-    round: u32,
-    hands: Hands,
 ) -> Result<Figures, Fault>
-    requires are { (tables : List Table) × AreRoundNumbers N.number N.most round numbers.now tables }
+    requires are { (tables : List Table) × AreRoundNumbers N.number N.most numbers.now tables }
     ensures figures { IfOk result (λ f. (tables : List Table)
-        → AreRoundNumbers N.number N.most round numbers.now tables
-        → f ≡ figures_of round tables (lists_in numbers.now.lists.now)) }
+        → AreRoundNumbers N.number N.most numbers.now tables
+        → f ≡ figures_of numbers.now.ends.rounds tables (lists_in numbers.now.lists.now)) }
     ensures only { IsOkUnless result OutOfMemory }
 {
-    let whole = counted(rt, alloc, numbers, hands)?;
+    let alloc = resources.alloc;
+    let whole = counted(resources.rt, alloc, numbers, resources.hands)?;
     let lags = Lags {
         numbers: *numbers,
         least: &whole.least,
-        round,
     };
     let greatest = lags.greatest(alloc)?;
     Ok(Figures {

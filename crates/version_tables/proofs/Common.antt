@@ -1,12 +1,12 @@
 -- The names that these proofs cite of other libraries and of this crate's definitions, passed on from one place.
 -- Declares nothing.
 -- Serves most of the crate.
-pub use Rattle.std.proofs.Common.{Bool, List, None, Option, Some, Vec, [], ap, arith, cond, eqb, false, get_or, if◌then◌else◌, inl, inr, length, length-append, ltb, map, max, min, nat_le, nat_lt, refl, rules, set, slice_index, subst, suc, sym, take, true, zero, ℕ, ◌&&◌, ◌*◌, ◌++◌, ◌+◌, ◌-◌, ◌<◌, ◌==◌, ◌∙◌, ◌∷◌, ◌≡◌, ◌≢◌, ◌≤◌, ◌⊎◌}
+pub use Rattle.std.proofs.Common.{Bool, List, None, Option, Some, Vec, [], ap, arith, cond, eqb, false, get_or, if◌then◌else◌, inl, inr, length, length-append, ltb, map, max, min, nat_le, nat_lt, refl, rules, set, slice_index, subst, suc, sym, true, zero, ℕ, ◌&&◌, ◌*◌, ◌++◌, ◌+◌, ◌-◌, ◌<◌, ◌==◌, ◌∙◌, ◌∷◌, ◌≡◌, ◌≢◌, ◌≤◌, ◌⊎◌}
 pub use Rattle.std.proofs.Math.Nat.{mul-le-mul_right}
 pub use Rattle.std.proofs.Math.Path.{transport}
 pub use Rattle.std.proofs.lemmas.Bool.{both_ways, cases_eq, cases_lt, eq-eqb, eqb-true, le-ltb, lt-ltb, ne_eqb}
 pub use Rattle.std.proofs.lemmas.Bool.Decides.{nat_tests}
-pub use Rattle.std.proofs.lemmas.List.{append-nil, append_assoc, get_or-append-add, get_or-append_right, get_or-map, get_or-set_other, get_or-set_same, get_or-take, get_or_append_left, get_or_at, get_or_default, get_or_past, get_or_push, length-map, length-set, length-take-le, map-append, map-id, map-set, set-get_or, take-map, with_items_is}
+pub use Rattle.std.proofs.lemmas.List.{append-nil, append_assoc, get_or-append-add, get_or-append_right, get_or-map, get_or-set_other, get_or-set_same, get_or_append_left, get_or_at, get_or_default, get_or_past, get_or_push, length-map, length-set, map-append, map-id, map-set, set-get_or, with_items_is}
 pub use Rattle.std.proofs.lemmas.List.FromFn.{get_or-map-range_with_len, length-map-range_with_len, sum_by-map-range_with_len_more}
 pub use Rattle.std.proofs.lemmas.Nat.{same_from_place}
 pub use Rattle.std.proofs.lemmas.Option.{none-some, same_Some}
@@ -20,6 +20,7 @@ pub use Rattle.std.specs.Vec.{with_items}
 pub use Rattle.bench_types.proofs.Sums.{sum_below-most, sum_below-same}
 pub use Rattle.bench_types.specs.Budget.{largest_share}
 pub use Rattle.bench_types.specs.declared.exchanges.Budget.TheVariants.{Bytes, Entries}
+pub use Rattle.bench_types.specs.declared.limits.TheConstants.{MOST_ROUNDS}
 pub use Rattle.delta_plans.proofs.CandidateNumbers.{candidate-below, candidate-key, candidate-number}
 pub use Rattle.delta_plans.proofs.Columns.{sum_below-none}
 pub use Rattle.delta_plans.proofs.Grids.{items_sum}
@@ -55,7 +56,7 @@ pub use Rattle.model.specs.Digests.{digest_size}
 pub use Rattle.model.specs.Exchanged.{Exchanged, initiator_after, last_fate, responder_after, sent_until}
 pub use Rattle.model.specs.Figures.{figures_of}
 pub use Rattle.model.specs.Table.{IsProper, Table, applied, empty_table, entry_at, generation_held, greatest_mark, greatest_version, item_of, items_of, mark_at, with_own_write, without_all, without_others}
-pub use Rattle.model.specs.Tables.{HoldsOfEach, table_of_node}
+pub use Rattle.model.specs.Tables.{table_of_node}
 pub use Rattle.model.specs.calls.DeltaLaws.{Lacks}
 pub use Rattle.model.specs.calls.Exchanging.{MakesOf}
 pub use Rattle.model.specs.calls.Numbers.{write_from, write_numbered}
@@ -72,13 +73,13 @@ pub use Rattle.planes.proofs.Places.{plane-within, planes-written}
 pub use Rattle.planes.specs.Elementwise.{AreChanged, AreChangedUpto}
 pub use Rattle.planes.specs.Planes.{ArePlanesChanged, ArePlanesChangedUpto, Cells, HasEach, HasEachPlace, HasNoneAbove, IsRaised, cell, count_between, most_ahead, numbers_taken, total_above, total_of}
 pub use Rattle.grids.specs.declared.merges.BothCounts.{BothCounts}
-pub use Rattle.round_tables.specs.Histories.{StandsAmong}
+pub use Rattle.round_tables.specs.Histories.{AreWrittenBy, HistoriesView, HistoryBecomes, KeepLimits, round_ended}
 pub use Rattle.version_lags.specs.Missed.{IsLastNumber, IsNumberAt, base_of}
-pub use Rattle.version_lags.specs.Pieces.{AreNumbersAt, AreNumbersOf, AreRoundNumbers, MayBeCounted, StandTogether, keys_in, numbers_at, numbers_in}
+pub use Rattle.version_lags.specs.Pieces.{AreNumbersAt, AreNumbersOf, AreRoundNumbers, MayBeCounted, StandTogether, numbers_at, numbers_in}
 pub use Rattle.version_tables.specs.Laid.{AreNumbers, IsFirst, IsGreatest, IsVersionTable, entries_below, entry_list, table_of_cells}
-pub use Rattle.version_tables.specs.Views.{HistoriesView, IsKept, VersionTableView, table_in}
+pub use Rattle.version_tables.specs.Views.{IsKept, VersionTableView, table_in}
 pub use Rattle.version_tables.specs.Writes.{HasOwnWrite, IsNextWrite}
-pub use Rattle.version_tables.specs.inner.Beside.{AreCellsOf, AreCellsUpto, tables_of_views, view_at}
+pub use Rattle.version_tables.specs.inner.Beside.{AreAtRoundEnd, AreCellsOf, AreCellsUpto, tables_of_views, view_at}
 pub use Rattle.version_tables.specs.inner.Deltas.{AreLaidBoth, AreMarksOf, AreOfOneSize, delta_of_views, is_taken_at}
 pub use Rattle.version_tables.specs.inner.Histories.{AreHistories, AreKnown, AreNoWrites, AreOwners, IsBeginning, IsCounted, IsReadyExchange, IsWriteUnder, IsWrittenSoFar, bases_in}
 pub use Rattle.version_tables.specs.inner.Merged.{BothStayMerged, HaveMerged, IsMerged, MayMerge, MayTakeAll, StaysMerged}

@@ -1,7 +1,7 @@
 -- What the calls of the histories make of all that is kept of the owners' writes.
 -- Serves `Histories::begin_generation`, `Histories::end_round`, `Histories::lasts`, `Histories::new` and
 -- `Histories::write`.
-use Rattle.version_tables.proofs.Common.{◌≡◌, ◌≢◌, ℕ, zero, suc, ◌+◌, ◌*◌, ◌<◌, ◌≤◌, ◌==◌, cond, List, [], ◌∷◌, ◌++◌, length, get_or, set, map, take, Some, inl, inr, refl, sym, ap, ◌∙◌, subst, transport, arith, length-append, mul-le-mul_right, cases_lt, cases_eq, eq-eqb, ne_eqb, get_or-set_same, get_or-set_other, get_or_append_left, get_or_push, length-set, get_or-append-add, get_or_default, length-map, length-take-le, get_or-take, take-map, map-append, map-set, append_assoc, append-nil, same_Some, number-at, Entry, MOST_KEYS, MOST_NODES, write_from, write_numbered, OwnerListView, all_writes, entries_of, list_of_owner, no_writes, next_entry, with_write, begun_generation, AreWrites, ListBecomes, writes_more, writes_begun, HasEach, HasEachPlace, ArePlanesChanged, cell, AreMadeBy, IsHistory, IsNumberedHistory, IsRoundMark, IsLastNumber, write_from-some, numbered-within, write_from-at, AreHistories, AreNoWrites, IsCounted, IsWrittenSoFar, IsWriteUnder}
+use Rattle.version_tables.proofs.Common.{◌≡◌, ◌≢◌, ℕ, zero, suc, ◌+◌, ◌*◌, ◌<◌, ◌≤◌, ◌==◌, cond, List, [], ◌∷◌, ◌++◌, length, get_or, set, map, Some, inl, inr, refl, sym, ap, ◌∙◌, subst, transport, arith, length-append, cases_lt, cases_eq, eq-eqb, ne_eqb, get_or-set_same, get_or-set_other, get_or_append_left, get_or_push, length-set, get_or-append-add, get_or_default, length-map, map-append, map-set, append_assoc, append-nil, same_Some, number-at, Entry, LEAST_KEYS, MOST_KEYS, MOST_NODES, MOST_ROUNDS, write_from, write_numbered, OwnerListView, all_writes, entries_of, list_of_owner, no_writes, next_entry, with_write, begun_generation, AreWrites, ListBecomes, writes_more, writes_begun, HasEach, HasEachPlace, ArePlanesChanged, cell, AreMadeBy, IsHistory, IsNumberedHistory, IsRoundMark, IsLastNumber, write_from-some, numbered-within, write_from-at, HistoriesView, round_ended, AreHistories, AreNoWrites, IsCounted, IsWrittenSoFar, IsWriteUnder}
 use Rattle.version_tables.proofs.Generations.{current-at, earlier-at}
 use Rattle.version_tables.proofs.OwnCalls.{other-place, place-within}
 
@@ -110,9 +110,9 @@ module _ (all : List Entry) (most rounds : ℕ) (v : OwnerListView) (key value :
   }
 
   -- its number is the last one of its key, and those of other keys stay; where the rounds before end doesn't change
-  pub counted-more : (count base : ℕ) (lasts lasts' ends : ℕ → ℕ) → IsCounted v rounds count base lasts ends → lasts' key ≡ length w + 1 → ((k : ℕ) → k < MOST_KEYS → k ≢ key → lasts' k ≡ lasts k)
-      → IsCounted after rounds (length w + 1) base lasts' ends
-  counted-more count base lasts lasts' ends kept here others = record {
+  pub counted-more : (keys count base : ℕ) (lasts lasts' ends : ℕ → ℕ) → IsCounted v keys rounds count base lasts ends → lasts' key ≡ length w + 1 → ((k : ℕ) → k < keys → k ≢ key → lasts' k ≡ lasts k)
+      → IsCounted after keys rounds (length w + 1) base lasts' ends
+  counted-more keys count base lasts lasts' ends kept here others = record {
     counted = sym (longer);
     based = kept.based;
     last = λ k in_keys. elim (cases_eq k key) [
@@ -141,7 +141,16 @@ module _ (all : List Entry) (most rounds : ℕ) (v : OwnerListView) (key value :
     reached = λ round upto. omega (arith, kept.reached round upto, longer);
   }
 
-module _ {written : ℕ → List Entry} {most : ℕ} {lists : List OwnerListView} {counts bases lasts ends : List ℕ} {rounds : ℕ} (kept : AreHistories written most lists counts bases lasts ends rounds) where
+module _ {written : ℕ → List Entry} {most : ℕ} {h : HistoriesView} {counts bases lasts ends : List ℕ} (kept : AreHistories written most h counts bases lasts ends) where
+  abbrev lists : List OwnerListView
+  lists = h.lists
+
+  abbrev keys : ℕ
+  keys = h.keys
+
+  abbrev rounds : ℕ
+  rounds = h.rounds
+
   abbrev nodes : ℕ
   nodes = length lists
 
@@ -150,29 +159,37 @@ module _ {written : ℕ → List Entry} {most : ℕ} {lists : List OwnerListView
     abbrev list : OwnerListView
     list = list_of_owner lists owner
 
-    abbrev old : IsCounted list rounds (get_or counts owner 0) (get_or bases owner 0) (cell lasts nodes owner) (cell ends nodes owner)
+    abbrev old : IsCounted list keys rounds (get_or counts owner 0) (get_or bases owner 0) (cell lasts nodes owner) (cell ends nodes owner)
     old = kept.each owner in_nodes
 
     abbrev n : ℕ
     n = length (all_writes lists owner)
 
+    abbrev after-call : HistoriesView
+    after-call = record h { lists = new }
+
     -- the others' stay as they are
     histories-changed : (list' : OwnerListView) (counts' bases' lasts' : List ℕ) → ListBecomes owner list' lists new → length counts' ≡ length counts → length bases' ≡ length bases → length lasts' ≡ length lasts
         → AreWrites list' → IsWrittenSoFar (written owner) most rounds (entries_of list')
-        → ((r : ℕ) → r < nodes → r ≢ owner → IsCounted (list_of_owner lists r) rounds (get_or counts' r 0) (get_or bases' r 0) (cell lasts' nodes r) (cell ends nodes r))
-        → IsCounted list' rounds (get_or counts' owner 0) (get_or bases' owner 0) (cell lasts' nodes owner) (cell ends nodes owner) → AreHistories written most new counts' bases' lasts' ends rounds
+        → ((r : ℕ) → r < nodes → r ≢ owner → IsCounted (list_of_owner lists r) keys rounds (get_or counts' r 0) (get_or bases' r 0) (cell lasts' nodes r) (cell ends nodes r))
+        → IsCounted list' keys rounds (get_or counts' owner 0) (get_or bases' owner 0) (cell lasts' nodes owner) (cell ends nodes owner) → AreHistories written most after-call counts' bases' lasts' ends
     histories-changed list' counts' bases' lasts' changes same_counts same_bases same_lasts are so_far others own = record {
-      few_nodes = omega (arith, kept.few_nodes, changes.count);
+      limits = record {
+        few_nodes = omega (arith, kept.limits.few_nodes, changes.count);
+        some_key = kept.limits.some_key;
+        few_keys = kept.limits.few_keys;
+        few_rounds = kept.limits.few_rounds;
+      };
       counts_size = same_counts ∙ kept.counts_size ∙ sym changes.count;
       bases_size = same_bases ∙ kept.bases_size ∙ sym changes.count;
-      lasts_size = same_lasts ∙ kept.lasts_size ∙ ap (λ m. MOST_KEYS * m) (sym changes.count);
+      lasts_size = same_lasts ∙ kept.lasts_size ∙ ap (λ m. keys * m) (sym changes.count);
       ends_size = kept.ends_size ∙ ap (λ m. (rounds + 1) * m) (sym changes.count);
       known = record {
         so_far = each-list (λ r v. IsWrittenSoFar (written r) most rounds (entries_of v)) (λ r _. kept.known.so_far r) so_far;
         writes = each-list (λ _ v. AreWrites v) (λ r _. kept.known.writes r) are;
       };
-      each = subst (λ m. (r : ℕ) → r < m → IsCounted (list_of_owner new r) rounds (get_or counts' r 0) (get_or bases' r 0) (cell lasts' m r) (cell ends m r)) (sym changes.count)
-          (each-list (λ r v. r < nodes → IsCounted v rounds (get_or counts' r 0) (get_or bases' r 0) (cell lasts' nodes r) (cell ends nodes r)) (λ r other lt. others r lt other) (λ _. own));
+      each = subst (λ m. (r : ℕ) → r < m → IsCounted (list_of_owner new r) keys rounds (get_or counts' r 0) (get_or bases' r 0) (cell lasts' m r) (cell ends m r)) (sym changes.count)
+          (each-list (λ r v. r < nodes → IsCounted v keys rounds (get_or counts' r 0) (get_or bases' r 0) (cell lasts' nodes r) (cell ends nodes r)) (λ r other lt. others r lt other) (λ _. own));
     }
       where
         each-list : (P : ℕ → OwnerListView → Type 0) → ((r : ℕ) → r ≢ owner → P r (list_of_owner lists r)) → P owner list' → (r : ℕ) → P r (list_of_owner new r)
@@ -181,27 +198,27 @@ module _ {written : ℕ → List Entry} {most : ℕ} {lists : List OwnerListView
           | inr other ↦ subst (P r) (sym (changes.others r other)) (before r other)
         ]
 
-    pub histories-written : (key value : ℕ) (counts' lasts' : List ℕ) → ListBecomes owner (with_write list key value (rounds + 1)) lists new → IsWriteUnder written most owner (n + 1) (next_entry list key value (rounds + 1)) → key < MOST_KEYS
-        → counts' ≡ set counts owner (n + 1) → lasts' ≡ set lasts (key * nodes + owner) (n + 1) → AreHistories written most new counts' bases lasts' ends rounds
+    pub histories-written : (key value : ℕ) (counts' lasts' : List ℕ) → ListBecomes owner (with_write list key value (rounds + 1)) lists new → IsWriteUnder written most owner (n + 1) (next_entry list key value (rounds + 1)) → key < keys
+        → counts' ≡ set counts owner (n + 1) → lasts' ≡ set lasts (key * nodes + owner) (n + 1) → AreHistories written most after-call counts' bases lasts' ends
     histories-written key value counts' lasts' changes under in_keys is last_is =
-        transport (λ i. AreHistories written most new (sym is i) bases (sym last_is i) ends rounds)
+        transport (λ i. AreHistories written most after-call (sym is i) bases (sym last_is i) ends)
         (histories-changed (with_write list key value (rounds + 1)) (set counts owner (n + 1)) bases (set lasts index (n + 1)) changes (length-set counts owner (n + 1)) refl (length-set lasts index (n + 1))
         (writes_more list (kept.known.writes owner) key value (rounds + 1)) (so_far-more (written owner) most rounds list key value (kept.known.writes owner) (kept.known.so_far owner) under.is under.below)
-        (λ r lt other. transport (λ i. IsCounted (list_of_owner lists r) rounds (sym (get_or-set_other counts owner r (n + 1) 0 other) i) (get_or bases r 0)
+        (λ r lt other. transport (λ i. IsCounted (list_of_owner lists r) keys rounds (sym (get_or-set_other counts owner r (n + 1) 0 other) i) (get_or bases r 0)
         (λ k. sym (get_or-set_other lasts index (k * nodes + r) (n + 1) 0 (other-place nodes r k owner key lt in_nodes (inl other))) i) (cell ends nodes r)) (kept.each r lt))
-        (subst (λ m. IsCounted (with_write list key value (rounds + 1)) rounds m (get_or bases owner 0) (cell (set lasts index (n + 1)) nodes owner) (cell ends nodes owner))
+        (subst (λ m. IsCounted (with_write list key value (rounds + 1)) keys rounds m (get_or bases owner 0) (cell (set lasts index (n + 1)) nodes owner) (cell ends nodes owner))
         (sym (get_or-set_same counts owner (n + 1) 0 (omega (arith, in_nodes, kept.counts_size))))
-        (counted-more (written owner) most rounds list key value (kept.known.writes owner) (kept.known.so_far owner) (get_or counts owner 0) (get_or bases owner 0) (cell lasts nodes owner) (cell (set lasts index (n + 1)) nodes owner) (cell ends nodes owner) old
-        (get_or-set_same lasts index (n + 1) 0 (omega (arith, kept.lasts_size, place-within nodes MOST_KEYS owner key in_nodes in_keys)))
+        (counted-more (written owner) most rounds list key value (kept.known.writes owner) (kept.known.so_far owner) keys (get_or counts owner 0) (get_or bases owner 0) (cell lasts nodes owner) (cell (set lasts index (n + 1)) nodes owner) (cell ends nodes owner) old
+        (get_or-set_same lasts index (n + 1) 0 (omega (arith, kept.lasts_size, place-within nodes keys owner key in_nodes in_keys)))
         (λ k _ other. get_or-set_other lasts index (k * nodes + owner) (n + 1) 0 (other-place nodes owner k owner key in_nodes in_nodes (inr other))))))
       where
         index : ℕ
         index = key * nodes + owner
 
-    pub histories-begun : (bases' lasts' : List ℕ) → ListBecomes owner (begun_generation list) lists new → bases' ≡ set bases owner n → ArePlanesChanged (λ r k x y. y ≡ cond (r == owner) 0 x) nodes MOST_KEYS lasts lasts'
-        → AreHistories written most new counts bases' lasts' ends rounds
+    pub histories-begun : (bases' lasts' : List ℕ) → ListBecomes owner (begun_generation list) lists new → bases' ≡ set bases owner n → ArePlanesChanged (λ r k x y. y ≡ cond (r == owner) 0 x) nodes keys lasts lasts'
+        → AreHistories written most after-call counts bases' lasts' ends
     histories-begun bases' lasts' changes is cleared =
-        subst (λ bs. AreHistories written most new counts bs lasts' ends rounds) (sym is)
+        subst (λ bs. AreHistories written most after-call counts bs lasts' ends) (sym is)
         (histories-changed (begun_generation list) counts (set bases owner n) lasts' changes refl (length-set bases owner n) cleared.size
         (writes_begun list (kept.known.writes owner)) (subst (IsWrittenSoFar (written owner) most rounds) (sym whole) (kept.known.so_far owner))
         (λ r lt other.
@@ -249,7 +266,7 @@ module _ {written : ℕ → List Entry} {most : ℕ} {lists : List OwnerListView
       | inr not_new ↦ let old : round ≤ rounds = omega (arith, not_new) in subst (P round) (sym (row-before round old)) (before round old)
     ]
 
-    counted-ended : IsCounted (list_of_owner lists owner) (rounds + 1) (get_or counts owner 0) (get_or bases owner 0) (cell lasts nodes owner) (cell (ends ++ counts) nodes owner)
+    counted-ended : IsCounted (list_of_owner lists owner) keys (rounds + 1) (get_or counts owner 0) (get_or bases owner 0) (cell lasts nodes owner) (cell (ends ++ counts) nodes owner)
     counted-ended =
         let old = kept.each owner lt in
         record {
@@ -268,9 +285,14 @@ module _ {written : ℕ → List Entry} {most : ℕ} {lists : List OwnerListView
           reached = each-round (λ _ mark. mark ≤ length (all_writes lists owner)) old.reached (λ _ _. omega arith);
         }
 
-  pub histories-ended : (ends' : List ℕ) → ends' ≡ ends ++ counts → AreHistories written most lists counts bases lasts ends' (rounds + 1)
-  histories-ended ends' is = subst (λ es. AreHistories written most lists counts bases lasts es (rounds + 1)) (sym is) (record {
-    few_nodes = kept.few_nodes;
+  pub histories-ended : (ends' : List ℕ) → ends' ≡ ends ++ counts → rounds < MOST_ROUNDS → AreHistories written most (round_ended h) counts bases lasts ends'
+  histories-ended ends' is left = subst (AreHistories written most (round_ended h) counts bases lasts) (sym is) (record {
+    limits = record {
+      few_nodes = kept.limits.few_nodes;
+      some_key = kept.limits.some_key;
+      few_keys = kept.limits.few_keys;
+      few_rounds = omega (arith, left);
+    };
     counts_size = kept.counts_size;
     bases_size = kept.bases_size;
     lasts_size = kept.lasts_size;
@@ -291,19 +313,16 @@ module _ {written : ℕ → List Entry} {most : ℕ} {lists : List OwnerListView
   })
 
 -- what code reads of counts is how much the owner wrote
-pub count-read : {N : Type 0} {written : ℕ → List Entry} {most rounds : ℕ} {lists : List OwnerListView} {bases lasts ends : List ℕ} (number : N → ℕ) (counts : List N) → AreHistories written most lists (map number counts) bases lasts ends rounds
-    → (owner : ℕ) (x : N) → owner < length lists → x ≡ get_or counts owner x → number x ≡ length (all_writes lists owner)
+pub count-read : {N : Type 0} {written : ℕ → List Entry} {most : ℕ} {h : HistoriesView} {bases lasts ends : List ℕ} (number : N → ℕ) (counts : List N) → AreHistories written most h (map number counts) bases lasts ends
+    → (owner : ℕ) (x : N) → owner < length h.lists → x ≡ get_or counts owner x → number x ≡ length (all_writes h.lists owner)
 count-read number counts kept owner x lt is = number-at number counts owner x (omega (arith, lt, kept.counts_size, length-map counts number)) is ∙ (kept.each owner lt).counted
 
--- and of last numbers, of as many keys as are asked
-pub lasts-read : {N : Type 0} {written : ℕ → List Entry} {most rounds : ℕ} {lists : List OwnerListView} {counts bases ends : List ℕ} (number : N → ℕ) (lasts : List N) (keys : ℕ) → AreHistories written most lists counts bases (map number lasts) ends rounds
-    → keys ≤ MOST_KEYS → HasEachPlace (length lists) keys (λ r k n. IsLastNumber (list_of_owner lists r) k n) (map number (take (keys * length lists) lasts))
-lasts-read {lists = lists} number lasts keys kept le = subst (HasEachPlace (length lists) keys (λ r k n. IsLastNumber (list_of_owner lists r) k n)) (take-map number (keys * length lists) lasts) (record {
-  size = length-take-le (keys * length lists) (map number lasts) (omega (arith, kept.lasts_size, mul-le-mul_right {m = keys} {n = MOST_KEYS} (length lists) le));
-  each = λ r k lt in_keys. subst (IsLastNumber (list_of_owner lists r) k)
-      (sym (get_or-take (keys * length lists) (map number lasts) (k * length lists + r) 0 (place-within (length lists) keys r k lt in_keys)))
-      ((kept.each r lt).last k (omega (arith, in_keys, le)));
-})
+-- what is kept of last numbers
+abbrev pub AreLasts : HistoriesView → List ℕ → Type 0
+AreLasts h lasts = HasEachPlace (length h.lists) h.keys (λ r k n. IsLastNumber (list_of_owner h.lists r) k n) lasts
+
+pub lasts-kept : {written : ℕ → List Entry} {most : ℕ} {h : HistoriesView} {counts bases lasts ends : List ℕ} → AreHistories written most h counts bases lasts ends → AreLasts h lasts
+lasts-kept kept = record { size = kept.lasts_size; each = λ r k lt in_keys. (kept.each r lt).last k in_keys }
 
 -- no number is that of a write where nothing was written
 none-written : {P : Type 0} (number : ℕ) (e : Entry) → write_numbered [] number ≡ Some e → P
@@ -319,13 +338,14 @@ so_far-none all most some = record {
 }
 
 -- before the first round
-pub histories-empty : (written : ℕ → List Entry) (most nodes : ℕ) (lists : List OwnerListView) (counts bases lasts ends : List ℕ) → 0 < most → nodes ≤ MOST_NODES → AreNoWrites nodes lists
-    → HasEach nodes (λ r n. n ≡ 0) counts → HasEach nodes (λ r n. n ≡ 0) bases → HasEach (MOST_KEYS * nodes) (λ r n. n ≡ 0) lasts → HasEach nodes (λ r n. n ≡ 0) ends → AreHistories written most lists counts bases lasts ends 0
-histories-empty written most nodes lists counts bases lasts ends some few nothing no_counts no_bases no_lasts no_ends = record {
-  few_nodes = omega (arith, few, nothing.count);
+pub histories-empty : (written : ℕ → List Entry) (most nodes keys : ℕ) (lists : List OwnerListView) (counts bases lasts ends : List ℕ) → 0 < most → nodes ≤ MOST_NODES → LEAST_KEYS ≤ keys → keys ≤ MOST_KEYS → AreNoWrites nodes lists
+    → HasEach nodes (λ r n. n ≡ 0) counts → HasEach nodes (λ r n. n ≡ 0) bases → HasEach (keys * nodes) (λ r n. n ≡ 0) lasts → HasEach nodes (λ r n. n ≡ 0) ends
+    → AreHistories written most (record { lists = lists; keys = keys; rounds = 0 }) counts bases lasts ends
+histories-empty written most nodes keys lists counts bases lasts ends some few some_key few_keys nothing no_counts no_bases no_lasts no_ends = record {
+  limits = record { few_nodes = omega (arith, few, nothing.count); some_key = some_key; few_keys = few_keys; few_rounds = omega arith };
   counts_size = no_counts.size ∙ sym nothing.count;
   bases_size = no_bases.size ∙ sym nothing.count;
-  lasts_size = no_lasts.size ∙ ap (λ n. MOST_KEYS * n) (sym nothing.count);
+  lasts_size = no_lasts.size ∙ ap (λ n. keys * n) (sym nothing.count);
   ends_size = omega (arith, no_ends.size, nothing.count);
   known = record {
     so_far = λ r. subst (λ v. IsWrittenSoFar (written r) most 0 (entries_of v)) (sym (nothing.empty r)) (so_far-none (written r) most some);
@@ -335,11 +355,11 @@ histories-empty written most nodes lists counts bases lasts ends some few nothin
       rising = λ i j d lt in_range. absurd (omega (arith, in_range));
     });
   };
-  each = subst (λ m. (r : ℕ) → r < m → IsCounted (list_of_owner lists r) 0 (get_or counts r 0) (get_or bases r 0) (cell lasts m r) (cell ends m r)) (sym nothing.count)
-      (λ r lt. subst (λ v. IsCounted v 0 (get_or counts r 0) (get_or bases r 0) (cell lasts nodes r) (cell ends nodes r)) (sym (nothing.empty r)) (record {
+  each = subst (λ m. (r : ℕ) → r < m → IsCounted (list_of_owner lists r) keys 0 (get_or counts r 0) (get_or bases r 0) (cell lasts m r) (cell ends m r)) (sym nothing.count)
+      (λ r lt. subst (λ v. IsCounted v keys 0 (get_or counts r 0) (get_or bases r 0) (cell lasts nodes r) (cell ends nodes r)) (sym (nothing.empty r)) (record {
         counted = no_counts.each r lt;
         based = no_bases.each r lt;
-        last = λ k in_keys. subst (IsLastNumber no_writes k) (sym (no_lasts.each (k * nodes + r) (place-within nodes MOST_KEYS r k lt in_keys))) (record {
+        last = λ k in_keys. subst (IsLastNumber no_writes k) (sym (no_lasts.each (k * nodes + r) (place-within nodes keys r k lt in_keys))) (record {
           written = omega arith;
           last = λ m d missed. none-written m d missed.written;
           there = λ below under. absurd (omega (arith, under));

@@ -3,7 +3,6 @@
 use Rattle.std.specs.Prelude.{ℕ, List}
 use Rattle.bench_types.specs.declared.entries.Entry.{Entry}
 use Rattle.model.specs.Table.{Table}
-use Rattle.model.specs.calls.OwnerListView.{OwnerListView}
 use Rattle.planes.specs.Planes.{cell}
 use Rattle.version_tables.specs.Laid.{table_of_cells, IsVersionTable}
 
@@ -22,8 +21,3 @@ table_in written v = table_of_cells written v.node v.nodes v.keys v.generation (
 
 abbrev pub IsKept : (ℕ → List Entry) → VersionTableView → Type 0
 IsKept written v = IsVersionTable written v.node v.nodes v.keys v.generation v.cells v.greatest
-
--- what contracts see of the histories: what the owners wrote so far, and how many rounds' writes were ended
-pub record HistoriesView : Type 0 where
-  pub lists : List OwnerListView
-  pub rounds : ℕ

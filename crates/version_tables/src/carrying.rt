@@ -1,6 +1,6 @@
 //! Tables of versions as tables that a simulation carries through its rounds.
 
-ghost use Rattle.std.specs.Prelude.{◌≡◌, ◌+◌, OnOk, IsOkUnless};
+ghost use Rattle.std.specs.Prelude.{◌≡◌, ◌+◌, OnOk, OnErr, IsOkUnless};
 ghost use Rattle.bench_types.specs.declared.faults.Fault.TheVariants.{OutOfMemory};
 ghost use Rattle.model.specs.Table.{with_own_write};
 ghost use Rattle.round_tables.specs.Histories.{AddsWrite, MayWrite};
@@ -12,7 +12,7 @@ use crate::lags::SharedNumber;
 use crate::tables::{VersionTable, Written};
 use bench_types::{Fault, Figures};
 use planes::Number;
-use round_tables::{Hands, RoundHistories};
+use round_tables::{Resources, RoundHistories};
 use std::alloc::Global;
 use std::marker::Brand;
 use std::thread::Threads;
@@ -29,46 +29,35 @@ fn write<N: Number, H: Written>(
     histories: &mut Histories<N, H>,
     key: u32,
     value: u32,
-    born: u32,
 ) -> Result<(), Fault>
-    requires next { born ≡ histories.old.rounds + 1 }
-    requires may { MayWrite (IsWriteUnder H.lists N.most) (table_in H.lists table.old)
-        histories.old.lists key value born }
-    ensures table { OnOk result
-        (table_in H.lists table.new ≡ with_own_write (table_in H.lists table.old) key value born) }
-    ensures lists { OnOk result
-        (AddsWrite (table_in H.lists table.old) key value born histories.old.lists
-        histories.new.lists) }
-    ensures rounds { histories.new.rounds ≡ histories.old.rounds }
+    requires { MayWrite (IsWriteUnder H.lists N.most) (table_in H.lists table.old) histories.old key value }
+    ensures table { OnOk result (table_in H.lists table.new
+        ≡ with_own_write (table_in H.lists table.old) key value (histories.old.rounds + 1)) }
+    ensures kept { OnOk result (AddsWrite (table_in H.lists table.old) key value histories.old histories.new) }
+    ensures err { OnErr result (histories.new ≡ histories.old) }
     ensures only { IsOkUnless result OutOfMemory }
 {
     let node = table.node();
-    let number = histories.write(node, key, value, born)?;
+    let number = histories.write(node, key, value)?;
     table.write_own(key, number);
     Ok(())
 }
 
 impl<N: SharedNumber + Send + Sync, H: Written + Send + Sync> RoundHistories<VersionTable<N, H>>
     for Histories<N, H> {
-    ghost use Rattle.std.specs.Prelude.{◌≡◌};
     ghost use Rattle.version_tables.specs.inner.Histories.{IsWriteUnder};
 
-    ghost lists = { λ h. h.lists };
-
-    ghost has_ended = { λ h round. h.rounds ≡ round };
+    ghost kept = { λ h. h };
 
     ghost may_write = { IsWriteUnder H.lists N.most };
 
-    fn new(alloc: Global, nodes: u32) -> Result<Histories<N, H>, Fault> {
-        Histories::new(alloc, nodes)
+    fn new(alloc: Global, nodes: u32, keys: u32) -> Result<Histories<N, H>, Fault> {
+        Histories::new(alloc, nodes, keys)
     }
 
-    fn empty_table(
-        alloc: Global,
-        node: u32,
-        nodes: u32,
-        keys: u32,
-    ) -> Result<VersionTable<N, H>, Fault> {
+    fn empty_table(&self, alloc: Global, node: u32) -> Result<VersionTable<N, H>, Fault> {
+        let keys = self.keys();
+        let nodes = self.lists().len() as u32;
         VersionTable::new(alloc, node, nodes, keys)
     }
 
@@ -85,28 +74,19 @@ impl<N: SharedNumber + Send + Sync, H: Written + Send + Sync> RoundHistories<Ver
         self.lists()[owner as usize].len()
     }
 
-    fn write(
-        &mut self,
-        table: &mut VersionTable<N, H>,
-        key: u32,
-        value: u32,
-        born: u32,
-    ) -> Result<(), Fault> {
-        write(table, self, key, value, born)
+    fn write(&mut self, table: &mut VersionTable<N, H>, key: u32, value: u32) -> Result<(), Fault> {
+        write(table, self, key, value)
     }
 
-    fn end_writes(&mut self, _round: u32) -> Result<(), Fault> {
+    fn end_writes(&mut self) -> Result<(), Fault> {
         self.end_round()
     }
 
     fn figures<R: Threads + Sync>(
         &self,
-        rt: &R,
-        alloc: Global,
+        resources: &Resources<R>,
         tables: &[VersionTable<N, H>],
-        round: u32,
-        hands: Hands,
     ) -> Result<Figures, Fault> {
-        N::figures(rt, alloc, tables, self, round, hands)
+        N::figures(resources, tables, self)
     }
 }

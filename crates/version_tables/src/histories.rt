@@ -7,7 +7,6 @@ ghost use Rattle.version_tables.specs.inner.Histories.{AreNoWrites};
 use crate::owners::clear_owner;
 use crate::tables::Written;
 use bench_types::Fault;
-use bench_types::limits::MOST_KEYS;
 use owner_writes::OwnerWrites;
 use planes::{Ends, Number, zeros};
 use std::alloc::Global;
@@ -20,47 +19,48 @@ pub struct Histories<N: Number, H: Written> {
     // How many writes each owner has made, and how many of them are of earlier generations.
     counts: Vec<N>,
     bases: Vec<N>,
-    // `lasts[key * nodes + owner]`: the number of its last write of a key in its generation, 0 for none. There is room
-    // for the most keys, as no call tells how many there are.
+    // `lasts[key * nodes + owner]`: the number of its last write of a key in its generation, 0 for none.
     lasts: Vec<N>,
     // `ends[round * nodes + owner]`: how many it made up to a round.
     ends: Vec<N>,
+    keys: u32,
     rounds: u32,
     written: PhantomData<H>,
 }
 
 impl<N: Number, H: Written> Model for Histories<N, H> {
     ghost use Rattle.std.specs.Prelude.{map};
-    ghost use Rattle.version_tables.specs.Views.{HistoriesView};
-    ghost use Rattle.version_tables.specs.inner.Codes.{histories_code};
+    ghost use Rattle.owner_writes.specs.inner.Codes.{list_code};
+    ghost use Rattle.round_tables.specs.Histories.{HistoriesView, histories_code};
     ghost use Rattle.version_tables.specs.inner.Histories.{AreHistories};
 
     ghost Value = { HistoriesView };
 
-    ghost coded = { histories_code };
+    ghost coded = { histories_code list_code };
 
-    ghost view = { λ h. record { lists = h.lists.items; rounds = h.rounds } };
+    ghost view = { λ h. record { lists = h.lists.items; keys = h.keys; rounds = h.rounds } };
 
-    ghost invariant = { λ h. AreHistories H.lists N.most h.lists.items (map N.number h.counts.items)
-        (map N.number h.bases.items) (map N.number h.lasts.items) (map N.number h.ends.items) h.rounds };
+    ghost invariant = { λ h. AreHistories H.lists N.most
+        (record { lists = h.lists.items; keys = h.keys; rounds = h.rounds }) (map N.number h.counts.items)
+        (map N.number h.bases.items) (map N.number h.lasts.items) (map N.number h.ends.items) };
 }
 
 impl<N: Number, H: Written> Histories<N, H> {
-    ghost use Rattle.std.specs.Prelude.{ℕ, ◌+◌, ◌^◌, ◌<◌, ◌≤◌, map, length, IfOk, OnOk, OnErr, IsOkUnless};
-    ghost use Rattle.bench_types.specs.declared.faults.Fault.TheVariants.{OutOfMemory};
-    ghost use Rattle.bench_types.specs.declared.limits.TheConstants.{MOST_KEYS, MOST_NODES};
-    ghost use Rattle.model.specs.calls.OwnerListView.{all_writes, list_of_owner, no_writes, next_entry, with_write, begun_generation, AreWrites, ListBecomes};
+    ghost use Rattle.std.specs.Prelude.{ℕ, ◌+◌, ◌^◌, ◌<◌, ◌≤◌, map, length, IfOk, OnOk, OnErr};
+    ghost use Rattle.bench_types.specs.declared.limits.TheConstants.{LEAST_KEYS, MOST_KEYS, MOST_NODES, MOST_ROUNDS};
+    ghost use Rattle.model.specs.calls.OwnerListView.{all_writes, list_of_owner, next_entry, with_write, begun_generation, AreWrites};
     ghost use Rattle.planes.specs.Planes.{HasEach, HasEachPlace};
+    ghost use Rattle.round_tables.specs.Histories.{round_ended, AreNewHistories, HistoryBecomes, KeepLimits};
     ghost use Rattle.version_tables.specs.inner.Histories.{AreEndsOf, AreKnown, IsWrittenSoFar, IsWriteUnder};
     ghost use Rattle.version_lags.specs.Missed.{IsLastNumber};
 
-    /// Where so many owners have written nothing, before the first round. An error is lack of memory
-    /// (`OutOfMemory`).
-    pub fn new(alloc: Global, nodes: u32) -> Result<Self, Fault>
-        requires { nodes ≤ MOST_NODES }
-        ensures count { IfOk result (λ h. length h.lists ≡ nodes) }
-        ensures empty { IfOk result (λ h. (owner : ℕ) → list_of_owner h.lists owner ≡ no_writes) }
-        ensures rounds { IfOk result (λ h. h.rounds ≡ 0) }
+    /// Where so many owners with so many keys each have written nothing, before the first round. An error is lack of
+    /// memory (`OutOfMemory`).
+    pub fn new(alloc: Global, nodes: u32, keys: u32) -> Result<Self, Fault>
+        requires nodes { nodes ≤ MOST_NODES }
+        requires some_key { LEAST_KEYS ≤ keys }
+        requires keys { keys ≤ MOST_KEYS }
+        ensures begun { IfOk result (AreNewHistories nodes keys) }
         ensures only { IsOkUnless result OutOfMemory }
     {
         let nodes = nodes as usize;
@@ -68,8 +68,9 @@ impl<N: Number, H: Written> Histories<N, H> {
             lists: no_lists(alloc, nodes)?,
             counts: zeros(alloc, nodes)?,
             bases: zeros(alloc, nodes)?,
-            lasts: zeros(alloc, MOST_KEYS as usize * nodes)?,
+            lasts: zeros(alloc, keys as usize * nodes)?,
             ends: zeros(alloc, nodes)?,
+            keys,
             rounds: 0,
             written: PhantomData,
         })
@@ -77,25 +78,23 @@ impl<N: Number, H: Written> Histories<N, H> {
 
     /// An owner writes one of its keys in the round that comes next, and the number of the write is answered. An
     /// error is lack of memory (`OutOfMemory`), and then nothing was added.
-    pub fn write(&mut self, owner: u32, key: u32, value: u32, born: u32) -> Result<N, Fault>
+    pub fn write(&mut self, owner: u32, key: u32, value: u32) -> Result<N, Fault>
         requires owner { owner < length self.old.lists }
-        requires key { key < MOST_KEYS }
+        requires key { key < self.old.keys }
         requires few { length (list_of_owner self.old.lists owner).current + 1 < 2 ^ 32 }
-        requires born { born ≡ self.old.rounds + 1 }
         requires under { IsWriteUnder H.lists N.most owner
             (length (all_writes self.old.lists owner) + 1)
-            (next_entry (list_of_owner self.old.lists owner) key value born) }
+            (next_entry (list_of_owner self.old.lists owner) key value (self.old.rounds + 1)) }
         ensures number { IfOk result
             (λ n. N.number n ≡ length (all_writes self.old.lists owner) + 1) }
-        ensures lists { OnOk result (ListBecomes owner
-            (with_write (list_of_owner self.old.lists owner) key value born) self.old.lists
-            self.new.lists) }
+        ensures ok { OnOk result (HistoryBecomes owner
+            (with_write (list_of_owner self.old.lists owner) key value (self.old.rounds + 1)) self.old self.new) }
         ensures err { OnErr result (self.new ≡ self.old) }
-        ensures rounds { self.new.rounds ≡ self.old.rounds }
         ensures known { IfOk result (λ _. AreKnown H.lists N.most self.old) }
         ensures only { IsOkUnless result OutOfMemory }
     {
         let owner = owner as usize;
+        let born = self.rounds + 1;
         self.lists[owner].write(key, value, born)?;
         let number = self.counts[owner].plus(true);
         self.counts[owner] = number;
@@ -104,27 +103,24 @@ impl<N: Number, H: Written> Histories<N, H> {
         Ok(number)
     }
 
-    /// An owner forgets, and begins its next generation with nothing. Costs a step for each key that there may be.
+    /// An owner forgets, and begins its next generation with nothing. Costs a step for each key.
     pub fn begin_generation(&mut self, owner: u32)
         requires owner { owner < length self.old.lists }
         requires few { (list_of_owner self.old.lists owner).generation + 1 < 2 ^ 32 }
-        ensures lists { ListBecomes owner (begun_generation (list_of_owner self.old.lists owner))
-            self.old.lists self.new.lists }
-        ensures rounds { self.new.rounds ≡ self.old.rounds }
+        ensures { HistoryBecomes owner (begun_generation (list_of_owner self.old.lists owner)) self.old self.new }
     {
         let owner = owner as usize;
         self.lists[owner].begin_generation();
         self.bases[owner] = self.counts[owner];
         let nodes = self.lists.len();
-        clear_owner(&mut self.lasts, nodes, MOST_KEYS as usize, owner);
+        clear_owner(&mut self.lasts, nodes, self.keys as usize, owner);
     }
 
     /// The writes of the next round are made. An error is lack of memory (`OutOfMemory`), and then the round has
     /// not ended.
     pub fn end_round(&mut self) -> Result<(), Fault>
-        requires { self.old.rounds + 1 < 2 ^ 32 }
-        ensures lists { self.new.lists ≡ self.old.lists }
-        ensures ok { OnOk result (self.new.rounds ≡ self.old.rounds + 1) }
+        requires { self.old.rounds < MOST_ROUNDS }
+        ensures ok { OnOk result (self.new ≡ round_ended self.old) }
         ensures err { OnErr result (self.new ≡ self.old) }
         ensures known { AreKnown H.lists N.most self.new }
         ensures only { IsOkUnless result OutOfMemory }
@@ -155,13 +151,20 @@ impl<N: Number, H: Written> Histories<N, H> {
         &self.bases
     }
 
-    // Plane by plane, the number of each owner's last write of each of so many keys.
-    pub(crate) fn lasts(&self, keys: usize) -> &[N]
-        requires keys { keys ≤ MOST_KEYS }
-        ensures { HasEachPlace (length self.now.lists) keys (λ r k n. IsLastNumber (list_of_owner self.now.lists r) k n)
-            (map N.number result.now) }
+    // How many keys each owner has.
+    pub(crate) fn keys(&self) -> u32
+        ensures value { result ≡ self.now.keys }
+        ensures limits { KeepLimits self.now }
     {
-        &self.lasts[..keys * self.lists.len()]
+        self.keys
+    }
+
+    // Plane by plane, the number of each owner's last write of each key.
+    pub(crate) fn lasts(&self) -> &[N]
+        ensures { HasEachPlace (length self.now.lists) self.now.keys
+            (λ r k n. IsLastNumber (list_of_owner self.now.lists r) k n) (map N.number result.now) }
+    {
+        &self.lasts
     }
 
     // Where each round ends: how many writes each owner has made up to it.

@@ -4,26 +4,17 @@ ghost use Rattle.std.specs.Prelude.{◌≡◌, IfOk, IsOkUnless};
 ghost use Rattle.bench_types.specs.declared.faults.Fault.TheVariants.{OutOfMemory};
 ghost use Rattle.model.specs.Figures.{figures_of};
 ghost use Rattle.model.specs.calls.OwnerListView.{lists_in};
-ghost use Rattle.version_lags.specs.Pieces.{keys_in, numbers_in};
+ghost use Rattle.version_lags.specs.Pieces.{numbers_in};
 ghost use Rattle.version_tables.specs.inner.Beside.{tables_of_views, AreAtRoundEnd, AreCellsOf};
 
 use crate::histories::Histories;
 use crate::tables::{VersionTable, Written};
 use bench_types::{Fault, Figures};
 use planes::{Number, Short};
-use round_tables::Hands;
+use round_tables::Resources;
 use std::alloc::Global;
 use std::thread::Threads;
 use version_lags::RoundNumbers;
-
-fn keys_of<N: Number, H: Written>(tables: &[VersionTable<N, H>]) -> usize
-    ensures { result ≡ keys_in (tables_of_views H.lists tables.now) }
-{
-    match tables.first() {
-        Some(table) => table.keys() as usize,
-        None => 0,
-    }
-}
 
 fn cells_of<'a, N: Number, H: Written>(
     alloc: Global,
@@ -41,29 +32,25 @@ fn cells_of<'a, N: Number, H: Written>(
 
 /// The figures at the end of a round, as `version_lags` counts them. An error is lack of memory (`OutOfMemory`).
 pub(crate) fn figures<N: Number + Send + Sync, H: Written>(
-    rt: &(impl Threads + Sync),
-    alloc: Global,
+    resources: &Resources<impl Threads + Sync>,
     tables: &[VersionTable<N, H>],
     histories: &Histories<N, H>,
-    round: u32,
-    hands: Hands,
 ) -> Result<Figures, Fault>
-    requires { AreAtRoundEnd H.lists round tables.now histories.now.lists }
-    ensures figures { IfOk result
-        (λ f. f ≡ figures_of round (tables_of_views H.lists tables.now) (lists_in histories.now.lists)) }
+    requires { AreAtRoundEnd H.lists tables.now histories.now }
+    ensures figures { IfOk result (λ f. f
+        ≡ figures_of histories.now.rounds (tables_of_views H.lists tables.now) (lists_in histories.now.lists)) }
     ensures only { IsOkUnless result OutOfMemory }
 {
-    let keys = keys_of(tables);
-    let cells = cells_of(alloc, tables)?;
+    let cells = cells_of(resources.alloc, tables)?;
     let numbers = RoundNumbers {
         cells: &cells,
-        keys,
+        keys: histories.keys() as usize,
         lists: histories.lists(),
         bases: histories.bases(),
-        last: histories.lasts(keys),
+        last: histories.lasts(),
         ends: histories.ends(),
     };
-    version_lags::figures(rt, alloc, &numbers, round, hands)
+    version_lags::figures(resources, &numbers)
 }
 
 /// Numbers that threads may share. What starts threads is written for each type of them, since no proof is had of what
@@ -73,55 +60,43 @@ pub trait SharedNumber: Number {
 
     /// The figures at the end of a round, as `figures` has them.
     fn figures<H: Written, R: Threads + Sync>(
-        rt: &R,
-        alloc: Global,
+        resources: &Resources<R>,
         tables: &[VersionTable<Self, H>],
         histories: &Histories<Self, H>,
-        round: u32,
-        hands: Hands,
     ) -> Result<Figures, Fault>
         requires sync { IsSync R.row }
-        requires ended { AreAtRoundEnd H.lists round tables.now histories.now.lists }
-        ensures figures { IfOk result
-            (λ f. f ≡ figures_of round (tables_of_views H.lists tables.now) (lists_in histories.now.lists)) }
+        requires ended { AreAtRoundEnd H.lists tables.now histories.now }
+        ensures figures { IfOk result (λ f. f
+            ≡ figures_of histories.now.rounds (tables_of_views H.lists tables.now) (lists_in histories.now.lists)) }
         ensures only { IsOkUnless result OutOfMemory };
 }
 
 impl SharedNumber for u8 {
     fn figures<H: Written, R: Threads + Sync>(
-        rt: &R,
-        alloc: Global,
+        resources: &Resources<R>,
         tables: &[VersionTable<u8, H>],
         histories: &Histories<u8, H>,
-        round: u32,
-        hands: Hands,
     ) -> Result<Figures, Fault> {
-        figures(rt, alloc, tables, histories, round, hands)
+        figures(resources, tables, histories)
     }
 }
 
 impl SharedNumber for Short {
     fn figures<H: Written, R: Threads + Sync>(
-        rt: &R,
-        alloc: Global,
+        resources: &Resources<R>,
         tables: &[VersionTable<Short, H>],
         histories: &Histories<Short, H>,
-        round: u32,
-        hands: Hands,
     ) -> Result<Figures, Fault> {
-        figures(rt, alloc, tables, histories, round, hands)
+        figures(resources, tables, histories)
     }
 }
 
 impl SharedNumber for u32 {
     fn figures<H: Written, R: Threads + Sync>(
-        rt: &R,
-        alloc: Global,
+        resources: &Resources<R>,
         tables: &[VersionTable<u32, H>],
         histories: &Histories<u32, H>,
-        round: u32,
-        hands: Hands,
     ) -> Result<Figures, Fault> {
-        figures(rt, alloc, tables, histories, round, hands)
+        figures(resources, tables, histories)
     }
 }

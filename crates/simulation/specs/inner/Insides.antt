@@ -4,6 +4,7 @@ use Rattle.std.specs.Coded.{Coded, code_by, coded×, coded_ℕ, coded_bool, code
 use Rattle.bench_types.specs.declared.entries.Entry.{Entry}
 use Rattle.scenario.specs.contracts.scenarios.Scenario as scenario
 use Rattle.owner_writes.specs.inner.Codes.{list_code}
+use Rattle.round_tables.specs.Histories.{HistoriesView}
 use Rattle.simulation.specs.declared.clusters.Cluster.{Cluster}
 use Rattle.model.specs.Table.{Table}
 use Rattle.scenario.specs.Settings.{Settings}
@@ -11,7 +12,7 @@ use Rattle.model.specs.calls.OwnerListView.{OwnerListView}
 use Rattle.simulation.specs.calls.RoundView.{RoundView}
 use Rattle.simulation.specs.Rounds.{tables_after}
 use Rattle.simulation.specs.inner.Plans.{IsDrawnAfter}
-use Rattle.simulation.specs.inner.Steps.{IsPlayedFrom}
+use Rattle.simulation.specs.inner.Steps.{HaveEnded, IsPlayedFrom}
 use Rattle.simulation.specs.calls.Standing.{StandAfterRound}
 use Rattle.simulation.specs.calls.Simulation.{AreTablesAfter, MayWriteAll, SimView}
 
@@ -27,18 +28,18 @@ abbrev pub tables_held : {T K : Type 0} → Option (Cluster T K) → List T
 tables_held (Some c) = c.tables.items
 tables_held None = []
 
-abbrev pub lists_held : {T K : Type 0} → (K → List OwnerListView) → Option (Cluster T K) → List OwnerListView
-lists_held lists (Some c) = lists c.histories
-lists_held lists None = []
+abbrev pub lists_held : {T K : Type 0} → (K → HistoriesView) → Option (Cluster T K) → List OwnerListView
+lists_held kept (Some c) = (kept c.histories).lists
+lists_held kept None = []
 
-abbrev pub simulation_of : {T K : Type 0} → (K → List OwnerListView) → Settings → Option (Cluster T K) → ℕ
+abbrev pub simulation_of : {T K : Type 0} → (K → HistoriesView) → Settings → Option (Cluster T K) → ℕ
     → SimView T
-simulation_of lists s cluster done = record {
+simulation_of kept s cluster done = record {
   settings = s;
   rounds_done = done;
   broken = is_none cluster;
   tables = tables_held cluster;
-  lists = lists_held lists cluster;
+  lists = lists_held kept cluster;
 }
 
 -- after so many rounds: the tables of the definition, and each owner's list beside them
@@ -49,24 +50,24 @@ pub record IsSimulation {T : Type 0} (table : T → Table) (v : SimView T) : Typ
 
 -- and what lies in it: histories of which so many rounds have ended, and what is drawn after the last of them; the
 -- tables may hold what the run writes
-pub record IsInside {T K : Type 0} (table : T → Table) (lists : K → List OwnerListView) (Ended : K → ℕ → Type 0)
-    (May : ℕ → ℕ → Entry → Type 0) (s : Settings) (cluster : Option (Cluster T K)) (done : ℕ) : Type 0 where
-  pub simulation : IsSimulation table (simulation_of lists s cluster done)
-  pub ended : IfSome cluster (λ c. Ended c.histories done)
+pub record IsInside {T K : Type 0} (table : T → Table) (kept : K → HistoriesView) (May : ℕ → ℕ → Entry → Type 0)
+    (s : Settings) (cluster : Option (Cluster T K)) (done : ℕ) : Type 0 where
+  pub simulation : IsSimulation table (simulation_of kept s cluster done)
+  pub ended : IfSome cluster (λ c. HaveEnded s done (kept c.histories))
   pub drawn : IfSome cluster (λ c. IsDrawnAfter s done c.drawn)
   pub may_write : MayWriteAll May s
 
 -- what a round of a cluster answers
-abbrev pub HasPlayed : {T K : Type 0} → (T → Table) → (K → List OwnerListView) → Settings → ℕ
+abbrev pub HasPlayed : {T K : Type 0} → (T → Table) → (K → HistoriesView) → Settings → ℕ
     → Cluster T K → Cluster T K → RoundView → Type 0
-HasPlayed table lists s round old new =
-    IsPlayedFrom s round (tables_of table old) (tables_of table new) (lists new.histories)
+HasPlayed table kept s round old new =
+    IsPlayedFrom s round (tables_of table old) (tables_of table new) (kept new.histories).lists
 
 -- a cluster after a round: what its nodes hold and have written is what the definition gives, its histories have ended
 -- the round, and what is drawn is that of the round or of the next one
-pub record IsAfterRound {T K : Type 0} (table : T → Table) (lists : K → List OwnerListView) (Ended : K → ℕ → Type 0)
-    (s : Settings) (round : ℕ) (c : Cluster T K) : Type 0 where
-  pub standing : StandAfterRound s round (tables_of table c) (lists c.histories)
+pub record IsAfterRound {T K : Type 0} (table : T → Table) (kept : K → HistoriesView) (s : Settings) (round : ℕ)
+    (c : Cluster T K) : Type 0 where
+  pub standing : StandAfterRound s round (tables_of table c) (kept c.histories).lists
   pub tables : tables_of table c ≡ tables_after s round
-  pub ended : Ended c.histories round
+  pub ended : HaveEnded s round (kept c.histories)
   pub drawn : IsDrawnAfter s round c.drawn

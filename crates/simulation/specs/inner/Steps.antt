@@ -17,7 +17,7 @@ use Rattle.round_plan.specs.declared.owners.OwnWrite.{OwnWrite}
 use Rattle.round_plan.specs.Generations.{generation_upto}
 use Rattle.model.specs.calls.OwnParts.{OwnPartIsLastWrites}
 use Rattle.model.specs.calls.Writes.{AreBornBy}
-use Rattle.round_tables.specs.Histories.{own_list, StandsBeside}
+use Rattle.round_tables.specs.Histories.{HistoriesView, StaysBesideLists, own_list, StandsBeside}
 use Rattle.simulation.specs.calls.Simulation.{MayWriteAll}
 use Rattle.simulation.specs.calls.Standing.{IsOwnerOf, IsOwner}
 
@@ -51,22 +51,33 @@ pub record IsNodeBefore (s : Settings) (round n : ℕ) (t : Table) (lists : List
   pub one_each : length lists ≡ s.nodes
   pub owner : IsOwner s (round - 1) n t (list_of_owner lists n)
 
+-- histories of a scenario's run, of which so many rounds have ended
+pub record HaveEnded (s : Settings) (round : ℕ) (h : HistoriesView) : Type 0 where
+  pub keys : h.keys ≡ s.keys
+  pub rounds : h.rounds ≡ round
+
 -- a node may make these writes in a round, one after another
 pub record MayWriteOwn (May : ℕ → ℕ → Entry → Type 0) (round : ℕ) (writes : List OwnWrite) (t : Table)
-    (lists : List OwnerListView) : Type 0 where
-  pub owner : t.node < length lists
+    (h : HistoriesView) : Type 0 where
+  pub owner : t.node < length h.lists
+  pub as_many_keys : t.keys ≡ h.keys
   pub proper : IsProper t
   pub keys : All (λ w. w.key < t.keys) writes
-  pub next : AreNextAfter t.generation (length (own_list t lists).current) (map (born_in round t.generation) writes)
-  pub may : MayWriteEach May t.node (length (all_writes lists t.node)) (map (born_in round t.generation) writes)
-  pub fits : length (own_list t lists).current + length writes + 1 < 2 ^ 32
-  pub beside : StandsBeside t (own_list t lists)
-  pub born : AreBornBy round (written (own_list t lists))
+  pub next : AreNextAfter t.generation (length (own_list t h.lists).current) (map (born_in round t.generation) writes)
+  pub may : MayWriteEach May t.node (length (all_writes h.lists t.node)) (map (born_in round t.generation) writes)
+  pub fits : length (own_list t h.lists).current + length writes + 1 < 2 ^ 32
+  pub beside : StandsBeside t (own_list t h.lists)
+  pub born : AreBornBy round (written (own_list t h.lists))
 
 -- all lists but this owner's stay
 pub record OthersStay (owner : ℕ) (old new : List OwnerListView) : Type 0 where
   pub count : length new ≡ length old
   pub others : (other : ℕ) → other ≢ owner → list_of_owner new other ≡ list_of_owner old other
+
+-- and of the histories nothing else has changed
+pub record LeavesOthers (owner : ℕ) (old new : HistoriesView) : Type 0 where
+  pub others : OthersStay owner old.lists new.lists
+  pub beside : StaysBesideLists old new
 
 -- these writes of a round were made, and added to the list
 pub record HasWritten (round : ℕ) (writes : List OwnWrite) (old new : Table) (v v' : OwnerListView) : Type 0 where

@@ -6,7 +6,7 @@ use bench_types::{Exchange, Fault, Figures, Record, Rules};
 use fixtures::{FOUR_MODES, Team};
 use model::{Exchanging, MemoryTable};
 use node_table::NodeTable;
-use round_tables::{Hands, RoundHistories, TakesAll};
+use round_tables::{Resources, RoundHistories, TakesAll};
 use scenario::read;
 use simulation::Sim as SimOf;
 use std::alloc::Global;
@@ -43,19 +43,17 @@ impl<T: MemoryTable, H: RoundHistories<T>> Exchanging<T> for Refusing<H> {
 }
 
 impl<T: MemoryTable, H: RoundHistories<T>> RoundHistories<T> for Refusing<H> {
-    ghost lists = { λ histories. H.lists histories.inner };
-
-    ghost has_ended = { λ histories round. H.has_ended histories.inner round };
+    ghost kept = { λ histories. H.kept histories.inner };
 
     ghost may_write = { λ owner number e. H.may_write owner number e };
 
-    fn new(alloc: Global, nodes: u32) -> Result<Refusing<H>, Fault> {
-        let inner = H::new(alloc, nodes)?;
+    fn new(alloc: Global, nodes: u32, keys: u32) -> Result<Refusing<H>, Fault> {
+        let inner = H::new(alloc, nodes, keys)?;
         Ok(Refusing { inner, round: 0 })
     }
 
-    fn empty_table(alloc: Global, node: u32, nodes: u32, keys: u32) -> Result<T, Fault> {
-        H::empty_table(alloc, node, nodes, keys)
+    fn empty_table(&self, alloc: Global, node: u32) -> Result<T, Fault> {
+        self.inner.empty_table(alloc, node)
     }
 
     fn restart(table: &mut T) {
@@ -70,24 +68,21 @@ impl<T: MemoryTable, H: RoundHistories<T>> RoundHistories<T> for Refusing<H> {
         self.inner.count(owner)
     }
 
-    fn write(&mut self, table: &mut T, key: u32, value: u32, born: u32) -> Result<(), Fault> {
-        self.inner.write(table, key, value, born)
+    fn write(&mut self, table: &mut T, key: u32, value: u32) -> Result<(), Fault> {
+        self.inner.write(table, key, value)
     }
 
-    fn end_writes(&mut self, round: u32) -> Result<(), Fault> {
-        self.round = round;
-        self.inner.end_writes(round)
+    fn end_writes(&mut self) -> Result<(), Fault> {
+        self.round = self.round.saturating_add(1);
+        self.inner.end_writes()
     }
 
     fn figures<R: Threads + Sync>(
         &self,
-        rt: &R,
-        alloc: Global,
+        resources: &Resources<R>,
         tables: &[T],
-        round: u32,
-        hands: Hands,
     ) -> Result<Figures, Fault> {
-        self.inner.figures(rt, alloc, tables, round, hands)
+        self.inner.figures(resources, tables)
     }
 }
 

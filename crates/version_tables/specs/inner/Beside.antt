@@ -1,12 +1,10 @@
 -- Tables of versions beside the owners' lists. Source: this project.
-use Rattle.std.specs.Prelude.{◌≡◌, ℕ, ◌<◌, ◌≤◌, List, [], length, map, slice_index_or}
+use Rattle.std.specs.Prelude.{◌≡◌, ℕ, ◌<◌, List, [], length, map, slice_index_or}
 use Rattle.bench_types.specs.declared.entries.Entry.{Entry}
-use Rattle.bench_types.specs.declared.limits.TheConstants.{MOST_ROUNDS}
 use Rattle.model.specs.Table.{Table}
 use Rattle.model.specs.Tables.{HoldsOfEach}
-use Rattle.model.specs.calls.OwnerListView.{OwnerListView}
 use Rattle.model.specs.calls.Tables.{IsCluster}
-use Rattle.round_tables.specs.Histories.{AreWrittenBy, StandsAmong}
+use Rattle.round_tables.specs.Histories.{HistoriesView, AreWrittenBy, StandsAmong}
 use Rattle.version_lags.specs.Pieces.{numbers_at}
 use Rattle.version_tables.specs.Views.{VersionTableView, table_in, IsKept}
 
@@ -27,10 +25,9 @@ pub record AreCellsUpto (written : ℕ → List Entry) (views : List VersionTabl
 abbrev pub AreCellsOf : (ℕ → List Entry) → List VersionTableView → List (List ℕ) → Type 0
 AreCellsOf written views cells = AreCellsUpto written views cells (length views)
 
--- tables and owners' lists at the end of a round
-pub record AreAtRoundEnd (written : ℕ → List Entry) (round : ℕ) (views : List VersionTableView) (lists : List OwnerListView) : Type 0 where
+-- tables and histories at the end of a round
+pub record AreAtRoundEnd (written : ℕ → List Entry) (views : List VersionTableView) (h : HistoriesView) : Type 0 where
   pub cluster : IsCluster (length views) (tables_of_views written views)
-  pub one_list_each : length lists ≡ length views
-  pub round_limit : round ≤ MOST_ROUNDS
-  pub written_by : AreWrittenBy round lists
-  pub standing : HoldsOfEach (StandsAmong lists) (tables_of_views written views)
+  pub one_list_each : length h.lists ≡ length views
+  pub written_by : AreWrittenBy h.rounds h.lists
+  pub standing : HoldsOfEach (StandsAmong h) (tables_of_views written views)

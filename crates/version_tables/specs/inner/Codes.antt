@@ -1,9 +1,7 @@
--- The codes of what contracts see of tables of versions and of histories. Source: this project.
+-- The code of what contracts see of tables of versions. Source: this project.
 use Rattle.std.specs.Prelude.{ℕ, List, refl}
 use Rattle.std.specs.Coded.{Coded, code_by, coded×, coded_ℕ, coded_list}
-use Rattle.model.specs.calls.OwnerListView.{OwnerListView}
-use Rattle.owner_writes.specs.inner.Codes.{list_code}
-use Rattle.version_tables.specs.Views.{VersionTableView, HistoriesView}
+use Rattle.version_tables.specs.Views.{VersionTableView}
 
 abbrev pub table_view_code : Coded VersionTableView
 table_view_code =
@@ -12,7 +10,3 @@ table_view_code =
     (λ v. (v.node, (v.nodes, (v.keys, (v.generation, (v.cells, v.greatest))))))
     (λ p. record { node = p.0; nodes = p.1.0; keys = p.1.1.0; generation = p.1.1.1.0; cells = p.1.1.1.1.0; greatest = p.1.1.1.1.1 })
     (λ _. refl)
-
-abbrev pub histories_code : Coded HistoriesView
-histories_code =
-    code_by (List OwnerListView × ℕ) (coded× (coded_list list_code) coded_ℕ) (λ h. (h.lists, h.rounds)) (λ p. record { lists = p.0; rounds = p.1 }) (λ _. refl)

@@ -8,7 +8,8 @@ use Rattle.bench_types.specs.calls.Budget.{IsLawfulBudget}
 use Rattle.planes.specs.Planes.{cell}
 use Rattle.model.specs.Deltas.{DeltaView, delta_between}
 use Rattle.model.specs.Digests.{digest_size}
-use Rattle.version_tables.specs.Views.{VersionTableView, HistoriesView, table_in, IsKept}
+use Rattle.round_tables.specs.Histories.{HistoriesView}
+use Rattle.version_tables.specs.Views.{VersionTableView, table_in, IsKept}
 use Rattle.version_tables.specs.inner.Histories.{AreKnown, FitsHistories, IsReadyExchange}
 use Rattle.delta_plans.specs.Offers.{AreSent}
 use Rattle.version_tables.specs.inner.Taken.{is_taken}

@@ -10,7 +10,7 @@ use Rattle.model.specs.calls.Exchanging.{IsKeptByExchanges}
 use Rattle.model.specs.calls.ExchangeLaws.{MayMeet, StoodInEither}
 use Rattle.model.proofs.Cases.{initiator_after-either, responder_after-either}
 use Rattle.model.proofs.ExchangeLaws.{initiator_proper, responder_proper, initiator_either, responder_either}
-use Rattle.version_tables.specs.Views.{HistoriesView}
+use Rattle.round_tables.specs.Histories.{HistoriesView}
 use Rattle.version_tables.specs.inner.Histories.{FitsRun}
 
 pub fits_stays : (written : ℕ → List Entry) (most : ℕ) (h : HistoriesView) → IsKeptByExchanges (FitsRun written most h)

@@ -3,7 +3,6 @@ use Rattle.std.specs.Prelude.{◌≡◌, ℕ, ◌+◌, ◌*◌, ◌<◌, ◌≤�
 use Rattle.bench_types.specs.declared.entries.Entry.{Entry}
 use Rattle.bench_types.specs.declared.exchanges.Exchange.{Exchange}
 use Rattle.bench_types.specs.declared.exchanges.Rules.{Rules}
-use Rattle.bench_types.specs.declared.limits.TheConstants.{MOST_KEYS, MOST_NODES}
 use Rattle.bench_types.specs.calls.Budget.{IsLawfulBudget}
 use Rattle.bench_types.specs.Mark.{mark_of}
 use Rattle.model.specs.calls.Exchanging.{MayBeExchanged}
@@ -12,7 +11,7 @@ use Rattle.model.specs.calls.OwnerListView.{OwnerListView, all_writes, entries_o
 use Rattle.model.specs.calls.Numbers.{write_numbered}
 use Rattle.planes.specs.Planes.{HasEach, cell}
 use Rattle.planes.specs.declared.ends.Ends.{Ends}
-use Rattle.version_tables.specs.Views.{HistoriesView}
+use Rattle.round_tables.specs.Histories.{HistoriesView, KeepLimits}
 use Rattle.delta_plans.specs.declared.told_marks.Owners.{Owners}
 use Rattle.version_lags.specs.Missed.{IsLastNumber}
 use Rattle.owner_writes.specs.Numbered.{IsHistory, IsNumberedHistory, IsRoundMark, AreEnds, AreMadeBy}
@@ -45,26 +44,26 @@ pub record AreNoWrites (nodes : ℕ) (lists : List OwnerListView) : Type 0 where
 
 -- what is kept of an owner's writes: counts of all and of those of earlier generations, the last number of each key,
 -- and where the rounds end
-pub record IsCounted (list : OwnerListView) (rounds count base : ℕ) (lasts ends : ℕ → ℕ) : Type 0 where
+pub record IsCounted (list : OwnerListView) (keys rounds count base : ℕ) (lasts ends : ℕ → ℕ) : Type 0 where
   pub counted : count ≡ length (entries_of list)
   pub based : base ≡ length list.earlier
-  pub last : (key : ℕ) → key < MOST_KEYS → IsLastNumber list key (lasts key)
+  pub last : (key : ℕ) → key < keys → IsLastNumber list key (lasts key)
   pub none : ends 0 ≡ 0
   pub rise : (round : ℕ) → round < rounds → ends round ≤ ends (round + 1)
   pub parts : (round : ℕ) → round ≤ rounds → IsRoundMark (entries_of list) 0 round (ends round)
   pub reached : (round : ℕ) → round ≤ rounds → ends round ≤ length (entries_of list)
 
 -- and so of all owners
-pub record AreHistories (written : ℕ → List Entry) (most : ℕ) (lists : List OwnerListView) (counts bases lasts ends : List ℕ) (rounds : ℕ) : Type 0 where
-  pub few_nodes : length lists ≤ MOST_NODES
-  pub counts_size : length counts ≡ length lists
-  pub bases_size : length bases ≡ length lists
-  pub lasts_size : length lasts ≡ MOST_KEYS * length lists
-  pub ends_size : length ends ≡ (rounds + 1) * length lists
-  pub known : AreKnown written most (record { lists = lists; rounds = rounds })
-  pub each : (owner : ℕ) → owner < length lists
-      → IsCounted (list_of_owner lists owner) rounds (slice_index counts owner) (slice_index bases owner)
-      (cell lasts (length lists) owner) (cell ends (length lists) owner)
+pub record AreHistories (written : ℕ → List Entry) (most : ℕ) (h : HistoriesView) (counts bases lasts ends : List ℕ) : Type 0 where
+  pub limits : KeepLimits h
+  pub counts_size : length counts ≡ length h.lists
+  pub bases_size : length bases ≡ length h.lists
+  pub lasts_size : length lasts ≡ h.keys * length h.lists
+  pub ends_size : length ends ≡ (h.rounds + 1) * length h.lists
+  pub known : AreKnown written most h
+  pub each : (owner : ℕ) → owner < length h.lists
+      → IsCounted (list_of_owner h.lists owner) h.keys h.rounds (slice_index counts owner) (slice_index bases owner)
+      (cell lasts (length h.lists) owner) (cell ends (length h.lists) owner)
 
 -- how many writes each owner had made up to the end of each round, in memory
 pub record AreEndsOf {N : Type 0} (number : N → ℕ) (h : HistoriesView) (ends : Ends N) : Type 0 where

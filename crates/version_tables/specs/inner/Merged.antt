@@ -9,7 +9,8 @@ use Rattle.bench_types.specs.Mode.{digest_kind}
 use Rattle.planes.specs.Elementwise.{AreChanged}
 use Rattle.grids.specs.declared.merges.BothCounts.{BothCounts}
 use Rattle.planes.specs.Planes.{cell, most_ahead, number_raised, total_above, ArePlanesChanged}
-use Rattle.version_tables.specs.Views.{VersionTableView, HistoriesView}
+use Rattle.round_tables.specs.Histories.{HistoriesView}
+use Rattle.version_tables.specs.Views.{VersionTableView}
 use Rattle.version_tables.specs.Laid.{IsVersionTable}
 use Rattle.version_tables.specs.inner.Histories.{bases_in}
 use Rattle.version_tables.specs.inner.Deltas.{AreOfOneSize}

@@ -5,7 +5,8 @@ use Rattle.bench_types.specs.declared.exchanges.DigestKind.{DigestKind}
 use Rattle.model.specs.calls.OwnerListView.{all_writes}
 use Rattle.planes.specs.Planes.{cell, number_ahead, total_above, HasEach, HasEachPlace}
 use Rattle.grids.specs.declared.grids.Masked.{Masked}
-use Rattle.version_tables.specs.Views.{VersionTableView, HistoriesView, IsKept}
+use Rattle.round_tables.specs.Histories.{HistoriesView}
+use Rattle.version_tables.specs.Views.{VersionTableView, IsKept}
 use Rattle.version_tables.specs.declared.deltas.DeltaMarks.{DeltaMarks}
 use Rattle.version_tables.specs.declared.deltas.Offered.{Offered}
 use Rattle.delta_plans.specs.declared.marked.First.{First}

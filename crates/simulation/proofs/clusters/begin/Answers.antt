@@ -1,38 +1,43 @@
-use Rattle.simulation.proofs.Common.{map, sym, ap, ◌∙◌, subst, arith}
+use Rattle.simulation.proofs.Common.{map, sym, ap, ◌∙◌, subst, arith, AreWrittenBy, HistoriesView}
 use Rattle.simulation.proofs.Begun.{begun_next, begun_all}
-use Rattle.simulation.proofs.Standing.{written_by}
+use Rattle.simulation.proofs.Standing.{next_round, still_ended, written_by}
 use Rattle.simulation.specs.calls.Standing.{StandAfterRound}
-use Rattle.simulation.specs.inner.Steps.{begun_table}
+use Rattle.simulation.specs.inner.Steps.{HaveEnded, begun_table}
 use Rattle.simulation.proofs.clusters.begin.Goals as goal
 
 pub loop-node-preserved : goal.loop-node-preserved
 loop-node-preserved g c = (
   begun_next g.T.MemoryTable.table c.args.scenario.now c.args.round (map g.T.MemoryTable.table c.args.tables.items) c.loop-node.tables.items
-      (g.K.RoundHistories.lists c.loop-node.histories) c.loop-node.node c.loop-node.invariant.0
+      (g.K.RoundHistories.kept c.loop-node.histories).lists c.loop-node.node c.loop-node.invariant.0
       (omega (arith, c.loop-node-test.true, c.nodes-node-end.ensures.value)) c.index_mut.result.now
-      c.begin_node.new.table (g.K.RoundHistories.lists c.begin_node.new.histories)
+      c.begin_node.new.table (g.K.RoundHistories.kept c.begin_node.new.histories).lists
       (c.in_ok-begin_node.ensures.table ∙ ap (λ t. begun_table c.args.scenario.now c.args.round c.loop-node.node (g.T.MemoryTable.table t))
       c.index_mut.ensures.value) c.in_ok-begin_node.ensures.owner c.in_ok-begin_node.ensures.others.others,
-  c.in_ok-begin_node.ensures.others.ended,
+  still_ended c.in_ok-begin_node.ensures.others.beside c.loop-node.invariant.1,
 )
+
+pub end_writes-requires-clause-left : goal.end_writes-requires-clause-left
+end_writes-requires-clause-left g c = omega (arith, next_round c.requires.round.first c.loop-node.invariant.1, c.requires.round.last)
 
 pub end_writes-requires-clause-written : goal.end_writes-requires-clause-written
 end_writes-requires-clause-written g c =
-    written_by c.args.scenario.now c.args.round _ _ (begun_all _ _ _ _ _ c.loop-node.node c.loop-node.invariant.0
-    (omega (arith, c.loop-node-test.false, c.loop-node.auto.node-end, c.nodes-node-end.ensures.value))).1
+    subst (λ r. AreWrittenBy r (g.K.RoundHistories.kept c.loop-node.histories).lists) (sym (next_round c.requires.round.first c.loop-node.invariant.1))
+    (written_by c.args.scenario.now c.args.round _ _ (begun_all _ _ _ _ _ c.loop-node.node c.loop-node.invariant.0
+    (omega (arith, c.loop-node-test.false, c.loop-node.auto.node-end, c.nodes-node-end.ensures.value))).1)
 
 pub returns-clause-begun : goal.returns-clause-begun
 returns-clause-begun g c =
+    let s = c.args.scenario.now in
     let begun = begun_all _ _ _ _ _ c.loop-node.node c.loop-node.invariant.0 (omega (
       arith,
       c.loop-node-test.false,
       c.loop-node.auto.node-end,
       c.nodes-node-end.ensures.value,
     )) in
+    let kept = sym c.in_ok-end_writes.ensures.kept in
     record {
-      standing = subst (StandAfterRound c.args.scenario.now c.args.round (map g.T.MemoryTable.table c.loop-node.tables.items))
-          (sym c.in_ok-end_writes.ensures.lists) begun.1;
+      standing = subst (λ (h : HistoriesView). StandAfterRound s c.args.round (map g.T.MemoryTable.table c.loop-node.tables.items) h.lists) kept begun.1;
       tables = begun.0;
-      ended = c.in_ok-end_writes.ensures.ended;
+      ended = subst (HaveEnded s c.args.round) kept (record { keys = c.loop-node.invariant.1.keys; rounds = next_round c.requires.round.first c.loop-node.invariant.1 });
       fits = c.in_ok-end_writes.ensures.fits;
     }

@@ -1,6 +1,9 @@
 use Rattle.simulation.proofs.Common.{All, ◌≡◌, ◌+◌, ◌-◌, ◌<◌, ◌^◌, ℕ, List, length, map, ap, sym, ◌∙◌, subst, arith, on_ok_weaker, with_own_writes, OwnWrite, generation_upto, count_before, own_writes, born_in, Settings, written, list_of_owner, AreBornBy, born-later}
-use Rattle.simulation.specs.inner.Steps.{HasWritten}
-use Rattle.simulation.proofs.Standing.{beside_own, next_own, may_write_own, owner_written}
+use Rattle.simulation.specs.calls.Standing.{IsOwner}
+use Rattle.simulation.specs.inner.InMemory.{WritesIn}
+use Rattle.simulation.specs.inner.Steps.{HasWritten, MayWriteOwn}
+use Rattle.simulation.proofs.Standing.{beside_own, next_own, next_round, may_write_own, owner_written, still_ended}
+use Rattle.simulation.proofs.clusters.begin_node.Given as given
 use Rattle.simulation.proofs.clusters.begin_node.Goals as goal
 
 -- the writes as they are lent
@@ -14,10 +17,13 @@ pub write_own-requires-clause-may : goal.write_own-requires-clause-may
 write_own-requires-clause-may g c _ _ =
     let owner = c.restart.ensures.owner in
     let t = g.T.MemoryTable.table c.restart.new.table in
-    let lists = g.K.RoundHistories.lists c.restart.new.histories in
+    let h = g.K.RoundHistories.kept c.restart.new.histories in
+    let lists = h.lists in
+    let ended = still_ended c.restart.ensures.others.beside c.requires.before.ended in
     let writes = made c.args.scenario.now c.args.node c.args.round _ _ _ _ c.as_slice.ensures.value c.writes_by-writes.ensures.value c.count.ensures in
-    record {
+    subst (λ r. MayWriteOwn g.K.RoundHistories.may_write r c.as_slice.result.now t h) (sym (next_round c.requires.round.first ended)) (record {
       owner = omega (arith, owner.table.node, c.restart.ensures.others.others.count, c.requires.before.node.one_each, c.requires.before.node.node);
+      as_many_keys = owner.table.keys ∙ sym ended.keys;
       proper = owner.proper;
       keys = subst (All (λ (w : OwnWrite). w.key < t.keys)) (sym c.as_slice.ensures.value)
           (subst (λ keys. All (λ (w : OwnWrite). w.key < keys) c.writes_by-writes.result) (sym owner.table.keys) c.writes_by-writes.ensures.keys);
@@ -29,28 +35,30 @@ write_own-requires-clause-may g c _ _ =
       beside = beside_own c.args.scenario.now c.args.node _ _ _ _ t lists owner;
       born = subst (λ m. AreBornBy c.args.round (written (list_of_owner lists m))) (sym owner.table.node)
           (born-later (c.args.round - 1) c.args.round (written (list_of_owner lists c.args.node)) (omega arith) owner.born);
-    }
+    })
 
 -- what the writes leave
+module _ (g : given.Over) (c : goal.After-write_own g) (is : WritesIn g.T.MemoryTable.table g.K.RoundHistories.kept c.as_slice.result.now c.restart.new.table c.write_own.new.table c.restart.new.histories c.write_own.new.histories) where
+  left : IsOwner c.args.scenario.now c.args.round c.args.node (g.T.MemoryTable.table c.write_own.new.table) (list_of_owner (g.K.RoundHistories.kept c.write_own.new.histories).lists c.args.node)
+      × (g.T.MemoryTable.table c.write_own.new.table ≡ with_own_writes (g.T.MemoryTable.table c.restart.new.table) (own_writes c.args.scenario.now c.args.node c.args.round (count_before c.args.scenario.now c.args.node c.args.round)))
+  left =
+      let next = next_round c.requires.round.first (still_ended c.restart.ensures.others.beside c.requires.before.ended) in
+      owner_written c.args.scenario.now c.args.round c.args.node _ _ _ _ c.as_slice.result.now c.requires.round.first c.as_slice.ensures.limit
+      c.restart.ensures.owner
+      (subst (λ r. HasWritten r c.as_slice.result.now (g.T.MemoryTable.table c.restart.new.table) (g.T.MemoryTable.table c.write_own.new.table)
+      (list_of_owner (g.K.RoundHistories.kept c.restart.new.histories).lists c.args.node) (list_of_owner (g.K.RoundHistories.kept c.write_own.new.histories).lists c.args.node)) next
+      (subst (λ m. HasWritten ((g.K.RoundHistories.kept c.restart.new.histories).rounds + 1) c.as_slice.result.now (g.T.MemoryTable.table c.restart.new.table) (g.T.MemoryTable.table c.write_own.new.table)
+      (list_of_owner (g.K.RoundHistories.kept c.restart.new.histories).lists m) (list_of_owner (g.K.RoundHistories.kept c.write_own.new.histories).lists m)) c.restart.ensures.owner.table.node is))
+      (made c.args.scenario.now c.args.node c.args.round _ _ _ _ c.as_slice.ensures.value c.writes_by-writes.ensures.value c.count.ensures)
+
 pub returns-clause-owner : goal.returns-clause-owner
-returns-clause-owner g c =
-    on_ok_weaker c.write_own.result
-    (λ is. (owner_written c.args.scenario.now c.args.round c.args.node _ _ _ _ c.as_slice.result.now c.requires.round.first c.as_slice.ensures.limit
-    c.restart.ensures.owner (subst (λ m. HasWritten c.args.round c.as_slice.result.now (g.T.MemoryTable.table c.restart.new.table)
-    (g.T.MemoryTable.table c.write_own.new.table) (list_of_owner (g.K.RoundHistories.lists c.restart.new.histories) m)
-    (list_of_owner (g.K.RoundHistories.lists c.write_own.new.histories) m)) c.restart.ensures.owner.table.node is)
-    (made c.args.scenario.now c.args.node c.args.round _ _ _ _ c.as_slice.ensures.value c.writes_by-writes.ensures.value c.count.ensures)).0)
-    c.write_own.ensures.written
+returns-clause-owner g c = on_ok_weaker c.write_own.result (λ is. (left g c is).0) c.write_own.ensures.written
 
 pub returns-clause-table : goal.returns-clause-table
 returns-clause-table g c =
     on_ok_weaker c.write_own.result
     (λ is.
-    (owner_written c.args.scenario.now c.args.round c.args.node _ _ _ _ c.as_slice.result.now c.requires.round.first c.as_slice.ensures.limit
-    c.restart.ensures.owner (subst (λ m. HasWritten c.args.round c.as_slice.result.now (g.T.MemoryTable.table c.restart.new.table)
-    (g.T.MemoryTable.table c.write_own.new.table) (list_of_owner (g.K.RoundHistories.lists c.restart.new.histories) m)
-    (list_of_owner (g.K.RoundHistories.lists c.write_own.new.histories) m)) c.restart.ensures.owner.table.node is)
-    (made c.args.scenario.now c.args.node c.args.round _ _ _ _ c.as_slice.ensures.value c.writes_by-writes.ensures.value c.count.ensures)).1
+    (left g c is).1
     ∙ ap (λ t. with_own_writes t (own_writes c.args.scenario.now c.args.node c.args.round (count_before c.args.scenario.now c.args.node c.args.round)))
     c.restart.ensures.table)
     c.write_own.ensures.written

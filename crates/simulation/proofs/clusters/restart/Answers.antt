@@ -6,7 +6,7 @@ use Rattle.simulation.proofs.clusters.restart.Goals as goal
 pub forget-requires : goal.forget-requires
 forget-requires g c =
     let is = c.requires.node.owner in
-    let lists = g.K.RoundHistories.lists c.args.histories.now in
+    let lists = (g.K.RoundHistories.kept c.args.histories.now).lists in
     record {
       may = record {
         owner = omega (arith, is.table.node, c.requires.node.node, c.requires.node.one_each);
@@ -18,10 +18,10 @@ forget-requires g c =
 pub returns-then-forgets_now-clause-owner : goal.returns-then-forgets_now-clause-owner
 returns-then-forgets_now-clause-owner g c =
     let s = c.args.scenario.now in
-    let old = g.K.RoundHistories.lists c.args.histories.now in
-    let new = g.K.RoundHistories.lists c.forget.new.self in
+    let old = (g.K.RoundHistories.kept c.args.histories.now).lists in
+    let new = (g.K.RoundHistories.kept c.forget.new.self).lists in
     let list : list_of_owner new c.args.node ≡ begun_generation (list_of_owner old c.args.node) =
-    subst (λ m. list_of_owner new m ≡ begun_generation (list_of_owner old m)) c.requires.node.owner.table.node c.forget.ensures.lists.changed in
+    subst (λ m. list_of_owner new m ≡ begun_generation (list_of_owner old m)) c.requires.node.owner.table.node c.forget.ensures.kept.lists.changed in
     subst (λ t. HasRestarted s c.args.round c.args.node t (list_of_owner new c.args.node)) (sym c.forget.ensures.table)
     (subst (HasRestarted s c.args.round c.args.node (without_all (g.T.MemoryTable.table c.args.table.now))) (sym list)
     (restarted_forgot s c.args.round c.args.node c.requires.first (g.T.MemoryTable.table c.args.table.now) (list_of_owner old c.args.node)
@@ -30,7 +30,7 @@ returns-then-forgets_now-clause-owner g c =
 pub returns-then-restarts_now-clause-owner : goal.returns-then-restarts_now-clause-owner
 returns-then-restarts_now-clause-owner g c =
     let s = c.args.scenario.now in
-    let list = list_of_owner (g.K.RoundHistories.lists c.args.histories.now) c.args.node in
+    let list = list_of_owner (g.K.RoundHistories.kept c.args.histories.now).lists c.args.node in
     subst (λ t. HasRestarted s c.args.round c.args.node t list) (sym c.restart.ensures)
     (restarted_kept s c.args.round c.args.node c.requires.first (g.T.MemoryTable.table c.args.table.now) list c.requires.node.owner
     (sym c.forgets_now.ensures ∙ c.if-forgets_now.false))

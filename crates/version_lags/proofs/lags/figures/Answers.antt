@@ -15,12 +15,12 @@ greatest-requires g c =
     let number = g.N.Number.number in
     let whole = c.in_ok-whole.whole in
     let are = c.requires.are.1 in
-    let lags : Lags g.row.N.Denot = record { numbers = c.args.numbers.now; least = c.deref.result; round = c.args.round } in
+    let lags : Lags g.row.N.Denot = record { numbers = c.args.numbers.now; least = c.deref.result } in
     may-walk number g.N.Number.most lags c.requires.are.0 are whole.stale whole.leftover (map number whole.least.items) (ap (map number) (sym c.deref.ensures.value)) c.in_ok-whole.ensures.0
 
 pub returns-clause-figures : goal.returns-clause-figures
 returns-clause-figures g c tables are =
     let number = g.N.Number.number in
     let whole = c.in_ok-whole.whole in
-    let lags : Lags g.row.N.Denot = record { numbers = c.args.numbers.now; least = c.deref.result; round = c.args.round } in
+    let lags : Lags g.row.N.Denot = record { numbers = c.args.numbers.now; least = c.deref.result } in
     figures-are number g.N.Number.most lags tables are whole.stale whole.leftover (map number whole.least.items) (ap (map number) (sym c.deref.ensures.value)) c.in_ok-whole.ensures.0 c.in_ok-greatest.greatest c.in_ok-greatest.ensures.lag

@@ -34,5 +34,5 @@ loop-owner-preserved-then-is_upto g c =
     let after = leb-true (number c.index-row-owner.result) (number c.index-first.result.now) (sym c.is_upto.ensures ∙ c.if-is_upto.true) in
     let lag = λ (q : ℕ). most_lag number lags q (list_of_owner lists q) in
     let upto = lag-recent walks since (cell (map number lags.numbers.ends.numbers.now) (length lists) r since) c.loop-owner.greatest
-    (c.requires.are.ends.are_ends.parts r since lt c.if-since-numbers.true) (omega (arith, after, read, ends.each r lt)) (omega (arith, c.saturating_sub-since.ensures)) in
+    (c.requires.are.ends.are_ends.parts r since lt (omega (arith, c.saturating_sub-since.ensures))) (omega (arith, after, read, ends.each r lt)) (omega (arith, c.saturating_sub-since.ensures)) in
     most-next lag r c.loop-owner.greatest (lag r) c.loop-owner.greatest c.loop-owner.invariant (omega (arith, upto)) refl

@@ -1,12 +1,13 @@
-use Rattle.version_tables.proofs.Common.{ap, arith, on_ok_weaker, Entry, numbered-placed, all_writes}
+use Rattle.version_tables.proofs.Common.{ap, arith, on_ok_weaker, subst, sym, Entry, numbered-placed, all_writes, AreWrittenBy, HistoriesView}
 use Rattle.version_tables.proofs.carrying.HistoriesRoundHistoriesVersionTable.end_writes.Goals as goal
 
 pub returns-clause-fits : goal.returns-clause-fits
 returns-clause-fits g c =
     let h = c.end_round.new.self in
     let known = c.end_round.ensures.known in
-    let written = rw (← c.end_round.ensures.lists) at c.requires.written in
-    on_ok_weaker c.end_round.result (λ ended t standing. record {
+    on_ok_weaker c.end_round.result (λ ended t standing.
+    let written = subst (λ (k : HistoriesView). AreWrittenBy k.rounds k.lists) (sym ended) c.requires.written in
+    record {
       known = known;
       among = record {
         proper = standing.proper;
@@ -16,7 +17,7 @@ returns-clause-fits g c =
           first = (known.so_far owner).made.first;
           last = λ number e is.
               let at = numbered-placed (all_writes h.lists owner) number e is in
-              omega (arith, ended, c.requires.ended, c.requires.first, written.born owner at.place e at.within, ap (λ (x : Entry). x.born) (at.there e));
+              omega (arith, written.born owner at.place e at.within, ap (λ (x : Entry). x.born) (at.there e));
         };
       };
     }) c.end_round.ensures.ok

@@ -1,4 +1,4 @@
-use Rattle.version_tables.proofs.Common.{rules, ◌≡◌, ◌+◌, ◌*◌, ◌<◌, length, map, set, ap, subst, sym, transport, ◌∙◌, arith, set-get_or, all_writes, list_of_owner, next_entry, with_write, ListBecomes, HistoriesView, IsWriteUnder}
+use Rattle.version_tables.proofs.Common.{rules, ◌≡◌, ◌+◌, ◌*◌, ◌<◌, length, map, refl, set, ap, subst, sym, ◌∙◌, arith, set-get_or, all_writes, list_of_owner, next_entry, with_write, ListBecomes, HistoriesView, HistoryBecomes, IsWriteUnder}
 use Rattle.version_tables.proofs.HistoryCalls.{count-read, histories-written, list-becomes, numbers-set}
 use Rattle.version_tables.proofs.histories.Histories.write.Given as given
 use Rattle.version_tables.proofs.histories.Histories.write.Goals as goal
@@ -10,19 +10,17 @@ module _ (g : given.Over) (c : goal.After-self-3-1 g) where
   counted : g.N.Number.number c.plus-number.result ≡ length (all_writes c.self.inside.lists.items c.args.owner) + 1
   counted = c.plus-number.ensures ∙ ap (λ n. n + 1) (count-read g.N.Number.number c.self.inside.counts.items c.self.invariant c.args.owner c.index.result.now in_range c.index.ensures)
 
-  becomes : ListBecomes c.args.owner (with_write (list_of_owner c.self.inside.lists.items c.args.owner) c.args.key c.args.value c.args.born) c.self.inside.lists.items (set c.self.inside.lists.items c.args.owner c.write.new.self)
-  becomes = list-becomes c.self.inside.lists.items c.args.owner c.index_mut.result.now c.write.new.self (λ v. with_write v c.args.key c.args.value c.args.born) in_range c.index_mut.ensures.value c.in_ok-write.ensures.ok
+  becomes : ListBecomes c.args.owner (with_write (list_of_owner c.self.inside.lists.items c.args.owner) c.args.key c.args.value (c.self.inside.rounds + 1)) c.self.inside.lists.items (set c.self.inside.lists.items c.args.owner c.write.new.self)
+  becomes = list-becomes c.self.inside.lists.items c.args.owner c.index_mut.result.now c.write.new.self (λ v. with_write v c.args.key c.args.value (c.self.inside.rounds + 1)) in_range c.index_mut.ensures.value c.in_ok-write.ensures.ok
 
 pub invariant_of-self-2 : goal.invariant_of-self-2
 invariant_of-self-2 g c =
     let lists = c.self.inside.lists.items in
     let owner = c.args.owner in
     let count : c.len-nodes.result ≡ length lists = search rules in
-    let born : c.args.born ≡ c.self.inside.rounds + 1 = subst (λ (h : HistoriesView). c.args.born ≡ h.rounds + 1) (sym c.self.view_is) c.requires.born in
-    histories-written c.self.invariant (set lists owner c.write.new.self) owner (in_range g c) c.args.key c.args.value _ _
-    (subst (λ b. ListBecomes owner (with_write (list_of_owner lists owner) c.args.key c.args.value b) lists (set lists owner c.write.new.self)) born (becomes g c))
-    (transport (λ i. IsWriteUnder g.H.Written.lists g.N.Number.most owner (length (all_writes (sym c.self.view_is i).lists owner) + 1) (next_entry (list_of_owner (sym c.self.view_is i).lists owner) c.args.key c.args.value (born i))) c.requires.under)
-    c.requires.key
+    histories-written c.self.invariant (set lists owner c.write.new.self) owner (in_range g c) c.args.key c.args.value _ _ (becomes g c)
+    (subst (λ (h : HistoriesView). IsWriteUnder g.H.Written.lists g.N.Number.most owner (length (all_writes h.lists owner) + 1) (next_entry (list_of_owner h.lists owner) c.args.key c.args.value (h.rounds + 1))) (sym c.self.view_is) c.requires.under)
+    (subst (λ (h : HistoriesView). c.args.key < h.keys) (sym c.self.view_is) c.requires.key)
     (numbers-set g.N.Number.number _ owner c.plus-number.result _ (counted g c))
     (numbers-set g.N.Number.number _ (c.args.key * c.len-nodes.result + owner) c.plus-number.result _ (counted g c)
     ∙ ap (λ n. set (map g.N.Number.number c.self.inside.lasts.items) (c.args.key * n + owner) (length (all_writes lists owner) + 1)) count)
@@ -30,9 +28,10 @@ invariant_of-self-2 g c =
 pub returns-clause-number : goal.returns-clause-number
 returns-clause-number g c = subst (λ (h : HistoriesView). g.N.Number.number c.plus-number.result ≡ length (all_writes h.lists c.args.owner) + 1) c.self.view_is (counted g c)
 
-pub returns-clause-lists : goal.returns-clause-lists
-returns-clause-lists g c =
-    subst (λ (h : HistoriesView). ListBecomes c.args.owner (with_write (list_of_owner h.lists c.args.owner) c.args.key c.args.value c.args.born) h.lists (set c.self.inside.lists.items c.args.owner c.write.new.self)) c.self.view_is (becomes g c)
+pub returns-clause-ok : goal.returns-clause-ok
+returns-clause-ok g c =
+    subst (λ (h : HistoriesView). HistoryBecomes c.args.owner (with_write (list_of_owner h.lists c.args.owner) c.args.key c.args.value (h.rounds + 1)) h (record { lists = set c.self.inside.lists.items c.args.owner c.write.new.self; keys = c.self.inside.keys; rounds = c.self.inside.rounds })) c.self.view_is
+    (record { lists = becomes g c; beside = record { keys = refl; rounds = refl } })
 
 pub plus-number-requires : goal.plus-number-requires
 plus-number-requires g c =

@@ -7,7 +7,8 @@ from pathlib import Path
 from typing import NamedTuple
 
 import trials
-from gossip_tools import advise, answer, cluster, rules, target
+from gossip_tools import advise, cluster, healing, rules, target
+from gossip_tools.measures import span
 from gossip_tools.study import Study
 
 FRESH, JUDGING = tuple(range(1001, 1063)), 20
@@ -35,7 +36,7 @@ class Told(NamedTuple):
         return self.bound > max(1.3 * likely, likely + 2)
 
     def __str__(self):
-        return (f"{self.name} {self.bound}: fresh {answer.span(self.fresh)} tell {rules.bound_of(self.fresh)}, "
+        return (f"{self.name} {self.bound}: fresh {span(self.fresh)} tell {rules.bound_of(self.fresh)}, "
                 f"exceeded {self.exceeded()} of {JUDGING}{', loose' if self.is_loose() else ''}")
 
 
@@ -65,10 +66,10 @@ def times(it, stages, pair, seeds=None):
     """The rounds until all is over, under each seed, by what heals, and to wait after a restart."""
     budget, mode = pair
     found = {stage: stages.carry_out(stage, {pair}, seeds) for stage in it.healing_stages()}
-    healing = answer.Healing(it, mode, found)
-    taken = {what: healing.taken(what, budget) for what in it.heals()}
+    heals = healing.Healing(it, mode, found)
+    taken = {what: heals.taken(what, budget) for what in it.heals()}
     if it.leaves():
-        taken["wait"] = answer.latest(taken[what] for what in it.leaves())
+        taken["wait"] = healing.latest(taken[what] for what in it.leaves())
     return {what: [math.inf if rounds is None else rounds for rounds in of_seeds] for what, of_seeds in taken.items()}
 
 

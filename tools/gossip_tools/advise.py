@@ -7,6 +7,7 @@ import tomllib
 from fractions import Fraction
 
 from gossip_tools import answer, cluster, files, page, rules, running, scenario, study, sweep, target
+from gossip_tools.healing import Healing
 from gossip_tools.commands import Refused, folder_of, the_program, workers
 from gossip_tools.progress import Progress, in_words
 from gossip_tools.words import THE_PROGRAM, Tool, Word
@@ -253,7 +254,7 @@ class Stages:
         for stage in self.study.healing_stages():
             self.carry_out(stage, {taken})
             found[stage] = self.carry_out(stage, {taken, most}, rules.BOUNDING_FIRST)
-        return answer.Healing(self.study, decision.mode, found)
+        return Healing(self.study, decision.mode, found)
 
 
 def look(folder):
@@ -307,7 +308,7 @@ def first_answer(it, stages, told, check_sum):
         return first
     is_level = stages.is_level(first)
     about_target = [f"The target is {target.judged(first)[1]}."] if it.target else []
-    told.tell(first.bound.lines() + (about_target if is_level else []))
+    told.tell([first.bound.added(), *(about_target if is_level else [])])
     if not is_level:
         return first
     stages.expect(first, first.stage, *it.healing_stages())
@@ -315,8 +316,8 @@ def first_answer(it, stages, told, check_sum):
     for tells, of_these in it.healing_groups():
         for stage in of_these:
             healed[stage] = stages.carry_out(stage, {(first.budget, first.mode)})
-        told.tell(answer.Healing(it, first.mode, healed).lines_of(tells, first.budget))
-    healing = answer.Healing(it, first.mode, healed) if healed else None
+        told.tell(Healing(it, first.mode, healed).lines(tells, first.budget))
+    healing = Healing(it, first.mode, healed) if healed else None
     page.make(stages.folder, first, healing, stages.made, check_sum, head="First answer. ")
     told.tell(answer.last_of_first_words(first, stages.folder))
     return first
@@ -326,9 +327,9 @@ def bounded_decision(it, stages, decision):
     """What is decided and bounded by runs in which `greatest` is level: the first answer, or what follows from more
     intervals, up to the most."""
     while not (decision.suffices and stages.is_level(decision)):
-        later = it.steady_stages()[it.steady_stages().index(decision.stage) + 1:]
+        later = it.later_stages(decision.stage)
         if not later:
-            decision.give_up()
+            decision.suffices, decision.budget = False, decision.most
             break
         decision = stages.decide_in_time(later, it.wanted(decision.mode), decision)
     return decision
@@ -379,8 +380,8 @@ def study_of(it, folder, program, check_sum):
     stages, told = Stages(it, folder, program), Told(folder)
     if it.told["packet"] is None:
         return smallest_packet(it, stages, check_sum)
-    if sum_says := answer.at_least(it):
-        told.tell(sum_says)
+    if it.least_rounds():
+        told.tell([f"By a sum, of the worst staleness: {it.why_at_least()}."])
     first = first_answer(it, stages, told, check_sum)
     print(flush=True)
     was_enough = bool(first.bound and first.bound.is_level())

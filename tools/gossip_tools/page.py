@@ -1,10 +1,11 @@
 """The page of an answer, report.html: one file that needs no network, to be looked at before it is read."""
 import base64
 import html
-import math
 import re
 
-from gossip_tools import answer, cluster, files, plots, read, rules
+from gossip_tools import answer, cluster, files, measures, plots, read, rules
+from gossip_tools.healing import ENDS, HEALED, ROLLING
+from gossip_tools.measures import in_rounds, lasting, span, unit
 
 # (on paper the page is light, whatever the screen is; pictures, which are drawn on white, are turned dark, and their
 # colours stay what they are)
@@ -65,13 +66,14 @@ def listed(head, said, kind=""):
 def cards(decision, healing, more):
     """The decision in a few large words."""
     it, budget = decision.study, decision.whole_budget()
-    of_budget = f"{math.ceil(budget * it.told['entry'])} bytes, {decision.times()}"
+    of_budget = f"{decision.bytes()} bytes, {decision.times()}"
     if decision.suffices:
         of_budget += f"; packet={decision.packet()}"
-        rounds, _, time = answer.lasting(it, [decision.most_rounds()]).partition(", ")
-        kind = "first" if decision.is_taken() and not decision.is_too_small() else "none"
-        holds_in = decision.bound.holds_in() if decision.bound else ""
-        of_worst = "; ".join(filter(None, (time, holds_in, decision.reckon())))
+        rounds, _, time = lasting(it, [decision.most_rounds()]).partition(", ")
+        kind = "first" if decision.is_met and not decision.is_too_small() else "none"
+        of_worst = "; ".join(measures.told(
+            time, decision.bound and decision.bound.holds_in(),
+            it.parts > 1 and f"{it.nodes} nodes run; reckon with {decision.at_most()}"))
         rows = [("mode", decision.mode, "", kind), ("budget", f"{budget} entries", of_budget, kind),
                 ("worst staleness", f"at most {rounds}", of_worst, "")]
     else:
@@ -80,15 +82,15 @@ def cards(decision, healing, more):
     if decision.is_too_small() or not decision.suffices and decision.to_knee():
         rows.append(("enough", f"{it.packet(decision.mode)} bytes", decision.to_knee(), "first"))
     if decision.floor:
-        rows.append((answer.FLOOR, answer.in_rounds(decision.floor), decision.above_floor(), ""))
+        rows.append((answer.FLOOR, in_rounds(decision.floor), decision.above_floor(), ""))
     rows += [(name, *said.partition(": ")[::2], "none" if said.startswith("not met") else "") for name, said in more]
-    rows.append(("share cut", f"{answer.span(decision.cut, 2)}\u00a0%", "of what was lacking", ""))
+    rows.append(("share cut", f"{span(decision.cut, 2)}\u00a0%", "of what was lacking", ""))
     for stage in it.heals() if healing else ():
-        name = f"{answer.HEALED[stage]} is {answer.ENDS[stage]} after"
+        name = f"{HEALED[stage]} is {ENDS[stage]} after"
         rows.append((name, *healing.in_words(stage, decision.budget), ""))
     if healing and it.leaves():
         words, _, more = healing.wait(decision.budget).partition(": ")[0].partition(", ")
-        rows.append((answer.ROLLING, words, more, ""))
+        rows.append((ROLLING, words, more, ""))
     columns, broad = layout([len(name) + len(words) + len(more) for name, words, more, _ in rows])
     said = "".join(f'<div class="{" ".join(filter(None, (kind, "broad" * (at in broad))))}">{told(name)}'
                    f"<b>{told(words)}</b>{told(more)}</div>" for at, (name, words, more, kind) in enumerate(rows))
@@ -107,11 +109,10 @@ def layout(letters):
 def below_the_cards(decision, healing):
     """What other budgets bring, and what the rounds of healing are."""
     no_floor = f"{answer.FLOOR}: {decision.above_floor()}".capitalize() if decision.floor == [] else ""
-    said = [decision.tells_all() if decision.suffices else "", no_floor, decision.reserve(), decision.why_not_knee()]
-    said = [it for it in said if it]
-    if healing:
-        said += [f"With the reserve: {healing.with_reserve(decision)}"] if healing.has_reserve(decision) else []
-        said.append(healing.counted())
+    said = measures.told(
+        decision.suffices and decision.tells_all(), no_floor, decision.reserve(), decision.why_not_knee(),
+        healing and healing.has_reserve(decision) and f"With the reserve: {healing.with_reserve(decision)}",
+        healing and healing.counted())
     return "".join(f"<p><small>{told(it)}</small></p>" for it in said)
 
 
@@ -145,10 +146,10 @@ def captions_of_healing(it, mode):
     each, _ = it.restarting()
     band = "The line has the seed in the middle, bars go from the least to the most of the seeds"
     return {
-        "split": f"After a split of half of the nodes for {it.split} {answer.unit(it)}, whose last round is 0, in "
+        "split": f"After a split of half of the nodes for {it.split} {unit(it)}, whose last round is 0, in "
                  f"{mode}. {band}.",
         "restart": f"After {each if it.restarts else 'one'} node{'s' if each > 1 else ''} restarted"
-                   f"{f' in each of some {answer.unit(it)}' if it.restarts else ''}, the last in round 0. A restarted "
+                   f"{f' in each of some {unit(it)}' if it.restarts else ''}, the last in round 0. A restarted "
                    "node lacks the writes of round 1, so `greatest` is the number of the round until it has caught up. "
                    f"{band}.",
         "forgotten": "What others still hold of forgotten states: at 1 all other nodes still hold one node's whole old "
@@ -186,8 +187,8 @@ def table(decision):
                 continue
             level = "" if decision.found.suffices(budget, mode, window) else " not level"
             chosen = "chosen" if decision.suffices and (budget, mode) == (decision.budget, decision.mode) else ""
-            text += (f'<td class="{chosen}">{answer.span(decision.worst_with(budget, mode))}{level}<br>'
-                     f"<small>{answer.span(decision.found.cut(budget, mode, window), 2)} %</small></td>")
+            text += (f'<td class="{chosen}">{span(decision.worst_with(budget, mode))}{level}<br>'
+                     f"<small>{span(decision.found.cut(budget, mode, window), 2)} %</small></td>")
         text += "</tr>"
     return f'<div class="wide"><table><thead>{head}</thead><tbody>{text}</tbody></table></div>'
 
@@ -237,7 +238,7 @@ they bring is bounded by others, {rules.IN_MOST} runs.</p>
 {pictures(folder, decision, healing)}
 <h2>Worst staleness and share cut</h2>
 <p class="before-table">In rounds {first} to {last}, by budget in entries and mode.{not_level(decision)} A field is
-empty where its runs could change nothing: {decision.why_empty()}.</p>
+empty where its runs could change nothing: {decision.why_empty}.</p>
 {table(decision)}
 {listed("Too close to call", decision.too_close())}
 {listed("Left out for this cluster", answer.left_out(decision))}

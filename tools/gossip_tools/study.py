@@ -16,6 +16,8 @@ What is run is only what may change the answer, and what no budget can better: o
 others does. What heals is run with the budget that is taken, and in the end with all that fits too, where that is more.
 An interval has as many rounds as a node calls others in it, and writes in the first of them.
 """
+import math
+import statistics
 from fractions import Fraction
 
 from gossip_tools import cluster, read, rules, scenario
@@ -57,28 +59,26 @@ class Study:
         if self.parts > 1 and self.usual != scenario.USUAL_MODE:
             raise cluster.Refused(f"{told['nodes']} nodes are more than a scenario takes, and a tenth of them says "
                                   f"little but in {scenario.USUAL_MODE}: leave out mode={self.usual}.")
-        it = dict(told)
-        if told["shared"] == "no":
-            it["digest"] = 0
-        it["nodes"] = int(told["nodes"]) // self.parts
-        if cluster.is_too_large(it["nodes"], it["keys"]):
+        self.all_nodes, self.keys, self.writes = int(told["nodes"]), int(told["keys"]), int(told["writes"])
+        self.nodes = self.all_nodes // self.parts
+        if cluster.is_too_large(self.nodes, self.keys):
             raise cluster.Refused("a tenth of these nodes is still too large for a scenario, which takes 4096 nodes "
                                   f"and {scenario.MOST_TRIPLES} of nodes * nodes * keys.")
-        scenario.limited("nodes", it["nodes"])
-        self.nodes, self.keys, self.writes = it["nodes"], int(it["keys"]), int(it["writes"])
+        scenario.limited("nodes", self.nodes)
         self.fanout, self.seconds = int(told["fanout"]), told["interval"] / told["fanout"]
-        self.knee = max(LEAST, rules.knee(self.nodes, self.keys, self.writes, self.fanout))
-        self.knee_of_all = max(LEAST, rules.knee(int(told["nodes"]), self.keys, self.writes, self.fanout))
+        self.knee, self.knee_of_all = (max(LEAST, rules.knee(nodes, self.keys, self.writes, self.fanout))
+                                       for nodes in (self.nodes, self.all_nodes))
         product = "nodes * writes" if self.writes <= self.keys else "nodes * keys"
         self.knee_name = product + (f" / {self.fanout}" if self.fanout > 1 else "")
-        self.rooms = {mode: self.room(it, mode) / self.parts for mode in scenario.MODES}
+        # whether the digest takes some of the packet
+        self.shares = told["shared"] == "yes" and bool(told["digest"])
+        self.rooms = {mode: self.room(mode) / self.parts for mode in scenario.MODES}
         modes = (self.usual,) if told["mode"] or self.parts > 1 else scenario.MODES
-        most = scenario.LIMITS["budget"][1]
         room = self.knee if told["packet"] is None else max(self.rooms[it] for it in modes)
         count = told["count"] or ("bytes" if rules.counts_bytes(room) else "entries")
         self.in_bytes = count == "bytes"
-        self.fits_of_all = {mode: int(self.room(it, mode)) for mode in modes}
-        self.fits = {mode: min(self.run_of(self.fits_of_all[mode]), most) for mode in modes
+        self.fits_of_all = {mode: int(self.room(mode)) for mode in modes}
+        self.fits = {mode: min(self.run_of(self.fits_of_all[mode]), scenario.LIMITS["budget"][1]) for mode in modes
                      if self.rooms[mode] >= LEAST}
         if self.usual not in self.fits:
             raise cluster.Refused(self.why_none_fits())
@@ -93,20 +93,19 @@ class Study:
         self.loss = int(told["loss"] * 10000)
         self.check_hours()
 
-    def room(self, it, mode):
+    def room(self, mode):
         """The entries that a delta of the whole cluster has room for in this mode; without a packet all that are of
         use."""
         if self.told["packet"] is None:
-            return int(self.told["nodes"]) * self.keys
-        return cluster.room_for_delta(it | {"nodes": int(self.told["nodes"])}, mode) / it["entry"]
+            return self.all_nodes * self.keys
+        return (self.told["packet"] - self.shared_digest(mode)) / self.told["entry"]
 
     def target_of(self, seconds):
         """The rounds of a target, which the longest runs have to be able to show."""
         rounds, most = int(seconds / self.seconds), rules.highest_level(self.window("longest"))
         if not 1 <= rounds <= most:
             raise cluster.Refused(f"target={cluster.plain(seconds)} would be {rounds} rounds of "
-                                  f"{cluster.plain(self.seconds)} s, "
-                                  f"and has to be from 1 to {most} of them.")
+                                  f"{cluster.plain(self.seconds)} s, and has to be from 1 to {most} of them.")
         return rounds
 
     def why_none_fits(self):
@@ -114,7 +113,7 @@ class Study:
         told, whole = self.told, self.knee_of_all
         lacks = f"no room for {LEAST} entries of {cluster.plain(told['entry'])} bytes"
         enough = f"takes packet={self.packet(self.usual)}"
-        if told["shared"] == "no" or not told["digest"]:
+        if not self.shares:
             return f"{told['packet']} bytes have {lacks}: room for {self.knee_name} = {whole} of them {enough}."
         digest, alone = self.digest_bytes(self.usual), int(told["packet"] / told["entry"])
         too_large = f", and the digest still fits no packet of {told['packet']}" if digest > told["packet"] else ""
@@ -128,14 +127,13 @@ class Study:
 
     def least_rounds(self):
         """The rounds that the worst staleness has at least, by a sum; 0 where the sum says nothing."""
-        nodes = int(self.told["nodes"])
-        intervals = rules.least_staleness(self.largest(), nodes, self.keys, self.writes, self.fanout)
+        intervals = rules.least_staleness(self.largest(), self.all_nodes, self.keys, self.writes, self.fanout)
         return max(0, int(intervals * self.fanout))
 
     def why_at_least(self):
         """The sum in words, and how large a packet would have to be."""
-        return (f"each node has {(int(self.told['nodes']) - 1) * self.keys} copies to renew and gets about two deltas "
-                f"of {self.largest()} entries in a round, so it is at least {self.least_rounds()} rounds; room for "
+        return (f"each node has {(self.all_nodes - 1) * self.keys} copies to renew and gets about two deltas of "
+                f"{self.largest()} entries in a round, so it is at least {self.least_rounds()} rounds; room for "
                 f"{self.knee_name} = {self.knee_of_all} entries takes packet={self.packet(self.usual)}")
 
     def steady_stages(self):
@@ -144,36 +142,46 @@ class Study:
         return [it for it in WINDOWS if rules.can_be_level(self.least_rounds(), self.window(it))
                 and not (it == "few" and is_little)]
 
+    def later_stages(self, stage):
+        """Those of them that come after one."""
+        stages = self.steady_stages()
+        return stages[stages.index(stage) + 1:]
+
     def asks_for_healing(self):
         """Whether restarts or a split were asked for."""
         return bool(self.told["restarts"]) or self.told["split"] not in (0, USUAL_SPLIT)
 
+    def digest_numbers(self, mode):
+        """How many numbers a whole digest has."""
+        return scenario.digest_numbers(self.all_nodes, self.keys, mode)
+
     def digest_bytes(self, mode):
-        """The bytes of a whole digest."""
-        return int(scenario.digest_numbers(int(self.told["nodes"]), self.keys, mode) * self.told["digest"])
+        return int(self.digest_numbers(mode) * self.told["digest"])
+
+    def shared_digest(self, mode):
+        """The bytes that it takes of the packet."""
+        return self.digest_bytes(mode) if self.shares else 0
 
     def packet(self, mode, entries=None):
         """The bytes of a packet with room for so many entries of the whole cluster, nodes * writes where it isn't told,
         with the digest where they share it."""
-        digest = self.digest_bytes(mode) if self.told["shared"] == "yes" else 0
-        return -(-(entries or self.knee_of_all) * self.told["entry"] // 1) + digest
+        return math.ceil((entries or self.knee_of_all) * self.told["entry"]) + self.shared_digest(mode)
 
     def tells_all(self):
         """The entries to reckon with in place of nodes * writes where a node tells all its keys as it starts, and the
         sum in words; None where no groups forget."""
         if self.told["forget"] == "no" or not self.told["restarts"]:
             return None
-        nodes = int(self.told["nodes"])
-        writes = nodes * self.writes + int(self.told["restarts"]) * self.keys
-        if writes >= nodes * self.keys:
-            name = "nodes * keys" if self.fanout == 1 else f"nodes * keys / {self.fanout}"
-            return nodes * self.keys // self.fanout, name
-        name = "nodes * writes + restarts * keys"
-        return writes // self.fanout, name if self.fanout == 1 else f"({name}) / {self.fanout}"
+        all_keys, writes = self.all_nodes * self.keys, self.all_nodes * self.writes
+        writes += int(self.told["restarts"]) * self.keys
+        name = "nodes * keys" if writes >= all_keys else "nodes * writes + restarts * keys"
+        if self.fanout > 1:
+            name = f"{name if writes >= all_keys else f'({name})'} / {self.fanout}"
+        return min(writes, all_keys) // self.fanout, name
 
     def run_of(self, entries):
         """A budget of the whole cluster as one of what is run, on the same side of nodes * writes."""
-        run = entries * self.nodes // int(self.told["nodes"])
+        run = entries * self.nodes // self.all_nodes
         return max(run, self.knee) if entries >= self.knee_of_all else min(run, self.knee - 1)
 
     def whole(self, budget):
@@ -182,7 +190,7 @@ class Study:
         if self.parts == 1:
             return budget
         exact = {self.fits.get(self.usual): self.fits_of_all[self.usual],
-                 self.nodes * self.keys: int(self.told["nodes"]) * self.keys}
+                 self.nodes * self.keys: self.all_nodes * self.keys}
         exact |= {self.knee * over // under: self.knee_of_all * over // under for over, under in rules.LOOKED_AT}
         return exact.get(budget, budget * self.knee_of_all // self.knee)
 
@@ -327,10 +335,7 @@ class Study:
 
     def healing_groups(self):
         """The same, by what they tell."""
-        groups = {}
-        for stage, tells in self.healing_stages().items():
-            groups.setdefault(tells, []).append(stage)
-        return groups.items()
+        return grouped((tells, stage) for stage, tells in self.healing_stages().items()).items()
 
     def wanted(self, mode):
         """The budgets and modes that decide: each mode with what it may take, and this one with nodes * writes."""
@@ -351,12 +356,11 @@ class Study:
         """The scenario of a stage. Its budget, mode and seed are other ones in each run."""
         rounds, in_bytes = self.rounds(stage), self.counts_bytes(stage)
         fields = scenario.top(self.nodes, self.keys, rounds, self.writes, self.loss, self.knee + 1, in_bytes)
+        last = self.rounds(STOPS.get(stage, stage))
+        text = scenario.written(fields) + cluster.without_writes(last, self.fanout)
         if stage in STOPS:
-            last = self.rounds(STOPS[stage])
-            return (scenario.written(fields) + cluster.without_writes(last, self.fanout)
-                    + scenario.load(last + 1, rounds, 0))
-        text = scenario.written(fields) + cluster.without_writes(rounds, self.fanout)
-        if stage == "split":
+            text += scenario.load(last + 1, rounds, 0)
+        elif stage == "split":
             text += scenario.partition(0, self.nodes // 2 - 1, self.begins, self.ends(stage))
         elif ONE.get(stage, stage) in HEALED:
             each, _ = self.restarting()
@@ -366,85 +370,85 @@ class Study:
 
     def choices(self, stage, seeds):
         """The choices of values that make the runs of these budgets and modes, each under its seeds, and no others."""
-        modes = {}
-        for (budget, mode), those in sorted(seeds.items()):
-            modes.setdefault((budget, those), set()).add(mode)
-        alike = {}
-        for (budget, those), in_modes in modes.items():
-            alike.setdefault((those, tuple(it for it in scenario.MODES if it in in_modes)), []).append(budget)
-        found = []
-        for (those, in_modes), budgets in alike.items():
-            values = [scenario.budget_field(it, self.counts_bytes(stage)) for it in budgets]
-            found.append({values[0][0]: [str(it) for _, it in values], "seed": [str(it) for it in those],
-                          "mode": list(in_modes)})
-        return found
+        modes = grouped(((budget, those), mode) for (budget, mode), those in sorted(seeds.items()))
+        alike = grouped(((those, tuple(sorted(in_modes, key=scenario.MODES.index))), budget)
+                        for (budget, those), in_modes in modes.items())
+        field = "budget_bytes" if self.counts_bytes(stage) else "budget"
+        return [{field: [self.value(stage, it) for it in budgets], "seed": [str(it) for it in those],
+                 "mode": list(in_modes)} for (those, in_modes), budgets in alike.items()]
+
+    def value(self, stage, budget):
+        """A budget as the runs of a stage name it."""
+        return str(scenario.budget_field(budget, self.counts_bytes(stage))[1])
 
 
 class Found:
     """The runs of a stage that are there: the rows of each seed, by budget in entries and mode."""
 
     def __init__(self, study, stage, folder, seeds):
-        self.before, names = study.before, {}
-        for (budget, mode), those in sorted(seeds.items()):
-            _, value = scenario.budget_field(budget, study.counts_bytes(stage))
-            names[(budget, mode)] = [(str(value), str(seed), mode) for seed in those]
+        self.before = study.before
+        names = {(budget, mode): [(study.value(stage, budget), str(seed), mode) for seed in those]
+                 for (budget, mode), those in sorted(seeds.items())}
         # (others in the folder were read before)
         runs = read.Runs(folder, {name for those in names.values() for name in those})
         self.rows = {pair: [runs.rows[name] for name in those] for pair, those in names.items()}
 
-    def worst(self, budget, mode, window):
-        """The worst staleness in a window, for each seed."""
-        return [max(row["greatest"] for row in read.between(rows, *window)) for rows in self.rows[(budget, mode)]]
+    def windows(self, budget, mode, window):
+        """The rows of a window, for each seed."""
+        return [read.between(rows, *window) for rows in self.rows[(budget, mode)]]
 
-    def cut(self, budget, mode, window):
+    def worst(self, *run):
+        """The worst staleness of a budget and a mode in a window, for each seed."""
+        return list(map(worst, self.windows(*run)))
+
+    def cut(self, *run):
         """The share that was cut, in per cent, for each seed."""
-        return [read.percent_cut(read.between(rows, *window)) for rows in self.rows[(budget, mode)]]
+        return list(map(read.percent_cut, self.windows(*run)))
+
+    def stale(self, *run):
+        """The copies that are stale on average, for each seed."""
+        return [statistics.fmean(row["stale"] for row in rows) for rows in self.windows(*run)]
 
     def uncut(self, window):
         """The worst staleness in a window under each seed of a run that cut nothing up to its end, which no mode and no
         budget goes below. Empty where some seed has none."""
         uncut = [[rows for rows in of_seed if not any(row["cut"] for row in read.between(rows, 1, window[1]))]
                  for of_seed in zip(*self.rows.values())]
-        return [max(row["greatest"] for row in read.between(some[0], *window)) for some in uncut] if all(uncut) else []
-
-    def stale(self, budget, mode, window):
-        """The copies that are stale on average, for each seed."""
-        windows = [read.between(rows, *window) for rows in self.rows[(budget, mode)]]
-        return [sum(row["stale"] for row in rows) / len(rows) for rows in windows]
+        return [worst(read.between(some[0], *window)) for some in uncut] if all(uncut) else []
 
     def half_of_stale_after(self, budget, mode, last, fanout):
         """The intervals after the `last` round with writes until half of the copies that are stale then are so no more,
         for each seed; None where they aren't in these rounds. By docs/study.md half of the stale copies lack only
         writes of so many intervals."""
-        found = []
-        for rows in self.rows[(budget, mode)]:
-            after = rows[last - 1::fanout]
-            found.append(next((at for at, row in enumerate(after) if 2 * row["stale"] <= after[0]["stale"]), None))
-        return found
+        ends = [rows[last - 1::fanout] for rows in self.rows[(budget, mode)]]
+        return [next((at for at, row in enumerate(rows) if 2 * row["stale"] <= rows[0]["stale"]), None)
+                for rows in ends]
 
     def suffices(self, budget, mode, window):
         return rules.suffices(*(self.worst(budget, mode, half) for half in rules.halves(window)), window)
 
-    def levels(self, budget, mode):
-        """Where `greatest` has to be back at, for each seed."""
-        return [rules.healed_level(it) for it in self.worst(budget, mode, self.before)]
-
-    def healed_after(self, budget, mode, ends):
-        """The rounds after `ends` until `greatest` was back at its level, for each seed; None where it never was."""
-        return [rounds_until("greatest", rows, ends, level)
-                for rows, level in zip(self.rows[(budget, mode)], self.levels(budget, mode))]
-
-    def split_healed_after(self, budget, mode, ends):
-        """The same after a split, which begins behind the rounds that tell the level, once `greatest` shows it."""
-        begins = self.before[1] + 1
-        return [rounds_until("greatest", rows, ends, level, rules.shows_split(begins, level))
-                for rows, level in zip(self.rows[(budget, mode)], self.levels(budget, mode))]
-
-    def forgotten_after(self, budget, mode, ends):
-        """The rounds after `ends` until nothing was left over, for each seed."""
-        return [rounds_until("leftover", rows, ends, 0) for rows in self.rows[(budget, mode)]]
+    def healed_after(self, stage, budget, mode, ends):
+        """The rounds after `ends` until what heals in a stage has, for each seed; None where it never has: until
+        `greatest` was back at its level, after a split once it shows that, or until nothing was left over."""
+        found = []
+        for rows, most in zip(self.rows[(budget, mode)], self.worst(budget, mode, self.before)):
+            column, level, first = "greatest", rules.healed_level(most), ends + 1
+            if stage == "split":
+                first = max(first, rules.shows_split(self.before[1] + 1, level))
+            elif stage == "forgotten":
+                column, level = "leftover", 0
+            at = read.first_at_most(column, rows, first, level)
+            found.append(None if at is None else at - ends)
+        return found
 
 
-def rounds_until(name, rows, ends, level, earliest=0):
-    found = read.first_at_most(name, rows, max(ends + 1, earliest), level)
-    return found - ends if found else None
+def worst(rows):
+    return max(row["greatest"] for row in rows)
+
+
+def grouped(pairs):
+    """The values of each key, in their order."""
+    found = {}
+    for key, value in pairs:
+        found.setdefault(key, []).append(value)
+    return found

@@ -9,7 +9,7 @@ target isn't taken for what is usual.
 import math
 
 from gossip_tools import answer, cluster, rules, study
-from gossip_tools.answer import row
+from gossip_tools.measures import briefly, in_rounds, lasting, rows, span, told
 
 # Budgets aren't halved any further where the next smaller one that was run is an entry or less than a hundredth below.
 FINE = 100
@@ -24,7 +24,7 @@ def seconds(it):
 
 def in_time(it):
     """The target, in seconds and in rounds."""
-    return f"{seconds(it)}, or {answer.in_rounds([it.target])}"
+    return f"{seconds(it)}, or {in_rounds([it.target])}"
 
 
 def above_target(it, worst):
@@ -77,12 +77,12 @@ class Ages:
     def at_most(self, budget, mode):
         """How old a typical stale copy is, in words."""
         it, rounds = self.study, self.typical(budget, mode)
-        return f"more than {answer.in_rounds([it.target])}" if rounds is None else answer.lasting(it, rounds)
+        return f"more than {in_rounds([it.target])}" if rounds is None else lasting(it, rounds)
 
     def told(self, budget, mode):
         """Both, as names and words."""
         first, last = self.window
-        share, age = answer.span(self.shares(budget, mode)), self.at_most(budget, mode)
+        share, age = span(self.shares(budget, mode)), self.at_most(budget, mode)
         why = "half of the stale copies lack only writes that are no older"
         if self.typical(budget, mode) is None:
             why = "so long after the last write fewer than half of the stale copies have caught up"
@@ -209,41 +209,30 @@ class Search:
 class Met(answer.Decision):
     """The smallest packet that keeps to the target; or, where none does, what is the best that can be had."""
 
+    why_empty = "in each mode budgets are halved until the smallest that keeps to the target is known"
+
     def __init__(self, search, is_met, ages):
         self.study, self.found, self.stage, self.window = search.study, search.found, search.stage, ages.window
         self.search, self.is_met, self.ages = search, is_met, ages
-        self.dropped, self.ahead, self.floor, self.bound_of_most = [], None, None, None
-        self.mode = search.chosen
+        self.mode, self.bound = search.chosen, search.bounded[search.budget]
         self.budget = self.most = search.budget
-        self.bound = search.bounded[self.budget]
         self.suffices = is_met or self.bound.is_level()
         self.figures = {mode: self.worst_with(*search.run_of(mode)) for mode in search.modes or [self.mode]}
-        self.worst = self.worst_with(self.budget, self.mode)
-        self.cut = self.found.cut(self.budget, self.mode, self.window)
+        self.read()
+        it, entries = self.study, self.whole_budget()
+        self.against = told(
+            not it.in_bytes and not it.told["count"] and rules.counts_bytes(entries) and
+            f"{entries} entries are few, and a large one holds up smaller ones behind it: count=bytes counts that.")
 
     def run_of(self, mode):
         return (self.budget, mode) if mode == self.mode else self.search.run_of(mode)
 
-    def is_taken(self):
-        return self.is_met
-
     def headline(self):
-        if not self.is_met:
-            return f"no budget keeps the worst staleness within {seconds(self.study)}"
-        return f"{super().headline()} keeps the worst staleness within {seconds(self.study)}"
-
-    def why_empty(self):
-        return "in each mode budgets are halved until the smallest that keeps to the target is known"
+        within = f"the worst staleness within {seconds(self.study)}"
+        return f"{super().headline()} keeps {within}" if self.is_met else f"no budget keeps {within}"
 
     def heals(self):
         return False
-
-    def own_warnings(self):
-        it = self.study
-        if it.in_bytes or it.told["count"] or not rules.counts_bytes(self.whole_budget()):
-            return []
-        return [f"{self.whole_budget()} entries are few, and a large one holds up smaller ones behind it: count=bytes "
-                "counts that."]
 
     def why_not_knee(self):
         return ""
@@ -251,31 +240,27 @@ class Met(answer.Decision):
     def too_close(self):
         return []
 
-    def of_target(self):
-        """Whether the target is met, and what the next smaller budget has, as names and words."""
-        it = self.study
-        if not self.is_met:
-            return [("target", f"not met: the largest budget that was run has more than {in_time(it)}")]
-        said = [("target", met(it, self.bound))]
-        below, smaller = self.search.below[self.mode], [at for at in self.search.bounded if at < self.budget]
-        if smaller:
-            worst = self.search.bounded[max(smaller)].worst
-            above = above_target(it, worst)
-            said.append(("a smaller one", f"{it.whole(max(smaller))} entries: the next smaller budget that was run so "
-                                          f"long has more under {above} of {len(worst)} seeds, up to "
-                                          f"{answer.briefly(it, [max(worst)])}"))
-        elif (below, self.mode) in self.found.rows:
-            worst = self.worst_with(below, self.mode)
+    def smaller_one(self):
+        """What the next smaller budget has that was run; empty where there is none."""
+        it, below = self.study, self.search.below[self.mode]
+        if bounded := [at for at in self.search.bounded if at < self.budget]:
+            worst = self.search.bounded[max(bounded)].worst
+            return (f"{it.whole(max(bounded))} entries: the next smaller budget that was run so long has more under "
+                    f"{above_target(it, worst)} of {len(worst)} seeds, up to {briefly(it, [max(worst)])}")
+        if (below, self.mode) in self.found.rows:
             level = "" if self.is_enough(below, self.mode) else ", not level"
-            said.append(("a smaller one", f"{it.whole(below)} entries: the next smaller budget that was run has "
-                                 f"{answer.briefly(it, worst)}{level}"))
-        elif it.parts > 1:
-            said.append(("a smaller one", f"not known: below {it.knee_name} a tenth of the nodes says too little"))
-        return said
+            return (f"{it.whole(below)} entries: the next smaller budget that was run has "
+                    f"{briefly(it, self.worst_with(below, self.mode))}{level}")
+        return f"not known: below {it.knee_name} a tenth of the nodes says too little" if it.parts > 1 else ""
 
     def more(self):
-        """What stands beside the worst staleness, as names and words."""
-        return self.of_target() + self.ages.told(*self.run_of(self.mode))
+        """What stands beside the worst staleness, as names and words: whether the target is met, what the next smaller
+        budget has, and how old copies are."""
+        it = self.study
+        is_met = met(it, self.bound) if self.is_met else \
+            f"not met: the largest budget that was run has more than {in_time(it)}"
+        smaller = [("a smaller one", self.smaller_one())] if self.is_met and self.smaller_one() else []
+        return [("target", is_met), *smaller, *self.ages.told(*self.run_of(self.mode))]
 
     def of_mode_in_words(self, mode):
         """What a mode needs, and what it then has."""
@@ -283,24 +268,20 @@ class Met(answer.Decision):
         age = self.ages.at_most(*pair)
         half = age if self.ages.typical(*pair) is None else f"at most {age}"
         return (f"{it.whole(budget)} entries, packet={self.search.packet(mode)}: worst staleness "
-                f"{answer.in_rounds(self.figures[mode])}; {answer.span(self.ages.shares(*pair))} % of the copies are "
-                f"stale, half of them by {half}")
+                f"{in_rounds(self.figures[mode])}; {span(self.ages.shares(*pair))} % of the copies are stale, half of "
+                f"them by {half}")
 
     def in_words(self, call):
         """The answer, line by line."""
         it = self.study
-        if not self.is_met:
-            lines = [f"No budget keeps the worst staleness within {in_time(it)}. The best that can be had, with "
-                     f"{self.room()}: {self.staleness()}. A shorter interval, more calls in it or less loss would "
-                     "help."]
-        else:
+        lines = [f"No budget keeps the worst staleness within {in_time(it)}. The best that can be had, with "
+                 f"{self.room()}: {self.staleness()}. A shorter interval, more calls in it or less loss would help."]
+        if self.is_met:
             lines = [f"To keep the worst staleness within {in_time(it)}, each mode takes about this, by halving over "
                      f"budgets under {len(rules.FIRST)} seeds:",
-                     *(row(mode, self.of_mode_in_words(mode)) for mode in self.figures), "", f"Take {self.takes()}."]
-        in_window = f": {self.bound.rests_on()}" if self.suffices else ""
-        lines += ["", row("worst staleness", f"{self.staleness()}{in_window}"),
-                  *(row(*more) for more in self.more())]
-        lines += [row(answer.FLOOR, self.above_floor())] if self.above_floor() else []
+                     *rows(*((mode, self.of_mode_in_words(mode)) for mode in self.figures)), "",
+                     f"Take {self.takes()}."]
+        lines += ["", *answer.of_staleness(self, self.more())]
         if self.is_met:
             lines += ["", "What heals, and what else speaks for a mode, is told with that packet:", f"  {call}"]
         return lines + answer.heads(self)

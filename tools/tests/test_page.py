@@ -3,7 +3,8 @@ import re
 import types
 import unittest
 
-from gossip_tools import advise, answer, cluster, page, plots, study
+import given
+from gossip_tools import answer, page, plots
 
 # By the guidelines for accessible pages, WCAG 2: at least this contrast between a text and what is behind it.
 CONTRAST = 4.5
@@ -54,28 +55,10 @@ class Themes(unittest.TestCase):
         self.assertNotIn("color", printed)
 
 
-class Figures:
-    """Figures that are given, by budget and mode; those of `rising` aren't level."""
-
-    def __init__(self, rows, rising=()):
-        self.rows, self.rising = rows, rising
-
-    def worst(self, budget, mode, _):
-        return self.rows[(budget, mode)]
-
-    def cut(self, *_):
-        return [1.0, 2.0]
-
-    def suffices(self, budget, mode, _):
-        return (budget, mode) not in self.rising
-
-
 def decided(rising=(), entry=40):
     """100 nodes that write one of 4 keys, of whose 100 entries 50 are looked at too."""
     words = f"nodes=100 keys=4 writes=1 entry={entry} packet=4001 mode=scuttle-depth"
-    it = study.Study(cluster.told(words.split(), advise.USUAL, advise.CALL))
-    rows = {(100, "scuttle-depth"): [7, 8], (50, "scuttle-depth"): [19, 21]}
-    return answer.Decision(it, Figures(rows, rising), "many")
+    return given.decided(words, {100: [7, 8], 50: [19, 21]}, rising=rising)
 
 
 class Cards(unittest.TestCase):
@@ -98,7 +81,6 @@ class Cards(unittest.TestCase):
         for said, card in cases.items():
             self.assertIn(card, page.cards(decided(), None, [("target", said)]))
 
-
     def test_mean_entries(self):
         """100 entries of 40.001 bytes are 4000.1 bytes, which a packet of 4000 has no room for."""
         decision = decided(entry="40.001")
@@ -118,12 +100,9 @@ class Cards(unittest.TestCase):
 
     def test_what_bounds_it(self):
         """The time, and in which part of how long runs it holds: 3600 of 100 nodes with 4 keys."""
-        decision = decided()
-        decision.bound = answer.Bound(decision.study, "many-bound", Figures({(100, "scuttle-depth"): [8, 9]}),
-                                      (100, "scuttle-depth"))
         runs = "in 20 of 21 runs of 3600 rounds (1 h)"
         self.assertIn(f'<div class="">worst staleness<b>at most 9 rounds</b>9 s; {runs}</div>',
-                      page.cards(decision, None, []))
+                      page.cards(given.bound(decided(), {100: [8, 9]}), None, []))
 
 
 class Healed:
@@ -162,7 +141,7 @@ class Healing(unittest.TestCase):
 
 class Table(unittest.TestCase):
     def test_not_level_is_told_where_it_stands(self):
-        for rising, wanted in (((), ""), ({(50, "scuttle-depth")}, " Not level: this budget isn't enough.")):
+        for rising, wanted in (((), ""), ([50], " Not level: this budget isn't enough.")):
             decision = decided(rising)
             self.assertEqual(wanted, page.not_level(decision))
             self.assertEqual(bool(wanted), " not level" in page.table(decision))

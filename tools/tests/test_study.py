@@ -2,16 +2,11 @@
 import unittest
 
 from gossip_tools import advise, cluster, rules, scenario, study, sweep
+from given import BREADTH, DEPTH, NEWEST, OLDEST, ROOMY, TENTH, of
 
-ROOMY = "nodes=300 keys=4 writes=2 entry=40 packet=40000"
 SHARED = "nodes=100 keys=4 writes=1 entry=40 packet=6000 digest=10"
-LARGE = "nodes=10000 keys=4 writes=1 entry=40 packet=640000 digest=20 restarts=50"
+LARGE = f"{TENTH} restarts=50"
 FEW = "nodes=10 keys=4 writes=1 entry=300 packet=1500"
-DEPTH, BREADTH, OLDEST, NEWEST = "scuttle-depth", "scuttle-breadth", "precise-oldest", "precise-newest"
-
-
-def of(words):
-    return study.Study(cluster.told(words.split(), advise.USUAL, advise.CALL))
 
 
 class Numbers(unittest.TestCase):
@@ -293,6 +288,13 @@ class Healing(unittest.TestCase):
         self.assertEqual((10, 1), found[(20, 10)])
 
 
+def found_of(rows):
+    """Runs that are given, by budget and mode the rows of each seed."""
+    found = study.Found.__new__(study.Found)
+    found.before, found.rows = (1, 2), rows
+    return found
+
+
 def rows(*greatest):
     return [{"round": at, "greatest": it, "cut": it, "entries": 10 - it, "leftover": 0}
             for at, it in enumerate(greatest, 1)]
@@ -301,9 +303,7 @@ def rows(*greatest):
 class Reading(unittest.TestCase):
     def setUp(self):
         """Two seeds, whose greatest was at most 3 and 4 in the rounds 1 and 2 and is healed at 4 and 5."""
-        self.found = study.Found.__new__(study.Found)
-        self.found.before = (1, 2)
-        self.found.rows = {(9, DEPTH): [rows(2, 3, 8, 9, 5, 4), rows(4, 4, 7, 5, 6, 6)]}
+        self.found = found_of({(9, DEPTH): [rows(2, 3, 8, 9, 5, 4), rows(4, 4, 7, 5, 6, 6)]})
 
     def test_window(self):
         found = self.found
@@ -324,14 +324,14 @@ class Reading(unittest.TestCase):
         """After round 3 the first seed is back in round 6, the third, and the other in round 4; after round 4 it never
         is."""
         cases = {3: [3, 1], 4: [2, None], 5: [1, None]}
-        self.assertEqual(cases, {ends: self.found.healed_after(9, DEPTH, ends) for ends in cases})
+        self.assertEqual(cases, {ends: self.found.healed_after("restart", 9, DEPTH, ends) for ends in cases})
 
     def test_a_split_shorter_than_the_level(self):
         """A split is in round 3 alone, where the levels are 4 and 6. A write of that round that is missing since is 5
         rounds old in round 7, and 7 in round 9: before, `greatest` at the level says nothing of it. So the first seed
         is back in round 8, which is 5 after the split, and the other in round 9."""
         self.found.rows = {(9, DEPTH): [rows(2, 3, 3, 4, 4, 4, 5, 4, 4), rows(4, 5, 5, 6, 5, 6, 5, 6, 6)]}
-        self.assertEqual([5, 6], self.found.split_healed_after(9, DEPTH, 3))
+        self.assertEqual([5, 6], self.found.healed_after("split", 9, DEPTH, 3))
 
     def test_level(self):
         """The first half of the rounds 7 to 10 has 2 and 3, the second 5 and 4; that of 9 to 12 has 5 and 4, then 3 and
@@ -339,3 +339,29 @@ class Reading(unittest.TestCase):
         self.found.rows = {(9, DEPTH): [rows(*[0] * 6, 2, 2, 4, 5, 3, 1), rows(*[0] * 6, 3, 2, 4, 4, 4, 2)]}
         cases = {(7, 10): False, (9, 12): True}
         self.assertEqual(cases, {it: self.found.suffices(9, DEPTH, it) for it in cases})
+
+    def test_forgotten(self):
+        """Old state was left over up to round 5 under the first seed, and to the end under the other."""
+        for row in [*self.found.rows[(9, DEPTH)][0][:5], *self.found.rows[(9, DEPTH)][1]]:
+            row["leftover"] = 1
+        self.assertEqual([3, None], self.found.healed_after("forgotten", 9, DEPTH, 3))
+
+
+class Aged(unittest.TestCase):
+    @staticmethod
+    def stale(*counts):
+        """The rows of rounds, the last of them with so many stale copies, from round 40 on."""
+        return [{"stale": it} for it in [0] * 39 + [*counts]]
+
+    def test_half_of_the_stale_copies(self):
+        """Of docs/study.md, the rounds from 40 on, the last with writes: 22670 copies are stale there, and two rounds
+        later fewer than half of them. Where an interval has two rounds, it's at the second of its intervals."""
+        found = found_of({(9, DEPTH): [self.stale(22670, 13201, 5504, 1049, 67, 0), self.stale(*[0] * 6),
+                                       self.stale(*[9] * 6)], (5, DEPTH): [self.stale(30, 30, 20, 10, 15, 9)]})
+        self.assertEqual([2, 0, None], found.half_of_stale_after(9, DEPTH, 40, 1))
+        self.assertEqual([2], found.half_of_stale_after(5, DEPTH, 40, 2))
+
+    def test_stale_on_average(self):
+        """30, 30, 20 and 10 copies in the rounds 40 to 43 are 22.5."""
+        found = found_of({(5, DEPTH): [self.stale(30, 30, 20, 10, 15, 9)]})
+        self.assertEqual([22.5], found.stale(5, DEPTH, (40, 43)))

@@ -1,35 +1,27 @@
 """The smallest packet for a target, with figures that are given."""
 import unittest
 
-from gossip_tools import advise, answer, cluster, rules, study, target
+import given
+from gossip_tools import answer, cluster, rules, target
+from given import BREADTH, DEPTH, NEWEST, OLDEST, of
 
-DEPTH, BREADTH, OLDEST, NEWEST = "scuttle-depth", "scuttle-breadth", "precise-oldest", "precise-newest"
 # What a budget is divided into: so many rounds the worst staleness then has, rounded up.
 ROUNDS = {DEPTH: 800, BREADTH: 1200, OLDEST: 900, NEWEST: 1000}
 # What a met target rests on: with 100 nodes and 4 keys an hour of seconds, or half of one.
 RUNS = "in 20 of 21 runs of 3600 rounds"
 
 
-def of(words):
-    return study.Study(cluster.told(words.split(), advise.USUAL, advise.CALL, {"packet": "target"}))
-
-
-class Figures:
+class Figures(given.Figures):
     """Worst staleness that falls with the budget, down to 7 rounds: the best that can be had. Under the last seed it
     may be another. It isn't level with the budgets of `rising`."""
 
     def __init__(self, pairs, rounds, last=0, rising=()):
-        self.rows, self.rounds, self.last, self.rising = dict.fromkeys(pairs), rounds, last, rising
+        super().__init__(dict.fromkeys(pairs), rising)
+        self.rounds, self.last = rounds, last
 
     def worst(self, budget, mode, _):
         seeds = [max(7, -(-self.rounds[mode] // budget))] * 20
         return [*seeds[1:], max(7, -(-self.last // budget)) if self.last else seeds[0]]
-
-    def suffices(self, budget, *_):
-        return budget not in self.rising
-
-    def cut(self, *_):
-        return [1.0, 2.0]
 
     def stale(self, *_):
         return [15840, 19800]
@@ -89,7 +81,7 @@ class Searched(unittest.TestCase):
 
     def test_smallest_packet(self):
         """100 numbers of 10 bytes are 1000 for a scuttle mode and 4000 for a precise one: with 50 entries of 40 bytes
-        in precise-newest, 6000 against the 4200 of 80 in scuttle-depth."""
+        in NEWEST, 6000 against the 4200 of 80 in DEPTH."""
         cases = {"digest=10": (DEPTH, 4200), "digest=10 shared=no": (NEWEST, 2000), "": (NEWEST, 2000)}
         found = {more: searched(f"target=10 {more}", ROUNDS | {NEWEST: 500})[0] for more in cases}
         self.assertEqual(cases, {more: (it.best(), it.packet(it.best())) for more, it in found.items()})
@@ -208,41 +200,18 @@ class Told(unittest.TestCase):
     def test_a_packet(self):
         """399 entries fit, of which 100 are taken, which the 200 aren't better than: 9 to 10 rounds under the seeds
         that bound, and with 200 entries, twice nodes * writes, 8 to 9; with 100 one of the two has more than 9."""
-        choose = {(200, mode): [9, 9] for mode in ROUNDS} | {(100, DEPTH): [9, 9]}
-        bounds = {(100, DEPTH): [9, 10], (200, DEPTH): [8, 9]}
+        bounds = {100: [9, 10], 200: [8, 9]}
         cases = {10: f"met: {RUNS} (1 h) the worst staleness is within 10 s, or 10 rounds",
                  9: f"met with all that fits alone, 200 entries (2 times nodes * writes): {RUNS} (1 h) the worst "
                     "staleness is within 9 s, or 9 rounds",
                  8: "not met: the worst staleness is above 8 s, or 8 rounds in 2 of 2 runs of 3600 rounds (1 h). "
                     "Without packet= the smallest that keeps to it is looked for"}
         for seconds, said in cases.items():
-            it = of(f"nodes=100 keys=4 writes=1 entry=40 packet=15960 target={seconds}")
-            found, bound = Figures(choose, None), Figures(bounds, None)
-            found.worst, bound.worst = lambda *at: choose[at[:2]], lambda *at: bounds[at[:2]]
-            decision = answer.Decision(it, found, "many")
-            decision.bound = answer.Bound(it, "many-bound", bound, (100, DEPTH))
-            decision.bound_of_most = answer.Bound(it, "many-bound", bound, (200, DEPTH))
+            words = f"nodes=100 keys=4 writes=1 entry=40 packet=15960 target={seconds}"
+            decision = given.bound(given.decided(words, {100: [9, 9]}, {200: [9, 9]}), bounds)
+            found = decision.bound.found
+            decision.bound_of_most = answer.Bound(decision.study, "many-bound", found, (200, DEPTH))
             self.assertEqual(("target", said), target.judged(decision))
         # (all that fits doesn't count where it isn't level)
-        bound.suffices = lambda budget, *_: budget < 200
-        decision.study.target = 9
+        found.rising, decision.study.target = [200], 9
         self.assertTrue(target.judged(decision)[1].startswith("not met: the worst staleness is above "))
-
-
-class Aged(unittest.TestCase):
-    def test_half_of_the_stale_copies(self):
-        """Of docs/study.md, the rounds from 40 on, the last with writes: 22670 copies are stale there, and two rounds
-        later fewer than half of them. Where an interval has two rounds, it's at the second of its intervals."""
-        found = study.Found.__new__(study.Found)
-        stale = [22670, 13201, 5504, 1049, 67, 0]
-        found.rows = {(9, DEPTH): [[{"stale": it} for it in [0] * 39 + stale], [{"stale": 0}] * 45,
-                                   [{"stale": it} for it in [0] * 39 + [9] * 6]],
-                      (5, DEPTH): [[{"stale": it} for it in [0] * 39 + [30, 30, 20, 10, 15, 9]]]}
-        self.assertEqual([2, 0, None], found.half_of_stale_after(9, DEPTH, 40, 1))
-        self.assertEqual([2], found.half_of_stale_after(5, DEPTH, 40, 2))
-
-    def test_stale_on_average(self):
-        """30, 30, 20 and 10 copies in the rounds 40 to 43 are 22.5."""
-        found = study.Found.__new__(study.Found)
-        found.rows = {(5, DEPTH): [[{"stale": it} for it in [0] * 39 + [30, 30, 20, 10, 15, 9]]]}
-        self.assertEqual([22.5], found.stale(5, DEPTH, (40, 43)))

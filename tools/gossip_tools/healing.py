@@ -1,0 +1,147 @@
+"""What heals, how long that takes in the chosen mode, and what is said of it."""
+import textwrap
+
+from gossip_tools import rules
+from gossip_tools.measures import briefly, lasting, rows, run_of, span, told, unit
+from gossip_tools.study import ONE
+
+# What heals, by its stage, and the words for that.
+HEALED = {"split": "a split", "restart": "a restart", "forgotten": "a forgotten state"}
+ENDS = {"split": "healed", "restart": "healed", "forgotten": "gone from all copies"}
+LAST_ROUNDS = {"split": "the last round of the split", "restart": "the last round with a node down"}
+ROLLING = "a rolling restart"
+IN_A_ROW = 98
+
+
+def latest(times):
+    """The longest of several times, for each seed; None where one of them isn't over."""
+    return [None if None in it else max(it) for it in zip(*times)]
+
+
+def fewer(study, asked):
+    """That fewer nodes restart at once than were asked for, in words; empty where that isn't so."""
+    each = study.restarting()[0]
+    if each == study.restarts:
+        return ""
+    why = "half of the nodes stay up" if each == study.nodes // 2 else f"a scenario takes {each} restarts"
+    return f", in place of {asked}, as {why}"
+
+
+class Healing:
+    """How long a split, a restart and a forgotten state take to heal. Of a restart the longer time counts, of several
+    groups or of one alone."""
+
+    def __init__(self, study, mode, stages):
+        self.study, self.mode = study, mode
+        # (by what heals, its runs, and those of one group alone)
+        self.stages, self.alone = {}, {}
+        for stage, found in stages.items():
+            heals = self.alone if stage in ONE else self.stages
+            heals |= dict.fromkeys(study.healing_stages().get(stage, (stage,)), found)
+
+    def taken(self, stage, budget):
+        """The rounds that it took under each seed; None where it wasn't over in the rounds that were run."""
+        runs = {stage: self.stages[stage], f"{stage}-one": self.alone.get(stage)}
+        return latest(found.healed_after(stage, budget, self.mode, self.study.ends(name))
+                      for name, found in runs.items() if found)
+
+    def waited(self, budget):
+        """The rounds to wait between the groups of a rolling restart: until all that a restart leaves is over in most
+        cases. None where it isn't in the rounds that were run."""
+        return rules.bound_of(latest(self.taken(stage, budget) for stage in self.study.leaves()))
+
+    def has_reserve(self, decision):
+        """Whether what heals was run with a reserve."""
+        return decision.budget < decision.most and all(
+            (decision.most, self.mode) in it.rows for it in (*self.stages.values(), *self.alone.values()))
+
+    def in_words(self, stage, budget):
+        """How long it takes at most in most cases: the rounds, or that they weren't enough, and the time with what the
+        seeds had."""
+        taken = self.taken(stage, budget)
+        bound, over = rules.bound_of(taken), [it for it in taken if it is not None]
+        never = f"not within {self.study.rounds(stage) - self.study.ends(stage)} rounds under {taken.count(None)}"
+        if bound is None:
+            return f"{never} of {len(taken)} seeds", ""
+        rounds, _, time = lasting(self.study, [bound]).partition(", ")
+        others = f", {never}" if None in taken else ""
+        return f"at most {rounds}", f"{time}, {rules.IN_MOST} cases ({span(over)} under {len(over)} seeds{others})"
+
+    def what(self, stage):
+        """What a stage heals from."""
+        it = self.study
+        one = unit(it)[:-1]
+        if stage == "split":
+            for_all = f", which stand for {it.told['split']}, as each key is written anew in them"
+            return f"of half of the nodes for {it.split} {unit(it)}{for_all if it.split < it.told['split'] else ''}"
+        forgets = ", and then without its own state" if it.forgets() else ""
+        if not it.restarts:
+            return f"of one node, down for one {one}{forgets}"
+        each, groups = it.restarting()
+        nodes = f"{each} node{'s' if each != 1 else ''}"
+        if groups > 1:
+            nodes += f" in each of {groups} {unit(it)}"
+            forgets += ", and of such a group alone"
+        down = "each down" if each > 1 or groups > 1 else "down"
+        return f"of {nodes}{fewer(it, it.restarts)}, {down} for one {one}{forgets}"
+
+    def lines(self, heals, budget):
+        """The lines of what heals; below the first of all that is looked at what is counted, and below a restart how
+        long to wait between the groups of a rolling one."""
+        lines = []
+        for stage in heals:
+            rounds, time = self.in_words(stage, budget)
+            took = f"{ENDS[stage]} after {rounds}, {time}" if time else rounds
+            lines += rows((HEALED[stage], f"{self.what(stage)}: {took}{run_of(self.study)}"))
+            if stage == self.study.heals()[0]:
+                lines += self.counted_lines()
+        if "restart" in heals:
+            lines += rows((ROLLING, f"{self.wait(budget)}{run_of(self.study)}"))
+        return lines
+
+    def counted(self):
+        """What the rounds of a split and of a restart are."""
+        after = ", or after ".join(LAST_ROUNDS[it] for it in self.study.heals() if it in LAST_ROUNDS)
+        return f"Healed after N rounds: N rounds after {after}, {rules.HEALED.format(*self.study.before)}"
+
+    def counted_lines(self):
+        return rows(*(("", it) for it in textwrap.wrap(self.counted(), IN_A_ROW)))
+
+    def wait(self, budget):
+        """How long to wait between the groups of a rolling restart."""
+        it, rounds = self.study, self.waited(budget)
+        if rounds is None:
+            return "no wait is known, as not all of this is over in the rounds that were run: take a larger budget"
+        gone = " and its forgotten state was gone" if it.forgets() else ""
+        who = f"a group of {it.group()} nodes" if it.told["restarts"] and it.group() > 1 else "a node"
+        return (f"wait {lasting(it, [rounds])}, after {who} is up again: {rules.IN_MOST} cases a restart was "
+                f"healed{gone} by then")
+
+    def with_reserve(self, decision):
+        """How soon all that fits would heal."""
+        said, seeds = [], 0
+        for stage in self.study.heals():
+            taken = self.taken(stage, decision.most)
+            after = "not over in time" if None in taken else f"{ENDS[stage]} after {briefly(self.study, taken)}"
+            said.append(f"{HEALED[stage]} is {after}")
+            seeds = len(taken)
+        return (f"if your program fills the packet anyway, {'; '.join(said)}, under {seeds} of the "
+                f"seeds{run_of(self.study)}")
+
+
+def to_mind(it):
+    """What was run of a split and of restarts, where that isn't what was asked for, and what no run has."""
+    one, (_, groups) = unit(it)[:-1], it.restarting()
+    run = f"is one such group, down for one {one}"
+    if groups > 1:
+        run = (f"are {groups} such groups, one in each {one}, each down for one, and one alone. The times count from "
+               f"when the last one is up again, and the longer one is told. While nodes restart in each {one}, "
+               "`greatest` is the number of the round and bounds nothing")
+    return told(
+        it.split < it.told["split"] and
+        f"A split of {it.split} {unit(it)} was run in place of {it.told['split']}: each key was written anew "
+        "meanwhile, so a longer one leaves no more to catch up with.",
+        it.restarts and
+        f"{it.group()} is the size of a group that restarts at once{fewer(it, it.told['restarts'])}. What was run "
+        f"{run}.",
+        it.leaves() and rules.DOWN_FOR_LONGER)

@@ -1,0 +1,49 @@
+"""What tests are given: clusters by their words, and figures for which nothing was run."""
+from gossip_tools import advise, answer, cluster, study
+
+DEPTH, BREADTH, OLDEST, NEWEST = "scuttle-depth", "scuttle-breadth", "precise-oldest", "precise-newest"
+ROOMY = "nodes=300 keys=4 writes=2 entry=40 packet=40000"
+TENTH = "nodes=10000 keys=4 writes=1 entry=40 packet=640000 digest=20"
+
+
+def of(words):
+    """The cluster that words tell."""
+    return study.Study(cluster.told(words.split(), advise.USUAL, advise.CALL, {"packet": "target"}))
+
+
+class Figures:
+    """Figures that are given: worst staleness by budget and mode. Those of `rising`, by budget and mode or by budget
+    alone, aren't level."""
+
+    def __init__(self, rows, rising=()):
+        self.rows, self.rising = rows, rising
+
+    def worst(self, budget, mode, _):
+        return self.rows[(budget, mode)]
+
+    def cut(self, *_):
+        return [1.0, 2.0]
+
+    def suffices(self, budget, mode, _):
+        return not {budget, (budget, mode)} & {*self.rising}
+
+
+def of_depth(figures):
+    """Figures by budget alone, in scuttle-depth."""
+    return {(budget, DEPTH): worst for budget, worst in figures.items()}
+
+
+def decided(words, depth, others=(), rising=(), stage="many"):
+    """What is decided for a cluster by its figures in scuttle-depth, by budget, and by others: with a mode, or without,
+    and then in all that fit."""
+    it, figures = of(words), {}
+    for key, worst in dict(others).items():
+        figures |= {key: worst} if isinstance(key, tuple) else {(key, mode): worst for mode in it.fits}
+    return answer.Decision(it, Figures(figures | of_depth(depth), rising), stage)
+
+
+def bound(decision, depth, rising=()):
+    """Bounds what is decided by figures in scuttle-depth."""
+    figures, pair = Figures(of_depth(depth), rising), (decision.budget, decision.mode)
+    decision.bound = answer.Bound(decision.study, f"{decision.stage}-bound", figures, pair)
+    return decision

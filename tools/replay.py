@@ -419,12 +419,10 @@ def put(file, *values):
 def put_record(trace, sent, round, index, it):
     put(trace, round, index, it.initiator, it.responder, it.fate, it.digest1, it.digest2, len(it.back), len(it.forth),
         it.back_cut, it.forth_cut)
-    for entry in it.back:
-        arrived = "no" if it.fate == "lost2" else "yes"
-        put(sent, round, index, "back", it.responder, it.initiator, arrived, *entry)
-    for entry in it.forth:
-        arrived = "no" if it.fate == "lost3" else "yes"
-        put(sent, round, index, "forth", it.initiator, it.responder, arrived, *entry)
+    for direction, sender, receiver, delta, lost in (("back", it.responder, it.initiator, it.back, "lost2"),
+                                                     ("forth", it.initiator, it.responder, it.forth, "lost3")):
+        for entry in delta:
+            put(sent, round, index, direction, sender, receiver, "no" if it.fate == lost else "yes", *entry)
 
 
 def run(scenario, columns, trace, sent, tables):
@@ -470,19 +468,14 @@ def words_told():
     asked, others = words.parse_known_args()
     if others:
         words.error(f"{' '.join(others)} isn't taken: the scenario comes by < FILE, and only run has options")
-    named = files_of_streams()
+    streams = {"standard input": os.fstat(0), "standard output": os.fstat(1)}
+    named = {(it.st_dev, it.st_ino): name for name, it in streams.items() if stat.S_ISREG(it.st_mode)}
     for option in ("trace", "sent", "tables"):
         if path := vars(asked).get(option):
             first = named.setdefault(file_of(path), f"--{option}")
             if first != f"--{option}":
                 words.error(f"{first} and --{option} name one file, {path}: name two")
     return vars(asked)
-
-
-def files_of_streams():
-    """What standard input and output are, where that is a file."""
-    found = {"standard input": os.fstat(0), "standard output": os.fstat(1)}
-    return {(it.st_dev, it.st_ino): name for name, it in found.items() if stat.S_ISREG(it.st_mode)}
 
 
 def file_of(path):

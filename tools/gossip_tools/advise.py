@@ -1,5 +1,4 @@
 """From the numbers of a cluster to a mode and a budget; the tool gossip_advise."""
-import hashlib
 import os
 import shlex
 import sys
@@ -8,7 +7,7 @@ from fractions import Fraction
 
 from gossip_tools import answer, cluster, files, page, rules, running, scenario, study, sweep, target
 from gossip_tools.healing import Healing
-from gossip_tools.commands import Refused, folder_of, the_program, workers
+from gossip_tools.commands import Refused, folder_of, refuse_if, the_program, workers
 from gossip_tools.progress import Progress, in_words
 from gossip_tools.words import THE_PROGRAM, Tool, Word
 
@@ -76,28 +75,21 @@ def numbers_of(words, file):
         except (tomllib.TOMLDecodeError, UnicodeDecodeError):
             raise Refused(f"{file} can't be read: name a new folder by -o.") from None
     if not words:
-        if kept is None:
-            raise Refused(f"nodes= is missing, and {file.parent} has no answer to be read again; {CALL} is a whole "
-                          "call.")
+        refuse_if(kept is None, f"nodes= is missing, and {file.parent} has no answer to be read again; {CALL} is a "
+                  "whole call.")
         words = [f"{name}={value}" for name, value in kept.items() if name != "program"]
     told = cluster.told(words, USUAL, CALL, {"packet": "target"})
     cluster.check_limits(told)
     cluster.check_fanout(told["fanout"])
-    if not told["writes"]:
-        raise Refused("writes would be 0, and then nothing has to be sent: count what changes in each interval alone, "
-                      "a heartbeat for one as keys=1 and writes=1.")
-    if told["loss"] == 100:
-        raise Refused("with loss=100 no message ever arrives, and no budget is enough: give the loss that your network "
-                      "has, as loss=1.")
-    if not told["interval"]:
-        raise Refused("an interval has seconds.")
-    if told["target"] == 0:
-        raise Refused("target is in seconds, and above 0.")
-    if told["split"] > 100000:
-        raise Refused("split is a number of intervals up to 100000.")
-    if told["restarts"] and told["restarts"] > told["nodes"]:
-        raise Refused(f"of {told['nodes']} nodes no {told['restarts']} can restart at once: restarts is the size of a "
-                      "group.")
+    refuse_if(not told["writes"], "writes would be 0, and then nothing has to be sent: count what changes in each "
+              "interval alone, a heartbeat for one as keys=1 and writes=1.")
+    refuse_if(told["loss"] == 100, "with loss=100 no message ever arrives, and no budget is enough: give the loss that "
+              "your network has, as loss=1.")
+    refuse_if(not told["interval"], "an interval has seconds.")
+    refuse_if(told["target"] == 0, "target is in seconds, and above 0.")
+    refuse_if(told["split"] > 100000, "split is a number of intervals up to 100000.")
+    refuse_if(told["restarts"] and told["restarts"] > told["nodes"], f"of {told['nodes']} nodes no {told['restarts']} "
+              "can restart at once: restarts is the size of a group.")
     return told, kept
 
 
@@ -110,14 +102,12 @@ def as_text(value):
 
 def keep(folder, told, kept, program):
     """Writes down the numbers and the program's check sum, or refuses where others are there."""
-    with open(program, "rb") as file:
-        check_sum = hashlib.file_digest(file, "sha256").hexdigest()
-    fields = {name: as_text(it) for name, it in told.items() if it is not None} | {"program": check_sum}
-    if kept is not None:
-        if differ := [it for it in fields.keys() | kept.keys() if fields.get(it) != kept.get(it)]:
-            raise Refused(f"{folder} has the answer for another {', '.join(sorted(differ))}: name a new folder by -o.")
-        return check_sum
-    files.put(folder / "cluster.toml", scenario.written(fields))
+    fields = {name: as_text(it) for name, it in told.items() if it is not None}
+    fields["program"] = check_sum = files.check_sum(program)
+    if kept is None:
+        files.put(folder / "cluster.toml", scenario.written(fields))
+    elif differ := sorted(it for it in fields.keys() | kept.keys() if fields.get(it) != kept.get(it)):
+        raise Refused(f"{folder} has the answer for another {', '.join(differ)}: name a new folder by -o.")
     return check_sum
 
 
@@ -169,7 +159,7 @@ class Stages:
         for pair in pairs:
             made[pair] = max(made.get(pair, ()), seeds or self.study.seeds(stage), key=len)
         text, runs = self.runs(stage, {pair: made[pair] for pair in pairs})
-        if to_do := [name for name in runs if not self.progress.is_over(f"{stage}/{name}")]:
+        if to_do := [name for name in runs if f"{stage}/{name}" not in self.progress.over]:
             left = f", {in_words(self.progress.left())} in all" if self.progress.left() else ""
             print(f"{stage}: {len(to_do)} runs of {self.study.rounds(stage)} rounds{self.shorter(stage)}{left}",
                   file=sys.stderr, flush=True)
@@ -195,20 +185,19 @@ class Stages:
         """What follows from these runs of a stage, once the mode that is chosen was run with nodes * writes too, and,
         where that is worse than the largest budget, with those between."""
         decision = self.choose(stage, pairs, dropped)
-        if more := {(self.study.knee, decision.mode)} - pairs:
-            pairs = pairs | more
+        if (knee := (self.study.knee, decision.mode)) not in pairs:
+            pairs = pairs | {knee}
             decision = self.choose(stage, pairs, dropped)
         if decision.suffices and decision.budget > self.study.knee:
             decision = self.choose(stage, pairs | self.study.between(decision.mode), dropped)
         return decision
 
-    def decide_in_time(self, stages, pairs, decision=None):
+    def decide_in_time(self, stages, pairs, decision):
         """What follows from the first of these stages in which a budget is enough, or from the last. From one to the
         next those modes are left out than which another is better."""
         dropped = ()
         for stage in stages:
-            if decision:
-                self.expect(decision, stage)
+            self.expect(decision, stage)
             decision = self.decide(stage, pairs, dropped)
             if decision.suffices:
                 break
@@ -264,8 +253,7 @@ def look(folder):
     except UnicodeEncodeError:
         raise Refused(f"the folder's name {ascii(str(folder))} isn't UTF-8, or not as this locale reads it, and an "
                       "answer names it: name another one by -o.") from None
-    if folder.exists() and not folder.is_dir():
-        raise Refused(f"{folder} isn't a folder: name another one.")
+    refuse_if(folder.exists() and not folder.is_dir(), f"{folder} isn't a folder: name another one.")
     if folder.exists() and not (folder / "cluster.toml").exists() and {it.name for it in folder.iterdir()} - {"lock"}:
         raise Refused(f"{folder} isn't empty and has no answer: name a new folder by -o.")
 
@@ -349,11 +337,9 @@ def last_answer(it, stages, first):
 
 
 def smallest_packet(it, stages, check_sum):
-    """The smallest packet that keeps to the target: its search, and its answer and page."""
     search = target.Search(it, stages)
     is_met = search.carry_out()
     pairs = {search.run_of(mode) for mode in search.modes} | {(search.budget, search.chosen)}
-    stages.plan(f"{search.stage}-stop", pairs, 0)
     met = target.Met(search, is_met, target.aged(stages, search.stage, search.found, pairs))
     stages.look_at_floor(met)
     call = call_with(it, met.packet(), f"{stages.folder}-packet")
@@ -370,13 +356,11 @@ def beside(it, stages, decision):
     if decision.budget < decision.most and not it.keeps_to_target(decision.bounded()):
         decision.bound_of_most = stages.bound_of(decision, decision.most)
     pairs = {(decision.budget, decision.mode)}
-    stages.plan(f"{decision.stage}-stop", pairs, 0)
     ages = target.aged(stages, decision.stage, decision.found, pairs)
     return [target.judged(decision), *ages.told(decision.budget, decision.mode)]
 
 
 def study_of(it, folder, program, check_sum):
-    """Carries out the stages, and prints the answers."""
     stages, told = Stages(it, folder, program), Told(folder)
     if it.told["packet"] is None:
         return smallest_packet(it, stages, check_sum)

@@ -24,7 +24,6 @@ def listed(names):
 
 
 def by_seeds(one, other):
-    """Under how many seeds the one has less than the other, and more."""
     less, more, seeds = rules.seed_by_seed(one, other)
     return f"less under {less} of {seeds} seeds, more under {more}"
 
@@ -43,17 +42,14 @@ class Bound:
         self.worst = found.worst(*pair, self.window)
 
     def is_level(self):
-        """Whether `greatest` is level in these runs too."""
         return self.found.suffices(*self.pair, self.window)
 
     def runs(self):
-        """How long the runs are."""
         first, last = self.window
         rounds, _, time = lasting(self.study, [last - first + 1]).partition(", ")
         return f"runs of {rounds} ({time})"
 
     def holds_in(self):
-        """In which part of how long runs it holds."""
         return f"{rules.IN_MOST} {self.runs()}"
 
     def rests_on(self):
@@ -63,7 +59,6 @@ class Bound:
                 f"that chose, which had {span(self.worst)}")
 
     def added(self):
-        """What it adds to a first answer."""
         if not self.is_level():
             return f"In {self.runs()} `greatest` isn't level with that, so runs of more rounds choose."
         oldest = lasting(self.study, [max(self.worst)])
@@ -87,7 +82,6 @@ class Decision(Choice):
         return math.ceil(self.whole_budget() * self.study.told["entry"])
 
     def packet(self):
-        """The bytes of a packet with room for the budget."""
         return self.study.packet(self.mode, self.whole_budget())
 
     def given(self):
@@ -112,7 +106,6 @@ class Decision(Choice):
         return f"{entries} entries ({self.most / it.knee:.2g} times {it.knee_name})"
 
     def headline(self):
-        """The decision, in a few words."""
         if not self.suffices:
             return f"no budget that fits is enough: {self.no_level()}"
         few = ", which are too few" if self.is_too_small() else ""
@@ -142,7 +135,6 @@ class Decision(Choice):
         return f"The most that fits: {self.room()}.{f' {mode}' if len(it.fits) > 1 else ''}"
 
     def why_dropped(self):
-        """Why modes aren't run any longer."""
         kept = self.contenders()
         best = min(kept, key=lambda mode: max(kept[mode]))
         lost = [f"{mode} with {in_rounds(figure)}" for mode, figure in self.figures.items() if mode not in kept]
@@ -292,7 +284,6 @@ def first_words(decision, call=""):
 
 
 def levels_off_later(decision):
-    """How far is looked for a level."""
     it = decision.study
     longer = " and then ".join(str(it.rounds(stage)) for stage in it.later_stages(decision.stage))
     return longer and f"Whether it levels off later is seen from {longer} rounds, and no more."
@@ -327,7 +318,6 @@ def not_run(decision, call, was_enough=False):
 
 
 def warnings(decision):
-    """What speaks against the decision, or limits it."""
     it, to_knee = decision.study, decision.to_knee()
     helps = f"A larger packet, {way_out(decision)}" if to_knee else "Less loss or fewer writes"
     return told(
@@ -405,7 +395,6 @@ def of_calls(it):
 
 
 def left_out(decision):
-    """What the model leaves out for this cluster."""
     it, entry, digest = decision.study, decision.study.told["entry"], decision.study.told["digest"]
     numbers, waits = it.digest_numbers(decision.mode), "a heartbeat may come later than any limit."
     if decision.suffices:
@@ -429,7 +418,6 @@ def left_out(decision):
 
 
 def heads(decision):
-    """What to mind, what is too close to call and what is left out, line by line."""
     lines = []
     for head, said in (("Mind", warnings(decision)), ("Too close to call", decision.too_close()),
                        ("Left out for this cluster", left_out(decision))):

@@ -69,11 +69,9 @@ class Choice:
         return self.found.worst(budget, mode, self.window)
 
     def is_enough(self, budget, mode):
-        """Whether a budget was run with a mode, and is enough."""
         return (budget, mode) in self.found.rows and self.found.suffices(budget, mode, self.window)
 
     def budgets(self):
-        """The budgets that were run."""
         return sorted({it for it, _ in self.found.rows})
 
     def of_mode(self):
@@ -101,7 +99,6 @@ class Choice:
         return least
 
     def is_worse(self, budget):
-        """Whether a budget that was run is worse than the one that is taken."""
         return rules.is_better(self.worst, self.worst_with(budget, self.mode))
 
     def more_is_worse(self):
@@ -109,7 +106,6 @@ class Choice:
         return rules.is_better(self.worst, self.figures[self.mode])
 
     def close(self):
-        """The other modes that are too close to call."""
         return [it for it in self.figures if it != self.mode and rules.are_close(self.figures[it], self.worst)]
 
     def knee_suffices(self):

@@ -3,7 +3,7 @@ import re
 from fractions import Fraction
 
 from gossip_tools import rules, scenario
-from gossip_tools.commands import Refused
+from gossip_tools.commands import Refused, refuse_if
 from gossip_tools.scenario import limited
 from gossip_tools.words import Tool, Word, values_of
 
@@ -94,8 +94,7 @@ def number_of(name, text):
     shape, taken, most = DECIMAL if name in DECIMALS else WHOLE
     if re.fullmatch(taken, text):
         return Fraction(text)
-    if re.fullmatch(shape, text):
-        raise Refused(f"{name} has too many digits in '{text}': {most}.")
+    refuse_if(re.fullmatch(shape, text), f"{name} has too many digits in '{text}': {most}.")
     kind = f"{'' if name in DECIMALS else 'whole '}number{' of bytes' if name in BYTES else ''}"
     advice = instead(name, text)
     raise Refused(f"{name} is a {kind} from 0 on, which '{text}' isn't{': ' if advice else ''}{advice}.")
@@ -128,17 +127,13 @@ def told(words, usual, call, instead_of=None):
 
 def check_limits(it):
     """Refuses numbers of which no scenario can be made, and says what to do instead. The size is no part of it."""
-    if it["loss"] > 100:
-        raise Refused(f"loss is in per cent, so from 0 to 100, and not {plain(it['loss'])}.")
-    if (it["loss"] * 10000).denominator != 1:
-        raise Refused("loss has at most four decimals.")
-    if not it["entry"]:
-        raise Refused("an entry has bytes.")
+    refuse_if(it["loss"] > 100, f"loss is in per cent, so from 0 to 100, and not {plain(it['loss'])}.")
+    refuse_if((it["loss"] * 10000).denominator != 1, "loss has at most four decimals.")
+    refuse_if(not it["entry"], "an entry has bytes.")
     for name in ("keys", "writes"):
         least, most = scenario.LIMITS[name]
-        if it[name] > most:
-            raise Refused(f"{name} would be {it[name]}, and a scenario takes {least} to {most}: take those that are "
-                          "written together as one key, with a larger entry.")
+        refuse_if(it[name] > most, f"{name} would be {it[name]}, and a scenario takes {least} to {most}: take those "
+                  "that are written together as one key, with a larger entry.")
         limited(name, it[name])
 
 
@@ -159,8 +154,7 @@ def check_size(it):
 
 
 def check_fanout(fanout):
-    if not 1 <= fanout <= MOST_CALLS:
-        raise Refused(f"a node calls 1 to {MOST_CALLS} peers in an interval, not {fanout}.")
+    refuse_if(not 1 <= fanout <= MOST_CALLS, f"a node calls 1 to {MOST_CALLS} peers in an interval, not {fanout}.")
 
 
 def room_for_delta(it, mode):
@@ -171,9 +165,8 @@ def room_for_delta(it, mode):
 def without_writes(rounds, fanout):
     """The sections that leave the writes to the first of the rounds that an interval has."""
     firsts = range(2, rounds + 1, fanout) if fanout > 1 else ()
-    if len(firsts) > scenario.MOST_SECTIONS:
-        raise Refused(f"{rounds} rounds have {len(firsts)} intervals of {fanout} calls, and a scenario takes "
-                      f"{scenario.MOST_SECTIONS}: take fewer rounds.")
+    refuse_if(len(firsts) > scenario.MOST_SECTIONS, f"{rounds} rounds have {len(firsts)} intervals of {fanout} calls, "
+              f"and a scenario takes {scenario.MOST_SECTIONS}: take fewer rounds.")
     return "".join(scenario.load(it, min(it + fanout - 2, rounds), 0) for it in firsts)
 
 
@@ -207,11 +200,9 @@ def main(words):
     seed, loads = limited("seed", it["seed"]), without_writes(rounds, fanout)
     room = room_for_delta(it, it["mode"])
     taken = it["packet"] - room
-    if it["packet"] < it["entry"]:
-        raise Refused(f"the packet has {it['packet']} bytes, fewer than the {plain(it['entry'])} of an entry: give "
-                      "a larger packet, or a shorter entry.")
-    if room < it["entry"]:
-        raise Refused(f"the digest takes {taken} of the {it['packet']} bytes, which leaves no entry.")
+    refuse_if(it["packet"] < it["entry"], f"the packet has {it['packet']} bytes, fewer than the {plain(it['entry'])} "
+              "of an entry: give a larger packet, or a shorter entry.")
+    refuse_if(room < it["entry"], f"the digest takes {taken} of the {it['packet']} bytes, which leaves no entry.")
     count = it["count"] or ("bytes" if rules.counts_bytes(room / it["entry"]) else "entries")
     in_bytes = count == "bytes"
     fields = scenario.top(it["nodes"], it["keys"], rounds, it["writes"], it["loss"] * 10000, room / it["entry"],

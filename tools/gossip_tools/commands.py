@@ -21,6 +21,11 @@ class Refused(Exception):
         self.status = status
 
 
+def refuse_if(is_so, why, status=2):
+    if is_so:
+        raise Refused(why, status)
+
+
 class Stopped(Exception):
     """A signal that ends the process."""
 
@@ -83,22 +88,17 @@ def workers():
 
 def drop_output():
     """Lets what is still to be printed go nowhere, so that the end of the process can't fail on it."""
-    nowhere = os.open(os.devnull, os.O_WRONLY)
-    os.dup2(nowhere, 1)
-
-
-def reason(error):
-    return "it is closed" if error.errno == errno.EBADF else error.strerror
+    os.dup2(os.open(os.devnull, os.O_WRONLY), 1)
 
 
 def fault_of(error):
     """What a call of the system failed on, and why, in a sentence."""
     place = str(error.filename or "the output")
-    return f"{shown(place) if error.errno == errno.ENAMETOOLONG else place}: {reason(error)}."
+    place = shown(place) if error.errno == errno.ENAMETOOLONG else place
+    return f"{place}: {'it is closed' if error.errno == errno.EBADF else error.strerror}."
 
 
 def answer(name, main, tool):
-    """Carries out a tool by the words of the command line, and answers its status."""
     words, status = sys.argv[1:], 0
     if "--help" in words or "-h" in words:
         print(tool.help())
@@ -111,14 +111,14 @@ def answer(name, main, tool):
 
 
 def run(name, main, tool):
-    """The status of a tool: what `main` returns, or of what was refused, which it says in a sentence."""
     try:
         return answer(name, main, tool)
     except Refused as refused:
         why, status = str(refused), refused.status
-    except (Stopped, KeyboardInterrupt) as stopped:
-        stopped = stopped if isinstance(stopped, Stopped) else Stopped(signal.SIGINT)
+    except Stopped as stopped:
         why, status = f"stopped by {stopped}.", stopped.status
+    except KeyboardInterrupt:
+        why, status = "stopped by SIGINT.", 128 + signal.SIGINT
     except BrokenPipeError:
         drop_output()
         why, status = "nobody reads the output any more.", 1

@@ -9,7 +9,7 @@ import contextlib
 import os
 
 from gossip_tools import files, read
-from gossip_tools.commands import Refused
+from gossip_tools.commands import Refused, refuse_if
 
 
 def fields_of(name):
@@ -42,8 +42,7 @@ class Folder:
         program."""
         if not self.path.exists():
             return
-        if not self.path.is_dir():
-            raise Refused(f"{self.path} isn't a folder: name another one.")
+        refuse_if(not self.path.is_dir(), f"{self.path} isn't a folder: name another one.")
         names = {it.name for it in self.path.iterdir()}
         if "scenario" in names:
             if (self.path / "scenario").read_bytes() != self.scenario.encode():

@@ -51,7 +51,6 @@ class Healing:
         return rules.bound_of(latest(self.taken(stage, budget) for stage in self.study.leaves()))
 
     def has_reserve(self, decision):
-        """Whether what heals was run with a reserve."""
         return decision.budget < decision.most and all(
             (decision.most, self.mode) in it.rows for it in (*self.stages.values(), *self.alone.values()))
 
@@ -68,7 +67,6 @@ class Healing:
         return f"at most {rounds}", f"{time}, {rules.IN_MOST} cases ({span(over)} under {len(over)} seeds{others})"
 
     def what(self, stage):
-        """What a stage heals from."""
         it = self.study
         one = unit(it)[:-1]
         if stage == "split":
@@ -108,7 +106,6 @@ class Healing:
         return rows(*(("", it) for it in textwrap.wrap(self.counted(), IN_A_ROW)))
 
     def wait(self, budget):
-        """How long to wait between the groups of a rolling restart."""
         it, rounds = self.study, self.waited(budget)
         if rounds is None:
             return "no wait is known, as not all of this is over in the rounds that were run: take a larger budget"
@@ -118,7 +115,6 @@ class Healing:
                 f"healed{gone} by then")
 
     def with_reserve(self, decision):
-        """How soon all that fits would heal."""
         said, seeds = [], 0
         for stage in self.study.heals():
             taken = self.taken(stage, decision.most)

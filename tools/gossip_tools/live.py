@@ -3,8 +3,8 @@ import itertools
 import re
 import sys
 
-from gossip_tools import files, live_beside, live_cluster, read, running, scenario, sweep
-from gossip_tools.commands import Refused, number, shown, the_program
+from gossip_tools import live_beside, live_cluster, read, running, sweep
+from gossip_tools.commands import Refused, number, refuse_if, shown, the_program
 from gossip_tools.live_figures import Figures
 from gossip_tools.live_plan import LARGEST, Plan
 from gossip_tools.words import THE_PROGRAM, Tool, Word, values_of
@@ -46,29 +46,16 @@ def decimal(name, text):
     return float(text)
 
 
-def whole(name, text):
-    return number(text, name, 1, MOST[name])
-
-
 def told(words):
-    """The values of the words by their names."""
     values = {**USUAL, **values_of(words, USUAL, lambda *_: " See --help.")}
     for name in ("fanout", "beside", "window"):
-        values[name] = values[name] and whole(name, values[name])
+        values[name] = values[name] and number(values[name], name, 1, MOST[name])
     values["interval"] = decimal("interval", values["interval"])
-    if values["interval"] < LEAST_INTERVAL:
-        raise Refused(f"an interval has at least {LEAST_INTERVAL} seconds.")
+    refuse_if(values["interval"] < LEAST_INTERVAL, f"an interval has at least {LEAST_INTERVAL} seconds.")
     bounds = [decimal("latency", it) for it in values["latency"].split(",")]
     if len(bounds) > 2 or bounds != sorted(bounds):
         raise Refused("latency is one number, or two with a comma, the least first.")
     return {**values, "latency": (bounds[0], bounds[-1])}
-
-
-def scenario_given():
-    if sys.stdin.isatty():
-        print("gossip_live: the scenario is read from here, as none comes by < SCENARIO.", file=sys.stderr)
-    with files.named("standard input"):
-        return scenario.read(sys.stdin.buffer)
 
 
 def plan_of(text, asked):
@@ -76,11 +63,9 @@ def plan_of(text, asked):
     top["budget"] = top.pop("budget_bytes", top.get("budget"))
     del top["seed"]
     plan = Plan(**top, **{name: asked[name] for name in ("interval", "latency", "fanout")})
-    if plan.fanout >= plan.nodes:
-        raise Refused(f"a node has {plan.nodes - 1} others to call, and fanout is {plan.fanout}.")
-    if (largest := plan.largest_message()) > LARGEST:
-        raise Refused(f"a digest and a delta may take {largest} bytes, and a datagram takes {LARGEST}: take fewer "
-                      "nodes or keys, a smaller budget, or a scuttle mode.")
+    refuse_if(plan.fanout >= plan.nodes, f"a node has {plan.nodes - 1} others to call, and fanout is {plan.fanout}.")
+    refuse_if((largest := plan.largest_message()) > LARGEST, f"a digest and a delta may take {largest} bytes, and a "
+              f"datagram takes {LARGEST}: take fewer nodes or keys, a smaller budget, or a scuttle mode.")
     return plan
 
 
@@ -105,7 +90,7 @@ def main(words):
     asked = told(words)
     program = the_program()
     running.Signals.listen()
-    text = scenario_given()
+    text = sweep.given_scenario("gossip_live")
     sweep.check({"the scenario": text}, program)
     plan = plan_of(text, asked)
     columns = [it for it in read.COLUMNS[plan.format][1:] if it not in LACKING]

@@ -3,7 +3,7 @@ import statistics
 import subprocess
 
 from gossip_tools import read, scenario
-from gossip_tools.commands import Refused
+from gossip_tools.commands import Refused, refuse_if
 
 SUMS = ("entries", "cut")
 
@@ -16,9 +16,8 @@ def stretched(top, fanout):
     def last(round):
         return round * fanout
 
-    if (loads := len(top.get("load", [])) + top["rounds"]) > scenario.MOST_SECTIONS:
-        raise Refused(f"beside the bench a fanout needs {loads} loads, and a scenario takes {scenario.MOST_SECTIONS}: "
-                      "take fewer rounds.")
+    refuse_if((loads := len(top.get("load", [])) + top["rounds"]) > scenario.MOST_SECTIONS, "beside the bench a fanout "
+              f"needs {loads} loads, and a scenario takes {scenario.MOST_SECTIONS}: take fewer rounds.")
     spread = {"from": first, "to": last, "round": first, "down": lambda down: down * fanout}
     arrays = ("partition", "restart", "load")
     fields = {name: it for name, it in top.items() if name not in arrays} | {"rounds": last(top["rounds"])}
@@ -31,7 +30,6 @@ def stretched(top, fanout):
 
 
 def intervals(rows, fanout):
-    """The rows of a report by intervals of so many rounds."""
     found = []
     for at in range(0, len(rows), fanout):
         rounds = rows[at:at + fanout]
@@ -52,9 +50,8 @@ def reports(runs, program, fanout):
     for name, text in runs.items():
         top = read.settings(text)
         answer = subprocess.run([program, "run"], input=text.encode(), capture_output=True)
-        if answer.returncode:
-            raise Refused(f"{name}: the program ended with status {answer.returncode}: "
-                          f"{answer.stderr.decode(errors='replace').strip()}", 1)
+        refuse_if(answer.returncode, f"{name}: the program ended with status {answer.returncode}: "
+                  f"{answer.stderr.decode(errors='replace').strip()}", 1)
         try:
             rows = read.rows_of(answer.stdout.decode("ascii", "replace"), top["format"], top["rounds"])
         except read.NotWhole as lacks:

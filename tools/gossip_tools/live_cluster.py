@@ -2,25 +2,14 @@
 import collections
 import contextlib
 import multiprocessing
-import signal
 import sys
 import time
 
-from gossip_tools import live_worker
+from gossip_tools import live_worker, running
 from gossip_tools.commands import Refused, workers
 
 NODES_OF_A_PROCESS = 16  # fewer aren't worth a process more
 TIME_TO_BEGIN = 0.2  # seconds, in which each process hears when the cluster begins
-
-
-@contextlib.contextmanager
-def deaf():
-    """A block in which no signal that ends a process comes, neither here nor to the processes that are started."""
-    before = signal.pthread_sigmask(signal.SIG_BLOCK, (signal.SIGINT, signal.SIGTERM, signal.SIGHUP))
-    try:
-        yield
-    finally:
-        signal.pthread_sigmask(signal.SIG_SETMASK, before)
 
 
 @contextlib.contextmanager
@@ -32,7 +21,7 @@ def processes(plan):
     sys.stdout.flush()
     try:
         for at in range(count):
-            with deaf():
+            with running.deaf():
                 pipe, theirs = fork.Pipe()
                 pipes.append(pipe)
                 words = plan, range(at, plan.nodes, count), theirs, list(pipes)
@@ -58,7 +47,6 @@ def talk():
 
 
 def heard(pipes):
-    """What each process tells next."""
     with talk():
         found = [it.recv() for it in pipes]
     if failed := [it for it in found if isinstance(it, str)]:

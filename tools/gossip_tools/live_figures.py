@@ -76,7 +76,6 @@ class Figures:
         return self.late > MOST_LATE * self.timers or self.lost() > MOST_LOST * self.sent
 
     def how_fast(self):
-        """How late the timers went off, in a sentence."""
         said = (f"{self.late} of {self.timers} timers were late by more than {LATE:g} intervals, the latest by "
                 f"{self.lag:.3f}, and {self.lost()} of {self.sent} datagrams didn't come")
         return f"{said}: the figures are worthless; take fewer nodes or a longer interval." \

@@ -3,7 +3,6 @@ from gossip_tools import rules
 
 
 def span(figure, places=0):
-    """A band in words."""
     least, most = (f"{it:.{places}f}" for it in rules.band(figure))
     return least if least == most else f"{least} to {most}"
 

@@ -123,11 +123,10 @@ def paragraphs(lines):
 
 
 def captions(decision, healing):
-    """What each picture shows."""
     it = decision.study
     first, last = decision.window
     above = "What is higher than the picture is in the table. "
-    same = plots.lie_on_each_other(decision, lambda *at: decision.found.worst(*at, decision.window))
+    same = plots.lie_on_each_other(decision)
     same = f"All modes have the same figures from {it.whole(same)} entries on. " if same else ""
     healed = captions_of_healing(it, healing.mode) if healing else {}
     most = " Of each interval the round with the most is shown." if it.fanout > 1 else ""

@@ -2,7 +2,9 @@
 
 Where curves lie on each other each is still seen: the first are drawn wide, and the later ones narrower on top of them.
 """
+import itertools
 import shutil
+import statistics
 import subprocess
 
 from gossip_tools import files, read, rules, scenario
@@ -63,7 +65,7 @@ def knee(decision, name, y, figure, capped):
             values = figure(budget, mode)
             # (a little beside each other, so that all bands are seen)
             beside = study.whole(budget) * 1.025**(at - (len(modes) - 1) / 2)
-            rows.append((round(beside, 2), rules.middle(values), *rules.band(values)))
+            rows.append((round(beside, 2), statistics.median_high(values), *rules.band(values)))
         most = max([most, *(row[3] for row in rows)])
         text += block(f"mode{at}", rows)
         plots += [f'$mode{at} using 1:2 with lines linewidth {min(width, 2)} linecolor "{colour}" notitle',
@@ -139,7 +141,7 @@ def healing(healed, stage, name, y, value):
         values = {it[0]["round"] - ends: [value(row) for row in it] for it in zip(*seeds)}
         # (the bars of a budget stand beside those of the others, so that all are seen)
         beside = BESIDE * step * (at - (len(budgets) - 1) / 2)
-        text += block(f"budget{at}", [(number, rules.middle(it)) for number, it in values.items()])
+        text += block(f"budget{at}", [(number, statistics.median_high(it)) for number, it in values.items()])
         text += block(f"bars{at}", [(round(number + beside, 3), *rules.band(it)) for number, it in values.items()
                                     if min(it) < max(it) and number % step == 0])
         plots.insert(at, f'$bars{at} using 1:2:(0):($3-$2) with vectors nohead linewidth 1.5 linecolor "{colour}" '
@@ -150,14 +152,13 @@ def healing(healed, stage, name, y, value):
 
 
 def all_of(decision, healed):
-    study, window = decision.study, decision.window
+    study = decision.study
     copies = study.nodes * (study.nodes - 1) * study.keys
     of_node = (study.nodes - 1) * study.keys
     pictures = {
-        "worst": knee(decision, "worst", "worst staleness, in rounds",
-                      lambda budget, mode: decision.found.worst(budget, mode, window), capped=True),
+        "worst": knee(decision, "worst", "worst staleness, in rounds", decision.worst_with, capped=True),
         "cut": knee(decision, "cut", "share cut, in per cent",
-                    lambda budget, mode: decision.found.cut(budget, mode, window), capped=False),
+                    lambda budget, mode: decision.found.cut(budget, mode, decision.window), capped=False),
         "greatest": rounds(decision, "greatest", "greatest, in rounds", lambda row: row["greatest"]),
         "stale": rounds(decision, "stale", "stale copies, in per cent",
                         lambda row: round(100 * row["stale"] / copies, 3)),
@@ -170,13 +171,10 @@ def all_of(decision, healed):
     return pictures
 
 
-def lie_on_each_other(decision, figure):
+def lie_on_each_other(decision):
     """The least budget from which on the modes have the same figures, of those that were run with all; or None."""
     modes = [it for it in scenario.MODES if it in decision.figures]
     with_all = [it for it in decision.budgets() if all((it, mode) in decision.found.rows for mode in modes)]
-    from_here = None
-    for budget in reversed(with_all):
-        if any(figure(budget, mode) != figure(budget, modes[0]) for mode in modes):
-            break
-        from_here = budget
-    return from_here if len(modes) > 1 else None
+    alike = itertools.takewhile(lambda budget: all(
+        decision.worst_with(budget, mode) == decision.worst_with(budget, modes[0]) for mode in modes), with_all[::-1])
+    return min(alike, default=None) if len(modes) > 1 else None

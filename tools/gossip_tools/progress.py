@@ -32,9 +32,6 @@ class Progress:
         """What is still to be made, besides what is over."""
         self.work = {name: it for name, it in work.items() if name not in self.over}
 
-    def is_over(self, name):
-        return name in self.over
-
     def begin(self, what, to_do, there, at_once=1):
         """A stage in which these runs are to be made, so many at once, while others are there."""
         self.what, self.total, self.count, self.at_once = what, len(to_do), 0, at_once

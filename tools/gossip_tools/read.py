@@ -5,7 +5,7 @@ import sys
 import tomllib
 
 from gossip_tools import files, scenario
-from gossip_tools.commands import Refused, folder_of, number, shown
+from gossip_tools.commands import Refused, folder_of, number, refuse_if, shown
 from gossip_tools.words import Tool, Word
 
 TOOL = Tool(
@@ -58,7 +58,6 @@ def rows_of(text, form, rounds):
 
 
 def rows_in(content, form, rounds):
-    """The rows of a report in bytes."""
     try:
         return rows_of(content.decode("ascii"), form, rounds)
     except UnicodeDecodeError:
@@ -108,16 +107,14 @@ class Runs:
         for file in sorted(folder.glob("*-*.toml")):
             names, _, values = zip(*(part.partition("-") for part in file.stem.split(".")))
             self.fields = self.fields or names
-            if names != self.fields:
-                raise Refused(f"the runs in {folder} differ in their fields.")
+            refuse_if(names != self.fields, f"the runs in {folder} differ in their fields.")
             if wanted is not None and values not in wanted:
                 continue
             with open(file, "rb") as text:
                 top = settings(scenario.read(text, file))
             if top.get("format") not in scenario.FORMATS or "rounds" not in top:
                 raise Refused(f"{file} isn't the scenario of a run.")
-            if top["format"] != (form := form or top["format"]):
-                raise Refused(f"the runs in {folder} are of two formats.")
+            refuse_if(top["format"] != (form := form or top["format"]), f"the runs in {folder} are of two formats.")
             try:
                 self.rows[values] = report(file.with_suffix(".csv"), form, top["rounds"])
                 self.without_sum += is_without_sum(file.with_suffix(".csv"))
@@ -129,9 +126,6 @@ class Runs:
             if not folder.is_dir():
                 below = ", which isn't a folder" if folder.exists() else ", which isn't there"
             raise Refused(f"there are no runs in {folder}{below}.")
-
-    def in_order(self):
-        return sorted(self.rows, key=place)
 
     def what_is_missing(self):
         """A sentence on the runs that have no whole report."""
@@ -200,7 +194,7 @@ def over_seeds(fields, found):
 def figures(runs, folder, what, first, second):
     """What is asked of each run, by the values of its fields."""
     found, last = {}, second if what == "window" else first
-    for values in runs.in_order():
+    for values in sorted(runs.rows, key=place):
         rows = runs.rows[values]
         if not 1 <= first <= last <= len(rows):
             raise Refused(f"the rounds {first} to {last} aren't in all runs: one has {len(rows)}.")
@@ -228,8 +222,7 @@ def main(words):
     what, first = words[0], number(words[1], "FROM", 1)
     second = number(words[2], "TO", 1) if what == "window" else number(words[2], "LEVEL")
     runs = Runs(folder)
-    if seeds and "seed" not in runs.fields:
-        raise Refused(f"the runs in {folder} have no field seed of their own.")
+    refuse_if(seeds and "seed" not in runs.fields, f"the runs in {folder} have no field seed of their own.")
     if runs.missing:
         if not partial or not runs.rows:
             raise Refused(f"{runs.what_is_missing()} The same sweep makes them; --partial goes on without them.")

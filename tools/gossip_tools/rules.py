@@ -32,11 +32,6 @@ def band(figure):
     return min(figure), max(figure)
 
 
-def middle(figure):
-    """The figure of the seed in the middle."""
-    return sorted(figure)[len(figure) // 2]
-
-
 def seed_by_seed(one, other):
     """Under how many seeds the one has less than the other, under how many it has more, and how many there are. Both
     begin with the same seeds; further ones of either say nothing."""

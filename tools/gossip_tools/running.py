@@ -10,17 +10,13 @@ import subprocess
 import tempfile
 import time
 
-from gossip_tools.commands import Refused, Stopped, shown
+from gossip_tools.commands import Refused, Stopped, refuse_if, shown
 
 # In large pages the C library gives memory faster. What the caller says to it goes before that.
 LARGE_PAGES = {"GLIBC_TUNABLES": "glibc.malloc.hugetlb=1"}
-
-
 # A machine of HOSTS: `:` or its name, with or without a user, and before that how many cores it has.
 NAME = "[A-Za-z0-9_.][A-Za-z0-9_.-]*"
 HOST = f"([1-9][0-9]{{0,3}}/)?(:|({NAME}@)?{NAME})"
-
-
 # The signals that end a process where nothing else is said.
 ENDINGS = signal.SIGINT, signal.SIGTERM, signal.SIGHUP
 # How GNU parallel ends, and in how many seconds: by its first TERM it begins no more, by the second it ends what runs,
@@ -83,6 +79,16 @@ def close(folder, name, process, program):
 
 
 @contextlib.contextmanager
+def deaf():
+    """A block in which no signal that ends a process comes, neither here nor to the processes that are started."""
+    before = signal.pthread_sigmask(signal.SIG_BLOCK, ENDINGS)
+    try:
+        yield
+    finally:
+        signal.pthread_sigmask(signal.SIG_SETMASK, before)
+
+
+@contextlib.contextmanager
 def group(*first):
     """A process group that ends with the block, and with this process, however that ends. What is left in it is killed,
     after the first signals where this process is gone, each with the seconds that are left to end in.
@@ -93,12 +99,11 @@ def group(*first):
     """
     reader, writer = os.pipe()
     # (so that no signal that stops the sweep is taken by its leader too)
-    before = signal.pthread_sigmask(signal.SIG_BLOCK, ENDINGS)
-    leader = os.fork()
-    if not leader:
-        lead(reader, first)
-    os.setpgid(leader, leader)
-    signal.pthread_sigmask(signal.SIG_SETMASK, before)
+    with deaf():
+        leader = os.fork()
+        if not leader:
+            lead(reader, first)
+        os.setpgid(leader, leader)
     os.close(reader)
     try:
         yield leader
@@ -202,14 +207,11 @@ def hosts():
     """The machines of HOSTS, divided by commas; empty where there are none."""
     told = os.environ.get("HOSTS", "")
     for host in told.split(",") if told else []:
-        if not host.strip():
-            raise Refused(f"HOSTS is '{shown(told)}', which lacks the name of a machine: write them as in "
-                          "HOSTS=:,alpha,8/beta.")
-        if not re.fullmatch(HOST, host):
-            raise Refused(f"'{shown(host)}' in HOSTS isn't the name of a machine: write them as in "
-                          "HOSTS=:,alpha,8/beta, or with a user, as 8/me@beta.")
-    if told and not is_gnu_parallel():
-        raise Refused("other machines need GNU parallel, which isn't there.")
+        refuse_if(not host.strip(), f"HOSTS is '{shown(told)}', which lacks the name of a machine: write them as in "
+                  "HOSTS=:,alpha,8/beta.")
+        refuse_if(not re.fullmatch(HOST, host), f"'{shown(host)}' in HOSTS isn't the name of a machine: write them as "
+                  "in HOSTS=:,alpha,8/beta, or with a user, as 8/me@beta.")
+    refuse_if(told and not is_gnu_parallel(), "other machines need GNU parallel, which isn't there.")
     return told
 
 

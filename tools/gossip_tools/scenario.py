@@ -2,7 +2,7 @@
 import re
 from fractions import Fraction
 
-from gossip_tools.commands import Refused, shown
+from gossip_tools.commands import Refused, refuse_if, shown
 
 FORMATS = (1, 2)
 MODES = ("scuttle-breadth", "scuttle-depth", "precise-oldest", "precise-newest")
@@ -20,15 +20,9 @@ MEAN = Fraction("523.5")  # bytes of an entry of format 2, which has 24 + value 
 LARGEST = 1023  # of these bytes at most
 
 
-def is_scenario_of(name, number):
-    least, most = LIMITS[name]
-    return least <= number <= most
-
-
 def limited(name, number):
-    if not is_scenario_of(name, number):
-        least, most = LIMITS[name]
-        raise Refused(f"{name} would be {number}, and a scenario takes {least} to {most}.")
+    least, most = LIMITS[name]
+    refuse_if(not least <= number <= most, f"{name} would be {number}, and a scenario takes {least} to {most}.")
     return number
 
 
@@ -68,8 +62,7 @@ def top(nodes, keys, rounds, writes, loss_ppm, entries, in_bytes, mode=USUAL_MOD
 def read(file, what="the scenario"):
     """The text of a scenario, from a file that is open for its bytes. No more is read than a scenario has."""
     given = file.read(MOST_BYTES + 1)
-    if len(given) > MOST_BYTES:
-        raise Refused(f"{what} is longer than {MOST_BYTES} bytes, the most that a scenario has.")
+    refuse_if(len(given) > MOST_BYTES, f"{what} is longer than {MOST_BYTES} bytes, the most that a scenario has.")
     try:
         return given.decode()
     except UnicodeDecodeError:
@@ -84,8 +77,7 @@ def set_field(text, field, value):
             break
         if given := re.match(rf"[ \t]*{re.escape(field)}[ \t]*=[ \t]*([\"']?)", line):
             found.append((at, '"' if given[1] else ""))
-    if not text.strip():
-        raise Refused("the scenario is empty: it comes by standard input, as < SCENARIO.")
+    refuse_if(not text.strip(), "the scenario is empty: it comes by standard input, as < SCENARIO.")
     if len(found) != 1:
         those = f"{len(found)} lines of the scenario above all sections set" if found else \
             "no line of the scenario above all sections sets"
@@ -97,31 +89,22 @@ def set_field(text, field, value):
 
 def restarts(nodes, each, first_round, last_round, down, forget=False, first=0, every=1):
     """Restarts: in every `every`-th of these rounds the next `each` nodes, by ascending number from `first` on."""
-    if not 1 <= first_round <= last_round:
-        raise Refused(f"{first_round} to {last_round} aren't rounds.")
-    if each < 1:
-        raise Refused(f"{each} nodes in a round are no restarts: 1 is the least.")
-    if each > nodes:
-        raise Refused(f"{each} nodes can't restart in a round, of {nodes}.")
-    if first >= nodes:
-        raise Refused(f"{first} can't be the first node, of {nodes} that are numbered from 0.")
-    if every < 1:
-        raise Refused("every=1 is each round, and the least.")
+    refuse_if(not 1 <= first_round <= last_round, f"{first_round} to {last_round} aren't rounds.")
+    refuse_if(each < 1, f"{each} nodes in a round are no restarts: 1 is the least.")
+    refuse_if(each > nodes, f"{each} nodes can't restart in a round, of {nodes}.")
+    refuse_if(first >= nodes, f"{first} can't be the first node, of {nodes} that are numbered from 0.")
+    refuse_if(every < 1, "every=1 is each round, and the least.")
     rounds = range(first_round, last_round + 1, every)
-    if each * len(rounds) > MOST_SECTIONS:
-        raise Refused(f"that makes {each * len(rounds)} restarts, where a scenario takes {MOST_SECTIONS}: "
-                      "run half of it.")
-    tail = "forget = true\n" if forget else ""
-    restarted = [(first + at * each + i, number) for at, number in enumerate(rounds) for i in range(each)]
-    return "".join(f"[[restart]]\nnode = {node % nodes}\nround = {number}\ndown = {down}\n{tail}"
-                   for node, number in restarted)
+    refuse_if(each * len(rounds) > MOST_SECTIONS, f"that makes {each * len(rounds)} restarts, where a scenario takes "
+              f"{MOST_SECTIONS}: run half of it.")
+    more = {"forget": True} if forget else {}
+    return sections("restart", ({"node": (first + at * each + i) % nodes, "round": number, "down": down, **more}
+                                for at, number in enumerate(rounds) for i in range(each)))
 
 
 def partition(first, last, first_round, last_round):
-    if not first <= last <= 4095:
-        raise Refused(f"{first} to {last} aren't nodes, which are 0 to 4095.")
-    if not 1 <= first_round <= last_round:
-        raise Refused(f"{first_round} to {last_round} aren't rounds.")
+    refuse_if(not first <= last <= 4095, f"{first} to {last} aren't nodes, which are 0 to 4095.")
+    refuse_if(not 1 <= first_round <= last_round, f"{first_round} to {last_round} aren't rounds.")
     nodes = [str(it) for it in range(first, last + 1)]
     lines = "".join("    " + ", ".join(nodes[at:at + 20]) + ",\n" for at in range(0, len(nodes), 20))
     return f"[[partition]]\nfrom = {first_round}\nto = {last_round}\napart = [\n{lines}]\n"

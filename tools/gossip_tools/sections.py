@@ -1,6 +1,6 @@
 """The tools gossip_restarts and gossip_apart, which print sections of a scenario."""
 from gossip_tools import scenario
-from gossip_tools.commands import Refused, number
+from gossip_tools.commands import Refused, number, refuse_if
 from gossip_tools.scenario import LIMITS
 from gossip_tools.words import Tool, Word
 
@@ -38,6 +38,5 @@ def restarts(words):
 
 
 def apart(words):
-    if len(words) != 4:
-        raise Refused(f"usage: {APART.calls[0]}")
+    refuse_if(len(words) != 4, f"usage: {APART.calls[0]}")
     print(scenario.partition(*numbers_of(words, OF_APART)), end="")

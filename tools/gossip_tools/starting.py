@@ -59,7 +59,6 @@ def end_at_signals():
 
 
 def tool_of(name):
-    """The function and the words of a tool."""
     module, *names = TOOLS[name]
     return [getattr(importlib.import_module(f"gossip_tools.{module}"), it) for it in names]
 

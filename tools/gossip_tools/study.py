@@ -21,6 +21,7 @@ import statistics
 from fractions import Fraction
 
 from gossip_tools import cluster, read, rules, scenario
+from gossip_tools.commands import Refused, refuse_if
 
 # What is to be healed begins once the tables have filled and `greatest` is level: after so many intervals, of which the
 # last ones tell the level, and later with a budget below the knee.
@@ -57,13 +58,12 @@ class Study:
         self.usual = told["mode"] or scenario.USUAL_MODE
         self.parts = 10 if cluster.is_too_large(told["nodes"], told["keys"]) else 1
         if self.parts > 1 and self.usual != scenario.USUAL_MODE:
-            raise cluster.Refused(f"{told['nodes']} nodes are more than a scenario takes, and a tenth of them says "
+            raise Refused(f"{told['nodes']} nodes are more than a scenario takes, and a tenth of them says "
                                   f"little but in {scenario.USUAL_MODE}: leave out mode={self.usual}.")
         self.all_nodes, self.keys, self.writes = int(told["nodes"]), int(told["keys"]), int(told["writes"])
         self.nodes = self.all_nodes // self.parts
-        if cluster.is_too_large(self.nodes, self.keys):
-            raise cluster.Refused("a tenth of these nodes is still too large for a scenario, which takes 4096 nodes "
-                                  f"and {scenario.MOST_TRIPLES} of nodes * nodes * keys.")
+        refuse_if(cluster.is_too_large(self.nodes, self.keys), "a tenth of these nodes is still too large for a "
+                  f"scenario, which takes 4096 nodes and {scenario.MOST_TRIPLES} of nodes * nodes * keys.")
         scenario.limited("nodes", self.nodes)
         self.fanout, self.seconds = int(told["fanout"]), told["interval"] / told["fanout"]
         self.knee, self.knee_of_all = (max(LEAST, rules.knee(nodes, self.keys, self.writes, self.fanout))
@@ -81,10 +81,9 @@ class Study:
         self.fits = {mode: min(self.run_of(self.fits_of_all[mode]), scenario.LIMITS["budget"][1]) for mode in modes
                      if self.rooms[mode] >= LEAST}
         if self.usual not in self.fits:
-            raise cluster.Refused(self.why_none_fits())
-        if self.least_rounds() > rules.MANY * self.fanout:
-            raise cluster.Refused(f"no budget that fits keeps the worst staleness below {rules.MANY * self.fanout} "
-                                  f"rounds: {self.why_at_least()}.")
+            raise Refused(self.why_none_fits())
+        refuse_if(self.least_rounds() > rules.MANY * self.fanout, "no budget that fits keeps the worst staleness below "
+                  f"{rules.MANY * self.fanout} rounds: {self.why_at_least()}.")
         self.target = None if told["target"] is None else self.target_of(told["target"])
         self.hours = told["hours"]
         self.split = self.split_of(int(told["split"]))
@@ -103,9 +102,8 @@ class Study:
     def target_of(self, seconds):
         """The rounds of a target, which the longest runs have to be able to show."""
         rounds, most = int(seconds / self.seconds), rules.highest_level(self.window("longest"))
-        if not 1 <= rounds <= most:
-            raise cluster.Refused(f"target={cluster.plain(seconds)} would be {rounds} rounds of "
-                                  f"{cluster.plain(self.seconds)} s, and has to be from 1 to {most} of them.")
+        refuse_if(not 1 <= rounds <= most, f"target={cluster.plain(seconds)} would be {rounds} rounds of "
+                  f"{cluster.plain(self.seconds)} s, and has to be from 1 to {most} of them.")
         return rounds
 
     def why_none_fits(self):
@@ -143,7 +141,6 @@ class Study:
                 and not (it == "few" and is_little)]
 
     def later_stages(self, stage):
-        """Those of them that come after one."""
         stages = self.steady_stages()
         return stages[stages.index(stage) + 1:]
 
@@ -246,7 +243,7 @@ class Study:
         most = min(most, int(MOST_WORK / self.work_of(1)))
         if not 1 <= asked <= most:
             hours = Fraction(int(100 * most * self.fanout * self.seconds / 3600), 100)
-            raise cluster.Refused(f"hours={cluster.plain(self.hours)} would be {asked} intervals under each seed, and "
+            raise Refused(f"hours={cluster.plain(self.hours)} would be {asked} intervals under each seed, and "
                                   f"from 1 to {most} are run: hours={cluster.plain(hours)} is the most.")
 
     def asked_for(self):
@@ -262,7 +259,6 @@ class Study:
         return next((it for it in lengths if self.work_of(FILLED[stage] + it) <= BOUND_WORK), lengths[-1])
 
     def intervals(self, stage):
-        """How many intervals a run of a stage has."""
         if stage in WINDOWS:
             return WINDOWS[stage][1]
         if stage in BOUNDS:
@@ -309,7 +305,6 @@ class Study:
         return min(int(self.told["restarts"] or 1), self.restarting()[0] * self.parts)
 
     def ends(self, stage):
-        """The last round of what is to be healed."""
         return self.begins + self.lasts(stage) * self.fanout - 1
 
     def forgets(self):
@@ -394,7 +389,6 @@ class Found:
         self.rows = {pair: [runs.rows[name] for name in those] for pair, those in names.items()}
 
     def windows(self, budget, mode, window):
-        """The rows of a window, for each seed."""
         return [read.between(rows, *window) for rows in self.rows[(budget, mode)]]
 
     def worst(self, *run):

@@ -8,7 +8,7 @@ import subprocess
 import sys
 
 from gossip_tools import files, folders, running, scenario
-from gossip_tools.commands import Refused, fault_of, folder_of, shown, the_program, workers
+from gossip_tools.commands import Refused, fault_of, folder_of, refuse_if, shown, the_program, workers
 from gossip_tools.progress import Progress
 from gossip_tools.words import THE_PROGRAM, Tool, Word
 
@@ -41,8 +41,7 @@ def choices_of(words):
             raise Refused(f"'{shown(word)}' isn't FIELD=VALUE,VALUE.., with letters, digits, - and _ in the values."
                           f"{more}")
         field, _, values = word.partition("=")
-        if field in choices:
-            raise Refused(f"the field {shown(field)} comes twice.")
+        refuse_if(field in choices, f"the field {shown(field)} comes twice.")
         choices[field] = values.split(",")
     return choices if "mode" in choices else {**choices, "mode": list(scenario.MODES)}
 
@@ -61,9 +60,9 @@ def spread(text, choices, name=""):
     return runs
 
 
-def given_scenario():
+def given_scenario(tool="gossip_sweep"):
     if sys.stdin.isatty():
-        print("gossip_sweep: the scenario is read from here, as none comes by < SCENARIO.", file=sys.stderr)
+        print(f"{tool}: the scenario is read from here, as none comes by < SCENARIO.", file=sys.stderr)
     with files.named("standard input"):
         return scenario.read(sys.stdin.buffer)
 
@@ -137,8 +136,7 @@ def carry_out(path, text, runs, program, progress, hosts=None, what="gossip_swee
 
 def main(words):
     path, words = folder_of(words, "runs")
-    if not words:
-        raise Refused(f"usage: {TOOL.calls[0]}")
+    refuse_if(not words, f"usage: {TOOL.calls[0]}")
     choices = choices_of(words)
     hosts = running.hosts()
     workers()

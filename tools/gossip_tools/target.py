@@ -18,22 +18,18 @@ RAISED, OF_SEEDS = 20, 5
 
 
 def seconds(it):
-    """The target, in seconds."""
     return f"{cluster.plain(it.told['target'])} s"
 
 
 def in_time(it):
-    """The target, in seconds and in rounds."""
     return f"{seconds(it)}, or {in_rounds([it.target])}"
 
 
 def above_target(it, worst):
-    """Under how many seeds the worst staleness is above the target."""
     return sum(not it.keeps_to_target([rounds]) for rounds in worst)
 
 
 def met(it, bound):
-    """That a target is met, in words."""
     return f"met: {bound.holds_in()} the worst staleness is within {in_time(it)}"
 
 
@@ -93,6 +89,7 @@ class Ages:
 
 def aged(stages, stage, found, pairs):
     """The ages of copies, once these budgets and modes were run with writes that stop."""
+    stages.plan(f"{stage}-stop", pairs, 0)
     return Ages(stages.study, stage, found, stages.carry_out(f"{stage}-stop", pairs))
 
 
@@ -272,7 +269,6 @@ class Met(answer.Decision):
                 f"them by {half}")
 
     def in_words(self, call):
-        """The answer, line by line."""
         it = self.study
         lines = [f"No budget keeps the worst staleness within {in_time(it)}. The best that can be had, with "
                  f"{self.room()}: {self.staleness()}. A shorter interval, more calls in it or less loss would help."]

@@ -47,3 +47,12 @@ def bound(decision, depth, rising=()):
     figures, pair = Figures(of_depth(depth), rising), (decision.budget, decision.mode)
     decision.bound = answer.Bound(decision.study, f"{decision.stage}-bound", figures, pair)
     return decision
+
+
+def table(function, outcomes):
+    """A test that a function has these outcomes, each by its argument or its arguments."""
+    def test(self):
+        found = {it: function(*it) if isinstance(it, tuple) else function(it) for it in outcomes}
+        self.assertEqual(outcomes, found)
+
+    return test

@@ -1,10 +1,9 @@
 """From figures to a decision and its words, by hand."""
 import pathlib
 import unittest
-from fractions import Fraction
 
 from gossip_tools import advise, answer, cluster, measures, rules
-from given import BREADTH, DEPTH, NEWEST, OLDEST, ROOMY, TENTH, Figures, bound, decided, of, of_depth
+from given import BREADTH, DEPTH, NEWEST, OLDEST, ROOMY, TENTH, Figures, bound, decided, of, of_depth, table
 
 WORSE_MODES = {(1000, OLDEST): [9, 9], (1000, NEWEST): [9, 9]}
 
@@ -436,28 +435,18 @@ class Words(unittest.TestCase):
         with self.assertRaisesRegex(cluster.Refused, r"the folder's name '\\udcff' isn't UTF-8"):
             advise.look(pathlib.Path("\udcff"))
 
-    def test_numbers(self):
-        cases = {"1000000": "1000000", "0.00001": "0.00001", "1234567.5": "1234567.5", "4": "4", "0.50": "0.5"}
-        self.assertEqual(cases, {text: cluster.plain(Fraction(text)) for text in cases})
+    # Three calls in 300 s are 100 s apart. What latency adds isn't known, but how to see it is.
+    test_latency = table(lambda more: answer.of_calls(of(f"{ROOMY} {more}"))[0], {
+        "interval=1000000": "Latency: right where an exchange takes much less than the interval of 1000000 s; else the "
+                            "cluster is slower, by how much `gossip_live latency=.. beside=5` shows.",
+        "interval=300 fanout=3": "Latency: right where an exchange takes much less than the 100 s between two of the 3 "
+                                 "calls of an interval, which come one after another here; else, and where a node "
+                                 "makes them all at once, the cluster is slower than these figures, by how much "
+                                 "`gossip_live latency=.. beside=5` shows."})
 
-    def test_latency(self):
-        """Three calls in 300 s are 100 s apart. What latency adds isn't known, but how to see it is."""
-        cases = {"interval=1000000": "than the interval of 1000000 s; else the cluster is slower, by how much "
-                                     "`gossip_live latency=.. beside=5` shows.",
-                 "interval=300 fanout=3": "than the 100 s between two of the 3 calls of an interval, which come one "
-                                          "after another here; else, and where a node makes them all at once, the "
-                                          "cluster is slower than these figures, by how much `gossip_live latency=.. "
-                                          "beside=5` shows."}
-        for more, said in cases.items():
-            it = of(f"nodes=200 keys=4 writes=1 entry=40 packet=8000 {more}")
-            self.assertEqual(f"Latency: right where an exchange takes much less {said}", answer.of_calls(it)[0])
+    test_spans = table(lambda *figure: measures.in_rounds(figure), {
+        (7, 7): "7 rounds", (1, 1): "1 round", (3, 1): "1 to 3 rounds", (0, 1): "0 to 1 round"})
 
-    def test_spans(self):
-        cases = {(7, 7): "7 rounds", (1, 1): "1 round", (3, 1): "1 to 3 rounds", (0, 1): "0 to 1 round"}
-        self.assertEqual(cases, {it: measures.in_rounds(it) for it in cases})
-
-    def test_times(self):
-        """8 rounds of half a second are 4 seconds, 30 to 45 rounds of a minute as many minutes."""
-        cases = {((8, 8), 0.5): "4 s", ((7, 8), 0.5): "3.5 to 4.0 s", ((30, 45), 60): "30 to 45 min",
-                 ((5, 6), 1): "5 to 6 s"}
-        self.assertEqual(cases, {it: measures.in_time(*it) for it in cases})
+    # 8 rounds of half a second are 4 seconds, 30 to 45 rounds of a minute as many minutes.
+    test_times = table(measures.in_time, {
+        ((8, 8), 0.5): "4 s", ((7, 8), 0.5): "3.5 to 4.0 s", ((30, 45), 60): "30 to 45 min", ((5, 6), 1): "5 to 6 s"})

@@ -2,6 +2,7 @@
 import unittest
 
 from gossip_tools.progress import Progress, in_words
+from given import table
 
 
 class Ends(unittest.TestCase):
@@ -41,6 +42,5 @@ class Ends(unittest.TestCase):
         progress.done("a")
         self.assertAlmostEqual(40.0, progress.left(), 0)
 
-    def test_what_is_left(self):
-        cases = {None: "no end known yet", 42.4: "some 42 s left", 150: "some 2 min left", 7200: "some 2 h left"}
-        self.assertEqual(cases, {it: in_words(it) for it in cases})
+    test_what_is_left = table(in_words, {
+        None: "no end known yet", 42.4: "some 42 s left", 150: "some 2 min left", 7200: "some 2 h left"})

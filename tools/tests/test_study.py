@@ -2,69 +2,71 @@
 import unittest
 
 from gossip_tools import advise, cluster, rules, scenario, study, sweep
-from given import BREADTH, DEPTH, NEWEST, OLDEST, ROOMY, TENTH, of
+from given import BREADTH, DEPTH, NEWEST, OLDEST, ROOMY, TENTH, of, table
 
 SHARED = "nodes=100 keys=4 writes=1 entry=40 packet=6000 digest=10"
 LARGE = f"{TENTH} restarts=50"
 FEW = "nodes=10 keys=4 writes=1 entry=300 packet=1500"
 
 
+def roomy(more):
+    """100 nodes with room for all that they may send."""
+    return of(f"nodes=100 entry=40 packet=40000 {more}")
+
+
+def levels(words):
+    """What a sum says of the worst staleness of a cluster, and the stages that can show it."""
+    it = of(f"{words} writes=1 entry=40")
+    return it.least_rounds(), it.steady_stages()
+
+
 class Numbers(unittest.TestCase):
-    def test_what_fits(self):
-        """6000 bytes less 100 numbers of 10 have room for 125 entries of 40; less 400 numbers, as precise, for 50."""
-        cases = {ROOMY: [1000] * 4, SHARED: [125, 125, 50, 50], SHARED + " shared=no": [150] * 4, LARGE: [1100],
-                 FEW: [5] * 4}
-        self.assertEqual(cases, {words: list(of(words).fits.values()) for words in cases})
+    # 6000 bytes less 100 numbers of 10 have room for 125 entries of 40; less 400 numbers, as precise, for 50.
+    test_what_fits = table(lambda words: list(of(words).fits.values()), {
+        ROOMY: [1000] * 4, SHARED: [125, 125, 50, 50], SHARED + " shared=no": [150] * 4, LARGE: [1100], FEW: [5] * 4})
 
     def test_other_name(self):
         """A packet was called a delta."""
         self.assertEqual(of(SHARED).told, of(SHARED.replace("packet=", "delta=")).told)
 
-    def test_budgets(self):
-        """nodes * writes are 300 * 2 = 600, 100 and 10; a tenth of 10000 is 1000. Of 1000, 125, 1100 and 5 that fit no
-        more than twice that is of use, but nodes * keys, of which 1200 fit in 48000 bytes."""
-        cases = {ROOMY: (600, 1000), SHARED: (100, 125), LARGE: (1000, 1100), FEW: (10, 5),
-                 ROOMY + " fanout=3": (200, 400), ROOMY.replace("40000", "48000") + " fanout=3": (200, 1200),
-                 SHARED + " fanout=16": (6, 12)}
-        self.assertEqual(cases, {words: (of(words).knee, of(words).most(DEPTH)) for words in cases})
+    # nodes * writes are 300 * 2 = 600, 100 and 10; a tenth of 10000 is 1000. Of 1000, 125, 1100 and 5 that fit no more
+    # than twice that is of use, but nodes * keys, of which 1200 fit in 48000 bytes.
+    test_budgets = table(lambda words: (of(words).knee, of(words).most(DEPTH)), {
+        ROOMY: (600, 1000), SHARED: (100, 125), LARGE: (1000, 1100), FEW: (10, 5), ROOMY + " fanout=3": (200, 400),
+        ROOMY.replace("40000", "48000") + " fanout=3": (200, 1200), SHARED + " fanout=16": (6, 12)})
 
     def test_more_nodes_than_a_scenario_takes(self):
         """A tenth of 4109 nodes are 410, and a third of 12005 writes 4001: told are the whole cluster's. With room for
         4108 entries, one fewer than 4109, what is run is below nodes * writes too."""
-        large = "nodes=4109 keys=4 writes=1 entry=40"
-        cases = {f"{large} packet=200000": (410, 4109, 5000), f"{large} packet=164360": (410, 4109, 4109),
-                 f"{large} packet=164320": (410, 4109, 4108),
-                 "nodes=12005 keys=4 writes=1 entry=40 packet=400000 fanout=3": (400, 4001, 10000)}
-        for words, wanted in cases.items():
-            it = of(words)
-            self.assertEqual(wanted, (it.knee, it.whole(it.knee), it.whole(it.fits[DEPTH])))
-        self.assertEqual(409, of(f"{large} packet=164320").fits[DEPTH])
-        it = of(f"{large} packet=4000000")
-        self.assertEqual([1027, 3081, 8218, 16436], [it.whole(budget) for budget in (102, 307, 820, 1640)])
+        for words, wanted in (("nodes=4109 packet=200000", (410, 4109, 498, 5000)),
+                              ("nodes=4109 packet=164360", (410, 4109, 410, 4109)),
+                              ("nodes=4109 packet=164320", (410, 4109, 409, 4108)),
+                              ("nodes=12005 packet=400000 fanout=3", (400, 4001, 999, 10000))):
+            it = of(f"keys=4 writes=1 entry=40 {words}")
+            fits = it.fits[DEPTH]
+            self.assertEqual(wanted, (it.knee, it.whole(it.knee), fits, it.whole(fits)))
 
-    def test_more_writes_than_keys(self):
-        """100 nodes with 2 keys never send more than 200 entries, be it that they write 3 times."""
-        cases = {"keys=2 writes=3": (200, "nodes * keys"), "keys=2 writes=2": (200, "nodes * writes"),
-                 "keys=2 writes=3 fanout=3": (66, "nodes * keys / 3")}
-        found = {more: of(f"nodes=100 entry=40 packet=40000 {more}") for more in cases}
-        self.assertEqual(cases, {more: (it.knee, it.knee_name) for more, it in found.items()})
+    test_budgets_of_a_tenth = table(
+        lambda budget: of("nodes=4109 keys=4 writes=1 entry=40 packet=4000000").whole(budget), {
+            102: 1027, 307: 3081, 820: 8218, 1640: 16436})
 
-    def test_all_keys_at_the_start(self):
-        """100 * 2 + 20 * 4 entries; but of 100 nodes with 2 keys never more than 200, which is another product."""
-        cases = {"keys=4 writes=2": (280, "nodes * writes + restarts * keys"), "keys=2 writes=2": (200, "nodes * keys"),
-                 "keys=2 writes=2 fanout=2": (100, "nodes * keys / 2")}
-        self.assertEqual(cases, {more: of(f"nodes=100 entry=40 packet=40000 restarts=20 forget=yes {more}").tells_all()
-                                 for more in cases})
+    # 100 nodes with 2 keys never send more than 200 entries, be it that they write 3 times.
+    PRODUCTS = {"keys=2 writes=3": (200, "nodes * keys"), "keys=2 writes=2": (200, "nodes * writes"),
+                "keys=2 writes=3 fanout=3": (66, "nodes * keys / 3")}
+    test_more_writes_than_keys = table(lambda more: (roomy(more).knee, roomy(more).knee_name), PRODUCTS)
 
-    def test_what_decides(self):
-        """Each mode with what it may take, and the chosen one with nodes * writes, be that less or more."""
-        cases = {
-            (ROOMY, DEPTH): {(1000, DEPTH), (1000, BREADTH), (1000, OLDEST), (1000, NEWEST), (600, DEPTH)},
-            (SHARED, NEWEST): {(125, DEPTH), (125, BREADTH), (50, OLDEST), (50, NEWEST), (100, NEWEST)},
-            (LARGE, DEPTH): {(1100, DEPTH), (1000, DEPTH)},
-            (SHARED.replace("6000", "5000"), DEPTH): {(100, DEPTH), (100, BREADTH), (25, OLDEST), (25, NEWEST)},
-        }
-        self.assertEqual(cases, {(words, mode): of(words).wanted(mode) for words, mode in cases})
+    # 100 * 2 + 20 * 4 entries; but of 100 nodes with 2 keys never more than 200, which is another product.
+    test_all_keys_at_the_start = table(
+        lambda more: roomy(f"restarts=20 forget=yes {more}").tells_all(), {
+            "keys=4 writes=2": (280, "nodes * writes + restarts * keys"), "keys=2 writes=2": (200, "nodes * keys"),
+            "keys=2 writes=2 fanout=2": (100, "nodes * keys / 2")})
+
+    # Each mode with what it may take, and the chosen one with nodes * writes, be that less or more.
+    test_what_decides = table(lambda words, mode: of(words).wanted(mode), {
+        (ROOMY, DEPTH): {(1000, DEPTH), (1000, BREADTH), (1000, OLDEST), (1000, NEWEST), (600, DEPTH)},
+        (SHARED, NEWEST): {(125, DEPTH), (125, BREADTH), (50, OLDEST), (50, NEWEST), (100, NEWEST)},
+        (LARGE, DEPTH): {(1100, DEPTH), (1000, DEPTH)},
+        (SHARED.replace("6000", "5000"), DEPTH): {(100, DEPTH), (100, BREADTH), (25, OLDEST), (25, NEWEST)}})
 
     def test_one_mode(self):
         """A precise digest of 100 nodes takes 4000 of 6000 bytes, which leaves room for 50 entries; of 4400 bytes for
@@ -78,12 +80,10 @@ class Numbers(unittest.TestCase):
             of(f"{LARGE} mode={NEWEST}")
         self.assertEqual({DEPTH: 1100}, of(f"{LARGE} mode={DEPTH}").fits)
 
-    def test_next_smaller(self):
-        """Of 600 three quarters, of those a half of 600, and then a quarter. A quarter of 10 is 2 and a half."""
-        cases = {(ROOMY, 600): {450}, (ROOMY, 450): {300}, (ROOMY, 300): {150}, (ROOMY, 150): set(),
-                 (ROOMY, 1000): {900}, (FEW, 5): {2}, (FEW, 2): set()}
-        self.assertEqual(cases, {(words, budget): {it for it, _ in of(words).next_smaller(budget, DEPTH)}
-                                 for words, budget in cases})
+    # Of 600 three quarters, of those a half of 600, and then a quarter. A quarter of 10 is 2 and a half.
+    test_next_smaller = table(lambda words, budget: {it for it, _ in of(words).next_smaller(budget, DEPTH)}, {
+        (ROOMY, 600): {450}, (ROOMY, 450): {300}, (ROOMY, 300): {150}, (ROOMY, 150): set(), (ROOMY, 1000): {900},
+        (FEW, 5): {2}, (FEW, 2): set()})
 
     def test_work(self):
         """Three times as much in bytes and half as much again in a precise mode, as was measured."""
@@ -113,93 +113,85 @@ class Numbers(unittest.TestCase):
         self.assertEqual(["1047", "2617", "3664", "5235"], values)
         self.assertIn("format = 2\nnodes = 10\nkeys = 4\nrounds = 200\nseed = 1\n", it.scene("many"))
 
-    def test_digest_that_takes_all(self):
-        with self.assertRaisesRegex(cluster.Refused, "takes 40000 of the 12000 bytes"):
-            of("nodes=5000 keys=4 writes=1 entry=40 packet=12000 digest=8")
-        # (5000 of 40 bytes are 200000; 12000 bytes have room for 300, which is 0.06 of 5000)
-        with self.assertRaisesRegex(cluster.Refused, "room for 300, 0.06 times nodes .* writes, and the digest still "
-                                    "fits no packet of 12000; .* takes packet=240000"):
-            of("nodes=5000 keys=4 writes=1 entry=40 packet=12000 digest=8")
-        with self.assertRaisesRegex(cluster.Refused, "30 bytes have no room .* 8 of them takes packet=320"):
-            of("nodes=8 keys=2 writes=1 entry=40 packet=30")
+    def test_refused(self):
+        """5000 entries of 40 bytes are 200000; 12000 bytes have room for 300, which is 0.06 of 5000. A run has 100000
+        rounds at most, of which 400 may be left out, and 1000 sections. 3600 seconds of work are ten hours of 1000
+        nodes with 4 keys, at 0.1 s for an interval. Room for 28 entries, where 2000 of 50 bytes take 100000, and with
+        the digest of 2000 numbers 120000. Where a node calls two others, an interval has twice the deltas: with room
+        for 14 it takes 208 of two rounds each."""
+        many, hours = "nodes=5000 keys=4 writes=1 entry=40 packet=12000 digest=8", "writes=1 entry=40 packet=400000"
+        summed = "nodes=2000 keys=6 writes=1 entry=50 digest=10"
+        for words, why in (
+                (many, "takes 40000 of the 12000 bytes"),
+                (many, "room for 300, 0.06 times nodes .* writes, and the digest still fits no packet of 12000; .* "
+                       "takes packet=240000"),
+                ("nodes=8 keys=2 writes=1 entry=40 packet=30", "30 bytes have no room .* 8 of them takes packet=320"),
+                (f"nodes=200 keys=6 hours=30 {hours}", "hours=30 would be 108000 intervals .* from 1 to 99600 are run: "
+                                                       "hours=27.66 is the most"),
+                (f"nodes=1000 keys=4 hours=11 {hours}", "hours=11 would be 39600 intervals .* from 1 to 36000 are run: "
+                                                        "hours=10 is the most"),
+                (f"nodes=12 keys=2 fanout=3 hours=1 {hours}", "hours=1 would be 3600 intervals .* from 1 to 600 are "
+                                                              "run: hours=0.16 is the most"),
+                (f"nodes=12 keys=2 hours=0 {hours}", "hours=0 would be 0 intervals under each seed, and from 1 to "
+                                                     "99600 are run"),
+                (f"{summed} packet=1400 shared=no", "at least 208 rounds; .* takes packet=100000"),
+                (f"{summed} packet=21400", "at least 208 rounds; .* takes packet=120000"),
+                (f"{summed} packet=700 shared=no fanout=2", "416 rounds; room for nodes .* writes / 2 = 1000 ")):
+            with self.subTest(words), self.assertRaisesRegex(cluster.Refused, why):
+                of(words)
+        of(f"{summed} packet=1400 shared=no fanout=2")
 
-    def test_what_cuts_nothing(self):
-        """300 * 4 entries. 10 * 4 entries of 1023 bytes are 40920 bytes, and 79 mean ones 41356. A budget is at most
-        65535 entries, where 2000 nodes with 64 keys have 128000."""
-        cases = {ROOMY: 1200, LARGE: 4000, FEW: 79, "nodes=2000 keys=64 writes=1 entry=40 packet=120000": 65535}
-        self.assertEqual(cases, {words: of(words).ample() for words in cases})
+    # 300 * 4 entries. 10 * 4 entries of 1023 bytes are 40920 bytes, and 79 mean ones 41356. A budget is at most 65535
+    # entries, where 2000 nodes with 64 keys have 128000.
+    test_what_cuts_nothing = table(lambda words: of(words).ample(), {
+        ROOMY: 1200, LARGE: 4000, FEW: 79, "nodes=2000 keys=64 writes=1 entry=40 packet=120000": 65535})
+
+    def test_field_of_what_cuts_nothing(self):
         self.assertEqual(("budget_bytes", 41356), scenario.budget_field(79, True))
 
-    def test_stages_that_can_show_a_level(self):
-        """39 * 6 copies at two times 2 entries in a round take 58 rounds, less 6; 60 rounds show no more than 30. 199 *
-        8 at two times 7 take 113, less 8, and 200 rounds show 100. 399 * 6 at two times 25 take 47, less 6, and at two
-        times 300 less than 6. 200 rounds under 20 seeds are little work where they take two seconds at a nanosecond for
-        each node, with another one, and key, and one more: up to 316 nodes with 4 keys. Then 60 aren't run."""
-        later = ["many", "longer", "longest"]
-        cases = {"nodes=40 keys=6 packet=80": (52, later), "nodes=400 keys=6 packet=12000": (0, ["few", *later]),
-                 "nodes=200 keys=8 packet=280": (105, ["longer", "longest"]),
-                 "nodes=400 keys=6 packet=1000": (41, later), "nodes=316 keys=4 packet=12800": (0, later),
-                 "nodes=317 keys=4 packet=12800": (0, ["few", *later])}
-        found = {words: of(f"{words} writes=1 entry=40") for words in cases}
-        self.assertEqual(cases, {words: (it.least_rounds(), it.steady_stages()) for words, it in found.items()})
+    # 39 * 6 copies at two times 2 entries in a round take 58 rounds, less 6; 60 rounds show no more than 30. 199 * 8 at
+    # two times 7 take 113, less 8, and 200 rounds show 100. 399 * 6 at two times 25 take 47, less 6, and at two times
+    # 300 less than 6. 200 rounds under 20 seeds are little work where they take two seconds at a nanosecond for each
+    # node, with another one, and key, and one more: up to 316 nodes with 4 keys. Then 60 aren't run.
+    LATER = ["many", "longer", "longest"]
+    test_stages_that_can_show_a_level = table(levels, {
+        "nodes=40 keys=6 packet=80": (52, LATER), "nodes=400 keys=6 packet=12000": (0, ["few", *LATER]),
+        "nodes=200 keys=8 packet=280": (105, ["longer", "longest"]), "nodes=400 keys=6 packet=1000": (41, LATER),
+        "nodes=316 keys=4 packet=12800": (0, LATER), "nodes=317 keys=4 packet=12800": (0, ["few", *LATER])})
 
-    def test_how_long_runs_are_that_bound(self):
-        """An hour of seconds, behind the intervals that are left out, where 20 such runs take no more than 21 seconds
-        at a nanosecond for each node, with another one, and key, and one more: with 200 nodes and 6 keys 3650 intervals
-        take 20.4. With 1000 and 4 it is 0.1 s for an interval, so 100 after 50 or after the 100 of longer ones, and
-        with 800 it is 0.064 s, so 200 after 50.
-        Several calls take one of a scenario's 1000 sections for each interval, 100 or 400 of which are left out."""
-        cases = {("nodes=200 keys=6", "few"): 3600, ("nodes=300 keys=4", "many"): 1800,
-                 ("nodes=1000 keys=4", "few"): 100, ("nodes=1000 keys=4", "many"): 100,
-                 ("nodes=800 keys=4", "few"): 200, ("nodes=4000 keys=1", "few"): 100,
-                 ("nodes=12 keys=2 fanout=3", "many"): 900, ("nodes=12 keys=2 fanout=3", "longest"): 600,
-                 ("nodes=1000 keys=4 hours=1", "few"): 3600, ("nodes=200 keys=6 hours=24", "few"): 86400,
-                 ("nodes=200 keys=6 hours=24 interval=60", "few"): 1440,
-                 ("nodes=12 keys=2 hours=1.5 fanout=3 interval=30", "many"): 180}
-        self.assertEqual(cases, {it: of(f"{it[0]} writes=1 entry=40 packet=400000").bounded(it[1]) for it in cases})
+    # An hour of seconds, behind the intervals that are left out, where 20 such runs take no more than 21 seconds at a
+    # nanosecond for each node, with another one, and key, and one more: with 200 nodes and 6 keys 3650 intervals take
+    # 20.4. With 1000 and 4 it is 0.1 s for an interval, so 100 after 50 or after the 100 of longer ones, and with 800
+    # it is 0.064 s, so 200 after 50. Several calls take one of a scenario's 1000 sections for each interval, 100 or 400
+    # of which are left out.
+    test_how_long_runs_are_that_bound = table(
+        lambda words, stage: of(f"{words} writes=1 entry=40 packet=400000").bounded(stage), {
+            ("nodes=200 keys=6", "few"): 3600, ("nodes=300 keys=4", "many"): 1800, ("nodes=1000 keys=4", "few"): 100,
+            ("nodes=1000 keys=4", "many"): 100, ("nodes=800 keys=4", "few"): 200, ("nodes=4000 keys=1", "few"): 100,
+            ("nodes=12 keys=2 fanout=3", "many"): 900, ("nodes=12 keys=2 fanout=3", "longest"): 600,
+            ("nodes=1000 keys=4 hours=1", "few"): 3600, ("nodes=200 keys=6 hours=24", "few"): 86400,
+            ("nodes=200 keys=6 hours=24 interval=60", "few"): 1440,
+            ("nodes=12 keys=2 hours=1.5 fanout=3 interval=30", "many"): 180})
 
-    def test_hours_that_are_too_many(self):
-        """A run has 100000 rounds at most, of which 400 may be left out, and 1000 sections. 3600 seconds of work are
-        ten hours of 1000 nodes with 4 keys, at 0.1 s for an interval."""
-        cases = {"nodes=200 keys=6 hours=30": "108000 intervals .* from 1 to 99600 are run: hours=27.66 is the most",
-                 "nodes=1000 keys=4 hours=11": "39600 intervals .* from 1 to 36000 are run: hours=10 is the most",
-                 "nodes=12 keys=2 fanout=3 hours=1": "3600 intervals .* from 1 to 600 are run: hours=0.16 is the most",
-                 "nodes=12 keys=2 hours=0": "0 intervals under each seed, and from 1 to 99600 are run"}
-        for words, why in cases.items():
-            with self.assertRaisesRegex(cluster.Refused, f"hours=[0-9]+ would be {why}"):
-                of(f"{words} writes=1 entry=40 packet=400000")
+    # Those that bound, and tell what heals, are others than those that choose.
+    test_seeds = table(lambda stage: of(ROOMY).seeds(stage), {
+        "few": rules.CHOOSING, "many-bound": rules.BOUNDING, "restart-one": rules.MORE_BOUNDING,
+        "split": rules.MORE_BOUNDING, "many-stop": rules.FIRST})
 
-    def test_seeds(self):
-        """Those that bound, and tell what heals, are others than those that choose."""
-        cases = {"few": rules.CHOOSING, "many-bound": rules.BOUNDING, "restart-one": rules.MORE_BOUNDING,
-                 "split": rules.MORE_BOUNDING, "many-stop": rules.FIRST}
-        self.assertEqual(cases, {stage: of(ROOMY).seeds(stage) for stage in cases})
-
-    def test_more_seeds_for_what_heals(self):
-        """A split of 30 intervals and a restart of one take 122 and 93 with 4 keys. 62 such runs take no more than 21
-        seconds at a nanosecond for each node, with another one, and key, and one more, up to 561 nodes."""
-        cases = {(561, ""): 62, (562, ""): 20, (562, "split=0"): 62, (562, "split=0 restarts=9"): 62,
-                 (562, "split=0 restarts=9 fanout=2"): 20}
-        self.assertEqual(cases, {it: len(of(f"nodes={it[0]} keys=4 writes=1 entry=40 packet=100000 {it[1]}").seeds(
-            "restart")) for it in cases})
-
-    def test_budget_that_a_sum_refuses(self):
-        """Room for 28 entries, where 2000 of 50 bytes take 100000, and with the digest of 2000 numbers 120000. Where a
-        node calls two others, an interval has twice the deltas: with room for 14 it takes 208 of two rounds each."""
-        cases = {"packet=1400 digest=10 shared=no": "at least 208 rounds; .* takes packet=100000",
-                 "packet=21400 digest=10": "at least 208 rounds; .* takes packet=120000"}
-        for words, why in cases.items():
-            with self.assertRaisesRegex(cluster.Refused, why):
-                of(f"nodes=2000 keys=6 writes=1 entry=50 {words}")
-        of("nodes=2000 keys=6 writes=1 entry=50 packet=1400 digest=10 shared=no fanout=2")
-        with self.assertRaisesRegex(cluster.Refused, "at least 416 rounds; room for nodes .* writes / 2 = 1000 "):
-            of("nodes=2000 keys=6 writes=1 entry=50 packet=700 digest=10 shared=no fanout=2")
+    # A split of 30 intervals and a restart of one take 122 and 93 with 4 keys. 62 such runs take no more than 21
+    # seconds at a nanosecond for each node, with another one, and key, and one more, up to 561 nodes.
+    test_more_seeds_for_what_heals = table(
+        lambda nodes, more: len(of(f"nodes={nodes} keys=4 writes=1 entry=40 packet=100000 {more}").seeds("restart")), {
+            (561, ""): 62, (562, ""): 20, (562, "split=0"): 62, (562, "split=0 restarts=9"): 62,
+            (562, "split=0 restarts=9 fanout=2"): 20})
 
 
 class Calls(unittest.TestCase):
     """Three calls in an interval of half a minute: a round takes ten seconds, and an interval three rounds."""
+    words = f"{SHARED} fanout=3 interval=30"
+
     def setUp(self):
-        self.it = of(f"{SHARED} fanout=3 interval=30 restarts=5 split=40")
+        self.it = of(f"{self.words} restarts=5 split=40")
 
     def test_rounds(self):
         """The first answer looks at the intervals 31 to 60, which are the rounds 91 to 180."""
@@ -209,19 +201,19 @@ class Calls(unittest.TestCase):
 
     def test_writes(self):
         """In the first round of an interval alone: 60 times the two others have none."""
-        text = it = self.it.scene("few")
-        self.assertEqual((60, True), (text.count("[[load]]"), scenario.load(179, 180, 0) in it))
+        text = self.it.scene("few")
+        self.assertEqual((60, True), (text.count("[[load]]"), scenario.load(179, 180, 0) in text))
 
     def test_writes_that_stop(self):
         """After 200 intervals, which are 600 rounds, none for the 7 rounds of a target of 70 s, so for 3 intervals."""
-        it = of(f"{SHARED} fanout=3 interval=30 target=70 hours=1")
+        it = of(f"{self.words} target=70 hours=1")
         text = it.scene("many-stop")
         self.assertEqual((7, 609, 201, True), (it.target, it.rounds("many-stop"), text.count("[[load]]"),
                                                text.endswith(scenario.load(601, 609, 0))))
 
     def test_runs_that_bound(self):
         """An hour is 120 intervals of half a minute, behind 100: the rounds 301 to 660, two of three without writes."""
-        it = of(f"{SHARED} fanout=3 interval=30 hours=1")
+        it = of(f"{self.words} hours=1")
         self.assertEqual((660, (301, 660), 220), (it.rounds("many-bound"), it.window("many-bound"),
                                                   it.scene("many-bound").count("[[load]]")))
 
@@ -243,44 +235,43 @@ class Calls(unittest.TestCase):
 
 
 class Healing(unittest.TestCase):
-    def test_when_it_begins(self):
-        """After 50 rounds; and with a half of nodes * writes, 5 of 10, after 100. A split lasts from then on."""
-        cases = {ROOMY: (51, 80), FEW: (101, 130), ROOMY + " split=5": (51, 55), ROOMY + " split=900": (51, 150)}
-        self.assertEqual(cases, {words: (of(words).begins, of(words).ends("split")) for words in cases})
+    # After 50 rounds; and with a half of nodes * writes, 5 of 10, after 100. A split lasts from then on.
+    test_when_it_begins = table(lambda words: (of(words).begins, of(words).ends("split")), {
+        ROOMY: (51, 80), FEW: (101, 130), ROOMY + " split=5": (51, 55), ROOMY + " split=900": (51, 150)})
 
-    def test_what_is_told_of_it(self):
-        """Of 600 intervals 100 are run, and of 30 all."""
-        said = [advise.Stages(of(f"{ROOMY} {more}"), None, None).shorter("split") for more in ("split=600", "")]
-        self.assertEqual([" (a split of 100 stands for 600, as each key is written anew in it)", ""], said)
+    # Of 600 intervals 100 are run, and of 30 all.
+    test_what_is_told_of_it = table(lambda more: advise.Stages(of(f"{ROOMY} {more}"), None, None).shorter("split"), {
+        "split=600": " (a split of 100 stands for 600, as each key is written anew in it)", "": ""})
 
-    def test_what_is_looked_at(self):
-        """A forgotten state is none where nodes don't forget, and what is given as 0 isn't run."""
-        cases = {"": ("split", "restart"), "forget=yes": ("split", "restart", "forgotten"), "split=0": ("restart",),
-                 "split=0 restarts=0 forget=yes": (), "restarts=0": ("split",)}
-        self.assertEqual(cases, {more: of(f"{ROOMY} {more}").heals() for more in cases})
+    # A forgotten state is none where nodes don't forget, and what is given as 0 isn't run.
+    test_what_is_looked_at = table(lambda more: of(f"{ROOMY} {more}").heals(), {
+        "": ("split", "restart"), "forget=yes": ("split", "restart", "forgotten"), "split=0": ("restart",),
+        "split=0 restarts=0 forget=yes": (), "restarts=0": ("split",)})
 
-    def test_what_is_run_of_it(self):
-        """Beside several groups one alone, where nodes forget as they do there. 150 of 300 nodes are the one group."""
-        split, one, both = {"split": ("split",)}, ("restart",), ("restart", "forgotten")
-        cases = {"": split | {"restart": one}, "forget=yes": split | {"forgotten": both},
-                 "restarts=5": split | {"restart": one, "restart-one": one},
-                 "restarts=5 forget=yes split=0": {"forgotten": both, "forgotten-one": both},
-                 "restarts=150 split=0": {"restart": one}, "restarts=0": split}
-        self.assertEqual(cases, {more: of(f"{ROOMY} {more}").healing_stages() for more in cases})
-        self.assertEqual([("split",), ("forgotten", "forgotten-one")],
-                         [tuple(of_these) for _, of_these in of(f"{ROOMY} restarts=5 forget=yes").healing_groups()])
+    # Beside several groups one alone, where nodes forget as they do there. 150 of 300 nodes are the one group.
+    SPLIT, ONE, BOTH = {"split": ("split",)}, ("restart",), ("restart", "forgotten")
+    test_what_is_run_of_it = table(lambda more: of(f"{ROOMY} {more}").healing_stages(), {
+        "": SPLIT | {"restart": ONE}, "forget=yes": SPLIT | {"forgotten": BOTH},
+        "restarts=5": SPLIT | {"restart": ONE, "restart-one": ONE},
+        "restarts=5 forget=yes split=0": {"forgotten": BOTH, "forgotten-one": BOTH},
+        "restarts=150 split=0": {"restart": ONE}, "restarts=0": SPLIT})
+
+    def test_one_group_alone(self):
         it = of(f"{ROOMY} restarts=5 forget=yes")
+        self.assertEqual([("split",), ("forgotten", "forgotten-one")],
+                         [tuple(of_these) for _, of_these in it.healing_groups()])
         text = it.scene("forgotten-one")
         self.assertEqual((5, 5, 5, it.begins, True), (
             text.count("[[restart]]"), text.count("forget = true\n"), text.count(f"round = {it.begins}\n"),
             it.ends("forgotten-one"), text.startswith("format = 2\n")))
 
-    def test_who_restarts(self):
-        """One node, or a tenth of 50 in each of ten rounds; of 100 nodes 20 in each of two, and of 10 nodes 4 in one,
-        as together they are no more than half."""
-        cases = {ROOMY: (1, 1, 51), LARGE: (5, 10, 60), SHARED + " restarts=20": (20, 2, 52),
-                 SHARED + " restarts=60": (50, 1, 51), FEW + " restarts=4": (4, 1, 101)}
-        self.assertEqual(cases, {words: (*of(words).restarting(), of(words).ends("restart")) for words in cases})
+    # One node, or a tenth of 50 in each of ten rounds; of 100 nodes 20 in each of two, and of 10 nodes 4 in one, as
+    # together they are no more than half.
+    test_who_restarts = table(lambda words: (*of(words).restarting(), of(words).ends("restart")), {
+        ROOMY: (1, 1, 51), LARGE: (5, 10, 60), SHARED + " restarts=20": (20, 2, 52),
+        SHARED + " restarts=60": (50, 1, 51), FEW + " restarts=4": (4, 1, 101)})
+
+    def test_no_more_than_half_restart(self):
         found = {(nodes, each): of(f"nodes={nodes} keys=1 writes=1 entry=40 packet=4000 restarts={each}").restarting()
                  for nodes in (2, 3, 20, 21, 30) for each in range(1, nodes + 1)}
         self.assertEqual({}, {told: (each, groups) for told, (each, groups) in found.items()
@@ -306,17 +297,14 @@ class Reading(unittest.TestCase):
         self.found = found_of({(9, DEPTH): [rows(2, 3, 8, 9, 5, 4), rows(4, 4, 7, 5, 6, 6)]})
 
     def test_window(self):
-        found = self.found
-        self.assertEqual([9, 7], found.worst(9, DEPTH, (3, 4)))
-        self.assertEqual([85.0, 60.0], found.cut(9, DEPTH, (3, 4)))
+        self.assertEqual([9, 7], self.found.worst(9, DEPTH, (3, 4)))
+        self.assertEqual([85.0, 60.0], self.found.cut(9, DEPTH, (3, 4)))
 
     def test_floor(self):
         """In the rounds 3 and 4: the first seed cut nothing with 9 entries, the second with 12, and only up to round 5.
         Up to round 6 it has no such run."""
-        for row in self.found.rows[(9, DEPTH)][0]:
-            row["cut"] = 0
         self.found.rows[(12, NEWEST)] = [rows(2, 3, 9, 9, 9, 9), rows(4, 4, 6, 5, 5, 5)]
-        for row in self.found.rows[(12, NEWEST)][1][:5]:
+        for row in [*self.found.rows[(9, DEPTH)][0], *self.found.rows[(12, NEWEST)][1][:5]]:
             row["cut"] = 0
         self.assertEqual({(3, 4): [9, 6], (3, 6): []}, {it: self.found.uncut(it) for it in ((3, 4), (3, 6))})
 
@@ -330,21 +318,21 @@ class Reading(unittest.TestCase):
         """A split is in round 3 alone, where the levels are 4 and 6. A write of that round that is missing since is 5
         rounds old in round 7, and 7 in round 9: before, `greatest` at the level says nothing of it. So the first seed
         is back in round 8, which is 5 after the split, and the other in round 9."""
-        self.found.rows = {(9, DEPTH): [rows(2, 3, 3, 4, 4, 4, 5, 4, 4), rows(4, 5, 5, 6, 5, 6, 5, 6, 6)]}
-        self.assertEqual([5, 6], self.found.healed_after("split", 9, DEPTH, 3))
-
-    def test_level(self):
-        """The first half of the rounds 7 to 10 has 2 and 3, the second 5 and 4; that of 9 to 12 has 5 and 4, then 3 and
-        4."""
-        self.found.rows = {(9, DEPTH): [rows(*[0] * 6, 2, 2, 4, 5, 3, 1), rows(*[0] * 6, 3, 2, 4, 4, 4, 2)]}
-        cases = {(7, 10): False, (9, 12): True}
-        self.assertEqual(cases, {it: self.found.suffices(9, DEPTH, it) for it in cases})
+        found = found_of({(9, DEPTH): [rows(2, 3, 3, 4, 4, 4, 5, 4, 4), rows(4, 5, 5, 6, 5, 6, 5, 6, 6)]})
+        self.assertEqual([5, 6], found.healed_after("split", 9, DEPTH, 3))
 
     def test_forgotten(self):
         """Old state was left over up to round 5 under the first seed, and to the end under the other."""
         for row in [*self.found.rows[(9, DEPTH)][0][:5], *self.found.rows[(9, DEPTH)][1]]:
             row["leftover"] = 1
         self.assertEqual([3, None], self.found.healed_after("forgotten", 9, DEPTH, 3))
+
+    def test_level(self):
+        """The first half of the rounds 7 to 10 has 2 and 3, the second 5 and 4; that of 9 to 12 has 5 and 4, then 3 and
+        4."""
+        found = found_of({(9, DEPTH): [rows(*[0] * 6, 2, 2, 4, 5, 3, 1), rows(*[0] * 6, 3, 2, 4, 4, 4, 2)]})
+        cases = {(7, 10): False, (9, 12): True}
+        self.assertEqual(cases, {it: found.suffices(9, DEPTH, it) for it in cases})
 
 
 class Aged(unittest.TestCase):

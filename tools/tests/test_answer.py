@@ -108,10 +108,11 @@ class Decided(unittest.TestCase):
         self.assertTrue(tenth.above_floor().endswith("had 8 to 9 under the same 2 seeds (1000 nodes run)"))
 
     def test_no_smaller_one_close(self):
-        """450 aren't worse than 600, which are taken, but than the 1000."""
-        found = roomy({1000: [7, 7], 600: [7, 8], 450: [8, 8]})
-        self.assertEqual((600, None), (found.budget, found.smaller()))
-        self.assertNotIn("450", " ".join(found.too_close()))
+        """450 aren't worse than 600, which are taken, but than the 1000; or they aren't level."""
+        for at_450, rising in (([8, 8], []), ([7, 8], [450])):
+            found = roomy({1000: [7, 7], 600: [7, 8], 450: at_450}, rising=rising)
+            self.assertEqual((600, None), (found.budget, found.smaller()))
+            self.assertNotIn("450", " ".join(found.too_close()))
 
     def test_other_modes(self):
         """precise-newest isn't better than scuttle-depth, each with 1000, but than it with 600: so 1000 are taken.
@@ -427,6 +428,10 @@ class Bounded(unittest.TestCase):
         self.assertEqual((False, 1000, f"no budget that fits is enough: {why}"),
                          (found.suffices, found.budget, found.headline()))
         self.assertIn(f"  worst staleness     not known: {why}", answer.in_words(found, None))
+        # (few intervals show a level of up to 30, but those that bound them leave out 50)
+        few = decided("nodes=400 keys=4 writes=2 entry=40 packet=40000", {800: [9, 9], 1000: [9, 9]}, stage="few")
+        self.assertEqual("none keeps a level of at most 50 rounds in runs of 1200 rounds (20 min)",
+                         bound(few, {800: [9, 9]}).no_level())
 
 
 class Words(unittest.TestCase):

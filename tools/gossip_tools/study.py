@@ -58,8 +58,8 @@ class Study:
         self.usual = told["mode"] or scenario.USUAL_MODE
         self.parts = 10 if cluster.is_too_large(told["nodes"], told["keys"]) else 1
         if self.parts > 1 and self.usual != scenario.USUAL_MODE:
-            raise Refused(f"{told['nodes']} nodes are more than a scenario takes, and a tenth of them says "
-                                  f"little but in {scenario.USUAL_MODE}: leave out mode={self.usual}.")
+            raise Refused(f"{told['nodes']} nodes are more than a scenario takes, and a tenth of them says little but "
+                          f"in {scenario.USUAL_MODE}: leave out mode={self.usual}.")
         self.all_nodes, self.keys, self.writes = int(told["nodes"]), int(told["keys"]), int(told["writes"])
         self.nodes = self.all_nodes // self.parts
         refuse_if(cluster.is_too_large(self.nodes, self.keys), "a tenth of these nodes is still too large for a "
@@ -241,10 +241,9 @@ class Study:
             return
         asked, most = self.asked_for(), self.most_intervals() - max(FILLED.values())
         most = min(most, int(MOST_WORK / self.work_of(1)))
-        if not 1 <= asked <= most:
-            hours = Fraction(int(100 * most * self.fanout * self.seconds / 3600), 100)
-            raise Refused(f"hours={cluster.plain(self.hours)} would be {asked} intervals under each seed, and "
-                                  f"from 1 to {most} are run: hours={cluster.plain(hours)} is the most.")
+        hours = cluster.plain(Fraction(int(100 * most * self.fanout * self.seconds / 3600), 100))
+        refuse_if(not 1 <= asked <= most, f"hours={cluster.plain(self.hours)} would be {asked} intervals under each "
+                  f"seed, and from 1 to {most} are run: hours={hours} is the most.")
 
     def asked_for(self):
         """The intervals of the hours that were told."""

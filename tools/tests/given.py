@@ -1,5 +1,7 @@
 """What tests are given: clusters by their words, and figures for which nothing was run."""
 from gossip_tools import advise, answer, cluster, study
+from gossip_tools.commands import Refused
+from gossip_tools.read import NotWhole
 
 DEPTH, BREADTH, OLDEST, NEWEST = "scuttle-depth", "scuttle-breadth", "precise-oldest", "precise-newest"
 ROOMY = "nodes=300 keys=4 writes=2 entry=40 packet=40000"
@@ -47,6 +49,14 @@ def bound(decision, depth, rising=()):
     figures, pair = Figures(of_depth(depth), rising), (decision.budget, decision.mode)
     decision.bound = answer.Bound(decision.study, f"{decision.stage}-bound", figures, pair)
     return decision
+
+
+def outcome(function, *words):
+    """What a call answers, or with which words it refuses."""
+    try:
+        return function(*words)
+    except (Refused, NotWhole) as why:
+        return str(why)
 
 
 def table(function, outcomes):

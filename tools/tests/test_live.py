@@ -2,9 +2,9 @@
 import unittest
 from types import SimpleNamespace
 
-from gossip_tools import live, live_beside, live_figures
-from gossip_tools.commands import Refused
+from gossip_tools import live, live_beside, live_figures, scenario
 from gossip_tools.live_node import Entry
+from given import outcome
 from test_live_node import mark, plan
 
 
@@ -38,15 +38,11 @@ class Plans(unittest.TestCase):
 
     def test_too_large(self):
         """2000 nodes have a digest of 24000 bytes and may lack 1999 entries of 24 bytes."""
-        text = "".join(f"{name} = {value!r}\n" for name, value in {
-            "format": 1, "nodes": 2000, "keys": 1, "rounds": 1, "seed": 0, "mode": "scuttle-depth", "budget": 2000,
-            "peers": "ring", "rotation": "none", "choice": "cycle", "loss_ppm": 0, "writes": 1}.items())
+        text, less = (scenario.written(scenario.top(2000, 1, 1, 1, 0, budget, False)) for budget in (2000, 1700))
         asked = live.told([])
-        with self.assertRaisesRegex(Refused, "may take 71995 bytes, and a datagram takes 65507"):
-            live.plan_of(text, asked)
-        self.assertEqual(1700, live.plan_of(text.replace("budget = 2000", "budget = 1700"), asked).budget)
-        with self.assertRaisesRegex(Refused, "1999 others"):
-            live.plan_of(text, {**asked, "fanout": 2000})
+        self.assertIn("may take 71995 bytes, and a datagram takes 65507", outcome(live.plan_of, text, asked))
+        self.assertEqual(1700, live.plan_of(less, asked).budget)
+        self.assertIn("1999 others", outcome(live.plan_of, text, {**asked, "fanout": 2000}))
 
 
 def told(writes=(), generations=None, marks=None, **counts):
@@ -111,8 +107,7 @@ class Beside(unittest.TestCase):
                   "[[restart]]\nnode = 1\nround = 4\ndown = 3\nforget = true\n[[load]]\nfrom = 4\nto = 6\nwrites = 5\n"
                   "[[load]]\nfrom = 2\nto = 3\nwrites = 0\n[[load]]\nfrom = 5\nto = 6\nwrites = 0\n")
         self.assertEqual(wanted, live_beside.stretched(self.top, 3))
-        with self.assertRaisesRegex(Refused, "needs 1001 loads"):
-            live_beside.stretched({**self.top, "rounds": 1000}, 3)
+        self.assertIn("needs 1001 loads", outcome(live_beside.stretched, {**self.top, "rounds": 1000}, 3))
 
     def test_intervals(self):
         rows = [{"round": it, "entries": it, "cut": 10 * it, "stale": it, "greatest": it} for it in range(1, 7)]
@@ -139,9 +134,7 @@ class Words(unittest.TestCase):
     def test_refused(self):
         cases = {"latency": "isn't one of", "latency=": "latency is a number", "latency=0.2,0.1": "the least first",
                  "latency=1,2,3": "the least first", "interval=0": "at least 0.01", "interval=1s": "is a number",
-                 "fanout=0": "1 to 4095", "fanout=1.5": "whole number", "beside=101": "1 to 100", "seed=1": "isn't one"}
-        for word, why in cases.items():
-            with self.subTest(word), self.assertRaisesRegex(Refused, why):
-                live.told([word])
-        with self.assertRaisesRegex(Refused, "comes twice"):
-            live.told(["fanout=1", "fanout=2"])
+                 "fanout=0": "1 to 4095", "fanout=1.5": "whole number", "beside=101": "1 to 100", "seed=1": "isn't one",
+                 "fanout=1 fanout=2": "comes twice"}
+        for words, why in cases.items():
+            self.assertIn(why, outcome(live.told, words.split()))

@@ -5,15 +5,7 @@ from fractions import Fraction
 
 from gossip_tools import cluster, scenario
 from gossip_tools.commands import Refused
-from given import BREADTH, DEPTH, NEWEST, OLDEST, table
-
-
-def refusal(function, *words):
-    """What a call is refused with."""
-    try:
-        return function(*words)
-    except Refused as why:
-        return str(why)
+from given import BREADTH, DEPTH, NEWEST, OLDEST, outcome, table
 
 
 class Budgets(unittest.TestCase):
@@ -41,7 +33,7 @@ class Advice(unittest.TestCase):
         ("packet", "2m"): "write packet=2000000, or packet=2097152 where K is 1024",
         ("nodes", "1'000"): "write nodes=1000", ("nodes", "many"): "", ("entry", "4.5"): ""})
 
-    test_no_numbers = table(lambda *it: refusal(cluster.number_of, *it), {
+    test_no_numbers = table(lambda *it: outcome(cluster.number_of, *it), {
         ("nodes", "-5"): "nodes is a whole number from 0 on, which '-5' isn't.",
         ("loss", "-0.5"): "loss is a number from 0 on, which '-0.5' isn't.",
         ("entry", "-40"): "entry is a number of bytes from 0 on, which '-40' isn't.",

@@ -2,8 +2,8 @@
 import unittest
 
 import given
-from gossip_tools import answer, cluster, rules, target
-from given import BREADTH, DEPTH, NEWEST, OLDEST, of
+from gossip_tools import answer, rules, target
+from given import BREADTH, DEPTH, NEWEST, OLDEST, of, outcome, table
 
 # What a budget is divided into: so many rounds the worst staleness then has, rounded up.
 ROUNDS = {DEPTH: 800, BREADTH: 1200, OLDEST: 900, NEWEST: 1000}
@@ -45,8 +45,8 @@ class Made:
         return Figures(pairs, self.rounds, self.last if bounds else 0, self.rising if bounds else ())
 
 
-def searched(words, rounds=ROUNDS, *bound):
-    it = of(f"nodes=100 keys=4 writes=1 entry=40 {words}")
+def searched(words, rounds=ROUNDS, *bound, nodes="nodes=100 keys=4"):
+    it = of(f"{nodes} writes=1 entry=40 {words}")
     search = target.Search(it, Made(it, rounds, *bound))
     return search, search.carry_out()
 
@@ -87,9 +87,7 @@ class Searched(unittest.TestCase):
         self.assertEqual(cases, {more: (it.best(), it.packet(it.best())) for more, it in found.items()})
 
     def test_large_budgets_are_known_to_a_hundredth(self):
-        it = of("nodes=2000 keys=4 writes=1 entry=40 target=10 mode=scuttle-depth")
-        search = target.Search(it, Made(it, {DEPTH: 12345}))
-        search.carry_out()
+        search, _ = searched("target=10 mode=scuttle-depth", {DEPTH: 12345}, nodes="nodes=2000 keys=4")
         least, below = search.least[DEPTH], search.below[DEPTH]
         self.assertEqual((True, True, True),
                          (below < 1235 <= least, least - below <= least // 100, len(search.pairs) < 12))
@@ -104,33 +102,24 @@ class Searched(unittest.TestCase):
     def test_a_largest_budget_that_may_cut(self):
         """1999 * 64 entries may be lacking, and a scenario takes a budget of 65535 at most. So all modes are run with
         that, and one that has 11 rounds then isn't looked at any more."""
-        it = of("nodes=2000 keys=64 writes=1 entry=40 target=10")
-        search = target.Search(it, Made(it, ROUNDS | {NEWEST: 11 * 65535}))
-        self.assertEqual((True, [BREADTH, DEPTH, OLDEST]), (search.carry_out(), search.modes))
+        search, is_met = searched("target=10", ROUNDS | {NEWEST: 11 * 65535}, nodes="nodes=2000 keys=64")
+        self.assertEqual((True, [BREADTH, DEPTH, OLDEST]), (is_met, search.modes))
         self.assertEqual({(65535, mode) for mode in ROUNDS}, {pair for pair in search.pairs if pair[0] == 65535})
 
     def test_a_tenth(self):
         """1000 of 10000 nodes are run, to whose rounds six are added, with budgets from 1000 to 2000: 10 rounds, which
         1000 entries have, are 16 for all."""
-        cases = {"target=16": (True, 1000), "target=13": (True, 1429), "target=12": (False, 2000)}
-        for words, wanted in cases.items():
-            it = of(f"nodes=10000 keys=4 writes=1 entry=40 {words}")
-            search = target.Search(it, Made(it, {DEPTH: 10000}))
-            is_met = search.carry_out()
-            self.assertEqual(wanted[0], is_met)
-            self.assertTrue(wanted[1] <= search.least[DEPTH] <= wanted[1] * 1.02, search.least)
+        for words, wanted, least in (("target=16", True, 1000), ("target=13", True, 1429), ("target=12", False, 2000)):
+            search, is_met = searched(words, {DEPTH: 10000}, nodes="nodes=10000 keys=4")
+            self.assertEqual(wanted, is_met)
+            self.assertTrue(least <= search.least[DEPTH] <= least * 1.02, search.least)
 
-    def test_runs_that_can_show_it(self):
-        """200 rounds show a level of up to 100, 400 of 200, and 800 of 400; above that none does."""
-        cases = {100: "many", 101: "longer", 200: "longer", 400: "longest"}
-        found = {}
-        for rounds in cases:
-            it = of(f"nodes=100 keys=4 writes=1 entry=40 target={rounds}")
-            found[rounds] = target.Search(it, Made(it, ROUNDS)).stage
-        self.assertEqual(cases, found)
-        for seconds, why in ((401, "401 rounds of 1 s, and has to be from 1 to 400"), ("0.9", "0 rounds of 1 s")):
-            with self.assertRaisesRegex(cluster.Refused, why):
-                of(f"nodes=100 keys=4 writes=1 entry=40 target={seconds}")
+    # 200 rounds show a level of up to 100, 400 of 200, and 800 of 400; above that none does.
+    test_runs_that_can_show_it = table(lambda rounds: searched(f"target={rounds}")[0].stage, {
+        100: "many", 101: "longer", 200: "longer", 400: "longest"})
+    test_targets_that_no_run_can_show = table(lambda seconds: outcome(searched, f"target={seconds}"), {
+        "401": "target=401 would be 401 rounds of 1 s, and has to be from 1 to 400 of them.",
+        "0.9": "target=0.9 would be 0 rounds of 1 s, and has to be from 1 to 400 of them."})
 
 
 class Told(unittest.TestCase):

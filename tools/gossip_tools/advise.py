@@ -121,16 +121,14 @@ class Stages:
         self.made = {}
 
     def runs(self, stage, seeds):
-        """The scenario of a stage, and those of its runs with these budgets and modes, each under its seeds, by their
-        names."""
+        """The scenario of a stage, and by their names those of its runs: budgets and modes, each under its seeds."""
         text, runs = self.study.scene(stage), {}
         for choices in self.study.choices(stage, seeds):
             runs |= sweep.spread(text, choices)
         return text, runs
 
     def works(self, stage, pairs, seeds=None):
-        """The work of each run of a stage with these budgets and modes, by its name, under its seeds if no others are
-        told."""
+        """The work of each of these runs of a stage, by its name, under its seeds if no others are told."""
         it = self.study
         return {f"{stage}/{name}": it.work(stage, *pair) for pair in pairs
                 for name in self.runs(stage, {pair: seeds or it.seeds(stage)})[1]}
@@ -153,8 +151,7 @@ class Stages:
         self.progress.plan(work | again)
 
     def carry_out(self, stage, pairs, seeds=None):
-        """Makes the runs of a stage with these budgets and modes, under its seeds if no others are told, and reads
-        them."""
+        """Makes these runs of a stage, under its seeds if no others are told, and reads them."""
         made = self.made.setdefault(stage, {})
         for pair in pairs:
             made[pair] = max(made.get(pair, ()), seeds or self.study.seeds(stage), key=len)
@@ -175,15 +172,13 @@ class Stages:
         return f" (a split of {it.split} stands for {it.told['split']}, as each key is written anew in it)"
 
     def choose(self, stage, pairs, dropped):
-        """What follows from these runs of a stage. What can't be chosen any more after the first seeds isn't run under
-        the others."""
+        """What these runs choose. What can't be chosen after the first seeds isn't run under the others."""
         decision = answer.Decision(self.study, self.carry_out(stage, pairs, rules.FIRST), stage, dropped)
         self.carry_out(stage, decision.may_be_chosen())
         return answer.Decision(self.study, self.carry_out(stage, pairs, rules.FIRST), stage, dropped)
 
     def decide(self, stage, pairs, dropped=()):
-        """What follows from these runs of a stage, once the mode that is chosen was run with nodes * writes too, and,
-        where that is worse than the largest budget, with those between."""
+        """What these runs choose, once nodes * writes were run too, and what is between where those are worse."""
         decision = self.choose(stage, pairs, dropped)
         if (knee := (self.study.knee, decision.mode)) not in pairs:
             pairs = pairs | {knee}
@@ -193,8 +188,7 @@ class Stages:
         return decision
 
     def decide_in_time(self, stages, pairs, decision):
-        """What follows from the first of these stages in which a budget is enough, or from the last. From one to the
-        next those modes are left out than which another is better."""
+        """What the first of these stages chooses that shows a level, or the last. Modes that lag aren't run on."""
         dropped = ()
         for stage in stages:
             self.expect(decision, stage)
@@ -227,8 +221,7 @@ class Stages:
         return decision
 
     def look_at_floor(self, decision):
-        """Has it what no mode and no budget goes below, from runs that cut nothing: its own, or others under the first
-        of these seeds."""
+        """Has it what nothing goes below, from runs that cut nothing: its own, or others under the first seeds."""
         it, bound = self.study, decision.bound
         decision.floor = bound.found.uncut(bound.window)
         if not decision.floor:
@@ -259,8 +252,7 @@ def look(folder):
 
 
 def call_with_enough(decision, folder):
-    """The whole call with room for nodes * writes entries, into another folder; empty where it has that already, and
-    where that wasn't enough either."""
+    """The whole call with room for nodes * writes entries, into another folder; empty where it wouldn't help."""
     if decision.suffices or not decision.knee_suffices():
         return ""
     return call_with(decision.study, decision.study.packet(decision.mode), f"{folder}-enough")
@@ -288,8 +280,7 @@ class Told:
 
 
 def first_answer(it, stages, told, check_sum):
-    """The first answer, from the fewest intervals, with what bounds it and what heals. The folder has it until the last
-    answer comes."""
+    """The first answer, which the folder has until the last one comes: what is chosen, bounds it and heals."""
     first = stages.decide(it.steady_stages()[0], it.wanted(it.usual))
     told.tell(answer.first_words(first, call_with_enough(first, stages.folder)))
     if not first.suffices:
@@ -312,8 +303,7 @@ def first_answer(it, stages, told, check_sum):
 
 
 def bounded_decision(it, stages, decision):
-    """What is decided and bounded by runs in which `greatest` is level: the first answer, or what follows from more
-    intervals, up to the most."""
+    """What is decided, from more and more intervals until the runs that bound it are level too."""
     while not (decision.suffices and stages.is_level(decision)):
         later = it.later_stages(decision.stage)
         if not later:
@@ -324,8 +314,7 @@ def bounded_decision(it, stages, decision):
 
 
 def last_answer(it, stages, first):
-    """The last answer: what is decided, with smaller budgets beside it, and what heals with it, where a budget that
-    fits is enough."""
+    """What is decided, with smaller budgets beside it, and what heals with it, where a budget is enough."""
     decision = bounded_decision(it, stages, first)
     if not decision.suffices:
         return decision, None

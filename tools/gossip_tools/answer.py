@@ -143,8 +143,7 @@ class Decision(Choice):
             f"{in_rounds(self.figures[best])}, under nearly all seeds, and weren't run on: {', '.join(lost)}.")]
 
     def no_level(self):
-        """That no budget that fits has a level that the longest runs show, be it those that choose or those that
-        bound."""
+        """That no budget that fits has a level that the longest runs can show, of those that choose or bound."""
         if self.bound:
             level = rules.highest_level(self.bound.window)
             return f"none keeps a level of at most {level} rounds in {self.bound.runs()}"

@@ -38,8 +38,7 @@ class Folder:
             yield self
 
     def look(self):
-        """Refuses a folder with other things in it, with runs of another scenario, of other fields or of another
-        program."""
+        """Refuses a folder with other things, or runs of another scenario, other fields or another program."""
         if not self.path.exists():
             return
         refuse_if(not self.path.is_dir(), f"{self.path} isn't a folder: name another one.")

@@ -55,8 +55,7 @@ class Healing:
             (decision.most, self.mode) in it.rows for it in (*self.stages.values(), *self.alone.values()))
 
     def in_words(self, stage, budget):
-        """How long it takes at most in most cases: the rounds, or that they weren't enough, and the time with what the
-        seeds had."""
+        """At most how long it takes in most cases, or that it took longer than was run; the time, and the seeds."""
         taken = self.taken(stage, budget)
         bound, over = rules.bound_of(taken), [it for it in taken if it is not None]
         never = f"not within {self.study.rounds(stage) - self.study.ends(stage)} rounds under {taken.count(None)}"

@@ -98,8 +98,7 @@ def cards(decision, healing, more):
 
 
 def layout(letters):
-    """How many columns cards with so many letters have, and which of them take two, so that each row is full: those
-    with the most letters."""
+    """How many columns so many cards have, and which take two so that rows are full: those with most letters."""
     rows = -(-len(letters) // MOST_COLUMNS)
     columns = -(-len(letters) // rows)
     by_letters = sorted(range(len(letters)), key=lambda at: -letters[at])
@@ -122,31 +121,23 @@ def paragraphs(lines):
                    for it in lines)
 
 
-def captions(decision, healing):
-    it = decision.study
-    first, last = decision.window
+def captions(decision):
+    """What each picture shows, whether it is drawn or not."""
+    it, (first, last), (each, _) = decision.study, decision.window, decision.study.restarting()
     above = "What is higher than the picture is in the table. "
     same = plots.lie_on_each_other(decision)
     same = f"All modes have the same figures from {it.whole(same)} entries on. " if same else ""
-    healed = captions_of_healing(it, healing.mode) if healing else {}
     most = " Of each interval the round with the most is shown." if it.fanout > 1 else ""
+    band = "The line has the seed in the middle, bars go from the least to the most of the seeds"
     return {
         "worst": f"The knee: worst staleness in rounds {first} to {last} of the runs that chose. Bars go from the "
                  f"least to the most of the seeds, points are the seed in the middle. {above}{same}",
-        "cut": f"The share of lacking entries that the budget cut, in the same rounds.",
+        "cut": "The share of lacking entries that the budget cut, in the same rounds.",
         "greatest": "The age of the oldest write that some copy lacks, round by round, under seed 1. Each mode has the "
                     f"budget that it would take, as the key says. Wide curves lie below narrow ones.{most}",
         "stale": f"The share of copies that are behind their owner, in the same runs.{most}",
-        **healed,
-    }
-
-
-def captions_of_healing(it, mode):
-    each, _ = it.restarting()
-    band = "The line has the seed in the middle, bars go from the least to the most of the seeds"
-    return {
         "split": f"After a split of half of the nodes for {it.split} {unit(it)}, whose last round is 0, in "
-                 f"{mode}. {band}.",
+                 f"{decision.mode}. {band}.",
         "restart": f"After {each if it.restarts else 'one'} node{'s' if each > 1 else ''} restarted"
                    f"{f' in each of some {unit(it)}' if it.restarts else ''}, the last in round 0. A restarted "
                    "node lacks the writes of round 1, so `greatest` is the number of the round until it has caught up. "
@@ -162,7 +153,7 @@ def pictures(folder, decision, healing):
         return "<p class='mind'>gnuplot isn't there, so there are no pictures. With it the same call draws them.</p>"
     room = folder / "pictures"
     room.mkdir(exist_ok=True)
-    text, said = "", captions(decision, healing)
+    text, said = "", captions(decision)
     heads = {"worst": "The knee", "greatest": "Round by round", "split": "Healing"}
     for name, script in plots.all_of(decision, healing).items():
         svg = base64.b64encode(plots.draw(room, name, script).encode()).decode()

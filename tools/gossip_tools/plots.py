@@ -77,8 +77,9 @@ def knee(decision, name, y, figure, capped):
     text += f"set logscale x 2\nset xtics ({tics}) rotate by -45\nset yrange [0:{1.08 * top:.4g}]\n"
     text += f"set xrange [{0.85 * budgets[0]:.6g}:{1.18 * budgets[-1]:.6g}]\n"
     text += budget_line(decision, budgets[-1])
-    if capped and study.target and study.parts == 1:
-        text += level_line(study.target, "target", 1, 3)
+    if capped and (at := study.target) and study.parts == 1:
+        text += (f'set arrow from graph 0, first {at} to graph 1, first {at} {LINE} 3\n'
+                 f'set label "target" at graph 1, first {at} right offset 0, 0.5\n')
     return text + "set clip two\nplot " + ", \\\n  ".join(plots) + "\n"
 
 
@@ -95,12 +96,6 @@ def budget_line(decision, most):
     return f'set arrow from {at}, graph 0 to {at}, graph 1 {LINE} 2\nset label "{label}" at {at}, graph 1.03 center\n'
 
 
-def level_line(rounds, label, at, dashes):
-    """A line at so many rounds, with its label that far from the left."""
-    return (f'set arrow from graph 0, first {rounds} to graph 1, first {rounds} {LINE} {dashes}\n'
-            f'set label "{label}" at graph {at}, first {rounds} right offset 0, 0.5\n')
-
-
 def spaced(budgets):
     """Those of the budgets whose labels have room beside each other."""
     kept = []
@@ -111,8 +106,7 @@ def spaced(budgets):
 
 
 def rounds(decision, name, y, value):
-    """A column over the rounds, by mode, under the first seed: the most of each interval; each mode with the budget
-    that it would take."""
+    """A column over the rounds by mode, each with the budget that it would take, under the first seed."""
     study, found = decision.study, decision.found
     text, plots = HEAD.format(name=name, x="round", y=y), []
     for at, (mode, (colour, width, _)) in enumerate(STYLES.items()):

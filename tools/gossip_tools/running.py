@@ -287,8 +287,7 @@ def far(folder, names, program, hosts, jobs, done):
 
 
 def why_by_log(log, names, said):
-    """Which run failed, on which machine, and why, by the log that GNU parallel has of its jobs; empty where none has
-    failed by that."""
+    """Which run failed, where and why, by the log that GNU parallel has of its jobs; empty where none has."""
     for line in log.readlines()[1:]:
         place, host, _, _, _, _, status, number, _ = line.split("\t", 8)
         if (status, number) != ("0", "0"):

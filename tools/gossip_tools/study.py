@@ -93,8 +93,7 @@ class Study:
         self.check_hours()
 
     def room(self, mode):
-        """The entries that a delta of the whole cluster has room for in this mode; without a packet all that are of
-        use."""
+        """The entries that a delta of all nodes has room for in a mode; without a packet all that are of use."""
         if self.told["packet"] is None:
             return self.all_nodes * self.keys
         return (self.told["packet"] - self.shared_digest(mode)) / self.told["entry"]
@@ -196,8 +195,7 @@ class Study:
         return rules.most_of(self.fits[mode], self.nodes, self.keys, self.knee)
 
     def ample(self):
-        """A budget with which nothing is cut, as a node never lacks more than `nodes * keys` entries; or the largest
-        that a scenario takes, if that is less."""
+        """A budget that cuts nothing, as a node lacks no more than all keys; or the largest of a scenario."""
         entries, most = self.nodes * self.keys, scenario.LIMITS["budget"][1]
         if self.in_bytes:
             entries, most = (int(it // scenario.MEAN) for it in (
@@ -271,8 +269,7 @@ class Study:
         return self.split if stage == "split" else 1 if stage in ONE else self.restarting()[1]
 
     def seeds(self, stage):
-        """The seeds of a stage: of those that choose, where it does, and of those that bound, more for what heals where
-        the work allows it."""
+        """The seeds of a stage, by whether it chooses or bounds; more for what heals where the work allows it."""
         if stage in WINDOWS or stage in STOPS:
             return rules.CHOOSING if stage in WINDOWS else rules.FIRST
         work = self.work_of(sum(map(self.intervals, self.healing_stages())), rules.MORE_BOUNDING)

@@ -50,8 +50,7 @@ def judged(decision):
 
 
 class Ages:
-    """How many copies are stale with a budget, and how old a typical stale one is: figures of runs, and of such in
-    which the writes stop."""
+    """How many copies are stale and how old a typical one is, by runs and by such in which the writes stop."""
 
     def __init__(self, it, stage, found, stopped):
         self.study, self.found, self.stopped = it, found, stopped
@@ -151,8 +150,7 @@ class Search:
         return self.bound()
 
     def halve(self):
-        """Finds the modes whose largest budget keeps to the target, and the least of each. Where nothing can be cut,
-        all modes do the same."""
+        """Finds which modes keep to the target, and the least budget of each. Where nothing is cut all do alike."""
         it = self.study
         cuts = self.top < (it.nodes - 1) * it.keys
         self.run({(self.top, mode) for mode in (it.fits if cuts else [it.usual])})
@@ -251,8 +249,7 @@ class Met(answer.Decision):
         return f"not known: below {it.knee_name} a tenth of the nodes says too little" if it.parts > 1 else ""
 
     def more(self):
-        """What stands beside the worst staleness, as names and words: whether the target is met, what the next smaller
-        budget has, and how old copies are."""
+        """Whether the target is met, what the next smaller budget has, and ages, as names and words."""
         it = self.study
         is_met = met(it, self.bound) if self.is_met else \
             f"not met: the largest budget that was run has more than {in_time(it)}"

@@ -4,7 +4,8 @@ from gossip_tools.commands import Refused
 from gossip_tools.read import NotWhole
 
 DEPTH, BREADTH, OLDEST, NEWEST = "scuttle-depth", "scuttle-breadth", "precise-oldest", "precise-newest"
-ROOMY = "nodes=300 keys=4 writes=2 entry=40 packet=40000"
+SOME = "nodes=300 keys=4 writes=2 entry=40"
+ROOMY = f"{SOME} packet=40000"
 TENTH = "nodes=10000 keys=4 writes=1 entry=40 packet=640000 digest=20"
 
 

@@ -3,7 +3,7 @@ import pathlib
 import unittest
 
 from gossip_tools import advise, answer, cluster, measures, rules
-from given import BREADTH, DEPTH, NEWEST, OLDEST, ROOMY, TENTH, Figures, bound, decided, of, of_depth, table
+from given import BREADTH, DEPTH, NEWEST, OLDEST, ROOMY, SOME, TENTH, Figures, bound, decided, of, of_depth, table
 
 WORSE_MODES = {(1000, OLDEST): [9, 9], (1000, NEWEST): [9, 9]}
 
@@ -134,8 +134,7 @@ class Decided(unittest.TestCase):
         for rises, first in (([], "Take precise-newest with room for 300 entries"),
                              ([(300, NEWEST)], "No budget that fits is enough: none has a level of at most "
                               "100 rounds within 200. The most that fits: room for 300 entries")):
-            found = decided("nodes=300 keys=4 writes=2 entry=40 packet=24000 digest=10 mode=precise-newest", {},
-                            figures, rises)
+            found = decided(f"{SOME} packet=24000 digest=10 mode=precise-newest", {}, figures, rises)
             lines = answer.in_words(found, None)
             self.assertTrue(lines[0].startswith(first), lines[0])
             self.assertFalse([line for line in lines if "scuttle" in line or "other mode" in line])
@@ -145,8 +144,7 @@ class Decided(unittest.TestCase):
         cases = {"packet=1120 shared=no": "24000 has room for nodes * writes = 600 entries",
                  "packet=4120": "27000 has room for nodes * writes = 600 entries and the digest"}
         for words, delta in cases.items():
-            found = decided(f"nodes=300 keys=4 writes=2 entry=40 digest=10 {words}", {},
-                            {28: [150, 150], 600: [7, 8]}, [28])
+            found = decided(f"{SOME} digest=10 {words}", {}, {28: [150, 150], 600: [7, 8]}, [28])
             self.assertEqual((DEPTH, False, f"packet={delta}, and 7 to 8 rounds in the runs that chose"),
                              (found.mode, found.suffices, found.to_knee()))
             lines = answer.in_words(found, None)
@@ -162,7 +160,7 @@ class Decided(unittest.TestCase):
         """None is level with the 28 entries that fit. One that is lower than the others is named, and the others aren't
         run on; but not where it is no lower under one of two seeds, or all are about the number of the last round, 200.
         """
-        words = "nodes=300 keys=4 writes=2 entry=40 packet=1120"
+        words = f"{SOME} packet=1120"
         rest = {(28, OLDEST): [199, 200], (28, NEWEST): [185, 196]}
         cases = (
             ([150, 170], [171, 190], {DEPTH},
@@ -203,8 +201,7 @@ class Decided(unittest.TestCase):
         for more, at_knee, rising, said in (("", [7, 8], (), small), ("", [7, 11], (), usual),
                                             ("", [7, 8], [600], usual), ("target=11", [7, 8], (), usual),
                                             ("target=10", [7, 8], (), small)):
-            found = decided(f"nodes=300 keys=4 writes=2 entry=40 packet=6000 interval=0.5 {more}", {600: at_knee},
-                            {150: [18, 21]}, rising)
+            found = decided(f"{SOME} packet=6000 interval=0.5 {more}", {600: at_knee}, {150: [18, 21]}, rising)
             self.assertEqual([said, f"Take {said}.", f"First answer, from 200 rounds: {said}."],
                              [found.takes(), answer.in_words(found, None)[0], answer.first_words(found)[0]])
             self.assertEqual(said == small, found.headline() == "scuttle-depth with 150 entries, which are too few")
@@ -220,14 +217,13 @@ class Decided(unittest.TestCase):
 
     def test_calls_that_are_too_many(self):
         """28 entries are fewer than a sixteenth of 600, and a node calls 16 others at most."""
-        found = decided("nodes=300 keys=4 writes=2 entry=40 packet=1120", {}, {28: [90, 91]})
+        found = decided(f"{SOME} packet=1120", {}, {28: [90, 91]})
         self.assertIn("more calls in an interval (fanout=), a shorter interval, ", answer.warnings(found)[0])
 
     def test_nothing_is_run_that_heals(self):
         """28 entries fit of 600, for which the delta is 24000 bytes. The call has the words that aren't the usual ones,
         and comes where a split or restarts were asked for, and where the 600 are enough."""
-        usual = ("gossip_advise -o 'my advice-enough' nodes=300 keys=4 writes=2 entry=40 packet=24000 digest=10 "
-                 "shared=no ")
+        usual = f"gossip_advise -o 'my advice-enough' {SOME} packet=24000 digest=10 shared=no "
         why = "A split, a restart and a rolling restart were not run, as no budget that fits is enough."
         see = f"{why} To see them with a budget that is:"
         cases = {
@@ -237,8 +233,8 @@ class Decided(unittest.TestCase):
             ("split=600", False): [why], ("", False): [],
         }
         for (more, is_enough), said in cases.items():
-            found = decided(f"nodes=300 keys=4 writes=2 entry=40 digest=10 packet=1120 shared=no {more}", {},
-                            {28: [150, 150], 600: [150, 150]}, [28] if is_enough else [28, 600])
+            found = decided(f"{SOME} digest=10 packet=1120 shared=no {more}", {}, {28: [150, 150], 600: [150, 150]},
+                            [28] if is_enough else [28, 600])
             call = advise.call_with_enough(found, pathlib.Path("my advice"))
             missing = answer.not_run(found, call)
             self.assertEqual(said, missing)
@@ -251,8 +247,7 @@ class Decided(unittest.TestCase):
         """Below the knee of 600 the rule for nodes that forget is told, be the budget enough or not."""
         for more, is_told in (("forget=yes", True), ("", False)):
             for rises in ([], [(500, DEPTH)]):
-                found = decided(f"nodes=300 keys=4 writes=2 entry=40 packet=20000 {more}",
-                                {300: [7, 8], 600: [7, 8]}, {500: [7, 8]}, rises)
+                found = decided(f"{SOME} packet=20000 {more}", {300: [7, 8], 600: [7, 8]}, {500: [7, 8]}, rises)
                 self.assertEqual([is_told] * 3, [rules.FORGETFUL in found.forgetful(), *(
                     found.forgetful() in said for said in (answer.warnings(found), answer.first_words(found)))])
 
@@ -262,7 +257,7 @@ class Decided(unittest.TestCase):
         cases = {"packet=16000 shared=no": "24000 has room for nodes * writes = 600 entries",
                  "packet=19000": "27000 has room for nodes * writes = 600 entries and the digest"}
         for words, delta in cases.items():
-            words = f"nodes=300 keys=4 writes=2 entry=40 digest=10 {words}"
+            words = f"{SOME} digest=10 {words}"
             worst = {(of(words).most(mode), mode): [12, 13] for mode in of(words).fits}
             for more, said in (({}, ""), ({600: [7, 8]}, ", and 7 to 8 rounds in the runs that chose")):
                 first = answer.first_words(decided(words, more, worst))[2]
@@ -280,15 +275,13 @@ class Decided(unittest.TestCase):
                           "With the 1000 entries that fit it is 7 to 8 rounds in the runs that chose, where the budget "
                           "has 7 to 8"],
                          [it.partition(sign)[0] for it, sign in zip(said, (" room", ".", ": no better"))])
-        found = decided("nodes=300 keys=4 writes=2 entry=40 packet=24000 digest=1 shared=no", {}, {600: [7, 8]}, (),
-                        "few")
+        found = decided(f"{SOME} packet=24000 digest=1 shared=no", {}, {600: [7, 8]}, stage="few")
         self.assertEqual(2, len(answer.first_words(found)))
 
     def test_calls(self):
         """Where a node calls three others in an interval of 30 s, a round is 10 s: 10 to 11 rounds are 3.3 to 3.7
         intervals. A third of 300 * 2 entries is 200."""
-        found = decided("nodes=300 keys=4 writes=2 entry=40 packet=8000 fanout=3 interval=30 digest=1 shared=no", {},
-                        {200: [10, 11]}, (), "few")
+        found = decided(f"{SOME} packet=8000 fanout=3 interval=30 digest=1 shared=no", {}, {200: [10, 11]}, stage="few")
         self.assertEqual(["First answer, from 60 intervals of 3 rounds: scuttle-depth with room for 200 entries in a "
                           "delta, 8000 bytes (what fits; nodes * writes / 3); packet=8000.",
                           "Worst staleness 10 to 11 rounds, 3.3 to 3.7 intervals, 100 to 110 s so far, which bounds "

@@ -2,7 +2,7 @@
 import statistics
 import subprocess
 
-from gossip_tools import read, scenario
+from gossip_tools import cluster, read, scenario
 from gossip_tools.commands import Refused, refuse_if
 
 SUMS = ("entries", "cut")
@@ -18,15 +18,13 @@ def stretched(top, fanout):
 
     refuse_if((loads := len(top.get("load", [])) + top["rounds"]) > scenario.MOST_SECTIONS, "beside the bench a fanout "
               f"needs {loads} loads, and a scenario takes {scenario.MOST_SECTIONS}: take fewer rounds.")
-    spread = {"from": first, "to": last, "round": first, "down": lambda down: down * fanout}
+    spread = {"from": first, "to": last, "round": first, "down": last}
     arrays = ("partition", "restart", "load")
     fields = {name: it for name, it in top.items() if name not in arrays} | {"rounds": last(top["rounds"])}
     text = scenario.written(fields) + "".join(scenario.sections(array, (
-        {name: spread.get(name, lambda same: same)(it) for name, it in element.items()}
+        {name: spread[name](it) if name in spread else it for name, it in element.items()}
         for element in top.get(array, []))) for array in arrays)
-    for round in range(1, top["rounds"] + 1):
-        text += scenario.load(first(round) + 1, last(round), 0)
-    return text
+    return text + cluster.without_writes(last(top["rounds"]), fanout)
 
 
 def intervals(rows, fanout):

@@ -19,10 +19,9 @@ class Progress:
     that the last of them had, in the middle, as a single run may be held up for long.
     """
 
-    def __init__(self, work=(), stream=None):
+    def __init__(self, work=()):
         self.work, self.over = dict(work), set()
-        self.stream = stream or sys.stderr
-        self.shown = self.stream.isatty()
+        self.shown = sys.stderr.isatty()
         self.what, self.total, self.count, self.at_once = "", 0, 0, 1
         self.done_work, self.processor = 0, 0.0
         self.shares = collections.deque(maxlen=LAST)
@@ -69,12 +68,12 @@ class Progress:
     def show(self):
         if self.shown and self.total:
             print(f"\r\033[K{self.what}: {self.count} of {self.total} runs, {in_words(self.left())}", end="",
-                  file=self.stream, flush=True)
+                  file=sys.stderr, flush=True)
 
     def end(self):
         """The end of a stage, also where it was stopped."""
         if self.shown:
-            print("\r\033[K", end="", file=self.stream, flush=True)
+            print("\r\033[K", end="", file=sys.stderr, flush=True)
 
 
 def in_words(seconds):

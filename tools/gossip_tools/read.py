@@ -182,11 +182,18 @@ def span(values):
     return least if least == most else f"{least} to {most}"
 
 
+def grouped(pairs):
+    """The values of each key, in their order."""
+    found = {}
+    for key, value in pairs:
+        found.setdefault(key, []).append(value)
+    return found
+
+
 def over_seeds(fields, found):
     """The runs that differ in their seed alone as one, by the values of the other fields."""
-    at, alike = fields.index("seed"), {}
-    for values, columns in found.items():
-        alike.setdefault(values[:at] + values[at + 1:], []).append(columns)
+    at = fields.index("seed")
+    alike = grouped((values[:at] + values[at + 1:], columns) for values, columns in found.items())
     spans = {values: {name: span([it[name] for it in each]) for name in each[0]} for values, each in alike.items()}
     return fields[:at] + fields[at + 1:], spans
 

@@ -326,7 +326,7 @@ class Study:
 
     def healing_groups(self):
         """The same, by what they tell."""
-        return grouped((tells, stage) for stage, tells in self.healing_stages().items()).items()
+        return read.grouped((tells, stage) for stage, tells in self.healing_stages().items()).items()
 
     def wanted(self, mode):
         """The budgets and modes that decide: each mode with what it may take, and this one with nodes * writes."""
@@ -361,8 +361,8 @@ class Study:
 
     def choices(self, stage, seeds):
         """The choices of values that make the runs of these budgets and modes, each under its seeds, and no others."""
-        modes = grouped(((budget, those), mode) for (budget, mode), those in sorted(seeds.items()))
-        alike = grouped(((those, tuple(sorted(in_modes, key=scenario.MODES.index))), budget)
+        modes = read.grouped(((budget, those), mode) for (budget, mode), those in sorted(seeds.items()))
+        alike = read.grouped(((those, tuple(sorted(in_modes, key=scenario.MODES.index))), budget)
                         for (budget, those), in_modes in modes.items())
         field = "budget_bytes" if self.counts_bytes(stage) else "budget"
         return [{field: [self.value(stage, it) for it in budgets], "seed": [str(it) for it in those],
@@ -434,11 +434,3 @@ class Found:
 
 def worst(rows):
     return max(row["greatest"] for row in rows)
-
-
-def grouped(pairs):
-    """The values of each key, in their order."""
-    found = {}
-    for key, value in pairs:
-        found.setdefault(key, []).append(value)
-    return found

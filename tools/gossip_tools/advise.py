@@ -71,7 +71,7 @@ def numbers_of(words, file):
     kept = None
     if file.exists():
         try:
-            kept = tomllib.loads(files.text_of(file))
+            kept = tomllib.loads(file.read_bytes().decode())
         except (tomllib.TOMLDecodeError, UnicodeDecodeError):
             raise Refused(f"{file} can't be read: name a new folder by -o.") from None
     if not words:
@@ -216,8 +216,9 @@ class Stages:
         while pairs := self.study.next_smaller(decision.smaller() or decision.budget, decision.mode):
             if pairs <= decision.found.rows.keys():
                 break
-            pairs |= decision.found.rows.keys()
-            decision = decision.with_more(self.carry_out(decision.stage, pairs, rules.FIRST))
+            found = self.carry_out(decision.stage, pairs | decision.found.rows.keys(), rules.FIRST)
+            bound, decision = decision.bound, answer.Decision(self.study, found, decision.stage, decision.against)
+            decision.bound = bound
         return decision
 
     def look_at_floor(self, decision):

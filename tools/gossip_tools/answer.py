@@ -275,17 +275,13 @@ def first_words(decision, call=""):
             ended(decision.reserve()), ended(decision.why_not_knee()),
             to_knee and f"That is below {it.knee_name}. {to_knee}. {else_helps(decision)}",
             decision.forgetful(), *limits(decision), *(of_calls(it) if it.fanout > 1 else []))
+    longer = " and then ".join(str(it.rounds(stage)) for stage in it.later_stages(decision.stage))
     see = [f"{WHAT_HEALS} are run only if it does. To see them with a budget that is enough:", f"  {call}"]
     return told(
         f"First answer, from {since}: no budget that fits is seen to be enough, as {decision.no_level()}.",
         decision.most_that_fits(), decision.forgetful(), to_knee and f"{to_knee}. {else_helps(decision)}",
-        *limits(decision), levels_off_later(decision), *(see if call and it.asks_for_healing() else []))
-
-
-def levels_off_later(decision):
-    it = decision.study
-    longer = " and then ".join(str(it.rounds(stage)) for stage in it.later_stages(decision.stage))
-    return longer and f"Whether it levels off later is seen from {longer} rounds, and no more."
+        *limits(decision), longer and f"Whether it levels off later is seen from {longer} rounds, and no more.",
+        *(see if call and it.asks_for_healing() else []))
 
 
 def last_of_first_words(decision, folder):

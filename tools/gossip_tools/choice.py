@@ -41,12 +41,6 @@ class Choice:
         self.worst = self.worst_with(self.budget, self.mode)
         self.cut = self.found.cut(self.budget, self.mode, self.window)
 
-    def with_more(self, found):
-        """The same with more budgets beside it."""
-        choice = type(self)(self.study, found, self.stage, self.against)
-        choice.bound = self.bound
-        return choice
-
     def may_be_chosen(self):
         """The budgets and modes that further seeds may choose: the usual mode and those that may still be better; where
         it isn't level, those that are, and those that may be the best."""
@@ -82,20 +76,16 @@ class Choice:
         """The budget that a mode would take, and the mode."""
         return (self.budget if mode == self.mode else self.study.most(mode)), mode
 
-    def is_out(self, budget):
-        """Whether a budget that was run isn't taken, be it that it isn't level, or that something is better."""
-        worst = self.worst_with(budget, self.mode)
-        return not self.is_enough(budget, self.mode) or any(
-            rules.is_better(it, worst) for it in [self.worst, *self.others])
-
     def smaller(self):
         """The least budget from which on nothing is better, if that isn't the chosen one itself. It is below nodes *
         writes, as from there on it would be taken."""
         least = None
-        for it in reversed([it for it in self.of_mode() if it < self.budget]):
-            if self.is_out(it):
+        for budget in reversed([it for it in self.of_mode() if it < self.budget]):
+            worst = self.worst_with(budget, self.mode)
+            if not self.is_enough(budget, self.mode) or any(
+                    rules.is_better(it, worst) for it in [self.worst, *self.others]):
                 break
-            least = it
+            least = budget
         return least
 
     def is_worse(self, budget):
@@ -118,9 +108,10 @@ class Choice:
 
     def is_too_small(self):
         """Whether nodes * writes entries, which don't fit, are far better, where no target says that this will do."""
-        knee = self.study.knee
-        return (self.suffices and self.budget < knee and not self.meets_target() and self.knee_suffices()
-                and rules.is_far_better(self.worst_with(knee, self.mode), self.worst))
+        it = self.study
+        will_do = it.target is not None and it.keeps_to_target(self.bounded())
+        return (self.suffices and self.budget < it.knee and not will_do and self.knee_suffices()
+                and rules.is_far_better(self.worst_with(it.knee, self.mode), self.worst))
 
     def bounded(self):
         """The figure that bounds the worst staleness, or that of the runs that chose where none does yet."""
@@ -129,10 +120,6 @@ class Choice:
     def most_rounds(self):
         """The most rounds to reckon with, for the whole cluster."""
         return rules.reckoned(self.bounded()) if self.study.parts > 1 else max(self.bounded())
-
-    def meets_target(self):
-        """Whether a target was told that is kept to, with the budget that is taken or with all that fits."""
-        return self.study.target is not None and self.suffices and self.study.keeps_to_target(self.bounded())
 
     def heals(self):
         """Whether what heals is run with it."""

@@ -59,20 +59,15 @@ def plain(number):
     return str(int(number)) if number == int(number) else f"{float(number):.9f}".rstrip("0")
 
 
-def parts_of_writes(writes):
-    """What to do where a node doesn't write a whole number of times in an interval."""
-    whole = int(writes)
-    part = (writes - whole).limit_denominator(20)
-    return (f"take writes={whole} and give {part.numerator} of {part.denominator} rounds writes = {whole + 1} by "
-            f"[[load]], or take writes={whole + 1}, which is on the safe side")
-
-
 def instead(name, text):
     """What to write instead of a text that isn't the number it should be; empty where nothing is known."""
     decimal = re.fullmatch(r"[0-9]+\.[0-9]+", text)
     unit = re.fullmatch(r"([0-9]+) ?([kKmM])i?[bB]?", text)
     if name == "writes" and decimal and Fraction(text).denominator > 1:
-        return parts_of_writes(Fraction(text))
+        whole = int(Fraction(text))
+        part = (Fraction(text) - whole).limit_denominator(20)
+        return (f"take writes={whole} and give {part.numerator} of {part.denominator} rounds writes = {whole + 1} by "
+                f"[[load]], or take writes={whole + 1}, which is on the safe side")
     if name in BYTES and unit:
         power = 1 if unit[2] in "kK" else 2
         return f"write {name}={int(unit[1]) * 1000**power}, or {name}={int(unit[1]) * 1024**power} where K is 1024"

@@ -34,11 +34,6 @@ def check_sums(contents):
     return "".join(f"{hashlib.sha256(content).hexdigest()}  {name}\n" for name, content in contents.items())
 
 
-def text_of(path):
-    """The text of a file in UTF-8, with the ends of lines that it has."""
-    return path.read_bytes().decode()
-
-
 def put(path, text):
     part = part_of(path)
     try:

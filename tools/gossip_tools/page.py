@@ -199,8 +199,8 @@ def made_of(folder, study, made, check_sum):
         commands = "\n".join(f"gossip_sweep -o {stage} {it} < {stage}/scenario" for it in words)
         text += (f"<details><summary>{stage}: {told('; '.join(words))}</summary><pre>{told(commands)}\n\n"
                  f"{told(study.scene(stage))}</pre></details>")
-    call = " ".join(f"{name}={value}" for name, value in read.settings(files.text_of(folder / "cluster.toml")).items()
-                    if name != "program")
+    told_words = read.settings((folder / "cluster.toml").read_bytes().decode())
+    call = " ".join(f"{name}={value}" for name, value in told_words.items() if name != "program")
     return (f"<p>The program's SHA-256 is <code style='overflow-wrap:anywhere'>{check_sum}</code>. The folder of this "
             "page has each scenario and report, and in <code>pictures</code> a script for each picture, drawn again by "
             f"<code>gnuplot NAME.gnuplot</code>.</p><pre>gossip_advise {told(call)}</pre>{text}")

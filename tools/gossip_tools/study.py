@@ -86,7 +86,8 @@ class Study:
                   f"{rules.MANY * self.fanout} rounds: {self.why_at_least()}.")
         self.target = None if told["target"] is None else self.target_of(told["target"])
         self.hours = told["hours"]
-        self.split = self.split_of(int(told["split"]))
+        # (after a hundred intervals in which each key was written four times no more is left to catch up with)
+        self.split = min(int(told["split"]), max(100, 4 * math.ceil(self.keys / self.writes)))
         self.restarts = None if told["restarts"] is None else -(-int(told["restarts"]) // self.parts)
         self.place_healing()
         self.loss = int(told["loss"] * 10000)
@@ -205,12 +206,6 @@ class Study:
     def keeps_to_target(self, figure):
         """Whether a worst staleness is within the target under all seeds, for the whole cluster."""
         return (rules.reckoned(figure) if self.parts > 1 else max(figure)) <= self.target
-
-    def split_of(self, intervals):
-        """How long a split is run: no longer than it takes until each key was written four times, which leaves no more
-        to catch up with, or a hundred intervals."""
-        rewritten = -(-self.keys // self.writes) if self.writes else 0
-        return min(intervals, max(100, 4 * rewritten))
 
     def place_healing(self):
         """When what is to be healed begins, in intervals, and how many are run after it."""

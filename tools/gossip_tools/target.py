@@ -115,7 +115,9 @@ class Search:
         return (study.LEAST, top) if it.parts == 1 else (it.knee, min(top, rules.TENTH_HOLDS[1] * it.knee))
 
     def run(self, pairs):
-        self.stages.plan(self.stage, pairs, max(map(self.halvings, self.modes), default=0))
+        # (about so many halvings are left)
+        left = [math.log2(FINE * (self.least[it] - self.below[it]) / self.least[it]) for it in self.modes]
+        self.stages.plan(self.stage, pairs, math.ceil(max(left + [0])))
         self.pairs |= pairs
         self.found = self.stages.carry_out(self.stage, self.pairs, rules.FIRST)
 
@@ -136,11 +138,6 @@ class Search:
         if least - below <= max(1, least // FINE):
             return None
         return knee if below < knee < least else (below + least) // 2
-
-    def halvings(self, mode):
-        """How many are left, about."""
-        below, least = self.below[mode], self.least[mode]
-        return max(0, math.ceil(math.log2(FINE * (least - below) / least)))
 
     def carry_out(self):
         """Whether some budget keeps to the target, the largest that is looked at being the last; then each mode has its

@@ -98,7 +98,9 @@ class Search:
     def __init__(self, it, stages):
         self.study, self.stages = it, stages
         self.stage = next(stage for stage in it.steady_stages() if rules.can_be_level(it.target, it.window(stage)))
-        least, self.top = self.bounds()
+        top = min(it.nodes * it.keys, *it.fits.values())
+        # (of a tenth those budgets are looked at with which it was seen to hold)
+        least, self.top = (study.LEAST, top) if it.parts == 1 else (it.knee, min(top, rules.TENTH_HOLDS[1] * it.knee))
         self.pairs, self.found = set(), None
         # (those that can keep to the target)
         self.modes = list(it.fits)
@@ -107,12 +109,6 @@ class Search:
         self.below = dict.fromkeys(it.fits, least - 1)
         # the mode with the smallest packet, its budget, and by budgets what bounds it
         self.chosen, self.budget, self.bounded = None, self.top, {}
-
-    def bounds(self):
-        """The least and the largest budget that are looked at: of a tenth those with which it was seen to hold."""
-        it = self.study
-        top = min(it.nodes * it.keys, *it.fits.values())
-        return (study.LEAST, top) if it.parts == 1 else (it.knee, min(top, rules.TENTH_HOLDS[1] * it.knee))
 
     def run(self, pairs):
         # (about so many halvings are left)

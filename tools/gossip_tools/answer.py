@@ -3,7 +3,7 @@ import math
 
 from gossip_tools import cluster, healing, rules, scenario
 from gossip_tools.choice import Choice
-from gossip_tools.measures import briefly, in_rounds, lasting, rows, run_of, span, told, unit
+from gossip_tools.measures import briefly, in_rounds, lasting, rows, run_of, sentences, span, unit
 
 FLOOR = "the floor"
 WHAT_HEALS = "A split, a restart and a rolling restart"
@@ -138,7 +138,7 @@ class Decision(Choice):
         kept = self.contenders()
         best = min(kept, key=lambda mode: max(kept[mode]))
         lost = [f"{mode} with {in_rounds(figure)}" for mode, figure in self.figures.items() if mode not in kept]
-        return [*self.against, *told(
+        return [*self.against, *sentences(
             lost and f"Up to round {self.window[1]} these modes were behind {best} with "
             f"{in_rounds(self.figures[best])}, under nearly all seeds, and weren't run on: {', '.join(lost)}.")]
 
@@ -235,7 +235,7 @@ class Decision(Choice):
             return f"{at_knee} `greatest` isn't level"
         worst, figure = self.worst_with(it.knee, self.mode), self.figures[self.mode]
         said = f"{at_knee} it is {briefly(it, worst)} in the runs that chose, "
-        if self.is_worse(it.knee):
+        if rules.is_better(self.worst, worst):
             return f"{said}where the budget has {span(self.worst)}: worse ({by_seeds(worst, self.worst)})"
         if rules.is_better(figure, worst):
             return f"{said}worse than {self.all_that_fits()} ({by_seeds(worst, figure)})"
@@ -258,8 +258,8 @@ class Decision(Choice):
             if self.budget >= it.knee:
                 said[-1] += f"; still not taken, as staleness rises steeply below {it.knee_name}"
         others = "other mode and smaller budget" if len(self.figures) > 1 else "smaller budget"
-        is_best = all(self.is_worse(budget) for budget in self.of_mode() if budget < self.budget)
-        than = "" if is_best else " than this one or another one"
+        below = [self.worst_with(budget, self.mode) for budget in self.of_mode() if budget < self.budget]
+        than = "" if all(rules.is_better(self.worst, worst) for worst in below) else " than this one or another one"
         return said or [f"none: each {others} that was run is worse{than}"]
 
 
@@ -268,7 +268,7 @@ def first_words(decision, call=""):
     it, to_knee = decision.study, decision.to_knee()
     since = f"{it.intervals(decision.stage)} {unit(it)}{f' of {it.fanout} rounds' if it.fanout > 1 else ''}"
     if decision.suffices:
-        return told(
+        return sentences(
             f"First answer, from {since}: {decision.takes()}.",
             ended(decision.tells_all()),
             f"Worst staleness {decision.staleness()}, which bounds nothing: runs of other seeds come next.",
@@ -277,7 +277,7 @@ def first_words(decision, call=""):
             decision.forgetful(), *limits(decision), *(of_calls(it) if it.fanout > 1 else []))
     longer = " and then ".join(str(it.rounds(stage)) for stage in it.later_stages(decision.stage))
     see = [f"{WHAT_HEALS} are run only if it does. To see them with a budget that is enough:", f"  {call}"]
-    return told(
+    return sentences(
         f"First answer, from {since}: no budget that fits is seen to be enough, as {decision.no_level()}.",
         decision.most_that_fits(), decision.forgetful(), to_knee and f"{to_knee}. {else_helps(decision)}",
         *limits(decision), longer and f"Whether it levels off later is seen from {longer} rounds, and no more.",
@@ -287,7 +287,7 @@ def first_words(decision, call=""):
 def last_of_first_words(decision, folder):
     """What to know where one stops at the first answer, a budget being enough."""
     it = decision.study
-    return told(
+    return sentences(
         it.leaves() and rules.DOWN_FOR_LONGER,
         it.heals() and decision.reserve() and
         f"All these times are for packet={decision.packet()}. The last answer has those of a program that fills a "
@@ -307,15 +307,15 @@ def not_run(decision, call, was_enough=False):
     elif it.asks_for_healing():
         why = f"{WHAT_HEALS} were not run, as no budget that fits is enough."
     else:
-        return told(call and f"Nor was a split or a restart run: give packet={it.packet(decision.mode)} and another "
-                    "folder to see them.")
+        return sentences(call and f"Nor was a split or a restart run: give packet={it.packet(decision.mode)} and "
+                         "another folder to see them.")
     return [f"{why} To see them with a budget that is:", f"  {call}"] if call else [why]
 
 
 def warnings(decision):
     it, to_knee = decision.study, decision.to_knee()
     helps = f"A larger packet, {way_out(decision)}" if to_knee else "Less loss or fewer writes"
-    return told(
+    return sentences(
         not decision.suffices and f"`greatest` isn't level in any mode that was run. {helps} would help.",
         decision.suffices and to_knee and
         f"The budget is below {it.knee_name}, the knee above which a larger one hardly helps, so copies lag more than "
@@ -350,7 +350,7 @@ def limits(decision):
     """What of the digest and the packet limits the decision."""
     it = decision.study
     no_room = [mode for mode in scenario.MODES if it.rooms[mode] < 1]
-    return told(
+    return sentences(
         of_digest(decision), of_datagrams(decision), no_room and it.parts == 1 and not it.told["mode"] and
         f"{' and '.join(no_room)} have no room: their digest alone takes the packet.")
 
@@ -402,7 +402,7 @@ def left_out(decision):
     if it.in_bytes:
         sizes = (f"Your sizes: those of the bench are spread evenly up to {1023 / 523.5 * float(entry):.0f} bytes, for "
                  "your mean entry. If your largest is larger, give half of it as entry.")
-    return told(
+    return sentences(
         *of_calls(it), f"Failure detectors: {waits}",
         "Nodes that join and leave: one that joins is like one that restarts.", sizes,
         it.shares and "The digest is taken off each message, though the last of an exchange has none.",
@@ -430,7 +430,7 @@ def in_words(decision, heals, missing=(), more=()):
     """The answer, line by line, with more names and words beside the worst staleness. Without a budget that is enough
     nothing heals, but there are the lines on what is missing."""
     it, in_mode = decision.study, ""
-    lines = told(f"Take {decision.takes()}.", ended(decision.tells_all()))
+    lines = sentences(f"Take {decision.takes()}.", ended(decision.tells_all()))
     if not decision.suffices:
         lines = [f"No budget that fits is enough: {decision.no_level()}. {decision.most_that_fits()}"]
         in_mode = f", in {decision.mode}"
@@ -440,7 +440,7 @@ def in_words(decision, heals, missing=(), more=()):
         ("share cut", f"{span(decision.cut, 2)} % of what was lacking{in_mode}"))]
     if heals:
         lines += heals.lines(it.heals(), decision.budget)
-        lines += rows(("with the reserve", heals.has_reserve(decision) and heals.with_reserve(decision)))
+        lines += rows(("with the reserve", heals.with_reserve(decision)))
     if not decision.suffices:
         lines += rows(("enough", decision.to_knee()))
     lines += ["", *missing] if missing else []

@@ -88,9 +88,6 @@ class Choice:
             least = budget
         return least
 
-    def is_worse(self, budget):
-        return rules.is_better(self.worst, self.worst_with(budget, self.mode))
-
     def more_is_worse(self):
         """Whether the budget is better than all that fits, which then is no reserve."""
         return rules.is_better(self.worst, self.figures[self.mode])

@@ -2,7 +2,7 @@
 import textwrap
 
 from gossip_tools import rules
-from gossip_tools.measures import briefly, lasting, rows, run_of, span, told, unit
+from gossip_tools.measures import briefly, lasting, rows, run_of, sentences, span, unit
 from gossip_tools.study import ONE
 
 # What heals, by its stage, and the words for that.
@@ -49,10 +49,6 @@ class Healing:
         """The rounds to wait between the groups of a rolling restart: until all that a restart leaves is over in most
         cases. None where it isn't in the rounds that were run."""
         return rules.bound_of(latest(self.taken(stage, budget) for stage in self.study.leaves()))
-
-    def has_reserve(self, decision):
-        return decision.budget < decision.most and all(
-            (decision.most, self.mode) in it.rows for it in (*self.stages.values(), *self.alone.values()))
 
     def in_words(self, stage, budget):
         """At most how long it takes in most cases, or that it took longer than was run; the time, and the seeds."""
@@ -114,6 +110,10 @@ class Healing:
                 f"healed{gone} by then")
 
     def with_reserve(self, decision):
+        """How soon all that fits would heal; empty where that isn't more, or wasn't run."""
+        runs, most = (*self.stages.values(), *self.alone.values()), (decision.most, self.mode)
+        if decision.budget == decision.most or not all(most in it.rows for it in runs):
+            return ""
         said, seeds = [], 0
         for stage in self.study.heals():
             taken = self.taken(stage, decision.most)
@@ -132,7 +132,7 @@ def to_mind(it):
         run = (f"are {groups} such groups, one in each {one}, each down for one, and one alone. The times count from "
                f"when the last one is up again, and the longer one is told. While nodes restart in each {one}, "
                "`greatest` is the number of the round and bounds nothing")
-    return told(
+    return sentences(
         it.split < it.told["split"] and
         f"A split of {it.split} {unit(it)} was run in place of {it.told['split']}: each key was written anew "
         "meanwhile, so a longer one leaves no more to catch up with.",

@@ -48,6 +48,6 @@ def rows(*pairs):
     return [f"  {name:<19} {said}" for name, said in pairs if said]
 
 
-def told(*sentences):
-    """Those of the sentences that hold; of the others there is nothing."""
-    return [it for it in sentences if it]
+def sentences(*said):
+    """Those that hold; of the others there is nothing."""
+    return [it for it in said if it]

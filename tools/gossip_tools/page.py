@@ -3,9 +3,9 @@ import base64
 import html
 import re
 
-from gossip_tools import answer, cluster, files, measures, plots, read, rules
+from gossip_tools import answer, cluster, files, plots, read, rules
 from gossip_tools.healing import ENDS, HEALED, ROLLING
-from gossip_tools.measures import in_rounds, lasting, span, unit
+from gossip_tools.measures import in_rounds, lasting, sentences, span, unit
 
 # (on paper the page is light, whatever the screen is; pictures, which are drawn on white, are turned dark, and their
 # colours stay what they are)
@@ -71,7 +71,7 @@ def cards(decision, healing, more):
         of_budget += f"; packet={decision.packet()}"
         rounds, _, time = lasting(it, [decision.most_rounds()]).partition(", ")
         kind = "first" if decision.is_met and not decision.is_too_small() else "none"
-        of_worst = "; ".join(measures.told(
+        of_worst = "; ".join(sentences(
             time, decision.bound and decision.bound.holds_in(),
             it.parts > 1 and f"{it.nodes} nodes run; reckon with {decision.at_most()}"))
         rows = [("mode", decision.mode, "", kind), ("budget", f"{budget} entries", of_budget, kind),
@@ -108,10 +108,10 @@ def layout(letters):
 def below_the_cards(decision, healing):
     """What other budgets bring, and what the rounds of healing are."""
     no_floor = f"{answer.FLOOR}: {decision.above_floor()}".capitalize() if decision.floor == [] else ""
-    said = measures.told(
+    reserve = healing and healing.with_reserve(decision)
+    said = sentences(
         decision.suffices and decision.tells_all(), no_floor, decision.reserve(), decision.why_not_knee(),
-        healing and healing.has_reserve(decision) and f"With the reserve: {healing.with_reserve(decision)}",
-        healing and healing.counted())
+        reserve and f"With the reserve: {reserve}", healing and healing.counted())
     return "".join(f"<p><small>{told(it)}</small></p>" for it in said)
 
 

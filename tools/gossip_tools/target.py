@@ -9,7 +9,7 @@ target isn't taken for what is usual.
 import math
 
 from gossip_tools import answer, cluster, rules, study
-from gossip_tools.measures import briefly, in_rounds, lasting, rows, span, told
+from gossip_tools.measures import briefly, in_rounds, lasting, rows, sentences, span
 
 # Budgets aren't halved any further where the next smaller one that was run is an entry or less than a hundredth below.
 FINE = 100
@@ -208,7 +208,7 @@ class Met(answer.Decision):
         self.figures = {mode: self.worst_with(*search.run_of(mode)) for mode in search.modes or [self.mode]}
         self.read()
         it, entries = self.study, self.whole_budget()
-        self.against = told(
+        self.against = sentences(
             not it.in_bytes and not it.told["count"] and rules.counts_bytes(entries) and
             f"{entries} entries are few, and a large one holds up smaller ones behind it: count=bytes counts that.")
 

@@ -61,7 +61,7 @@ class Healed(unittest.TestCase):
                       "after 4 to 5 rounds, under 2 of the seeds", answer.in_words(found, it))
         # (for the first answer it isn't run, so that says where to read it)
         it = healing.Healing(found.study, found.mode, {"split": Taken([8, 9], both[0])})
-        self.assertFalse(it.has_reserve(found))
+        self.assertEqual("", it.with_reserve(found))
         said = " ".join(answer.last_of_first_words(found, pathlib.Path("mine")))
         self.assertIn("All these times are for packet=8000. The last answer has those of a program that fills a larger "
                       "one anyway, in the line `with the reserve`. Now comes the last answer, ", said)

@@ -1,9 +1,8 @@
 -- Where generations start in an owner's list.
 -- Serves `put_starts`, `start_of`, `told` and `version_tables`.
-use Rattle.delta_plans.proofs.Common.{◌≡◌, ℕ, zero, suc, ◌+◌, ◌-◌, ◌*◌, ◌<◌, ◌≤◌, min, cond, List, [], ◌∷◌, ◌++◌, length, get_or, set, Some, None, inl, inr, sym, ap, ◌∙◌, arith, nat_tests, nat_lt, nat_le, ◌&&◌, cases_eq, get_or_default, get_or-set_same, get_or-set_other, length-set, length-append, Entry, DigestKind, write_from, write_numbered, OwnerListView, all_writes, entries_of, list_of_owner, no_writes, AreWrites, cell, total_of, sum_below, AreChanged, start_before, start_of, numbered-some, write_from-at}
+use Rattle.delta_plans.proofs.Common.{◌≡◌, ℕ, zero, suc, ◌+◌, ◌-◌, ◌<◌, ◌≤◌, min, List, [], ◌∷◌, ◌++◌, length, get_or, set, Some, None, inl, inr, sym, ap, ◌∙◌, arith, nat_tests, cases_eq, get_or_default, get_or-set_same, get_or-set_other, length-set, length-append, Entry, DigestKind, write_from, write_numbered, OwnerListView, all_writes, entries_of, list_of_owner, no_writes, AreWrites, AreChanged, start_before, start_of, numbered-some, write_from-at}
 use Rattle.delta_plans.specs.Offers.{told_by, told_number}
 use Rattle.delta_plans.specs.Told.{IsKnown}
-use Rattle.delta_plans.proofs.WeightLaws.{sum_below-each_none}
 
 -- an owner's writes are those of its list
 pub list-here : (lists : List OwnerListView) (owner : ℕ) (x : OwnerListView) → owner < length lists → x ≡ get_or lists owner x → list_of_owner lists owner ≡ x
@@ -43,12 +42,6 @@ pub start-lower : (most : ℕ) (v : OwnerListView) (x base y : ℕ) → IsKnown 
 start-lower most v x base y known own lower =
     let behind : base < x → start_of (entries_of v) x ≡ base = λ lt. start-own v x known.writes (omega (arith, lt, known.based)) known.within ∙ sym known.based in
     grind (arith, lower, own, behind, start-upto (entries_of v) x)
-
-pub none-upto : (xs : List ℕ) (nodes : ℕ) (high : ℕ → ℕ) → total_of nodes 1 (λ r k. nat_lt 0 (cell xs nodes r k) && nat_le (cell xs nodes r k) (high r)) ≤ 0 → (r : ℕ) → r < nodes → 0 < get_or xs r 0 → get_or xs r 0 ≤ high r → ⊥
-none-upto xs nodes high none r lt some upto =
-    let here : get_or xs (0 * nodes + r) 0 ≡ get_or xs r 0 = ap (λ i. get_or xs i 0) {x = 0 * nodes + r} {y = r} (omega arith) in
-    let one = sum_below-each_none nodes (λ owner. sum_below 1 (λ k. cond (nat_lt 0 (cell xs nodes owner k) && nat_le (cell xs nodes owner k) (high owner)) 1 0)) (omega (arith, none)) r lt in
-    grind (arith, nat_tests)
 
 -- the receiver's own mark is put
 pub told-set : (kind : DigestKind) (most node : ℕ) (lists : ℕ → List Entry) (old new : List ℕ) → AreChanged (λ r x y. y ≡ told_by kind (lists r) x) old new → node < length old

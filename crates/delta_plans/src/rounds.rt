@@ -8,7 +8,7 @@ ghost use Rattle.delta_plans.specs.RoundLevels.{AreFewAndEnough, AreRaised, AreR
 use crate::marked::First;
 use crate::offers::{Level, Offer};
 use bench_types::Fault;
-use planes::{Ends, Number};
+use planes::{Ends, Grid, Number, Size};
 use std::alloc::Global;
 
 // So many rounds don't fit, and one less do, which have so many numbers and leave so much.
@@ -93,7 +93,14 @@ impl<'a, 'b, N: Number> Rounds<'a, 'b, N> {
     {
         let offer = self.offer;
         let room = offer.budget.amount();
-        let above = planes::total_above(offer.cells, offer.nodes, offer.keys, mark, offer.high);
+        let grid = Grid {
+            cells: offer.cells,
+            size: Size {
+                nodes: offer.nodes,
+                keys: offer.keys,
+            },
+        };
+        let above = planes::total_above(grid, mark, offer.high);
         match self.first {
             First::Oldest => {
                 let count = self.found - above;

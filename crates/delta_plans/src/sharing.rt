@@ -11,7 +11,7 @@ use crate::marked::First;
 use crate::offers::{Level, Offer, Share, number_at};
 use crate::stops::Part;
 use bench_types::{Budget, Fault};
-use planes::{Number, all_of, count_some_between};
+use planes::{Grid, Number, Size, all_of, count_some_between};
 use std::alloc::Global;
 
 // An owner whose part doesn't fit, what is left for it, and how many numbers were let through before.
@@ -102,7 +102,14 @@ impl<'a, 'b, N: Number> Turns<'a, 'b, N> {
         let far = &self.level.far;
         let low = by_first(self.first, near, far);
         let high = by_first(self.first, far, near);
-        count_some_between(some, offer.cells, offer.nodes, offer.keys, owner, low, high);
+        let grid = Grid {
+            cells: offer.cells,
+            size: Size {
+                nodes: offer.nodes,
+                keys: offer.keys,
+            },
+        };
+        count_some_between(some, grid, owner, low, high);
     }
 
     // How many numbers an owner's part has. Where that isn't known, parts are counted from this owner on.

@@ -64,7 +64,7 @@ fn put_starts<N: Number>(numbers: &mut [N], owners: Owners<N>)
     ensures { AreStarts N.number owners.entry numbers.old numbers.new }
 {
     let Owners { lists, bases } = owners;
-    if planes::total_upto(numbers, numbers.len(), 1, bases) == 0 {
+    if planes::none_upto(numbers, bases) {
         planes::lower(numbers, bases);
         return;
     }

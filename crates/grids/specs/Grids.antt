@@ -1,41 +1,83 @@
 -- What loops over all planes of a table do to its numbers. Source: this project.
-use Rattle.std.specs.Prelude.{◌≡◌, ℕ, List, length, map, slice_index}
-use Rattle.planes.specs.Planes.{cell, number_raised, total_above, AreCovered, AreRaised, AreTaken, ArePlanesChanged, IsGrid}
+use Rattle.std.specs.Prelude.{◌≡◌, ℕ, ◌≤◌, List, length, map, max, slice_index}
+use Rattle.bench_types.specs.declared.limits.TheConstants.{MOST_KEYS, MOST_NODES}
+use Rattle.planes.specs.declared.sizes.Grid.{Grid}
+use Rattle.planes.specs.Elementwise.{AreChanged}
+use Rattle.planes.specs.Grids.{cells_in, HasMarkOfEach}
+use Rattle.planes.specs.Planes.{cell, most_ahead, number_ahead, number_raised, total_above, AreCovered, AreRaised, AreTaken, ArePlanesChanged, HasEachPlace, IsGrid}
+use Rattle.grids.specs.declared.grids.Masked.{Masked}
 use Rattle.grids.specs.declared.grids.Sent.{Sent}
 use Rattle.grids.specs.declared.merges.BothCounts.{BothCounts}
 use Rattle.grids.specs.declared.merges.BothMarks.{BothMarks}
 
+-- numbers, as many as a table of a size has
+pub record IsBeside {N : Type 0} (grid : Grid N) (others : List N) : Type 0 where
+  pub shape : IsGrid grid.size.nodes grid.size.keys (length others)
+  pub count : length grid.cells.now ≡ length others
+
+-- a table, a peer's numbers and a mark for each owner
+pub record HasPeer {N : Type 0} (grid : Grid N) (peer low : List N) : Type 0 where
+  pub marks : HasMarkOfEach grid low
+  pub peer_count : length peer ≡ length grid.cells.now
+
+-- the table's numbers that are above both the peer's and the mark, and 0 in place of the others
+pub record IsAhead {N : Type 0} (number : N → ℕ) (grid : Grid N) (peer low : List N) (ahead : Masked N) : Type 0 where
+  pub numbers : HasEachPlace grid.size.nodes grid.size.keys (λ r k n. n ≡ number_ahead (cells_in number grid r k)
+      (cell (map number peer) grid.size.nodes r k) (slice_index (map number low) r)) (map number ahead.numbers.items)
+  pub count : ahead.count ≡ total_above grid.size.nodes grid.size.keys (map number ahead.numbers.items) (map number low)
+
 -- a table's numbers, of which none is above its owner's greatest one, may take what is sent
 pub record MayTake {N : Type 0} (number : N → ℕ) (cells greatest : List N) (sent : Sent N) : Type 0 where
-  pub grid : IsGrid sent.nodes sent.keys (length cells)
-  pub greatest_count : length greatest ≡ sent.nodes
-  pub sent_count : length sent.cells.now ≡ length cells
-  pub low_count : length sent.low.now ≡ sent.nodes
-  pub high_count : length sent.high.now ≡ sent.nodes
-  pub covered : AreCovered sent.nodes sent.keys (map number cells) (map number greatest)
+  pub beside : IsBeside sent.grid cells
+  pub greatest_count : length greatest ≡ sent.grid.size.nodes
+  pub low_count : length sent.low.now ≡ sent.grid.size.nodes
+  pub high_count : length sent.high.now ≡ sent.grid.size.nodes
+  pub covered : AreCovered sent.grid.size.nodes sent.grid.size.keys (map number cells) (map number greatest)
 
 -- its numbers and greatest ones once it took that
-pub record AreSentTaken {N : Type 0} (number : N → ℕ) (sent : Sent N) (old old_greatest new new_greatest : List N) : Type 0 where
-  pub cells : AreTaken sent.nodes sent.keys (map number sent.cells.now) (map number sent.low.now) (map number sent.high.now)
-      (map number old) (map number new)
-  pub greatest : AreRaised sent.nodes sent.keys (map number old) (map number sent.cells.now) (map number sent.low.now)
-      (map number sent.high.now) (map number old_greatest) (map number new_greatest)
+pub record AreSentTaken {N : Type 0} (number : N → ℕ) (sent : Sent N)
+    (old old_greatest new new_greatest : List N) : Type 0 where
+  pub cells : AreTaken sent.grid.size.nodes sent.grid.size.keys (map number sent.grid.cells.now)
+      (map number sent.low.now) (map number sent.high.now) (map number old) (map number new)
+  pub greatest : AreRaised sent.grid.size.nodes sent.grid.size.keys (map number old) (map number sent.grid.cells.now)
+      (map number sent.low.now) (map number sent.high.now) (map number old_greatest) (map number new_greatest)
 
 -- two tables of one size, of which no number is above its own table's mark of its owner
 pub record AreBothCovered {N : Type 0} (number : N → ℕ) (marks : BothMarks N) (one other : List N) : Type 0 where
-  pub grid : IsGrid marks.nodes marks.keys (length one)
+  pub grid : IsGrid marks.size.nodes marks.size.keys (length one)
   pub second : length other ≡ length one
-  pub first_low : length marks.first.now ≡ marks.nodes
-  pub second_low : length marks.second.now ≡ marks.nodes
-  pub first_covered : AreCovered marks.nodes marks.keys (map number one) (map number marks.first.now)
-  pub second_covered : AreCovered marks.nodes marks.keys (map number other) (map number marks.second.now)
+  pub first_low : length marks.first.now ≡ marks.size.nodes
+  pub second_low : length marks.second.now ≡ marks.size.nodes
+  pub first_covered : AreCovered marks.size.nodes marks.size.keys (map number one) (map number marks.first.now)
+  pub second_covered : AreCovered marks.size.nodes marks.size.keys (map number other) (map number marks.second.now)
 
 -- each number of both is raised to the other table's, where that is above its own mark, and so many come to each
 pub record AreBothRaised {N : Type 0} (number : N → ℕ) (marks : BothMarks N) (one other new_one new_other : List N)
     (came : BothCounts) : Type 0 where
-  pub first : ArePlanesChanged (λ r k x y. y ≡ number_raised x (cell (map number other) marks.nodes r k)
-      (slice_index (map number marks.first.now) r)) marks.nodes marks.keys (map number one) (map number new_one)
-  pub second : ArePlanesChanged (λ r k x y. y ≡ number_raised x (cell (map number one) marks.nodes r k)
-      (slice_index (map number marks.second.now) r)) marks.nodes marks.keys (map number other) (map number new_other)
-  pub first_count : came.first ≡ total_above marks.nodes marks.keys (map number other) (map number marks.first.now)
-  pub second_count : came.second ≡ total_above marks.nodes marks.keys (map number one) (map number marks.second.now)
+  pub first : ArePlanesChanged (λ r k x y. y ≡ number_raised x (cell (map number other) marks.size.nodes r k)
+      (slice_index (map number marks.first.now) r)) marks.size.nodes marks.size.keys
+      (map number one) (map number new_one)
+  pub second : ArePlanesChanged (λ r k x y. y ≡ number_raised x (cell (map number one) marks.size.nodes r k)
+      (slice_index (map number marks.second.now) r)) marks.size.nodes marks.size.keys
+      (map number other) (map number new_other)
+  pub first_count : came.first
+      ≡ total_above marks.size.nodes marks.size.keys (map number other) (map number marks.first.now)
+  pub second_count : came.second
+      ≡ total_above marks.size.nodes marks.size.keys (map number one) (map number marks.second.now)
+
+-- the greatest numbers of two tables of so many keys
+pub record AreBothGreatest {N : Type 0} (one other : List N) (keys : ℕ) : Type 0 where
+  pub count : length other ≡ length one
+  pub few_nodes : length one ≤ MOST_NODES
+  pub few_keys : keys ≤ MOST_KEYS
+
+-- how many numbers may come to each of these tables
+pub record AreMostAhead {N : Type 0} (number : N → ℕ) (one other : List N) (keys : ℕ) (most : BothCounts) : Type 0 where
+  pub first : most.first ≡ most_ahead (length one) keys (map number other) (map number one)
+  pub second : most.second ≡ most_ahead (length one) keys (map number one) (map number other)
+
+-- each number of two lists is raised to the other list's
+pub record AreRaisedToOther {N : Type 0} (number : N → ℕ) (one other new_one new_other : List N) : Type 0 where
+  pub first : AreChanged (λ r x y. y ≡ max x (slice_index (map number other) r)) (map number one) (map number new_one)
+  pub second : AreChanged (λ r x y. y ≡ max x (slice_index (map number one) r))
+      (map number other) (map number new_other)

@@ -1,17 +1,16 @@
 //! Loops over all planes of a table: `cells[key * nodes + owner]`. Where one answers an error, it is lack of memory
 //! (`OutOfMemory`).
 
-ghost use Rattle.std.specs.Prelude.{◌≡◌, ℕ, ◌+◌, ◌*◌, ◌<◌, ◌≤◌, ◌&&◌, Bool, length, map, max, nat_le, nat_lt, slice_index, IfOk, IsOkUnless};
+ghost use Rattle.std.specs.Prelude.{◌≡◌, ℕ, ◌<◌, Bool, length, map, max, nat_lt, slice_index, IfOk, IsOkUnless};
 ghost use Rattle.bench_types.specs.declared.faults.Fault.TheVariants.{OutOfMemory};
-ghost use Rattle.planes.specs.Elementwise.{AreChanged};
-ghost use Rattle.planes.specs.Planes.{cell, number_ahead, number_taken, total_above, total_of, AreCovered, ArePlanesChanged, HasEachPlace, IsGrid};
-ghost use Rattle.grids.specs.Grids.{AreSentTaken, MayTake};
-ghost use Rattle.grids.specs.inner.Loops.{IsSentPlane, MakesAs};
+ghost use Rattle.planes.specs.Planes.{cell, number_ahead, total_of, ArePlanesChanged, IsGrid};
+ghost use Rattle.grids.specs.Grids.{AreSentTaken, HasPeer, IsAhead, MayTake};
+ghost use Rattle.grids.specs.inner.Loops.{IsPlaneTaken, MakesAs, MayTakePlane};
 
 use crate::owners::FEW_TO_CHANGE;
 use crate::{counts, owners};
 use bench_types::Fault;
-use planes::{Number, are_few, plane_of};
+use planes::{Grid, Number, Size, are_few, plane_of};
 use std::alloc::Global;
 
 /// Numbers of which some are kept, with 0 in place of the others, and how many are kept.
@@ -25,9 +24,7 @@ pub struct Masked<N: Number> {
 /// are taken.
 #[derive(Clone, Copy)]
 pub struct Sent<'a, N: Number> {
-    pub cells: &'a [N],
-    pub nodes: usize,
-    pub keys: usize,
+    pub grid: Grid<'a, N>,
     pub low: &'a [N],
     pub high: &'a [N],
 }
@@ -36,22 +33,24 @@ pub struct Sent<'a, N: Number> {
 // closures say yes beside. Such a closure has slices of its planes: to index whole tables takes longer.
 pub(crate) fn change_all_counting<N: Number, G: Fn(usize, N) -> (N, bool), F: Fn(usize) -> G>(
     numbers: &mut [N],
-    nodes: usize,
-    keys: usize,
+    size: Size,
     of_key: F,
 ) -> u32
-    requires grid { IsGrid nodes keys (length numbers.old) }
-    requires of_key { (k : ℕ) → k < keys → F.pre of_key k }
-    requires to { (k r : ℕ) (to : G) (n : N) → k < keys → r < nodes → F.post of_key k to → G.pre to r n }
+    requires grid { IsGrid size.nodes size.keys (length numbers.old) }
+    requires of_key { (k : ℕ) → k < size.keys → F.pre of_key k }
+    requires to { (k r : ℕ) (to : G) (n : N) → k < size.keys → r < size.nodes → F.post of_key k to → G.pre to r n }
     ensures { (made : ℕ → ℕ → ℕ → ℕ) (test : ℕ → ℕ → ℕ → Bool)
-        → ((k : ℕ) (to : G) → k < keys → F.post of_key k to → MakesAs N.number (G.post to) nodes (made k) (test k))
-        → ArePlanesChanged (λ r k x y. y ≡ made k r x) nodes keys (map N.number numbers.old) (map N.number numbers.new)
-        × (result ≡ total_of nodes keys (λ r k. test k r (cell (map N.number numbers.old) nodes r k))) }
+        → ((k : ℕ) (to : G) → k < size.keys → F.post of_key k to
+        → MakesAs N.number (G.post to) size.nodes (made k) (test k))
+        → ArePlanesChanged (λ r k x y. y ≡ made k r x) size.nodes size.keys
+        (map N.number numbers.old) (map N.number numbers.new)
+        × (result ≡ total_of size.nodes size.keys
+        (λ r k. test k r (cell (map N.number numbers.old) size.nodes r k))) }
 {
     let mut count = 0;
-    for key in 0..keys {
-        let start = key * nodes;
-        let block = &mut numbers[start..start + nodes];
+    for key in 0..size.keys {
+        let start = key * size.nodes;
+        let block = &mut numbers[start..start + size.nodes];
         count += counts::change_counting(block, of_key(key));
     }
     count
@@ -78,25 +77,18 @@ fn copied<N: Number>(alloc: Global, cells: &[N]) -> Result<Vec<N>, Fault>
 /// and counts those that it keeps. An error is lack of memory (`OutOfMemory`).
 pub fn ahead<N: Number>(
     alloc: Global,
-    cells: &[N],
+    grid: Grid<N>,
     peer: &[N],
-    nodes: usize,
-    keys: usize,
     low: &[N],
 ) -> Result<Masked<N>, Fault>
-    requires grid { IsGrid nodes keys (length cells.now) }
-    requires peer { length peer.now ≡ length cells.now }
-    requires low { length low.now ≡ nodes }
-    ensures ahead { IfOk result (λ m. HasEachPlace nodes keys
-        (λ r k n. n ≡ number_ahead (cell (map N.number cells.now) nodes r k) (cell (map N.number peer.now) nodes r k)
-        (slice_index (map N.number low.now) r)) (map N.number m.numbers.items)) }
-    ensures count { IfOk result
-        (λ m. m.count ≡ total_above nodes keys (map N.number m.numbers.items) (map N.number low.now)) }
+    requires peer { HasPeer grid peer.now low.now }
+    ensures ahead { IfOk result (IsAhead N.number grid.entry peer.now low.now) }
     ensures only { IsOkUnless result OutOfMemory }
 {
+    let Grid { cells, size } = grid;
     let mut numbers = copied(alloc, cells)?;
-    let count = change_all_counting(&mut numbers, nodes, keys, |key| {
-        let of_peer = plane_of(peer, nodes, key);
+    let count = change_all_counting(&mut numbers, size, |key| {
+        let of_peer = plane_of(peer, size.nodes, key);
         move |r, number| -> (N, bool)
             requires { (r < length of_peer.now) × (r < length low.now) }
             ensures number { N.number result.0 ≡ number_ahead (N.number number)
@@ -111,22 +103,18 @@ pub fn ahead<N: Number>(
     Ok(Masked { numbers, count })
 }
 
-// Raises the numbers of a plane to those sent that are above one mark and up to another, and each owner's greatest
-// number to its number then.
-fn take_plane<N: Number>(plane: &mut [N], greatest: &mut [N], sent: &[N], low: &[N], high: &[N])
-    requires sent { IsSentPlane plane.old greatest.old sent.now low.now high.now }
-    ensures plane { AreChanged
-        (λ r x y. y ≡ number_taken x (slice_index (map N.number sent.now) r) (slice_index (map N.number low.now) r)
-        (slice_index (map N.number high.now) r))
-        (map N.number plane.old) (map N.number plane.new) }
-    ensures greatest { AreChanged (λ r x y. y ≡ max x (number_taken (slice_index (map N.number plane.old) r)
-        (slice_index (map N.number sent.now) r) (slice_index (map N.number low.now) r)
-        (slice_index (map N.number high.now) r))) (map N.number greatest.old) (map N.number greatest.new) }
+// Raises the numbers of a key's plane to those sent that are above one mark and up to another, and each owner's
+// greatest number to its number then.
+fn take_plane<N: Number>(plane: &mut [N], greatest: &mut [N], sent: Sent<N>, key: usize)
+    requires { MayTakePlane plane.old greatest.old sent key }
+    ensures { IsPlaneTaken N.number sent.entry key plane.old greatest.old plane.new greatest.new }
 {
+    let Sent { grid, low, high } = sent;
+    let numbers = plane_of(grid.cells, grid.size.nodes, key);
     for r in 0..plane.len() {
         let kept = plane[r].max_with(planes::pick(
-            planes::is_between(sent[r], low[r], high[r]),
-            sent[r],
+            planes::is_between(numbers[r], low[r], high[r]),
+            numbers[r],
             N::zero(),
         ));
         plane[r] = kept;
@@ -141,21 +129,14 @@ pub fn take<N: Number>(cells: &mut [N], greatest: &mut [N], sent: Sent<N>)
     requires may { MayTake N.number cells.old greatest.old sent }
     ensures { AreSentTaken N.number sent.entry cells.old greatest.old cells.new greatest.new }
 {
-    if are_few(sent.keys, sent.low, sent.high, FEW_TO_CHANGE) {
+    let size = sent.grid.size;
+    if are_few(size.keys, sent.low, sent.high, FEW_TO_CHANGE) {
         owners::take_owners(cells, greatest, sent);
         return;
     }
-    let Sent {
-        cells: numbers,
-        nodes,
-        keys,
-        low,
-        high,
-    } = sent;
-    for key in 0..keys {
-        let plane = plane_of(numbers, nodes, key);
-        let start = key * nodes;
-        let block = &mut cells[start..start + nodes];
-        take_plane(block, greatest, plane, low, high);
+    for key in 0..size.keys {
+        let start = key * size.nodes;
+        let block = &mut cells[start..start + size.nodes];
+        take_plane(block, greatest, sent, key);
     }
 }

@@ -1,55 +1,46 @@
 //! Loops over all planes of a table that compare its numbers with the last ones.
 
-ghost use Rattle.std.specs.Prelude.{◌≡◌, ◌+◌, ◌*◌, ◌<◌, ◌≤◌, length, map, min, nat_lt, slice_index, IfOk, IsOkUnless, if◌then◌else◌};
+ghost use Rattle.std.specs.Prelude.{◌≡◌, ◌+◌, ◌*◌, ◌<◌, ◌≤◌, length, map, min, nat_lt, slice_index, IfOk, IsOkUnless};
 ghost use Rattle.bench_types.specs.declared.faults.Fault.TheVariants.{OutOfMemory};
-ghost use Rattle.grids.specs.Lags.{IsLeastBehind};
-ghost use Rattle.planes.specs.Planes.{cell, total_of, ArePlanesChanged, HasEach, IsGrid};
+ghost use Rattle.grids.specs.Grids.{IsBeside};
+ghost use Rattle.grids.specs.Lags.{AreLowered, AreLoweredCounting, HasLast, IsLeastBehind};
+ghost use Rattle.planes.specs.Grids.{cells_in};
+ghost use Rattle.planes.specs.Planes.{cell, HasEach};
 
 use crate::grids::change_all_counting;
 use bench_types::Fault;
-use planes::{Number, least_of, lower, plane_of};
+use planes::{Grid, Number, least_of, lower, plane_of};
 use std::alloc::Global;
 
 /// Lowers each number to another one.
-pub fn lower_all<N: Number>(least: &mut [N], cells: &[N], nodes: usize, keys: usize)
-    requires grid { IsGrid nodes keys (length least.old) }
-    requires cells { length cells.now ≡ length least.old }
-    ensures least { ArePlanesChanged (λ r k x y. y ≡ min x (cell (map N.number cells.now) nodes r k)) nodes keys
-        (map N.number least.old) (map N.number least.new) }
+pub fn lower_all<N: Number>(least: &mut [N], grid: Grid<N>)
+    requires beside { IsBeside grid least.old }
+    ensures least { AreLowered N.number grid.entry least.old least.new }
 {
-    for key in 0..keys {
-        let plane = plane_of(cells, nodes, key);
-        let start = key * nodes;
-        let block = &mut least[start..start + nodes];
+    let Grid { cells, size } = grid;
+    for key in 0..size.keys {
+        let plane = plane_of(cells, size.nodes, key);
+        let start = key * size.nodes;
+        let block = &mut least[start..start + size.nodes];
         lower(block, plane);
     }
 }
 
 /// How many numbers are below the last ones. It lowers the least to each number: one pass, plane by plane.
-pub fn count_behind<N: Number>(
-    least: &mut [N],
-    cells: &[N],
-    last: &[N],
-    nodes: usize,
-    keys: usize,
-) -> u32
-    requires grid { IsGrid nodes keys (length least.old) }
-    requires cells { length cells.now ≡ length least.old }
-    requires last { length last.now ≡ length least.old }
-    ensures count { result ≡ total_of nodes keys
-        (λ r k. nat_lt (cell (map N.number cells.now) nodes r k) (cell (map N.number last.now) nodes r k)) }
-    ensures least { ArePlanesChanged (λ r k x y. y ≡ min x (cell (map N.number cells.now) nodes r k)) nodes keys
-        (map N.number least.old) (map N.number least.new) }
+pub fn count_behind<N: Number>(least: &mut [N], grid: Grid<N>, last: &[N]) -> u32
+    requires beside { HasLast grid least.old last.now }
+    ensures { AreLoweredCounting N.number grid.entry last.now least.old least.new result }
 {
+    let Grid { cells, size } = grid;
     change_all_counting(
         least,
-        nodes,
-        keys,
+        size,
         |key|
-            requires { (key * nodes + nodes ≤ length cells.now) × (key * nodes + nodes ≤ length last.now) }
+            requires { (key * size.nodes + size.nodes ≤ length cells.now)
+                × (key * size.nodes + size.nodes ≤ length last.now) }
         {
-            let plane = plane_of(cells, nodes, key);
-            let of_last = plane_of(last, nodes, key);
+            let plane = plane_of(cells, size.nodes, key);
+            let of_last = plane_of(last, size.nodes, key);
             move |r, number| -> (N, bool)
                 requires { (r < length plane.now) × (r < length of_last.now) }
                 ensures number { N.number result.0 ≡ min (N.number number)
@@ -66,25 +57,18 @@ pub fn count_behind<N: Number>(
 
 /// For each owner the least of its numbers that are below the last ones, or `N::greatest()` where none is. An error is
 /// lack of memory (`OutOfMemory`).
-pub fn least_behind<N: Number>(
-    alloc: Global,
-    cells: &[N],
-    last: &[N],
-    nodes: usize,
-    keys: usize,
-) -> Result<Vec<N>, Fault>
-    requires grid { IsGrid nodes keys (length cells.now) }
-    requires last { length last.now ≡ length cells.now }
-    ensures least { IfOk result (λ v. HasEach nodes
-        (λ r n. IsLeastBehind N.most (cell (map N.number cells.now) nodes) (cell (map N.number last.now) nodes)
-        keys r n)
+pub fn least_behind<N: Number>(alloc: Global, grid: Grid<N>, last: &[N]) -> Result<Vec<N>, Fault>
+    requires beside { IsBeside grid last.now }
+    ensures least { IfOk result (λ v. HasEach grid.entry.size.nodes
+        (λ r n. IsLeastBehind N.most (cells_in N.number grid.entry)
+        (cell (map N.number last.now) grid.entry.size.nodes) grid.entry.size.keys r n)
         (map N.number v.items)) }
     ensures only { IsOkUnless result OutOfMemory }
 {
+    let Grid { cells, size } = grid;
     least_of(
         alloc,
-        nodes,
-        keys,
+        size,
         |at, _| planes::pick(last[at].is_above(cells[at]), cells[at], N::greatest()),
     )
 }

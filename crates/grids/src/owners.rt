@@ -1,38 +1,33 @@
 //! Loops over a few owners of a table, each over all of its keys. The others have nothing above one mark and up to
 //! another, and are passed over.
 
-ghost use Rattle.std.specs.Prelude.{◌≡◌, ◌≤◌, length, map};
-ghost use Rattle.planes.specs.Planes.{cell, HasNoneAbove};
 ghost use Rattle.grids.specs.Grids.{AreBothCovered, AreBothRaised, AreSentTaken, MayTake};
-ghost use Rattle.planes.specs.Owners.{IsOwnerOf};
-ghost use Rattle.grids.specs.inner.Owners.{HasRaisedOwner, HasTakenOwner};
+ghost use Rattle.grids.specs.inner.Owners.{HasRaisedOwner, HasTakenOwner, MayRaiseOwner, MayTakeOwner};
 
 use crate::grids::Sent;
 use crate::merges::{BothCounts, BothMarks};
-use planes::Number;
+use planes::{Grid, Number};
 
 /// To change their numbers, owners are few where they are no more than all divided by this.
 pub(crate) const FEW_TO_CHANGE: usize = 8;
 
 // Raises an owner's numbers to those sent that are above one mark and up to another. It answers the greatest number
 // that the owner has then, and is given the one that it had.
-fn take_owner<N: Number>(cells: &mut [N], sent: Sent<N>, owner: usize, low: N, high: N, had: N) -> N
-    requires place { IsOwnerOf sent.nodes sent.keys owner (length cells.old) }
-    requires sent { length sent.cells.now ≡ length cells.old }
-    requires covered { HasNoneAbove (cell (map N.number cells.old) sent.nodes) sent.keys owner (N.number had) }
-    ensures { HasTakenOwner N.number sent.entry owner low high cells.old had cells.new result }
+fn take_owner<N: Number>(cells: &mut [N], sent: Sent<N>, owner: usize, had: N) -> N
+    requires { MayTakeOwner N.number cells.old sent owner had }
+    ensures { HasTakenOwner N.number sent.entry owner cells.old had cells.new result }
 {
-    let Sent {
+    let Grid {
         cells: numbers,
-        nodes,
-        keys,
-        ..
-    } = sent;
+        size,
+    } = sent.grid;
+    let low = sent.low[owner];
+    let high = sent.high[owner];
     let mut greatest = had;
-    for key in 0..keys {
-        let number = numbers[key * nodes + owner];
+    for key in 0..size.keys {
+        let number = numbers[key * size.nodes + owner];
         if planes::is_between(number, low, high) {
-            let cell = &mut cells[key * nodes + owner];
+            let cell = &mut cells[key * size.nodes + owner];
             let raised = cell.max_with(number);
             *cell = raised;
             greatest = greatest.max_with(raised);
@@ -46,44 +41,29 @@ pub(crate) fn take_owners<N: Number>(cells: &mut [N], greatest: &mut [N], sent: 
     requires may { MayTake N.number cells.old greatest.old sent }
     ensures { AreSentTaken N.number sent.entry cells.old greatest.old cells.new greatest.new }
 {
-    let Sent {
-        nodes,
-        low,
-        high,
-        ..
-    } = sent;
-    for owner in 0..nodes {
+    let Sent { grid, low, high } = sent;
+    for owner in 0..grid.size.nodes {
         if high[owner].is_above(low[owner]) {
-            greatest[owner] = take_owner(
-                cells,
-                sent,
-                owner,
-                low[owner],
-                high[owner],
-                greatest[owner],
-            );
+            greatest[owner] = take_owner(cells, sent, owner, greatest[owner]);
         }
     }
 }
 
 // Raises an owner's numbers to those of another table that are above a mark. It answers how many these are.
-fn raise_owner<N: Number>(
-    cells: &mut [N],
-    others: &[N],
-    nodes: usize,
-    keys: usize,
-    owner: usize,
-    low: N,
-) -> u32
-    requires place { IsOwnerOf nodes keys owner (length cells.old) }
-    requires others { length others.now ≡ length cells.old }
-    ensures { HasRaisedOwner N.number nodes keys owner others.now low cells.old cells.new result }
+fn raise_owner<N: Number>(cells: &mut [N], others: Grid<N>, owner: usize, low: N) -> u32
+    requires { MayRaiseOwner cells.old others owner }
+    ensures { HasRaisedOwner N.number others.entry.size.nodes others.entry.size.keys owner others.entry.cells.now low
+        cells.old cells.new result }
 {
+    let Grid {
+        cells: numbers,
+        size,
+    } = others;
     let mut count = 0;
-    for key in 0..keys {
-        let number = others[key * nodes + owner];
+    for key in 0..size.keys {
+        let number = numbers[key * size.nodes + owner];
         let is_above = number.is_above(low);
-        let cell = &mut cells[key * nodes + owner];
+        let cell = &mut cells[key * size.nodes + owner];
         *cell = planes::raised_to(*cell, number, is_above);
         count += u32::from(is_above);
     }
@@ -103,18 +83,22 @@ pub(crate) fn merge_owners<N: Number>(
     let BothMarks {
         first: first_low,
         second: second_low,
-        nodes,
-        keys,
+        size,
     } = marks;
     let mut to_first = 0;
     let mut to_second = 0;
-    for owner in 0..nodes {
+    for owner in 0..size.nodes {
         let mark = first_low[owner];
         let other = second_low[owner];
         if other.is_above(mark) {
-            to_first += raise_owner(first, second, nodes, keys, owner, mark);
+            let others = Grid {
+                cells: second,
+                size,
+            };
+            to_first += raise_owner(first, others, owner, mark);
         } else if mark.is_above(other) {
-            to_second += raise_owner(second, first, nodes, keys, owner, other);
+            let others = Grid { cells: first, size };
+            to_second += raise_owner(second, others, owner, other);
         }
     }
     BothCounts {

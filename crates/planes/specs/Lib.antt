@@ -1,4 +1,4 @@
 pub mod Elementwise
 pub mod Planes
 pub mod Loops
-pub mod Owners
+pub mod Grids

@@ -1,5 +1,5 @@
 -- What loops over planes do to one number. Source: this project.
-use Rattle.std.specs.Prelude.{◌≡◌, ◌⊎◌, ℕ, ◌+◌, ◌-◌, ◌*◌, ◌<◌, ◌≤◌, ◌&&◌, Bool, List, length, max, min, nat_lt, nat_le, slice_index, if◌then◌else◌}
+use Rattle.std.specs.Prelude.{◌≡◌, ◌⊎◌, ℕ, ◌+◌, ◌-◌, ◌*◌, ◌<◌, ◌≤◌, ◌&&◌, Bool, false, List, length, max, min, nat_lt, nat_le, slice_index, if◌then◌else◌}
 use Rattle.bench_types.specs.declared.limits.TheConstants.{MOST_NODES, MOST_KEYS}
 use Rattle.bench_types.specs.Sums.{sum_below}
 
@@ -26,6 +26,12 @@ pub record IsLeastAbove (cells : Cells) (keys owner mark least : ℕ) : Type 0 w
 
 abbrev pub HasNoneAbove : Cells → ℕ → ℕ → ℕ → Type 0
 HasNoneAbove cells keys owner mark = (k : ℕ) → k < keys → cells owner k ≤ mark
+
+-- no number is above 0 and up to its owner's mark
+abbrev pub HasNoneUpto : List ℕ → List ℕ → Type 0
+HasNoneUpto xs high =
+    (owner : ℕ) → owner < length xs
+    → (nat_lt 0 (slice_index xs owner) && nat_le (slice_index xs owner) (slice_index high owner)) ≡ false
 
 -- a number that is above both the peer's and a mark
 abbrev pub number_ahead : ℕ → ℕ → ℕ → ℕ

@@ -3,12 +3,14 @@
 
 ghost use Rattle.std.specs.Prelude.{◌≡◌, ℕ, ◌+◌, ◌*◌, ◌<◌, ◌≤◌, ◌&&◌, Bool, length, map, max, nat_le, nat_lt, slice_index, IfOk, IsOkUnless, if◌then◌else◌};
 ghost use Rattle.bench_types.specs.declared.faults.Fault.TheVariants.{OutOfMemory};
-ghost use Rattle.planes.specs.Planes.{cell, count_above, count_between, total_above, total_of, AreCovered, HasEach, IsGrid, IsNextAbove};
+ghost use Rattle.planes.specs.Grids.{cells_in, HasMarkOfEach, HasTwoMarksOfEach, IsGridOf, IsMarked};
+ghost use Rattle.planes.specs.Planes.{cell, count_above, count_between, total_above, total_of, HasEach, IsGrid, IsNextAbove};
 ghost use Rattle.planes.specs.Loops.{AnswersAs, IsLeastOf};
 
 use crate::numbers::Number;
 use crate::owners::{FEW_TO_COUNT, are_few, total_owners_above};
 use crate::planes;
+use crate::sizes::{Grid, Size};
 use bench_types::Fault;
 use std::alloc::Global;
 
@@ -40,24 +42,19 @@ pub fn zeros<N: Number>(alloc: Global, count: usize) -> Result<Vec<N>, Fault>
 }
 
 /// For each owner how many of its numbers are above a mark. An error is lack of memory (`OutOfMemory`).
-pub fn counts_above<N: Number>(
-    alloc: Global,
-    cells: &[N],
-    nodes: usize,
-    keys: usize,
-    low: &[N],
-) -> Result<Vec<N>, Fault>
-    requires grid { IsGrid nodes keys (length cells.now) }
-    requires low { length low.now ≡ nodes }
-    ensures counts { IfOk result (λ v. HasEach nodes
-        (λ r n. n ≡ count_above (cell (map N.number cells.now) nodes) keys r (slice_index (map N.number low.now) r))
+pub fn counts_above<N: Number>(alloc: Global, grid: Grid<N>, low: &[N]) -> Result<Vec<N>, Fault>
+    requires marked { HasMarkOfEach grid low.now }
+    ensures counts { IfOk result (λ v. HasEach grid.entry.size.nodes
+        (λ r n. n ≡ count_above (cells_in N.number grid.entry) grid.entry.size.keys r
+        (slice_index (map N.number low.now) r))
         (map N.number v.items)) }
     ensures only { IsOkUnless result OutOfMemory }
 {
-    let mut counts = zeros(alloc, nodes)?;
+    let Grid { cells, size } = grid;
+    let mut counts = zeros(alloc, size.nodes)?;
     let all: &mut [N] = &mut counts;
-    for key in 0..keys {
-        let plane = plane_of(cells, nodes, key);
+    for key in 0..size.keys {
+        let plane = plane_of(cells, size.nodes, key);
         planes::change(
             all,
             |r, count| -> N
@@ -73,29 +70,26 @@ pub fn counts_above<N: Number>(
 /// For each owner of a part of them, from a first one on, how many of its numbers are above one mark and up to another.
 pub fn count_some_between<N: Number>(
     counts: &mut [N],
-    cells: &[N],
-    nodes: usize,
-    keys: usize,
+    grid: Grid<N>,
     first: usize,
     low: &[N],
     high: &[N],
 )
-    requires grid { IsGrid nodes keys (length cells.now) }
-    requires part { first + length counts.old ≤ nodes }
-    requires low { length low.now ≡ nodes }
-    requires high { length high.now ≡ nodes }
+    requires marked { HasTwoMarksOfEach grid low.now high.now }
+    requires part { first + length counts.old ≤ grid.size.nodes }
     ensures { HasEach (length counts.old)
-        (λ r n. n ≡ count_between (cell (map N.number cells.now) nodes) keys (first + r)
+        (λ r n. n ≡ count_between (cells_in N.number grid.entry) grid.entry.size.keys (first + r)
         (slice_index (map N.number low.now) (first + r)) (slice_index (map N.number high.now) (first + r)))
         (map N.number counts.new) }
 {
+    let Grid { cells, size } = grid;
     planes::change(counts, |_, _| N::zero());
-    let size = counts.len();
-    let lows = &low[first..first + size];
-    let highs = &high[first..first + size];
-    for key in 0..keys {
-        let start = key * nodes + first;
-        let plane = &cells[start..start + size];
+    let count = counts.len();
+    let lows = &low[first..first + count];
+    let highs = &high[first..first + count];
+    for key in 0..size.keys {
+        let start = key * size.nodes + first;
+        let plane = &cells[start..start + count];
         planes::change(
             counts,
             |r, count| -> N
@@ -114,22 +108,22 @@ pub fn count_some_between<N: Number>(
 /// An error is lack of memory (`OutOfMemory`).
 pub fn least_of<N: Number, F: Fn(usize, usize) -> N>(
     alloc: Global,
-    nodes: usize,
-    keys: usize,
+    size: Size,
     value: F,
 ) -> Result<Vec<N>, Fault>
-    requires grid { IsGrid nodes keys (keys * nodes) }
-    requires value { (at r : ℕ) → at < keys * nodes → r < nodes → F.pre value at r }
+    requires grid { IsGrid size.nodes size.keys (size.keys * size.nodes) }
+    requires value { (at r : ℕ) → at < size.keys * size.nodes → r < size.nodes → F.pre value at r }
     ensures least { (values : ℕ → ℕ → ℕ)
-        → ((at r : ℕ) (n : N) → at < keys * nodes → r < nodes → F.post value at r n → N.number n ≡ values at r)
-        → IfOk result (λ v. HasEach nodes (λ r n. IsLeastOf N.most (λ k. values (k * nodes + r) r) keys n)
-        (map N.number v.items)) }
+        → ((at r : ℕ) (n : N) → at < size.keys * size.nodes → r < size.nodes → F.post value at r n
+        → N.number n ≡ values at r)
+        → IfOk result (λ v. HasEach size.nodes
+        (λ r n. IsLeastOf N.most (λ k. values (k * size.nodes + r) r) size.keys n) (map N.number v.items)) }
     ensures only { IsOkUnless result OutOfMemory }
 {
-    let mut least = all_of(alloc, nodes, N::greatest())?;
+    let mut least = all_of(alloc, size.nodes, N::greatest())?;
     let all: &mut [N] = &mut least;
-    for key in 0..keys {
-        let start = key * nodes;
+    for key in 0..size.keys {
+        let start = key * size.nodes;
         planes::change(all, |r, number| number.min_with(value(start + r, r)));
     }
     Ok(least)
@@ -137,42 +131,32 @@ pub fn least_of<N: Number, F: Fn(usize, usize) -> N>(
 
 /// For each owner the least of its numbers above a mark, or `N::greatest()` where there is none. An error is lack of
 /// memory (`OutOfMemory`).
-pub fn least_above<N: Number>(
-    alloc: Global,
-    cells: &[N],
-    nodes: usize,
-    keys: usize,
-    low: &[N],
-) -> Result<Vec<N>, Fault>
-    requires grid { IsGrid nodes keys (length cells.now) }
-    requires low { length low.now ≡ nodes }
-    ensures least { IfOk result (λ v. HasEach nodes
-        (λ r n. IsNextAbove N.most (cell (map N.number cells.now) nodes) keys r
+pub fn least_above<N: Number>(alloc: Global, grid: Grid<N>, low: &[N]) -> Result<Vec<N>, Fault>
+    requires marked { HasMarkOfEach grid low.now }
+    ensures least { IfOk result (λ v. HasEach grid.entry.size.nodes
+        (λ r n. IsNextAbove N.most (cells_in N.number grid.entry) grid.entry.size.keys r
         (slice_index (map N.number low.now) r) n) (map N.number v.items)) }
     ensures only { IsOkUnless result OutOfMemory }
 {
+    let Grid { cells, size } = grid;
     least_of(
         alloc,
-        nodes,
-        keys,
+        size,
         |at, r| planes::pick(cells[at].is_above(low[r]), cells[at], N::greatest()),
     )
 }
 
-fn total<N: Number, F: Fn(usize, N) -> bool>(
-    cells: &[N],
-    nodes: usize,
-    keys: usize,
-    passes: F,
-) -> u32
-    requires grid { IsGrid nodes keys (length cells.now) }
-    requires passes { (r : ℕ) (n : N) → r < nodes → F.pre passes r n }
-    ensures { (test : ℕ → ℕ → Bool) → AnswersAs N.number (F.post passes) nodes test
-        → result ≡ total_of nodes keys (λ r k. test r (cell (map N.number cells.now) nodes r k)) }
+fn total<N: Number, F: Fn(usize, N) -> bool>(grid: Grid<N>, passes: F) -> u32
+    requires grid { IsGridOf grid }
+    requires passes { (r : ℕ) (n : N) → r < grid.size.nodes → F.pre passes r n }
+    ensures { (test : ℕ → ℕ → Bool) → AnswersAs N.number (F.post passes) grid.entry.size.nodes test
+        → result ≡ total_of grid.entry.size.nodes grid.entry.size.keys
+        (λ r k. test r (cells_in N.number grid.entry r k)) }
 {
+    let Grid { cells, size } = grid;
     let mut total = 0;
-    for key in 0..keys {
-        let plane = plane_of(cells, nodes, key);
+    for key in 0..size.keys {
+        let plane = plane_of(cells, size.nodes, key);
         total += planes::how_many(plane, &passes);
     }
     total
@@ -180,38 +164,35 @@ fn total<N: Number, F: Fn(usize, N) -> bool>(
 
 /// How many numbers are above their owners' marks, where none is above its owner's high mark. It goes over all planes,
 /// or where only few owners' marks differ and there are many keys, over the keys of these owners.
-pub fn total_above<N: Number>(cells: &[N], nodes: usize, keys: usize, low: &[N], high: &[N]) -> u32
-    requires grid { IsGrid nodes keys (length cells.now) }
-    requires low { length low.now ≡ nodes }
-    requires high { length high.now ≡ nodes }
-    requires covered { AreCovered nodes keys (map N.number cells.now) (map N.number high.now) }
-    ensures { result ≡ total_above nodes keys (map N.number cells.now) (map N.number low.now) }
+pub fn total_above<N: Number>(grid: Grid<N>, low: &[N], high: &[N]) -> u32
+    requires marked { IsMarked N.number grid low.now high.now }
+    ensures { result ≡ total_above grid.entry.size.nodes grid.entry.size.keys (map N.number grid.entry.cells.now)
+        (map N.number low.now) }
 {
-    if are_few(keys, low, high, FEW_TO_COUNT) {
-        return total_owners_above(cells, nodes, keys, low, high);
+    if are_few(grid.size.keys, low, high, FEW_TO_COUNT) {
+        return total_owners_above(grid, low, high);
     }
-    total(cells, nodes, keys, |r, number| number.is_above(low[r]))
+    total(grid, |r, number| number.is_above(low[r]))
 }
 
 /// How many numbers are not 0.
-pub fn total_held<N: Number>(cells: &[N], nodes: usize, keys: usize) -> u32
-    requires grid { IsGrid nodes keys (length cells.now) }
-    ensures { result ≡ total_of nodes keys (λ r k. nat_lt 0 (cell (map N.number cells.now) nodes r k)) }
+pub fn total_held<N: Number>(grid: Grid<N>) -> u32
+    requires grid { IsGridOf grid }
+    ensures { result ≡ total_of grid.entry.size.nodes grid.entry.size.keys
+        (λ r k. nat_lt 0 (cells_in N.number grid.entry r k)) }
 {
-    total(cells, nodes, keys, |_, number| number.is_above(N::zero()))
+    total(grid, |_, number| number.is_above(N::zero()))
 }
 
 /// How many numbers are not 0 and up to their owners' marks.
-pub fn total_upto<N: Number>(cells: &[N], nodes: usize, keys: usize, high: &[N]) -> u32
-    requires grid { IsGrid nodes keys (length cells.now) }
-    requires high { length high.now ≡ nodes }
-    ensures { result ≡ total_of nodes keys (λ r k. nat_lt 0 (cell (map N.number cells.now) nodes r k)
-        && nat_le (cell (map N.number cells.now) nodes r k) (slice_index (map N.number high.now) r)) }
+pub fn total_upto<N: Number>(grid: Grid<N>, high: &[N]) -> u32
+    requires marked { HasMarkOfEach grid high.now }
+    ensures { result ≡ total_of grid.entry.size.nodes grid.entry.size.keys
+        (λ r k. nat_lt 0 (cells_in N.number grid.entry r k)
+        && nat_le (cells_in N.number grid.entry r k) (slice_index (map N.number high.now) r)) }
 {
     total(
-        cells,
-        nodes,
-        keys,
+        grid,
         |r, number|
             requires { r < length high.now }
         { planes::is_between(number, N::zero(), high[r]) },

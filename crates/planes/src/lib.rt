@@ -17,6 +17,7 @@ mod grids;
 mod numbers;
 mod owners;
 mod planes;
+mod sizes;
 
 pub use ends::Ends;
 pub use grids::{
@@ -25,4 +26,5 @@ pub use grids::{
 };
 pub use numbers::{Number, Short};
 pub use owners::are_few;
-pub use planes::{change, is_between, lower, pick, raised_to};
+pub use planes::{change, is_between, lower, none_upto, pick, raised_to};
+pub use sizes::{Grid, Size};

@@ -3,11 +3,12 @@
 
 ghost use Rattle.std.specs.Prelude.{◌≡◌, ◌≤◌, length, map};
 ghost use Rattle.bench_types.specs.declared.limits.TheConstants.{MOST_NODES};
-ghost use Rattle.planes.specs.Planes.{cell, count_above, total_above};
-ghost use Rattle.planes.specs.Owners.{IsMarked, IsOwnerOf};
+ghost use Rattle.planes.specs.Grids.{cells_in, IsMarked, IsOwnerOf};
+ghost use Rattle.planes.specs.Planes.{count_above, total_above};
 
 use crate::numbers::Number;
 use crate::planes;
+use crate::sizes::Grid;
 
 /// So many keys are many: with fewer, planes are the faster way.
 const MANY_KEYS: usize = 16;
@@ -24,34 +25,30 @@ pub fn are_few<N: Number>(keys: usize, low: &[N], high: &[N], few: usize) -> boo
     keys >= MANY_KEYS && planes::how_many_above(high, low) as usize <= high.len() / few
 }
 
-fn owner_above<N: Number>(cells: &[N], nodes: usize, keys: usize, owner: usize, low: N) -> u32
-    requires place { IsOwnerOf nodes keys owner (length cells.now) }
-    ensures { result ≡ count_above (cell (map N.number cells.now) nodes) keys owner (N.number low) }
+fn owner_above<N: Number>(grid: Grid<N>, owner: usize, low: N) -> u32
+    requires place { IsOwnerOf grid owner }
+    ensures { result ≡ count_above (cells_in N.number grid.entry) grid.entry.size.keys owner (N.number low) }
 {
+    let Grid { cells, size } = grid;
     let mut count = 0;
-    for key in 0..keys {
-        count += u32::from(cells[key * nodes + owner].is_above(low));
+    for key in 0..size.keys {
+        count += u32::from(cells[key * size.nodes + owner].is_above(low));
     }
     count
 }
 
 // How many numbers are above their owners' low marks. It goes over the owners alone whose high mark is above their low
 // one: the others have none.
-pub(crate) fn total_owners_above<N: Number>(
-    cells: &[N],
-    nodes: usize,
-    keys: usize,
-    low: &[N],
-    high: &[N],
-) -> u32
-    requires marked { IsMarked N.number nodes keys cells.now low.now high.now }
-    ensures { result ≡ total_above nodes keys (map N.number cells.now) (map N.number low.now) }
+pub(crate) fn total_owners_above<N: Number>(grid: Grid<N>, low: &[N], high: &[N]) -> u32
+    requires marked { IsMarked N.number grid low.now high.now }
+    ensures { result ≡ total_above grid.entry.size.nodes grid.entry.size.keys (map N.number grid.entry.cells.now)
+        (map N.number low.now) }
 {
     let mut total = 0;
-    for owner in 0..nodes {
+    for owner in 0..grid.size.nodes {
         let mark = low[owner];
         if high[owner].is_above(mark) {
-            total += owner_above(cells, nodes, keys, owner, mark);
+            total += owner_above(grid, owner, mark);
         }
     }
     total

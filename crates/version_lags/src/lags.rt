@@ -13,7 +13,7 @@ ghost use Rattle.version_lags.specs.Pieces.{AreGrids, AreRoundNumbers, Counts, M
 use bench_types::{Fault, Figures};
 use grids::{count_behind, least_behind, lower_all};
 use owner_writes::OwnerWrites;
-use planes::{Ends, Number, total_upto};
+use planes::{Ends, Grid, Number, Size, total_upto};
 use rayon::join;
 use round_tables::{Hands, Resources};
 use std::alloc::Global;
@@ -67,16 +67,20 @@ impl<'a, N: Number + Send + Sync> Numbers<'a, N> {
         ensures { Counts N.number self.now.numbers from to result }
     {
         let numbers = self.numbers;
-        let nodes = numbers.lists.len();
+        let size = Size {
+            nodes: numbers.lists.len(),
+            keys: numbers.keys,
+        };
         let mut stale = 0;
         let mut leftover = 0;
         let mut least = Vec::from_slice(alloc, numbers.last)?;
         for at in from..to {
             let here = numbers.cells[at];
-            let behind = count_behind(&mut least, here, numbers.last, nodes, numbers.keys);
+            let grid = Grid { cells: here, size };
+            let behind = count_behind(&mut least, grid, numbers.last);
             stale += u64::from(behind);
             if self.forgot {
-                leftover += u64::from(total_upto(here, nodes, numbers.keys, numbers.bases));
+                leftover += u64::from(total_upto(grid, numbers.bases));
             }
         }
         Ok(Piece {
@@ -116,7 +120,14 @@ impl<'a, N: Number + Send + Sync> Numbers<'a, N> {
         let others = others?;
         piece.stale += others.stale;
         piece.leftover += others.leftover;
-        lower_all(&mut piece.least, &others.least, nodes, self.numbers.keys);
+        let grid = Grid {
+            cells: &others.least,
+            size: Size {
+                nodes,
+                keys: self.numbers.keys,
+            },
+        };
+        lower_all(&mut piece.least, grid);
         Ok(piece)
     }
 }
@@ -162,7 +173,14 @@ impl<'a, N: Number> Lags<'a, N> {
     {
         let numbers = self.numbers;
         let nodes = numbers.lists.len();
-        let firsts = least_behind(alloc, self.least, numbers.last, nodes, numbers.keys)?;
+        let grid = Grid {
+            cells: self.least,
+            size: Size {
+                nodes,
+                keys: numbers.keys,
+            },
+        };
+        let firsts = least_behind(alloc, grid, numbers.last)?;
         let mut greatest = 0;
         for owner in 0..nodes {
             let first = firsts[owner];

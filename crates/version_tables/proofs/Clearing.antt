@@ -1,6 +1,6 @@
 -- Numbers of an owner's keys that are dropped.
--- Serves `are_current`, `drop_older` and `is_current`.
-use Rattle.version_tables.proofs.Common.{◌≡◌, ℕ, ◌+◌, ◌*◌, ◌<◌, ◌&&◌, Bool, true, false, cond, List, nat_lt, nat_le, slice_index, refl, sym, ap, ◌∙◌, subst, arith, sum_below, cell, total_of, ArePlanesChanged, sum_below-each_none, sum_below-none, nat_tests}
+-- Serves `are_current` and `drop_older`.
+use Rattle.version_tables.proofs.Common.{◌≡◌, ℕ, ◌+◌, ◌*◌, ◌<◌, ◌&&◌, Bool, true, false, cond, List, nat_lt, nat_le, slice_index, refl, sym, ◌∙◌, subst, arith, sum_below, cell, total_of, ArePlanesChanged, sum_below-each_none, nat_tests}
 
 -- where each number stays
 pub planes-stay : (changed : ℕ → ℕ → ℕ → ℕ → Type 0) (nodes keys : ℕ) (xs : List ℕ) → ((r k x : ℕ) → r < nodes → changed r k x x) → ArePlanesChanged changed nodes keys xs xs
@@ -15,12 +15,6 @@ plane-none nodes total xs test is none r lt =
     fails : (b : Bool) → 0 + cond b 1 0 ≡ 0 → b ≡ false
     fails true one = absurd (omega (arith, one))
     fails false one = refl
-
--- and where no number of a plane passes a test none is counted
-pub plane-zero : (nodes total : ℕ) (xs : List ℕ) (test : ℕ → ℕ → Bool) → total ≡ total_of nodes 1 (λ r k. test r (cell xs nodes r k)) → ((r : ℕ) → r < nodes → test r (slice_index xs r) ≡ false) → total ≡ 0
-plane-zero nodes total xs test is none =
-    is
-    ∙ sum_below-none nodes _ (λ r lt. ap (λ b. 0 + cond b 1 0) (subst (λ i. test r (slice_index xs i) ≡ false) {x = r} {y = 0 * nodes + r} (omega arith) (none r lt)))
 
 -- no number is of an earlier generation where there is none
 pub none-current : (x base : ℕ) → base ≡ 0 → (nat_lt 0 x && nat_le x base) ≡ false

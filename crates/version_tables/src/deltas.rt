@@ -81,10 +81,11 @@ fn marks_sent<N: Number, H: Written>(
         m.counts.cut) }
     ensures only { IsOkUnless result OutOfMemory }
 {
+    let size = sender.size();
     let offer = Offer {
         cells: offered.cells,
-        nodes: sender.nodes() as usize,
-        keys: sender.keys() as usize,
+        nodes: size.nodes,
+        keys: size.keys,
         low: offered.low,
         high: sender.greatest(),
         lists: histories.lists(),
@@ -144,11 +145,7 @@ fn ahead_of<N: Number, H: Written>(
             numbers: Vec::new(alloc),
             count: 0,
         }),
-        DigestKind::Precise => {
-            let nodes = sender.nodes() as usize;
-            let keys = sender.keys() as usize;
-            grids::ahead(alloc, sender.cells(), receiver.cells(), nodes, keys, low)
-        }
+        DigestKind::Precise => { grids::ahead(alloc, sender.grid(), receiver.cells(), low) }
     }
 }
 
@@ -168,11 +165,13 @@ fn either<'a, N: Number, H: Written>(
 {
     match kind {
         DigestKind::Scuttle => {
-            let nodes = sender.nodes() as usize;
-            let keys = sender.keys() as usize;
-            let cells = sender.cells();
-            let found = planes::total_above(cells, nodes, keys, low, sender.greatest());
-            Offered { cells, low, found }
+            let grid = sender.grid();
+            let found = planes::total_above(grid, low, sender.greatest());
+            Offered {
+                cells: grid.cells,
+                low,
+                found,
+            }
         }
         DigestKind::Precise => Offered {
             cells: &ahead.numbers,

@@ -7,16 +7,21 @@ ghost use Rattle.version_tables.specs.Views.{table_in, IsKept};
 
 use crate::tables::{VersionTable, Written};
 use bench_types::{DigestKind, Mode};
-use planes::Number;
+use planes::{Grid, Number, Size};
 
 /// Of how many owners something is held, or how many entries are.
 pub(crate) fn digest_size<N: Number, H: Written>(table: &VersionTable<N, H>, mode: Mode) -> u32
     ensures size { result ≡ digest_size (digest_kind mode) (table_in H.lists table.now) }
     ensures kept { IsKept H.lists table.now }
 {
-    let nodes = table.nodes as usize;
     match mode.digest_kind() {
-        DigestKind::Scuttle => planes::total_held(&table.greatest, nodes, 1),
-        DigestKind::Precise => planes::total_held(&table.cells, nodes, table.keys as usize),
+        DigestKind::Scuttle => {
+            let nodes = table.size().nodes;
+            planes::total_held(Grid {
+                cells: table.greatest(),
+                size: Size { nodes, keys: 1 },
+            })
+        }
+        DigestKind::Precise => planes::total_held(table.grid()),
     }
 }

@@ -15,7 +15,7 @@ use crate::tables::{VersionTable, Written};
 use bench_types::limits::MOST_ENTRY_SIZE;
 use bench_types::{Budget, DigestKind, Rules};
 use grids::{BothCounts, BothMarks};
-use planes::Number;
+use planes::{Grid, Number, Size};
 
 fn surely_fit(budget: Budget, count: u32) -> bool
     requires { count ≤ MOST_NODES * MOST_KEYS }
@@ -40,12 +40,11 @@ fn all_ahead_fits<N: Number, H: Written>(
         ≡ most_ahead from.now.nodes from.now.keys from.now.greatest to.now.greatest }
     ensures { IsTrue result ↔ SurelyFits budget from.now to.now }
 {
-    let nodes = from.nodes() as usize;
-    let keys = from.keys() as usize;
+    let grid = from.grid();
     if surely_fit(budget, most) {
         return true;
     }
-    let count = planes::total_above(from.cells(), nodes, keys, to.greatest(), from.greatest());
+    let count = planes::total_above(grid, to.greatest(), from.greatest());
     surely_fit(budget, count)
 }
 
@@ -70,8 +69,7 @@ fn is_current<N: Number, H: Written>(
     requires { FitsHistories histories.now (table_in H.lists table.now) }
     ensures { IsTrue result ↔ AreCurrent (bases_in histories.now.lists) table.now }
 {
-    let nodes = table.nodes() as usize;
-    planes::total_upto(table.greatest(), nodes, 1, histories.bases()) == 0
+    planes::none_upto(table.greatest(), histories.bases())
 }
 
 // Most often no owner has forgotten, which one fast loop tells.
@@ -84,8 +82,12 @@ fn are_current<N: Number, H: Written>(
     ensures { IsTrue result ↔ (AreCurrent (bases_in histories.now.lists) initiator.now
         × AreCurrent (bases_in histories.now.lists) responder.now) }
 {
-    let nodes = initiator.nodes() as usize;
-    if planes::total_held(histories.bases(), nodes, 1) == 0 {
+    let nodes = initiator.size().nodes;
+    let bases = Grid {
+        cells: histories.bases(),
+        size: Size { nodes, keys: 1 },
+    };
+    if planes::total_held(bases) == 0 {
         return true;
     }
     is_current(initiator, histories) && is_current(responder, histories)
@@ -135,8 +137,10 @@ pub(crate) fn merge<N: Number, H: Written>(
     let marks = BothMarks {
         first: &initiator.greatest,
         second: &responder.greatest,
-        nodes: initiator.nodes as usize,
-        keys: initiator.keys as usize,
+        size: Size {
+            nodes: initiator.nodes as usize,
+            keys: initiator.keys as usize,
+        },
     };
     let came = grids::merge(&mut initiator.cells, &mut responder.cells, marks);
     grids::raise_both(&mut initiator.greatest, &mut responder.greatest);

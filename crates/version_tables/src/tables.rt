@@ -4,7 +4,7 @@ ghost use Rattle.std.specs.Prelude.{◌≡◌};
 
 use crate::owners::{clear, keep_one, keep_owner};
 use bench_types::Fault;
-use planes::{Number, zeros};
+use planes::{Grid, Number, Size, zeros};
 use std::alloc::Global;
 use std::marker::{Model, PhantomData};
 
@@ -60,6 +60,7 @@ impl<N: Number, H: Written> VersionTable<N, H> {
     ghost use Rattle.model.specs.Table.{empty_table, without_others, without_all};
     ghost use Rattle.version_tables.specs.Views.{table_in, IsKept};
     ghost use Rattle.version_tables.specs.Writes.{IsNextWrite, HasOwnWrite};
+    ghost use Rattle.version_tables.specs.inner.Columns.{IsGridIn, IsSizeOf};
 
     /// The empty table of a node, in its generation 0. It has a number for each owner and key. An error is lack of
     /// memory (`OutOfMemory`).
@@ -140,6 +141,26 @@ impl<N: Number, H: Written> VersionTable<N, H> {
         ensures kept { IsKept H.lists self.now }
     {
         self.keys
+    }
+
+    pub(crate) fn size(&self) -> Size
+        ensures size { IsSizeOf self.now result }
+        ensures kept { IsKept H.lists self.now }
+    {
+        Size {
+            nodes: self.nodes as usize,
+            keys: self.keys as usize,
+        }
+    }
+
+    pub(crate) fn grid(&self) -> Grid<N>
+        ensures grid { IsGridIn N.number self.now result }
+        ensures kept { IsKept H.lists self.now }
+    {
+        Grid {
+            cells: &self.cells,
+            size: self.size(),
+        }
     }
 
     /// The node's generation: how often it has forgotten.

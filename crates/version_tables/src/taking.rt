@@ -12,7 +12,7 @@ use crate::tables::{VersionTable, Written};
 use delta_plans::Owners;
 use grids::Sent;
 use owner_writes::OwnerWrites;
-use planes::Number;
+use planes::{Grid, Number, Size};
 
 fn clear_column<N: Number>(cells: &mut [N], nodes: usize, keys: usize, owner: usize, start: u32)
     requires { HasColumn nodes keys (length cells.old) owner }
@@ -72,7 +72,7 @@ fn drop_older<N: Number>(
         (map N.number cells.old) (map N.number cells.new) }
 {
     let Owners { lists, bases } = owners;
-    if planes::total_upto(before, nodes, 1, bases) == 0 {
+    if planes::none_upto(before, bases) {
         return;
     }
     for owner in 0..nodes {
@@ -105,18 +105,20 @@ pub(crate) fn take_unless<N: Number, H: Written>(
     if arrival.nothing {
         return;
     }
-    let sent = Sent {
-        cells,
+    let size = Size {
         nodes: table.nodes as usize,
         keys: table.keys as usize,
+    };
+    let sent = Sent {
+        grid: Grid { cells, size },
         low: &arrival.marks.low,
         high: &arrival.marks.high,
     };
     grids::take(&mut table.cells, &mut table.greatest, sent);
     drop_older(
         &mut table.cells,
-        sent.nodes,
-        sent.keys,
+        size.nodes,
+        size.keys,
         before,
         &table.greatest,
         owners,

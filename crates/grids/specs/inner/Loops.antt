@@ -1,20 +1,22 @@
 -- What loops over one plane make of it, and what they ask. Source: this project.
-use Rattle.std.specs.Prelude.{◌≡◌, ℕ, ◌<◌, nat_lt, Bool, List, length, slice_index}
-use Rattle.planes.specs.Loops.{AreCountedUpto}
-use Rattle.planes.specs.Planes.{number_raised}
+use Rattle.std.specs.Prelude.{◌≡◌, ℕ, ◌+◌, ◌*◌, ◌<◌, ◌≤◌, nat_lt, Bool, List, length, map, max, slice_index}
+use Rattle.bench_types.specs.declared.limits.TheConstants.{MOST_NODES}
+use Rattle.planes.specs.Elementwise.{AreChanged}
+use Rattle.planes.specs.Grids.{cells_in}
+use Rattle.planes.specs.Loops.{AreCountedUpto, IsPart}
+use Rattle.planes.specs.Planes.{number_raised, number_taken}
+use Rattle.grids.specs.declared.grids.Sent.{Sent}
+use Rattle.grids.specs.declared.merges.BothCounts.{BothCounts}
+use Rattle.grids.specs.declared.merges.BothMarks.{BothMarks}
 
--- two lists of numbers and the marks of both are of one size
-pub record AreBothMarked {N : Type 0} (one other one_low other_low : List N) : Type 0 where
-  pub second : length other ≡ length one
-  pub first_low : length one_low ≡ length one
-  pub second_low : length other_low ≡ length one
+-- each number may be changed by a call, and counted
+pub record MayCount {N : Type 0} (may : ℕ → N → Type 0) (numbers : List N) : Type 0 where
+  pub room : length numbers ≤ MOST_NODES
+  pub to : (r : ℕ) (n : N) → r < length numbers → may r n
 
--- a plane, the greatest number of each owner and what is sent are of one size
-pub record IsSentPlane {N : Type 0} (plane greatest sent low high : List N) : Type 0 where
-  pub greatest_count : length greatest ≡ length plane
-  pub sent_count : length sent ≡ length plane
-  pub low_count : length low ≡ length plane
-  pub high_count : length high ≡ length plane
+pub record MayCountPart {N : Type 0} (most : ℕ) (may : ℕ → N → Type 0) (numbers : List N) (from size : ℕ) : Type 0 where
+  pub part : IsPart most (length numbers) from size
+  pub to : (r : ℕ) (n : N) → r < length numbers → may r n
 
 -- each call makes of a number another one, and answers, as a function and a test of owner and number do
 abbrev pub MakesAs : {N : Type 0} → (N → ℕ) → (ℕ → N → N × Bool → Type 0) → ℕ → (ℕ → ℕ → ℕ) → (ℕ → ℕ → Bool) → Type 0
@@ -27,3 +29,70 @@ abbrev pub AreRaisedUpto : List ℕ → List ℕ → List ℕ → List ℕ → �
 AreRaisedUpto others low old new bound count =
     AreCountedUpto (λ r x y. y ≡ number_raised x (slice_index others r) (slice_index low r))
     (λ r. nat_lt (slice_index low r) (slice_index others r)) old new bound count
+
+-- each number is changed, and so many are counted, as calls say
+pub record AreCounted {N : Type 0} (number : N → ℕ) (makes : ℕ → N → N × Bool → Type 0) (old new : List N)
+    (passed : ℕ) : Type 0 where
+  pub upto : passed ≤ length old
+  pub done : (made : ℕ → ℕ → ℕ) (test : ℕ → ℕ → Bool) → MakesAs number makes (length old) made test
+      → AreCountedUpto (λ r x y. y ≡ made r x) (λ r. test r (slice_index (map number old) r)) (map number old)
+      (map number new) (length old) passed
+
+-- so many numbers from one on, of which those before it were counted
+pub record ArePartCounted {N : Type 0} (number : N → ℕ) (makes : ℕ → N → N × Bool → Type 0) (old new : List N)
+    (from size passed : ℕ) : Type 0 where
+  pub upto : passed ≤ size
+  pub done : (made : ℕ → ℕ → ℕ) (test : ℕ → ℕ → Bool) → MakesAs number makes (length old) made test
+      → (whole : List ℕ) (before : ℕ)
+      → AreCountedUpto (λ r x y. y ≡ made r x) (λ r. test r (slice_index whole r)) whole (map number old) from before
+      → AreCountedUpto (λ r x y. y ≡ made r x) (λ r. test r (slice_index whole r)) whole (map number new)
+      (from + size) (before + passed)
+
+-- a plane, the greatest number of each owner and the marks are of the size of what is sent
+pub record MayTakePlane {N : Type 0} (plane greatest : List N) (sent : Sent N) (key : ℕ) : Type 0 where
+  pub within : key * sent.grid.size.nodes + sent.grid.size.nodes ≤ length sent.grid.cells.now
+  pub count : length plane ≡ sent.grid.size.nodes
+  pub greatest_count : length greatest ≡ sent.grid.size.nodes
+  pub low_count : length sent.low.now ≡ sent.grid.size.nodes
+  pub high_count : length sent.high.now ≡ sent.grid.size.nodes
+
+-- the plane's numbers and the greatest ones once it took what is sent of its key
+pub record IsPlaneTaken {N : Type 0} (number : N → ℕ) (sent : Sent N) (key : ℕ)
+    (old old_greatest new new_greatest : List N) : Type 0 where
+  pub plane : AreChanged (λ r x y. y ≡ number_taken x (cells_in number sent.grid r key)
+      (slice_index (map number sent.low.now) r) (slice_index (map number sent.high.now) r))
+      (map number old) (map number new)
+  pub greatest : AreChanged (λ r x y. y ≡ max x (number_taken (slice_index (map number old) r)
+      (cells_in number sent.grid r key) (slice_index (map number sent.low.now) r)
+      (slice_index (map number sent.high.now) r))) (map number old_greatest) (map number new_greatest)
+
+-- two planes and the marks of both are of one size
+pub record AreBothMarked {N : Type 0} (one other : List N) (marks : BothMarks N) : Type 0 where
+  pub second : length other ≡ length one
+  pub first_low : length marks.first.now ≡ length one
+  pub second_low : length marks.second.now ≡ length one
+
+pub record MayMergePart {N : Type 0} (most : ℕ) (one other : List N) (marks : BothMarks N)
+    (from size : ℕ) : Type 0 where
+  pub marked : AreBothMarked one other marks
+  pub part : IsPart most (length one) from size
+
+-- each number of both planes is raised to the other's, where that is above its own mark, and so many come to each
+pub record ArePlanesMerged {N : Type 0} (number : N → ℕ) (marks : BothMarks N) (one other new_one new_other : List N)
+    (came : BothCounts) : Type 0 where
+  pub first : AreRaisedUpto (map number other) (map number marks.first.now) (map number one) (map number new_one)
+      (length one) came.first
+  pub second : AreRaisedUpto (map number one) (map number marks.second.now) (map number other) (map number new_other)
+      (length other) came.second
+
+-- so many numbers from one on, of which those before it were raised
+pub record ArePartMerged {N : Type 0} (number : N → ℕ) (marks : BothMarks N) (one other new_one new_other : List N)
+    (from size : ℕ) (came : BothCounts) : Type 0 where
+  pub first_upto : came.first ≤ size
+  pub second_upto : came.second ≤ size
+  pub done : (whole rest : List ℕ) (to_first to_second : ℕ)
+      → AreRaisedUpto rest (map number marks.first.now) whole (map number one) from to_first
+      → AreRaisedUpto whole (map number marks.second.now) rest (map number other) from to_second
+      → AreRaisedUpto rest (map number marks.first.now) whole (map number new_one) (from + size) (to_first + came.first)
+      × AreRaisedUpto whole (map number marks.second.now) rest (map number new_other)
+      (from + size) (to_second + came.second)

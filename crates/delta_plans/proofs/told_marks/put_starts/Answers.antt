@@ -1,10 +1,10 @@
-use Rattle.delta_plans.proofs.Common.{◌<◌, length, get_or, sym, ◌∙◌, subst, arith, map, length-map, entries_of, list_of_owner, start_of, number-at, written_next}
+use Rattle.delta_plans.proofs.Common.{◌<◌, length, get_or, sym, ◌∙◌, subst, arith, map, length-map, nat_tests, entries_of, list_of_owner, start_of, number-at, written_next}
 use Rattle.delta_plans.specs.Told.{IsKnown}
-use Rattle.delta_plans.proofs.Starts.{list-here, none-upto, start-lower}
+use Rattle.delta_plans.proofs.Starts.{list-here, start-lower}
 use Rattle.delta_plans.proofs.told_marks.put_starts.Goals as goal
 
-pub returns-then-total_upto-eq0 : goal.returns-then-total_upto-eq0
-returns-then-total_upto-eq0 g c =
+pub returns-then-none_upto : goal.returns-then-none_upto
+returns-then-none_upto g c =
     let number = g.N.Number.number in
     let lists = c.args.owners.lists.now in
     let numbers = map number c.args.numbers.now in
@@ -13,7 +13,7 @@ returns-then-total_upto-eq0 g c =
       size = c.lower.ensures.least.size;
       each = λ r lt.
           start-lower g.N.Number.most (list_of_owner lists r) (get_or numbers r 0) (get_or bases r 0) _ (c.requires.each r (omega (arith, lt, c.requires.count)))
-          (none-upto numbers (length c.args.numbers.now) (λ r. get_or bases r 0) (omega (arith, c.total_upto.ensures, c.if-total_upto-eq0.true)) r (omega (arith, lt, length-map c.args.numbers.now number)))
+          (λ some upto. let none = c.none_upto.ensures.0 c.if-none_upto.true r lt in grind (arith, nat_tests))
           (c.lower.ensures.least.each r lt);
     }
 

@@ -12,8 +12,11 @@ loop-numbers-preserved g c = record {
   done = λ made test is. c.change_some_counting-count.ensures.done made test (λ r n both lt. is r n both (omega (arith, lt, c.loop-numbers.auto.numbers))) _ _ (c.loop-numbers.invariant.done made test is);
 }
 
-pub returns-clause-done : goal.returns-clause-done
-returns-clause-done g c made test is =
-    counted-same _ (map g.N.Number.number c.args.numbers.now) _ _ _ _ _ _
-    (c.change_some_counting.ensures.done made test (λ r n both lt. is r n both (omega (arith, lt, c.loop-numbers.auto.numbers))) _ _ (c.loop-numbers.invariant.done made test is))
-    (omega (arith, c.loop-numbers.invariant.within, c.loop-numbers.auto.numbers)) refl
+pub returns : goal.returns
+returns g c = record {
+  upto = omega (arith, c.loop-numbers.invariant.upto, c.change_some_counting.ensures.upto, c.loop-numbers.invariant.within, c.loop-numbers.auto.numbers);
+  done = λ made test is.
+      counted-same _ (map g.N.Number.number c.args.numbers.now) _ _ _ _ _ _
+      (c.change_some_counting.ensures.done made test (λ r n both lt. is r n both (omega (arith, lt, c.loop-numbers.auto.numbers))) _ _ (c.loop-numbers.invariant.done made test is))
+      (omega (arith, c.loop-numbers.invariant.within, c.loop-numbers.auto.numbers)) refl;
+}

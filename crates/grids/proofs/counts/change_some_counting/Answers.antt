@@ -23,7 +23,10 @@ loop-i-preserved g c =
           (both.0 ∙ ap (made at) number) c.plus-count.ensures (λ i. if (both.1 ∙ ap (test at) number) i then 1 else 0);
     }
 
-pub returns-clause-done : goal.returns-clause-done
-returns-clause-done g c made test is old count before =
-    counted-same _ old _ _ _ _ _ _ (c.loop-i.invariant.done made test is old count before)
-    (omega (arith, c.loop-i-test.false, c.loop-i.auto.i-end)) (omega (arith, c.widen.ensures))
+pub returns : goal.returns
+returns g c = record {
+  upto = omega (arith, c.widen.ensures, c.loop-i.invariant.upto, c.loop-i.auto.i-end);
+  done = λ made test is old count before.
+      counted-same _ old _ _ _ _ _ _ (c.loop-i.invariant.done made test is old count before)
+      (omega (arith, c.loop-i-test.false, c.loop-i.auto.i-end)) (omega (arith, c.widen.ensures));
+}

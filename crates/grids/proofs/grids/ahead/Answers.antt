@@ -2,18 +2,21 @@ use Rattle.grids.proofs.Common.{◌≡◌, rules, HasEach, max, nat_lt, slice_in
 use Rattle.grids.proofs.Counted.{total-kept}
 use Rattle.grids.proofs.grids.ahead.Goals as goal
 
-pub returns : goal.returns
-returns g c =
+pub returns-clause-ahead : goal.returns-clause-ahead
+returns-clause-ahead g c =
     let number = g.N.Number.number in
     let low = slice_index (map number c.args.low.now) in
-    let peer = cell (map number c.args.peer.now) c.args.nodes in
+    let peer = cell (map number c.args.peer.now) c.args.grid.size.nodes in
     let all = c.change_all_counting-count.ensures (λ k r x. number_ahead x (peer r k) (low r)) (λ k r x. nat_lt (max (peer r k) (low r)) x)
     (λ k to in_keys given r n both lt call.
-    let plane : HasEach c.args.nodes (λ r n. n ≡ peer r k) (map number to.0.now) = search rules in
+    let plane : HasEach c.args.grid.size.nodes (λ r n. n ≡ peer r k) (map number to.0.now) = search rules in
     let marks : to.1.now ≡ c.args.low.now = search rules in
     rw (← plane.each r lt, ← marks) call) in
-    rw (with_items_is c.in_ok-numbers.numbers c.change_all_counting-count.new.numbers (c.change_all_counting-count.auto.numbers ∙ c.deref_mut.ensures.len)) (record {
-      ahead = rw (← c.in_ok-numbers.ensures.copy, ← c.deref_mut.ensures.value) (record { size = all.0.size ∙ length-map c.deref_mut.result.now number ∙ rw (c.deref_mut.ensures.value, c.in_ok-numbers.ensures.copy) c.requires.grid.whole; each = all.0.each });
-      count = total-kept c.args.nodes c.args.keys (cell (map number c.args.peer.now) c.args.nodes) (map number c.args.low.now) _ _ c.change_all_counting-count.result all.1 all.0;
-      only = tt;
-    })
+    let items = with_items_is c.in_ok-numbers.numbers c.change_all_counting-count.new.numbers (c.change_all_counting-count.auto.numbers ∙ c.deref_mut.ensures.len) in
+    record {
+      numbers = rw (items, ← c.in_ok-numbers.ensures.copy, ← c.deref_mut.ensures.value) (record {
+        size = all.0.size ∙ length-map c.deref_mut.result.now number ∙ rw (c.deref_mut.ensures.value, c.in_ok-numbers.ensures.copy) c.requires.peer.marks.shape.whole;
+        each = all.0.each;
+      });
+      count = rw items (total-kept c.args.grid.size.nodes c.args.grid.size.keys (cell (map number c.args.peer.now) c.args.grid.size.nodes) (map number c.args.low.now) _ _ c.change_all_counting-count.result all.1 all.0);
+    }

@@ -4,16 +4,16 @@ use Rattle.grids.proofs.Counted.{planes_counted-none, planes_counted-next, plane
 use Rattle.grids.proofs.grids.change_all_counting.Goals as goal
 
 pub loop-key-init : goal.loop-key-init
-loop-key-init g c = record { upto = omega arith; done = λ made test is. planes_counted-none _ _ c.args.nodes (map g.N.Number.number c.args.numbers.now) }
+loop-key-init g c = record { upto = omega arith; done = λ made test is. planes_counted-none _ _ c.args.size.nodes (map g.N.Number.number c.args.numbers.now) }
 
 pub loop-key-preserved : goal.loop-key-preserved
 loop-key-preserved g c =
     let number = g.N.Number.number in
-    let nodes = c.args.nodes in
+    let nodes = c.args.size.nodes in
     let key = c.loop-key.key in
     let start : ℕ = key * nodes in
     let old = map number c.args.numbers.now in
-    let within = plane-within nodes c.args.keys (length c.args.numbers.now) key c.requires.grid c.loop-key-test.true in
+    let within = plane-within nodes c.args.size.keys (length c.args.numbers.now) key c.requires.grid c.loop-key-test.true in
     let room : start + nodes ≤ length old = omega (arith, within, length-map c.args.numbers.now number) in
     let size = length-take-le (start + nodes - start) (drop start c.loop-key.numbers) (omega (arith, within, c.loop-key.auto.numbers, length-drop start c.loop-key.numbers)) in
     record {
@@ -26,4 +26,4 @@ loop-key-preserved g c =
     }
 
 pub returns : goal.returns
-returns g c made test is = planes_counted-all _ _ c.args.nodes _ _ c.args.keys c.loop-key.key _ (c.loop-key.invariant.done made test is) c.loop-key-test.false c.loop-key.auto.key-end
+returns g c made test is = planes_counted-all _ _ c.args.size.nodes _ _ c.args.size.keys c.loop-key.key _ (c.loop-key.invariant.done made test is) c.loop-key-test.false c.loop-key.auto.key-end

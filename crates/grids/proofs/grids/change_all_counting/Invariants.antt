@@ -6,7 +6,7 @@ abbrev pub invariant-loop-key : goal.invariant-loop-key
 invariant-loop-key g l =
     let old = map g.N.Number.number l.initial.numbers in
     record {
-      upto : l.count ≤ l.key * l.nodes;
-      done : (made : ℕ → ℕ → ℕ → ℕ) (test : ℕ → ℕ → ℕ → Bool) → ((k : ℕ) (to : g.row.G.Denot) → k < l.keys → goal.F-post g l.of_key k to → MakesAs g.N.Number.number (goal.G-post g to) l.nodes (made k) (test k))
-          → ArePlanesCounted (λ r k x y. y ≡ made k r x) (λ r k. test k r (cell old l.nodes r k)) l.nodes old (map g.N.Number.number l.numbers) l.key l.count;
+      upto : l.count ≤ l.key * l.size.nodes;
+      done : (made : ℕ → ℕ → ℕ → ℕ) (test : ℕ → ℕ → ℕ → Bool) → ((k : ℕ) (to : g.row.G.Denot) → k < l.size.keys → goal.F-post g l.of_key k to → MakesAs g.N.Number.number (goal.G-post g to) l.size.nodes (made k) (test k))
+          → ArePlanesCounted (λ r k x y. y ≡ made k r x) (λ r k. test k r (cell old l.size.nodes r k)) l.size.nodes old (map g.N.Number.number l.numbers) l.key l.count;
     }

@@ -3,15 +3,15 @@ use Rattle.planes.proofs.Places.{grid-within, planes-none, planes-written, plane
 use Rattle.grids.proofs.lags.lower_all.Goals as goal
 
 pub loop-key-init : goal.loop-key-init
-loop-key-init g c = planes-none _ c.args.nodes (map g.N.Number.number c.args.least.now)
+loop-key-init g c = planes-none _ c.args.grid.size.nodes (map g.N.Number.number c.args.least.now)
 
 pub loop-key-preserved : goal.loop-key-preserved
 loop-key-preserved g c =
-    planes-written _ c.args.nodes (map g.N.Number.number c.args.least.now) g.N.Number.number c.loop-key.least c.lower.new.least c.loop-key.key
-    _ _ (omega arith) c.loop-key.invariant (grid-within g.N.Number.number c.args.nodes c.args.keys c.loop-key.key c.args.least.now c.requires.grid c.loop-key-test.true)
+    planes-written _ c.args.grid.size.nodes (map g.N.Number.number c.args.least.now) g.N.Number.number c.loop-key.least c.lower.new.least c.loop-key.key
+    _ _ (omega arith) c.loop-key.invariant (grid-within g.N.Number.number c.args.grid.size.nodes c.args.grid.size.keys c.loop-key.key c.args.least.now c.requires.beside.shape c.loop-key-test.true)
     c.lower.ensures.least (λ r x y lt is. is ∙ ap (min x) (c.plane_of-plane.ensures.each r lt))
 
 pub returns : goal.returns
 returns g c = record {
-  least = planes-all _ c.args.nodes (map g.N.Number.number c.args.least.now) (map g.N.Number.number c.loop-key.least) c.args.keys c.loop-key.key c.loop-key.invariant c.loop-key-test.false;
+  least = planes-all _ c.args.grid.size.nodes (map g.N.Number.number c.args.least.now) (map g.N.Number.number c.loop-key.least) c.args.grid.size.keys c.loop-key.key c.loop-key.invariant c.loop-key-test.false;
 }

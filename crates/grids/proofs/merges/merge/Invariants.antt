@@ -7,6 +7,6 @@ invariant-loop-key g l =
     let one = map g.N.Number.number l.initial.first in
     let other = map g.N.Number.number l.initial.second in
     record {
-      first : AreMergedUpto l.marks.nodes other (map g.N.Number.number l.marks.first.now) one (map g.N.Number.number l.first) l.key l.to_first;
-      second : AreMergedUpto l.marks.nodes one (map g.N.Number.number l.marks.second.now) other (map g.N.Number.number l.second) l.key l.to_second;
+      first : AreMergedUpto l.marks.size.nodes other (map g.N.Number.number l.marks.first.now) one (map g.N.Number.number l.first) l.key l.to_first;
+      second : AreMergedUpto l.marks.size.nodes one (map g.N.Number.number l.marks.second.now) other (map g.N.Number.number l.second) l.key l.to_second;
     }

@@ -8,8 +8,8 @@ invariant-loop-first g l =
       within : l.from ≤ length l.initial.first;
       first_upto : l.to_first ≤ l.from;
       second_upto : l.to_second ≤ l.from;
-      first : AreRaisedUpto (map number l.initial.second) (map number l.first_low) (map number l.initial.first) (map number l.first) l.from l.to_first;
-      second : AreRaisedUpto (map number l.initial.first) (map number l.second_low) (map number l.initial.second) (map number l.second) l.from l.to_second;
+      first : AreRaisedUpto (map number l.initial.second) (map number l.marks.first.now) (map number l.initial.first) (map number l.first) l.from l.to_first;
+      second : AreRaisedUpto (map number l.initial.first) (map number l.marks.second.now) (map number l.initial.second) (map number l.second) l.from l.to_second;
     }
 
 abbrev pub decreases-loop-first : goal.decreases-loop-first

@@ -19,8 +19,8 @@ loop-i-preserved g c =
     let at : ℕ = c.args.from + c.loop-i.i in
     let within : at < length c.args.first.now = omega (arith, c.requires.part.within, c.loop-i-test.true) in
     let behind : at < length c.loop-i.second = omega (arith, within, c.requires.marked.second, c.loop-i.auto.second) in
-    let first_low = number-at number c.args.first_low.now at c.index-first_low-r.result (omega (arith, within, c.requires.marked.first_low)) c.index-first_low-r.is in
-    let second_low = number-at number c.args.second_low.now at c.index-second_low-r.result (omega (arith, within, c.requires.marked.second_low)) c.index-second_low-r.is in
+    let first_low = number-at number c.args.marks.first.now at c.index-first_low-r.result (omega (arith, within, c.requires.marked.first_low)) c.index-first_low-r.is in
+    let second_low = number-at number c.args.marks.second.now at c.index-second_low-r.result (omega (arith, within, c.requires.marked.second_low)) c.index-second_low-r.is in
     record {
       first_upto = omega (arith, c.plus-to_first.ensures, c.loop-i.invariant.first_upto, one_le c.is_above-comes.result);
       second_upto = omega (arith, c.plus-to_second.ensures, c.loop-i.invariant.second_upto, one_le c.is_above-goes.result);
@@ -37,9 +37,13 @@ loop-i-preserved g c =
           );
     }
 
-pub returns-clause-done : goal.returns-clause-done
-returns-clause-done g c one other to_first to_second before behind =
-    let parts = c.loop-i.invariant.done one other to_first to_second before behind in (
-      counted-same _ one _ _ _ _ _ _ parts.0 (omega (arith, c.loop-i-test.false, c.loop-i.auto.i-end)) (omega (arith, c.widen.ensures)),
-      counted-same _ other _ _ _ _ _ _ parts.1 (omega (arith, c.loop-i-test.false, c.loop-i.auto.i-end)) (omega (arith, c.widen-2.ensures)),
-    )
+pub returns : goal.returns
+returns g c = record {
+  first_upto = omega (arith, c.widen.ensures, c.loop-i.invariant.first_upto, c.loop-i.auto.i-end);
+  second_upto = omega (arith, c.widen-2.ensures, c.loop-i.invariant.second_upto, c.loop-i.auto.i-end);
+  done = λ one other to_first to_second before behind.
+      let parts = c.loop-i.invariant.done one other to_first to_second before behind in (
+        counted-same _ one _ _ _ _ _ _ parts.0 (omega (arith, c.loop-i-test.false, c.loop-i.auto.i-end)) (omega (arith, c.widen.ensures)),
+        counted-same _ other _ _ _ _ _ _ parts.1 (omega (arith, c.loop-i-test.false, c.loop-i.auto.i-end)) (omega (arith, c.widen-2.ensures)),
+      );
+}

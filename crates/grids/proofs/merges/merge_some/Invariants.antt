@@ -8,8 +8,8 @@ invariant-loop-i g l =
       first_upto : number l.to_first ≤ l.i;
       second_upto : number l.to_second ≤ l.i;
       done : (one other : List ℕ) (to_first to_second : ℕ)
-          → AreRaisedUpto other (map number l.first_low) one (map number l.initial.first) l.from to_first
-          → AreRaisedUpto one (map number l.second_low) other (map number l.initial.second) l.from to_second
-          → AreRaisedUpto other (map number l.first_low) one (map number l.first) (l.from + l.i) (to_first + number l.to_first)
-          × AreRaisedUpto one (map number l.second_low) other (map number l.second) (l.from + l.i) (to_second + number l.to_second);
+          → AreRaisedUpto other (map number l.marks.first.now) one (map number l.initial.first) l.from to_first
+          → AreRaisedUpto one (map number l.marks.second.now) other (map number l.initial.second) l.from to_second
+          → AreRaisedUpto other (map number l.marks.first.now) one (map number l.first) (l.from + l.i) (to_first + number l.to_first)
+          × AreRaisedUpto one (map number l.marks.second.now) other (map number l.second) (l.from + l.i) (to_second + number l.to_second);
     }

@@ -7,6 +7,6 @@ invariant-loop-owner g l =
     let one = map g.N.Number.number l.initial.first in
     let other = map g.N.Number.number l.initial.second in
     record {
-      first : HaveCome l.marks.nodes l.marks.keys other (slice_index (map g.N.Number.number l.marks.first.now)) one (map g.N.Number.number l.first) l.owner l.to_first;
-      second : HaveCome l.marks.nodes l.marks.keys one (slice_index (map g.N.Number.number l.marks.second.now)) other (map g.N.Number.number l.second) l.owner l.to_second;
+      first : HaveCome l.marks.size.nodes l.marks.size.keys other (slice_index (map g.N.Number.number l.marks.first.now)) one (map g.N.Number.number l.first) l.owner l.to_first;
+      second : HaveCome l.marks.size.nodes l.marks.size.keys one (slice_index (map g.N.Number.number l.marks.second.now)) other (map g.N.Number.number l.second) l.owner l.to_second;
     }

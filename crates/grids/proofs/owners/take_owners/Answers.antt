@@ -13,19 +13,17 @@ loop-owner-preserved g c =
     let owner = c.loop-owner.owner in
     let lt = c.loop-owner-test.true in
     let held = c.loop-owner.invariant in
-    let cells = cell (map number c.args.cells.now) c.args.sent.nodes owner in
-    let sent = cell (map number c.args.sent.cells.now) c.args.sent.nodes owner in
+    let cells = cell (map number c.args.cells.now) c.args.sent.grid.size.nodes owner in
+    let sent = cell (map number c.args.sent.grid.cells.now) c.args.sent.grid.size.nodes owner in
     elim c.if-is_above.branch [
       | then-is_above w ↦
-          let low = number-at number c.args.sent.low.now owner w.index-low-owner-then-is_above.result (omega (arith, lt, c.requires.may.low_count)) w.index-low-owner-then-is_above.is in
-          let high = number-at number c.args.sent.high.now owner w.index-high-owner-then-is_above.result (omega (arith, lt, c.requires.may.high_count)) w.index-high-owner-then-is_above.is in
           let had = number-waits _ _ number c.loop-owner.greatest owner w.index-greatest-owner.result held.greatest (omega (arith, lt, c.requires.may.greatest_count, c.loop-owner.auto.greatest)) w.index-greatest-owner.is in
           let waits = owner-waits _ _ _ _ owner _ held.cells in
           rw (w.cells-is, w.greatest-is) (record {
-            cells = owners-next _ _ _ _ owner _ _ _ held.cells w.take_owner.ensures.cells (λ k x i. number_taken x (sent k) (low i) (high i));
+            cells = owners-next _ _ _ _ owner _ _ _ held.cells w.take_owner.ensures.cells (λ k x. refl);
             greatest =
                 written_next _ _ number _ owner _ held.greatest (omega (arith, lt, c.requires.may.greatest_count, length-map c.args.greatest.now number))
-                (rw (← had) (raised-same _ _ _ owner _ _ (λ k in_keys i. number_taken (waits k lt in_keys i) (sent k) (low i) (high i)) w.take_owner.ensures.greatest));
+                (rw (← had) (raised-same _ _ _ owner _ _ (λ k in_keys i. number_taken (waits k lt in_keys i) (sent k) (slice_index (map number c.args.sent.low.now) owner) (slice_index (map number c.args.sent.high.now) owner)) w.take_owner.ensures.greatest));
           })
       | else-is_above w ↦
           let low = number-at number c.args.sent.low.now owner c.index-low-owner.result (omega (arith, lt, c.requires.may.low_count)) c.index-low-owner.is in
@@ -40,12 +38,21 @@ loop-owner-preserved g c =
           })
     ]
 
-pub take_owner-requires-clause-covered : goal.take_owner-requires-clause-covered
-take_owner-requires-clause-covered g c k in_keys =
+pub take_owner-requires : goal.take_owner-requires
+take_owner-requires g c =
     let lt = c.loop-owner-test.true in
     let held = c.loop-owner.invariant in
     let had = number-waits _ _ g.N.Number.number c.loop-owner.greatest c.loop-owner.owner c.index-greatest-owner.result held.greatest (omega (arith, lt, c.requires.may.greatest_count, c.loop-owner.auto.greatest)) c.index-greatest-owner.is in
-    omega (arith, had, owner-waits _ _ _ _ c.loop-owner.owner _ held.cells k lt in_keys, c.requires.may.covered c.loop-owner.owner lt k in_keys)
+    record {
+      beside = record {
+        shape = rw c.loop-owner.auto.cells c.requires.may.beside.shape;
+        count = omega (arith, c.requires.may.beside.count, c.loop-owner.auto.cells);
+      };
+      within = lt;
+      low_count = c.requires.may.low_count;
+      high_count = c.requires.may.high_count;
+      covered = λ k in_keys. omega (arith, had, owner-waits _ _ _ _ c.loop-owner.owner _ held.cells k lt in_keys, c.requires.may.covered c.loop-owner.owner lt k in_keys);
+    }
 
 pub returns : goal.returns
 returns g c = record {

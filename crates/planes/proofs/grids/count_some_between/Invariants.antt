@@ -3,5 +3,5 @@ use Rattle.planes.proofs.grids.count_some_between.Given as goal
 
 abbrev pub invariant-loop-key : goal.invariant-loop-key
 invariant-loop-key g l =
-    HasEach (length l.initial.counts) (λ r n. n ≡ sum_below l.key (λ k. if nat_lt (slice_index (map g.N.Number.number l.low) (l.first + r)) (cell (map g.N.Number.number l.cells) l.nodes (l.first + r) k)
-    && nat_le (cell (map g.N.Number.number l.cells) l.nodes (l.first + r) k) (slice_index (map g.N.Number.number l.high) (l.first + r)) then 1 else 0)) (map g.N.Number.number l.counts)
+    HasEach (length l.initial.counts) (λ r n. n ≡ sum_below l.key (λ k. if nat_lt (slice_index (map g.N.Number.number l.low) (l.first + r)) (cell (map g.N.Number.number l.grid.cells.now) l.grid.size.nodes (l.first + r) k)
+    && nat_le (cell (map g.N.Number.number l.grid.cells.now) l.grid.size.nodes (l.first + r) k) (slice_index (map g.N.Number.number l.high) (l.first + r)) then 1 else 0)) (map g.N.Number.number l.counts)

@@ -8,18 +8,18 @@ pub change-requires : goal.change-requires
 change-requires g c = record {
   to = λ r n lt is.
       let number = g.N.Number.number in
-      let in_nodes : r < c.args.nodes = omega (arith, lt, c.loop-key.invariant.size, length-map c.loop-key.all number) in
-      let few = count_le c.loop-key.key (λ k. nat_lt (slice_index (map number c.args.low.now) r) (cell (map number c.args.cells.now) c.args.nodes r k)) in (
+      let in_nodes : r < c.args.grid.size.nodes = omega (arith, lt, c.loop-key.invariant.size, length-map c.loop-key.all number) in
+      let few = count_le c.loop-key.key (λ k. nat_lt (slice_index (map number c.args.low.now) r) (cell (map number c.args.grid.cells.now) c.args.grid.size.nodes r k)) in (
         omega (arith, in_nodes, c.plane_of-plane.ensures.size, length-map c.plane_of-plane.result.now number),
-        omega (arith, in_nodes, c.requires.low),
-        omega (arith, is, c.loop-key.invariant.each r in_nodes, few, c.loop-key-test.true, c.requires.grid.few_keys, g.met.N.Number.counts_keys),
+        omega (arith, in_nodes, c.requires.marked.count),
+        omega (arith, is, c.loop-key.invariant.each r in_nodes, few, c.loop-key-test.true, c.requires.marked.shape.few_keys, g.met.N.Number.counts_keys),
       );
 }
 
 pub loop-key-preserved : goal.loop-key-preserved
 loop-key-preserved g c =
     let number = g.N.Number.number in
-    each-next c.args.nodes _ _ _ _ _ c.loop-key.invariant c.change.ensures
+    each-next c.args.grid.size.nodes _ _ _ _ _ c.loop-key.invariant c.change.ensures
     (λ r x y lt counted made. number_next _ c.loop-key.key x y counted (made-more number _ r x y _ made (λ n m call. call))
     (λ i. if nat_lt (slice_index (map number c.args.low.now) r) (c.plane_of-plane.ensures.each r lt i) then 1 else 0))
 
@@ -27,5 +27,5 @@ pub returns-clause-counts : goal.returns-clause-counts
 returns-clause-counts g c =
     let number = g.N.Number.number in
     rw (with_items_is c.in_ok-counts.counts c.loop-key.all (c.loop-key.auto.all ∙ c.deref_mut-all.ensures.len))
-    (each-whole (λ key r n. n ≡ count_above (cell (map number c.args.cells.now) c.args.nodes) key r (slice_index (map number c.args.low.now) r))
-    c.args.nodes c.loop-key.key c.args.keys _ c.loop-key-test.false c.loop-key.auto.key-end c.loop-key.invariant)
+    (each-whole (λ key r n. n ≡ count_above (cell (map number c.args.grid.cells.now) c.args.grid.size.nodes) key r (slice_index (map number c.args.low.now) r))
+    c.args.grid.size.nodes c.loop-key.key c.args.grid.size.keys _ c.loop-key-test.false c.loop-key.auto.key-end c.loop-key.invariant)

@@ -5,14 +5,14 @@ use Rattle.planes.proofs.grids.least_of.Goals as goal
 
 pub loop-key-preserved : goal.loop-key-preserved
 loop-key-preserved g c values is =
-    let start : ℕ = c.loop-key.key * c.args.nodes in
-    let within = plane-within c.args.nodes c.args.keys (c.args.keys * c.args.nodes) c.loop-key.key c.requires.grid c.loop-key-test.true in
-    each-next c.args.nodes _ _ _ _ _ (c.loop-key.invariant values is) c.change.ensures
+    let start : ℕ = c.loop-key.key * c.args.size.nodes in
+    let within = plane-within c.args.size.nodes c.args.size.keys (c.args.size.keys * c.args.size.nodes) c.loop-key.key c.requires.grid c.loop-key-test.true in
+    each-next c.args.size.nodes _ _ _ _ _ (c.loop-key.invariant values is) c.change.ensures
     (λ r x y lt before made.
-    let here : start + r < c.args.keys * c.args.nodes = omega (arith, within, lt) in
-    least-more g.N.Number.most c.loop-key.key x y (λ k. values (k * c.args.nodes + r) r) before (search (rules, is (start + r) r)) (search (rules, is (start + r) r)))
+    let here : start + r < c.args.size.keys * c.args.size.nodes = omega (arith, within, lt) in
+    least-more g.N.Number.most c.loop-key.key x y (λ k. values (k * c.args.size.nodes + r) r) before (search (rules, is (start + r) r)) (search (rules, is (start + r) r)))
 
 pub returns-clause-least : goal.returns-clause-least
 returns-clause-least g c values is =
     rw (with_items_is c.in_ok-least.least c.loop-key.all (c.loop-key.auto.all ∙ c.deref_mut-all.ensures.len))
-    (each-whole (λ key r n. IsLeastOf g.N.Number.most (λ k. values (k * c.args.nodes + r) r) key n) c.args.nodes c.loop-key.key c.args.keys _ c.loop-key-test.false c.loop-key.auto.key-end (c.loop-key.invariant values is))
+    (each-whole (λ key r n. IsLeastOf g.N.Number.most (λ k. values (k * c.args.size.nodes + r) r) key n) c.args.size.nodes c.loop-key.key c.args.size.keys _ c.loop-key-test.false c.loop-key.auto.key-end (c.loop-key.invariant values is))

@@ -3,7 +3,7 @@ use Rattle.planes.proofs.grids.total.Given as goal
 
 abbrev pub invariant-loop-key : goal.invariant-loop-key
 invariant-loop-key g l = record {
-  upto : l.total ≤ l.key * l.nodes;
-  total : (test : ℕ → ℕ → Bool) → AnswersAs g.N.Number.number (goal.F-post g l.passes) l.nodes test
-      → l.total ≡ sum_below l.key (λ k. sum_below l.nodes (λ r. if test r (cell (map g.N.Number.number l.cells) l.nodes r k) then 1 else 0));
+  upto : l.total ≤ l.key * l.grid.size.nodes;
+  total : (test : ℕ → ℕ → Bool) → AnswersAs g.N.Number.number (goal.F-post g l.passes) l.grid.size.nodes test
+      → l.total ≡ sum_below l.key (λ k. sum_below l.grid.size.nodes (λ r. if test r (cell (map g.N.Number.number l.grid.cells.now) l.grid.size.nodes r k) then 1 else 0));
 }

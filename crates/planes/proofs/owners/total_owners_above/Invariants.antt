@@ -3,4 +3,4 @@ use Rattle.planes.proofs.owners.total_owners_above.Given as goal
 
 abbrev pub invariant-loop-owner : goal.invariant-loop-owner
 invariant-loop-owner g l =
-    l.total ≡ sum_below l.owner (λ r. count_above (cell (map g.N.Number.number l.cells) l.nodes) l.keys r (slice_index (map g.N.Number.number l.low) r))
+    l.total ≡ sum_below l.owner (λ r. count_above (cell (map g.N.Number.number l.grid.cells.now) l.grid.size.nodes) l.grid.size.keys r (slice_index (map g.N.Number.number l.low) r))

@@ -7,18 +7,18 @@ most-in-all nodes keys f few_nodes few_keys le = omega (arith, few_nodes, sum_be
 
 pub surely_fit-requires : goal.surely_fit-requires
 surely_fit-requires g c =
-    let proper = c.nodes-nodes.ensures.kept.proper in
+    let proper = c.grid-grid.ensures.kept.proper in
     let from = c.args.from.now in
     let to = c.args.to.now in
     omega (arith, c.requires.most, most-in-all from.nodes from.keys (λ r. min from.keys (slice_index from.greatest r - slice_index to.greatest r)) proper.nodes_limit proper.keys_limit (λ r. omega arith))
 
 pub surely_fit-requires-2 : goal.surely_fit-requires-2
 surely_fit-requires-2 g c =
-    let proper = c.nodes-nodes.ensures.kept.proper in
-    let passes = λ (r k : ℕ). nat_lt (slice_index (map g.N.Number.number c.greatest.result.now) r) (cell (map g.N.Number.number c.cells.result.now) c.nodes-nodes.result r k) in
+    let proper = c.grid-grid.ensures.kept.proper in
+    let passes = λ (r k : ℕ). nat_lt (slice_index (map g.N.Number.number c.greatest.result.now) r) (cell (map g.N.Number.number c.grid-grid.result.cells.now) c.grid-grid.result.size.nodes r k) in
     omega (
       arith,
       c.total_above-count.ensures,
-      most-in-all c.nodes-nodes.result c.keys-keys.result (λ r. sum_below c.keys-keys.result (λ k. if passes r k then 1 else 0)) (omega (arith, c.nodes-nodes.ensures.value, proper.nodes_limit)) (omega (arith, c.keys-keys.ensures.value, proper.keys_limit))
-          (λ r. omega (arith, sum_below-most (λ k. if passes r k then 1 else 0) c.keys-keys.result 1 (λ k lt. grind (arith, nat_tests)))),
+      most-in-all c.grid-grid.result.size.nodes c.grid-grid.result.size.keys (λ r. sum_below c.grid-grid.result.size.keys (λ k. if passes r k then 1 else 0)) (omega (arith, c.grid-grid.ensures.grid.nodes, proper.nodes_limit)) (omega (arith, c.grid-grid.ensures.grid.keys, proper.keys_limit))
+          (λ r. omega (arith, sum_below-most (λ k. if passes r k then 1 else 0) c.grid-grid.result.size.keys 1 (λ k lt. grind (arith, nat_tests)))),
     )

@@ -1,14 +1,12 @@
-use Rattle.version_tables.proofs.Common.{◌≡◌, subst, arith, map, slice_index, ap, nat_lt, nat_le, ◌&&◌, length-map, nat_tests, all_writes, number-at, owners-next, owners-all, IsNumberedHistory, all_writes-here, drop_starts, number_kept}
-use Rattle.version_tables.proofs.Clearing.{planes-stay, plane-none}
+use Rattle.version_tables.proofs.Common.{◌≡◌, subst, arith, map, ap, length-map, nat_tests, all_writes, number-at, owners-next, owners-all, IsNumberedHistory, all_writes-here, drop_starts, number_kept}
+use Rattle.version_tables.proofs.Clearing.{planes-stay}
 use Rattle.version_tables.proofs.taking.drop_older.Given as given
 use Rattle.version_tables.proofs.taking.drop_older.Goals as goal
 
-pub returns-then-total_upto-eq0 : goal.returns-then-total_upto-eq0
-returns-then-total_upto-eq0 g c =
-    let before = map g.N.Number.number c.args.before.now in
-    let bases = map g.N.Number.number c.args.owners.bases.now in
+pub returns-then-none_upto : goal.returns-then-none_upto
+returns-then-none_upto g c =
     planes-stay _ c.args.nodes c.args.keys (map g.N.Number.number c.args.cells.now)
-    (λ r k x lt. let none = plane-none c.args.nodes c.total_upto.result before (λ r n. nat_lt 0 n && nat_le n (slice_index bases r)) c.total_upto.ensures (omega (arith, c.if-total_upto-eq0.true)) r lt in grind (arith, nat_tests))
+    (λ r k x lt. let none = c.none_upto.ensures.0 c.if-none_upto.true r (omega (arith, lt, c.requires.before_count, length-map c.args.before.now g.N.Number.number)) in grind (arith, nat_tests))
 
 -- what an owner's numbers are dropped up to
 starts : (g : given.Over) (c : goal.After-cells-1 g) → c.drop_from-start.result

@@ -47,13 +47,15 @@ take-requires g c = record {
       let inside = c.table.inside in
       let nodes = sym (ap (λ (v : VersionTableView). v.nodes) c.table.view_is) in
       record {
-        grid = record {
-          whole = ap length c.deref_mut.ensures.value ∙ sym (length-map inside.cells.items number) ∙ c.table.invariant.cell_count;
-          few_nodes = c.table.invariant.proper.nodes_limit;
-          few_keys = c.table.invariant.proper.keys_limit;
+        beside = record {
+          shape = record {
+            whole = ap length c.deref_mut.ensures.value ∙ sym (length-map inside.cells.items number) ∙ c.table.invariant.cell_count;
+            few_nodes = c.table.invariant.proper.nodes_limit;
+            few_keys = c.table.invariant.proper.keys_limit;
+          };
+          count = sym (length-map c.args.cells.now number) ∙ c.requires.may.cells ∙ sym (ap (λ (v : VersionTableView). length v.cells) c.table.view_is) ∙ length-map inside.cells.items number ∙ sym (ap length c.deref_mut.ensures.value);
         };
         greatest_count = ap length c.deref_mut-2.ensures.value ∙ sym (length-map inside.greatest.items number) ∙ c.table.invariant.greatest_count;
-        sent_count = sym (length-map c.args.cells.now number) ∙ c.requires.may.cells ∙ sym (ap (λ (v : VersionTableView). length v.cells) c.table.view_is) ∙ length-map inside.cells.items number ∙ sym (ap length c.deref_mut.ensures.value);
         low_count = ap length c.deref.ensures.value ∙ c.requires.may.low_count ∙ nodes;
         high_count = ap length c.deref-2.ensures.value ∙ c.requires.may.high_count ∙ nodes;
         covered = rw (c.deref_mut.ensures.value, c.deref_mut-2.ensures.value) (λ owner lt. (c.table.invariant.most owner lt).upto);

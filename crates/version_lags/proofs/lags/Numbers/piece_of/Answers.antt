@@ -9,16 +9,27 @@ loop-at-init g c =
     let numbers = c.args.self.now.numbers in
     subst (λ xs. CountsPiece g.N.Number.number numbers c.args.from c.args.from 0 0 (map g.N.Number.number xs)) (sym c.in_ok-least.ensures.items) (counts-none g.N.Number.number numbers c.requires.grids c.args.from)
 
-pub count_behind-behind-requires-clause-cells : goal.count_behind-behind-requires-clause-cells
-count_behind-behind-requires-clause-cells g c =
+pub count_behind-behind-requires : goal.count_behind-behind-requires
+count_behind-behind-requires g c =
     let grids = c.requires.grids in
     let read = table-read g.N.Number.number c.args.self.now.numbers grids c.loop-at.at c.index-numbers-at.result (omega (arith, c.loop-at-test.true, c.requires.within)) in
-    omega (arith, read.1, length-map c.loop-at.least.items g.N.Number.number, c.loop-at.invariant.least_is.size, grids.grid.whole, ap length c.deref_mut.ensures.value)
+    let count : length c.args.self.now.numbers.last.now ≡ length c.deref_mut.result.now = omega (arith, length-map c.loop-at.least.items g.N.Number.number, c.loop-at.invariant.least_is.size, grids.grid.whole, ap length c.deref_mut.ensures.value) in
+    record {
+      beside = record {
+        beside = record { shape = subst (IsGrid (length c.args.self.now.numbers.lists.now) c.args.self.now.numbers.keys) count grids.grid; count = omega (arith, read.1, count) };
+        last_count = count;
+      };
+    }
 
-pub total_upto-requires-clause-grid : goal.total_upto-requires-clause-grid
-total_upto-requires-clause-grid g c =
-    let read = table-read g.N.Number.number c.args.self.now.numbers c.requires.grids c.loop-at.at c.index-numbers-at.result (omega (arith, c.loop-at-test.true, c.requires.within)) in
-    subst (IsGrid (length c.args.self.now.numbers.lists.now) c.args.self.now.numbers.keys) (sym read.1) c.requires.grids.grid
+pub total_upto-requires : goal.total_upto-requires
+total_upto-requires g c = record {
+  marked =
+      let read = table-read g.N.Number.number c.args.self.now.numbers c.requires.grids c.loop-at.at c.index-numbers-at.result (omega (arith, c.loop-at-test.true, c.requires.within)) in
+      record {
+        shape = subst (IsGrid (length c.args.self.now.numbers.lists.now) c.args.self.now.numbers.keys) (sym read.1) c.requires.grids.grid;
+        count = c.requires.grids.based;
+      };
+}
 
 pub loop-at-preserved : goal.loop-at-preserved
 loop-at-preserved g c =

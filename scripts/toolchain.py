@@ -8,12 +8,13 @@ import shutil
 import subprocess
 import sys
 from operator import attrgetter
+from pathlib import Path
 
 sys.dont_write_bytecode = True
 # The kinds of x86-64 processor that programs are built for: by rt, and where the processor has what the newer one has.
 OLDER, NEWER = "x86-64-v2", "x86-64-v3"
-USED = ("KIT", "Crate.ci", "Crate.link", "Crate.prove", "Crate.words", "checked", "free", "handles_of", "processors",
-        "rtlib.PARTS", "rtlib.crates_below", "rtlib.files_of", "rtlib.guarded", "unread")
+USED = ("KIT", "Crate.ci", "Crate.link", "Crate.prove", "Crate.words", "checked", "edited", "free", "handles_of",
+        "processors", "rtlib.PARTS", "rtlib.crates_below", "rtlib.files_of", "rtlib.guarded", "unread")
 LOADER = "/lib64/ld-linux-x86-64.so.2"
 
 
@@ -21,27 +22,47 @@ class Lacking(Exception):
     """Why there is no such module, in a sentence."""
 
 
+def imported(path):
+    """A script as a module."""
+    loader = importlib.machinery.SourceFileLoader(f"imported_{path.name}", str(path))
+    made = importlib.util.module_from_spec(importlib.util.spec_from_loader(loader.name, loader))
+    # (one that has dataclasses looks itself up)
+    sys.modules[loader.name] = made
+    loader.exec_module(made)
+    return made
+
+
+def loaded(path, used):
+    """A script of the toolchain, which must have these names."""
+    if not path.is_file():
+        raise Lacking(f"the toolchain has no {path}")
+    module = imported(path)
+    for name in used:
+        try:
+            attrgetter(name)(module)
+        except AttributeError:
+            raise Lacking(f"{path} is of another toolchain than the scripts were written for: it lacks {name}"
+                          ) from None
+    return module
+
+
 def load_rt(top):
     """The module, ready for the crates of the repository at top as rt ci takes them."""
     path = shutil.which("rt")
     if path is None:
         raise Lacking("the command rt of the Rattle toolchain is not found")
-    loader = importlib.machinery.SourceFileLoader("rt_command", os.path.realpath(path))
-    rt = importlib.util.module_from_spec(importlib.util.spec_from_loader(loader.name, loader))
-    sys.modules[loader.name] = rt
-    loader.exec_module(rt)
-    for name in USED:
-        try:
-            attrgetter(name)(rt)
-        except AttributeError:
-            raise Lacking(f"{path} is of another toolchain than the scripts were written for: it lacks {name}"
-                          ) from None
+    rt = loaded(Path(path).resolve(), USED)
     os.chdir(top)
     rt.Crate.allowed = rt.handles_of(str(top))
     rt.rtlib.Crate = rt.Crate
     # (its first call sets handlers of signals, which only the main thread may)
     rt.rtlib.guarded()
     return rt
+
+
+def load_reader(rt):
+    """The module by which the toolchain reads the functions of a crate."""
+    return loaded(Path(rt.KIT, "bin", "rt-plant-bodies"), ("Source", "named"))
 
 
 def has_newer():

@@ -1,7 +1,13 @@
-"""What the scripts of trials share: the program that is tried, the tally and its last line."""
+"""What the scripts of trials share: the program that is tried, how a command is run, the tally and its last line."""
 import os
+import resource
+import signal
+import subprocess
 import sys
+import tempfile
 from pathlib import Path
+
+import arguments
 
 sys.dont_write_bytecode = True
 TOP = Path(__file__).resolve().parent.parent
@@ -11,6 +17,36 @@ PROGRAM = os.path.abspath(os.environ.get("GOSSIP_BENCH", TOP / "crates/gossip_be
 NO_PROGRAM = 3
 MOST_LETTERS = 2000  # of an outcome that are shown
 passed, failed = [], []
+
+
+class Room(tempfile.TemporaryDirectory):
+    """A folder that is there for the block of a with."""
+
+    def __enter__(self):
+        return Path(self.name)
+
+
+def ran(*command, given=b"", **how):
+    """The status, standard output and standard error of a command with an input: bytes, a text or a file."""
+    source = {"input": given} if isinstance(given, (bytes, str)) else {"stdin": given}
+    streams = {"stdout": subprocess.PIPE, "stderr": subprocess.PIPE, "text": isinstance(given, str)}
+    done = subprocess.run(command, **{**streams, **source, **how})
+    return done.returncode, done.stdout, done.stderr
+
+
+def small_files(most):
+    """What has a process write no file above so many bytes, as a disk does that fills."""
+    def limit():
+        # (a write fails then, and the signal that comes with it doesn't end the process)
+        signal.signal(signal.SIGXFSZ, signal.SIG_IGN)
+        resource.setrlimit(resource.RLIMIT_FSIZE, (most, most))
+    return limit
+
+
+def crates():
+    """The crates of crates.txt, each with those that it stands on."""
+    lines = [it for it in (TOP / "crates.txt").read_text().splitlines() if it and not it.startswith("#")]
+    return {name: below.split() for name, _, below in (it.partition(":") for it in lines)}
 
 
 def holds(name, wanted, found):
@@ -43,3 +79,13 @@ def end():
     """Prints the last line, 'N passed, M failed', and answers the status: 0 where nothing failed."""
     print(f"{len(passed)} passed, {len(failed)} failed", flush=True)
     return 1 if failed else 0
+
+
+def try_each(text, *trials):
+    """Makes trials of the program, each in a room of its own, for a script that has this text and takes no words."""
+    arguments.take_none(text)
+    need_program()
+    for trial in trials:
+        with Room() as room:
+            trial(room)
+    return end()

@@ -1,11 +1,8 @@
 """Calls of the tools in a room of their own, and what has to come of them."""
-import importlib.machinery
-import importlib.util
 import os
 import pathlib
 import shlex
 import subprocess
-import sys
 import tempfile
 import time
 
@@ -15,27 +12,17 @@ GUIDE = TOP / "examples" / "guide"
 TOOLS = TOP / "tools"
 SMALL = TOP / "crates" / "acceptance" / "data" / "small"
 HEADER = "round,exchanges,unreached,lost,entries,cut,stale,greatest\n"
-# The case "comparison of the modes" of docs/formats.md, whose rows stand there.
-COMPARED = """format = 1
-nodes = 2
-keys = 3
-rounds = 2
-seed = 0
-mode = 'precise-oldest'
-budget=2
-peers = "ring"
-rotation = "none"
-choice = "cycle"
-loss_ppm = 0
-writes = 3
-
-[[load]]
-from = 2
-to = 2
-writes = 1
-"""
+# The case "comparison of the modes" of docs/formats.md, whose rows stand there, with fields in other forms.
+COMPARED = (SMALL / "comparison_of_the_modes.toml").read_text().replace(
+    'mode = "scuttle-breadth"\nbudget = 1', "mode = 'precise-oldest'\nbudget=2")
 # What a program says that was built for newer processors.
 LACKING = '#!/bin/sh\necho "this machine lacks a feature" >&2\nexit 127\n'
+
+
+def place(script):
+    """Where a tool or a script of the guide stands, by its name, or what else is called."""
+    found = (GUIDE if script == "check_trace.py" else TOOLS) / script
+    return found if found.is_file() else script
 
 
 def started(room, script, *words, text="", given=None, out=subprocess.PIPE, err=subprocess.PIPE, before=None,
@@ -45,7 +32,7 @@ def started(room, script, *words, text="", given=None, out=subprocess.PIPE, err=
     with tempfile.TemporaryFile("w+") as written_text:
         written_text.write(text)
         written_text.seek(0)
-        return subprocess.Popen([str(script), *words], stdin=given or written_text, stdout=out, stderr=err, text=True,
+        return subprocess.Popen([place(script), *words], stdin=given or written_text, stdout=out, stderr=err, text=True,
                                 cwd=room, env=environment, preexec_fn=before)
 
 
@@ -56,27 +43,25 @@ def run(room, script, *words, **how):
     return process.returncode, out, err
 
 
-def imported(script):
-    name = f"imported_{script.name}"
-    loader = importlib.machinery.SourceFileLoader(name, str(script))
-    made = importlib.util.module_from_spec(importlib.util.spec_from_loader(name, loader))
-    # (one that has dataclasses looks itself up)
-    sys.modules[name] = made
-    loader.exec_module(made)
-    return made
-
-
-def place(script):
-    return (GUIDE if script == "check_trace.py" else TOOLS) / script
+def stopped(process, number):
+    """How a script ends that gets a signal."""
+    process.send_signal(number)
+    out, err = process.communicate(timeout=60)
+    return process.returncode, out, err
 
 
 def gives(room, wanted, script, *words, **how):
-    holds(f"{script} {' '.join(words)}", (0, wanted, ""), run(room, place(script), *words, **how))
+    holds(f"{script} {' '.join(words)}", (0, wanted, ""), run(room, script, *words, **how))
+
+
+def tells(name, text, *parts):
+    """Each of the parts stands in the text."""
+    holds(name, [], [it for it in parts if it not in text])
 
 
 def refuses(room, why, script, *words, **how):
     """The script ends with status 2, prints nothing, and says why in one line."""
-    status, out, err = run(room, place(script), *words, **how)
+    status, out, err = run(room, script, *words, **how)
     says_why = why in err and err.startswith(script) and err.count("\n") == 1
     holds(f"{script} {' '.join(words)}: {why}", (2, "", True), (status, out, says_why or err))
 
@@ -96,7 +81,7 @@ def written(file, text):
 
 def fails(room, why, status, script, *words, **how):
     """The script ends with this status, prints nothing, and says why in its last line."""
-    ended, out, err = run(room, place(script), *words, **how)
+    ended, out, err = run(room, script, *words, **how)
     last = err.splitlines()[-1:]
     says_why = bool(last) and why in last[0] and last[0].startswith(script) and "Traceback" not in err
     holds(f"{script} {' '.join(words)}: {why}", (status, "", True), (ended, out or "", says_why or err))

@@ -1,7 +1,10 @@
 """Trials of scripts/try_edits over a small crate, with what the prover said of such ones."""
+import shutil
 import types
+from pathlib import Path
 
-from tried.calls import imported
+from toolchain import imported, load_reader
+from tried.calls import tells
 from trials import TOP, holds
 
 SOURCE = """pub trait Number {
@@ -50,7 +53,7 @@ helper : 1 = 1
 helper = refl
 
 pub overflow : goal.overflow
-overflow c = c.double-twice.requires
+overflow c = also helper c.double-twice.requires
 """
 AT = "./proofs/quad/Answers.antt:5:43: error: `returns`: "
 LOST = f"{AT}record `Rattle.toy.proofs.quad.Lts.After-double` has no field `double-twice` (nearest: .double-second)"
@@ -75,27 +78,24 @@ EDIT = "file: src/lib.rt\nold:     twice + twice\nnew:     {}\n"
 
 def toy(room, name, said=()):
     """The script, a crate, and what was read in the checks of it, each of which says the next of these texts."""
-    script, read = imported(TOP / "scripts/try_edits"), []
-    folder, kept = room / name, room / f"{name} kept"
+    script, rt, read = imported(TOP / "scripts/try_edits"), imported(Path(shutil.which("rt")).resolve()), []
+    folder, kept, left = room / name, room / f"{name} kept", iter(said)
     for file, text in (("src/lib.rt", SOURCE), ("proofs/quad/Answers.antt", ANSWERS),
                        ("edits/010_more.edit", EDIT.format("twice + twice + 1")),
                        ("edits/020_double.edit", "file: src/lib.rt\nold:     x + x\nnew:     x\n")):
         (folder / file).parent.mkdir(parents=True, exist_ok=True)
         (folder / file).write_text(text)
     kept.mkdir()
-    said = list(said)
 
     def checked(crate, texts, flags, _):
         read.append(texts)
-        lines = said.pop(0)
+        lines = next(left)
         status = 0 if lines == ("logic=proved",) else 1
-        return types.SimpleNamespace(stdout="\n".join([*lines, *(["logic=not-proved"] if status else [])]) + "\n",
-                                     returncode=status)
+        return types.SimpleNamespace(stdout="\n".join([*lines, *["logic=not-proved"] * status]), returncode=status)
 
-    library = types.SimpleNamespace(files_of=lambda _: [], PARTS=("src", "specs", "proofs"))
-    rt = types.SimpleNamespace(checked=checked, unread=lambda *_: False, rtlib=library)
-    made = types.SimpleNamespace(name="toy", folder=str(folder))
-    crate = script.Crate(rt, made, ("edits",), None)
+    rt.checked = checked
+    made = types.SimpleNamespace(name="toy", folder=str(folder), is_program=False)
+    crate = script.Crate(rt, load_reader(rt), made, ("edits",), None)
     crate.kept = kept
     return script, crate, read
 
@@ -103,35 +103,34 @@ def toy(room, name, said=()):
 def try_causes(room):
     """A function that isn't proved is one thing, and that its contract refuses its body another."""
     script, crate, _ = toy(room, "causes")
-    quad = script.functions_of(crate, "src/lib.rt", SOURCE)[-1]
-    holds("causes", SAID, {said: quad.is_refused(script.messages_of("\n".join(said))) for said in SAID})
+    ran = {said: types.SimpleNamespace(stdout="\n".join(said)) for said in SAID}
+    holds("causes", SAID, {said: crate.functions[-1].is_refused(script.messages_of(ran[said])) for said in SAID})
 
 
 def try_names(room):
-    """A method of a foreign type has the name that the prover prints. What stands in a cycle of calls keeps its body."""
-    script, crate, _ = toy(room, "names")
-    functions = script.functions_of(crate, "src/lib.rt", SOURCE)
+    """A method of a foreign type has the name that the prover prints. A function in a cycle of calls keeps its body."""
+    _, crate, _ = toy(room, "names")
     holds("names", ["toy::U32Number::next", "toy::Piece::rest_from", "toy::double", "toy::quad"],
-          [it.name for it in functions])
-    holds("what a check asks for", "U32Number::next", functions[0].asked)
-    edits = crate.edits[:1]
-    copied, texts = crate.with_contracts(edits, crate.texts_of(edits), room / "copy")
-    text = texts["src/lib.rt"]
-    holds("bodies", (True, True, True, text), (
-        "#[cycle(rest)]\n    fn rest_from(&self, from: usize) -> usize\n        requires { from <= 9 }\n    {\n        rest("
-        in text, "    ensures { result <= 200 }\n{ loop {} }\n" in text, "    twice + twice + 1\n" in text,
-        (room / "copy/src/lib.rt").read_text()))
-    holds("proofs", (False, True, True), ((room / "copy/proofs/rest_from").exists(), (
-        room / "copy/proofs/double/Proof.antt").exists(), (room / "copy/proofs/quad/Answers.antt").exists()))
+          [it.name for it in crate.functions])
+    holds("what a check asks for", "U32Number::next", crate.functions[0].asked)
+    holds("what they change", [{"toy::quad"}, {"toy::double"}], [{it.name for it in edit.functions}
+                                                                 for edit in crate.edits])
+    copied = crate.with_contracts(crate.edits[:1], room / "copy")
+    text = crate.edited(crate.edits[:1], copied.folder)[0]["src/lib.rt"]
+    tells("bodies", text, "#[cycle(rest)]\n    fn rest_from(&self, from: usize) -> usize\n"
+          "        requires { from <= 9 }\n    {\n        rest(", "    ensures { result <= 200 }\n{ loop {} }\n",
+          "    twice + twice + 1\n")
+    holds("as many lines", SOURCE.count("\n"), text.count("\n"))
+    holds("proofs", [False, True, True], [(room / "copy/proofs" / it).exists() for it in (
+        "rest_from", "double/Proof.antt", "quad/Answers.antt")])
 
 
 def try_lost_names(room):
     """Where answers alone name what is gone the edit is tried without these, and without what names them."""
     kept = "use Rattle.toy.proofs.quad.Goals as goal\n\n-- the sum\n"
     less = kept + ANSWERS[ANSWERS.index("helper :"):]
-    of_helper = kept + ANSWERS[ANSWERS.index("pub overflow"):]
     script, crate, _ = toy(room, "answers")
-    holds("answers", [less, less, of_helper, ANSWERS],
+    holds("answers", [less, less, kept, ANSWERS],
           [script.without(ANSWERS, lines) for lines in ([5], [4], [5, 7], [])])
     gone = (LOST, BARE)
     cases = {
@@ -150,11 +149,14 @@ def try_lost_names(room):
 
 def try_groups(room):
     """Of a check of two edits each has its own verdict; a lost name leaves it open."""
-    both = (FALSE, BARE, OTHER, "fn toy::double: no proof: expected answers")
-    lost = (LOST, BARE, OTHER, "fn toy::double: no proof: expected answers")
-    for name, said, wanted in (("both", both, [True, True]), ("one", lost, [None, True])):
+    of_double = (OTHER, "fn toy::double: no proof: expected answers")
+    for name, said, wanted in (("both", (FALSE, BARE, *of_double), [True, True]),
+                               ("one", (LOST, BARE, *of_double), [None, True])):
         _, crate, _ = toy(room, f"group of {name}", [said])
-        holds(f"together: {name}", wanted, list(crate.try_together(crate.edits).values()))
+        holds(f"together: {name}", wanted, [is_refused for is_refused, _ in crate.try_group(crate.edits).values()])
 
 
-TRIALS = (try_causes, try_names, try_lost_names, try_groups)
+# (the toolchain reads the crate, and applies its edits)
+TRIALS = (try_causes, try_names, try_lost_names, try_groups) if shutil.which("rt") else ()
+if not TRIALS:
+    print("rt isn't there: try_edits isn't tried")

@@ -2,7 +2,8 @@
 from installed import Missing
 from pages import PAGES, in_package, without_marks
 from parts import Part, Parts, outcome_of
-from tried.calls import imported, run, written
+from toolchain import imported
+from tried.calls import run, written
 from trials import TOP, holds
 
 SCRIPTS = TOP / "scripts"

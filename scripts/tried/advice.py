@@ -1,12 +1,14 @@
 """Trials of gossip_advise."""
+import csv
 import hashlib
 import html.parser
 import pathlib
 import shlex
 import shutil
+import signal
 import tomllib
 
-from tried.calls import TOOLS, program_that, refuses, run, started, waits_for
+from tried.calls import program_that, refuses, run, started, stopped, tells, waits_for
 from trials import PROGRAM, holds
 
 
@@ -30,13 +32,12 @@ class Tags(html.parser.HTMLParser):
 
 # The seeds that choose, the first of them, and those that bound how old a copy gets and what heals.
 CHOOSE, FIRST, BOUND, HEAL = range(1, 21), range(1, 7), range(21, 41), range(21, 83)
-COLUMNS = "round,exchanges,unreached,lost,entries,cut,stale,greatest,leftover".split(",")
 
 
 def column(folder, budget, name, seeds, mode="scuttle-depth"):
-    """A column of each run with this budget, by seed, as formats.md has its place."""
+    """A column of each run with this budget, by seed."""
     reports = [(folder / f"{budget}.seed-{seed}.mode-{mode}.csv").read_text() for seed in seeds]
-    return [[int(line.split(",")[COLUMNS.index(name)]) for line in text.splitlines()[1:]] for text in reports]
+    return [[int(row[name]) for row in csv.DictReader(text.splitlines())] for text in reports]
 
 
 def worst(folder, budget, first, last, seeds=CHOOSE, mode="scuttle-depth"):
@@ -95,84 +96,98 @@ def took(name, what, ends, seeds):
             f"cases ({spanned(seeds)} under 62 seeds)\n")
 
 
+def advised(room, *words, **how):
+    """The first answer and the last, and all that is printed."""
+    status, out, err = run(room, "gossip_advise", *words, **how)
+    holds(f"gossip_advise {' '.join(words)}", (0, False), (status, "Traceback" in err))
+    first, _, last = out.partition("\n\n")
+    return first, last, out
+
+
+def page_of(folder, *parts):
+    """The page, which is whole and tells these."""
+    page = (folder / "report.html").read_text()
+    tells(f"the page in {folder.name}", page, *parts)
+    holds(f"the page in {folder.name} is whole", [], Tags(page).open)
+    return page
+
+
+def times_of(folder):
+    return {it: it.stat().st_mtime_ns for it in folder.glob("*/*.csv")}
+
+
+# Words in place of those of eight nodes, or besides, and why they are refused.
+REFUSED = {
+    "writes=0": "heartbeat", "writes=1.5": "[[load]]", "interval=0": "has seconds", "split=100001": "up to 100000",
+    "packet=30": "have no room", "fanout=17": "1 to 16 peers", "delta=30": "have no room",
+    "loss=100": "with loss=100 no message ever arrives", "nodes=50000": "still too large",
+    "forget=1": "forget is one of yes, no",
+    "digest=600": "the digest still fits no packet of 4000; room for the digest and nodes * writes = 8 entries takes "
+                  "packet=5120",
+    "rounds=9": "For rounds= there is gossip_scenario", "--jobs=2": "as JOBS=2",
+    "interval=100ms": "write interval=0.1.", "split=1h": "it is in intervals",
+    "restarts=9": "of 8 nodes no 9 can restart at once",
+    "hours=0": "would be 0 intervals under each seed, and from 1 to 99600 are run",
+    "hours=14": "would be 100800 intervals under each seed, and from 1 to 99600 are run: hours=13.83 is the most",
+    "restarts=5%": "'5%' isn't.", "restarts": "Write restarts=VALUE, without a space.",
+}
+# Targets of 24 nodes, and why they are refused.
+REFUSED_TARGETS = {
+    "target=0": "target is in seconds, and above 0.", "target=-4": "which '-4' isn't", "target=4s": "write target=4",
+    "target=0.4": "would be 0 rounds of 0.5 s, and has to be from 1 to 400",
+    "target=301": "would be 602 rounds of 0.5 s, and has to be from 1 to 400",
+    "target=1000000": "target=1000000 would be 2000000 rounds", "target=0.00001": "target=0.00001 would be 0 rounds",
+}
+
+
 def try_advice(room):
     """Eight nodes with a key: of 100 entries that fit 8 are of use, with which nothing is ever cut."""
-    cluster = ("nodes=8", "keys=1", "writes=1", "entry=40", "packet=4000", "loss=1", "interval=0.5", "forget=yes",
-               "hours=0.05")
+    cluster = "nodes=8 keys=1 writes=1 entry=40 packet=4000 loss=1 interval=0.5 forget=yes hours=0.05".split()
     advice = room / "advice"
-
-    def advise(*words, **how):
-        status, out, err = run(room, TOOLS / "gossip_advise", *words, **how)
-        return status, out.partition("\n\n")[2], err
-
-    status, out, err = run(room, TOOLS / "gossip_advise", *cluster)
-    holds("advice", (0, True), (status, "Traceback" not in err))
-    first, said = out.partition("\n\n")[::2]
+    first, said, _ = advised(room, *cluster)
     # (what heals is in the first answer, and as it is in the last)
     for name in ("a split", "a restart", "a forgotten state", "a rolling restart"):
-        lines = [it for it in out.splitlines() if it.startswith(f"  {name} ")]
-        holds(f"{name} is told at once", (2, 1, True),
-              (len(lines), len(set(lines)), bool(lines) and lines[0] in first.splitlines()))
+        lines, last = ([it for it in part.splitlines() if it.startswith(f"  {name} ")] for part in (first, said))
+        holds(f"{name} is told at once", (1, lines), (len(lines), last))
     holds("the budget", "Take scuttle-depth with room for 8 entries in a delta, 320 bytes (nodes * keys, above which "
           "nothing changes; nodes * writes); packet=320.", said.partition("\n")[0])
-    holds("nothing is cut, so no other run is made for the floor", (True, True, 8), (
-        "  share cut           0.00 % of what was lacking\n" in said,
-        "; the chosen one had that under the same 20 seeds\n" in said,
-        max(budgets_of(advice / "many") + budgets_of(advice / "many-bound"))))
+    tells("nothing is cut", said, "  share cut           0.00 % of what was lacking\n",
+          "; the chosen one had that under the same 20 seeds\n")
+    holds("so no other run is made for the floor", 8,
+          max(budgets_of(advice / "many") + budgets_of(advice / "many-bound")))
     # (what is counted is told with the first answer alone, and kept with the last)
     kept, counted = (advice / "answer.txt").read_text(), [it for it in first.splitlines() if it.startswith(" " * 22)]
     told = [it for it in kept.splitlines() if it not in counted]
     holds("the answer is kept", (said.rpartition("\n\n")[0].splitlines(), True, 1),
           (told, counted[0].strip().startswith("Healed after N rounds: "), kept.count("\n".join(counted))))
-    text = (advice / "report.html").read_text()
-    tags, pictures = Tags(text), 7 if shutil.which("gnuplot") else 0
-    others = [it for it in tags.named if not it.startswith("data:image/svg+xml;base64,")]
-    holds("the page is whole and needs no other", ([], pictures, []), (tags.open, text.count("<img "), others))
-    sum_of_program = hashlib.sha256(pathlib.Path(PROGRAM).read_bytes()).hexdigest()
+    stages = [f"gossip_sweep -o {it} budget" for it in ("many", "many-bound", "split", "forgotten", "restart")]
+    page = page_of(advice, hashlib.sha256(pathlib.Path(PROGRAM).read_bytes()).hexdigest(), *stages[:4],
+                   "@media screen and (prefers-color-scheme: dark)", "<thead>", "</thead><tbody>",
+                   "the oldest write that some copy lacked was for the first time no older than usual: at most one",
+                   "a rolling restart<b>wait ")
     # (a restart is told of nodes that forget)
-    holds("the page has the check sum and the scenarios", [True] * 5 + [False],
-          [sum_of_program in text, *(f"gossip_sweep -o {it} budget" in text for it in
-                                     ("many", "many-bound", "split", "forgotten", "restart"))])
-    holds("the page says what is counted and how long to wait", (1, 1),
-          (text.count("the oldest write that some copy lacked was for the first time no older than usual: at most one"),
-           text.count("a rolling restart<b>wait ")))
-    parts = ("@media screen and (prefers-color-scheme: dark)", "<thead>", "</thead><tbody>")
-    holds("the page is dark where the screen is, and its table has a head", [1, 1, 1], [text.count(it) for it in parts])
-    before = {it: it.stat().st_mtime_ns for it in advice.glob("*/*.csv")}
-    none = room / "nothing"
+    holds("a restart has no scenario of its own", False, stages[4] in page)
+    others = [it for it in Tags(page).named if not it.startswith("data:image/svg+xml;base64,")]
+    holds("the page needs no other", (7 if shutil.which("gnuplot") else 0, []), (page.count("<img "), others))
+    before, none = times_of(advice), room / "nothing"
     none.mkdir()
     for it in ("python3", "env"):
         (none / it).symlink_to(shutil.which(it))
-    without = said.replace("html.", "html without pictures, as gnuplot isn't there.")
-    holds("it is read again, without gnuplot", (0, without),
-          advise("-o", "advice", PATH=str(none))[:2])
-    holds("no run was made again", before, {it: it.stat().st_mtime_ns for it in advice.glob("*/*.csv")})
-    holds("a page without pictures", (0, True), ((text := (advice / "report.html").read_text()).count("<img "),
-                                                 "gnuplot isn't there" in text))
+    holds("it is read again, without gnuplot", said.replace("html.", "html without pictures, as gnuplot isn't there."),
+          advised(room, "-o", "advice", PATH=str(none))[1])
+    holds("no run was made again", before, times_of(advice))
+    holds("a page without pictures", 0, page_of(advice, "gnuplot isn't there").count("<img "))
     refuses(room, "the answer for another loss", "gossip_advise", *cluster[:5], "loss=2", *cluster[6:])
     other = program_that(room, "other", f'exec "{PROGRAM}" run')
     refuses(room, "the answer for another program", "gossip_advise", GOSSIP_BENCH=other)
     refuses(room, "isn't empty and has no answer", "gossip_advise", "-o", ".", *cluster)
-    for word, why in (("writes=0", "heartbeat"), ("writes=1.5", "[[load]]"), ("interval=0", "has seconds"),
-                      ("split=100001", "up to 100000"), ("packet=30", "have no room"),
-                      ("fanout=17", "1 to 16 peers"), ("delta=30", "have no room"),
-                      ("loss=100", "with loss=100 no message ever arrives"),
-                      ("nodes=50000", "still too large"), ("forget=1", "forget is one of yes, no"),
-                      ("digest=600", "the digest still fits no packet of 4000; room for the digest and "
-                       "nodes * writes = 8 entries takes packet=5120"),
-                      ("rounds=9", "For rounds= there is gossip_scenario"), ("--jobs=2", "as JOBS=2"),
-                      ("interval=100ms", "write interval=0.1."), ("split=1h", "it is in intervals"),
-                      ("restarts=9", "of 8 nodes no 9 can restart at once"),
-                      ("hours=0", "would be 0 intervals under each seed, and from 1 to 99600 are run"),
-                      ("hours=14", "would be 100800 intervals under each seed, and from 1 to 99600 are run: "
-                       "hours=13.83 is the most"), ("restarts=5%", "'5%' isn't."),
-                      ("restarts", "Write restarts=VALUE, without a space.")):
+    for word, why in REFUSED.items():
         words = {it.partition("=")[0].replace("delta", "packet"): it for it in (*cluster, word)}
         refuses(room, why, "gossip_advise", "-o", "refused", *words.values())
     refuses(room, "nodes= is missing", "gossip_advise", "-o", "refused")
-    refuses(room, "so it is at least 208 rounds; room for nodes * writes = 2000 entries takes "
-            "packet=100000", "gossip_advise", "-o", "refused", "nodes=2000", "keys=6", "writes=1", "entry=50",
-            "packet=1400", "digest=10", "shared=no")
+    large = "nodes=2000 keys=6 writes=1 entry=50 packet=1400 digest=10 shared=no".split()
+    refuses(room, "so it is at least 208 rounds; room for nodes * writes = 2000 entries takes packet=100000",
+            "gossip_advise", "-o", "refused", *large)
     holds("nothing is left of what was refused", False, (room / "refused").exists())
     refuses(room, "isn't UTF-8, or not as this locale reads it", "gossip_advise", "-o", "é2", *cluster, LC_ALL="C",
             PYTHONUTF8="0")
@@ -182,10 +197,8 @@ def try_reserve(room):
     """Room for 60 entries, where 24 nodes write one of 6 keys: 24 are taken, if no budget from there on is better, nor
     another mode, seed by seed. Choice, bound and floor are made here once more from the reports. 360 rounds, of a
     second each, are a tenth of an hour."""
-    words = ("nodes=24", "keys=6", "writes=1", "entry=40", "packet=2400", "count=entries", "split=0", "restarts=0",
-             "hours=0.1")
-    status, out, err = run(room, TOOLS / "gossip_advise", "-o", "reserve", *words)
-    first, said = out.partition("\n\n")[::2]
+    words = "nodes=24 keys=6 writes=1 entry=40 packet=2400 count=entries split=0 restarts=0 hours=0.1".split()
+    first, said, out = advised(room, "-o", "reserve", *words)
     many, bound = room / "reserve" / "many", room / "reserve" / "many-bound"
     figures = {it: worst(many, it, 101, 200) for it in budgets_of(many) if it >= 24}
     others = [worst(many, 48, 101, 200, FIRST, it) for it in ("scuttle-breadth", "precise-oldest", "precise-newest")]
@@ -196,31 +209,31 @@ def try_reserve(room):
                f"the budget has {spanned(figures[taken])}: no better (less under {less} of 20 seeds, more under "
                f"{more}). So packet={40 * taken} is enough, and what is above that is a reserve")
     for name, told in (("first", first), ("last", said)):
-        holds(f"the budget of the {name} answer", (0, True, True),
-              (status, f"scuttle-depth with room for {taken} entries in a delta, {40 * taken} bytes " in told,
-               reserve in told))
+        tells(f"the {name} answer", told, reserve,
+              f"scuttle-depth with room for {taken} entries in a delta, {40 * taken} bytes ")
     figure = worst(bound, taken, 101, 460, BOUND)
     older = f"n 20 of 21 runs of 360 rounds (360 s) no copy is older than {max(figure)} rounds, {max(figure)} s"
-    holds("what bounds it", (True, True), (
-        f"\nI{older}.\n" in first, f"\n  worst staleness     i{older}: the most of `greatest` in rounds 101 to 460 "
-        f"under 20 seeds, others than those that chose, which had {spanned(figure)}\n" in said))
-    holds("the seeds that choose aren't those that bound", (set(CHOOSE), set(BOUND)), tuple(
-        {int(it.name.split(".")[1].partition("-")[2]) for it in folder.glob("*.csv")} for folder in (many, bound)))
+    tells("what bounds it, at first", first, f"\nI{older}.\n")
+    tells("what bounds it", said, f"\n  worst staleness     i{older}: the most of `greatest` in rounds 101 to 460 "
+          f"under 20 seeds, others than those that chose, which had {spanned(figure)}\n")
+    holds("the seeds that choose aren't those that bound", [set(CHOOSE), set(BOUND)], [
+        {int(it.name.split(".")[1].partition("-")[2]) for it in folder.glob("*.csv")} for folder in (many, bound)])
     # (24 * 6 entries never cut)
-    cuts = {it for rows in column(bound, "budget-144", "cut", BOUND[:4]) for it in rows}
+    holds("the floor is of runs that cut nothing", {0},
+          {it for rows in column(bound, "budget-144", "cut", BOUND[:4]) for it in rows})
     best = worst(bound, 144, 101, 460, BOUND[:4])
-    has = "that" if best == figure[:4] else spanned(figure[:4])
-    holds("the floor", ({0}, True), (cuts, f"\n  the floor           no mode and no budget does better than "
-                                     f"{as_rounds(best)}, {spanned(best)} s, with these peers and losses; the chosen "
-                                     f"one had {has} under the same 4 seeds\n" in said))
+    tells("the floor", said, f"\n  the floor           no mode and no budget does better than {as_rounds(best)}, "
+          f"{spanned(best)} s, with these peers and losses; the chosen one had "
+          f"{'that' if best == figure[:4] else spanned(figure[:4])} under the same 4 seeds\n")
     holds("nothing that heals is run where none is asked for", ({"many", "many-bound"}, False),
           ({it.parent.name for it in (room / "reserve").glob("*/scenario")}, "a split" in out or "a restart" in out))
     # (the name that a packet had before)
     called = [it.replace("packet=", "delta=") for it in words]
-    holds("delta= is packet=", (0, out), run(room, TOOLS / "gossip_advise", "-o", "reserve", *called)[:2])
-    status, out, err = run(room, TOOLS / "gossip_advise", "-o", "one mode", *words, "mode=precise-newest")
-    names = {it.stem.partition("mode-")[2] for it in (room / "one mode").glob("*/*.csv")}
-    holds("one mode", (0, True, {"precise-newest"}), (status, "\nTake precise-newest with room for " in out, names))
+    holds("delta= is packet=", (first, said, out), advised(room, "-o", "reserve", *called))
+    _, _, out = advised(room, "-o", "one mode", *words, "mode=precise-newest")
+    tells("one mode", out, "\nTake precise-newest with room for ")
+    holds("no other mode is run", {"precise-newest"},
+          {it.stem.partition("mode-")[2] for it in (room / "one mode").glob("*/*.csv")})
 
 
 def try_target(room):
@@ -228,10 +241,8 @@ def try_target(room):
     half a second, under all 20 seeds that bound it: counted once more from the reports. A delta of n entries of 40
     bytes and a digest of 24 numbers of 10 bytes take n * 40 + 240 bytes. 24 * 23 * 6 are 3312 copies. 144 rounds are
     72 s."""
-    words = ("nodes=24", "keys=6", "writes=1", "entry=40", "digest=10", "interval=0.5", "count=entries", "loss=1",
-             "hours=0.02")
-    call = ("-o", "target", "target=4", *words, "mode=scuttle-depth")
-    status, out, err = run(room, TOOLS / "gossip_advise", *call)
+    words = "nodes=24 keys=6 writes=1 entry=40 digest=10 interval=0.5 count=entries loss=1 hours=0.02".split()
+    _, _, out = advised(room, "-o", "target", "target=4", *words, "mode=scuttle-depth")
     many, stop, bound = (room / "target" / it for it in ("many", "many-stop", "many-bound"))
     budgets, bounds = ([it for it in budgets_of(folder) if it < 144] for folder in (many, bound))
     fewest = min(it for it in budgets if max(worst(many, it, 101, 200, FIRST)) <= 8)
@@ -242,50 +253,43 @@ def try_target(room):
     figures = {it: worst(bound, it, 101, 244, BOUND) for it in bounds}
     holds("all 20 seeds keep to the target, and of the smaller ones not all", (fewest, True, True),
           (bounds[0], max(figures[least]) <= 8, all(max(figures[it]) > 8 for it in smaller)))
-    above = sum(it > 8 for it in figures[smaller[-1]]) if smaller else 0
-    said = (f"Take scuttle-depth with room for {least} entries in a delta, {least * 40} bytes ",
-            f"packet={least * 40 + 240}.")
     line = next((it for it in out.splitlines() if it.startswith("Take ")), "")
-    holds("the smallest packet", (0, True, True), (status, line.startswith(said[0]), line.endswith(said[1])))
-    holds("the target and the floor", (True, True, True, True),
-          ("\n  the floor           no mode and no budget does better than " in out,
-           "  target              met: in 20 of 21 runs of 144 rounds (72 s) the worst staleness is within 4 s, or 8 "
-           "rounds\n" in out,
-           f"  a smaller one       {smaller[-1] if smaller else below} entries: the next smaller budget " in out,
-           not smaller or f" under {above} of 20 seeds, up to {max(figures[smaller[-1]])} rounds\n" in out))
+    holds("the smallest packet", (True, True),
+          (line.startswith(f"Take scuttle-depth with room for {least} entries in a delta, {least * 40} bytes "),
+           line.endswith(f"packet={least * 40 + 240}.")))
+    tells("the target and the floor", out, "\n  the floor           no mode and no budget does better than ",
+          "  target              met: in 20 of 21 runs of 144 rounds (72 s) the worst staleness is within 4 s, or 8 "
+          "rounds\n", f"  a smaller one       {smaller[-1] if smaller else below} entries: the next smaller budget ")
+    if smaller:
+        seeds = figures[smaller[-1]]
+        tells("by how many a smaller one misses it", out,
+              f" under {sum(it > 8 for it in seeds)} of 20 seeds, up to {max(seeds)} rounds\n")
     of_least = f"budget-{least}"
     shares = [100 * sum(it[100:200]) / 100 / 3312 for it in column(many, of_least, "stale", FIRST)]
     half = [next(at for at in range(1, 9) if 2 * it[199 + at] <= it[199])
             for it in column(stop, of_least, "stale", FIRST)]
-    spans = [f"{min(it):.0f} to {max(it):.0f}" if f"{min(it):.0f}" < f"{max(it):.0f}" else f"{max(it):.0f}"
-             for it in (shares, half)]
-    holds("how many copies are stale, and how old a typical one is", (True, True),
-          (f"  stale copies        {spans[0]} %: " in out, f"  a typical one       {spans[1]} round" in out))
+    stale, typical = (spanned([round(it) for it in figure]) for figure in (shares, half))
+    tells("how many copies are stale, and how old a typical one is", out, f"  stale copies        {stale} %: ",
+          f"  a typical one       {typical} round")
     holds("no write in the 8 rounds after 200", True,
           (stop / "scenario").read_text().endswith("\n[[load]]\nfrom = 201\nto = 208\nwrites = 0\n"))
-    page = (room / "target" / "report.html").read_text()
-    head = f"<h1>24 nodes: scuttle-depth with {least} entries keeps the worst staleness within 4 s</h1>"
-    holds("the page has it", (True, 1, []), (head in page, page.count("target<b>met</b>"), Tags(page).open))
-    before = {it: it.stat().st_mtime_ns for it in (room / "target").glob("*/*.csv")}
-    holds("it is read again", (0, out), run(room, TOOLS / "gossip_advise", "-o", "target")[:2])
-    holds("and no run made again", before, {it: it.stat().st_mtime_ns for it in (room / "target").glob("*/*.csv")})
+    page = page_of(room / "target", f"<h1>24 nodes: scuttle-depth with {least} entries keeps the worst staleness "
+                   "within 4 s</h1>")
+    holds("the page has it once", 1, page.count("target<b>met</b>"))
+    before = times_of(room / "target")
+    holds("it is read again", out, advised(room, "-o", "target")[2])
+    holds("and no run made again", before, times_of(room / "target"))
     for target, verdict in (("4", "met: in 20 of 21 runs of 144 rounds (72 s) the worst staleness is within 4 s"),
                             ("1", "not met: the worst staleness is above 1 s")):
-        status, out, err = run(room, TOOLS / "gossip_advise", "-o", f"judged {target}", *words, "mode=scuttle-depth",
-                               f"packet={least * 40 + 240}", f"target={target}", "split=0", "restarts=0")
-        holds(f"a packet for target={target}", (0, True, True),
-              (status, f"\nThe target is {verdict}" in out, f"\n  target              {verdict}" in out))
-    status, out, err = run(room, TOOLS / "gossip_advise", "-o", "never", "target=1", *words)
-    holds("a target that no budget meets", (0, True, True),
-          (status, out.startswith("No budget keeps the worst staleness within 1 s, or 2 rounds. The best that "
-                                  "can be had, with room for 144 entries"), "<h1>24 nodes: no budget keeps" in
-           (room / "never" / "report.html").read_text()))
-    for word, why in (("target=0", "target is in seconds, and above 0."), ("target=-4", "which '-4' isn't"),
-                      ("target=4s", "write target=4"),
-                      ("target=0.4", "would be 0 rounds of 0.5 s, and has to be from 1 to 400"),
-                      ("target=301", "would be 602 rounds of 0.5 s, and has to be from 1 to 400"),
-                      ("target=1000000", "target=1000000 would be 2000000 rounds"),
-                      ("target=0.00001", "target=0.00001 would be 0 rounds")):
+        _, _, out = advised(room, "-o", f"judged {target}", *words, "mode=scuttle-depth",
+                            f"packet={least * 40 + 240}", f"target={target}", "split=0", "restarts=0")
+        tells(f"a packet for target={target}", out, f"\nThe target is {verdict}", f"\n  target              {verdict}")
+    _, _, out = advised(room, "-o", "never", "target=1", *words)
+    holds("a target that no budget meets", True, out.startswith(
+        "No budget keeps the worst staleness within 1 s, or 2 rounds. The best that can be had, with room for 144 "
+        "entries"))
+    page_of(room / "never", "<h1>24 nodes: no budget keeps")
+    for word, why in REFUSED_TARGETS.items():
         refuses(room, why, "gossip_advise", "-o", "refused", word, *words)
     refuses(room, "packet= is missing", "gossip_advise", "-o", "refused", *words)
     holds("nothing is left of refused targets", False, (room / "refused").exists())
@@ -294,150 +298,133 @@ def try_target(room):
 def try_calls(room):
     """Three calls in an interval: a third of 12 entries is enough, an interval has three rounds, and only the first of
     them writes. The first 200 intervals are the rounds up to 600. 180 s are 300 intervals, behind the first 100."""
-    words = ("nodes=12", "keys=2", "writes=1", "entry=40", "packet=160", "count=entries", "fanout=3", "interval=0.6")
-    status, out, err = run(room, TOOLS / "gossip_advise", "-o", "calls", *words, "hours=0.05", "mode=scuttle-depth")
+    words = "nodes=12 keys=2 writes=1 entry=40 packet=160 count=entries fanout=3 interval=0.6".split()
+    _, _, out = advised(room, "-o", "calls", *words, "hours=0.05", "mode=scuttle-depth")
     figure = worst(room / "calls" / "many", 4, 301, 600)
     bound = worst(room / "calls" / "many-bound", 4, 301, 1200, BOUND)
-    holds("three calls", (0, "First answer, from 200 intervals of 3 rounds: scuttle-depth with room for 4 entries in a "
-                          "delta, 160 bytes (what fits; nodes * writes / 3); packet=160.", True, True),
-          (status, out.partition("\n")[0], f"\nWorst staleness {as_rounds(figure)}, " in out,
-           "\nIn 20 of 21 runs of 900 rounds (300 intervals, 180 s) no copy is older than "
-           f"{max(bound)} rounds, " in out))
+    holds("three calls", "First answer, from 200 intervals of 3 rounds: scuttle-depth with room for 4 entries in a "
+          "delta, 160 bytes (what fits; nodes * writes / 3); packet=160.", out.partition("\n")[0])
+    tells("three calls", out, f"\nWorst staleness {as_rounds(figure)}, ", "\nIn 20 of 21 runs of 900 rounds (300 "
+          f"intervals, 180 s) no copy is older than {max(bound)} rounds, ")
     scenario = (room / "calls" / "many" / "scenario").read_text()
-    printed = run(room, TOOLS / "gossip_scenario", *words[:-1], "rounds=600")[1]
+    printed = run(room, "gossip_scenario", *words[:-1], "rounds=600")[1]
     holds("the rounds without writes are those of gossip_scenario", printed.partition("[[load]]")[2],
           scenario.partition("[[load]]")[2])
-    holds("each figure in rounds, intervals and seconds", True,
-          all(" intervals, " in it and " s" in it for it in out.splitlines() if "healed after" in it and "N rounds" not
-              in it))
+    healed_after = [it for it in out.splitlines() if "healed after" in it and "N rounds" not in it]
+    holds("each figure in rounds, intervals and seconds", [],
+          [it for it in healed_after if " intervals, " not in it or " s" not in it])
 
 
 def try_hopeless_advice(room):
     """Two entries for 24 nodes that write one of 20 keys each: some write of the first rounds is missing for more than
     400 rounds. By a sum it is 23 * 20 / (2 * 2) - 20 at least. So it ends after 800 rounds, without what heals, and
     names the 24 * 40 bytes and the call for that."""
-    cluster = ("nodes=24", "keys=20", "writes=1", "entry=40", "packet=80", "digest=10", "shared=no", "restarts=4",
-               "mode=scuttle-depth", "count=entries", "hours=0.1")
-    status, out, err = run(room, TOOLS / "gossip_advise", *cluster, "-o", "no hope")
-    first, said = out.partition("\n\n")[::2]
-    enough = "packet=960 has room for nodes * writes = 24 entries, and "
-    sum_says = ("By a sum, of the worst staleness: each node has 460 copies to renew and gets about two deltas of 2 "
-                "entries in a round, so it is at least 95 rounds; room for nodes * writes = 24 entries takes "
-                "packet=960.")
-    lines = first.splitlines()
-    holds("a sum is told at once", (0, sum_says, "First answer, from 200 rounds: no budget that fits is seen to be "
-                                    "enough, as none has a level of at most 100 rounds within 200.", True),
-          (status, *lines[:2],
-           "Whether it levels off later is seen from 400 and then 800 rounds, and no more." in lines))
-    longest = worst(room / "no hope" / "longest", 2, 401, 800)
+    words = ("nodes=24 keys=20 writes=1 entry=40 packet={} digest=10 shared=no restarts=4 mode=scuttle-depth "
+             "count=entries hours=0.1")
+    first, said, _ = advised(room, *words.format(80).split(), "-o", "no hope")
+    holds("a sum is told at once", [
+        "By a sum, of the worst staleness: each node has 460 copies to renew and gets about two deltas of 2 entries in "
+        "a round, so it is at least 95 rounds; room for nodes * writes = 24 entries takes packet=960.",
+        "First answer, from 200 rounds: no budget that fits is seen to be enough, as none has a level of at most 100 "
+        "rounds within 200."], first.splitlines()[:2])
+    tells("it says how far is looked", first,
+          "\nWhether it levels off later is seen from 400 and then 800 rounds, and no more.")
     no_level = "none has a level of at most 400 rounds within 800"
-    holds("none is enough", (True, True, True, True),
-          (max(longest) > 400, said.startswith(f"No budget that fits is enough: {no_level}. The most that fits: room "
-                                               "for 2 entries in a delta, 80 bytes"),
-           f"  enough              {enough}" in said,
-           f"  worst staleness     not known: {no_level}; by a sum at least 95" in said))
+    holds("none is enough", (True, True), (
+        max(worst(room / "no hope" / "longest", 2, 401, 800)) > 400, said.startswith(
+            f"No budget that fits is enough: {no_level}. The most that fits: room for 2 entries in a delta, 80 bytes")))
+    tells("none is enough", said, f"  worst staleness     not known: {no_level}; by a sum at least 95",
+          "  enough              packet=960 has room for nodes * writes = 24 entries, and ")
     holds("nothing is run that heals, or bounds", ["longer", "longest", "many"],
           sorted(it.name for it in (room / "no hope").iterdir() if (it / "scenario").exists()))
-    page = (room / "no hope" / "report.html").read_text()
-    call = ("gossip_advise -o 'no hope-enough' nodes=24 keys=20 writes=1 entry=40 packet=960 digest=10 shared=no "
-            "restarts=4 mode=scuttle-depth count=entries hours=0.1")
+    call = f"gossip_advise -o 'no hope-enough' {words.format(960)}"
     not_run = "were not run, as no budget that fits is enough. To see them with a budget that is:"
-    holds("it says so, and how to see it", (True, True, True),
-          (f"{not_run}\n  {call}\n" in said, not_run in page, html.escape(call) in page))
+    tells("it says so, and how to see it", said, f"{not_run}\n  {call}\n")
+    page = page_of(room / "no hope", not_run, html.escape(call), "<h1>24 nodes: no budget that fits is enough",
+                   "none that fits is enough")
     holds("it doesn't tell of groups that were not run", False, "What was run are" in said + page)
-    status, out, _ = run(room, TOOLS / "gossip_advise", *shlex.split(call)[1:])
-    holds("the call has what was not run", (0, True), (status, "\n  a rolling restart   wait " in out))
-    holds("and the page", (True, True, []), ("<h1>24 nodes: no budget that fits is enough" in page,
-                                             "none that fits is enough" in page, Tags(page).open))
+    tells("the call has what was not run", advised(room, *shlex.split(call)[1:])[2], "\n  a rolling restart   wait ")
 
 
 def try_longer_runs(room):
     """Five entries for 24 nodes that write one of 6 keys each: a level above 100, which 200 rounds can't tell from
     none, and of 200 at most, which 400 rounds can. 24 are better, so it says that the packet is too small."""
-    cluster = ("nodes=24", "keys=6", "writes=1", "entry=40", "packet=200", "count=entries", "loss=1", "split=0",
-               "restarts=2", "mode=scuttle-depth", "hours=0.1")
-    status, out, err = run(room, TOOLS / "gossip_advise", "-o", "longer", *cluster)
-    first, said = out.partition("\n\n")[::2]
+    cluster = ("nodes=24 keys=6 writes=1 entry=40 packet=200 count=entries loss=1 split=0 restarts=2 "
+               "mode=scuttle-depth hours=0.1")
+    first, said, _ = advised(room, "-o", "longer", *cluster.split())
     short, long = worst(room / "longer" / "many", 5, 101, 200), worst(room / "longer" / "longer", 5, 201, 400)
     at_knee, bound = (worst(room / "longer" / "longer", 24, 201, 400),
                       worst(room / "longer" / "longer-bound", 5, 201, 560, BOUND))
-    holds("200 rounds can't show the level, 400 can", (0, True, True, True),
-          (status, max(short) > 100, max(long + bound) <= 200, is_better(at_knee, long)))
-    holds("the first answer says how far is looked", True, "\nWhether it levels off later is seen from 400 and then "
-          "800 rounds, and no more.\n" in first)
-    holds("the longer runs name mode, budget and what is enough", (True, True, True),
-          (said.startswith("Take scuttle-depth, but packet=200 is too small: with room for 5 entries in a delta, 200 "
-                           f"bytes (what fits; 0.21 times nodes * writes), the worst copy was {as_rounds(long)}, "
-                           f"{spanned(long)} s, behind, and with packet=960 {as_rounds(at_knee)}.\n"),
-           "\n  worst staleness     in 20 of 21 runs of 360 rounds (360 s) no copy is older than "
-           f"{max(bound)} rounds, {max(bound)} s: " in said, " in rounds 201 to 560 under 20 seeds, others " in said))
-    holds("and how many calls are enough, which are 24 / 5", True,
-          "(fanout=5, as nodes * writes / 5 entries fit)" in said.partition("Mind:")[2])
-    holds("and what heals", True, "\n  a rolling restart   " in said)
-    page = (room / "longer" / "report.html").read_text()
-    holds("and the page", (True, True, True, []), (
-        "In rounds 201 to 400, by budget" in page, "<h1>24 nodes: scuttle-depth with 5 entries, which are too few</h1>"
-        in page, '<div class="first">enough<b>960 bytes</b>' in page, Tags(page).open))
+    holds("200 rounds can't show the level, 400 can", (True, True, True),
+          (max(short) > 100, max(long + bound) <= 200, is_better(at_knee, long)))
+    tells("the first answer says how far is looked", first,
+          "\nWhether it levels off later is seen from 400 and then 800 rounds, and no more.\n")
+    holds("the longer runs name mode, budget and what is enough", True, said.startswith(
+        "Take scuttle-depth, but packet=200 is too small: with room for 5 entries in a delta, 200 bytes (what fits; "
+        f"0.21 times nodes * writes), the worst copy was {as_rounds(long)}, {spanned(long)} s, behind, and with "
+        f"packet=960 {as_rounds(at_knee)}.\n"))
+    tells("and what bounds it and heals", said, "\n  worst staleness     in 20 of 21 runs of 360 rounds (360 s) no "
+          f"copy is older than {max(bound)} rounds, {max(bound)} s: ", " in rounds 201 to 560 under 20 seeds, others ",
+          "\n  a rolling restart   ")
+    tells("and how many calls are enough, which are 24 / 5", said.partition("Mind:")[2],
+          "(fanout=5, as nodes * writes / 5 entries fit)")
+    page_of(room / "longer", "In rounds 201 to 400, by budget", "<h1>24 nodes: scuttle-depth with 5 entries, which are "
+            "too few</h1>", '<div class="first">enough<b>960 bytes</b>')
 
 
 def try_advice_below_the_knee(room):
     """Room for 10 entries, where 20 nodes write one key each: both answers name the 20 * 40 bytes, and what counts
     where nodes forget. What heals is counted once more from the reports: of a restart the longer time under each seed,
     of five groups of two, which are half of the nodes, or of one group alone. 10 mean entries are 5235 bytes."""
-    cluster = ("nodes=20", "keys=1", "writes=1", "entry=40", "packet=400", "count=entries", "restarts=2", "forget=yes",
-               "hours=0.1")
-    status, out, err = run(room, TOOLS / "gossip_advise", "-o", "below", *cluster)
+    cluster = "nodes=20 keys=1 writes=1 entry=40 packet=400 count=entries restarts=2 forget=yes hours=0.1"
+    first, said, _ = advised(room, "-o", "below", *cluster.split())
     enough = "packet=800 has room for nodes * writes = 20 entries, and "
-    first, said = out.partition("\n\n")[::2]
-    mind, forget = said.partition("Mind:")[2], "Nodes forget here, and the budget is below nodes * writes: old state"
-    holds("below the knee", (0, True, True, True, True), (
-        status, f"\nThat is below nodes * writes. {enough}" in first, enough in mind, f"\n{forget}" in first,
-        forget in mind))
+    forget = "Nodes forget here, and the budget is below nodes * writes: old state"
+    tells("below the knee, at first", first, f"\nThat is below nodes * writes. {enough}", f"\n{forget}")
+    tells("below the knee", said.partition("Mind:")[2], enough, forget)
     split, _, _ = healed(room / "below" / "split", "budget-10")
     groups, one = (healed(room / "below" / it, "budget_bytes-5235") for it in ("forgotten", "forgotten-one"))
     restart, gone = ([max(it) for it in zip(groups[at], one[at])] for at in (0, 1))
     what = ("of 2 nodes in each of 5 rounds, each down for one round, and then without its own state, and of such a "
             "group alone")
     waits = sorted(max(it) for it in zip(restart, gone))[-3]
-    lines = (took("a split", "of half of the nodes for 30 rounds", "healed", split),
-             took("a restart", what, "healed", restart), took("a forgotten state", what, "gone from all copies", gone),
-             f"\n  a rolling restart   wait {waits} rounds, {waits} s, after a group of 2 nodes is up again: in 20 of "
-             "21 cases a restart was healed and its forgotten state was gone by then\n")
-    for line in lines:
-        holds("both answers tell what the reports have", (True, True), (line in out.partition("\n\n")[0], line in said))
+    for answer in (first, said):
+        tells("both answers tell what the reports have", f"{answer}\n",
+              took("a split", "of half of the nodes for 30 rounds", "healed", split),
+              took("a restart", what, "healed", restart),
+              took("a forgotten state", what, "gone from all copies", gone),
+              f"\n  a rolling restart   wait {waits} rounds, {waits} s, after a group of 2 nodes is up again: in 20 of "
+              "21 cases a restart was healed and its forgotten state was gone by then\n")
     holds("half of the nodes restart, or a group", (10, 2), (groups[2], one[2]))
 
 
 def try_restarts_of_half(room):
     """Of 20 nodes 10 restart at once and forget: one such group is all that may restart, as more would leave nothing
     old to lack, which was told as healed after a round. What is told is no less than its reports have."""
-    cluster = ("nodes=20", "keys=4", "writes=1", "entry=40", "packet=800", "count=entries", "restarts=10", "forget=yes",
-               "split=0", "mode=scuttle-depth", "hours=0.1")
-    status, out, err = run(room, TOOLS / "gossip_advise", "-o", "half", *cluster)
-    said, budget = out.partition("\n\n")[2], f"budget_bytes-{20 * 1047 // 2}"
-    restart, gone, count = healed(room / "half" / "forgotten", budget)
+    cluster = ("nodes=20 keys=4 writes=1 entry=40 packet=800 count=entries restarts=10 forget=yes split=0 "
+               "mode=scuttle-depth hours=0.1")
+    _, said, _ = advised(room, "-o", "half", *cluster.split())
+    restart, gone, count = healed(room / "half" / "forgotten", f"budget_bytes-{20 * 1047 // 2}")
     what = "of 10 nodes, each down for one round, and then without its own state"
-    holds("restarts of half", (0, 10, False, True, True, True), (
-        status, count, (room / "half" / "forgotten-one").exists(), min(gone) > 1,
-        took("a restart", what, "healed", restart) in said,
-        took("a forgotten state", what, "gone from all copies", gone) in said))
+    holds("restarts of half", (10, False, True), (count, (room / "half" / "forgotten-one").exists(), min(gone) > 1))
+    tells("restarts of half", said, took("a restart", what, "healed", restart),
+          took("a forgotten state", what, "gone from all copies", gone))
 
 
 def try_stopping_advice(room):
-    cluster = ("nodes=6", "keys=1", "writes=1", "entry=40", "packet=4000", "hours=0.1")
+    cluster = "nodes=6 keys=1 writes=1 entry=40 packet=4000 hours=0.1".split()
     # (the first four runs are as usual, and later ones wait)
     slow = program_that(room, "slow", f'echo >>slow.runs\n'
                         f'for it in 1 2 3 4; do mkdir usual.$it 2>/dev/null && exec "{PROGRAM}" run; done\n'
                         f'[ -e fast ] || sleep 60\nexec "{PROGRAM}" run')
-    with started(room, TOOLS / "gossip_advise", "-o", "ended", *cluster, GOSSIP_BENCH=slow) as process:
+    with started(room, "gossip_advise", "-o", "ended", *cluster, GOSSIP_BENCH=slow) as process:
         holds("runs are made", True, waits_for(lambda: len(list(room.glob("ended/many/*.csv"))) == 4))
         refuses(room, f"ended is in use by process {process.pid}", "gossip_advise", "-o", "ended", *cluster)
-        process.terminate()
-        out, err = process.communicate(timeout=60)
+        status, out, err = stopped(process, signal.SIGTERM)
     holds("advice is stopped", (143, "", True),
-          (process.returncode, out, "stopped by SIGTERM, which loses the runs under way. 4 of" in err or err))
+          (status, out, "stopped by SIGTERM, which loses the runs under way. 4 of" in err or err))
     (room / "fast").touch()
-    status, out, err = run(room, TOOLS / "gossip_advise", "-o", "ended", GOSSIP_BENCH=slow)
+    status, out, err = run(room, "gossip_advise", "-o", "ended", GOSSIP_BENCH=slow)
     runs, reports = len((room / "slow.runs").read_text().splitlines()), len(list(room.glob("ended/*/*.csv")))
     # (the two that were stopped are run again)
     holds("it goes on where it was", (0, True, runs - 2), (status, "Take scuttle-depth" in out, reports))
@@ -445,15 +432,14 @@ def try_stopping_advice(room):
     late = program_that(room, "late", 'text=$(cat)\ncase "$text" in *"budget = 4"*) exec sleep 60;; esac\n'
                         f'echo "$text" | exec "{PROGRAM}" run')
     words = ("-o", "first", *cluster, "split=0", "restarts=0")
-    with started(room, TOOLS / "gossip_advise", *words, GOSSIP_BENCH=late) as process:
+    with started(room, "gossip_advise", *words, GOSSIP_BENCH=late) as process:
         holds("the first answer is there", True,
               waits_for(lambda: list((room / "first" / "many").glob("budget-4.*")), seconds=60))
-        process.terminate()
-        out, err = process.communicate(timeout=60)
-    answer, page = ((room / "first" / it).read_text() for it in ("answer.txt", "report.html"))
-    holds("a stop leaves the first answer", (143, True, True, True, []),
-          (process.returncode, answer.startswith("First answer, from 200 rounds: "), out.startswith(answer),
-           "<h1>First answer. 6 nodes: " in page, Tags(page).open))
+        status, out, err = stopped(process, signal.SIGTERM)
+    answer = (room / "first" / "answer.txt").read_text()
+    holds("a stop leaves the first answer", (143, True, True),
+          (status, answer.startswith("First answer, from 200 rounds: "), out.startswith(answer)))
+    page_of(room / "first", "<h1>First answer. 6 nodes: ")
 
 
 TRIALS = (try_advice, try_reserve, try_target, try_calls, try_hopeless_advice, try_longer_runs,

@@ -1,5 +1,5 @@
-"""Trials of scripts/believed: it holds of the repository, and in a copy it finds each definition that stands elsewhere
-than what means it asks for, and each premise of a law that no witness shows."""
+"""Trials of scripts/believed: it finds each definition that stands elsewhere than what means it asks for, and each
+premise of a law that no witness shows."""
 import shutil
 
 from tried.calls import run
@@ -59,33 +59,23 @@ CHANGES = {
 }
 
 
-def copied(room):
-    """A copy of the repository's crates, without what checks keep, and of its scripts."""
+def try_changes(room):
+    """In a copy of the repository's crates, without what checks keep, and of its scripts."""
     shutil.copytree(TOP / "scripts", room / "scripts", ignore=shutil.ignore_patterns("__pycache__"))
-    shutil.copy(TOP / "crates.txt", room)
     (room / "docs").mkdir()
-    shutil.copy(TOP / "docs" / "proofs.md", room / "docs")
+    for file in ("crates.txt", "docs/proofs.md"):
+        shutil.copy(TOP / file, room / file)
     for part in [*TOP.glob("crates/*/specs"), *TOP.glob("crates/*/src")]:
         shutil.copytree(part, room / part.relative_to(TOP))
-
-
-def try_repository(room):
-    copied(room)
-    status, out, err = run(room, room / "scripts" / "believed")
-    holds("all stand where they belong", (0, True, ""), (status, out.endswith(" 0 failed\n"), err))
-
-
-def try_changes(room):
-    for name, (files, wanted) in CHANGES.items():
-        kept = {room / "crates" / it: (room / "crates" / it).read_text() for it in files}
+    for name, (files, wanted) in {"nothing is changed": ({}, []), **CHANGES}.items():
+        kept = {file: (room / "crates" / file).read_text() for file in files}
         for file, (front, behind) in files.items():
-            text = kept[room / "crates" / file]
-            (room / "crates" / file).write_text(f"{front}{text}{behind}")
+            (room / "crates" / file).write_text(f"{front}{kept[file]}{behind}")
         _, out, _ = run(room, room / "scripts" / "believed")
         told = [it.split(": wanted ")[0] for it in out.splitlines() if ": wanted " in it]
         holds(name, wanted, [it for it in told if not it.startswith("docs/")])
         for file, text in kept.items():
-            file.write_text(text)
+            (room / "crates" / file).write_text(text)
 
 
-TRIALS = [try_repository, try_changes]
+TRIALS = (try_changes,)

@@ -4,9 +4,9 @@ import signal
 import sys
 
 from toolchain import NEWER, OLDER, has_newer
-from tried.calls import run, started, waits_for
-from tried.toys import CRATES, Toy, small_files
-from trials import TOP, holds
+from tried.calls import run, started, stopped, waits_for
+from tried.toys import CRATES, Toy
+from trials import TOP, holds, small_files
 
 BUILT = f"gossip_bench: built for {NEWER if has_newer() else OLDER} processors"
 
@@ -148,24 +148,21 @@ def try_stopping(room):
     """A build that is stopped leaves nothing, and one that is killed nothing that the next one keeps. Two at once build
     once."""
     toy = Toy(room / "stopping")
-    path = f"{toy.kit / 'bin'}:{toy.bare}"
 
     def begun():
-        return started(toy.top, toy.top / "scripts/build", PATH=path, PROVING="until [ -e go ]; do sleep 0.05; done")
+        return started(toy.top, toy.top / "scripts/build", PATH=toy.path,
+                       PROVING="until [ -e go ]; do sleep 0.05; done")
 
     def rooms():
         return [*toy.top.glob("crates/gossip_bench/out/rooms-*")]
 
-    for number in (signal.SIGTERM, signal.SIGINT, signal.SIGHUP):
+    for number in (signal.SIGTERM, signal.SIGINT, signal.SIGHUP, signal.SIGKILL):
         with begun() as process:
             holds("a proof begins", True, waits_for(lambda: toy.proved() == ["low"]))
-            process.send_signal(number)
-            process.communicate(timeout=60)
-        holds(f"{number.name} ends it, and leaves nothing", (-number, []), (process.returncode, rooms()))
-    with begun() as process:
-        holds("a proof begins", True, waits_for(lambda: toy.proved() == ["low"]))
-        process.kill()
-        process.communicate(timeout=60)
+            status, _, _ = stopped(process, number)
+        # (what is killed leaves what the next one removes)
+        if number != signal.SIGKILL:
+            holds(f"{number.name} ends it, and leaves nothing", (-number, []), (status, rooms()))
     (toy.top / "go").touch()
     both = [begun(), begun()]
     holds("two builds at once", [0, 0], [it.wait(timeout=60) for it in both])

@@ -2,7 +2,7 @@
 import hashlib
 import shutil
 
-from tried.calls import COMPARED, TOOLS, gives, program_that, refuses, run
+from tried.calls import COMPARED, gives, program_that, refuses, run
 from trials import PROGRAM, holds
 
 # Two nodes that are apart throughout: each lacks the three keys of the other, since round 1.
@@ -42,7 +42,7 @@ def try_damaged_reports(room):
         report.write_bytes(text)
         beside.unlink() if its_sum is None else beside.write_bytes(its_sum)
         refuses(room, why, "gossip_read", "level", "1", "0", "kept")
-        status, _, err = run(room, TOOLS / "gossip_sweep", *SWEEP, text=APART)
+        status, _, err = run(room, "gossip_sweep", *SWEEP, text=APART)
         holds(f"it is made again where {case}", (0, True, whole, sums),
               (status, f"{NAME} is run again" in err and why in err, report.read_bytes(), beside.read_bytes()))
 
@@ -70,7 +70,7 @@ def try_reports_of_other_runs(room):
         change()
         why = f"{NAME} (its scenario's check sum isn't that of {NAME}.sum)"
         refuses(room, f"1 of 2 runs are missing: {why}. The same sweep makes", "gossip_read", "level", "1", "0", "kept")
-        status, out, err = run(room, TOOLS / "gossip_sweep", *MORE, text=APART)
+        status, out, err = run(room, "gossip_sweep", *MORE, text=APART)
         holds(f"what was {change.__name__} is made again", (0, "2 runs in kept\n", True, before),
               (status, out, err.startswith(f"gossip_sweep: {NAME} is run again, as ") and err.count("\n") == 1 or err,
                {it.name: it.read_bytes() for it in folder.glob("budget-*")}))
@@ -101,22 +101,22 @@ def try_folders_of_before(room):
     (folder / "program").unlink()
     before = times_of(folder)
     holds("only its program is unknown", (0, "1 runs in kept\n", NO_PROGRAM, before),
-          (*run(room, TOOLS / "gossip_sweep", *SWEEP, text=APART), times_of(folder)))
+          (*run(room, "gossip_sweep", *SWEEP, text=APART), times_of(folder)))
     gives(room, told, "gossip_read", "level", "1", "0", "kept")
     for it in folder.glob("*.sum"):
         it.unlink()
     before = times_of(folder)
     holds("it is gone on with", (0, "1 runs in kept\n", OF_BEFORE, before),
-          (*run(room, TOOLS / "gossip_sweep", *SWEEP, text=APART), times_of(folder)))
+          (*run(room, "gossip_sweep", *SWEEP, text=APART), times_of(folder)))
     holds("it is read, and told", (0, told, f"gossip_read: {NO_SUM}"),
-          run(room, TOOLS / "gossip_read", "level", "1", "0", "kept"))
-    status, _, err = run(room, TOOLS / "gossip_sweep", "-o", "kept", "budget=1,2", "mode=precise-newest", text=APART)
+          run(room, "gossip_read", "level", "1", "0", "kept"))
+    status, _, err = run(room, "gossip_sweep", "-o", "kept", "budget=1,2", "mode=precise-newest", text=APART)
     sums = [it.name for it in folder.glob("*.sum")]
     holds("runs that are new have theirs", (0, OF_BEFORE, ["budget-2.mode-precise-newest.sum"], False),
           (status, err, sums, (folder / "program").exists()))
     for it in folder.glob("*.sum"):
         it.unlink()
-    _, _, err = run(room, TOOLS / "gossip_read", "level", "1", "0", "kept")
+    _, _, err = run(room, "gossip_read", "level", "1", "0", "kept")
     holds("of two", "gossip_read: in kept 2 reports have no check sum and are taken as they are.\n", err)
 
 

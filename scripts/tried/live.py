@@ -5,66 +5,33 @@ import os
 import pathlib
 import signal
 import statistics
-import sys
 from concurrent.futures import ThreadPoolExecutor
 
-from tried.calls import TOOLS, fails, is_running, program_that, refuses, run, started, waits_for
+from tried.calls import fails, is_running, program_that, refuses, run, started, stopped, waits_for
 from trials import PROGRAM, holds
-
-sys.path.insert(0, str(TOOLS))
 from gossip_tools import live
 from gossip_tools.live_figures import Figures
 from gossip_tools.live_node import Node, decoded
 from gossip_tools.live_worker import Told, marks_of
-from gossip_tools.scenario import FORMATS, MODES
+from gossip_tools.scenario import FORMATS, MODES, sections, top, written
 
-CLUSTER = """format = 1
-nodes = 16
-keys = 4
-rounds = 30
-seed = 1
-mode = "scuttle-depth"
-budget = 16
-peers = "random"
-rotation = "random"
-choice = "cycle"
-loss_ppm = 0
-writes = 1
-"""
-WRITES_STOP = "[[load]]\nfrom = 16\nto = 100000\nwrites = 0\n"
-RESTARTED = "[[restart]]\nnode = 3\nround = 8\ndown = 4\n"
+CLUSTER = written(top(nodes=16, keys=4, rounds=30, writes=1, loss_ppm=0, entries=16, in_bytes=False))
+WRITES_STOP = sections("load", [{"from": 16, "to": 100000, "writes": 0}])
+RESTARTED = sections("restart", [{"node": 3, "round": 8, "down": 4}])
 HEADER = "round,entries,cut,stale,greatest\n"
 WORTHLESS = 4
-# A budget that cuts, all kinds of mishaps, and no chance but who meets whom and what is lost, which the trace has.
-MISHAPS = """nodes = 12
-keys = 3
-rounds = 24
-seed = 5
-peers = "random"
-rotation = "none"
-choice = "cycle"
-loss_ppm = 100000
-writes = 2
-[[partition]]
-from = 6
-to = 9
-apart = [0, 1, 2, 3, 4]
-[[restart]]
-node = 2
-round = 5
-down = 2
-[[restart]]
-node = 7
-round = 12
-down = 0
-[[load]]
-from = 20
-to = 22
-writes = 0
-"""
-FORGETS = "[[restart]]\nnode = 9\nround = 14\ndown = 1\nforget = true\n"
-# By the format, a budget that cuts, and what only that format has.
-OF_FORMAT = {1: ("budget = 5", ""), 2: ("budget_bytes = 1023", FORGETS)}
+# By the format, a budget that cuts, and restarts that only that format has.
+OF_FORMAT = {1: ({"budget": 5}, []), 2: ({"budget_bytes": 1023}, [{"node": 9, "round": 14, "down": 1, "forget": True}])}
+
+
+def mishaps(mode, form):
+    """A scenario with all kinds of mishaps, and no chance but who meets whom and what is lost, which the trace has."""
+    budget, more = OF_FORMAT[form]
+    fields = {"format": form, "mode": mode, **budget, "nodes": 12, "keys": 3, "rounds": 24, "seed": 5,
+              "peers": "random", "rotation": "none", "choice": "cycle", "loss_ppm": 100000, "writes": 2}
+    restarts = [{"node": 2, "round": 5, "down": 2}, {"node": 7, "round": 12, "down": 0}, *more]
+    return (written(fields) + sections("partition", [{"from": 6, "to": 9, "apart": [0, 1, 2, 3, 4]}]) +
+            sections("restart", restarts) + sections("load", [{"from": 20, "to": 22, "writes": 0}]))
 
 
 def columns(entry):
@@ -129,9 +96,8 @@ def try_following_traces(room):
     the figures are those of the report."""
     for mode in MODES:
         for form in FORMATS:
-            budget, more = OF_FORMAT[form]
-            text = f"format = {form}\nmode = '{mode}'\n{budget}\n{MISHAPS}{more}"
-            replayed = run(room, TOOLS / "replay.py", "run", "--trace", "trace.csv", "--sent", "sent.csv", "--tables",
+            text = mishaps(mode, form)
+            replayed = run(room, "replay.py", "run", "--trace", "trace.csv", "--sent", "sent.csv", "--tables",
                            "tables.csv", text=text)
             follower = Follower(live.plan_of(text, live.told([])))
             follower.follow(list(csv.DictReader(io.StringIO((room / "trace.csv").read_text()))))
@@ -156,7 +122,7 @@ def try_words(room):
     large = CLUSTER.replace("nodes = 16", "nodes = 4000")
     # (19 bytes, 4000 numbers of 12, 16 entries of 24)
     refuses(room, "may take 72019 bytes", "gossip_live", text=large.replace("budget = 16", "budget = 1000"))
-    status, out, err = run(room, TOOLS / "gossip_live", text=CLUSTER.replace("keys = 4", "keys = 0"))
+    status, out, err = run(room, "gossip_live", text=CLUSTER.replace("keys = 4", "keys = 0"))
     holds("a scenario that the program refuses", (1, "", True), (status, out, err.startswith("fault 6: field keys")))
 
 
@@ -164,7 +130,7 @@ def agreed(room, text):
     """The report of a cluster whose writes stop, its rows and its status. A busy machine is given more intervals until
     the copies agree, as long as a minute in all."""
     for rounds in (30, 120, 400):
-        status, out, err = run(room, TOOLS / "gossip_live", "interval=0.1",
+        status, out, err = run(room, "gossip_live", "interval=0.1",
                                text=text.replace("rounds = 30", f"rounds = {rounds}") + WRITES_STOP)
         rows = [[int(it) for it in line.split(",")] for line in out.splitlines()[1:]]
         if rows and not any(rows[-1][3:]):
@@ -204,7 +170,7 @@ def are_plausible(rows, oldest):
 def try_beside(room):
     """Beside the live cluster stand the means of the bench, and the most of `greatest`, under its seeds."""
     text = CLUSTER.replace("rounds = 30", "rounds = 8")
-    status, out, _ = run(room, TOOLS / "gossip_live", "interval=0.1", "beside=3", "window=5", text=text)
+    status, out, _ = run(room, "gossip_live", "interval=0.1", "beside=3", "window=5", text=text)
     header, *rows = csv.reader(io.StringIO(out))
     holds("windows", (True, [["1", "5"], ["6", "8"]]), (status in (0, WORTHLESS), [it[:2] for it in rows]))
     reports = [run(room, PROGRAM, "run", text=text.replace("seed = 1", f"seed = {seed}"))[1] for seed in (1, 2, 3)]
@@ -221,7 +187,7 @@ def try_beside(room):
 def try_slow_machines(room):
     """No machine is fast enough for 1560 exchanges in a hundredth of a second."""
     text = CLUSTER.replace("nodes = 16", "nodes = 40").replace("rounds = 30", "rounds = 3")
-    status, out, err = run(room, TOOLS / "gossip_live", "interval=0.01", "fanout=39", text=text)
+    status, out, err = run(room, "gossip_live", "interval=0.01", "fanout=39", text=text)
     holds("a machine that is too slow", (WORTHLESS, 4, True), (status, out.count("\n"), "figures are worthless" in err))
 
 
@@ -235,20 +201,18 @@ def try_stopping(room):
     """A cluster that is stopped leaves no process, and says so in a sentence."""
     text = CLUSTER.replace("rounds = 30", "rounds = 1000").replace("nodes = 16", "nodes = 40")
     for ends in (signal.SIGINT, signal.SIGTERM, signal.SIGHUP):
-        with started(room, TOOLS / "gossip_live", "interval=0.2", text=text) as process:
+        with started(room, "gossip_live", "interval=0.2", text=text) as process:
             header = wait_for_a_row(process)
             processes = children(process.pid)
-            process.send_signal(ends)
-            _, err = process.communicate(timeout=60)
+            status, _, err = stopped(process, ends)
         holds(f"{ends.name}", (128 + ends, HEADER, 2, f"gossip_live: stopped by {ends.name}.\n", []),
-              (process.returncode, header, len(processes), err, [it for it in processes if is_running(it)]))
-    with started(room, TOOLS / "gossip_live", "interval=0.2", text=text) as process:
+              (status, header, len(processes), err, [it for it in processes if is_running(it)]))
+    with started(room, "gossip_live", "interval=0.2", text=text) as process:
         wait_for_a_row(process)
         processes = children(process.pid)
-        process.kill()
-        process.communicate(timeout=60)
+        stopped(process, signal.SIGKILL)
     holds("what a cluster that was killed leaves", True, waits_for(lambda: not any(map(is_running, processes))))
-    with started(room, TOOLS / "gossip_live", "interval=0.2", text=text) as process:
+    with started(room, "gossip_live", "interval=0.2", text=text) as process:
         wait_for_a_row(process)
         os.kill(children(process.pid)[0], signal.SIGKILL)
         _, err = process.communicate(timeout=60)
@@ -260,7 +224,7 @@ def try_faults(room):
     """What can't be written, or isn't printed by the program, is told in a sentence."""
     with open("/dev/full", "w") as full:
         fails(room, "No space left on device", 1, "gossip_live", "interval=0.1", text=CLUSTER, out=full)
-    with started(room, TOOLS / "gossip_live", "interval=0.1", text=CLUSTER) as process:
+    with started(room, "gossip_live", "interval=0.1", text=CLUSTER) as process:
         process.stdout.readline()
         process.stdout.close()
         holds("a reader that has ended", (1, "gossip_live: nobody reads the output any more.\n"),

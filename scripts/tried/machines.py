@@ -6,7 +6,7 @@ import shutil
 import signal
 
 from tried.calls import (
-    COMPARED, LACKING, TOOLS, fails, gives, is_running, program_that, refuses, started, waits_for, written,
+    COMPARED, LACKING, fails, gives, is_running, program_that, refuses, started, stopped, waits_for, written,
 )
 from trials import PROGRAM, holds
 
@@ -65,13 +65,12 @@ def try_ends(room, sweep, far):
     """A sweep that is stopped or killed leaves no run, here or on another machine."""
     hanging = program_that(room, "hanging", "echo $$ >>pids\nexec sleep 60")
     for number, ends in ((signal.SIGTERM, (143, True)), (signal.SIGKILL, (-9, False))):
-        with started(room, TOOLS / "gossip_sweep", "-o", "stopped", *sweep, text=COMPARED, HOSTS=":,alpha", **far,
+        with started(room, "gossip_sweep", "-o", "stopped", *sweep, text=COMPARED, HOSTS=":,alpha", **far,
                      GOSSIP_BENCH=hanging) as process:
             holds("runs begin on machines", True, waits_for(lambda: len(list(room.glob("**/pids"))) == 2))
-            process.send_signal(number)
-            out, err = process.communicate(timeout=60)
+            status, out, err = stopped(process, number)
         holds(f"machines after {number.name}", (*ends, ""),
-              (process.returncode, "0 of 16 runs stand in stopped" in err, out))
+              (status, "0 of 16 runs stand in stopped" in err, out))
         holds(f"nothing runs there after {number.name}", True, waits_for(lambda: not running_at(far["HOME"]), 30))
         for it in running_at(far["HOME"]):
             os.kill(int(it), signal.SIGKILL)
@@ -93,12 +92,11 @@ def try_first_starts(room, sweep, far):
         # (another program may come next, as none is kept of which nothing was run)
         refuses(room, why, "gossip_advise", "-o", "never advised", "nodes=8", "keys=2", "writes=1", "entry=40",
                 "packet=4000", **how)
-    with started(room, TOOLS / "gossip_sweep", "-o", "never", *sweep, text=COMPARED, HOSTS=":,slow", **far) as process:
+    with started(room, "gossip_sweep", "-o", "never", *sweep, text=COMPARED, HOSTS=":,slow", **far) as process:
         holds("a first start begins", True, waits_for(lambda: (room / "home" / "slow").exists()))
-        process.terminate()
-        out, err = process.communicate(timeout=60)
+        status, out, err = stopped(process, signal.SIGTERM)
     pid = (room / "home" / "slow").read_text()
-    holds("a first start is stopped", (143, "", True), (process.returncode, out, "0 of 16 runs stand" in err or err))
+    holds("a first start is stopped", (143, "", True), (status, out, "0 of 16 runs stand" in err or err))
     holds("and leaves no ssh", True, waits_for(lambda: not is_running(int(pid)), 2))
     holds("nothing is run where a machine can't", [], [*room.glob("never*/**/*.csv"), *room.glob("never*/**/.*.part")])
 

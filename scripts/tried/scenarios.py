@@ -1,5 +1,5 @@
 """Trials of gossip_scenario."""
-from tried.calls import TOOLS, refuse, run
+from tried.calls import refuse, run
 from trials import PROGRAM, holds
 
 BUT_NODES = "keys=4 writes=1 entry=40"
@@ -63,7 +63,7 @@ nodes=4096 keys=17 writes=1 entry=1 packet=9 -> nodes * nodes * keys
 
 
 def fields(room, words):
-    status, out, err = run(room, TOOLS / "gossip_scenario", *words.split())
+    status, out, err = run(room, "gossip_scenario", *words.split())
     holds(f"gossip_scenario {words}", (0, ""), (status, err))
     return dict(it.split(" = ") for it in out.splitlines() if not it.startswith("#"))
 
@@ -78,12 +78,12 @@ def try_fields(room):
 
 def try_what_is_printed(room):
     """Beside the fields it says what was given, and the program takes all of it."""
-    _, said, _ = run(room, TOOLS / "gossip_scenario", *MEAN.split(), "count=bytes")
+    _, said, _ = run(room, "gossip_scenario", *MEAN.split(), "count=bytes")
     lines = "# 60750 bytes for a delta are 1500 entries of 40.5 bytes.\n", "# budget_bytes = 60750 / 40.5 * 523.5."
     holds("it is told as it was given", (True, True), tuple(it in said for it in lines))
     # (with three calls sixty intervals are 180 rounds)
     for more, rounds, loads in (("count=bytes", 60, 0), ("count=entries", 60, 0), ("fanout=3", 180, 60)):
-        _, printed, _ = run(room, TOOLS / "gossip_scenario", *SHARED.split(), more)
+        _, printed, _ = run(room, "gossip_scenario", *SHARED.split(), more)
         holds(f"with {more} it is accepted", (f"rounds = {rounds}\n" in printed, loads, (0, "ok\n", "")),
               (True, printed.count("[[load]]"), run(room, PROGRAM, "check", text=printed)))
 

@@ -1,5 +1,5 @@
 """Trials of gossip_restarts and gossip_apart."""
-from tried.calls import TOOLS, gives, refuse, run
+from tried.calls import gives, refuse, run
 from trials import holds
 
 # (the limits are those of docs/formats.md)
@@ -50,7 +50,7 @@ def try_sections(room):
     for words, first, last, apart in (("8 10 2 3", 2, 3, "8, 9, 10"), ("4095 4095 1 100000", 1, 100000, "4095")):
         gives(room, f"[[partition]]\nfrom = {first}\nto = {last}\napart = [\n    {apart},\n]\n", "gossip_apart",
               *words.split())
-    _, printed, _ = run(room, TOOLS / "gossip_restarts", "7", "1", "1", "1000", "0")
+    _, printed, _ = run(room, "gossip_restarts", "7", "1", "1", "1000", "0")
     holds("1000 restarts", 1000, printed.count("[[restart]]"))
     refuse(room, REFUSED)
 

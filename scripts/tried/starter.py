@@ -2,9 +2,9 @@
 import os
 import shutil
 
-from tried.calls import run
-from tried.toys import LONG_AGO, Toy, small_files
-from trials import holds
+from tried.calls import run, written
+from tried.toys import LONG_AGO, Toy
+from trials import holds, small_files
 
 BUILDING = "gossip_bench: building. The first build proves everything and takes minutes.\n"
 TUNABLES = "glibc.malloc.hugetlb=1"
@@ -12,19 +12,24 @@ TUNABLES = "glibc.malloc.hugetlb=1"
 
 def starts(name, toy, *words, builds=False, **how):
     """The program starts with these words and this input, and was built first or not."""
-    text = "".join(f"{it}\n" for it in ("nodes = 2", "keys = 1"))
+    text = "nodes = 2\nkeys = 1\n"
     printed = f"{' '.join(words)} {TUNABLES}\n{text}"
     status, out, err = toy.call("gossip_bench", *words, text=text, **how)
     holds(name, (0, printed, BUILDING if builds else ""), (status, out[-len(printed):], err[:len(BUILDING)]))
 
 
+def built(room):
+    toy = Toy(room)
+    starts("a first call", toy, "run", "--workers", "2", builds=True)
+    return toy
+
+
 def try_building(room):
     """It builds where there is no program yet, where a source was changed, and where the program was."""
-    toy = Toy(room / "built")
-    status, out, err = toy.call("gossip_bench", "run", with_rt=False)
+    status, out, err = Toy(room / "unbuilt").call("gossip_bench", "run", with_rt=False)
     holds("no toolchain and no program", (3, "", True, 1), (status, out, "rt of the Rattle toolchain" in err,
                                                             err.count("\n")))
-    starts("a first call", toy, "run", "--workers", "2", builds=True)
+    toy = built(room / "built")
     starts("a second call", toy, "check", with_rt=False)
     toy.source("low").touch()
     starts("a source with another time", toy, "check", with_rt=False)
@@ -36,16 +41,15 @@ def try_building(room):
     (toy.top / "crates/right/proofs").mkdir()
     (toy.top / "crates/right/proofs/A.antt").write_text("a = b\n")
     starts("a source more", toy, "run", builds=True)
-    text = toy.source("left").read_text()
-    time = toy.source("left").stat().st_mtime_ns
-    toy.source("left").write_text(text.replace("fn left", "fn lest"))
-    os.utime(toy.source("left"), ns=(time, time))
+    source = toy.source("left")
+    time = source.stat().st_mtime_ns
+    source.write_text(source.read_text().replace("fn left", "fn lest"))
+    os.utime(source, ns=(time, time))
     starts("another text of the same size and time", toy, "run", builds=True)
     toy.program.write_text("#!/bin/sh\necho another\n")
     starts("another program", toy, "run", builds=True)
     toy.copy(room / "a copy")
     starts("a copy with older times", toy, "run", with_rt=False)
-    os.utime(toy.source("low"), (LONG_AGO - 1, LONG_AGO - 1))
     toy.add("low", "// older")
     os.utime(toy.source("low"), (LONG_AGO - 1, LONG_AGO - 1))
     starts("another text with an older time", toy, "run", builds=True)
@@ -53,41 +57,30 @@ def try_building(room):
 
 def try_calling(room):
     """It can be called from anywhere, by links, and passes on its words, its streams and its status."""
-    toy = Toy(room / "called")
-    starts("a first call", toy, "run", builds=True)
-    elsewhere = room / "elsewhere"
+    toy, elsewhere = built(room / "called"), room / "elsewhere"
     elsewhere.mkdir()
     starts("another folder", toy, "run", room=elsewhere, CDPATH=str(toy.top))
     (elsewhere / "absolute").symlink_to(toy.top / "gossip_bench")
     (elsewhere / "link").symlink_to("absolute")
-    path = f"{toy.bare}"
-    holds("links", (0, f"a b 'c' {TUNABLES}\n", ""), last_of(run(room, elsewhere / "link", "a b", "'c'", PATH=path)))
-    holds("what the caller says of memory", (0, "run \n", ""),
-          last_of(toy.call("gossip_bench", "run", with_rt=False, GLIBC_TUNABLES="")))
+    status, out, err = run(room, elsewhere / "link", "a b", "'c'", PATH=str(toy.bare))
+    holds("links", (0, [f"a b 'c' {TUNABLES}"], ""), (status, out.splitlines()[-1:], err))
+    status, out, err = toy.call("gossip_bench", "run", with_rt=False, GLIBC_TUNABLES="")
+    holds("what the caller says of memory", (0, ["run "], ""), (status, out.splitlines()[-1:], err))
     toy.program.write_text("#!/bin/sh\ncat >&2\nexit 1\n")
     (toy.top / "scripts/build").write_text("#!/bin/sh\n")
-    status, out, err = toy.call("gossip_bench", "run", text="a fault")
-    holds("status and standard error", (1, "", f"{BUILDING}a fault"), (status, out, err))
-    holds("once more", (1, "", "a fault"), toy.call("gossip_bench", "run", text="a fault"))
+    for name, said in (("status and standard error", BUILDING), ("once more", "")):
+        holds(name, (1, "", f"{said}a fault"), toy.call("gossip_bench", "run", text="a fault"))
     # (a stream that the caller has closed stays closed)
     toy.program.write_text("#!/bin/sh\nfor it in 0 1 2; do [ -e /proc/$$/fd/$it ] || exit 7; done\n")
     toy.call("gossip_bench")
     for closed, status in (("", 0), (">&-", 7), ("<&-", 7), ("<&- >&- 2>&-", 7)):
-        script = room / "closes"
-        script.write_text(f'#!/bin/sh\nexec "{toy.top}/gossip_bench" {closed}\n')
-        script.chmod(0o755)
-        holds(f"streams {closed}", (status, "", ""), run(room, script, PATH=f"{toy.kit / 'bin'}:{toy.bare}"))
-
-
-def last_of(ran):
-    status, out, err = ran
-    return status, "".join(out.splitlines(keepends=True)[-1:]), err
+        written(room / "closes", f'#!/bin/sh\nexec "{toy.top}/gossip_bench" {closed}\n')
+        holds(f"streams {closed}", (status, "", ""), run(room, room / "closes", PATH=toy.path))
 
 
 def try_failing(room):
     """Where the build fails nothing is run."""
-    toy = Toy(room / "failing")
-    starts("a first call", toy, "run", builds=True)
+    toy = built(room / "failing")
     toy.add("left", "// WRONG")
     status, out, err = toy.call("gossip_bench", "run")
     holds("a build that fails", (3, "", "gossip_bench: the build failed, so nothing was run"),
@@ -96,9 +89,8 @@ def try_failing(room):
     starts("the former text", toy, "run", with_rt=False)
     toy.program.unlink()
     (toy.top / "scripts/build").write_text("#!/bin/sh\n")
-    status, out, err = toy.call("gossip_bench", "run")
     why = f"{BUILDING}gossip_bench: the build left no program, so nothing was run\n"
-    holds("a build that leaves no program", (3, "", why), (status, out, err))
+    holds("a build that leaves no program", (3, "", why), toy.call("gossip_bench", "run"))
 
 
 def try_full_disks(room):
@@ -109,15 +101,15 @@ def try_full_disks(room):
     holds("no room for a build", (3, "", ["gossip_bench: the build failed, so nothing was run"], True),
           (status, out, said[1:], said[0].endswith("File too large.")))
     starts("with room", toy, "run", builds=True)
-    kept = {name: (toy.program.parent / name).read_bytes() for name in ("seen", "built_from")}
+    kept = {it: it.read_bytes() for it in (toy.program.with_name(name) for name in ("seen", "built_from"))}
     shutil.copy(toy.source("low"), room / "low")
     (room / "low").replace(toy.source("low"))
-    for place in range(2):
+    for _ in range(2):
         status, out, err = toy.call("gossip_bench", "run", text="nodes = 2\n", before=small_files(20))
         holds("no room for times", (0, "nodes = 2", 1, True), (status, out.splitlines()[-1], err.count("\n"),
                                                              err.startswith("gossip_bench: ")))
     holds("what was noted stays, and nothing is left", (kept, []),
-          ({name: (toy.program.parent / name).read_bytes() for name in kept}, [*toy.program.parent.glob("seen.*")]))
+          ({it: it.read_bytes() for it in kept}, [*toy.program.parent.glob("seen.*")]))
     starts("with room again", toy, "run")
     starts("and at once then", toy, "run")
 

@@ -1,23 +1,24 @@
 """Trials of all tools with streams that are closed or full, and with Ctrl-C while they load."""
 import itertools
 import os
+import pathlib
 import pty
 import re
 import signal
 
 import installed
-from tried.calls import COMPARED, GUIDE, SMALL, TOOLS, place, program_that, run, started, waits_for, written
+from tried.calls import COMPARED, GUIDE, TOOLS, program_that, run, started, stopped, waits_for, written
+from tried.disks import TEXTS
 from trials import PROGRAM, holds
 
 INPUT, OUTPUT, ERROR = range(3)
 CLUSTER = ("nodes=8", "keys=1", "writes=1", "entry=40", "packet=4000", "split=0", "restarts=0")
-TRACES = (str(SMALL / "two_nodes.report.csv"), str(SMALL / "two_nodes.trace.csv"))
 # Calls that print something.
 CALLS = {
     "gossip_sweep": ("budget=1",), "gossip_read": ("window", "1", "2", "runs"), "gossip_scenario": CLUSTER[:5],
     "gossip_advise": ("-o", "advice", *CLUSTER), "gossip_restarts": ("3", "1", "1", "1", "0"),
     "gossip_apart": ("1", "2", "3", "4"), "replay.py": ("run", "--trace", "trace.csv", "--tables", "tables.csv"),
-    "check_trace.py": TRACES,
+    "check_trace.py": TEXTS,
 }
 READS_INPUT = {"gossip_sweep", "replay.py"}
 # All that are called as programs, with a module of Python's own that they load.
@@ -40,17 +41,16 @@ def differ(kept, found):
 def try_closed_streams(room):
     """A tool whose stream is closed says so in a sentence where it can, and ends with another status than 0, but where
     it has nothing to read or to print there. No file gets what was meant for a stream."""
-    for script, words in CALLS.items():
-        _, printed, _ = run(room, place(script), *words, text=COMPARED)
-        kept = files_of(room)
+    for script, words in (*CALLS.items(), *((it, ("--help",)) for it in LOADED)):
+        _, printed, _ = run(room, script, *words, text=COMPARED)
+        kept, name = files_of(room), pathlib.Path(script).name
         for closed in SUBSETS:
-            status, out, err = run(room, place(script), *words, text=COMPARED,
-                                   before=lambda: [os.close(it) for it in closed])
+            status, out, err = run(room, script, *words, text=COMPARED, before=lambda: [*map(os.close, closed)])
             fails = OUTPUT in closed or INPUT in closed and script in READS_INPUT
-            says_why = re.search(rf"^{script}: .*it is closed\.\n\Z", err, re.MULTILINE) and "Traceback" not in err
-            holds(f"{script} with {closed} closed", (fails, "" if fails else printed, fails and ERROR not in closed),
-                  (bool(status), out, bool(says_why)))
-            holds(f"the files of {script} with {closed} closed", [], differ(kept, files_of(room)))
+            says_why = re.search(rf"^{name}: .*it is closed\.\n\Z", err, re.MULTILINE) and "Traceback" not in err
+            holds(f"{name} {words} with {closed} closed",
+                  (fails, "" if fails else printed, fails and ERROR not in closed), (bool(status), out, bool(says_why)))
+            holds(f"the files of {name} with {closed} closed", [], differ(kept, files_of(room)))
 
 
 def try_folders(room):
@@ -64,18 +64,18 @@ def try_folders(room):
 
 def try_full_errors(room):
     """What can't be said on standard error ends no work, and changes no status."""
-    run(room, TOOLS / "gossip_sweep", "budget=1", text=COMPARED)
+    run(room, "gossip_sweep", "budget=1", text=COMPARED)
     kept = files_of(room)
     report = next(room.glob("runs/*.csv"))
     report.write_bytes(b"")
     with open("/dev/full", "w") as full:
         holds("a report is made again", (0, "4 runs in runs\n", kept), (
-            *run(room, TOOLS / "gossip_sweep", "budget=1", text=COMPARED, err=full)[:2], files_of(room)))
-        status, out, _ = run(room, TOOLS / "gossip_advise", *CLUSTER, err=full)
+            *run(room, "gossip_sweep", "budget=1", text=COMPARED, err=full)[:2], files_of(room)))
+        status, out, _ = run(room, "gossip_advise", *CLUSTER, err=full)
         holds("an answer", (0, True), (status, "\nTake scuttle-depth " in out))
         for script, status, words in (("gossip_read", 2, ("window", "1", "3", "runs")), ("replay.py", 1, ("check",)),
                                       ("replay.py", 2, ("walk",)), ("check_trace.py", 2, ())):
-            holds(f"{script} {words}", (status, ""), run(room, place(script), *words, err=full)[:2])
+            holds(f"{script} {words}", (status, ""), run(room, script, *words, err=full)[:2])
 
 
 def try_readers_that_are_gone(room):
@@ -85,7 +85,7 @@ def try_readers_that_are_gone(room):
         reader, writer = os.pipe()
         os.close(reader)
         with open(writer, "w") as gone:
-            status, _, err = run(room, place(script), *words, text=COMPARED, out=gone)
+            status, _, err = run(room, script, *words, text=COMPARED, out=gone)
         holds(f"{script} without a reader", (2 if script == "check_trace.py" else 1,
                                              [f"{script}: nobody reads the output any more."]),
               (status, err.splitlines()[-1:]))
@@ -95,7 +95,7 @@ def try_lost_terminals(room):
     """A terminal that goes away while a sweep shows its progress there."""
     waiting = program_that(room, "waiting", f'until [ -e go ]; do sleep 0.05; done\nexec "{PROGRAM}" run')
     terminal, shown = pty.openpty()
-    with started(room, TOOLS / "gossip_sweep", "-o", "lost", "budget=1", text=COMPARED, GOSSIP_BENCH=waiting,
+    with started(room, "gossip_sweep", "-o", "lost", "budget=1", text=COMPARED, GOSSIP_BENCH=waiting,
                  err=shown) as process:
         os.close(shown)
         holds("progress is shown", True, b"0 of 4 runs" in os.read(terminal, 1000))
@@ -105,14 +105,6 @@ def try_lost_terminals(room):
     holds("the sweep goes on", (0, "4 runs in lost\n"), (process.returncode, out))
 
 
-def try_help(room):
-    """The help of each tool with streams that are closed."""
-    for tool, closed in itertools.product(LOADED, SUBSETS):
-        status, _, err = run(room, tool, "--help", before=lambda: [os.close(it) for it in closed])
-        wanted = (OUTPUT in closed, OUTPUT in closed and ERROR not in closed)
-        holds(f"{tool.name} --help with {closed} closed", wanted, (bool(status), err.endswith(": it is closed.\n")))
-
-
 def try_interrupts(room):
     """Ctrl-C while modules are loaded ends a tool without a word."""
     for tool, module in LOADED.items():
@@ -120,10 +112,8 @@ def try_interrupts(room):
         written(late / f"{module}.py", f"import os, time\nopen({str(loading)!r}, 'w').close()\ntime.sleep(60)\n")
         with started(room, tool, "--help", PYTHONPATH=str(late)) as process:
             holds(f"{tool.name} loads", True, waits_for(loading.exists))
-            process.send_signal(signal.SIGINT)
-            ended = *process.communicate(timeout=60), process.returncode
-        holds(f"{tool.name} is interrupted", ("", "", -signal.SIGINT), ended)
+            holds(f"{tool.name} is interrupted", (-signal.SIGINT, "", ""), stopped(process, signal.SIGINT))
 
 
-TRIALS = (try_closed_streams, try_folders, try_help, try_full_errors, try_readers_that_are_gone, try_lost_terminals,
+TRIALS = (try_closed_streams, try_folders, try_full_errors, try_readers_that_are_gone, try_lost_terminals,
           try_interrupts)

@@ -2,12 +2,11 @@
 import os
 import resource
 import signal
-import subprocess
 import time
 
 from tried.calls import (
-    COMPARED, HEADER, LACKING, SMALL, TOOLS, fails, gives, is_running, program_that, refuse, refuses, run,
-    started, takes_signal, waits_for, written,
+    COMPARED, HEADER, LACKING, SMALL, fails, gives, is_running, program_that, refuse, refuses, run, started, stopped,
+    takes_signal, waits_for, written,
 )
 from trials import PROGRAM, TOP, holds
 
@@ -50,7 +49,7 @@ def try_words_of_sweeps(room):
     refuses(room, "the scenario is empty", "gossip_sweep", "seed=1")
     fails(room, f"answer to mode-{'x' * 55}.., so nothing was run.", 1, "gossip_sweep", f"mode={LONG}", text=COMPARED)
     for words, text, fault in FAULTS:
-        status, out, err = run(room, TOOLS / "gossip_sweep", words, text=text)
+        status, out, err = run(room, "gossip_sweep", words, text=text)
         holds(f"sweep of {words}", (1, "", True), (status, out, err.startswith(fault)))
     holds("no runs are left", False, (room / "runs").exists())
 
@@ -174,12 +173,12 @@ def try_missing(room):
     for why, text in damaged.items():
         report.write_bytes(text)
         refuses(room, f"1 of 4 runs are missing: {name} ({why.strip()}", "gossip_read", "level", "1", "0", "missing")
-        status, out, err = run(room, TOOLS / "gossip_sweep", *sweep, text=COMPARED)
+        status, out, err = run(room, "gossip_sweep", *sweep, text=COMPARED)
         holds(f"made again: {why}", (0, "4 runs in missing\n", True, whole),
               (status, out, why.strip() in err and name in err, report.read_text()))
     report.unlink()
     refuses(room, f"{name} (it isn't there)", "gossip_read", "level", "1", "0", "missing")
-    status, out, err = run(room, TOOLS / "gossip_read", "level", "1", "0", "missing", "--partial")
+    status, out, err = run(room, "gossip_read", "level", "1", "0", "missing", "--partial")
     # (with room for two each way, two exchanges of a round bring the three writes)
     holds("what is there is read", (0, "budget,mode,round,took\n1,scuttle-depth,2,2\n2,scuttle-depth,1,1\n"
           "2,precise-newest,1,1\n", True), (status, out, name in err))
@@ -192,13 +191,13 @@ def try_sweeps_at_once(room):
     """While a sweep works in a folder no other one does, be it the same or one of another scenario."""
     waiting = program_that(room, "waiting", f'until [ -e go ]; do sleep 0.05; done\nexec "{PROGRAM}" run')
     sweep, another = ("-o", "at_once", "budget=1"), COMPARED.replace("keys = 3", "keys = 2")
-    with started(room, TOOLS / "gossip_sweep", *sweep, text=COMPARED, GOSSIP_BENCH=waiting) as first:
+    with started(room, "gossip_sweep", *sweep, text=COMPARED, GOSSIP_BENCH=waiting) as first:
         holds("a sweep begins", True, waits_for(lambda: list(room.glob("at_once/.*.part"))))
         refuses(room, f"at_once is in use by process {first.pid} on", "gossip_sweep", *sweep, text=COMPARED)
         refuses(room, "has runs of another scenario", "gossip_sweep", *sweep, text=another)
         (room / "go").touch()
         holds("the first of two sweeps", ("4 runs in at_once\n", ""), first.communicate(timeout=60))
-    both = [started(room, TOOLS / "gossip_sweep", "-o", "new", "seed=1,2,3", text=it) for it in (COMPARED, another)]
+    both = [started(room, "gossip_sweep", "-o", "new", "seed=1,2,3", text=it) for it in (COMPARED, another)]
     ended = [(it.communicate(timeout=60), it.returncode) for it in both]
     texts = [it.read_text() for it in room.glob("new/*.toml")]
     holds("of two sweeps of different scenarios at once one is carried out", ([0, 2], True),
@@ -208,42 +207,34 @@ def try_sweeps_at_once(room):
 def try_stopping(room):
     """A sweep that is stopped leaves no process and no half of a report, says what stands, and can be gone on with."""
     sweep = ("-o", "stopped", "budget=1")
-    name = "budget-1.mode-scuttle-breadth"
     pids = room / "hanging.pids"
     hanging = program_that(room, "hanging", 'echo half\nsleep 60 &\necho $! >>hanging.pids\nwait')
-    for ends in (signal.SIGTERM, signal.SIGINT, signal.SIGHUP):
+    says = ("gossip_sweep: stopped by {}, which loses the runs under way. 0 of 4 runs stand in stopped; the same "
+            "command goes on from there.\n")
+    for ends, status, said in (*((it, 128 + it, says.format(it.name)) for it in (
+            signal.SIGTERM, signal.SIGINT, signal.SIGHUP)), (signal.SIGKILL, -signal.SIGKILL, "")):
         pids.unlink(missing_ok=True)
-        with started(room, TOOLS / "gossip_sweep", *sweep, text=COMPARED, GOSSIP_BENCH=hanging) as process:
+        with started(room, "gossip_sweep", *sweep, text=COMPARED, GOSSIP_BENCH=hanging) as process:
             waits_for(lambda: pids.exists() and len(pids.read_text().split()) == 2)
             began = time.monotonic()
-            process.send_signal(ends)
-            out, err = process.communicate(timeout=60)
-        is_prompt = time.monotonic() - began < 3
+            outcome = stopped(process, ends)
+            is_prompt = time.monotonic() - began < 3
         runs = [int(it) for it in pids.read_text().split()]
+        holds(f"{ends.name}", (status, "", said, True), (*outcome, is_prompt))
         # (what was killed may have to wait for a processor to end)
-        waits_for(lambda: not any(map(is_running, runs)))
-        holds(f"{ends.name}", (128 + ends, "", True, []),
-              (process.returncode, out, is_prompt, [it for it in runs if is_running(it)]))
-        holds(f"what it says after {ends.name}", f"gossip_sweep: stopped by {ends.name}, which loses the runs under "
-              "way. 0 of 4 runs stand in stopped; the same command goes on from there.\n", err)
-        holds(f"what {ends.name} leaves", ([], []),
-              (list(room.glob("stopped/.*.part")), list(room.glob("stopped/*.csv"))))
-    pids.unlink()
-    streams = dict.fromkeys(("stdin", "stdout", "stderr"), subprocess.PIPE)
-    with subprocess.Popen([TOOLS / "gossip_sweep", *sweep], text=True, cwd=room, **streams,
-                          env={**os.environ, "GOSSIP_BENCH": PROGRAM}) as process:
-        # (it waits for its scenario)
+        holds(f"{ends.name} ends the runs too, with what they have started", True,
+              waits_for(lambda: not any(map(is_running, runs)), 5))
+        # (parts that are left go with the next sweep)
+        parts = [] if ends == signal.SIGKILL else list(room.glob("stopped/.*.part"))
+        holds(f"what {ends.name} leaves", ([], []), (parts, list(room.glob("stopped/*.csv"))))
+    # (it waits for its scenario)
+    reader, writer = os.pipe()
+    with started(room, "gossip_sweep", *sweep, given=reader) as process:
         waits_for(lambda: takes_signal(process.pid, signal.SIGTERM))
-        process.send_signal(signal.SIGINT)
-        ended = process.wait(timeout=60), process.stdout.read(), process.stderr.read()
-    holds("a sweep without a scenario", (130, "", "gossip_sweep: stopped by SIGINT.\n"), ended)
-    with started(room, TOOLS / "gossip_sweep", *sweep, text=COMPARED, GOSSIP_BENCH=hanging) as process:
-        holds("a run begins", True, waits_for(lambda: pids.exists() and len(pids.read_text().split()) == 2))
-        process.kill()
-        process.communicate(timeout=60)
-    runs = [int(it) for it in pids.read_text().split()]
-    holds("the runs of a sweep that was killed end too, with what they have started", True,
-          waits_for(lambda: not any(map(is_running, runs)), 5))
+        holds("a sweep without a scenario", (130, "", "gossip_sweep: stopped by SIGINT.\n"),
+              stopped(process, signal.SIGINT))
+    os.close(reader)
+    os.close(writer)
     gives(room, "4 runs in stopped\n", "gossip_sweep", *sweep, text=COMPARED)
     for it in filter(is_running, runs):
         os.kill(it, signal.SIGKILL)
@@ -283,12 +274,12 @@ def try_lasting_faults(room):
         kept = (room / "taken" / name).rename(room / "aside")
         (room / "taken" / name).mkdir()
         holds(f"a folder in the place of {name}", (1, "", f"gossip_sweep: taken/{name}: Is a directory. {stand} of 4 "
-              "runs stand in taken.\n"), run(room, TOOLS / "gossip_sweep", *sweep, text=COMPARED))
+              "runs stand in taken.\n"), run(room, "gossip_sweep", *sweep, text=COMPARED))
         (room / "taken" / name).rmdir()
         kept.rename(room / "taken" / name)
     name = "x" * 5000
     holds("a name that is too long", (1, "", f"gossip_sweep: {'x' * 60}..: File name too long.\n"),
-          run(room, TOOLS / "gossip_sweep", "-o", name, "budget=1", text=COMPARED))
+          run(room, "gossip_sweep", "-o", name, "budget=1", text=COMPARED))
 
 
 TRIALS = (try_words_of_sweeps, try_variables, try_long_scenarios, try_runs, try_other_folders, try_what_is_kept,

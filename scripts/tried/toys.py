@@ -1,10 +1,7 @@
 """A small repository for trials of scripts/build and ./gossip_bench, with a toolchain that proves nothing."""
 import os
 import re
-import resource
 import shutil
-import signal
-from pathlib import Path
 
 from tried.calls import run, written
 from trials import TOP
@@ -16,14 +13,6 @@ COMMANDS = ("sh", "env", "python3", "find", "cksum", "sort", "cat", "dirname", "
 LONG_AGO = 1_000_000_000
 # What is said of a proof that takes long, as each may on a busy machine.
 PROGRESS = re.compile(r"^gossip_bench: (still )?proving .*\n", re.MULTILINE)
-
-
-def small_files(most):
-    def limit():
-        # (a write fails then, and the signal that comes with it doesn't end the process)
-        signal.signal(signal.SIGXFSZ, signal.SIG_IGN)
-        resource.setrlimit(resource.RLIMIT_FSIZE, (most, most))
-    return limit
 
 
 class Toy:
@@ -48,6 +37,10 @@ class Toy:
             self.source(name).write_text(f"// {name}\npub fn {name}()\n")
 
     @property
+    def path(self):
+        return f"{self.kit / 'bin'}:{self.bare}"
+
+    @property
     def program(self):
         return self.top / "crates/gossip_bench/out/gossip_bench"
 
@@ -66,7 +59,7 @@ class Toy:
         return names
 
     def call_and_hear(self, name, *words, with_rt=True, **how):
-        path = f"{self.kit / 'bin'}:{self.bare}" if with_rt else str(self.bare)
+        path = self.path if with_rt else str(self.bare)
         return run(how.pop("room", self.top), self.top / name, *words, PATH=path, **how)
 
     def call(self, name, *words, **how):

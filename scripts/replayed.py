@@ -2,14 +2,11 @@
 and the trials of laws, by kinds. REPLAY names another replay.py."""
 import csv
 import os
-import pathlib
-import subprocess
 import sys
-import tempfile
 from collections import Counter, defaultdict
 
 import trials
-from trials import TOP
+from trials import TOP, Room
 from gossip_tools import scenario
 
 REPLAY = os.environ.get("REPLAY", TOP / "tools" / "replay.py")
@@ -67,12 +64,12 @@ class Run:
         return scenario.written(self.fields) + "".join(arrays)
 
     def replay(self):
-        with tempfile.TemporaryDirectory() as room:
-            files = [pathlib.Path(room, name) for name in ("trace", "tables")]
-            words = ["run", "--trace", files[0], "--tables", files[1]]
-            done = subprocess.run([sys.executable, REPLAY, *words], input=self.text(), capture_output=True, text=True,
-                                  check=True)
-            texts = [done.stdout, *(it.read_text() for it in files)]
+        with Room() as room:
+            words = ["run", "--trace", room / "trace", "--tables", room / "tables"]
+            status, out, err = trials.ran(sys.executable, REPLAY, *words, given=self.text())
+            if status:
+                sys.exit(err)
+            texts = out, (room / "trace").read_text(), (room / "tables").read_text()
         report, trace, tables = (csv.DictReader(it.splitlines()) for it in texts)
         self.rows = {int(it["round"]): {name: int(value) for name, value in it.items()} for it in report}
         self.exchanges, self.held = defaultdict(list), defaultdict(lambda: defaultdict(dict))
@@ -97,3 +94,26 @@ class Run:
 
     def has_split(self, round):
         return any(it["from"] <= round <= it["to"] for it in self.partition)
+
+
+def drawn(chance, format, most_nodes, most_keys):
+    """A small scenario with what mishaps chance brings, and without a budget."""
+    nodes, rounds = chance.randint(2, most_nodes), chance.choice((1, 2, 4, 6, 7, 8, 8))
+    run = Run(**drawn_words(chance), format=format, nodes=nodes, keys=chance.randint(1, most_keys), rounds=rounds,
+              seed=chance.choice((0, 1, chance.randrange(2**32), chance.randrange(2**63))),
+              writes=chance.choice((0, 1, 1, 2, 3, 8)),
+              loss_ppm=chance.choice((0, 0, 0, 10000, 300000, chance.randint(0, 1000000))))
+    for _ in range(chance.choice((0, 0, 1, 3))):
+        first, apart = chance.randint(1, rounds), sorted(chance.sample(range(nodes), chance.randint(0, nodes)))
+        run.partition.append({"from": first, "to": first + chance.randint(0, 3), "apart": apart})
+    for _ in range(chance.choice((0, 1, 3, 6))):
+        # (a third of them are of the node and round of the one before)
+        if chance.randrange(3) or not run.restart:
+            node, round = chance.randrange(nodes), chance.randint(1, rounds)
+        run.restart.append({"node": node, "round": round, "down": chance.choice((0, 0, 1, 2, 5))})
+        if format == 2:
+            run.restart[-1] |= chance.choice(({}, {"forget": False}, *[{"forget": True}] * 3))
+    for _ in range(chance.choice((0, 1, 2, 3))):
+        first = chance.randint(1, rounds)
+        run.load.append({"from": first, "to": first + chance.randint(0, 4), "writes": chance.choice((0, 0, 1, 2, 8))})
+    return run

@@ -3,7 +3,6 @@ import contextlib
 import io
 import math
 import random
-from pathlib import Path
 from typing import NamedTuple
 
 import trials
@@ -74,7 +73,6 @@ def times(it, stages, pair, seeds=None):
 
 
 def of_healing(it, stages, fresh, pair):
-    """The bounds that are told of what heals."""
     told, seen = times(it, stages, pair), times(it, fresh, pair, FRESH[:len(it.seeds("split"))])
     bounds = [Told(what, rules.bound_of(told[what]), told[what], seen[what]) for what in told]
     # (where too many seeds never heal none is told)
@@ -120,7 +118,6 @@ def asked(it, folder):
 
 
 def study_of(words):
-    """The cluster that words tell."""
     return Study(cluster.told(words, advise.USUAL, advise.CALL, {"packet": "target"}))
 
 
@@ -138,7 +135,7 @@ def clusters(seed, count, largest):
 def asked_all(seed, count, largest, room, say):
     for at, (words, it) in enumerate(clusters(seed, count, largest)):
         say(f"{at + 1}. {words}")
-        found = asked(it, Path(room, str(at)))
+        found = asked(it, room / str(at))
         say("\n".join(f"   {line}" for line in (found.said, *found.bounds, found.target) if line))
         yield found
 

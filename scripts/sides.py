@@ -38,7 +38,7 @@ def parted(text):
 
 
 def sides(text, is_left=False):
-    """Each part of a statement, and whether it is asked for: an arrow's left side is, and that of an arrow there isn't."""
+    """Each part of a statement, and whether it is asked for: an arrow's left side is, that of an arrow there isn't."""
     parts = list(parted(text))
     for place, part in enumerate(parts, 1):
         outside, inside = opened(part)

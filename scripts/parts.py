@@ -51,17 +51,11 @@ def outcome_of(name, last, status, took, used):
     return Outcome(name, passed, failed, took, used)
 
 
-def say_at_once(line):
-    print(line, flush=True)
-
-
 class Parts:
-    """Makes parts in a folder."""
-
     def __init__(self, folder):
         self.folder, self.outcomes, self.printing = folder, [], threading.Lock()
 
-    def run(self, part, say=say_at_once):
+    def run(self, part, say=lambda line: print(line, flush=True)):
         """Makes a part, passes on what it says line by line, and says whether nothing failed."""
         say(f"== {part.name}")
         began, last = time.monotonic(), ""

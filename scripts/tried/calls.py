@@ -25,9 +25,9 @@ def place(script):
     return found if found.is_file() else script
 
 
-def started(room, script, *words, text="", given=None, out=subprocess.PIPE, err=subprocess.PIPE, before=None,
+def started(room, script, *words, text=COMPARED, given=None, out=subprocess.PIPE, err=subprocess.PIPE, before=None,
             **variables):
-    """A script that runs in a room of its own, with its input, which is a text or a file."""
+    """A script that runs in a room of its own, with its input: a text, which is that case if none is told, or a file."""
     environment = {**os.environ, "GOSSIP_BENCH": PROGRAM, "JOBS": "2", **variables}
     with tempfile.TemporaryFile("w+") as written_text:
         written_text.write(text)

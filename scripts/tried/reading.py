@@ -1,7 +1,7 @@
 """Trials of gossip_read."""
 import shutil
 
-from tried.calls import COMPARED, gives, refuse, refuses
+from tried.calls import gives, refuse, refuses
 
 LONG = "x" * 5000
 REFUSED = f"""
@@ -29,7 +29,7 @@ window 1 2 . -> there are no runs in ., but in its read
 
 
 def try_reading(room):
-    gives(room, "4 runs in read\n", "gossip_sweep", "-o", "read", "budget=1", text=COMPARED)
+    gives(room, "4 runs in read\n", "gossip_sweep", "-o", "read", "budget=1")
     refuse(room, REFUSED, "gossip_read")
     gives(room, "budget,mode,round,took\n1,scuttle-breadth,2,2\n1,scuttle-depth,2,2\n1,precise-oldest,2,2\n"
           "1,precise-newest,2,2\n", "gossip_read", "level", "1", "0", "-o", "read")

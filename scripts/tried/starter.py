@@ -62,7 +62,7 @@ def try_calling(room):
     starts("another folder", toy, "run", room=elsewhere, CDPATH=str(toy.top))
     (elsewhere / "absolute").symlink_to(toy.top / "gossip_bench")
     (elsewhere / "link").symlink_to("absolute")
-    status, out, err = run(room, elsewhere / "link", "a b", "'c'", PATH=str(toy.bare))
+    status, out, err = run(room, elsewhere / "link", "a b", "'c'", text="", PATH=str(toy.bare))
     holds("links", (0, [f"a b 'c' {TUNABLES}"], ""), (status, out.splitlines()[-1:], err))
     status, out, err = toy.call("gossip_bench", "run", with_rt=False, GLIBC_TUNABLES="")
     holds("what the caller says of memory", (0, ["run "], ""), (status, out.splitlines()[-1:], err))

@@ -7,7 +7,7 @@ import re
 import signal
 
 import installed
-from tried.calls import COMPARED, GUIDE, TOOLS, program_that, run, started, stopped, waits_for, written
+from tried.calls import GUIDE, TOOLS, program_that, run, started, stopped, waits_for, written
 from tried.disks import TEXTS
 from trials import PROGRAM, holds
 
@@ -42,10 +42,10 @@ def try_closed_streams(room):
     """A tool whose stream is closed says so in a sentence where it can, and ends with another status than 0, but where
     it has nothing to read or to print there. No file gets what was meant for a stream."""
     for script, words in (*CALLS.items(), *((it, ("--help",)) for it in LOADED)):
-        _, printed, _ = run(room, script, *words, text=COMPARED)
+        _, printed, _ = run(room, script, *words)
         kept, name = files_of(room), pathlib.Path(script).name
         for closed in SUBSETS:
-            status, out, err = run(room, script, *words, text=COMPARED, before=lambda: [*map(os.close, closed)])
+            status, out, err = run(room, script, *words, before=lambda: [*map(os.close, closed)])
             fails = OUTPUT in closed or INPUT in closed and script in READS_INPUT
             says_why = re.search(rf"^{name}: .*it is closed\.\n\Z", err, re.MULTILINE) and "Traceback" not in err
             holds(f"{name} {words} with {closed} closed",
@@ -64,18 +64,18 @@ def try_folders(room):
 
 def try_full_errors(room):
     """What can't be said on standard error ends no work, and changes no status."""
-    run(room, "gossip_sweep", "budget=1", text=COMPARED)
+    run(room, "gossip_sweep", "budget=1")
     kept = files_of(room)
     report = next(room.glob("runs/*.csv"))
     report.write_bytes(b"")
     with open("/dev/full", "w") as full:
         holds("a report is made again", (0, "4 runs in runs\n", kept), (
-            *run(room, "gossip_sweep", "budget=1", text=COMPARED, err=full)[:2], files_of(room)))
+            *run(room, "gossip_sweep", "budget=1", err=full)[:2], files_of(room)))
         status, out, _ = run(room, "gossip_advise", *CLUSTER, err=full)
         holds("an answer", (0, True), (status, "\nTake scuttle-depth " in out))
         for script, status, words in (("gossip_read", 2, ("window", "1", "3", "runs")), ("replay.py", 1, ("check",)),
                                       ("replay.py", 2, ("walk",)), ("check_trace.py", 2, ())):
-            holds(f"{script} {words}", (status, ""), run(room, script, *words, err=full)[:2])
+            holds(f"{script} {words}", (status, ""), run(room, script, *words, text="", err=full)[:2])
 
 
 def try_readers_that_are_gone(room):
@@ -85,7 +85,7 @@ def try_readers_that_are_gone(room):
         reader, writer = os.pipe()
         os.close(reader)
         with open(writer, "w") as gone:
-            status, _, err = run(room, script, *words, text=COMPARED, out=gone)
+            status, _, err = run(room, script, *words, out=gone)
         holds(f"{script} without a reader", (2 if script == "check_trace.py" else 1,
                                              [f"{script}: nobody reads the output any more."]),
               (status, err.splitlines()[-1:]))
@@ -95,8 +95,7 @@ def try_lost_terminals(room):
     """A terminal that goes away while a sweep shows its progress there."""
     waiting = program_that(room, "waiting", f'until [ -e go ]; do sleep 0.05; done\nexec "{PROGRAM}" run')
     terminal, shown = pty.openpty()
-    with started(room, "gossip_sweep", "-o", "lost", "budget=1", text=COMPARED, GOSSIP_BENCH=waiting,
-                 err=shown) as process:
+    with started(room, "gossip_sweep", "-o", "lost", "budget=1", GOSSIP_BENCH=waiting, err=shown) as process:
         os.close(shown)
         holds("progress is shown", True, b"0 of 4 runs" in os.read(terminal, 1000))
         os.close(terminal)

@@ -43,11 +43,11 @@ FAULTS = (
 
 
 def try_words_of_sweeps(room):
-    refuse(room, REFUSED, "gossip_sweep", text=COMPARED)
+    refuse(room, REFUSED, "gossip_sweep")
     refuses(room, "2 lines of the scenario above all sections set the field seed", "gossip_sweep", "seed=1",
             text="seed = 2\n" + COMPARED)
-    refuses(room, "the scenario is empty", "gossip_sweep", "seed=1")
-    fails(room, f"answer to mode-{'x' * 55}.., so nothing was run.", 1, "gossip_sweep", f"mode={LONG}", text=COMPARED)
+    refuses(room, "the scenario is empty", "gossip_sweep", "seed=1", text="")
+    fails(room, f"answer to mode-{'x' * 55}.., so nothing was run.", 1, "gossip_sweep", f"mode={LONG}")
     for words, text, fault in FAULTS:
         status, out, err = run(room, "gossip_sweep", words, text=text)
         holds(f"sweep of {words}", (1, "", True), (status, out, err.startswith(fault)))
@@ -58,16 +58,14 @@ def try_variables(room):
     """Those of the environment that sweeps go by."""
     for jobs in ("0", "-2", "two", "99999"):
         refuses(room, f"JOBS is a whole number from 1 to 9999, which '{jobs}' isn't.", "gossip_sweep", "seed=1",
-                text=COMPARED, JOBS=jobs)
+               JOBS=jobs)
     for hosts in (it for host in WRONG_HOSTS for it in (host, f":,{host}")):
-        refuses(room, "in HOSTS isn't the name of a machine", "gossip_sweep", "seed=1", text=COMPARED, HOSTS=hosts)
+        refuses(room, "in HOSTS isn't the name of a machine", "gossip_sweep", "seed=1", HOSTS=hosts)
     for hosts in (",", "alpha,,beta", ":, "):
-        refuses(room, f"HOSTS is '{hosts}', which lacks the name of a machine", "gossip_sweep", "seed=1", text=COMPARED,
-                HOSTS=hosts)
+        refuses(room, f"HOSTS is '{hosts}', which lacks the name of a machine", "gossip_sweep", "seed=1", HOSTS=hosts)
         refuses(room, f"HOSTS is '{hosts}'", "gossip_advise", "nodes=8", "keys=1", "writes=1", "entry=40",
                 "packet=4000", HOSTS=hosts)
-    refuses(room, "GOSSIP_BENCH names 'no_program'", "gossip_sweep", "seed=1", text=COMPARED,
-            GOSSIP_BENCH="no_program")
+    refuses(room, "GOSSIP_BENCH names 'no_program'", "gossip_sweep", "seed=1", GOSSIP_BENCH="no_program")
     holds("nor are any of those", False, (room / "runs").exists())
 
 
@@ -87,7 +85,7 @@ def try_long_scenarios(room):
 
 def try_runs(room):
     """The runs of the case of formats.md."""
-    gives(room, "4 runs in runs\n", "gossip_sweep", "budget=1", text=COMPARED)
+    gives(room, "4 runs in runs\n", "gossip_sweep", "budget=1")
     rows = {
         "scuttle-breadth": "1,2,0,0,4,6,2,1\n2,2,0,0,4,2,0,0\n", "scuttle-depth": "1,2,0,0,4,6,2,1\n2,2,0,0,4,2,0,0\n",
         "precise-oldest": "1,2,0,0,4,6,2,1\n2,2,0,0,4,2,0,0\n", "precise-newest": "1,2,0,0,4,6,2,1\n2,2,0,0,2,0,0,0\n",
@@ -113,12 +111,12 @@ def try_runs(room):
 def try_other_folders(room):
     """A folder of another kind, or with runs of another scenario or other fields, is refused and stays as it is."""
     refuses(room, "another scenario", "gossip_sweep", "budget=1", text=COMPARED.replace("keys = 3", "keys = 2"))
-    refuses(room, "has no runs", "gossip_sweep", "-o", ".", "budget=1", text=COMPARED)
-    refuses(room, "isn't a folder", "gossip_sweep", "-o", "runs/scenario", "budget=1", text=COMPARED)
+    refuses(room, "has no runs", "gossip_sweep", "-o", ".", "budget=1")
+    refuses(room, "isn't a folder", "gossip_sweep", "-o", "runs/scenario", "budget=1")
     refuses(room, "isn't a folder", "gossip_read", "window", "1", "2", "runs/scenario")
     of_budgets = sorted(it.name for it in (room / "runs").iterdir())
     for words in (("seed=1",), ("budget=1", "seed=1"), ("mode=scuttle-depth", "budget=1"), ("mode=scuttle-depth",)):
-        refuses(room, "has runs of the fields budget, mode:", "gossip_sweep", *words, text=COMPARED)
+        refuses(room, "has runs of the fields budget, mode:", "gossip_sweep", *words)
     holds("runs of other fields aren't added", of_budgets, sorted(it.name for it in (room / "runs").iterdir()))
 
 
@@ -127,7 +125,7 @@ def try_what_is_kept(room):
     kept = room / "runs" / "budget-1.mode-precise-newest.csv"
     kept.write_text(HEADER + "1,2,0,0,4,6,2,1\n2,2,0,0,9,9,9,9\n")
     kept.with_suffix(".sum").write_text(run(kept.parent, "sha256sum", kept.stem + ".toml", kept.name)[1])
-    gives(room, "2 runs in runs\n", "gossip_sweep", "budget=1,65535", "mode=precise-newest", text=COMPARED)
+    gives(room, "2 runs in runs\n", "gossip_sweep", "budget=1,65535", "mode=precise-newest")
     # (with room for all, exchange 1 of round 1 brings 3 each way, exchange 1 of round 2 one each way)
     gives(room, "budget,mode,percent_cut,greatest_least,greatest_most,stale_least,stale_most\n"
           "1,scuttle-breadth,33.33,0,0,0,0\n1,scuttle-depth,33.33,0,0,0,0\n1,precise-oldest,33.33,0,0,0,0\n"
@@ -135,7 +133,7 @@ def try_what_is_kept(room):
     gives(room, "budget,mode,round,took\n1,scuttle-breadth,2,2\n1,scuttle-depth,2,2\n1,precise-oldest,2,2\n"
           "1,precise-newest,never,never\n65535,precise-newest,1,1\n", "gossip_read", "level", "1", "0")
     kept.unlink()
-    gives(room, "2 runs in runs\n", "gossip_sweep", "budget=1,65535", "mode=precise-newest", text=COMPARED)
+    gives(room, "2 runs in runs\n", "gossip_sweep", "budget=1,65535", "mode=precise-newest")
     gives(room, "budget,mode,percent_cut,greatest_least,greatest_most,stale_least,stale_most\n"
           "1,scuttle-breadth,50.00,0,1,0,2\n1,scuttle-depth,50.00,0,1,0,2\n1,precise-oldest,50.00,0,1,0,2\n"
           "1,precise-newest,50.00,0,1,0,2\n65535,precise-newest,0.00,0,0,0,0\n", "gossip_read", "window", "1", "2")
@@ -154,7 +152,7 @@ def try_forgetting(room):
 def try_missing(room):
     """A report that isn't whole never counts: neither where runs are read, nor where a sweep goes on."""
     sweep = ("-o", "missing", "budget=1,2", "mode=scuttle-depth,precise-newest")
-    gives(room, "4 runs in missing\n", "gossip_sweep", *sweep, text=COMPARED)
+    gives(room, "4 runs in missing\n", "gossip_sweep", *sweep)
     name = "budget-1.mode-precise-newest"
     report = room / "missing" / f"{name}.csv"
     whole, (_, first, second) = report.read_text(), report.read_text().splitlines(keepends=True)
@@ -173,7 +171,7 @@ def try_missing(room):
     for why, text in damaged.items():
         report.write_bytes(text)
         refuses(room, f"1 of 4 runs are missing: {name} ({why.strip()}", "gossip_read", "level", "1", "0", "missing")
-        status, out, err = run(room, "gossip_sweep", *sweep, text=COMPARED)
+        status, out, err = run(room, "gossip_sweep", *sweep)
         holds(f"made again: {why}", (0, "4 runs in missing\n", True, whole),
               (status, out, why.strip() in err and name in err, report.read_text()))
     report.unlink()
@@ -191,9 +189,9 @@ def try_sweeps_at_once(room):
     """While a sweep works in a folder no other one does, be it the same or one of another scenario."""
     waiting = program_that(room, "waiting", f'until [ -e go ]; do sleep 0.05; done\nexec "{PROGRAM}" run')
     sweep, another = ("-o", "at_once", "budget=1"), COMPARED.replace("keys = 3", "keys = 2")
-    with started(room, "gossip_sweep", *sweep, text=COMPARED, GOSSIP_BENCH=waiting) as first:
+    with started(room, "gossip_sweep", *sweep, GOSSIP_BENCH=waiting) as first:
         holds("a sweep begins", True, waits_for(lambda: list(room.glob("at_once/.*.part"))))
-        refuses(room, f"at_once is in use by process {first.pid} on", "gossip_sweep", *sweep, text=COMPARED)
+        refuses(room, f"at_once is in use by process {first.pid} on", "gossip_sweep", *sweep)
         refuses(room, "has runs of another scenario", "gossip_sweep", *sweep, text=another)
         (room / "go").touch()
         holds("the first of two sweeps", ("4 runs in at_once\n", ""), first.communicate(timeout=60))
@@ -214,7 +212,7 @@ def try_stopping(room):
     for ends, status, said in (*((it, 128 + it, says.format(it.name)) for it in (
             signal.SIGTERM, signal.SIGINT, signal.SIGHUP)), (signal.SIGKILL, -signal.SIGKILL, "")):
         pids.unlink(missing_ok=True)
-        with started(room, "gossip_sweep", *sweep, text=COMPARED, GOSSIP_BENCH=hanging) as process:
+        with started(room, "gossip_sweep", *sweep, GOSSIP_BENCH=hanging) as process:
             waits_for(lambda: pids.exists() and len(pids.read_text().split()) == 2)
             began = time.monotonic()
             outcome = stopped(process, ends)
@@ -235,7 +233,7 @@ def try_stopping(room):
               stopped(process, signal.SIGINT))
     os.close(reader)
     os.close(writer)
-    gives(room, "4 runs in stopped\n", "gossip_sweep", *sweep, text=COMPARED)
+    gives(room, "4 runs in stopped\n", "gossip_sweep", *sweep)
     for it in filter(is_running, runs):
         os.kill(it, signal.SIGKILL)
     holds("what is left of a sweep that was killed", ([], 4),
@@ -245,13 +243,12 @@ def try_stopping(room):
 def try_wrong_programs(room):
     sweep = ("-o", "wrong", "budget=1", "mode=scuttle-depth")
     name = "budget-1.mode-scuttle-depth"
-    refuses(room, "doesn't answer as gossip_bench does", "gossip_sweep", *sweep, text=COMPARED,
-            GOSSIP_BENCH="/bin/true")
+    refuses(room, "doesn't answer as gossip_bench does", "gossip_sweep", *sweep, GOSSIP_BENCH="/bin/true")
     written(room / "lacking", LACKING)
     written(room / "killed", "#!/bin/sh\nkill -9 $$\n")
     for program, why in (("/bin/cat", ""), ("/bin/false", "(status 1)"), ("./killed", "(it was ended by SIGKILL)"),
                          ("./lacking", "(status 127: this machine lacks a feature)")):
-        refuses(room, f"doesn't answer as gossip_bench does {why}".rstrip(), "gossip_sweep", *sweep, text=COMPARED,
+        refuses(room, f"doesn't answer as gossip_bench does {why}".rstrip(), "gossip_sweep", *sweep,
                 GOSSIP_BENCH=program)
     holds("no folder of a wrong program", False, (room / "wrong").exists())
     cases = {
@@ -261,7 +258,7 @@ def try_wrong_programs(room):
         "dying": ("kill -9 $$", "it was ended by SIGKILL"),
     }
     for it, (body, why) in cases.items():
-        fails(room, why, 1, "gossip_sweep", *sweep, text=COMPARED, GOSSIP_BENCH=program_that(room, it, body))
+        fails(room, why, 1, "gossip_sweep", *sweep, GOSSIP_BENCH=program_that(room, it, body))
         holds(f"no report of a program that is {it}", [],
               list(room.glob("wrong/*.csv")) + list(room.glob("wrong/.*.part")))
 
@@ -269,17 +266,17 @@ def try_wrong_programs(room):
 def try_lasting_faults(room):
     """A folder in the place of a file ends a sweep, which tells what stands, and promises nothing."""
     sweep = ("-o", "taken", "budget=1", "mode=scuttle-depth,precise-newest", "seed=1,2")
-    gives(room, "4 runs in taken\n", "gossip_sweep", *sweep, text=COMPARED)
+    gives(room, "4 runs in taken\n", "gossip_sweep", *sweep)
     for name, stand in (("budget-1.mode-precise-newest.seed-2.csv", 3), ("lock", 4)):
         kept = (room / "taken" / name).rename(room / "aside")
         (room / "taken" / name).mkdir()
         holds(f"a folder in the place of {name}", (1, "", f"gossip_sweep: taken/{name}: Is a directory. {stand} of 4 "
-              "runs stand in taken.\n"), run(room, "gossip_sweep", *sweep, text=COMPARED))
+              "runs stand in taken.\n"), run(room, "gossip_sweep", *sweep))
         (room / "taken" / name).rmdir()
         kept.rename(room / "taken" / name)
     name = "x" * 5000
     holds("a name that is too long", (1, "", f"gossip_sweep: {'x' * 60}..: File name too long.\n"),
-          run(room, "gossip_sweep", "-o", name, "budget=1", text=COMPARED))
+          run(room, "gossip_sweep", "-o", name, "budget=1"))
 
 
 TRIALS = (try_words_of_sweeps, try_variables, try_long_scenarios, try_runs, try_other_folders, try_what_is_kept,

@@ -59,8 +59,8 @@ class Toy:
         return names
 
     def call_and_hear(self, name, *words, with_rt=True, **how):
-        path = self.path if with_rt else str(self.bare)
-        return run(how.pop("room", self.top), self.top / name, *words, PATH=path, **how)
+        how = {"room": self.top, "text": "", "PATH": self.path if with_rt else str(self.bare), **how}
+        return run(how.pop("room"), self.top / name, *words, **how)
 
     def call(self, name, *words, **how):
         """The same without lines of progress."""

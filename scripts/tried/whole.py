@@ -55,7 +55,7 @@ def try_install(room):
     installs(room, there, f"{there}/gossip_bench\n", PATH=f"{there}:{os.environ['PATH']}")
     for folder in (there, made):
         installs(room, folder, f"{folder}/gossip_bench, and {folder} isn't on the path\n")
-    holds("what is installed", (0, "ok\n", ""), run(room, room / "bin/gossip_bench", "check", text=COMPARED))
+    holds("what is installed", (0, "ok\n", ""), run(room, room / "bin/gossip_bench", "check"))
     # (a tool that is installed calls the program beside it, from any folder)
     rest = {name: it for name, it in os.environ.items() if name != "GOSSIP_BENCH"}
     holds("a tool that is installed", (0, f"4 runs in {room / 'installed'}\n", ""),

@@ -1,10 +1,11 @@
 //! What all planes of a table, `cells[key * nodes + owner]`, tell of each owner. Where a loop answers an error, it is
 //! lack of memory (`OutOfMemory`).
 
-ghost use Rattle.std.specs.Prelude.{◌≡◌, ℕ, ◌+◌, ◌*◌, ◌<◌, ◌≤◌, ◌&&◌, Bool, length, map, max, nat_le, nat_lt, slice_index, IfOk, IsOkUnless, if◌then◌else◌};
+ghost use Rattle.std.specs.Prelude.{◌≡◌, ℕ, ◌+◌, ◌*◌, ◌<◌, ◌≤◌, ◌&&◌, ◌↔◌, Bool, length, map, nat_le, nat_lt, slice_index, IfOk, IsOkUnless, IsTrue, if◌then◌else◌};
 ghost use Rattle.bench_types.specs.declared.faults.Fault.TheVariants.{OutOfMemory};
 ghost use Rattle.planes.specs.Grids.{cells_in, HasMarkOfEach, HasTwoMarksOfEach, IsGridOf, IsMarked};
-ghost use Rattle.planes.specs.Planes.{cell, count_above, count_between, total_above, total_of, HasEach, IsGrid, IsNextAbove};
+ghost use Rattle.bench_types.specs.declared.limits.TheConstants.{MOST_NODES};
+ghost use Rattle.planes.specs.Planes.{cell, count_above, count_between, total_above, total_of, HasEach, HasNoneUpto, IsGrid, IsNextAbove};
 ghost use Rattle.planes.specs.Loops.{AnswersAs, IsLeastOf};
 
 use crate::numbers::Number;
@@ -197,4 +198,15 @@ pub fn total_upto<N: Number>(grid: Grid<N>, high: &[N]) -> u32
             requires { r < length high.now }
         { planes::is_between(number, N::zero(), high[r]) },
     )
+}
+
+/// Whether no number of a plane is above 0 and up to its owner's mark.
+pub fn none_upto<N: Number>(plane: &[N], high: &[N]) -> bool
+    requires high { length high.now ≡ length plane.now }
+    requires room { length plane.now ≤ MOST_NODES }
+    ensures { IsTrue result ↔ HasNoneUpto (map N.number plane.now) (map N.number high.now) }
+{
+    let nodes = plane.len();
+    let size = Size { nodes, keys: 1 };
+    total_upto(Grid { cells: plane, size }, high) == 0
 }

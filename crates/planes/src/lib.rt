@@ -21,10 +21,10 @@ mod sizes;
 
 pub use ends::Ends;
 pub use grids::{
-    all_of, count_some_between, counts_above, least_above, least_of, plane_of, total_above,
-    total_held, total_upto, zeros,
+    all_of, count_some_between, counts_above, least_above, least_of, none_upto, plane_of,
+    total_above, total_held, total_upto, zeros,
 };
 pub use numbers::{Number, Short};
 pub use owners::are_few;
-pub use planes::{change, is_between, lower, none_upto, pick, raised_to};
+pub use planes::{change, is_between, lower, pick, raised_to};
 pub use sizes::{Grid, Size};

@@ -1,10 +1,9 @@
 //! Loops over planes: for each owner one number.
 
-ghost use Rattle.std.specs.Prelude.{◌≡◌, ℕ, ◌+◌, ◌<◌, ◌≤◌, ◌&&◌, ◌↔◌, Bool, IsTrue, List, length, map, max, min, nat_le, nat_lt, slice_index, if◌then◌else◌};
+ghost use Rattle.std.specs.Prelude.{◌≡◌, ℕ, ◌+◌, ◌<◌, ◌≤◌, ◌&&◌, Bool, List, length, map, max, min, nat_le, nat_lt, slice_index, if◌then◌else◌};
 ghost use Rattle.bench_types.specs.declared.limits.TheConstants.{MOST_NODES};
 ghost use Rattle.planes.specs.Elementwise.{AreChanged};
 ghost use Rattle.planes.specs.Loops.{AnswersAs, IsMade, IsPart, count_passing};
-ghost use Rattle.planes.specs.Planes.{HasNoneUpto};
 
 use crate::numbers::Number;
 
@@ -98,13 +97,4 @@ pub fn how_many_above<N: Number>(plane: &[N], low: &[N]) -> u32
         (λ r. nat_lt (slice_index (map N.number low.now) r) (slice_index (map N.number plane.now) r)) }
 {
     how_many(plane, |r, number| number.is_above(low[r]))
-}
-
-/// Whether no number of a plane is above 0 and up to its owner's mark.
-pub fn none_upto<N: Number>(plane: &[N], high: &[N]) -> bool
-    requires high { length high.now ≡ length plane.now }
-    requires room { length plane.now ≤ MOST_NODES }
-    ensures { IsTrue result ↔ HasNoneUpto (map N.number plane.now) (map N.number high.now) }
-{
-    how_many(plane, |r, number| is_between(number, N::zero(), high[r])) == 0
 }

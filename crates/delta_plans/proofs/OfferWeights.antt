@@ -1,5 +1,6 @@
 -- What an offer's numbers take of its budget.
--- Serves the functions of `breadths`, `depths`, `marked` and `offers`, `LayerSteps`, `RunSteps` and `TurnSteps`.
+-- Serves the functions of `breadths`, `depths`, `marked` and `offers`, `LayerSteps`, `RoundMarks`, `RunSteps` and
+-- `TurnSteps`.
 use Rattle.delta_plans.proofs.Common.{◌≡◌, ℕ, ◌+◌, ◌-◌, ◌*◌, ◌<◌, ◌≤◌, Bool, true, false, inl, inr, List, length, Option, Some, None, sym, ◌∙◌, transport, arith, nat_tests, ◌↔◌, cases_lt, mul-le-mul_right, sum_below-same, sum_below-plus, Entry, Budget, Entries, Bytes, amount_of, MOST_NODES, MOST_KEYS, MOST_ENTRY_SIZE, write_numbered, all_writes}
 use Rattle.delta_plans.specs.declared.offers.Offer.{Offer}
 use Rattle.delta_plans.specs.OfferInMemory.{cells_in, marks, weights_in, weight_in, count_in, AreCounted, IsLeftOf, IsOffer}
@@ -23,12 +24,13 @@ module _ {N : Type 0} (number : N → ℕ) (offer : Offer N) (mark : ℕ → ℕ
   pub offer-counts_none : count_in number offer mark mark ≡ 0
   offer-counts_none = sum_below-none offer.nodes _ (λ owner lt. weight_of-none (λ _. 1) (cells_in number offer) offer.keys owner (mark owner) (mark owner) (omega arith))
 
-module _ {N : Type 0} (number : N → ℕ) (most : ℕ) (offer : Offer N) (is : IsOffer number most offer) (low high : ℕ → ℕ) where
-  pub offer-most : weight_in number offer low high ≤ count_in number offer low high * MOST_ENTRY_SIZE
-  offer-most =
-      weight_between-most (weights_in offer) MOST_ENTRY_SIZE (cells_in number offer) offer.nodes offer.keys low high
-      (λ owner n. share-most offer.budget (write_numbered (all_writes offer.lists.now owner) n))
+-- no more than so many times the largest size
+pub offer-most : {N : Type 0} (number : N → ℕ) (offer : Offer N) (low high : ℕ → ℕ) → weight_in number offer low high ≤ count_in number offer low high * MOST_ENTRY_SIZE
+offer-most number offer low high =
+    weight_between-most (weights_in offer) MOST_ENTRY_SIZE (cells_in number offer) offer.nodes offer.keys low high
+    (λ owner n. share-most offer.budget (write_numbered (all_writes offer.lists.now owner) n))
 
+module _ {N : Type 0} (number : N → ℕ) (most : ℕ) (offer : Offer N) (is : IsOffer number most offer) (low high : ℕ → ℕ) where
   pub offer-few : count_in number offer low high ≤ MOST_NODES * MOST_KEYS
   offer-few =
       let few : offer.nodes * offer.keys ≤ MOST_NODES * offer.keys = mul-le-mul_right {m = offer.nodes} {n = MOST_NODES} offer.keys is.grid.few_nodes in

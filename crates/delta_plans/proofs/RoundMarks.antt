@@ -1,6 +1,7 @@
 -- What marks at the ends of rounds let through.
--- Serves `Rounds::few_rounds`, `Rounds::level`, `Rounds::look` and `version_tables`.
-use Rattle.delta_plans.proofs.Common.{◌≡◌, ℕ, ◌+◌, ◌-◌, ◌<◌, ◌≤◌, max, map, ltb, List, length, Some, None, inl, inr, refl, sym, ap, ◌∙◌, subst, transport, arith, nat_tests, nat_lt, length-map, cases_lt, Entry, amount_of, all_writes, Cells, cell, total_of, HasNoneAbove, sum_below-same, sum_below-plus, AreMadeBy, IsRoundMark, numbered-some}
+-- Serves `Rounds::count`, `Rounds::few_rounds`, `Rounds::left_of_few`, `Rounds::level`, `Rounds::look` and
+-- `version_tables`.
+use Rattle.delta_plans.proofs.Common.{◌≡◌, ℕ, ◌+◌, ◌-◌, ◌*◌, ◌<◌, ◌≤◌, ◌↔◌, IfSome, IsTrue, is_some, false, false≢true, MOST_ENTRY_SIZE, Option, max, map, ltb, List, length, Some, None, inl, inr, refl, sym, ap, ◌∙◌, subst, transport, arith, nat_tests, nat_lt, length-map, cases_lt, Entry, amount_of, all_writes, Cells, cell, total_of, HasNoneAbove, sum_below-same, sum_below-plus, AreMadeBy, IsRoundMark, numbered-some}
 use Rattle.delta_plans.specs.declared.marked.First.{First}
 use Rattle.delta_plans.specs.declared.marked.First.TheVariants.{Oldest, Newest}
 use Rattle.delta_plans.specs.declared.offers.Offer.{Offer}
@@ -8,12 +9,13 @@ use Rattle.delta_plans.specs.declared.offers.Level.{Level}
 use Rattle.delta_plans.specs.declared.rounds.Found.{Found}
 use Rattle.delta_plans.specs.declared.rounds.Rounds.{Rounds}
 use Rattle.delta_plans.specs.OfferInMemory.{cells_in, low_in, high_in, marks, weights_in, count_in, IsLeftOf, IsOffer}
-use Rattle.delta_plans.specs.Plans.{weight_on, AreFarther}
+use Rattle.delta_plans.specs.Plans.{count_on, weight_on, AreFarther}
 use Rattle.delta_plans.specs.RoundLevels.{end_mark, round_mark, mark_of_rounds, AreFewAndEnough, AreRaised, AreRoundMarks, HasRounds, IsFound, IsLevelOfRounds}
 use Rattle.delta_plans.specs.LevelMarks.{AreRounds}
 use Rattle.delta_plans.specs.Stops.{IsOn}
 use Rattle.delta_plans.specs.Weights.{weight_through, count_all_between, one_each}
 use Rattle.delta_plans.proofs.Columns.{where_true, sum_below-none}
+use Rattle.delta_plans.proofs.OfferWeights.{offer-most}
 use Rattle.delta_plans.proofs.TurnSteps.{through-same}
 use Rattle.delta_plans.proofs.WeightLaws.{part, weight_of-all, weight_of-none}
 
@@ -113,7 +115,7 @@ module _ {N : Type 0} {number : N → ℕ} {most : ℕ} (rounds : Rounds N) (is 
       (λ owner in_nodes. ap (λ round. end round owner) {x = last - last} {y = 0} (omega arith) ∙ none-made owner in_nodes)
 
   -- the search begins with none, which fit, and all, which don't
-  pub begun : {room : ℕ} → room ≡ amount_of offer.budget → AreFewAndEnough number rounds 0 last 0 room
+  pub begun : {room : ℕ} → room ≡ amount_of offer.budget → AreFewAndEnough number rounds 0 last 0 (Some room)
   begun all = record {
     below = elim (cases_lt 0 last) [
       | inl some ↦ some
@@ -121,44 +123,50 @@ module _ {N : Type 0} {number : N → ℕ} {most : ℕ} (rounds : Rounds N) (is 
     ];
     bound = omega arith;
     counted = sym (no_rounds rounds.first one_each);
-    left = omega (arith, no_rounds rounds.first (weights_in offer), all);
+    within = omega (arith, no_rounds rounds.first (weights_in offer));
+    known = omega (arith, no_rounds rounds.first (weights_in offer), all);
     beyond = too_many;
   }
     where
       too_many : amount_of offer.budget < weight_on rounds.first number offer (mark rounds.first last)
       too_many = omega (arith, is.too_large.beyond, all_rounds rounds.first (weights_in offer))
 
+  -- marks let through no more than so many times the largest size
+  pub on-most : (first : First) (mark : ℕ → ℕ) → weight_on first number offer mark ≤ count_on first number offer mark * MOST_ENTRY_SIZE
+  on-most Oldest mark = offer-most number offer low mark
+  on-most Newest mark = offer-most number offer mark high
+
   module _ (count : ℕ) (items : List N) (are : AreRoundMarks number rounds count items) where
     -- such marks aren't below the low ones
     pub rounds-raised : AreRaised number offer items
     rounds-raised = record { size = sym (length-map items number) ∙ are.size; above = λ r lt. omega (arith, are.each r lt) }
 
-    let_through : (weights : ℕ → ℕ → ℕ) → through rounds.first weights (marks number items) ≡ through rounds.first weights (mark_of_rounds number rounds count)
+    pub let_through : (weights : ℕ → ℕ → ℕ) → through rounds.first weights (marks number items) ≡ through rounds.first weights (mark_of_rounds number rounds count)
     let_through weights = through-same weights (cells_in number offer) offer.nodes offer.keys low high (mark_of_rounds number rounds count) (marks number items) rounds.first are.each
 
-    module _ {few enough whole room : ℕ} (so_far : AreFewAndEnough number rounds few enough whole room) {found : Found} (look : IsFound number rounds items found) where
+    module _ {few enough whole : ℕ} {left : Option ℕ} (so_far : AreFewAndEnough number rounds few enough whole left) {found : Found} (look : IsFound number rounds items found) where
       -- one more look finds more rounds that fit
-      pub further : {rest : ℕ} → count < enough → found.left ≡ Some rest → AreFewAndEnough number rounds count enough found.count rest
-      further {rest} lt fits =
-          let left = subst (IsLeftOf (amount_of offer.budget) (weight_on rounds.first number offer (marks number items))) fits look.left in
-          record {
-            below = lt;
-            bound = so_far.bound;
-            counted = look.count ∙ let_through one_each;
-            left = omega (arith, left.0, left.1, let_through (weights_in offer));
-            beyond = so_far.beyond;
-          }
+      pub further : count < enough → IsTrue found.fits → AreFewAndEnough number rounds count enough found.count found.left
+      further lt fits = record {
+        below = lt;
+        bound = so_far.bound;
+        counted = look.count ∙ let_through one_each;
+        within = omega (arith, look.fits.0 fits, let_through (weights_in offer));
+        known = subst (λ weight. IfSome found.left (λ rest. weight + rest ≡ amount_of offer.budget)) (let_through (weights_in offer)) look.left;
+        beyond = so_far.beyond;
+      }
 
       -- or that fewer are enough
-      pub nearer : few < count → count ≤ enough → found.left ≡ None → AreFewAndEnough number rounds few count whole room
+      pub nearer : few < count → count ≤ enough → found.fits ≡ false → AreFewAndEnough number rounds few count whole left
       nearer lt le no_fit = record {
         below = lt;
         bound = omega (arith, so_far.bound, le);
         counted = so_far.counted;
-        left = so_far.left;
+        within = so_far.within;
+        known = so_far.known;
         beyond = elim (cases_lt (amount_of offer.budget) (weight_on rounds.first number offer (marks number items))) [
           | inl above ↦ omega (arith, above, let_through (weights_in offer))
-          | inr upto ↦ absurd (subst (IsLeftOf (amount_of offer.budget) (weight_on rounds.first number offer (marks number items))) no_fit look.left (omega (arith, upto)))
+          | inr upto ↦ absurd (false≢true (sym no_fit ∙ look.fits.1 (omega (arith, upto))))
         ];
       }
 
@@ -174,16 +182,16 @@ module _ {N : Type 0} {number : N → ℕ} {most : ℕ} (rounds : Rounds N) (is 
       on Newest = rises (last - enough) (last - few) (omega (arith, is_next, le)) (omega (arith, is_next, le))
 
   -- the level that a few rounds and one more are
-  pub rounds-level : {enough : ℕ} {level : Level N} → AreFewAndEnough number rounds (enough - 1) enough level.whole level.left → AreRoundMarks number rounds (enough - 1) level.near.items → AreRoundMarks number rounds enough level.far.items
-      → IsLevelOfRounds number rounds level
-  rounds-level {enough} {level} found near far = record {
+  pub rounds-level : {enough : ℕ} {level : Level N} {left : Option ℕ} → AreFewAndEnough number rounds (enough - 1) enough level.whole left → AreRoundMarks number rounds (enough - 1) level.near.items → AreRoundMarks number rounds enough level.far.items
+      → weight_on rounds.first number offer (marks number level.near.items) + level.left ≡ amount_of offer.budget → IsLevelOfRounds number rounds level
+  rounds-level {enough} {level} found near far left = record {
     is_level = record {
       near = (rounds-raised (enough - 1) level.near.items near).size;
       far = (rounds-raised enough level.far.items far).size;
       farther = λ owner in_nodes.
           transport (λ i. AreFarther rounds.first (low owner) (sym (near.each owner in_nodes) i) (sym (far.each owner in_nodes) i)) (farther rounds.first (enough - 1) enough owner (omega (arith, found.below)) found.bound in_nodes);
       whole = found.counted ∙ sym (let_through (enough - 1) level.near.items near one_each);
-      left = omega (arith, found.left, let_through (enough - 1) level.near.items near (weights_in offer));
+      left = left;
       beyond = omega (arith, found.beyond, let_through enough level.far.items far (weights_in offer));
     };
     of_rounds = by_ends rounds.first near.each far.each;
@@ -206,3 +214,8 @@ module _ {N : Type 0} {number : N → ℕ} {most : ℕ} (rounds : Rounds N) (is 
         early_is = parts (last - enough) (last - enough) (marks number level.far.items) refl (omega arith) fars;
         late_is = parts (last - (enough - 1)) (last - enough + 1) (marks number level.near.items) (omega (arith, found.below, found.bound)) (omega arith) nears;
       }
+
+-- what is left tells whether that fits
+pub left-tells : (amount weight : ℕ) (left : Option ℕ) → IsLeftOf amount weight left → (IsTrue (is_some left) ↔ (weight ≤ amount)) × IfSome left (λ rest. weight + rest ≡ amount)
+left-tells amount weight None no_fit = (((λ is. absurd (false≢true is)), (λ fits. absurd (no_fit fits))), tt)
+left-tells amount weight (Some rest) fits = (((λ _. fits.0), (λ _. refl)), omega (arith, fits.0, fits.1))

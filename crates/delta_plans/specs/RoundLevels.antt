@@ -1,5 +1,5 @@
 -- Levels of rounds, as marks. Source: this project.
-use Rattle.std.specs.Prelude.{◌≡◌, ℕ, ◌+◌, ◌-◌, ◌*◌, ◌<◌, ◌≤◌, max, length, map, List}
+use Rattle.std.specs.Prelude.{◌≡◌, ℕ, ◌+◌, ◌-◌, ◌*◌, ◌<◌, ◌≤◌, ◌↔◌, max, length, map, IfSome, IsTrue, List, Option}
 use Rattle.delta_plans.specs.declared.marked.First.{First}
 use Rattle.delta_plans.specs.declared.marked.First.TheVariants.{Oldest, Newest}
 use Rattle.bench_types.specs.Budget.{amount_of}
@@ -11,7 +11,7 @@ use Rattle.delta_plans.specs.declared.offers.Offer.{Offer}
 use Rattle.delta_plans.specs.declared.rounds.Found.{Found}
 use Rattle.delta_plans.specs.declared.rounds.Rounds.{Rounds}
 use Rattle.owner_writes.specs.Numbered.{AreMadeBy, AreEnds}
-use Rattle.delta_plans.specs.OfferInMemory.{low_in, marks, IsCountOffered, IsLeftOf, IsTooLarge}
+use Rattle.delta_plans.specs.OfferInMemory.{low_in, marks, IsCountOffered, IsTooLarge}
 use Rattle.delta_plans.specs.Plans.{weight_on, count_on, IsLevel}
 use Rattle.delta_plans.specs.LevelMarks.{AreRounds}
 
@@ -51,8 +51,10 @@ pub record AreRaised {N : Type 0} (number : N → ℕ) (offer : Offer N) (mark :
 -- what such marks let through
 pub record IsFound {N : Type 0} (number : N → ℕ) (rounds : Rounds N) (mark : List N) (found : Found) : Type 0 where
   pub count : found.count ≡ count_on rounds.first number rounds.offer.now (marks number mark)
-  pub left : IsLeftOf (amount_of rounds.offer.now.budget)
-      (weight_on rounds.first number rounds.offer.now (marks number mark)) found.left
+  pub fits : IsTrue found.fits
+      ↔ (weight_on rounds.first number rounds.offer.now (marks number mark) ≤ amount_of rounds.offer.now.budget)
+  pub left : IfSome found.left (λ left. weight_on rounds.first number rounds.offer.now (marks number mark) + left
+      ≡ amount_of rounds.offer.now.budget)
 
 -- the marks of so many rounds of it
 abbrev pub mark_of_rounds : {N : Type 0} → (N → ℕ) → Rounds N → ℕ → ℕ → ℕ
@@ -64,14 +66,17 @@ abbrev pub AreRoundMarks : {N : Type 0} → (N → ℕ) → Rounds N → ℕ →
 AreRoundMarks number rounds count mark =
     HasEach rounds.offer.now.nodes (λ r n. n ≡ mark_of_rounds number rounds count r) (map number mark)
 
--- a few rounds fit, which have so many numbers and leave so much, and enough rounds don't
+-- a few rounds fit, which have so many numbers and leave so much if that is known, and enough rounds don't
 pub record AreFewAndEnough {N : Type 0} (number : N → ℕ) (rounds : Rounds N)
-    (few enough whole room : ℕ) : Type 0 where
+    (few enough whole : ℕ) (left : Option ℕ) : Type 0 where
   pub below : few < enough
   pub bound : enough ≤ rounds.ends.rounds
   pub counted : whole ≡ count_on rounds.first number rounds.offer.now (mark_of_rounds number rounds few)
-  pub left : weight_on rounds.first number rounds.offer.now (mark_of_rounds number rounds few) + room
-      ≡ amount_of rounds.offer.now.budget
+  pub within : weight_on rounds.first number rounds.offer.now (mark_of_rounds number rounds few)
+      ≤ amount_of rounds.offer.now.budget
+  pub known : IfSome left (λ rest.
+      weight_on rounds.first number rounds.offer.now (mark_of_rounds number rounds few) + rest
+      ≡ amount_of rounds.offer.now.budget)
   pub beyond : amount_of rounds.offer.now.budget
       < weight_on rounds.first number rounds.offer.now (mark_of_rounds number rounds enough)
 

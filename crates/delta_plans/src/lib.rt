@@ -12,7 +12,7 @@
 //!   of these parts fit, the 64 owners are passed at once, and only the last ones are gone over turn by turn.
 //! - Where entries are counted nothing is weighed. Where bytes are, sizes are looked up up to the first owner whose
 //!   numbers don't fit, those of a layer or of runs only once, as what is left of the budget goes on to the next ones,
-//!   and those of all that is offered only if its count times the largest size doesn't fit.
+//!   and those of rounds and of all that is offered only if their count times the largest size doesn't fit.
 #![tactic(auto)]
 
 mod breadths;

@@ -1,6 +1,7 @@
 //! What is offered, as numbers of writes, what these weigh, and levels of them.
 
 ghost use Rattle.std.specs.Prelude.{◌≡◌, ◌+◌, ◌^◌, ◌*◌, ◌<◌, ◌≤◌, ◌↔◌, IsTrue, length, if◌then◌else◌};
+ghost use Rattle.bench_types.specs.declared.limits.TheConstants.{MOST_ENTRY_SIZE, MOST_KEYS, MOST_NODES};
 ghost use Rattle.bench_types.specs.Budget.{amount_of, largest_share, share_of};
 ghost use Rattle.owner_writes.specs.Kept.{entry_kept};
 ghost use Rattle.delta_plans.specs.OfferInMemory.{cells_in, marks, weight_in, weights_in, AreCounted, HasMarks, HasOwner, HasPlace, IsLeftOf};
@@ -162,6 +163,17 @@ impl<'a, N: Number> Offer<'a, N> {
         match self.budget {
             Budget::Entries(_) => room.checked_sub(count),
             Budget::Bytes(_) => self.bytes_left_of(room, low, high),
+        }
+    }
+
+    /// Whether so many surely fit, by their count alone. Where entries are counted, no such test is needed.
+    pub(crate) fn surely_fit(&self, count: u32) -> bool
+        requires { count ≤ MOST_NODES * MOST_KEYS }
+        ensures { IsTrue result → count * MOST_ENTRY_SIZE ≤ amount_of self.now.budget }
+    {
+        match self.budget {
+            Budget::Entries(_) => false,
+            Budget::Bytes(amount) => count * MOST_ENTRY_SIZE <= amount,
         }
     }
 

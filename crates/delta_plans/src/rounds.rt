@@ -1,8 +1,11 @@
 //! Rounds: all that was written in a round, the oldest or the newest first, as long as they fit.
 
-ghost use Rattle.std.specs.Prelude.{◌≡◌, ◌-◌, ◌≤◌, length, map, max, slice_index, IfOk, IsOkUnless};
+ghost use Rattle.std.specs.Prelude.{◌≡◌, ◌+◌, ◌-◌, ◌≤◌, length, map, max, slice_index, IfOk, IsOkUnless};
 ghost use Rattle.bench_types.specs.declared.faults.Fault.TheVariants.{OutOfMemory};
 ghost use Rattle.planes.specs.Elementwise.{AreChanged};
+ghost use Rattle.bench_types.specs.Budget.{amount_of};
+ghost use Rattle.delta_plans.specs.OfferInMemory.{marks, IsLeftOf};
+ghost use Rattle.delta_plans.specs.Plans.{count_on, weight_on};
 ghost use Rattle.delta_plans.specs.RoundLevels.{AreFewAndEnough, AreRaised, AreRoundMarks, HasRounds, IsFound, IsLevelOfRounds};
 
 use crate::marked::First;
@@ -11,18 +14,19 @@ use bench_types::Fault;
 use planes::{Ends, Grid, Number, Size};
 use std::alloc::Global;
 
-// So many rounds don't fit, and one less do, which have so many numbers and leave so much.
+// So many rounds don't fit, and one less do, which have so many numbers, and leave so much if they were weighed.
 #[derive(Clone, Copy)]
 struct Few {
     enough: u32,
     whole: u32,
-    left: u32,
+    left: Option<u32>,
 }
 
-// What marks let through: how many numbers, and what these leave if they fit.
+// What marks let through: how many numbers, whether these fit, and what they leave if they were weighed.
 #[derive(Clone, Copy)]
 struct Found {
     count: u32,
+    fits: bool,
     left: Option<u32>,
 }
 
@@ -45,12 +49,29 @@ impl<'a, 'b, N: Number> Rounds<'a, 'b, N> {
         let few = self.few_rounds(alloc)?;
         let near = self.mark_after(alloc, few.enough - 1)?;
         let far = self.mark_after(alloc, few.enough)?;
+        let left = self.left_of_few(few, &near);
         Ok(Level {
             near,
             far,
             whole: few.whole,
-            left: few.left,
+            left,
         })
+    }
+
+    fn left_of_few(&self, few: Few, near: &[N]) -> u32
+        requires rounds { HasRounds N.number N.most self.now }
+        requires few { AreFewAndEnough N.number self.now (few.enough - 1) few.enough few.whole few.left }
+        requires near { AreRoundMarks N.number self.now (few.enough - 1) near.now }
+        ensures { weight_on self.now.first N.number self.now.offer.now (marks N.number near.now) + result
+            ≡ amount_of self.now.offer.now.budget }
+    {
+        match few.left {
+            Some(left) => left,
+            None => match self.weighed(few.whole, near) {
+                Some(left) => left,
+                None => unreachable!(),
+            },
+        }
     }
 
     // Halves the rounds between few enough to fit and so many that they don't, with steps that double from the first
@@ -64,16 +85,16 @@ impl<'a, 'b, N: Number> Rounds<'a, 'b, N> {
         let mut few = 0;
         let mut enough = self.ends.rounds;
         let mut whole = 0;
-        let mut left = self.offer.budget.amount();
+        let mut left = Some(self.offer.budget.amount());
         let mut step = 1;
         while few + 1 < enough {
             let by = ((enough - few) / 2).min(step);
             let mark = self.mark_after(alloc, few + by)?;
             let found_there = self.look(&mark);
-            if let Some(rest) = found_there.left {
+            if found_there.fits {
                 few += by;
                 whole = found_there.count;
-                left = rest;
+                left = found_there.left;
                 step = by * 2;
             } else {
                 enough = few + by;
@@ -86,13 +107,35 @@ impl<'a, 'b, N: Number> Rounds<'a, 'b, N> {
         })
     }
 
+    // What surely fits by its count isn't weighed.
     fn look(&self, mark: &[N]) -> Found
         requires rounds { HasRounds N.number N.most self.now }
         requires mark { AreRaised N.number self.now.offer.now mark.now }
         ensures { IsFound N.number self.now mark.now result }
     {
+        let count = self.count(mark);
+        if self.offer.surely_fit(count) {
+            return Found {
+                count,
+                fits: true,
+                left: None,
+            };
+        }
+        let left = self.weighed(count, mark);
+        Found {
+            count,
+            fits: left.is_some(),
+            left,
+        }
+    }
+
+    // How many numbers marks let through.
+    fn count(&self, mark: &[N]) -> u32
+        requires rounds { HasRounds N.number N.most self.now }
+        requires mark { AreRaised N.number self.now.offer.now mark.now }
+        ensures { result ≡ count_on self.now.first N.number self.now.offer.now (marks N.number mark.now) }
+    {
         let offer = self.offer;
-        let room = offer.budget.amount();
         let grid = Grid {
             cells: offer.cells,
             size: Size {
@@ -102,15 +145,24 @@ impl<'a, 'b, N: Number> Rounds<'a, 'b, N> {
         };
         let above = planes::total_above(grid, mark, offer.high);
         match self.first {
-            First::Oldest => {
-                let count = self.found - above;
-                let left = offer.left_of(room, count, offer.low, mark);
-                Found { count, left }
-            }
-            First::Newest => {
-                let left = offer.left_of(room, above, mark, offer.high);
-                Found { count: above, left }
-            }
+            First::Oldest => self.found - above,
+            First::Newest => above,
+        }
+    }
+
+    // What so many leave, if they fit.
+    fn weighed(&self, count: u32, mark: &[N]) -> Option<u32>
+        requires rounds { HasRounds N.number N.most self.now }
+        requires mark { AreRaised N.number self.now.offer.now mark.now }
+        requires count { count ≡ count_on self.now.first N.number self.now.offer.now (marks N.number mark.now) }
+        ensures { IsLeftOf (amount_of self.now.offer.now.budget)
+            (weight_on self.now.first N.number self.now.offer.now (marks N.number mark.now)) result }
+    {
+        let offer = self.offer;
+        let room = offer.budget.amount();
+        match self.first {
+            First::Oldest => offer.left_of(room, count, offer.low, mark),
+            First::Newest => offer.left_of(room, count, mark, offer.high),
         }
     }
 

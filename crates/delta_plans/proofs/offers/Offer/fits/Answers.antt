@@ -15,6 +15,6 @@ returns-in-Entries g c =
 
 pub returns-then-count-amount : goal.returns-then-count-amount
 returns-then-count-amount g c =
-    let most = offer-most g.N.Number.number g.N.Number.most c.args.self.now c.requires.has_marks.is_offer (marks g.N.Number.number c.args.low.now) (marks g.N.Number.number c.args.high.now) in
+    let most = offer-most g.N.Number.number c.args.self.now (marks g.N.Number.number c.args.low.now) (marks g.N.Number.number c.args.high.now) in
     let amount = ap amount_of c.in-Bytes.is in
     grind (arith, rules, most, amount, c.requires.counted, c.if-count-amount.true)

@@ -1,11 +1,11 @@
-use Rattle.delta_plans.proofs.Common.{◌+◌, ◌-◌, ◌<◌, sym, subst, transport, arith}
+use Rattle.delta_plans.proofs.Common.{◌+◌, ◌-◌, ◌<◌, sym, ◌∙◌, subst, transport, arith}
 use Rattle.delta_plans.specs.RoundLevels.{AreFewAndEnough, AreRaised, IsFound}
 use Rattle.delta_plans.proofs.RoundMarks.{begun, further, nearer, rounds-raised}
 use Rattle.delta_plans.proofs.rounds.Rounds.few_rounds.Goals as goal
-use Rattle.delta_plans.proofs.rounds.Rounds.few_rounds.Goals.{in-Some, in_default}
+use Rattle.delta_plans.proofs.rounds.Rounds.few_rounds.Goals.{then-found_there, else-found_there}
 
 pub loop-few-init : goal.loop-few-init
-loop-few-init g c = record { found = begun c.args.self.now c.requires c.amount-left.ensures; step = omega arith }
+loop-few-init g c = record { found = begun c.args.self.now c.requires c.amount.ensures; step = omega arith }
 
 pub loop-few-preserved : goal.loop-few-preserved
 loop-few-preserved g c =
@@ -14,17 +14,17 @@ loop-few-preserved g c =
     let look = subst (λ xs. IsFound g.N.Number.number rounds xs c.look-found_there.result) c.deref.ensures.value c.look-found_there.ensures in
     let some : 0 < c.min-by.result = omega (arith, c.min-by.ensures, c.loop-few.invariant.step, c.loop-few-test.true) in
     let less : c.loop-few.few + c.min-by.result < c.loop-few.enough = omega (arith, c.min-by.ensures, c.loop-few-test.true) in
-    elim c.match-found_there.branch [
-      | in-Some w ↦ record {
+    elim c.if-found_there.branch [
+      | then-found_there w ↦ record {
         found =
             transport (λ i. AreFewAndEnough g.N.Number.number rounds (sym w.few-is i) (sym w.enough-is i) (sym w.whole-is i) (sym w.left-is i))
-            (further rounds c.requires (c.loop-few.few + c.min-by.result) c.in_ok-mark.mark.items c.in_ok-mark.ensures.marks so_far look less w.in-Some.is);
+            (further rounds c.requires (c.loop-few.few + c.min-by.result) c.in_ok-mark.mark.items c.in_ok-mark.ensures.marks so_far look less w.if-found_there.true);
         step = omega (arith, w.step-is, some);
       }
-      | in_default w ↦ record {
+      | else-found_there w ↦ record {
         found =
             transport (λ i. AreFewAndEnough g.N.Number.number rounds (sym w.few-is i) (sym w.enough-is i) (sym w.whole-is i) (sym w.left-is i))
-            (nearer rounds c.requires (c.loop-few.few + c.min-by.result) c.in_ok-mark.mark.items c.in_ok-mark.ensures.marks so_far look (omega (arith, some)) (omega (arith, less)) w.in_default.is);
+            (nearer rounds c.requires (c.loop-few.few + c.min-by.result) c.in_ok-mark.mark.items c.in_ok-mark.ensures.marks so_far look (omega (arith, some)) (omega (arith, less)) w.if-found_there.false);
         step = omega (arith, w.step-is, c.loop-few.invariant.step);
       }
     ]

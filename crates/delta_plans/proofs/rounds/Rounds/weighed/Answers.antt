@@ -1,0 +1,24 @@
+use Rattle.delta_plans.proofs.Common.{◌≡◌, sym, ap, ◌∙◌, transport}
+use Rattle.delta_plans.specs.OfferInMemory.{marks, IsLeftOf}
+use Rattle.delta_plans.specs.Plans.{count_on, weight_on}
+use Rattle.delta_plans.proofs.rounds.Rounds.weighed.Goals as goal
+
+pub left_of-requires : goal.left_of-requires
+left_of-requires g c = record {
+  has_marks = record { is_offer = c.requires.rounds.too_large.is_offer; each_low = c.requires.rounds.too_large.is_offer.low; each_high = c.requires.mark.size };
+  counted = c.requires.count ∙ ap (λ first. count_on first g.N.Number.number c.args.self.now.offer.now (marks g.N.Number.number c.args.mark.now)) c.in-Oldest.is;
+}
+
+pub left_of-requires-in-Newest : goal.left_of-requires-in-Newest
+left_of-requires-in-Newest g c = record {
+  has_marks = record { is_offer = c.requires.rounds.too_large.is_offer; each_low = c.requires.mark.size; each_high = c.requires.rounds.too_large.is_offer.high };
+  counted = c.requires.count ∙ ap (λ first. count_on first g.N.Number.number c.args.self.now.offer.now (marks g.N.Number.number c.args.mark.now)) c.in-Newest.is;
+}
+
+pub returns-in-Oldest : goal.returns-in-Oldest
+returns-in-Oldest g c =
+    transport (λ i. IsLeftOf (c.amount-room.ensures i) (weight_on (sym c.in-Oldest.is i) g.N.Number.number c.args.self.now.offer.now (marks g.N.Number.number c.args.mark.now)) c.left_of.result) c.left_of.ensures
+
+pub returns-in-Newest : goal.returns-in-Newest
+returns-in-Newest g c =
+    transport (λ i. IsLeftOf (c.amount-room.ensures i) (weight_on (sym c.in-Newest.is i) g.N.Number.number c.args.self.now.offer.now (marks g.N.Number.number c.args.mark.now)) c.left_of-in-Newest.result) c.left_of-in-Newest.ensures

@@ -2,6 +2,7 @@
 ghost use Rattle.std.specs.Prelude.{List, ◌≡◌, ◌+◌, ◌/◌, ◌<◌, ◌≤◌, None, Some, [], length, map, reverse, IfErr, IfOk, IsOkUnless, vec_capacity};
 ghost use Rattle.bench_types.specs.declared.faults.Fault.TheVariants.{OutOfMemory};
 ghost use Rattle.model.specs.calls.RoundLists.{IsRoundPlan};
+ghost use Rattle.dependencies.specs.Sharing.{exchange_at};
 ghost use Rattle.dependencies.specs.inner.Slots.{in_place};
 ghost use Rattle.std.specs.Mem.Slots.{slots_items, slots_len, IsFull};
 ghost use Rattle.bench_types.specs.declared.faults.Fault.TheVariants.{Unfinished};
@@ -17,7 +18,7 @@ use crate::plays::{
 };
 use crate::views::View;
 use atomic_table::{Closed, Refused, Table};
-use bench_types::{Fault, Rules};
+use bench_types::{Exchange, Fault, Rules};
 use dependencies::Deps;
 use model::MemoryTable;
 use std::alloc::Global;
@@ -116,6 +117,22 @@ impl<T: MemoryTable> Board<T> {
             Ok((table, raw)) => Ok((Board { table, deps, room }, Seat { raw })),
             Err(Refused { slots: _ }) => Err(Fault::OutOfMemory),
         }
+    }
+
+    /// How many exchanges the list has.
+    pub fn len(&self) -> u32
+        ensures { result ≡ length (exchanges_of self.now) }
+    {
+        self.deps.len()
+    }
+
+    /// The exchange at a place of the list, from 0.
+    pub fn exchange(&self, i: u32) -> Exchange
+        requires within { i < length (exchanges_of self.now) }
+        ensures value { result ≡ exchange_at (exchanges_of self.now) i }
+        ensures kept { IsRoundPlan (plan_of T.table self.now).list }
+    {
+        self.deps.exchange(i)
     }
 
     /// Claims an exchange of the list. Costs a compare-and-exchange, and where it is held two moves of

@@ -1,5 +1,6 @@
 //! All rounds of a scenario, each carried out and then written.
 
+ghost use Rattle.std.specs.Prelude.{◌≡◌, ◌<◌};
 ghost use Rattle.runs.specs.inner.Writes.{AreWrittenIn};
 ghost use Rattle.runs.specs.inner.Starts.{IsAtStart};
 ghost use Rattle.runs.specs.inner.Rounds.{AnswersRounds};
@@ -14,7 +15,7 @@ use simulation::{Round, Sim};
 use std::sync::Wait;
 use std::thread::Threads;
 use version_tables::Written;
-use workers::FreeGate;
+use workers::{FreeGate, Posts};
 
 /// What the rounds of a scenario are written to, one after another.
 pub(crate) trait RoundWriter {
@@ -49,17 +50,76 @@ pub(crate) fn write_rounds<L: Written + Send + Sync, H: Threads + Wait + Sync, O
     }
 }
 
+// The threads of the workers live for all rounds.
 fn write_each<
+    'b,
+    T: MemoryTable + Send + Sync,
+    K: RoundHistories<T> + Send,
+    H: Threads + Wait + Sync,
+    O: RoundWriter,
+>(resources: &Resources<H>, sim: Sim<T, K>, output: &'b mut O) -> Result<Scenario, Fault>
+    requires { IsAtStart sim }
+    ensures { AnswersRounds O.wrote O.stops sim.settings output.old output.new resources.now.workers result }
+{
+    let _rounds = sim.rounds();
+    let posts = Posts::new(resources.alloc, resources.workers)?;
+    let rt = resources.rt;
+    let by = &posts;
+    let lent = Lent { sim, output };
+    let done = posts.with_threads(
+        rt,
+        lent,
+        move |lent|
+            requires { IsAtStart lent.sim }
+            ensures name { result.0.ghost_name ≡ lent.entry.output.ghost_name }
+            ensures answers { AnswersRounds O.wrote O.stops lent.entry.sim.settings lent.entry.output.now
+                result.0.now by.entry.now result.1 }
+        {
+            let Lent { sim, output } = lent;
+            let answer = write_all(rt, by, sim, output);
+            (output, answer)
+        },
+    );
+    match done {
+        Ok((output, answer)) => {
+            take_back(output);
+            answer
+        }
+        Err(Lent { sim: _sim, output }) => {
+            take_back(output);
+            Err(Fault::NoThread)
+        }
+    }
+}
+
+// A simulation, and what its rounds are written to.
+#[derive(Drop)]
+struct Lent<'a, T: MemoryTable, K: RoundHistories<T>, O> {
+    sim: Sim<T, K>,
+    output: &'a mut O,
+}
+
+// Does nothing, but this use of a reference that came back ties it to the parameter that lent it.
+fn take_back<O>(output: &mut O)
+    ensures { output.new ≡ output.old }
+{}
+
+fn write_all<
     T: MemoryTable + Send + Sync,
     K: RoundHistories<T>,
     H: Threads + Wait + Sync,
     O: RoundWriter,
->(resources: &Resources<H>, mut sim: Sim<T, K>, output: &mut O) -> Result<Scenario, Fault>
+>(
+    rt: &H,
+    posts: &Posts<T, K, FreeGate>,
+    mut sim: Sim<T, K>,
+    output: &mut O,
+) -> Result<Scenario, Fault>
     requires { IsAtStart sim }
-    ensures { AnswersRounds O.wrote O.stops sim.settings output.old output.new resources.now.workers result }
+    ensures { AnswersRounds O.wrote O.stops sim.settings output.old output.new posts.now result }
 {
     for _ in 0..sim.rounds() {
-        let round = sim.step(resources.rt, resources.workers, &FreeGate)?;
+        let round = sim.step_by(rt, posts, FreeGate)?;
         output.write(&round)?;
     }
     Ok(sim.into_scenario())

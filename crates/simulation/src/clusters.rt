@@ -13,6 +13,7 @@ ghost use Rattle.simulation.specs.inner.Insides.{HasPlayed, IsAfterRound};
 ghost use Rattle.simulation.specs.inner.Plans.{IsDrawnAfter, MayDraw};
 ghost use Rattle.simulation.specs.inner.Steps.{HaveEnded, IsRoundOf, LeavesOthers, MayWriteOwn};
 
+use crate::carriers::{Carriers, Orders};
 use crate::plans::{Drawn, Plan, drawn_after};
 use crate::rounds::Round;
 use bench_types::{Fault, Rules};
@@ -23,7 +24,7 @@ use scenario::Scenario;
 use std::alloc::Global;
 use std::sync::Wait;
 use std::thread::Threads;
-use workers::{Gate, Work, run_list_with};
+use workers::{Done, Gate};
 
 /// What all nodes hold, what each has written, and what is drawn of the rounds.
 #[derive(Drop)]
@@ -47,12 +48,12 @@ impl<T: MemoryTable + Send + Sync, K: RoundHistories<T>> Cluster<T, K> {
     }
 
     /// A round. Where it fails, the tables are given up.
-    pub(crate) fn play<H: Threads + Wait + Sync, G: Gate + Sync>(
+    pub(crate) fn play<H: Threads + Wait + Sync, G: Gate + Sync + Drop>(
         self,
         resources: &Resources<H>,
         scenario: &Scenario,
         round: u32,
-        gate: &G,
+        carriers: Carriers<T, K, G>,
     ) -> Result<(Cluster<T, K>, Round), Fault>
         requires lawful { IsLawfulScenario scenario.now }
         requires round { IsRoundOf K.may_write scenario.now round }
@@ -72,13 +73,7 @@ impl<T: MemoryTable + Send + Sync, K: RoundHistories<T>> Cluster<T, K> {
         let Plan { words, list } = drawn.plan(rt, alloc, scenario, round)?;
         let (begun, histories) = begin(scenario, tables, histories, &words, round)?;
         let rules = rules_of(scenario);
-        let work = Work {
-            shared: &histories,
-            list: &list,
-            rules: &rules,
-            gate,
-            workers: hands.workers,
-        };
+        let orders = Orders { list, rules };
         let draw = move || -> Result<Drawn, Fault>
             requires { MayDraw scenario.now round words }
             ensures drawn { IfOk result (IsDrawnAfter scenario.entry.now round) }
@@ -91,10 +86,15 @@ impl<T: MemoryTable + Send + Sync, K: RoundHistories<T>> Cluster<T, K> {
                 drawn_after(words, rt, alloc, scenario, round)
             }
         };
-        let (tables, records, drawn) = run_list_with(rt, alloc, work, begun, draw)?;
-        let drawn = drawn?;
+        let Done {
+            tables,
+            records,
+            shared: histories,
+            made,
+        } = carriers.carry_out(resources, &orders, begun, histories, draw)?;
+        let drawn = made?;
         let lag = histories.figures(resources, &tables)?;
-        let played = Round::of(round, list, records, lag);
+        let played = Round::of(round, orders.list, records, lag);
         Ok((
             Cluster {
                 tables,

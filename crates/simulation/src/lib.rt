@@ -17,6 +17,7 @@
 //!   be refused for want of one.
 #![tactic(auto)]
 
+mod carriers;
 mod clusters;
 mod laws;
 mod plans;

@@ -7,6 +7,7 @@ ghost use Rattle.model.specs.Runs.{AreWorkers};
 ghost use Rattle.simulation.specs.Rounds.{opening_tables};
 ghost use Rattle.simulation.specs.calls.Simulation.{AreTablesAfter, MayWriteAll, PlaysNext, MayStep, IsRefusedBy, IsStepFault};
 
+use crate::carriers::Carriers;
 use crate::clusters::Cluster;
 use crate::processors::processors_of;
 use crate::rounds::Round;
@@ -19,7 +20,7 @@ use std::marker::Model;
 use std::num::NonZeroUsize;
 use std::sync::Wait;
 use std::thread::Threads;
-use workers::Gate;
+use workers::{Gate, Posts};
 
 /// A simulation of a scenario, with tables of one representation or another. A fault within a round breaks
 /// it: its tables are then given up.
@@ -100,6 +101,37 @@ impl<T: MemoryTable + Send + Sync, K: RoundHistories<T>> Sim<T, K> {
         ensures played { IfOk result (PlaysNext T.table self.old self.new) }
         ensures fails { IfErr result (IsStepFault workers self.old self.new) }
     {
+        let carriers = Carriers { posts: None, gate };
+        self.step_with(rt, workers, carriers)
+    }
+
+    /// As `step`, by workers that were started before. No thread is started for the exchanges.
+    pub fn step_by<H: Threads + Wait + Sync, G: Gate + Sync + Drop>(
+        &mut self,
+        rt: &H,
+        posts: &Posts<T, K, G>,
+        gate: G,
+    ) -> Result<Round, Fault>
+        ensures played { IfOk result (PlaysNext T.table self.old self.new) }
+        ensures fails { IfErr result (IsStepFault posts.now self.old self.new) }
+    {
+        let carriers = Carriers {
+            posts: Some(posts),
+            gate,
+        };
+        self.step_with(rt, posts.workers(), carriers)
+    }
+
+    fn step_with<H: Threads + Wait + Sync, G: Gate + Sync + Drop>(
+        &mut self,
+        rt: &H,
+        workers: u32,
+        carriers: Carriers<T, K, G>,
+    ) -> Result<Round, Fault>
+        requires workers { AreWorkers workers }
+        ensures played { IfOk result (PlaysNext T.table self.old self.new) }
+        ensures fails { IfErr result (IsStepFault workers self.old self.new) }
+    {
         self.check_step()?;
         let Some(cluster) = self.cluster.take() else {
             return Err(Fault::Broken);
@@ -115,7 +147,7 @@ impl<T: MemoryTable + Send + Sync, K: RoundHistories<T>> Sim<T, K> {
             },
         };
         let next = self.rounds_done + 1;
-        let (cluster, round) = cluster.play(&resources, &self.scenario, next, gate)?;
+        let (cluster, round) = cluster.play(&resources, &self.scenario, next, carriers)?;
         self.cluster = Some(cluster);
         self.rounds_done += 1;
         Ok(round)
@@ -178,7 +210,8 @@ impl<T: MemoryTable + Send + Sync, K: RoundHistories<T>> Sim<T, K> {
 
     /// How many rounds there are in all.
     pub fn rounds(&self) -> u32
-        ensures { result ≡ self.now.settings.rounds }
+        ensures value { result ≡ self.now.settings.rounds }
+        ensures some { 1 ≤ result }
     {
         self.scenario.rounds()
     }

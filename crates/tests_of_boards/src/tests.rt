@@ -1,6 +1,7 @@
 //! The modules of tests, and what they share.
 
 mod comparing;
+mod crews;
 mod gates;
 mod jobs;
 mod long_lists;

@@ -11,10 +11,10 @@ pub use Rattle.std.proofs.lemmas.List.Sums.{fold_more}
 pub use Rattle.std.proofs.lemmas.Option.{get_or_from_slice_get}
 pub use Rattle.std.proofs.lemmas.Result.{IfOk-weaker, MatchResult-weaker}
 pub use Rattle.std.specs.List.{filter, range_with_len}
-pub use Rattle.std.specs.Prelude.{Contains, MatchResult, nat_le, slice_get}
+pub use Rattle.std.specs.Prelude.{Contains, MatchResult, nat_le, slice_get, ⊤}
 pub use Rattle.std.specs.Vec.Iter.{into_iter_items, into_iter_len}
 pub use Rattle.std.specs.declared.alloc.Global.{Global}
-pub use Rattle.std.specs.declared.thread.PromisedHandle.{PromisedHandle}
+pub use Rattle.std.specs.Arc.{arc_value}
 pub use lib.Seq.{drop-append_seam, take-append_seam}
 pub use Rattle.bench_types.specs.declared.faults.Fault.{Fault}
 pub use Rattle.bench_types.specs.declared.faults.Fault.TheVariants.{OutOfMemory}

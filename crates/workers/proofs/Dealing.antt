@@ -25,7 +25,7 @@ one_more indices pushes few i more some next is dealt place lt =
           (dealt place (omega (arith, lt, λ (now : place ≡ few). other (ap (λ n. n % length pushes) now))))
     ])
 
-pub next_dealt : {L : Type 0} (indices : List ℕ) (tasks : List (Tasks L)) (few workers : ℕ) (one new : Tasks L) → 1 ≤ workers → length tasks ≡ workers → one ≡ get_or tasks (few % workers) one → pushed new ≡ pushed one ++ get_or indices few 0 ∷ []
+pub next_dealt : (indices : List ℕ) (tasks : List Tasks) (few workers : ℕ) (one new : Tasks) → 1 ≤ workers → length tasks ≡ workers → one ≡ get_or tasks (few % workers) one → pushed new ≡ pushed one ++ get_or indices few 0 ∷ []
     → AreDealt indices (map pushed tasks) few → AreDealt indices (map pushed (set tasks (few % workers) new)) (few + 1)
 next_dealt indices tasks few workers one new some count there is dealt =
     let size : length (map pushed tasks) ≡ workers = length-map tasks pushed ∙ count in

@@ -1,21 +1,14 @@
 -- Seats and records of workers, taken in one after another.
--- Serves `join_all` and `with_more`.
-use Rattle.workers.proofs.Common.{◌≡◌, ℕ, ◌+◌, ◌≤◌, ◌⊎◌, Bool, true, false, ◌||◌, if◌then◌else◌, List, ◌∷◌, ◌++◌, length, All, inl, inr, refl, sym, ap, ◌∙◌, subst, arith, Result, Ok, IfOk, MatchResult, OutOfMemory, Vec, nat_le, Global, nat_tests, cases_lt, or_right, All-head, All-tail, PromisedHandle, Fault, Table, SeatView, joined, BoardPlan, plan_of, seat_view, IsSeatOf, Board, Record, Has, times, only, total-append}
+-- Serves `with_more`.
+use Rattle.workers.proofs.Common.{◌≡◌, ℕ, ◌+◌, ◌≤◌, ◌⊎◌, Bool, true, false, ◌||◌, if◌then◌else◌, List, ◌++◌, length, inl, inr, refl, sym, ap, ◌∙◌, subst, arith, Result, Ok, IfOk, MatchResult, OutOfMemory, Vec, nat_le, Global, nat_tests, cases_lt, or_right, Fault, Table, SeatView, joined, BoardPlan, plan_of, seat_view, IsSeatOf, Board, Record, Has, times, only, total-append}
 use Rattle.workers.specs.declared.gathering.Stamped.{Stamped}
 use Rattle.workers.specs.inner.Stamps.{with_records}
 use Rattle.workers.specs.inner.Gathering.{HoldsRecords, HasGathered}
 use Rattle.workers.specs.inner.Returns.{AreRecordsOf, HasNoMoreToDo, IsReturned}
-use Rattle.workers.specs.inner.Joined.{IsOfBoard, HasTakenIn, HasTakenOneIn}
+use Rattle.workers.specs.inner.Joined.{HasTakenIn, HasTakenOneIn}
 use Rattle.workers.specs.declared.gathering.Gathered.{Gathered}
-use Rattle.workers.specs.declared.threads.Back.{Back}
 use Rattle.workers.specs.declared.workers.Returned.{Returned}
 use Rattle.workers.proofs.Gathered.{stands_written, length-with_records}
-
--- the first of the handles that are left, and the rest
-pub first_of_board : {T : Type 0} (board : Board T) (left rest : List (PromisedHandle (Returned T) (Back T))) (h : PromisedHandle (Returned T) (Back T)) → All (IsOfBoard board) left → left ≡ h ∷ rest → IsOfBoard board h × All (IsOfBoard board) rest
-first_of_board board left rest h all is =
-    let both = subst (All (IsOfBoard board)) is all in
-    (All-head (IsOfBoard board) h rest both, All-tail (IsOfBoard board) h rest both)
 
 greater_right : (a b : ℕ) → b ≤ (if nat_le a b then b else a)
 greater_right a b = grind (arith, nat_tests)

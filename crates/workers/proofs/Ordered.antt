@@ -1,27 +1,11 @@
 -- What a whole seat's records and tables come to.
--- Serves `begin`, `end` and `exchange_in_threads`.
-use Rattle.workers.proofs.Common.{◌≡◌, ℕ, ◌<◌, Bool, List, [], ◌∷◌, length, map, All, inl, inr, sym, ap, ◌∙◌, subst, arith, range_with_len, filter, same_lists, length-range_with_len, get_or-range_with_len, All-nil, All-cons, All-head, All-tail, get_or_from_slice_get, cases_Bool, Exchange, Record, Table, fold_of, fold_counts_records, is_first_ready, first_ready_of, record_kept, SeatView, Has, BoardPlan, exchanged_at, AreLeft, HasMadeAll, IsMadeOf}
+-- Serves `begin` and `end`.
+use Rattle.workers.proofs.Common.{◌≡◌, ℕ, ◌<◌, List, [], length, map, sym, ap, ◌∙◌, subst, arith, same_lists, get_or_from_slice_get, Record, Table, fold_of, fold_counts_records, record_kept, RoundListView, SeatView, Has, BoardPlan, exchanged_at, AreLeft, HasMadeAll, IsMadeOf}
 use Rattle.workers.specs.Carrying.{MayCarryOut}
-use Rattle.workers.specs.inner.Deques.{AllBelow}
 use Rattle.workers.specs.inner.Gathering.{HoldsRecords}
 use Rattle.workers.specs.inner.Joined.{IsEndOf}
 use Rattle.workers.specs.inner.Workshops.{IsWorkshop}
 use Rattle.workers.specs.declared.workers.Workshop.{Workshop}
-
-all_filter : (P : ℕ → Type 0) (p : ℕ → Bool) (xs : List ℕ) → All P xs → All P (filter p xs)
-all_filter P p [] all = All-nil P
-all_filter P p (x ∷ xs) all =
-    let rest = all_filter P p xs (All-tail P x xs all) in
-    elim (cases_Bool (p x)) [
-      | inl passes ↦ rw passes (All-cons P x (filter p xs) (All-head P x xs all) rest)
-      | inr fails ↦ rw fails rest
-    ]
-
--- the exchanges that wait for none are of the list
-pub ready_below : (es : List Exchange) → AllBelow (length es) (first_ready_of es)
-ready_below es =
-    all_filter (λ i. i < length es) (is_first_ready es) (range_with_len 0 (length es))
-    (λ k d lt. omega (arith, lt, length-range_with_len 0 (length es), get_or-range_with_len 0 (length es) k d (omega (arith, lt, length-range_with_len 0 (length es)))))
 
 -- no seat has put anything back yet
 pub holds_none : (plan : BoardPlan) (made : List ℕ) (records : List Record) → made ≡ [] → length records ≡ length plan.list.exchanges → HoldsRecords plan made records
@@ -46,11 +30,11 @@ module _ (plan : BoardPlan) (v : SeatView) (records : List Record) (holds : Hold
   pub all_ended : {T : Type 0} (table : T → Table) (new : List T) → AreLeft table plan new → IsEndOf table plan new records
   all_ended table new left = λ i. record { tables = sym left i; records = records_same i }
 
--- the board of a workshop was made of its list and these tables
-pub is_workshop : {T G S : Type 0} (table : T → Table) (fits : S → Table → Type 0) (shop : Workshop T S G) (tables : List T) → IsMadeOf table shop.rules.now shop.list.now tables shop.board.now
-    → MayCarryOut (fits shop.shared.now) shop.rules.now shop.list.now.nodes (map table tables) → IsWorkshop table fits shop
-is_workshop table fits shop tables made may = record {
-  same_list = ap (λ (p : BoardPlan). p.list) made;
-  same_rules = ap (λ (p : BoardPlan). p.rules) made;
-  tables = subst (MayCarryOut (fits shop.shared.now) shop.rules.now shop.list.now.nodes) (sym (ap (λ (p : BoardPlan). p.tables) made)) may;
+-- the board of a workshop was made of a list and these tables
+pub is_workshop : {T X G : Type 0} (table : T → Table) (fits : X → Table → Type 0) (shop : Workshop T X G)
+    (list : RoundListView) (tables : List T) → IsMadeOf table shop.rules list tables shop.board
+    → MayCarryOut (fits shop.shared) shop.rules list.nodes (map table tables) → IsWorkshop table fits shop
+is_workshop table fits shop list tables made may = record {
+  rules = ap (λ (p : BoardPlan). p.rules) made;
+  tables = subst (λ (p : BoardPlan). MayCarryOut (fits shop.shared) shop.rules p.list.nodes p.tables) (sym made) may;
 }

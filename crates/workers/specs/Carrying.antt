@@ -9,6 +9,8 @@ use Rattle.model.specs.Table.{Table}
 use Rattle.model.specs.Folds.{fold_of}
 use Rattle.model.specs.Tables.{HoldsOfEach}
 use Rattle.model.specs.calls.Tables.{IsCluster}
+use Rattle.workers.specs.declared.works.Batch.{Batch}
+use Rattle.workers.specs.declared.works.Done.{Done}
 
 -- the tables of so many nodes, each of which fits what all read, and rules: exchanges of the nodes may be carried out
 pub record MayCarryOut (fits : Table → Type 0) (rules : Rules) (nodes : ℕ) (tables : List Table) : Type 0 where
@@ -20,3 +22,9 @@ pub record MayCarryOut (fits : Table → Type 0) (rules : Rules) (nodes : ℕ) (
 abbrev pub AreExchanged : {T : Type 0} → (T → Table) → Rules → List Exchange → List T → List T → List Record → Type 0
 AreExchanged table rules es old new records =
     fold_of rules (map table old) es ≡ record { tables = map table new; records = records }
+
+-- a batch was carried out: so it is, what its workers shared comes back, and the call meanwhile gave what it may give
+pub record IsDone {T X G M : Type 0} (table : T → Table) (batch : Batch X G) (tables : List T) (gives : M → Type 0) (done : Done T X M) : Type 0 where
+  pub exchanged : AreExchanged table batch.rules.now batch.list.now.exchanges tables done.tables.items done.records.items
+  pub shared : done.shared ≡ batch.shared
+  pub made : gives done.made

@@ -8,4 +8,5 @@ pub mod AtWork
 pub mod Deques
 pub mod Pushes
 pub mod Workshops
+pub mod Shifts
 pub mod Works

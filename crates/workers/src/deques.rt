@@ -1,40 +1,31 @@
 //! The deques of a round's workers. Each worker has one, and the others may steal from it.
 
-ghost use Rattle.std.specs.Prelude.{◌≡◌, ℕ, ◌<◌, ◌≤◌, [], ◌∷◌, ◌++◌, IfOk, IfSome, IsOkUnless, OnOk, length, map, vec_len};
+ghost use Rattle.std.specs.Prelude.{◌≡◌, ◌<◌, ◌≤◌, [], ◌∷◌, ◌++◌, ⊤, IfOk, IfSome, IsOkUnless, OnOk, length, map, vec_len};
 ghost use Rattle.bench_types.specs.declared.faults.Fault.TheVariants.{OutOfMemory};
 ghost use Rattle.crossbeam_deque.specs.Handles.{IsPassOf, stealer_deque, worker_flavor};
 ghost use Rattle.dependencies.specs.Neighbours.{as_list};
-ghost use Rattle.workers.specs.inner.Deques.{AllBelow, IsPushed, IsTaken, no_pushes};
+ghost use Rattle.workers.specs.inner.Deques.{IsPushed, IsTaken, no_pushes};
 
 use crate::push_logs::PushLog;
 use bench_types::Fault;
 use crossbeam_deque::protocol::{Outcome, Protocol};
 use crossbeam_deque::{Pass, Stealer, Worker};
 use std::alloc::Global;
-use std::marker::{Brand, PhantomData};
 
-/// How many exchanges a list has, as types know it. The call that starts the workers picks it.
-pub trait Limit {
-    ghost limit: { ℕ };
-}
+// The rule of a deque, which asks nothing of the indices in it: a deque may outlive a list. And what a pop and a steal
+// tell.
+pub struct Logged;
 
-impl Limit for Brand {
-    ghost limit = { 0 };
-}
-
-// The rule of a deque: each index is one of the list. And what a pop and a steal tell.
-pub struct Below<L>(PhantomData<L>);
-
-impl<L: Limit> Protocol<u32, PushLog> for Below<L> {
-    ghost holds = { λ items _. AllBelow L.limit items };
+impl Protocol<u32, PushLog> for Logged {
+    ghost holds = { λ _ _. ⊤ };
 
     ghost first = { no_pushes };
 
     ghost guest = { no_pushes };
 }
 
-impl<L: Limit> Outcome<u32, PushLog> for Below<L> {
-    ghost then = { IsTaken L.limit };
+impl Outcome<u32, PushLog> for Logged {
+    ghost then = { IsTaken };
 }
 
 // What a push tells.
@@ -46,46 +37,47 @@ impl Outcome<u32, PushLog> for Push {
 
 // The way to another worker's deque.
 #[derive(Drop)]
-struct Way<L: Limit> {
-    from: Stealer<u32, Global, PushLog, Below<L>>,
+struct Way {
+    from: Stealer<u32, Global, PushLog, Logged>,
     pass: Pass<u32, PushLog>,
     ghost fits: { IsPassOf (stealer_deque from) pass },
 }
 
 /// Where a worker finds exchanges to try: its own deque, and those of the others.
 #[derive(Drop)]
-pub(crate) struct Tasks<L: Limit> {
-    own: Worker<u32, Global, PushLog, Below<L>>,
+pub(crate) struct Tasks {
+    own: Worker<u32, Global, PushLog, Logged>,
+    // What it has just made ready, if anything, which lies in its deque too: the tables are still in its core's caches.
+    at_hand: Option<u32>,
     // In the order in which it steals from them.
-    others: Vec<Way<L>>,
+    others: Vec<Way>,
     ghost in_order: { worker_flavor own ≡ 0 },
 }
 
-impl<L: Limit> Way<L> {
+impl Way {
     // The oldest index of the deque. `None` where there is none, or where another thread took it first.
-    fn steal(&mut self) -> Option<u32>
-        ensures within { IfSome result (λ i. i < L.limit) }
-    {
-        self.from.steal_as::<Below<L>>(&mut self.pass).success()
+    fn steal(&mut self) -> Option<u32> {
+        self.from.steal_as::<Logged>(&mut self.pass).success()
     }
 }
 
-impl<L: Limit> Tasks<L> {
+impl Tasks {
     ghost use Rattle.workers.specs.inner.Pushes.{AreDealt, pushed};
 
     // An empty deque with room for so many indices, before it grows, and no way to any other.
-    fn new(alloc: Global, room: usize) -> Result<Tasks<L>, Fault>
+    fn new(alloc: Global, room: usize) -> Result<Tasks, Fault>
         ensures only { IsOkUnless result OutOfMemory }
     {
         let own = Worker::fifo_as(alloc, room)?;
         Ok(Tasks {
             own,
+            at_hand: None,
             others: Vec::new(alloc),
         })
     }
 
     // A way to its own deque, for another worker.
-    fn way(&self) -> Result<Way<L>, Fault>
+    fn way(&self) -> Result<Way, Fault>
         ensures only { IsOkUnless result OutOfMemory }
     {
         let from = self.own.stealer()?;
@@ -94,7 +86,6 @@ impl<L: Limit> Tasks<L> {
     }
 
     fn push(&mut self, i: u32) -> Result<(), Fault>
-        requires within { i < L.limit }
         ensures pushed { OnOk result (pushed self.new ≡ pushed self.old ++ i ∷ []) }
         ensures only { IsOkUnless result OutOfMemory }
     {
@@ -103,23 +94,36 @@ impl<L: Limit> Tasks<L> {
 
     /// Puts an exchange that was made ready on its own deque, if there is one. An error is lack of memory.
     pub(crate) fn push_freed(&mut self, freed: Option<u32>) -> Result<(), Fault>
-        requires within { IfSome freed (λ i. i < L.limit) }
         ensures pushed { OnOk result (pushed self.new ≡ pushed self.old ++ as_list freed) }
         ensures only { IsOkUnless result OutOfMemory }
     {
         match freed {
-            Some(i) => self.push(i),
+            Some(i) => {
+                self.at_hand = freed;
+                self.push(i)
+            }
             None => Ok(()),
         }
     }
 
-    /// Takes the oldest index of its own deque, or else of the first other one that yields any. `None` says
-    /// that none was found, and not that all deques were empty at one moment.
-    pub(crate) fn next(&mut self) -> Option<u32>
-        ensures within { IfSome result (λ i. i < L.limit) }
+    /// What it made ready last, if it hasn't tried that yet, or else the oldest index of its own deque, or else of the
+    /// first other one that yields any. `None` says that none below the limit was found, and not that all deques were
+    /// empty at one moment.
+    pub(crate) fn next(&mut self, limit: u32) -> Option<u32>
+        ensures within { IfSome result (λ i. i < limit) }
         ensures kept { pushed self.new ≡ pushed self.old }
     {
-        if let Some(i) = self.own.pop_as::<Below<L>>() {
+        let i = self.take()?;
+        if i < limit { Some(i) } else { None }
+    }
+
+    fn take(&mut self) -> Option<u32>
+        ensures kept { pushed self.new ≡ pushed self.old }
+    {
+        if let Some(i) = self.at_hand.take() {
+            return Some(i);
+        }
+        if let Some(i) = self.own.pop_as::<Logged>() {
             return Some(i);
         }
         for way in self.others.iter_mut() {
@@ -133,9 +137,8 @@ impl<L: Limit> Tasks<L> {
     /// The deques of so many workers. The index at place j of those that are ready goes to worker j modulo
     /// their number. A worker w steals from w + 1, w + 2 and so on, modulo their number. An error is lack of
     /// memory.
-    pub(crate) fn deal(alloc: Global, workers: u32, ready: &[u32]) -> Result<Vec<Tasks<L>>, Fault>
+    pub(crate) fn deal(alloc: Global, workers: u32, ready: &[u32]) -> Result<Vec<Tasks>, Fault>
         requires some { 1 ≤ workers }
-        requires within { AllBelow L.limit ready.now }
         ensures dealt { IfOk result (λ tasks. (vec_len tasks ≡ workers)
             × AreDealt ready.now (map pushed tasks.items) (length ready.now)) }
         ensures only { IsOkUnless result OutOfMemory }

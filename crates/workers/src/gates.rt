@@ -20,3 +20,13 @@ impl Gate for FreeGate {
 
     fn leave(&self, _i: u32) {}
 }
+
+impl<G: Gate> Gate for &G {
+    fn enter(&self, i: u32) {
+        (**self).enter(i);
+    }
+
+    fn leave(&self, i: u32) {
+        (**self).leave(i);
+    }
+}

@@ -3,12 +3,13 @@
 //!
 //! # Choices
 //!
-//! - A worker keeps its records to itself until it ends. Nothing is shared but the board, the deques and what is only
-//!   read. So an exchange takes no lock, and a record is copied once at the end, to its place in list order.
-//! - The length of the list reaches the rule of a deque by a type, `Limit`, since a rule of `crossbeam_deque` has no
-//!   value to read. The one call that starts the workers picks it.
-//! - That a thread couldn't start goes before all else, and a function of three lines has that as its contract
-//!   (`outcome_of`), since no clause of `run_list_with` could tell it from a worker's lack of memory.
+//! - A worker keeps its records to itself until it ends. Nothing is shared but the board, the deques, the trays and
+//!   what is only read. So an exchange takes no lock, and a record is copied once at the end, to its place in list order.
+//! - A type that outlives a list can't name its length, so the rule of a deque asks nothing of the indices in it, and a
+//!   worker compares each that it takes with the length.
+//! - What a thread is given goes through a lock, which tells its type's invariant alone. So a task ties its seat to the
+//!   board by the `Arc` that both lie in (`IsTask`), and what comes back goes through a tray with that board as its
+//!   label.
 //! - The tests stand beside those of `board`, in `tests_of_boards`, which share their lists and tables. They call
 //!   `run_list` of `pool`. A test of 2000 exchanges among 256 nodes, by threads over the board and by workers, is there
 //!   too: `acceptance` compares texts.
@@ -18,12 +19,16 @@ mod deques;
 mod gates;
 mod gathering;
 mod in_order;
+mod lent;
+mod posts;
 mod push_logs;
 mod runs;
-mod threads;
+mod shifts;
+mod tasks;
 mod workers;
 mod works;
 
 pub use gates::{FreeGate, Gate};
+pub use posts::Posts;
 pub use runs::run_list_with;
-pub use works::Work;
+pub use works::{Batch, Done, Work};

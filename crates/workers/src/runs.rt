@@ -5,13 +5,12 @@ ghost use Rattle.model.specs.Runs.{AreWorkers, IsFaultOfWorkers};
 ghost use Rattle.workers.specs.Carrying.{MayCarryOut, AreExchanged};
 
 use crate::gates::Gate;
-use crate::in_order::exchange_all;
-use crate::threads::exchange_in_threads;
-use crate::works::Work;
+use crate::lent::Lent;
+use crate::posts::Posts;
+use crate::works::{Batch, Done, Work};
 use bench_types::{Fault, Record};
 use model::{Exchanging, MemoryTable};
 use std::alloc::Global;
-use std::marker::Brand;
 use std::sync::Wait;
 use std::thread::Threads;
 
@@ -38,7 +37,7 @@ pub fn run_list_with<
     rt: &R,
     alloc: Global,
     work: Work<X, G>,
-    mut tables: Vec<T>,
+    tables: Vec<T>,
     meanwhile: F,
 ) -> Result<(Vec<T>, Vec<Record>, M), Fault>
     requires workers { AreWorkers work.workers }
@@ -50,11 +49,15 @@ pub fn run_list_with<
     ensures made { IfOk result (λ p. F.post meanwhile p.2) }
     ensures fault { IfErr result (IsFaultOfWorkers work.entry.workers) }
 {
-    if work.workers == 1 {
-        let made = meanwhile();
-        let records = exchange_all(alloc, work, &mut tables)?;
-        Ok((tables, records, made))
-    } else {
-        exchange_in_threads::<Brand, T, X, F, M>(rt, alloc, work, tables, meanwhile)
-    }
+    let posts = Posts::new(alloc, work.workers)?;
+    let batch = Batch {
+        shared: Lent {
+            shared: work.shared,
+        },
+        list: work.list,
+        rules: work.rules,
+        gate: work.gate,
+    };
+    let done = posts.carry_out_once(rt, batch, tables, meanwhile)?;
+    Ok((done.tables, done.records, done.made))
 }

@@ -1,35 +1,34 @@
 //! What the workers of a list share, and the body of one of them.
 
-ghost use Rattle.std.specs.Prelude.{◌≡◌, ◌<◌, MatchResult, OnOk, IsOkUnless};
+ghost use Rattle.std.specs.Prelude.{◌≡◌, ◌<◌, length, MatchResult, OnOk, IsOkUnless};
 ghost use Rattle.bench_types.specs.declared.faults.Fault.TheVariants.{OutOfMemory};
-ghost use Rattle.board.specs.Boards.{plan_of, seat_view, IsSeatOf};
+ghost use Rattle.board.specs.Boards.{exchanges_of, plan_of, seat_view, IsSeatOf};
 
-use crate::deques::{Limit, Tasks};
+use crate::deques::Tasks;
 use crate::gates::Gate;
 use crate::gathering::Stamped;
 use bench_types::{Fault, Rules};
 use board::{Board, Claim, Freed, Hold, Seat};
 use crossbeam_utils::Backoff;
-use model::{Exchanging, MemoryTable, RoundList};
+use model::{Exchanging, MemoryTable};
 use std::alloc::Global;
 use std::sync::Wait;
 
 /// What all workers of a list share.
 #[derive(Drop)]
-pub(crate) struct Workshop<'a, T: MemoryTable, X: Exchanging<T>, G> {
+pub(crate) struct Workshop<T: MemoryTable, X: Exchanging<T>, G> {
     pub alloc: Global,
-    pub board: &'a Board<T>,
-    pub shared: &'a X,
-    pub list: &'a RoundList,
-    pub rules: &'a Rules,
-    pub gate: &'a G,
+    pub board: Board<T>,
+    pub shared: X,
+    pub rules: Rules,
+    pub gate: G,
 }
 
 /// A worker: its seat, where it finds exchanges, and the records of those that it has put back.
 #[derive(Drop)]
-pub(crate) struct Worker<T, L: Limit> {
+pub(crate) struct Worker<T> {
     pub seat: Seat<T>,
-    pub tasks: Tasks<L>,
+    pub tasks: Tasks,
     pub stamps: Vec<Stamped>,
 }
 
@@ -41,22 +40,17 @@ pub(crate) struct Returned<T> {
     pub outcome: Result<Vec<Stamped>, Fault>,
 }
 
-impl<'a, T: MemoryTable, X: Exchanging<T>, G: Gate> Workshop<'a, T, X, G> {
-    ghost use Rattle.workers.specs.inner.Workshops.{IsWorkshop, IsWorkshopOf};
+impl<T: MemoryTable, X: Exchanging<T>, G: Gate> Workshop<T, X, G> {
+    ghost use Rattle.workers.specs.inner.Workshops.{IsWorkshop};
     ghost use Rattle.workers.specs.inner.AtWork.{HasWorked, IsWorker, StaysAtWork};
     ghost use Rattle.workers.specs.inner.Returns.{HasCarriedOut, IsFreshSeat, IsHeldOf, IsReturned, SeesTheEnd};
 
     /// Carries out exchanges of the list until it sees that all are finished or that a stop was called. On
     /// lack of memory it calls for a stop.
-    pub(crate) fn work<L: Limit, R: Wait>(
-        &self,
-        rt: &R,
-        seat: Seat<T>,
-        tasks: Tasks<L>,
-    ) -> Returned<T>
-        requires shop { IsWorkshopOf T.table X.fits L.limit self.now }
-        requires seat { IsFreshSeat T.table self.now.board.now seat }
-        ensures { IsReturned T.table self.now.board.now (seat_view seat).parts result }
+    pub(crate) fn work<R: Wait>(&self, rt: &R, seat: Seat<T>, tasks: Tasks) -> Returned<T>
+        requires shop { IsWorkshop T.table X.fits self.now }
+        requires seat { IsFreshSeat T.table self.now.board seat }
+        ensures { IsReturned T.table self.now.board (seat_view seat).parts result }
     {
         let mut worker = Worker {
             seat,
@@ -78,26 +72,23 @@ impl<'a, T: MemoryTable, X: Exchanging<T>, G: Gate> Workshop<'a, T, X, G> {
         }
     }
 
-    fn carry_out_all<L: Limit, R: Wait>(
-        &self,
-        rt: &R,
-        worker: &mut Worker<T, L>,
-    ) -> Result<(), Fault>
-        requires shop { IsWorkshopOf T.table X.fits L.limit self.now }
-        requires worker { IsWorker T.table self.now.board.now worker.old }
-        ensures stays { StaysAtWork T.table self.now.board.now worker.old worker.new }
-        ensures worked { OnOk result (HasWorked T.table self.now.board.now worker.old worker.new) }
-        ensures ends { OnOk result (SeesTheEnd (plan_of T.table self.now.board.now) (seat_view worker.new.seat)) }
+    fn carry_out_all<R: Wait>(&self, rt: &R, worker: &mut Worker<T>) -> Result<(), Fault>
+        requires shop { IsWorkshop T.table X.fits self.now }
+        requires worker { IsWorker T.table self.now.board worker.old }
+        ensures stays { StaysAtWork T.table self.now.board worker.old worker.new }
+        ensures worked { OnOk result (HasWorked T.table self.now.board worker.old worker.new) }
+        ensures ends { OnOk result (SeesTheEnd (plan_of T.table self.now.board) (seat_view worker.new.seat)) }
         ensures only { IsOkUnless result OutOfMemory }
     {
+        let count = self.board.len();
         let backoff = Backoff::new();
         for _ in rt.forever() {
             // Whether all exchanges are put back, or a stop was called.
             let progress = self.board.look(&mut worker.seat);
-            if progress.stopped || progress.finished == self.list.len() {
+            if progress.stopped || progress.finished == count {
                 break;
             }
-            if let Some(i) = worker.tasks.next() {
+            if let Some(i) = worker.tasks.next(count) {
                 self.try_one(worker, i)?;
                 backoff.reset();
             } else {
@@ -109,12 +100,12 @@ impl<'a, T: MemoryTable, X: Exchanging<T>, G: Gate> Workshop<'a, T, X, G> {
 
     // Claims an exchange, and where it is held carries it out and keeps its record. What that made ready
     // goes on the worker's own deque.
-    fn try_one<L: Limit>(&self, worker: &mut Worker<T, L>, i: u32) -> Result<(), Fault>
-        requires shop { IsWorkshopOf T.table X.fits L.limit self.now }
-        requires within { i < L.limit }
-        requires worker { IsWorker T.table self.now.board.now worker.old }
-        ensures stays { StaysAtWork T.table self.now.board.now worker.old worker.new }
-        ensures worked { OnOk result (HasWorked T.table self.now.board.now worker.old worker.new) }
+    fn try_one(&self, worker: &mut Worker<T>, i: u32) -> Result<(), Fault>
+        requires shop { IsWorkshop T.table X.fits self.now }
+        requires within { i < length (exchanges_of self.now.board) }
+        requires worker { IsWorker T.table self.now.board worker.old }
+        ensures stays { StaysAtWork T.table self.now.board worker.old worker.new }
+        ensures worked { OnOk result (HasWorked T.table self.now.board worker.old worker.new) }
         ensures only { IsOkUnless result OutOfMemory }
     {
         let Claim::Held(hold) = self.board.claim(&mut worker.seat, i) else {
@@ -136,19 +127,19 @@ impl<'a, T: MemoryTable, X: Exchanging<T>, G: Gate> Workshop<'a, T, X, G> {
         mut hold: Hold<T>,
     ) -> Result<(Stamped, Freed), Fault>
         requires shop { IsWorkshop T.table X.fits self.now }
-        requires hold { IsHeldOf T.table self.now.board.now seat.old hold }
-        ensures seat { IsSeatOf T.table seat.new self.now.board.now }
+        requires hold { IsHeldOf T.table self.now.board seat.old hold }
+        ensures seat { IsSeatOf T.table seat.new self.now.board }
         ensures done { MatchResult result
-            (λ done. HasCarriedOut T.table self.now.board.now seat.old hold.index done.0 done.1 seat.new)
+            (λ done. HasCarriedOut T.table self.now.board seat.old hold.index done.0 done.1 seat.new)
             (λ f. (f ≡ OutOfMemory) × (seat_view seat.new ≡ seat_view seat.old)) }
     {
         let index = hold.index;
-        let plan = self.list.exchanges()[index as usize];
+        let plan = self.board.exchange(index);
         self.gate.enter(index);
         let (initiator, responder) = (&mut hold.initiator, &mut hold.responder);
         let outcome = self
             .shared
-            .exchange(self.alloc, initiator, responder, &plan, self.rules)?;
+            .exchange(self.alloc, initiator, responder, &plan, &self.rules)?;
         let freed = self.board.put_back(seat, hold);
         self.gate.leave(index);
         Ok((Stamped { index, outcome }, freed))

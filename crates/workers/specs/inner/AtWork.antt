@@ -8,17 +8,17 @@ use Rattle.workers.specs.inner.Returns.{HasRecords}
 use Rattle.workers.specs.declared.workers.Worker.{Worker}
 
 -- its seat is one of the board, and it has the records of what that has put back
-pub record IsWorker {T L : Type 0} (table : T → Table) (board : Board T) (worker : Worker T L) : Type 0 where
+pub record IsWorker {T : Type 0} (table : T → Table) (board : Board T) (worker : Worker T) : Type 0 where
   pub of_board : IsSeatOf table worker.seat board
   pub records : HasRecords table board worker.seat worker.stamps.items
 
 -- its seat keeps its parts, and whether it has called for a stop
-pub record StaysAtWork {T L : Type 0} (table : T → Table) (board : Board T) (old new : Worker T L) : Type 0 where
+pub record StaysAtWork {T : Type 0} (table : T → Table) (board : Board T) (old new : Worker T) : Type 0 where
   pub of_board : IsSeatOf table new.seat board
   pub parts : (seat_view new.seat).parts ≡ (seat_view old.seat).parts
   pub is_halted : (seat_view new.seat).is_halted ≡ (seat_view old.seat).is_halted
 
 -- it has the records of all that it has put back, and has pushed what that made ready meanwhile
-pub record HasWorked {T L : Type 0} (table : T → Table) (board : Board T) (old new : Worker T L) : Type 0 where
+pub record HasWorked {T : Type 0} (table : T → Table) (board : Board T) (old new : Worker T) : Type 0 where
   pub records : HasRecords table board new.seat new.stamps.items
   pub pushes : PushesFreed (seat_view old.seat) (pushed old.tasks) (seat_view new.seat) (pushed new.tasks)

@@ -1,10 +1,8 @@
 -- What comes back of workers. Source: this project.
-use Rattle.std.specs.Prelude.{◌≡◌, ℕ, ◌+◌, ◌<◌, ◌≤◌, ◌⊎◌, true, List, length, map, Result, Ok, MatchResult}
-use Rattle.std.specs.declared.thread.PromisedHandle.{PromisedHandle}
+use Rattle.std.specs.Prelude.{◌≡◌, ℕ, ◌+◌, ◌<◌, ◌≤◌, ◌⊎◌, true, List, length, map, Result, Ok}
 use Rattle.bench_types.specs.declared.faults.Fault.{Fault}
 use Rattle.bench_types.specs.declared.exchanges.Record.{Record}
 use Rattle.model.specs.Table.{Table}
-use Rattle.model.specs.Runs.{IsFaultOfWorkers}
 use Rattle.model.specs.Folds.{fold_of}
 use Rattle.board.specs.SeatView.{IsWhole}
 use Rattle.board.specs.Plan.{BoardPlan}
@@ -12,12 +10,6 @@ use Rattle.board.specs.Boards.{exchanges_of, seat_view}
 use Rattle.board.specs.declared.boards.Board.{Board}
 use Rattle.workers.specs.inner.Gathering.{HasGathered}
 use Rattle.workers.specs.declared.gathering.Gathered.{Gathered}
-use Rattle.workers.specs.declared.workers.Returned.{Returned}
-use Rattle.workers.specs.declared.threads.Back.{Back}
-
--- the thread promises a returned of this board
-abbrev pub IsOfBoard : {T : Type 0} → Board T → PromisedHandle (Returned T) (Back T) → Type 0
-IsOfBoard board handle = handle.promise.0.value ≡ board
 
 -- the seats of so many workers were joined to another, and their records are in their places
 pub record HasTakenIn {T : Type 0} (table : T → Table) (board : Board T) (workers : ℕ) (old new : Gathered T) : Type 0 where
@@ -37,11 +29,6 @@ pub record HasSeenAll {T : Type 0} (table : T → Table) (board : Board T) (gath
   pub has : HasGathered table board gathered
   pub whole : IsWhole (seat_view gathered.seat)
   pub seen : (seat_view gathered.seat).seen ≡ length (exchanges_of board)
-
--- so many workers come to a seat that has seen all and to its records, beside what a call may give, or to a fault
-abbrev pub HasRun : {T M : Type 0} → (T → Table) → Board T → (M → Type 0) → ℕ → Result (Gathered T × M) Fault → Type 0
-HasRun table board gives workers result =
-    MatchResult result (λ p. HasSeenAll table board p.0 × gives p.1) (IsFaultOfWorkers workers)
 
 -- the tables and the records of list order
 abbrev pub IsEndOf : {T : Type 0} → (T → Table) → BoardPlan → List T → List Record → Type 0

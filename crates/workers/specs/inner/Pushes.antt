@@ -5,7 +5,7 @@ use Rattle.board.specs.SeatView.{SeatView}
 use Rattle.crossbeam_deque.specs.Handles.{worker_view}
 use Rattle.workers.specs.declared.deques.Tasks.{Tasks}
 
-abbrev pub pushed : {L : Type 0} → Tasks L → List ℕ
+abbrev pub pushed : Tasks → List ℕ
 pushed tasks = (worker_view tasks.own).indices
 
 -- of these indices the first few stand each in the pushes of the worker whose turn it is

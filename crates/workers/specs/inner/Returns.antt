@@ -1,5 +1,5 @@
 -- What one exchange comes to, and what a worker comes back with. Source: this project.
-use Rattle.std.specs.Prelude.{◌≡◌, ℕ, ◌<◌, ◌⊎◌, true, false, List, [], length, map, All, IfOk, IfErr, IfSome}
+use Rattle.std.specs.Prelude.{◌≡◌, ℕ, ◌<◌, ◌⊎◌, true, false, List, [], length, map, All, IfOk, IfErr}
 use Rattle.bench_types.specs.declared.faults.Fault.TheVariants.{OutOfMemory}
 use Rattle.model.specs.Table.{Table}
 use Rattle.board.specs.SeatView.{SeatView}
@@ -13,10 +13,6 @@ use Rattle.board.specs.declared.boards.Seat.{Seat}
 use Rattle.workers.specs.declared.gathering.Stamped.{Stamped}
 use Rattle.workers.specs.declared.workers.Returned.{Returned}
 
--- what was made ready stands in the list
-abbrev pub AreOfList : BoardPlan → Freed → Type 0
-AreOfList plan freed = IfSome freed.first (λ j. j < length plan.list.exchanges) × IfSome freed.second (λ j. j < length plan.list.exchanges)
-
 -- the record that an exchange of the list has in list order
 pub record IsRecordOf (plan : BoardPlan) (stamped : Stamped) : Type 0 where
   pub within : stamped.index < length plan.list.exchanges
@@ -27,7 +23,6 @@ pub record HasDone (plan : BoardPlan) (old : SeatView) (i : ℕ) (stamped : Stam
   pub index : stamped.index ≡ i
   pub stamp : IsRecordOf plan stamped
   pub put_back : IsPutBack plan old i freed new
-  pub of_list : AreOfList plan freed
 
 -- a seat of a board has done so
 abbrev pub HasCarriedOut : {T : Type 0} → (T → Table) → Board T → Seat T → ℕ → Stamped → Freed → Seat T → Type 0

@@ -1,25 +1,20 @@
-use Rattle.runs.proofs.Common.{arith}
-use Rattle.runs.proofs.Turns.{all_written, answers_fault, one_more, stops_before, stops_writing}
+use Rattle.runs.proofs.Common.{◌≡◌, ◌<◌, inl, inr, refl, sym, ap, ◌∙◌, rules, subst, arith}
+use Rattle.runs.specs.inner.Rounds.{IsFaultInTurn}
+use Rattle.runs.proofs.Turns.{answers_fault, stops_at_first}
+use Rattle.runs.proofs.rounds.write_each.Given as given
 use Rattle.runs.proofs.rounds.write_each.Goals as goal
+use Rattle.bench_types.specs.declared.faults.Fault.TheVariants.{NoThread}
 
-pub returns-in_err-round : goal.returns-in_err-round
-returns-in_err-round g c =
-    answers_fault g.O.RoundWriter.wrote g.O.RoundWriter.stops _ _ _ _ _ c.in_err-round.field-0.0 c.from_residual.ensures.1
-    (stops_before g.O.RoundWriter.wrote g.O.RoundWriter.stops _ _ _ _ _ _ _ _ c.loop.invariant (omega (arith, c.loop-test.true, c.rounds-end.ensures))
-    c.in_err-round.ensures.fails)
-
-pub returns-in_err-write : goal.returns-in_err-write
-returns-in_err-write g c =
-    answers_fault g.O.RoundWriter.wrote g.O.RoundWriter.stops _ _ _ _ _ c.in_err-write.field-0.0 c.from_residual-in_err-write.ensures.1
-    (stops_writing g.O.RoundWriter.wrote g.O.RoundWriter.stops _ _ g.T.MemoryTable.table _ _ _ _ _ c.loop.invariant c.in_ok-round.round
-    c.in_ok-round.ensures.played _ _ (omega (arith, c.loop-test.true, c.rounds-end.ensures)) c.in_err-write.ensures.fault)
-
-pub loop-preserved : goal.loop-preserved
-loop-preserved g c =
-    one_more g.O.RoundWriter.wrote g.O.RoundWriter.stops _ _ g.T.MemoryTable.table _ _ _ _ _ c.loop.invariant c.in_ok-round.round
-    c.in_ok-round.ensures.played c.in_ok-write.ensures.written
+pub returns-in_err-posts : goal.returns-in_err-posts
+returns-in_err-posts g c =
+    answers_fault g.O.RoundWriter.wrote g.O.RoundWriter.stops _ _ _ _ _ c.in_err-posts.field-0.0 c.from_residual.ensures.1
+    (stops_at_first g.O.RoundWriter.wrote g.O.RoundWriter.stops _ _ _ _ (omega (arith, c.rounds-rounds.ensures.value, c.rounds-rounds.ensures.some))
+    (inl c.in_err-posts.ensures.only))
 
 pub returns : goal.returns
 returns g c =
-    all_written g.O.RoundWriter.wrote g.O.RoundWriter.stops _ _ _ _ _ _ _ c.loop.invariant (omega (arith, c.loop-test.false, c.rounds-end.ensures))
-    c.into_scenario.ensures
+    answers_fault g.O.RoundWriter.wrote g.O.RoundWriter.stops _ _ _ _ _ NoThread refl
+    (subst (λ now. IsFaultInTurn g.O.RoundWriter.wrote g.O.RoundWriter.stops c.args.sim.settings c.args.output.now now c.args.resources.now.workers NoThread)
+    (search rules)
+    (stops_at_first g.O.RoundWriter.wrote g.O.RoundWriter.stops _ c.args.output.now _ NoThread (omega (arith, c.rounds-rounds.ensures.value, c.rounds-rounds.ensures.some))
+    (inr (refl, omega (arith, c.in-Err.ensures.several, c.in_ok-posts.ensures.workers)))))

@@ -1,13 +1,21 @@
-use Rattle.simulation.proofs.Common.{map, subst, sym, ap, ◌∙◌, IfOk, IsLawfulBudget, Rules, AreWrittenBy, IsCluster, lists_in, figures_of, RoundListView, IsRoundPlan}
+use Rattle.simulation.proofs.Common.{rules, ◌≡◌, ℕ, List, map, subst, sym, ap, ◌∙◌, IfOk, IsLawfulBudget, Rules, AreWrittenBy, IsCluster, lists_in, figures_of, HistoriesView, RoundListView, IsRoundPlan, Settings, Table}
+use Rattle.workers.specs.Carrying.{AreExchanged}
+use Rattle.simulation.specs.inner.InMemory.{HasBegun}
 use Rattle.simulation.specs.inner.Plans.{IsDrawnAfter}
 use Rattle.simulation.proofs.Playing.{IsLeft, lawful_budget, is_left, each_begun, nodes_cluster, standing_cluster, one_list_each, one_record_each, round_is, played_is}
 use Rattle.simulation.proofs.Standing.{written_by}
 use Rattle.simulation.proofs.clusters.Cluster.play.Given as given
 use Rattle.simulation.proofs.clusters.Cluster.play.Goals as goal
 
+-- histories that come back are those that were shared
+back : {T K : Type 0} {table : T → Table} {kept : K → HistoriesView} {Fits : K → Table → Type 0}
+    {s : Settings} {round : ℕ} {old new : List T} {k k' : K}
+    → k' ≡ k → HasBegun table kept Fits s round old new k → HasBegun table kept Fits s round old new k'
+back same is = subst (HasBegun _ _ _ _ _ _ _) (sym same) is
+
 -- each table stands among the lists as the exchanges begin
-pub run_list_with-requires-clause-tables : goal.run_list_with-requires-clause-tables
-run_list_with-requires-clause-tables g c _ _ = record {
+pub carry_out-requires-clause-tables : goal.carry_out-requires-clause-tables
+carry_out-requires-clause-tables g c _ _ = record {
   cluster =
       subst (λ n. IsCluster n (map g.T.MemoryTable.table c.in_ok-begun.begun.items)) (sym (ap (λ (l : RoundListView). l.nodes) c.in_ok-words.ensures.plan.list))
       (nodes_cluster g.T.MemoryTable.table c.args.scenario.now c.args.round c.in_ok-begun.begun.items (g.K.RoundHistories.kept c.in_ok-begun.histories).lists
@@ -21,14 +29,17 @@ run_list_with-requires-clause-tables g c _ _ = record {
 
 -- the tables as the figures read them, and the lists
 read : (g : given.Over) (c : goal.After-deref g) → IsLeft g.T.MemoryTable.table c.args.scenario.now c.args.round c.deref.result.now
-    (g.K.RoundHistories.kept c.in_ok-begun.histories)
+    (g.K.RoundHistories.kept c.in_ok-tables.field-0.shared)
 read g c =
-    subst (λ ts. IsLeft g.T.MemoryTable.table c.args.scenario.now c.args.round ts (g.K.RoundHistories.kept c.in_ok-begun.histories))
+    let begun = back c.in_ok-tables.ensures.shared c.in_ok-begun.ensures.begun in
+    let ended : AreExchanged g.T.MemoryTable.table c.rules_of-rules.result c.in_ok-words.field-0.list.exchanges c.in_ok-begun.begun.items
+    c.in_ok-tables.field-0.tables.items c.in_ok-tables.field-0.records.items = search rules in
+    subst (λ ts. IsLeft g.T.MemoryTable.table c.args.scenario.now c.args.round ts (g.K.RoundHistories.kept c.in_ok-tables.field-0.shared))
     (sym c.deref.ensures.value)
-    (is_left g.T.MemoryTable.table c.args.scenario.now c.args.round c.in_ok-words.field-0.list _ _ _ c.in_ok-tables.tables.items
-    c.in_ok-tables.records.items _ c.requires.lawful c.requires.round.first (subst IsRoundPlan c.list.view_is c.list.invariant)
-    c.in_ok-words.ensures.plan.list c.rules_of-rules.ensures c.requires.before.tables c.in_ok-begun.ensures.begun.tables
-    c.in_ok-begun.ensures.begun.ended.keys c.in_ok-begun.ensures.begun.standing c.in_ok-tables.ensures.exchanged)
+    (is_left g.T.MemoryTable.table c.args.scenario.now c.args.round c.in_ok-words.field-0.list _ _ _ c.in_ok-tables.field-0.tables.items
+    c.in_ok-tables.field-0.records.items _ c.requires.lawful c.requires.round.first (subst IsRoundPlan c.list.view_is c.list.invariant)
+    c.in_ok-words.ensures.plan.list c.rules_of-rules.ensures c.requires.before.tables begun.tables
+    begun.ended.keys begun.standing ended)
 
 pub figures-requires-clause-cluster : goal.figures-requires-clause-cluster
 figures-requires-clause-cluster g c = standing_cluster g.T.MemoryTable.table c.args.scenario.now c.args.round c.deref.result.now _ (read g c).standing
@@ -38,8 +49,8 @@ figures-requires-clause-one_list_each g c = one_list_each g.T.MemoryTable.table 
 
 pub figures-requires-clause-written : goal.figures-requires-clause-written
 figures-requires-clause-written g c =
-    let begun = c.in_ok-begun.ensures.begun in
-    subst (λ r. AreWrittenBy r (g.K.RoundHistories.kept c.in_ok-begun.histories).lists) (sym begun.ended.rounds)
+    let begun = back c.in_ok-tables.ensures.shared c.in_ok-begun.ensures.begun in
+    subst (λ r. AreWrittenBy r (g.K.RoundHistories.kept c.in_ok-tables.field-0.shared).lists) (sym begun.ended.rounds)
     (written_by c.args.scenario.now c.args.round _ _ begun.standing)
 
 pub figures-requires-clause-standing : goal.figures-requires-clause-standing
@@ -47,17 +58,22 @@ figures-requires-clause-standing g c = (read g c).each
 
 pub of-played-requires : goal.of-played-requires
 of-played-requires g c =
+    let ended : AreExchanged g.T.MemoryTable.table c.rules_of-rules.result c.in_ok-words.field-0.list.exchanges c.in_ok-begun.begun.items
+    c.in_ok-tables.field-0.tables.items c.in_ok-tables.field-0.records.items = search rules in
     one_record_each c.args.scenario.now c.args.round c.in_ok-words.field-0.list (subst IsRoundPlan c.list.view_is c.list.invariant)
-    c.in_ok-words.ensures.plan.list _ _ _ c.in_ok-tables.records.items c.in_ok-tables.ensures.exchanged
+    c.in_ok-words.ensures.plan.list _ _ _ c.in_ok-tables.field-0.records.items ended
 
 -- what the round leaves
-left : (g : given.Over) (c : goal.After-of-played g) → IsLeft g.T.MemoryTable.table c.args.scenario.now c.args.round c.in_ok-tables.tables.items
-    (g.K.RoundHistories.kept c.in_ok-begun.histories)
+left : (g : given.Over) (c : goal.After-of-played g) → IsLeft g.T.MemoryTable.table c.args.scenario.now c.args.round c.in_ok-tables.field-0.tables.items
+    (g.K.RoundHistories.kept c.in_ok-tables.field-0.shared)
 left g c =
-    is_left g.T.MemoryTable.table c.args.scenario.now c.args.round c.in_ok-words.field-0.list _ _ _ c.in_ok-tables.tables.items
-    c.in_ok-tables.records.items _ c.requires.lawful c.requires.round.first (subst IsRoundPlan c.list.view_is c.list.invariant)
-    c.in_ok-words.ensures.plan.list c.rules_of-rules.ensures c.requires.before.tables c.in_ok-begun.ensures.begun.tables
-    c.in_ok-begun.ensures.begun.ended.keys c.in_ok-begun.ensures.begun.standing c.in_ok-tables.ensures.exchanged
+    let begun = back c.in_ok-tables.ensures.shared c.in_ok-begun.ensures.begun in
+    let ended : AreExchanged g.T.MemoryTable.table c.rules_of-rules.result c.in_ok-words.field-0.list.exchanges c.in_ok-begun.begun.items
+    c.in_ok-tables.field-0.tables.items c.in_ok-tables.field-0.records.items = search rules in
+    is_left g.T.MemoryTable.table c.args.scenario.now c.args.round c.in_ok-words.field-0.list _ _ _ c.in_ok-tables.field-0.tables.items
+    c.in_ok-tables.field-0.records.items _ c.requires.lawful c.requires.round.first (subst IsRoundPlan c.list.view_is c.list.invariant)
+    c.in_ok-words.ensures.plan.list c.rules_of-rules.ensures c.requires.before.tables begun.tables
+    begun.ended.keys begun.standing ended
 
 pub returns-clause-after : goal.returns-clause-after
 returns-clause-after g c =
@@ -65,20 +81,22 @@ returns-clause-after g c =
     record {
       standing = is.standing;
       tables = is.after;
-      ended = c.in_ok-begun.ensures.begun.ended;
+      ended = (back c.in_ok-tables.ensures.shared c.in_ok-begun.ensures.begun).ended;
       drawn = subst
           (λ r. IfOk r (IsDrawnAfter c.args.scenario.now c.args.round)) c.in_ok-drawn.was c.in_ok-tables.ensures.made.0;
     }
 
 pub returns-clause-played : goal.returns-clause-played
 returns-clause-played g c =
-    let lists = (g.K.RoundHistories.kept c.in_ok-begun.histories).lists in
+    let ended : AreExchanged g.T.MemoryTable.table c.rules_of-rules.result c.in_ok-words.field-0.list.exchanges c.in_ok-begun.begun.items
+    c.in_ok-tables.field-0.tables.items c.in_ok-tables.field-0.records.items = search rules in
+    let lists = (g.K.RoundHistories.kept c.in_ok-tables.field-0.shared).lists in
     played_is c.args.scenario.now c.args.round (map g.T.MemoryTable.table c.args.self.tables.items)
-    (map g.T.MemoryTable.table c.in_ok-tables.tables.items) lists c.in_ok-words.field-0.list c.in_ok-tables.records.items c.in_ok-lag.lag
+    (map g.T.MemoryTable.table c.in_ok-tables.field-0.tables.items) lists c.in_ok-words.field-0.list c.in_ok-tables.field-0.records.items c.in_ok-lag.lag
     c.of-played.result c.in_ok-words.ensures.plan.list
     (round_is c.args.scenario.now c.args.round c.in_ok-words.field-0.list (subst IsRoundPlan c.list.view_is c.list.invariant)
-    c.in_ok-words.ensures.plan.list _ _ _ c.in_ok-tables.records.items c.in_ok-tables.ensures.exchanged
-    (map g.T.MemoryTable.table c.args.self.tables.items) c.in_ok-begun.ensures.begun.tables c.rules_of-rules.ensures)
+    c.in_ok-words.ensures.plan.list _ _ _ c.in_ok-tables.field-0.records.items ended
+    (map g.T.MemoryTable.table c.args.self.tables.items) (back c.in_ok-tables.ensures.shared c.in_ok-begun.ensures.begun).tables c.rules_of-rules.ensures)
     (c.in_ok-lag.ensures.figures
-    ∙ (λ i. figures_of (c.in_ok-begun.ensures.begun.ended.rounds i) (map g.T.MemoryTable.table (c.deref.ensures.value i)) (lists_in lists)))
+    ∙ (λ i. figures_of ((back c.in_ok-tables.ensures.shared c.in_ok-begun.ensures.begun).ended.rounds i) (map g.T.MemoryTable.table (c.deref.ensures.value i)) (lists_in lists)))
     c.of-played.ensures

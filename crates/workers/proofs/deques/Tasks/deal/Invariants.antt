@@ -3,16 +3,16 @@ use Rattle.workers.specs.inner.Pushes.{AreDealt, pushed}
 use Rattle.workers.proofs.deques.Tasks.deal.Given as goal
 
 abbrev pub invariant-loop : goal.invariant-loop
-invariant-loop g l = vec_len l.tasks ≡ l.counter
+invariant-loop l = vec_len l.tasks ≡ l.counter
 
 abbrev pub invariant-loop-step : goal.invariant-loop-step
-invariant-loop-step g l = vec_len l.tasks ≡ l.count
+invariant-loop-step l = vec_len l.tasks ≡ l.count
 
 abbrev pub invariant-loop-worker : goal.invariant-loop-worker
-invariant-loop-worker g l = vec_len l.tasks ≡ l.count
+invariant-loop-worker l = vec_len l.tasks ≡ l.count
 
 abbrev pub invariant-loop-place : goal.invariant-loop-place
-invariant-loop-place g l = record {
+invariant-loop-place l = record {
   one_each : vec_len l.tasks ≡ l.count;
   dealt : AreDealt l.ready (map pushed l.tasks.items) l.place;
 }

@@ -6,7 +6,7 @@ use Rattle.workers.proofs.workers.Workshop.carry_out_all.Goals as goal
 use Rattle.workers.proofs.workers.Workshop.carry_out_all.Goals.{in-None, in-Some+then-progress}
 
 -- a look leaves what the seat has put back and freed
-still_worked : {T L : Type 0} (table : T → Table) (board : Board T) (old worker : Worker T L) (seat : Seat T) → (seat_view seat).made ≡ (seat_view worker.seat).made → (seat_view seat).freed ≡ (seat_view worker.seat).freed
+still_worked : {T : Type 0} (table : T → Table) (board : Board T) (old worker : Worker T) (seat : Seat T) → (seat_view seat).made ≡ (seat_view worker.seat).made → (seat_view seat).freed ≡ (seat_view worker.seat).freed
     → HasWorked table board old worker → HasWorked table board old (record worker { seat = seat })
 still_worked table board old worker seat made freed worked = record {
   records = record { made = worked.records.made ∙ sym made; each = worked.records.each };
@@ -16,7 +16,7 @@ still_worked table board old worker seat made freed worked = record {
 pub returns-clause-worked : goal.returns-clause-worked
 returns-clause-worked g c =
     let table = g.T.MemoryTable.table in
-    let board = c.args.self.now.board.now in
+    let board = c.args.self.now.board in
     let worked = c.loop.invariant.worked in
     elim c.match-next.branch [
       | in-None w ↦ subst (HasWorked table board c.args.worker.now) (sym w.worker-is) worked

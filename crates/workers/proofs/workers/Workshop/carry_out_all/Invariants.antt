@@ -5,6 +5,6 @@ abbrev pub invariant-loop : goal.invariant-loop
 invariant-loop g l = record {
   more : (goal.iterator-loop g).can_next l.iterator';
   finite : (goal.iterator-loop g).is_finite l.iterator';
-  stays : StaysAtWork g.T.MemoryTable.table l.self.board.now l.fn.worker l.worker;
-  worked : HasWorked g.T.MemoryTable.table l.self.board.now l.fn.worker l.worker;
+  stays : StaysAtWork g.T.MemoryTable.table l.self.board l.fn.worker l.worker;
+  worked : HasWorked g.T.MemoryTable.table l.self.board l.fn.worker l.worker;
 }

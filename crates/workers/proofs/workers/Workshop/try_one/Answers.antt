@@ -20,7 +20,7 @@ one_more_record plan old claimed new stamps more i stamped freed same pushed so_
 
 pub carry_out-requires-clause-hold : goal.carry_out-requires-clause-hold
 carry_out-requires-clause-hold g c =
-    let plan = plan_of g.T.MemoryTable.table c.args.self.now.board.now in
+    let plan = plan_of g.T.MemoryTable.table c.args.self.now.board in
     let claim = c.in-Held.ensures.claim in
     λ _ _. record {
       of_board = c.claim.ensures.seat;
@@ -36,7 +36,7 @@ returns-clause-worked g c =
     let done = c.in_ok-stamped.ensures.done in
     record {
       records =
-          one_more_record (plan_of g.T.MemoryTable.table c.args.self.now.board.now) old (seat_view c.claim.new.seat) (seat_view c.carry_out.new.seat) c.args.worker.now.stamps.items c.push.new.self.items c.in-Held.hold.index c.in_ok-stamped.stamped c.in_ok-stamped.freed
+          one_more_record (plan_of g.T.MemoryTable.table c.args.self.now.board) old (seat_view c.claim.new.seat) (seat_view c.carry_out.new.seat) c.args.worker.now.stamps.items c.push.new.self.items c.in-Held.hold.index c.in_ok-stamped.stamped c.in_ok-stamped.freed
           (ap (λ (v : SeatView). v.made) c.in-Held.ensures.claim.1) c.in_ok-push.ensures.items c.requires.worker.records done;
       pushes = record {
         ready = first ++ second;

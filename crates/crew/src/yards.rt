@@ -1,0 +1,146 @@
+//! Where the threads of a crew are given what to do.
+
+use std::alloc::{AllocError, Global};
+use std::sync::atomic::{AtomicU64, Ordering};
+use std::sync::{Condvar, Mutex, Wait};
+use std::{hint, mem};
+
+// What lies at a thread's post.
+#[derive(Drop)]
+enum Order<D> {
+    Nothing,
+    Duty(D),
+    GoHome,
+}
+
+impl<D: Drop> Order<D> {
+    fn is_none(&self) -> bool {
+        matches!(self, Order::Nothing)
+    }
+}
+
+// Where a thread waits for its next duty.
+#[derive(Drop)]
+struct Post<D> {
+    order: Mutex<Order<D>>,
+    given: Condvar,
+}
+
+impl<D: Drop> Post<D> {
+    fn new() -> Post<D> {
+        Post {
+            order: Mutex::new(Order::Nothing),
+            given: Condvar::new(),
+        }
+    }
+
+    fn give<R: Wait>(&self, rt: &R, order: Order<D>) {
+        *self.order.lock(rt) = order;
+        self.given.notify_one();
+    }
+
+    // The next order. It looks so many times before it sleeps.
+    fn next<R: Wait>(&self, rt: &R, looks: u32) -> Order<D> {
+        let seen = self.given.notifications();
+        if let Some(order) = self.at_hand(rt) {
+            return order;
+        }
+        for _ in 0..looks {
+            if self.given.notifications() != seen {
+                break;
+            }
+            hint::spin_loop();
+        }
+        let mut order = self
+            .given
+            .wait_while(rt, self.order.lock(rt), |order| order.is_none());
+        mem::replace(&mut *order, Order::Nothing)
+    }
+
+    fn at_hand<R: Wait>(&self, rt: &R) -> Option<Order<D>> {
+        let mut order = self.order.lock(rt);
+        if order.is_none() {
+            return None;
+        }
+        Some(mem::replace(&mut *order, Order::Nothing))
+    }
+}
+
+/// Where the threads of a crew are given their duties, each at a post of its own, and are sent home.
+#[derive(Drop)]
+pub struct Yard<D> {
+    posts: Vec<Post<D>>,
+    // How many duties were given that aren't finished yet.
+    under_way: AtomicU64,
+    looks: u32,
+}
+
+impl<D: Drop> Yard<D> {
+    ghost use Rattle.std.specs.Prelude.{◌≡◌, ◌<◌, IfOk};
+    ghost use Rattle.crew.specs.Named.{post_count};
+
+    /// Posts for so many threads, none of which is started here. Whoever waits looks so many times before it sleeps.
+    pub fn new(alloc: Global, threads: usize, looks: u32) -> Result<Yard<D>, AllocError>
+        ensures { IfOk result (λ yard. post_count yard ≡ threads) }
+    {
+        let mut posts = Vec::with_capacity(alloc, threads)?;
+        for _ in 0..threads {
+            posts.push(Post::new())?;
+        }
+        Ok(Yard {
+            posts,
+            under_way: AtomicU64::new(0),
+            looks,
+        })
+    }
+
+    /// Gives a thread something to do. It should have nothing else to do, which would be dropped.
+    pub fn give<R: Wait>(&self, rt: &R, i: usize, duty: D)
+        requires { i < post_count self.now }
+    {
+        self.under_way.fetch_add(1, Ordering::SeqCst);
+        self.posts[i].give(rt, Order::Duty(duty));
+    }
+
+    /// What a thread is to do next, for which it waits at its post. `None` sends it home.
+    pub fn next<R: Wait>(&self, rt: &R, i: usize) -> Option<D>
+        requires { i < post_count self.now }
+    {
+        match self.posts[i].next(rt, self.looks) {
+            Order::Duty(duty) => Some(duty),
+            Order::Nothing | Order::GoHome => None,
+        }
+    }
+
+    /// A thread has done what it was given, and has let go all that this shared.
+    pub fn finish(&self) {
+        if self.under_way.fetch_sub(1, Ordering::SeqCst) == 1 {
+            self.under_way.wake_one();
+        }
+    }
+
+    /// Waits until all that was given is finished.
+    pub fn wait<R: Wait>(&self, rt: &R) {
+        let mut looks = 0;
+        for _ in rt.forever() {
+            let left = self.under_way.load(Ordering::SeqCst);
+            if left == 0 {
+                return;
+            }
+            if looks < self.looks {
+                looks += 1;
+                hint::spin_loop();
+            } else {
+                self.under_way.park(rt, (left % (1 << 32)) as u32);
+            }
+        }
+        unreachable!()
+    }
+
+    /// Sends all threads home. One that has something to do should have finished it, as it would be dropped otherwise.
+    pub fn send_home<R: Wait>(&self, rt: &R) {
+        for post in &self.posts {
+            post.give(rt, Order::GoHome);
+        }
+    }
+}

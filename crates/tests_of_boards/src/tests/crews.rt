@@ -1,0 +1,86 @@
+//! Threads that carry out one list after another.
+
+use crate::tests::comparing::expect;
+use crate::tests::pools::run_fresh;
+use crate::tests::small_boards::{CROSSING, ONE_ENTRY, list_of};
+use bench_types::{Exchange, Fault, Record, Rules};
+use exchange::Entries;
+use fixtures::{Writers, tables_of};
+use model::Exchanging;
+use node_table::NodeTable;
+use pool::{Batch, FreeGate, Posts};
+use round_plan::RoundList;
+use std::alloc::{AllocGlobal, Global};
+use std::process::Abort;
+use std::sync::Wait;
+
+// Carries out exchanges, or lacks memory in each.
+#[derive(Drop)]
+struct Fickle {
+    lacks_memory: bool,
+}
+
+impl Exchanging<NodeTable> for Fickle {
+    ghost fits = { λ _ _. Unit {0} };
+
+    ghost stays_fit = { λ shared rules e p q may fit_p fit_q. (tt, tt) };
+
+    fn exchange(
+        &self,
+        alloc: Global,
+        initiator: &mut NodeTable,
+        responder: &mut NodeTable,
+        plan: &Exchange,
+        rules: &Rules,
+    ) -> Result<Record, Fault> {
+        if self.lacks_memory {
+            return Err(Fault::OutOfMemory);
+        }
+        Entries.exchange(alloc, initiator, responder, plan, rules)
+    }
+}
+
+// The records of a list that begins with fresh tables.
+fn records_of<R: Abort + AllocGlobal + Wait>(
+    rt: &R,
+    posts: &Posts<NodeTable, Fickle, FreeGate>,
+    list: &RoundList,
+    lacks_memory: bool,
+) -> Result<Vec<Record>, Fault> {
+    let tables = tables_of(rt.alloc(), Writers::all(list.nodes(), 1))?;
+    let batch = Batch {
+        shared: Fickle { lacks_memory },
+        list,
+        rules: &ONE_ENTRY,
+        gate: FreeGate,
+    };
+    let done = posts.carry_out(rt, batch, tables, || ())?;
+    assert!(rt; !done.shared.lacks_memory);
+    Ok(done.records)
+}
+
+// A list, one that lacks memory, and the first again, by the same three threads.
+#[test]
+fn lists_by_the_same_threads(rt: HostRuntime) -> Result<(), Fault> {
+    let list = list_of(&rt, 8, CROSSING);
+    let (_, wanted) = run_fresh(&rt, &list, 1, &ONE_ENTRY, 1, &FreeGate)?;
+    let posts = Posts::new(rt.alloc(), 3)?;
+    let lists = posts.with_threads(
+        &rt,
+        (),
+        |_| {
+            (
+                records_of(&rt, &posts, &list, false),
+                records_of(&rt, &posts, &list, true),
+                records_of(&rt, &posts, &list, false),
+            )
+        },
+    );
+    let Ok((first, second, third)) = lists else {
+        return Err(Fault::NoThread);
+    };
+    expect(&rt, second.err(), Some(Fault::OutOfMemory));
+    expect(&rt, first?.as_slice() == wanted.as_slice(), true);
+    expect(&rt, third?.as_slice() == wanted.as_slice(), true);
+    Ok(())
+}

@@ -1,0 +1,282 @@
+//! Threads of workers that carry out one list after another.
+
+ghost use Rattle.std.specs.Prelude.{◌≡◌, ◌<◌, map, IfOk, IfErr, IsOkUnless};
+ghost use Rattle.bench_types.specs.declared.faults.Fault.TheVariants.{NoThread, OutOfMemory};
+ghost use Rattle.model.specs.Runs.{AreWorkers, IsFaultOfWorkers};
+ghost use Rattle.workers.specs.Carrying.{MayCarryOut, IsDone};
+
+use crate::gates::Gate;
+use crate::in_order::exchange_all;
+use crate::shifts::{end, hand_out, open, take_all};
+use crate::tasks::{Shift, Task};
+use crate::workers::Workshop;
+use crate::works::{Batch, Done, Work};
+use bench_types::Fault;
+use crew::{Yard, alone};
+use model::{Exchanging, MemoryTable};
+use std::alloc::Global;
+use std::marker::Model;
+use std::sync::Wait;
+use std::thread;
+use std::thread::{Scope, Threads};
+
+// How often whoever waits looks before it sleeps: to look on takes a processor from the others, unless there is one for
+// each worker and for the caller.
+const LOOKS: u32 = 0;
+
+/// Where workers are given lists to carry out: the caller's thread where there is one, else each in a thread of its own.
+#[derive(Drop)]
+pub struct Posts<T: MemoryTable, X: Exchanging<T>, G> {
+    alloc: Global,
+    yard: Yard<Task<T, X, G>>,
+    workers: u32,
+}
+
+// Callers see how many workers there are.
+impl<T: MemoryTable, X: Exchanging<T>, G> Model for Posts<T, X, G> {
+    ghost use Rattle.std.specs.Prelude.{◌≡◌, ℕ};
+    ghost use Rattle.crew.specs.Named.{post_count};
+    ghost use Rattle.model.specs.Runs.{AreWorkers};
+
+    ghost Value = { ℕ };
+
+    ghost view = { λ p. p.workers };
+
+    ghost invariant = { λ p. AreWorkers p.workers × (post_count p.yard ≡ p.workers) };
+}
+
+impl<T: MemoryTable, X: Exchanging<T> + Drop, G: Gate + Drop> Posts<T, X, G> {
+    /// Posts for so many workers. No thread is started yet.
+    pub fn new(alloc: Global, workers: u32) -> Result<Posts<T, X, G>, Fault>
+        requires workers { AreWorkers workers }
+        ensures workers { IfOk result (λ posts. posts ≡ workers) }
+        ensures only { IsOkUnless result OutOfMemory }
+    {
+        let yard = Yard::new(alloc, workers as usize, LOOKS)?;
+        Ok(Posts {
+            alloc,
+            yard,
+            workers,
+        })
+    }
+
+    pub fn workers(&self) -> u32
+        ensures value { result ≡ self.now }
+        ensures lawful { AreWorkers result }
+    {
+        self.workers
+    }
+
+    /// Carries out the exchanges of a list by threads that were started before. It calls `meanwhile` once they have
+    /// what they need, and waits for them then. With one worker it calls that first. An error is lack of memory
+    /// (`OutOfMemory`): the tables, and what was shared, are then given up, and all threads wait for the next list.
+    pub fn carry_out<R: Wait, F: FnOnce() -> M + Drop, M: Drop>(
+        &self,
+        rt: &R,
+        batch: Batch<X, G>,
+        tables: Vec<T>,
+        meanwhile: F,
+    ) -> Result<Done<T, X, M>, Fault>
+        requires tables { MayCarryOut (X.fits batch.shared) batch.rules.now batch.list.now.nodes
+            (map T.table tables.items) }
+        requires meanwhile { F.pre meanwhile }
+        ensures done { IfOk result (IsDone T.table batch.entry tables.items (F.post meanwhile)) }
+        ensures only { IsOkUnless result OutOfMemory }
+    {
+        if self.workers == 1 {
+            return self.carry_out_alone(batch, tables, meanwhile);
+        }
+        let (shift, start) = open(self.alloc, self.workers, batch, tables)?;
+        let (gathered, tasks) = hand_out(self.alloc, &shift, start)?;
+        self.give_all(rt, tasks);
+        let made = meanwhile();
+        self.yard.wait(rt);
+        let gathered = take_all(rt, &shift, gathered, self.workers as usize);
+        let Shift { shop, trays: _ } = alone(rt, shift);
+        let Workshop { board, shared, .. } = shop;
+        let mut gathered = gathered?;
+        // A whole seat, so it learns that all exchanges are put back.
+        board.look(&mut gathered.seat);
+        let (tables, records) = end(board, gathered);
+        Ok(Done {
+            tables,
+            records,
+            shared,
+            made,
+        })
+    }
+
+    // The list in its order, by the caller's thread.
+    fn carry_out_alone<F: FnOnce() -> M + Drop, M: Drop>(
+        &self,
+        batch: Batch<X, G>,
+        mut tables: Vec<T>,
+        meanwhile: F,
+    ) -> Result<Done<T, X, M>, Fault>
+        requires tables { MayCarryOut (X.fits batch.shared) batch.rules.now batch.list.now.nodes
+            (map T.table tables.items) }
+        requires meanwhile { F.pre meanwhile }
+        ensures done { IfOk result (IsDone T.table batch.entry tables.items (F.post meanwhile)) }
+        ensures only { IsOkUnless result OutOfMemory }
+    {
+        let made = meanwhile();
+        let Batch {
+            shared,
+            list,
+            rules,
+            gate,
+        } = batch;
+        let work = Work {
+            shared: &shared,
+            list,
+            rules,
+            gate: &gate,
+            workers: 1,
+        };
+        let records = exchange_all(self.alloc, work, &mut tables)?;
+        Ok(Done {
+            tables,
+            records,
+            shared,
+            made,
+        })
+    }
+
+    fn give_all<R: Wait>(&self, rt: &R, mut tasks: Vec<Task<T, X, G>>) {
+        for i in 0..self.workers as usize {
+            if let Some(task) = tasks.pop() {
+                self.yard.give(rt, i, task);
+            }
+        }
+    }
+}
+
+impl<
+    T: MemoryTable + Send + Sync,
+    X: Exchanging<T> + Send + Drop,
+    G: Gate + Send + Sync + Drop,
+> Posts<T, X, G> {
+    /// Starts the threads, if there are several workers, has one list carried out and sends them home.
+    pub(crate) fn carry_out_once<R: Threads + Wait + Sync, F: FnOnce() -> M + Drop, M: Drop>(
+        self,
+        rt: &R,
+        batch: Batch<X, G>,
+        tables: Vec<T>,
+        meanwhile: F,
+    ) -> Result<Done<T, X, M>, Fault>
+        requires tables { MayCarryOut (X.fits batch.shared) batch.rules.now batch.list.now.nodes
+            (map T.table tables.items) }
+        requires meanwhile { F.pre meanwhile }
+        ensures done { IfOk result (IsDone T.table batch.entry tables.items (F.post meanwhile)) }
+        ensures fault { IfErr result (IsFaultOfWorkers self) }
+    {
+        if self.workers == 1 {
+            return self.carry_out(rt, batch, tables, meanwhile);
+        }
+        self.carry_out_in_scope(rt, batch, tables, meanwhile)
+    }
+
+    fn carry_out_in_scope<R: Threads + Wait + Sync, F: FnOnce() -> M + Drop, M: Drop>(
+        &self,
+        rt: &R,
+        batch: Batch<X, G>,
+        tables: Vec<T>,
+        meanwhile: F,
+    ) -> Result<Done<T, X, M>, Fault>
+        requires several { 1 < self.now }
+        requires tables { MayCarryOut (X.fits batch.shared) batch.rules.now batch.list.now.nodes
+            (map T.table tables.items) }
+        requires meanwhile { F.pre meanwhile }
+        ensures done { IfOk result (IsDone T.table batch.entry tables.items (F.post meanwhile)) }
+        ensures fault { IfErr result (IsFaultOfWorkers self.now) }
+    {
+        thread::scope(
+            thread::scope_env(),
+            rt,
+            move |scope|
+                requires several { 1 < self.now }
+                requires tables { MayCarryOut (X.fits batch.shared) batch.rules.now batch.list.now.nodes
+                    (map T.table tables.items) }
+                requires meanwhile { F.pre meanwhile }
+                ensures done { IfOk result (IsDone T.table batch.entry tables.items (F.post meanwhile)) }
+                ensures fault { IfErr result (IsFaultOfWorkers self.entry.now) }
+            {
+                self.start(scope, rt)?;
+                let done = self.carry_out(rt, batch, tables, meanwhile);
+                self.yard.send_home(rt);
+                done
+            },
+        )
+    }
+
+    /// Starts the threads, if there are several workers, calls `body` with what is lent and sends them home. Where one
+    /// can't be started, what was lent comes back. It goes by value, since a scope says nothing of a `&mut` that its
+    /// closure holds.
+    pub fn with_threads<R: Threads + Wait + Sync, D: Drop, F: FnOnce(D) -> A + Drop, A: Drop>(
+        &self,
+        rt: &R,
+        lent: D,
+        body: F,
+    ) -> Result<A, D>
+        requires { F.pre body lent }
+        ensures done { IfOk result (F.post body lent) }
+        ensures back { IfErr result (λ left. left ≡ lent) }
+        ensures several { IfErr result (λ _. 1 < self.now) }
+    {
+        if self.workers == 1 {
+            return Ok(body(lent));
+        }
+        thread::scope(
+            thread::scope_env(),
+            rt,
+            move |scope|
+                requires { F.pre body lent }
+                ensures done { IfOk result (F.post body lent) }
+                ensures back { IfErr result (λ left. left ≡ lent) }
+            {
+                if self.start(scope, rt).is_err() {
+                    return Err(lent);
+                }
+                let answer = body(lent);
+                self.yard.send_home(rt);
+                Ok(answer)
+            },
+        )
+    }
+
+    // Starts a thread for each worker. Where one can't be started, those that were go home.
+    fn start<'e, R: Threads + Wait + Sync>(
+        &'e self,
+        scope: &Scope<'_, &'e ()>,
+        rt: &'e R,
+    ) -> Result<(), Fault>
+        ensures { IsOkUnless result NoThread }
+    {
+        for i in 0..self.workers as usize {
+            let started = scope.spawn(
+                move ||
+                    requires { i < self.now }
+                { self.serve(rt, i) },
+            );
+            if started.is_err() {
+                self.yard.send_home(rt);
+                return Err(Fault::NoThread);
+            }
+        }
+        Ok(())
+    }
+
+    // What the thread of a worker does until it is sent home.
+    fn serve<R: Wait>(&self, rt: &R, i: usize)
+        requires { i < self.now }
+    {
+        for _ in rt.forever() {
+            let Some(task) = self.yard.next(rt, i) else {
+                return;
+            };
+            task.carry_out(rt);
+            self.yard.finish();
+        }
+        unreachable!()
+    }
+}

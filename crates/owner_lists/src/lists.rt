@@ -81,11 +81,12 @@ impl OwnerList {
         Ok(())
     }
 
-    /// All that was written is gone, and the list is in generation 0, as a new one. It takes no memory.
+    /// All that was written is gone, and the list is in generation 0, as a new one. It keeps its room, and takes no
+    /// memory.
     pub fn forget(&mut self)
         ensures { self.new ≡ no_writes }
     {
-        self.writes = OwnerWrites::new(*self.latest.allocator());
+        self.writes.clear();
         self.latest.clear();
     }
 

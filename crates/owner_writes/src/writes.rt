@@ -93,6 +93,15 @@ impl OwnerWrites {
         self.generation += 1;
     }
 
+    /// All is gone, as in a new one. It keeps its room.
+    pub fn clear(&mut self)
+        ensures { self.new ≡ no_writes }
+    {
+        self.kept.clear();
+        self.earlier = 0;
+        self.generation = 0;
+    }
+
     /// How often the owner began another generation.
     pub fn generation(&self) -> u32
         ensures { result ≡ self.now.generation }

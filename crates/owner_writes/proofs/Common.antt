@@ -11,5 +11,6 @@ pub use Rattle.model.proofs.Common.{Entry, IsBefore, IsUpTo, before-no, before-u
 pub use Rattle.model.specs.calls.Numbers.{write_from, write_numbered}
 pub use Rattle.model.specs.calls.OwnerListView.{AreWrites, MarksRise, OwnerListView, begun_generation, entries_of, next_entry, with_write}
 pub use Rattle.owner_writes.specs.Kept.{entry_kept}
+pub use Rattle.owner_writes.specs.declared.writes.Kept.{Kept}
 pub use Rattle.owner_writes.specs.Numbered.{IsHistory}
-pub use Rattle.owner_writes.specs.inner.Views.{IsKept, view_by}
+pub use Rattle.owner_writes.specs.inner.Views.{IsKept, view_of}

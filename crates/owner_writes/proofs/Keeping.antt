@@ -1,7 +1,7 @@
 -- What an owner's writes keep through the calls that change them.
 -- Serves `OwnerWrites::begin_generation`, `OwnerWrites::numbered`, `OwnerWrites::write`, `owner_lists` and
 -- `version_tables`.
-use Rattle.owner_writes.proofs.Common.{◌≡◌, ℕ, ◌+◌, ◌-◌, ◌^◌, ◌<◌, List, [], ◌∷◌, ◌++◌, length, get_or, map, take, drop, inl, inr, refl, sym, ap, ◌∙◌, subst, arith, length-append, cases_lt, length-drop, length-map, map-append, append_assoc, append-nil, get_or_append_left, get_or-append_right, get_or_push, take-append-drop, take-append-le, drop-append-le, take_all, drop_all, All-append, Entry, mark_of, IsBefore, OwnerListView, entries_of, MarksRise, AreWrites, next_entry, with_write, begun_generation, view_by, IsKept}
+use Rattle.owner_writes.proofs.Common.{◌≡◌, ℕ, ◌+◌, ◌-◌, ◌^◌, ◌<◌, List, [], ◌∷◌, ◌++◌, length, get_or, map, take, drop, inl, inr, refl, sym, ap, ◌∙◌, subst, arith, length-append, cases_lt, length-drop, length-map, map-append, append_assoc, append-nil, get_or_append_left, get_or-append_right, get_or_push, take-append-drop, take-append-le, drop-append-le, take_all, drop_all, All-append, Entry, mark_of, IsBefore, Kept, entry_kept, OwnerListView, entries_of, MarksRise, AreWrites, next_entry, with_write, begun_generation, view_of, IsKept}
 
 -- marks stay in order where one is added above all
 rising_push : (es : List Entry) (e : Entry) → MarksRise es → ((i : ℕ) (d : Entry) → i < length es → IsBefore (mark_of (get_or es i d)) (mark_of e)) → MarksRise (es ++ e ∷ [])
@@ -44,41 +44,38 @@ writes_begun v is = record {
   rising = subst MarksRise (sym (append-nil (entries_of v))) is.rising;
 }
 
--- the same of what is kept, whatever stands beside an entry
-module _ {X : Type 0} (entry : X → Entry) (kept : List X) (n g : ℕ) where
-  abbrev v : OwnerListView
-  v = view_by entry kept n g
+-- the same of what is kept
+module _ (kept : List Kept) (n g : ℕ) where
+  pub entries_whole : entries_of (view_of kept n g) ≡ map entry_kept kept
+  entries_whole = sym (map-append entry_kept (take n kept) (drop n kept)) ∙ ap (map entry_kept) (take-append-drop n kept)
 
-  pub entries_whole : entries_of (view_by entry kept n g) ≡ map entry kept
-  entries_whole = sym (map-append entry (take n kept) (drop n kept)) ∙ ap (map entry) (take-append-drop n kept)
-
-  pub view_begun : (m : ℕ) → m ≡ length kept → view_by entry kept m (g + 1) ≡ begun_generation (view_by entry kept n g)
+  pub view_begun : (m : ℕ) → m ≡ length kept → view_of kept m (g + 1) ≡ begun_generation (view_of kept n g)
   view_begun m all = λ i. record {
-    earlier = (ap (map entry) (take_all m kept (omega (arith, all))) ∙ sym entries_whole) i;
-    current = map entry (drop_all m kept (omega (arith, all)) i);
+    earlier = (ap (map entry_kept) (take_all m kept (omega (arith, all))) ∙ sym entries_whole) i;
+    current = map entry_kept (drop_all m kept (omega (arith, all)) i);
     generation = g + 1;
   }
 
-  module _ (is : IsKept entry kept n g) where
-    pub kept_begun : (m : ℕ) → m ≡ length kept → IsKept entry kept m (g + 1)
+  module _ (is : IsKept kept n g) where
+    pub kept_begun : (m : ℕ) → m ≡ length kept → IsKept kept m (g + 1)
     kept_begun m all = record {
       within = omega (arith, all);
       few = omega (arith, length-drop m kept, all);
-      writes = subst AreWrites (sym (view_begun m all)) (writes_begun v is.writes);
+      writes = subst AreWrites (sym (view_begun m all)) (writes_begun _ is.writes);
     }
 
     -- one more
-    module _ (x : X) (key value born : ℕ) (next : entry x ≡ next_entry (view_by entry kept n g) key value born) where
-      pub view_pushed : view_by entry (kept ++ x ∷ []) n g ≡ with_write (view_by entry kept n g) key value born
+    module _ (x : Kept) (key value born : ℕ) (next : entry_kept x ≡ next_entry (view_of kept n g) key value born) where
+      pub view_pushed : view_of (kept ++ x ∷ []) n g ≡ with_write (view_of kept n g) key value born
       view_pushed = λ i. record {
-        earlier = map entry (take-append-le n kept (x ∷ []) is.within i);
-        current = (ap (map entry) (drop-append-le n kept (x ∷ []) is.within) ∙ map-append entry (drop n kept) (x ∷ []) ∙ ap (λ e. map entry (drop n kept) ++ e ∷ []) next) i;
+        earlier = map entry_kept (take-append-le n kept (x ∷ []) is.within i);
+        current = (ap (map entry_kept) (drop-append-le n kept (x ∷ []) is.within) ∙ map-append entry_kept (drop n kept) (x ∷ []) ∙ ap (λ e. map entry_kept (drop n kept) ++ e ∷ []) next) i;
         generation = g;
       }
 
-      pub kept_pushed : length v.current + 1 < 2 ^ 32 → IsKept entry (kept ++ x ∷ []) n g
+      pub kept_pushed : length (view_of kept n g).current + 1 < 2 ^ 32 → IsKept (kept ++ x ∷ []) n g
       kept_pushed few = record {
         within = omega (arith, is.within, length-append kept (x ∷ []));
-        few = omega (arith, few, length-map (drop n kept) entry, length-drop n kept, length-drop n (kept ++ x ∷ []), length-append kept (x ∷ []), is.within);
-        writes = subst AreWrites (sym view_pushed) (writes_more v is.writes key value born);
+        few = omega (arith, few, length-map (drop n kept) entry_kept, length-drop n kept, length-drop n (kept ++ x ∷ []), length-append kept (x ∷ []), is.within);
+        writes = subst AreWrites (sym view_pushed) (writes_more _ is.writes key value born);
       }

@@ -32,17 +32,16 @@ pub struct OwnerWrites {
 
 impl Model for OwnerWrites {
     ghost use Rattle.model.specs.calls.OwnerListView.{OwnerListView};
-    ghost use Rattle.owner_writes.specs.Kept.{entry_kept};
     ghost use Rattle.owner_writes.specs.inner.Codes.{list_code};
-    ghost use Rattle.owner_writes.specs.inner.Views.{view_by, IsKept};
+    ghost use Rattle.owner_writes.specs.inner.Views.{view_of, IsKept};
 
     ghost Value = { OwnerListView };
 
     ghost coded = { list_code };
 
-    ghost view = { λ w. view_by entry_kept w.kept.items w.earlier w.generation };
+    ghost view = { λ w. view_of w.kept.items w.earlier w.generation };
 
-    ghost invariant = { λ w. IsKept entry_kept w.kept.items w.earlier w.generation };
+    ghost invariant = { λ w. IsKept w.kept.items w.earlier w.generation };
 }
 
 impl OwnerWrites {

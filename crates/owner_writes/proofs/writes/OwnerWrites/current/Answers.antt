@@ -1,4 +1,4 @@
-use Rattle.owner_writes.proofs.Common.{◌-◌, length, map, take, drop, ap, ◌∙◌, arith, length-drop, take_all, entry_kept}
+use Rattle.owner_writes.proofs.Common.{◌-◌, length, map, drop, ap, ◌∙◌, arith, length-drop, take_all, entry_kept}
 use Rattle.owner_writes.proofs.writes.OwnerWrites.current.Goals as goal
 
 pub returns : goal.returns

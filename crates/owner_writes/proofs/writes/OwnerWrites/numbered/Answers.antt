@@ -10,8 +10,8 @@ returns-in-Some c =
     let place = c.in-Some.place in
     let next : suc place ≡ c.args.number = omega (arith, c.in-Some.ensures.0, c.in-Some.ensures.1) in
     let whole : write_numbered (entries_of c.args.self.now) c.args.number ≡ write_numbered (map entry_kept xs) c.args.number =
-    sym (ap (λ (es : List Entry). write_numbered es c.args.number) (ap (map entry_kept) c.deref.ensures.value ∙ sym (entries_whole entry_kept w.kept.items w.earlier w.generation) ∙ ap entries_of c.self.view_is)) in
+    sym (ap (λ (es : List Entry). write_numbered es c.args.number) (ap (map entry_kept) c.deref.ensures.value ∙ sym (entries_whole w.kept.items w.earlier w.generation) ∙ ap entries_of c.self.view_is)) in
     elim c.get.result as (λ r. IsGetResult xs place place r → MatchOption r (write_numbered (entries_of c.args.self.now) c.args.number ≡ None) (λ kept. write_numbered (entries_of c.args.self.now) c.args.number ≡ Some (entry_kept kept.now))) [
-      | None ↦ λ found. whole ∙ numbered-past entry_kept xs place c.args.number next found.3
-      | Some x ↦ λ found. whole ∙ numbered-here entry_kept xs place c.args.number next x.now found.3.0 found.1
+      | None ↦ λ found. whole ∙ numbered-past xs place c.args.number next found.3
+      | Some x ↦ λ found. whole ∙ numbered-here xs place c.args.number next x.now found.3.0 found.1
     ] c.get.ensures.lookup

@@ -1,15 +1,20 @@
 -- What an owner's list keeps through its calls.
--- Serves `OwnerList::begin_generation`, `OwnerList::first_missed`, `OwnerList::len` and `OwnerList::write`.
+-- Serves `OwnerList::begin_generation`, `OwnerList::first_missed` and `OwnerList::write`.
 use Rattle.owner_lists.proofs.Common.{◌≡◌, ℕ, ◌+◌, ◌^◌, ◌<◌, cond, eqb, Some, List, [], ◌∷◌, ◌++◌, length, refl, sym, ap, ◌∙◌, subst, arith, nat_cmp, nat_cmp_total, put, find-put, length-append, length-map, get_or-map, map-append, Entry, Write, OwnerListView, written, AreWrites, next_entry, with_write, begun_generation, writes_more, writes_begun, write_of_entry, IsNumbered, last_write-push, same_key}
 use Rattle.owner_lists.specs.Latest.{keyed, write_of, IsLatest}
 use Rattle.owner_lists.specs.inner.Kept.{IsKeptList}
 use Rattle.owner_lists.proofs.Rising.{rising_put}
 
-pub numbered_kept : (v : OwnerListView) → AreWrites v → IsNumbered (written v)
-numbered_kept v is i d lt =
-    let in_range : i < length v.current = omega (arith, length-map v.current write_of_entry) in
-    let e : Entry = record { key = 0; generation = 0; version = 0; value = 0; born = 0 } in
-    ap (λ (w : Write). w.version) (get_or-map write_of_entry v.current i e d in_range) ∙ omega (arith, (is.current i e in_range).1)
+-- what callers see is what is kept
+module _ (v seen : OwnerListView) (latest : List Write) (list : IsKeptList v latest) (same : v ≡ seen) where
+  pub numbered_kept : IsNumbered (written seen)
+  numbered_kept i d lt =
+      let in_range : i < length seen.current = omega (arith, length-map seen.current write_of_entry) in
+      let e : Entry = record { key = 0; generation = 0; version = 0; value = 0; born = 0 } in
+      ap (λ (w : Write). w.version) (get_or-map write_of_entry seen.current i e d in_range) ∙ omega (arith, ((subst AreWrites same list.writes).current i e in_range).1)
+
+  pub few_kept : length (written seen) < 2 ^ 32
+  few_kept = omega (arith, list.few, ap (λ (x : OwnerListView). length x.current) same, length-map seen.current write_of_entry)
 
 -- the last writes, once one is added
 latest_pushed : (ws latest latest' : List Write) (w : Write) → IsLatest latest ws → put nat_cmp w.key w (keyed latest) ≡ keyed latest' → IsLatest latest' (ws ++ w ∷ [])

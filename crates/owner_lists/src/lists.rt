@@ -101,6 +101,7 @@ impl OwnerList {
     }
 
     /// How many writes there are of its generation.
+    #[tactic(auto, using(crate::proofs::Keeping::numbered_kept))]
     pub fn len(&self) -> u32
         ensures value { result ≡ length self.now.current }
         ensures numbered { IsNumbered (written self.now) }
@@ -141,6 +142,7 @@ impl OwnerList {
 
     /// The first write of a key above a version in its generation. Where the key's last one isn't above it there is
     /// none; else it is looked for behind that version.
+    #[tactic(auto, using(crate::proofs::Keeping::numbered_kept, crate::proofs::Keeping::few_kept))]
     pub fn first_missed(&self, key: u32, version: u32) -> Option<Write>
         ensures missed { result ≡ first_missed (written self.now) key version }
         ensures numbered { IsNumbered (written self.now) }

@@ -1,4 +1,4 @@
-use Rattle.owner_lists.proofs.Common.{◌≡◌, ◌≤◌, ◌<◌, ◌^◌, length, length-map, arith, IfSome, None, find, map, drop, sym, ap, ◌∙◌, subst, Write, OwnerListView, written, AreWrites, write_of_entry, is_write_of, last_write, IsNumbered}
+use Rattle.owner_lists.proofs.Common.{◌≡◌, ◌≤◌, IfSome, None, find, map, drop, sym, ap, ◌∙◌, subst, Write, OwnerListView, written, write_of_entry, is_write_of, last_write, IsNumbered}
 use Rattle.owner_lists.specs.Latest.{write_of}
 use Rattle.owner_lists.specs.Missed.{first_missed}
 use Rattle.owner_lists.proofs.Last.{first_missed-drop, fresh}
@@ -7,7 +7,7 @@ use Rattle.owner_lists.proofs.lists.OwnerList.first_missed.Goals as goal
 use Rattle.owner_lists.proofs.lists.OwnerList.first_missed.Goals.{After-write_in}
 
 numbered : (c : After-write_in) → IsNumbered (written c.args.self.now)
-numbered c = numbered_kept c.args.self.now (subst AreWrites c.self.view_is c.self.invariant.writes)
+numbered c = numbered_kept _ _ _ c.self.invariant c.self.view_is
 
 -- where the last write of the key is no newer
 none_missed : (c : After-write_in) → IfSome c.write_in.result (λ (w : Write). w.version ≤ c.args.version) → None ≡ first_missed (written c.args.self.now) c.args.key c.args.version
@@ -27,24 +27,3 @@ returns-then-version-last-clause-missed c =
 
 pub returns-else-version-last-clause-missed : goal.returns-else-version-last-clause-missed
 returns-else-version-last-clause-missed c = none_missed (goal.at.returns-else-version-last-clause-missed c).After-write_in (subst (λ o. IfSome o (λ (w : Write). w.version ≤ c.args.version)) (sym c.in_ok-last.was) c.if-version-last.false)
-
-pub returns-in_err-last-clause-numbered : goal.returns-in_err-last-clause-numbered
-returns-in_err-last-clause-numbered c = numbered (goal.at.returns-in_err-last-clause-numbered c).After-write_in
-
-pub returns-then-version-last-clause-numbered : goal.returns-then-version-last-clause-numbered
-returns-then-version-last-clause-numbered c = numbered (goal.at.returns-then-version-last-clause-numbered c).After-write_in
-
-pub returns-else-version-last-clause-numbered : goal.returns-else-version-last-clause-numbered
-returns-else-version-last-clause-numbered c = numbered (goal.at.returns-else-version-last-clause-numbered c).After-write_in
-
-few : (c : After-write_in) → length (written c.args.self.now) < 2 ^ 32
-few c = omega (arith, c.self.invariant.few, ap (λ (v : OwnerListView). length v.current) c.self.view_is, length-map c.args.self.now.current write_of_entry)
-
-pub returns-in_err-last-clause-few : goal.returns-in_err-last-clause-few
-returns-in_err-last-clause-few c = few (goal.at.returns-in_err-last-clause-few c).After-write_in
-
-pub returns-then-version-last-clause-few : goal.returns-then-version-last-clause-few
-returns-then-version-last-clause-few c = few (goal.at.returns-then-version-last-clause-few c).After-write_in
-
-pub returns-else-version-last-clause-few : goal.returns-else-version-last-clause-few
-returns-else-version-last-clause-few c = few (goal.at.returns-else-version-last-clause-few c).After-write_in

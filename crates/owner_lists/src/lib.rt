@@ -8,7 +8,8 @@
 //!   few steps where keys are written in turn. No index leads from a write to the next one of its key.
 //! - A restart that forgets begins a generation of the list, and drops nothing. `forget` drops all, for callers that
 //!   count their generations elsewhere.
-//! - `is_empty`, `generation` and `numbered` stand beside the calls that change a list, and `first_missed` for `figures`.
+//! - `is_empty`, `generation` and `numbered` stand beside the calls that change a list, and `first_missed` for
+//!   `figures`.
 //! - The value of a write that is pushed is 0: `push` names none, and `write` does.
 #![tactic(auto)]
 

@@ -124,7 +124,8 @@ impl OwnerList {
         self.writes.generation()
     }
 
-    /// The write of a number, which counts all its writes from 1, those of earlier generations too. One step.
+    /// The write of a number, which counts all its writes from 1, those of earlier generations too. One step. It
+    /// tells callers no generation, which `Kept` has for contracts alone.
     pub fn numbered(&self, number: u32) -> Option<&Kept>
         ensures { MatchOption result (write_numbered (entries_of self.now) number ≡ None)
             (λ kept. write_numbered (entries_of self.now) number ≡ Some (entry_kept kept.now)) }

@@ -6,10 +6,10 @@
 //!
 //! - A copy of an older generation than the owner's lags as one that holds nothing, and one of a newer as one that
 //!   misses nothing.
-//! - `OwnerList` and `Write` are given again, as the calls that take lists stand here.
+//! - `OwnerList` is given again, with the `Kept` and `Write` that it answers, as the calls that take lists stand here.
 #![tactic(auto)]
 
 mod staleness;
 
-pub use owner_lists::{OwnerList, Write};
+pub use owner_lists::{Kept, OwnerList, Write};
 pub use staleness::figures;

@@ -1,8 +1,6 @@
 -- Candidates by their numbers.
 -- Serves `Columns`, `LevelMarks`, `Lifts`, `StopMarks` and `version_tables`.
-use Rattle.delta_plans.proofs.Common.{◌≡◌, ℕ, ◌<◌, true, List, Some, inl, inr, sym, ap, ◌∙◌, subst, arith, Contains, cases_lt, both_ways, same_Some, Entry, Item, Mode, Table, entry_at, items_of, generation_held, IsProper, entry_at-items_of, Contains-kept, candidates, IsHistory, write_numbered, Cells, versions-rise}
-use Rattle.delta_plans.specs.Offers.{Offers, is_lacked}
-use Rattle.delta_plans.specs.Firsts.{item_number}
+use Rattle.delta_plans.proofs.Common.{◌≡◌, ℕ, ◌<◌, true, List, Some, inl, inr, sym, ap, ◌∙◌, subst, arith, Contains, cases_lt, both_ways, same_Some, Entry, Item, Mode, Table, entry_at, items_of, generation_held, IsProper, entry_at-items_of, Contains-kept, candidates, IsHistory, write_numbered, Cells, versions-rise, Offers, is_lacked, item_number}
 
 -- a candidate's owner is one of the sender's
 pub candidate-below : (mode : Mode) (from to : Table) → IsProper from → (c : Item) → Contains (candidates mode from to) c → c.owner < from.nodes

@@ -1,10 +1,6 @@
 -- A delta by marks: whole levels, and of the next one what comes before the first candidate that doesn't fit.
 -- Serves `Lifts`.
-use Rattle.delta_plans.proofs.Common.{◌≡◌, ℕ, ◌+◌, ◌<◌, ◌≤◌, Bool, true, cond, List, ap, arith, Contains, Entry, Item, Budget, Mode, amount_of, Table, IsProper, candidates, delta_between, item_share, sending_order, level_cmp, sending_order-total, IsHistory, Cells}
-use Rattle.delta_plans.specs.SentSets.{HasSet, size_in}
-use Rattle.delta_plans.specs.Offers.{Offers}
-use Rattle.delta_plans.specs.Firsts.{item_number}
-use Rattle.delta_plans.specs.LevelMarks.{first_sent, lets_through, AreLevelMarks, StopAt, size_through_marks}
+use Rattle.delta_plans.proofs.Common.{◌≡◌, ℕ, ◌+◌, ◌<◌, ◌≤◌, Bool, true, cond, List, ap, arith, Contains, Entry, Item, Budget, Mode, amount_of, Table, IsProper, candidates, delta_between, item_share, sending_order, level_cmp, sending_order-total, IsHistory, Cells, HasSet, size_in, Offers, item_number, first_sent, lets_through, AreLevelMarks, StopAt, size_through_marks}
 use Rattle.delta_plans.proofs.OfferSums.{offered-sum}
 use Rattle.delta_plans.proofs.SentSets.{stops_sent, all_sent, set_sent}
 use Rattle.delta_plans.proofs.StopMarks.{marks-stop}

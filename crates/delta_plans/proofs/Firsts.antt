@@ -1,10 +1,6 @@
 -- What goes first, by numbers, versions and marks.
 -- Serves `LevelMarks` and `StopMarks`.
-use Rattle.delta_plans.proofs.Common.{Bool, ◌≡◌, ℕ, ◌<◌, true, false, arith, nat_tests, Less, Greater, ltb-true, nat_cmp-less, nat_cmp-greater, nat_cmp, Ordering}
-use Rattle.delta_plans.specs.declared.marked.First.{First}
-use Rattle.delta_plans.specs.declared.marked.First.TheVariants.{Oldest, Newest}
-use Rattle.delta_plans.specs.Firsts.{comes_first}
-use Rattle.delta_plans.specs.LevelMarks.{lets_through}
+use Rattle.delta_plans.proofs.Common.{Bool, ◌≡◌, ℕ, ◌<◌, true, false, arith, nat_tests, Less, Greater, ltb-true, nat_cmp-less, nat_cmp-greater, nat_cmp, Ordering, First, Oldest, Newest, comes_first, lets_through}
 
 -- rounds and versions compare: the lower first, or from the newest on the higher
 abbrev pub age_cmp : First → ℕ → ℕ → Ordering

@@ -1,12 +1,6 @@
 -- Layers of an offer, gone over as long as they fit.
 -- Serves `breadth` and `one_more`.
-use Rattle.delta_plans.proofs.Common.{◌≡◌, ℕ, ◌+◌, ◌-◌, ◌*◌, ◌<◌, ◌≤◌, cond, ltb, List, length, get_or, map, inl, inr, sym, ap, ◌∙◌, subst, arith, nat_tests, cases_lt, length-map, MOST_NODES, MOST_KEYS, amount_of, Cells, count_between, HasEach, IsNextAbove, IsLeastAbove, AreChanged, sum_below, sum_below-same, sum_below-plus, sum_below-le}
-use Rattle.delta_plans.specs.declared.offers.Offer.{Offer}
-use Rattle.delta_plans.specs.declared.offers.Step.{Step}
-use Rattle.delta_plans.specs.OfferInMemory.{cells_in, low_in, high_in, marks, weights_in, weight_in, count_in, IsOffer}
-use Rattle.delta_plans.specs.declared.marked.First.TheVariants.{Oldest}
-use Rattle.delta_plans.specs.Plans.{raised, AreFarther, IsNextLayer, IsNextMark, AreLayersSoFar}
-use Rattle.delta_plans.specs.LevelMarks.{IsLayerMark}
+use Rattle.delta_plans.proofs.Common.{◌≡◌, ℕ, ◌+◌, ◌-◌, ◌*◌, ◌<◌, ◌≤◌, cond, ltb, List, length, get_or, map, inl, inr, sym, ap, ◌∙◌, subst, arith, nat_tests, cases_lt, length-map, MOST_NODES, MOST_KEYS, amount_of, Cells, count_between, HasEach, IsNextAbove, IsLeastAbove, AreChanged, sum_below, sum_below-same, sum_below-plus, sum_below-le, Offer, Step, cells_in, low_in, high_in, marks, weights_in, weight_in, count_in, IsOffer, Oldest, raised, AreFarther, IsNextLayer, IsNextMark, AreLayersSoFar, IsLayerMark}
 use Rattle.delta_plans.proofs.Columns.{where_true}
 use Rattle.delta_plans.proofs.Layers.{counted-next, layer-stays, layer-next}
 use Rattle.delta_plans.proofs.OfferWeights.{offer-few, offer-weighs_none, offer-counts_none, more-farther, left-farther, beyond-farther}

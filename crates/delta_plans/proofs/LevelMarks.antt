@@ -1,12 +1,7 @@
 -- The marks of a mode's levels.
 -- Serves `Lifts` and `StopMarks`.
-use Rattle.delta_plans.proofs.Common.{◌≡◌, ℕ, ◌+◌, ◌<◌, ◌≤◌, true, false, leb, List, Some, refl, arith, nat_tests, Contains, nat_cmp, leb-true, leb-false, ltb-true, ltb-false, Entry, Item, Mode, ScuttleBreadth, ScuttleDepth, PreciseOldest, PreciseNewest, Table, IsProper, candidates, write_numbered, rank_among, owner_count, level_cmp, version_cmp, IsHistory, IsRoundMark, Cells, count_above}
-use Rattle.delta_plans.specs.declared.marked.First.{First}
-use Rattle.delta_plans.specs.declared.marked.First.TheVariants.{Oldest, Newest}
+use Rattle.delta_plans.proofs.Common.{◌≡◌, ℕ, ◌+◌, ◌<◌, ◌≤◌, true, false, leb, List, Some, refl, arith, nat_tests, Contains, nat_cmp, leb-true, leb-false, ltb-true, ltb-false, Entry, Item, Mode, ScuttleBreadth, ScuttleDepth, PreciseOldest, PreciseNewest, Table, IsProper, candidates, write_numbered, rank_among, owner_count, level_cmp, version_cmp, IsHistory, IsRoundMark, Cells, count_above, First, Oldest, Newest, Offers, rank_above, item_number, first_sent, lets_through, AreLevelMarks, IsLayerMark, IsRunMark, AreLayers, AreRuns, AreRounds, PartByRounds, HasShape}
 use Rattle.delta_plans.proofs.Firsts.{age_cmp}
-use Rattle.delta_plans.specs.Offers.{Offers, rank_above}
-use Rattle.delta_plans.specs.Firsts.{item_number}
-use Rattle.delta_plans.specs.LevelMarks.{first_sent, lets_through, AreLevelMarks, IsLayerMark, IsRunMark, AreLayers, AreRuns, AreRounds, PartByRounds, HasShape}
 use Rattle.delta_plans.proofs.CandidateNumbers.{candidate-number, candidate-below, candidate-key}
 use Rattle.delta_plans.proofs.Columns.{rank_among-is, owner_count-is}
 use Rattle.delta_plans.proofs.Layers.{layer-upto, layer-above}

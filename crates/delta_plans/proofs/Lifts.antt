@@ -1,14 +1,6 @@
 -- From marks over numbers to the delta that they are.
 -- Serves `version_tables`.
-use Rattle.delta_plans.proofs.Common.{◌≡◌, ℕ, ◌+◌, ◌<◌, ◌≤◌, Bool, true, false, cond, not, List, [], ◌∷◌, length, Some, inl, inr, refl, sym, ap, ◌∙◌, subst, arith, nat_tests, nat_lt, ◌&&◌, count_by, Contains, sum_by, cases_lt, lt-ltb, and_parts, ltb-true, sum_by-cons, same_Some, Entry, Item, Budget, Mode, amount_of, Table, entry_at, items_of, IsProper, Contains-items_of, candidates, DeltaView, delta_between, item_share, rotated, Contains-filter, write_numbered, Cells, HasNoneAbove, sum_below-same, IsHistory}
-use Rattle.delta_plans.specs.declared.marked.First.{First}
-use Rattle.delta_plans.specs.declared.marked.First.TheVariants.{Oldest, Newest}
-use Rattle.delta_plans.specs.SentSets.{HasSet}
-use Rattle.delta_plans.specs.Firsts.{comes_first, item_number}
-use Rattle.delta_plans.specs.Marked.{KeepsLow}
-use Rattle.delta_plans.specs.Offers.{Offers, is_lacked, AreSent}
-use Rattle.delta_plans.specs.LevelMarks.{first_sent, lets_through, HasShape, StopAt, size_through_marks}
-use Rattle.delta_plans.specs.Weights.{share_or_none, number_shares, weight_between, weight_through, one_each}
+use Rattle.delta_plans.proofs.Common.{◌≡◌, ℕ, ◌+◌, ◌<◌, ◌≤◌, Bool, true, false, cond, not, List, [], ◌∷◌, length, Some, inl, inr, refl, sym, ap, ◌∙◌, subst, arith, nat_tests, nat_lt, ◌&&◌, count_by, Contains, sum_by, cases_lt, lt-ltb, and_parts, ltb-true, sum_by-cons, same_Some, Entry, Item, Budget, Mode, amount_of, Table, entry_at, items_of, IsProper, Contains-items_of, candidates, DeltaView, delta_between, item_share, rotated, Contains-filter, write_numbered, Cells, HasNoneAbove, sum_below-same, IsHistory, First, Oldest, Newest, HasSet, comes_first, item_number, KeepsLow, Offers, is_lacked, AreSent, first_sent, lets_through, HasShape, StopAt, size_through_marks, share_or_none, number_shares, weight_between, weight_through, one_each}
 use Rattle.delta_plans.proofs.DeltaMarks.{marks-sent, all-sent}
 use Rattle.delta_plans.proofs.LevelMarks.{level-marks}
 use Rattle.delta_plans.proofs.CandidateNumbers.{candidate-key, candidate-number}

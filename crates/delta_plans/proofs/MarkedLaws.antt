@@ -1,17 +1,6 @@
 -- Marks of all that is offered, or of a level that was shared out.
 -- Serves `planned` and `version_tables`.
-use Rattle.delta_plans.proofs.Common.{◌≡◌, ℕ, ◌-◌, ◌<◌, ◌≤◌, true, List, length, get_or, map, inl, inr, refl, sym, ap, ◌∙◌, subst, arith, nat_tests, lt-ltb, le-leb, length-map, get_or_past, Mode, amount_of, Cells, HasNoneAbove, sum_below-le}
-use Rattle.delta_plans.specs.declared.marked.First.{First}
-use Rattle.delta_plans.specs.declared.marked.First.TheVariants.{Oldest, Newest}
-use Rattle.delta_plans.specs.declared.offers.Offer.{Offer}
-use Rattle.delta_plans.specs.declared.offers.Level.{Level}
-use Rattle.delta_plans.specs.Firsts.{by_first}
-use Rattle.delta_plans.specs.LevelMarks.{first_sent, lets_through}
-use Rattle.delta_plans.specs.Marked.{KeepsLow, AreMarked, IsLevelOf}
-use Rattle.delta_plans.specs.OfferInMemory.{cells_in, low_in, high_in, marks, weights_in, weight_in, count_in, IsOffer}
-use Rattle.delta_plans.specs.Plans.{count_on}
-use Rattle.delta_plans.specs.Sharing.{AreShared}
-use Rattle.delta_plans.specs.Weights.{weight_between, weight_through, count_all_between, one_each}
+use Rattle.delta_plans.proofs.Common.{◌≡◌, ℕ, ◌-◌, ◌<◌, ◌≤◌, true, List, length, get_or, map, inl, inr, refl, sym, ap, ◌∙◌, subst, arith, nat_tests, lt-ltb, le-leb, length-map, get_or_past, Mode, amount_of, Cells, HasNoneAbove, sum_below-le, First, Oldest, Newest, Offer, Level, by_first, first_sent, lets_through, KeepsLow, AreMarked, IsLevelOf, cells_in, low_in, high_in, marks, weights_in, weight_in, count_in, IsOffer, count_on, AreShared, weight_between, weight_through, count_all_between, one_each}
 
 -- fewer are between nearer marks
 count-le : (cells : Cells) (nodes keys : ℕ) (low low' high high' : ℕ → ℕ) → ((owner : ℕ) → owner < nodes → low' owner ≤ low owner) → ((owner : ℕ) → owner < nodes → HasNoneAbove cells keys owner (high' owner))

@@ -1,8 +1,6 @@
 -- What one table offers another, told by numbers.
 -- Serves `Columns`, `DeltaMarks` and `Lifts`.
-use Rattle.delta_plans.proofs.Common.{◌≡◌, ℕ, ◌<◌, cond, ltb, List, Some, None, inl, inr, refl, sym, ap, ◌∙◌, arith, nat_tests, Contains, sum_by, cases_lt, le-ltb, Entry, Item, Mode, Table, entry_at, items_of, IsProper, Contains-items_of, Contains-filter, candidates, Cells, sum_below-same}
-use Rattle.delta_plans.specs.Grids.{number_here, number_there}
-use Rattle.delta_plans.specs.Offers.{Offers, is_lacked, offered_sum}
+use Rattle.delta_plans.proofs.Common.{◌≡◌, ℕ, ◌<◌, cond, ltb, List, Some, None, inl, inr, refl, sym, ap, ◌∙◌, arith, nat_tests, Contains, sum_by, cases_lt, le-ltb, Entry, Item, Mode, Table, entry_at, items_of, IsProper, Contains-items_of, Contains-filter, candidates, Cells, sum_below-same, number_here, number_there, Offers, is_lacked, offered_sum}
 use Rattle.delta_plans.proofs.Grids.{candidates_sum}
 
 module _ (mode : Mode) (from to : Table) (proper : IsProper from) (lists : ℕ → List Entry) (cells : Cells) (low : ℕ → ℕ) (offers : Offers mode from to lists cells low) where

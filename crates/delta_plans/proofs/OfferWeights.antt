@@ -1,12 +1,7 @@
 -- What an offer's numbers take of its budget.
 -- Serves the functions of `breadths`, `depths`, `marked` and `offers`, `LayerSteps`, `RoundMarks`, `RunSteps` and
 -- `TurnSteps`.
-use Rattle.delta_plans.proofs.Common.{◌≡◌, ℕ, ◌+◌, ◌-◌, ◌*◌, ◌<◌, ◌≤◌, Bool, true, false, inl, inr, List, length, Option, Some, None, sym, ◌∙◌, transport, arith, nat_tests, ◌↔◌, cases_lt, mul-le-mul_right, sum_below-same, sum_below-plus, Entry, Budget, Entries, Bytes, amount_of, MOST_NODES, MOST_KEYS, MOST_ENTRY_SIZE, write_numbered, all_writes}
-use Rattle.delta_plans.specs.declared.offers.Offer.{Offer}
-use Rattle.delta_plans.specs.OfferInMemory.{cells_in, marks, weights_in, weight_in, count_in, AreCounted, IsLeftOf, IsOffer}
-use Rattle.delta_plans.specs.Weights.{share_or_none, one_each, weight_of, weight_between}
-use Rattle.delta_plans.specs.Plans.{AreFarther}
-use Rattle.delta_plans.specs.declared.marked.First.TheVariants.{Oldest}
+use Rattle.delta_plans.proofs.Common.{◌≡◌, ℕ, ◌+◌, ◌-◌, ◌*◌, ◌<◌, ◌≤◌, Bool, true, false, inl, inr, List, length, Option, Some, None, sym, ◌∙◌, transport, arith, nat_tests, ◌↔◌, cases_lt, mul-le-mul_right, sum_below-same, sum_below-plus, Entry, Budget, Entries, Bytes, amount_of, MOST_NODES, MOST_KEYS, MOST_ENTRY_SIZE, write_numbered, all_writes, Offer, cells_in, marks, weights_in, weight_in, count_in, AreCounted, IsLeftOf, IsOffer, share_or_none, one_each, weight_of, weight_between, AreFarther, Oldest}
 use Rattle.delta_plans.proofs.Columns.{sum_below-none}
 use Rattle.delta_plans.proofs.WeightLaws.{weight_of-none, weight_of-split, weight_between-same, weight_between-most, number_share-one, count_all_between-most}
 

@@ -1,19 +1,7 @@
 -- What marks at the ends of rounds let through.
 -- Serves `Rounds::count`, `Rounds::few_rounds`, `Rounds::left_of_few`, `Rounds::level`, `Rounds::look` and
 -- `version_tables`.
-use Rattle.delta_plans.proofs.Common.{◌≡◌, ℕ, ◌+◌, ◌-◌, ◌*◌, ◌<◌, ◌≤◌, ◌↔◌, IfSome, IsTrue, is_some, false, false≢true, MOST_ENTRY_SIZE, Option, max, map, ltb, List, length, Some, None, inl, inr, refl, sym, ap, ◌∙◌, subst, transport, arith, nat_tests, nat_lt, length-map, cases_lt, Entry, amount_of, all_writes, Cells, cell, total_of, HasNoneAbove, sum_below-same, sum_below-plus, AreMadeBy, IsRoundMark, numbered-some}
-use Rattle.delta_plans.specs.declared.marked.First.{First}
-use Rattle.delta_plans.specs.declared.marked.First.TheVariants.{Oldest, Newest}
-use Rattle.delta_plans.specs.declared.offers.Offer.{Offer}
-use Rattle.delta_plans.specs.declared.offers.Level.{Level}
-use Rattle.delta_plans.specs.declared.rounds.Found.{Found}
-use Rattle.delta_plans.specs.declared.rounds.Rounds.{Rounds}
-use Rattle.delta_plans.specs.OfferInMemory.{cells_in, low_in, high_in, marks, weights_in, count_in, IsLeftOf, IsOffer}
-use Rattle.delta_plans.specs.Plans.{count_on, weight_on, AreFarther}
-use Rattle.delta_plans.specs.RoundLevels.{end_mark, round_mark, mark_of_rounds, AreFewAndEnough, AreRaised, AreRoundMarks, HasRounds, IsFound, IsLevelOfRounds}
-use Rattle.delta_plans.specs.LevelMarks.{AreRounds}
-use Rattle.delta_plans.specs.Stops.{IsOn}
-use Rattle.delta_plans.specs.Weights.{weight_through, count_all_between, one_each}
+use Rattle.delta_plans.proofs.Common.{◌≡◌, ℕ, ◌+◌, ◌-◌, ◌*◌, ◌<◌, ◌≤◌, ◌↔◌, IfSome, IsTrue, is_some, false, false≢true, MOST_ENTRY_SIZE, Option, max, map, ltb, List, length, Some, None, inl, inr, refl, sym, ap, ◌∙◌, subst, transport, arith, nat_tests, nat_lt, length-map, cases_lt, Entry, amount_of, all_writes, Cells, cell, total_of, HasNoneAbove, sum_below-same, sum_below-plus, AreMadeBy, IsRoundMark, numbered-some, First, Oldest, Newest, Offer, Level, Found, Rounds, cells_in, low_in, high_in, marks, weights_in, count_in, IsLeftOf, IsOffer, count_on, weight_on, AreFarther, end_mark, round_mark, mark_of_rounds, AreFewAndEnough, AreRaised, AreRoundMarks, HasRounds, IsFound, IsLevelOfRounds, AreRounds, IsOn, weight_through, count_all_between, one_each}
 use Rattle.delta_plans.proofs.Columns.{where_true, sum_below-none}
 use Rattle.delta_plans.proofs.OfferWeights.{offer-most}
 use Rattle.delta_plans.proofs.TurnSteps.{through-same}

@@ -1,8 +1,6 @@
 -- Where generations start in an owner's list.
 -- Serves `put_starts`, `start_of`, `told` and `version_tables`.
-use Rattle.delta_plans.proofs.Common.{◌≡◌, ℕ, zero, suc, ◌+◌, ◌-◌, ◌<◌, ◌≤◌, min, List, [], ◌∷◌, ◌++◌, length, get_or, set, Some, None, inl, inr, sym, ap, ◌∙◌, arith, nat_tests, cases_eq, get_or_default, get_or-set_same, get_or-set_other, length-set, length-append, Entry, DigestKind, write_from, write_numbered, OwnerListView, all_writes, entries_of, list_of_owner, no_writes, AreWrites, AreChanged, start_before, start_of, numbered-some, write_from-at}
-use Rattle.delta_plans.specs.Offers.{told_by, told_number}
-use Rattle.delta_plans.specs.Told.{IsKnown}
+use Rattle.delta_plans.proofs.Common.{◌≡◌, ℕ, zero, suc, ◌+◌, ◌-◌, ◌<◌, ◌≤◌, min, List, [], ◌∷◌, ◌++◌, length, get_or, set, Some, None, inl, inr, sym, ap, ◌∙◌, arith, nat_tests, cases_eq, get_or_default, get_or-set_same, get_or-set_other, length-set, length-append, Entry, DigestKind, write_from, write_numbered, OwnerListView, all_writes, entries_of, list_of_owner, no_writes, AreWrites, AreChanged, start_before, start_of, numbered-some, write_from-at, told_by, told_number, IsKnown}
 
 -- an owner's writes are those of its list
 pub list-here : (lists : List OwnerListView) (owner : ℕ) (x : OwnerListView) → owner < length lists → x ≡ get_or lists owner x → list_of_owner lists owner ≡ x

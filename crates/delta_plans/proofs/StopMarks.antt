@@ -1,10 +1,6 @@
 -- Marks that stop at a candidate let through what comes before it.
 -- Serves `DeltaMarks`.
-use Rattle.delta_plans.proofs.Common.{◌≡◌, ℕ, ◌<◌, true, false, List, inl, inr, refl, sym, ap, ◌∙◌, arith, Contains, Ordering, Less, Equal, Greater, nat_cmp, ordering_then, is_lt, tied_itself, cases_lt, cases_eq, Entry, Item, Mode, both_equal, nat_cmp-less, nat_cmp-equal, nat_cmp-greater, Table, IsProper, candidates, rotated, sending_order, rotated-injective, sending_order-total, order-levels, level_cmp, IsHistory, Cells}
-use Rattle.delta_plans.specs.declared.marked.First.{First}
-use Rattle.delta_plans.specs.Offers.{Offers}
-use Rattle.delta_plans.specs.Firsts.{item_number, comes_first}
-use Rattle.delta_plans.specs.LevelMarks.{first_sent, lets_through, AreLevelMarks, StopAt}
+use Rattle.delta_plans.proofs.Common.{◌≡◌, ℕ, ◌<◌, true, false, List, inl, inr, refl, sym, ap, ◌∙◌, arith, Contains, Ordering, Less, Equal, Greater, nat_cmp, ordering_then, is_lt, tied_itself, cases_lt, cases_eq, Entry, Item, Mode, both_equal, nat_cmp-less, nat_cmp-equal, nat_cmp-greater, Table, IsProper, candidates, rotated, sending_order, rotated-injective, sending_order-total, order-levels, level_cmp, IsHistory, Cells, First, Offers, item_number, comes_first, first_sent, lets_through, AreLevelMarks, StopAt}
 use Rattle.delta_plans.proofs.LevelMarks.{version_cmp-first}
 use Rattle.delta_plans.proofs.CandidateNumbers.{candidate-below, one_item, older}
 use Rattle.delta_plans.proofs.Firsts.{age_cmp, own-order, version-first, version-last}

@@ -1,19 +1,6 @@
 -- The owners' turns in a level.
 -- Serves the functions of `rounds` and `sharing` and `RoundMarks`.
-use Rattle.delta_plans.proofs.Common.{◌≡◌, ◌≢◌, ℕ, suc, ◌+◌, ◌-◌, ◌*◌, ◌<◌, ◌≤◌, true, false, List, length, get_or, set, map, inl, inr, refl, sym, ap, ◌∙◌, subst, transport, arith, nat_tests, get_or-set_same, get_or-set_other, length-map, map-set, Entries, MOST_NODES, MOST_KEYS, MOST_ENTRY_SIZE, cases_lt, cases_eq, all_writes, Cells, HasNoneAbove, sum_below-same, sum_below-plus, rotated, rotated-injective, rotated-is, write_numbered}
-use Rattle.delta_plans.specs.declared.marked.First.{First}
-use Rattle.delta_plans.specs.declared.marked.First.TheVariants.{Oldest, Newest}
-use Rattle.delta_plans.specs.declared.offers.Offer.{Offer}
-use Rattle.delta_plans.specs.declared.sharing.Reached.{Reached}
-use Rattle.delta_plans.specs.declared.sharing.Turns.{Turns}
-use Rattle.delta_plans.specs.Firsts.{by_first, comes_first}
-use Rattle.delta_plans.specs.OfferInMemory.{cells_in, low_in, high_in, marks, weights_in, IsOffer}
-use Rattle.delta_plans.specs.Plans.{count_on, AreFarther}
-use Rattle.delta_plans.specs.LevelMarks.{lets_through}
-use Rattle.delta_plans.specs.Sharing.{AreShared}
-use Rattle.delta_plans.specs.Stops.{IsNext, IsOn, IsStopFrom}
-use Rattle.delta_plans.specs.Turns.{part_weight, parts_count, AreTurns, AreTurnsPassed, HasTurn, HaveTurns}
-use Rattle.delta_plans.specs.Weights.{weight_of, weight_from, weight_through, one_each}
+use Rattle.delta_plans.proofs.Common.{◌≡◌, ◌≢◌, ℕ, suc, ◌+◌, ◌-◌, ◌*◌, ◌<◌, ◌≤◌, true, false, List, length, get_or, set, map, inl, inr, refl, sym, ap, ◌∙◌, subst, transport, arith, nat_tests, get_or-set_same, get_or-set_other, length-map, map-set, Entries, MOST_NODES, MOST_KEYS, MOST_ENTRY_SIZE, cases_lt, cases_eq, all_writes, Cells, HasNoneAbove, sum_below-same, sum_below-plus, rotated, rotated-injective, rotated-is, write_numbered, First, Oldest, Newest, Offer, Reached, Turns, by_first, comes_first, cells_in, low_in, high_in, marks, weights_in, IsOffer, count_on, AreFarther, lets_through, AreShared, IsNext, IsOn, IsStopFrom, part_weight, parts_count, AreTurns, AreTurnsPassed, HasTurn, HaveTurns, weight_of, weight_from, weight_through, one_each}
 use Rattle.delta_plans.proofs.Columns.{sum_below-changed}
 use Rattle.delta_plans.proofs.WeightLaws.{part, weight_of-split, weight_of-same, weight_of-most, number_share-one, sum_below-longer}
 use Rattle.delta_plans.proofs.OfferWeights.{offer-few, share-most}

@@ -1,7 +1,4 @@
-use Rattle.delta_plans.proofs.Common.{length, refl, sym, ap, ◌∙◌, subst, arith, amount_of}
-use Rattle.delta_plans.specs.declared.offers.Level.{Level}
-use Rattle.delta_plans.specs.OfferInMemory.{marks}
-use Rattle.delta_plans.specs.Plans.{AreLayersSoFar, HasLayers, IsNextLayer}
+use Rattle.delta_plans.proofs.Common.{length, refl, sym, ap, ◌∙◌, subst, arith, amount_of, Level, marks, AreLayersSoFar, HasLayers, IsNextLayer}
 use Rattle.delta_plans.proofs.LayerSteps.{layers-first, layers-few, layers-upto, layers-between, layers-beyond, layers-more, layers-next, layers-far, layers-farther}
 use Rattle.delta_plans.proofs.OfferWeights.{asked-counted, asked-left}
 use Rattle.delta_plans.proofs.breadths.breadth.Goals as goal

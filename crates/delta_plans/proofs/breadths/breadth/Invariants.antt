@@ -1,6 +1,4 @@
-use Rattle.delta_plans.proofs.Common.{◌-◌}
-use Rattle.delta_plans.specs.OfferInMemory.{low_in, high_in, count_in}
-use Rattle.delta_plans.specs.Plans.{HasLayers}
+use Rattle.delta_plans.proofs.Common.{◌-◌, low_in, high_in, count_in, HasLayers}
 use Rattle.delta_plans.proofs.breadths.breadth.Given as goal
 
 abbrev pub invariant-loop-left : goal.invariant-loop-left

@@ -1,6 +1,4 @@
-use Rattle.delta_plans.proofs.Common.{nat_lt, get_or, length, map, sym, ap, subst, ◌∙◌, arith, if◌then◌else◌, length-map, with_items_is, HasEach, IsNextAbove, number-at, each-next}
-use Rattle.delta_plans.specs.OfferInMemory.{cells_in, marks}
-use Rattle.delta_plans.specs.Plans.{raised, IsNextMark}
+use Rattle.delta_plans.proofs.Common.{nat_lt, get_or, length, map, sym, ap, subst, ◌∙◌, arith, if◌then◌else◌, length-map, with_items_is, HasEach, IsNextAbove, number-at, each-next, cells_in, marks, raised, IsNextMark}
 use Rattle.delta_plans.proofs.LayerSteps.{next-mark, steps-raised}
 use Rattle.delta_plans.proofs.Nodes.{count_fits, counted_next, counted_all}
 use Rattle.delta_plans.proofs.breadths.one_more.Goals as goal

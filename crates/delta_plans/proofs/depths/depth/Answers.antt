@@ -1,6 +1,4 @@
-use Rattle.delta_plans.proofs.Common.{ℕ, ◌-◌, ◌≤◌, ◌<◌, length, get_or, map, refl, sym, ap, ◌∙◌, subst, arith, length-map, MOST_KEYS, amount_of}
-use Rattle.delta_plans.specs.OfferInMemory.{marks}
-use Rattle.delta_plans.specs.Plans.{AreRunsSoFar, AreNextRuns, HasRuns}
+use Rattle.delta_plans.proofs.Common.{ℕ, ◌-◌, ◌≤◌, ◌<◌, length, get_or, map, refl, sym, ap, ◌∙◌, subst, arith, length-map, MOST_KEYS, amount_of, marks, AreRunsSoFar, AreNextRuns, HasRuns}
 use Rattle.delta_plans.proofs.OfferWeights.{asked-counted, asked-left}
 use Rattle.delta_plans.proofs.RunSteps.{runs-start, runs-few, runs-between, runs-beyond, runs-next, runs-some, runs-of_level, runs-farther, counts-few}
 use Rattle.delta_plans.proofs.depths.depth.Goals as goal

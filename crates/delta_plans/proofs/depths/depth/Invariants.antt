@@ -1,4 +1,4 @@
-use Rattle.delta_plans.specs.Plans.{HasRuns}
+use Rattle.delta_plans.proofs.Common.{HasRuns}
 use Rattle.delta_plans.proofs.depths.depth.Given as goal
 
 abbrev pub invariant-loop-left : goal.invariant-loop-left

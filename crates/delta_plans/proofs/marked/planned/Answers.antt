@@ -1,7 +1,4 @@
-use Rattle.delta_plans.proofs.Common.{map, ap, ◌∙◌, subst}
-use Rattle.delta_plans.specs.Firsts.{by_first}
-use Rattle.delta_plans.specs.OfferInMemory.{marks}
-use Rattle.delta_plans.specs.Sharing.{AreShared}
+use Rattle.delta_plans.proofs.Common.{map, ap, ◌∙◌, subst, by_first, marks, AreShared}
 use Rattle.delta_plans.proofs.OfferWeights.{over}
 use Rattle.delta_plans.proofs.MarkedLaws.{whole-size, whole-marked, sent-found, share-marked}
 use Rattle.delta_plans.proofs.marked.planned.Goals as goal

@@ -1,5 +1,4 @@
-use Rattle.delta_plans.proofs.Common.{◌<◌, length, get_or, sym, ◌∙◌, subst, arith, map, length-map, nat_tests, entries_of, list_of_owner, start_of, number-at, written_next}
-use Rattle.delta_plans.specs.Told.{IsKnown}
+use Rattle.delta_plans.proofs.Common.{◌<◌, length, get_or, sym, ◌∙◌, subst, arith, map, length-map, nat_tests, entries_of, list_of_owner, start_of, number-at, written_next, IsKnown}
 use Rattle.delta_plans.proofs.Starts.{list-here, start-lower}
 use Rattle.delta_plans.proofs.told_marks.put_starts.Goals as goal
 

@@ -1,5 +1,4 @@
-use Rattle.delta_plans.proofs.Common.{◌≡◌, length, set, map, slice_index, sym, ap, subst, ◌∙◌, arith, map-set, with_items_is, all_writes, AreChanged, HasEach}
-use Rattle.delta_plans.specs.Offers.{told_by, told_number}
+use Rattle.delta_plans.proofs.Common.{◌≡◌, length, set, map, slice_index, sym, ap, subst, ◌∙◌, arith, map-set, with_items_is, all_writes, AreChanged, HasEach, told_by, told_number}
 use Rattle.delta_plans.proofs.Starts.{told-set}
 use Rattle.delta_plans.proofs.told_marks.told.Goals as goal
 

@@ -1,6 +1,4 @@
-use Rattle.delta_plans.proofs.Common.{◌≡◌, ◌+◌}
-use Rattle.delta_plans.specs.OfferInMemory.{cells_in, marks, weights_in}
-use Rattle.delta_plans.specs.Weights.{weight_between}
+use Rattle.delta_plans.proofs.Common.{◌≡◌, ◌+◌, cells_in, marks, weights_in, weight_between}
 use Rattle.delta_plans.proofs.offers.Offer.bytes_left_of.Given as goal
 
 abbrev pub invariant-loop-owner : goal.invariant-loop-owner

@@ -1,5 +1,4 @@
-use Rattle.delta_plans.proofs.Common.{ap, arith, rules, amount_of}
-use Rattle.delta_plans.specs.OfferInMemory.{marks}
+use Rattle.delta_plans.proofs.Common.{ap, arith, rules, amount_of, marks}
 use Rattle.delta_plans.proofs.OfferWeights.{offer-entries, offer-most, offer-few}
 use Rattle.delta_plans.proofs.offers.Offer.fits.Goals as goal
 

@@ -1,5 +1,4 @@
-use Rattle.delta_plans.proofs.Common.{sym, ◌∙◌, subst}
-use Rattle.delta_plans.specs.OfferInMemory.{marks, IsLeftOf}
+use Rattle.delta_plans.proofs.Common.{sym, ◌∙◌, subst, marks, IsLeftOf}
 use Rattle.delta_plans.proofs.OfferWeights.{offer-entries}
 use Rattle.delta_plans.proofs.offers.Offer.left_of.Goals as goal
 

@@ -1,5 +1,4 @@
-use Rattle.delta_plans.proofs.Common.{◌≡◌, ℕ, sym, ap, arith, nat_tests, number_next}
-use Rattle.delta_plans.specs.OfferInMemory.{cells_in, weights_in}
+use Rattle.delta_plans.proofs.Common.{◌≡◌, ℕ, sym, ap, arith, nat_tests, number_next, cells_in, weights_in}
 use Rattle.delta_plans.proofs.WeightLaws.{part}
 use Rattle.delta_plans.proofs.offers.Offer.weight_of.Goals as goal
 use Rattle.delta_plans.proofs.offers.Offer.weight_of.Goals.{then-is_above+then-is_upto, else-is_above, else-is_above-via-then-is_above+else-is_upto, else-is_above-via-else-is_above}

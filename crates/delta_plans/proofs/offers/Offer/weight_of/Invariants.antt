@@ -1,6 +1,4 @@
-use Rattle.delta_plans.proofs.Common.{◌≡◌, ◌*◌, ◌≤◌, largest_share}
-use Rattle.delta_plans.specs.OfferInMemory.{cells_in, weights_in}
-use Rattle.delta_plans.specs.Weights.{weight_of}
+use Rattle.delta_plans.proofs.Common.{◌≡◌, ◌*◌, ◌≤◌, largest_share, cells_in, weights_in, weight_of}
 use Rattle.delta_plans.proofs.offers.Offer.weight_of.Given as goal
 
 abbrev pub invariant-loop-key : goal.invariant-loop-key

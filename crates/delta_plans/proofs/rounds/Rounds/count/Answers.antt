@@ -1,6 +1,4 @@
-use Rattle.delta_plans.proofs.Common.{◌≡◌, ◌-◌, sym, ◌∙◌, subst, arith}
-use Rattle.delta_plans.specs.OfferInMemory.{marks}
-use Rattle.delta_plans.specs.Plans.{count_on}
+use Rattle.delta_plans.proofs.Common.{◌≡◌, ◌-◌, sym, ◌∙◌, subst, arith, marks, count_on}
 use Rattle.delta_plans.proofs.RoundMarks.{count-newest, count-oldest}
 use Rattle.delta_plans.proofs.rounds.Rounds.count.Goals as goal
 

@@ -1,5 +1,4 @@
-use Rattle.delta_plans.proofs.Common.{◌-◌, ◌<◌}
-use Rattle.delta_plans.specs.RoundLevels.{AreFewAndEnough}
+use Rattle.delta_plans.proofs.Common.{◌-◌, ◌<◌, AreFewAndEnough}
 use Rattle.delta_plans.proofs.rounds.Rounds.few_rounds.Given as goal
 
 abbrev pub invariant-loop-few : goal.invariant-loop-few

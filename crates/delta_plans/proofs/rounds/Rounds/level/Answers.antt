@@ -1,6 +1,4 @@
-use Rattle.delta_plans.proofs.Common.{◌≡◌, ◌+◌, subst, amount_of}
-use Rattle.delta_plans.specs.OfferInMemory.{marks}
-use Rattle.delta_plans.specs.Plans.{weight_on}
+use Rattle.delta_plans.proofs.Common.{◌≡◌, ◌+◌, subst, amount_of, marks, weight_on}
 use Rattle.delta_plans.proofs.RoundMarks.{rounds-level}
 use Rattle.delta_plans.proofs.rounds.Rounds.level.Goals as goal
 

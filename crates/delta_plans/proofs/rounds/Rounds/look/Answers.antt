@@ -1,6 +1,4 @@
-use Rattle.delta_plans.proofs.Common.{refl, ap, ◌*◌, arith, amount_of, MOST_ENTRY_SIZE}
-use Rattle.delta_plans.specs.OfferInMemory.{marks}
-use Rattle.delta_plans.specs.Plans.{weight_on}
+use Rattle.delta_plans.proofs.Common.{refl, ap, ◌*◌, arith, amount_of, MOST_ENTRY_SIZE, marks, weight_on}
 use Rattle.delta_plans.proofs.RoundMarks.{left-tells, on-most}
 use Rattle.delta_plans.proofs.TurnSteps.{count_on-few}
 use Rattle.delta_plans.proofs.rounds.Rounds.look.Goals as goal

@@ -1,6 +1,4 @@
-use Rattle.delta_plans.proofs.Common.{◌≡◌, length, map, max, get_or, ap, sym, subst, ◌∙◌, arith, with_items, length-map, with_items_is, HasEach}
-use Rattle.delta_plans.specs.OfferInMemory.{marks}
-use Rattle.delta_plans.specs.RoundLevels.{round_at, end_mark}
+use Rattle.delta_plans.proofs.Common.{◌≡◌, length, map, max, get_or, ap, sym, subst, ◌∙◌, arith, with_items, length-map, with_items_is, HasEach, marks, round_at, end_mark}
 use Rattle.delta_plans.proofs.rounds.Rounds.mark_after.Goals as goal
 use Rattle.delta_plans.proofs.rounds.Rounds.mark_after.Goals.{in-Oldest, in-Newest}
 

@@ -1,6 +1,4 @@
-use Rattle.delta_plans.proofs.Common.{ℕ, suc, ◌+◌, ◌≤◌, arith, sum_below-most, MOST_KEYS}
-use Rattle.delta_plans.specs.OfferInMemory.{cells_in, marks}
-use Rattle.delta_plans.specs.Turns.{part_weight}
+use Rattle.delta_plans.proofs.Common.{ℕ, suc, ◌+◌, ◌≤◌, arith, sum_below-most, MOST_KEYS, cells_in, marks, part_weight}
 use Rattle.delta_plans.proofs.StopSteps.{few-from}
 use Rattle.delta_plans.proofs.sharing.Turns.count_of_parts.Goals as goal
 

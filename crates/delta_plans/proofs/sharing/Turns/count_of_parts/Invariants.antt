@@ -1,5 +1,4 @@
-use Rattle.delta_plans.proofs.Common.{◌≡◌}
-use Rattle.delta_plans.specs.Turns.{parts_count}
+use Rattle.delta_plans.proofs.Common.{◌≡◌, parts_count}
 use Rattle.delta_plans.proofs.sharing.Turns.count_of_parts.Given as goal
 
 abbrev pub invariant-loop-i : goal.invariant-loop-i

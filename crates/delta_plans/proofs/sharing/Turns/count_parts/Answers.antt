@@ -1,10 +1,4 @@
-use Rattle.delta_plans.proofs.Common.{◌≡◌, ℕ, ◌+◌, ◌-◌, ◌<◌, ◌≤◌, List, get_or, length, map, take, drop, inr, subst, ◌∙◌, arith, transport, length-map, length-take-le, length-drop, put_mid, Cells, count_between, HasEach, part-here, part-written}
-use Rattle.delta_plans.specs.declared.marked.First.{First}
-use Rattle.delta_plans.specs.declared.marked.First.TheVariants.{Oldest, Newest}
-use Rattle.delta_plans.specs.Firsts.{by_first}
-use Rattle.delta_plans.specs.OfferInMemory.{cells_in, marks}
-use Rattle.delta_plans.specs.Turns.{part_weight}
-use Rattle.delta_plans.specs.Weights.{weight_from}
+use Rattle.delta_plans.proofs.Common.{◌≡◌, ℕ, ◌+◌, ◌-◌, ◌<◌, ◌≤◌, List, get_or, length, map, take, drop, inr, subst, ◌∙◌, arith, transport, length-map, length-take-le, length-drop, put_mid, Cells, count_between, HasEach, part-here, part-written, First, Oldest, Newest, by_first, cells_in, marks, part_weight, weight_from}
 use Rattle.delta_plans.proofs.sharing.Turns.count_parts.Goals as goal
 
 -- a part has as many numbers as lie between the two marks that go first

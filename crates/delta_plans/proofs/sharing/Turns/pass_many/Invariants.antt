@@ -1,5 +1,4 @@
-use Rattle.delta_plans.proofs.Common.{◌-◌}
-use Rattle.delta_plans.specs.Turns.{AreKnownFor, HasReached}
+use Rattle.delta_plans.proofs.Common.{◌-◌, AreKnownFor, HasReached}
 use Rattle.delta_plans.proofs.sharing.Turns.pass_many.Given as goal
 
 abbrev pub invariant-loop-reached : goal.invariant-loop-reached

@@ -1,6 +1,4 @@
-use Rattle.delta_plans.proofs.Common.{◌+◌, set, ap, ◌∙◌, arith, length-set}
-use Rattle.delta_plans.specs.OfferInMemory.{marks}
-use Rattle.delta_plans.specs.Turns.{parts_count}
+use Rattle.delta_plans.proofs.Common.{◌+◌, set, ap, ◌∙◌, arith, length-set, marks, parts_count}
 use Rattle.delta_plans.proofs.TurnSteps.{turns-same, some-next, put-here, put-other, count_on-few}
 use Rattle.delta_plans.proofs.sharing.Turns.pass_some.Goals as goal
 

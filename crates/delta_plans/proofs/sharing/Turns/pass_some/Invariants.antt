@@ -1,6 +1,4 @@
-use Rattle.delta_plans.proofs.Common.{◌≡◌, ◌+◌, ◌-◌, length}
-use Rattle.delta_plans.specs.OfferInMemory.{marks}
-use Rattle.delta_plans.specs.Turns.{parts_count, AreTurnsPassed}
+use Rattle.delta_plans.proofs.Common.{◌≡◌, ◌+◌, ◌-◌, length, marks, parts_count, AreTurnsPassed}
 use Rattle.delta_plans.proofs.sharing.Turns.pass_some.Given as goal
 
 abbrev pub invariant-loop-i : goal.invariant-loop-i

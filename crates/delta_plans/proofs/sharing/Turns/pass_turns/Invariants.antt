@@ -1,6 +1,4 @@
-use Rattle.delta_plans.proofs.Common.{◌≡◌, length}
-use Rattle.delta_plans.specs.OfferInMemory.{marks}
-use Rattle.delta_plans.specs.Turns.{AreKnownFor, AreTurnsPassed}
+use Rattle.delta_plans.proofs.Common.{◌≡◌, length, marks, AreKnownFor, AreTurnsPassed}
 use Rattle.delta_plans.proofs.sharing.Turns.pass_turns.Given as goal
 
 abbrev pub invariant-loop-turn : goal.invariant-loop-turn

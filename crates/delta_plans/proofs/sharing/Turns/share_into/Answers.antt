@@ -1,6 +1,4 @@
-use Rattle.delta_plans.proofs.Common.{set, refl, ap, ◌∙◌, transport, arith, length-set}
-use Rattle.delta_plans.specs.OfferInMemory.{cells_in, marks, weights_in}
-use Rattle.delta_plans.specs.Stops.{IsStopFrom}
+use Rattle.delta_plans.proofs.Common.{set, refl, ap, ◌∙◌, transport, arith, length-set, cells_in, marks, weights_in, IsStopFrom}
 use Rattle.delta_plans.proofs.StopSteps.{few-from}
 use Rattle.delta_plans.proofs.TurnSteps.{turns-shared, put-here, put-other, count_on-few}
 use Rattle.delta_plans.proofs.sharing.Turns.share_into.Goals as goal

@@ -1,6 +1,4 @@
-use Rattle.delta_plans.proofs.Common.{ap, ◌∙◌, arith}
-use Rattle.delta_plans.specs.OfferInMemory.{cells_in}
-use Rattle.delta_plans.specs.Stops.{nearer_beyond}
+use Rattle.delta_plans.proofs.Common.{ap, ◌∙◌, arith, cells_in, nearer_beyond}
 use Rattle.delta_plans.proofs.StopSteps.{next-first, next-nearer, next-found}
 use Rattle.delta_plans.proofs.stops.Part.nearest.Goals as goal
 

@@ -1,7 +1,4 @@
-use Rattle.delta_plans.proofs.Common.{ℕ}
-use Rattle.delta_plans.specs.declared.marked.First.{First}
-use Rattle.delta_plans.specs.OfferInMemory.{cells_in}
-use Rattle.delta_plans.specs.Stops.{AnswersNearer}
+use Rattle.delta_plans.proofs.Common.{ℕ, First, cells_in, AnswersNearer}
 use Rattle.delta_plans.proofs.StopSteps.{IsNextSoFar}
 use Rattle.delta_plans.proofs.stops.Part.nearest.Given as goal
 

@@ -1,7 +1,4 @@
-use Rattle.delta_plans.proofs.Common.{rules, sym, subst}
-use Rattle.delta_plans.specs.declared.marked.First.TheVariants.{Newest}
-use Rattle.delta_plans.specs.OfferInMemory.{cells_in}
-use Rattle.delta_plans.specs.Stops.{HasNext, IsNext}
+use Rattle.delta_plans.proofs.Common.{rules, sym, subst, Newest, cells_in, HasNext, IsNext}
 use Rattle.delta_plans.proofs.stops.Part.next.Goals as goal
 
 pub returns-in-Newest : goal.returns-in-Newest

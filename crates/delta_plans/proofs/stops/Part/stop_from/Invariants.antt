@@ -1,5 +1,4 @@
-use Rattle.delta_plans.specs.OfferInMemory.{cells_in, weights_in}
-use Rattle.delta_plans.specs.Weights.{weight_from}
+use Rattle.delta_plans.proofs.Common.{cells_in, weights_in, weight_from}
 use Rattle.delta_plans.proofs.StopSteps.{IsStopSoFar}
 use Rattle.delta_plans.proofs.stops.Part.stop_from.Given as goal
 

@@ -1,29 +1,9 @@
 -- Ranks among an owner's candidates and how many it has, by its numbers.
 -- Serves most of the crate and `version_tables`.
 use Rattle.delta_plans.proofs.Common.{◌≡◌, ◌≢◌, ℕ, zero, suc, ◌+◌, ◌<◌, Bool, cond, eqb, ltb, List, inl, inr, refl, ap, ◌∙◌, arith, Contains, ◌&&◌, cases_lt, cases_eq, Entry, Item, Mode, Table, IsProper, candidates, rank_among, owner_count, sum_below, IsHistory, Cells, count_above, sum_below-same, number-of_version, nat_tests, subst, versions-rise, Offers, offered_sum, rank_above, item_number}
+use Rattle.delta_plans.proofs.Sums.{sum_below-none, sum_below-one, where_true}
 use Rattle.delta_plans.proofs.OfferSums.{offered-sum}
 use Rattle.delta_plans.proofs.CandidateNumbers.{candidate-number, candidate-below, alike, d_number}
-
-pub sum_below-none : (n : ℕ) (f : ℕ → ℕ) → ((i : ℕ) → i < n → f i ≡ 0) → sum_below n f ≡ 0
-sum_below-none zero f none = refl
-sum_below-none (suc n) f none = omega (arith, sum_below-none n f (λ i lt. none i (omega (arith, lt))), none n (omega arith))
-
--- a sum that changes at one index
-pub sum_below-changed : (n r d : ℕ) (f g : ℕ → ℕ) → r < n → ((i : ℕ) → i < n → i ≢ r → g i ≡ f i) → g r ≡ f r + d → sum_below n g ≡ sum_below n f + d
-sum_below-changed zero r d f g lt others here = absurd (omega (arith, lt))
-sum_below-changed (suc n) r d f g lt others here = elim (cases_lt r n) [
-  | inl below ↦ omega (arith, sum_below-changed n r d f g below (λ i lt' ne. others i (omega (arith, lt')) ne) here, others n (omega arith) (λ e. omega (arith, e, below)))
-  | inr not_below ↦
-      let at : g n ≡ f n + d = subst (λ i. g i ≡ f i + d) {x = r} {y = n} (omega (arith, lt, not_below)) here in
-      omega (arith, at, sum_below-same n g f (λ i lt'. others i (omega (arith, lt')) (λ e. omega (arith, e, lt', not_below))))
-]
-
-pub sum_below-one : (n r : ℕ) (f : ℕ → ℕ) → r < n → ((i : ℕ) → i < n → i ≢ r → f i ≡ 0) → sum_below n f ≡ f r
-sum_below-one n r f lt others = omega (arith, sum_below-changed n r (f r) (λ _. 0) f lt others (omega arith), sum_below-none n (λ _. 0) (λ i lt'. refl))
-
--- a number where a test passes
-abbrev pub where_true : Bool → ℕ → ℕ
-where_true b n = cond b n 0
 
 module _ (mode : Mode) (from to : Table) (proper : IsProper from) (lists : ℕ → List Entry) (histories : (owner : ℕ) → IsHistory (lists owner)) (cells : Cells) (low : ℕ → ℕ) (offers : Offers mode from to lists cells low) (c : Item) (in_c : Contains (candidates mode from to) c) where
   abbrev cs : List Item

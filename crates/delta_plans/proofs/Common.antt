@@ -6,7 +6,7 @@ pub use Rattle.std.proofs.Math.Path.{transport}
 pub use Rattle.std.proofs.lemmas.Bool.{and_parts, both_ways, cases_eq, cases_lt, eqb-true, false≢true, le-leb, le-ltb, leb-false, leb-true, lt-leb, lt-ltb, ltb-false, ltb-true}
 pub use Rattle.std.proofs.lemmas.Bool.Decides.{nat_tests}
 pub use Rattle.std.proofs.lemmas.List.{get_or-set_other, get_or-set_same, get_or_default, get_or_past, length-append, length-drop, length-map, length-set, length-take-le, map-set, with_items_is}
-pub use Rattle.std.proofs.lemmas.List.Elements.{Contains-append_cases, Contains-append_left, Contains-append_right}
+pub use Rattle.std.proofs.lemmas.List.Elements.{Contains-get_or}
 pub use Rattle.std.proofs.lemmas.List.Kept.{AllPairs-filter}
 pub use Rattle.std.proofs.lemmas.List.Sorted.{length_permutation, sum_by-IsPermutation}
 pub use Rattle.std.proofs.lemmas.List.Sums.{length-filter, sum_by-append, sum_by-cons}
@@ -19,19 +19,19 @@ pub use Rattle.std.specs.Vec.{with_items}
 pub use Rattle.std.specs.declared.cmp.Ordering.{Ordering}
 pub use Rattle.std.specs.declared.cmp.Ordering.TheVariants.{Equal, Greater, Less}
 pub use borrow.Rule.Slice.PartMut.{put_mid}
-pub use Rattle.bench_types.proofs.Sums.{sum_below-most, sum_below-plus, sum_below-same}
+pub use Rattle.bench_types.proofs.Sums.{fold_below-join, sum_below-most, sum_below-plus, sum_below-same, sums}
 pub use Rattle.bench_types.specs.Budget.{largest_share}
 pub use Rattle.bench_types.specs.declared.exchanges.Budget.TheVariants.{Bytes, Entries}
 pub use Rattle.bench_types.specs.declared.limits.TheConstants.{MOST_ENTRY_SIZE}
 pub use Rattle.model.proofs.Common.{Budget, DigestKind, Entry, Item, MOST_KEYS, MOST_NODES, Mode, PreciseNewest, PreciseOldest, ScuttleBreadth, ScuttleDepth, amount_of, both_equal, digest_kind, is_before, mark_of, nat_cmp-equal, nat_cmp-greater, nat_cmp-less, sum_below, sum_below-le}
 pub use Rattle.model.proofs.Apart.{rotated-injective, rotated-is}
 pub use Rattle.model.proofs.DeltaLaws.{sending_order-strict, sending_order-total}
-pub use Rattle.model.proofs.Items.{Contains-items_of, IsApart, apart-items_of, entry_at-items_of}
+pub use Rattle.model.proofs.Items.{Contains-items_of, IsApart, apart-items_of, entry_at-items_of, items_at-apart}
 pub use Rattle.model.proofs.Levels.{level_cmp, order-levels, version_cmp}
 pub use Rattle.model.proofs.Members.{AllPairs-append, Contains-filter, Contains-kept, same_members}
 pub use Rattle.model.proofs.Places.{Contains-first_places, first_places-Contains}
 pub use Rattle.model.proofs.StateDeltas.{sent_apart}
-pub use Rattle.model.proofs.TableLaws.{tied-stands_at}
+pub use Rattle.model.proofs.TableLaws.{items_at-none, tied-stands_at}
 pub use Rattle.model.specs.Candidates.{candidates, known_mark}
 pub use Rattle.model.specs.Deltas.{DeltaView, delta_between, item_share}
 pub use Rattle.model.specs.Order.{owner_count, rank_among, rotated, sending_order}
@@ -39,7 +39,7 @@ pub use Rattle.model.specs.Picks.{before_count, cut_count, fits, sent, size_thro
 pub use Rattle.model.specs.Table.{IsProper, Table, entry_at, generation_held, items_of}
 pub use Rattle.model.specs.calls.Numbers.{write_from, write_numbered}
 pub use Rattle.model.specs.calls.OwnerListView.{AreWrites, OwnerListView, all_writes, entries_of, list_of_owner, no_writes}
-pub use Rattle.model.specs.inner.Applied.{stands_at}
+pub use Rattle.model.specs.inner.Applied.{items_at, stands_at}
 pub use Rattle.owner_writes.proofs.Numbers.{number-of_version, numbered-some, versions-rise, write_from-at}
 pub use Rattle.owner_writes.specs.Numbered.{AreMadeBy, IsHistory, IsRoundMark, start_before, start_of}
 pub use Rattle.planes.proofs.Counts.{count_le, number_next, one_le, sum_next, sum_whole}
@@ -48,7 +48,7 @@ pub use Rattle.planes.proofs.Places.{each-next, part-here, part-written}
 pub use Rattle.planes.specs.Elementwise.{AreChanged, AreChangedUpto}
 pub use Rattle.planes.specs.Planes.{Cells, HasEach, HasNoneAbove, IsLeastAbove, IsNextAbove, cell, count_above, count_between, total_of}
 pub use Rattle.delta_plans.specs.Firsts.{by_first, comes_first, item_number}
-pub use Rattle.delta_plans.specs.Grids.{column_items, grid_items, item_here, number_here, number_there, sum_over}
+pub use Rattle.delta_plans.specs.Grids.{number_here, number_there, sum_over}
 pub use Rattle.delta_plans.specs.LevelMarks.{AreLayers, AreLevelMarks, AreRounds, AreRuns, HasShape, IsLayerMark, IsRunMark, NumbersDiffer, PartByRounds, StopAt, first_sent, lets_through, size_through_marks}
 pub use Rattle.delta_plans.specs.Marked.{AreMarked, IsLevelOf, KeepsLow}
 pub use Rattle.delta_plans.specs.OfferInMemory.{AreCounted, IsLeftOf, IsOffer, cells_in, count_in, high_in, low_in, marks, owner_count_in, weight_in, weights_in}

@@ -1,7 +1,6 @@
 -- The items of a table are those of its places, so a sum over them is one over all places.
 -- Serves `OfferSums`, `SentSets` and `version_tables`.
-use Rattle.delta_plans.proofs.Common.{◌≡◌, ℕ, suc, ◌+◌, ◌<◌, Bool, true, false, cond, not, eqb, List, [], ◌∷◌, get_or, Some, None, refl, sym, ap, ◌∙◌, subst, arith, nat_tests, filter, Contains, Contains-get_or, ◌&&◌, sum_by, is_eq, eqb-true, and_parts, sum_by-cons, Entry, Item, Mode, mark_of, is_before, digest_kind, candidates, known_mark, Table, entry_at, items_of, IsProper, stands_at, items_at, items_at-none, items_at-apart, IsApart, entry_at-items_of, Contains-items_of, apart-items_of, tied-stands_at, sum_below, sum_below-same}
-use Rattle.delta_plans.specs.Grids.{number_here, number_there, sum_over}
+use Rattle.delta_plans.proofs.Common.{◌≡◌, ◌≢◌, ℕ, suc, ◌+◌, ◌<◌, Bool, true, false, cond, not, eqb, List, [], ◌∷◌, get_or, Some, None, refl, sym, ap, ◌∙◌, subst, arith, nat_tests, filter, Contains, Contains-get_or, ◌&&◌, sum_by, is_eq, eqb-true, and_parts, sum_by-cons, Entry, Item, Mode, mark_of, is_before, digest_kind, candidates, known_mark, Table, entry_at, items_of, IsProper, stands_at, items_at, items_at-none, items_at-apart, IsApart, entry_at-items_of, Contains-items_of, apart-items_of, tied-stands_at, sum_below, sum_below-same, number_here, number_there, sum_over}
 use Rattle.delta_plans.proofs.Sums.{sum_below-changed, sum_below-none}
 
 -- a sum over those that pass a test
@@ -14,20 +13,29 @@ sum_by-filter p f (x ∷ xs) =
     grind (arith, nat_tests)
 
 -- a sum over items within bounds, place by place
+abbrev sum_at : (Item → ℕ) → List Item → ℕ → ℕ → ℕ
+sum_at f xs owner key = sum_by (λ i. cond (stands_at owner key i) (f i) 0) xs
+
 by_places : (nodes keys : ℕ) (f : Item → ℕ) (xs : List Item) → ((i : Item) → Contains xs i → (i.owner < nodes) × (i.entry.key < keys))
-    → sum_by f xs ≡ sum_below nodes (λ owner. sum_below keys (λ key. sum_by (λ i. cond (stands_at owner key i) (f i) 0) xs))
+    → sum_by f xs ≡ sum_below nodes (λ owner. sum_below keys (sum_at f xs owner))
 by_places nodes keys f [] within = sym (sum_below-none nodes _ (λ owner lt. sum_below-none keys _ (λ key lt'. refl)))
 by_places nodes keys f (x ∷ xs) within =
     let rest = by_places nodes keys f xs (λ i (k, lt, is). within i (suc k, omega (arith, lt), is)) in
-    let place = within x (0, omega arith, refl) in
-    let one = λ (owner key : ℕ). sum_by-cons (λ i. cond (stands_at owner key i) (f i) 0) x xs in
-    let more = sum_below-changed nodes x.owner (f x) _ _ place.0
-        (λ owner lt other. sum_below-same keys _ _ (λ key lt'. let is = one owner key in grind (arith, nat_tests)))
-        (sum_below-changed keys x.entry.key (f x) _ _ place.1
+    omega (arith, sum_by-cons f x xs, rest, sum_below-changed nodes x.owner (f x) _ (λ owner. sum_below keys (sum_at f (x ∷ xs) owner)) place.0 others row)
+  where
+    place : (x.owner < nodes) × (x.entry.key < keys)
+    place = within x (0, omega arith, refl)
+
+    one : (owner key : ℕ) → sum_at f (x ∷ xs) owner key ≡ cond (stands_at owner key x) (f x) 0 + sum_at f xs owner key
+    one owner key = sum_by-cons (λ i. cond (stands_at owner key i) (f i) 0) x xs
+
+    others : (owner : ℕ) → owner < nodes → owner ≢ x.owner → sum_below keys (sum_at f (x ∷ xs) owner) ≡ sum_below keys (sum_at f xs owner)
+    others owner lt other = sum_below-same keys _ _ (λ key lt'. let is = one owner key in grind (arith, nat_tests))
+
+    row : sum_below keys (sum_at f (x ∷ xs) x.owner) ≡ sum_below keys (sum_at f xs x.owner) + f x
+    row = sum_below-changed keys x.entry.key (f x) (sum_at f xs x.owner) (sum_at f (x ∷ xs) x.owner) place.1
         (λ key lt other. let is = one x.owner key in grind (arith, nat_tests))
-        (let is = one x.owner x.entry.key in grind (arith, nat_tests)))
-    in
-    omega (arith, sum_by-cons f x xs, rest, more)
+        (let is = one x.owner x.entry.key in grind (arith, nat_tests))
 
 module _ (t : Table) (proper : IsProper t) where
   pub table_apart : IsApart (items_of t)
@@ -41,12 +49,13 @@ module _ (t : Table) (proper : IsProper t) where
     | false ↦ λ _. refl
     | true ↦ λ is.
         let parts = and_parts (eqb i.owner owner) (eqb i.entry.key key) is in
-        let same = λ j. entry_at t (eqb-true i.owner owner parts.0 j) (eqb-true i.entry.key key parts.1 j) in
+        let same : entry_at t i.owner i.entry.key ≡ entry_at t owner key =
+        λ j. entry_at t (eqb-true i.owner owner parts.0 j) (eqb-true i.entry.key key parts.1 j) in
         let no : None ≡ Some i.entry = sym none ∙ sym same ∙ entry_at-items_of t i proper there in
         absurd (cc)
   ] refl
 
-  at_place : (f : Item → ℕ) (owner key : ℕ) → sum_by (λ i. cond (stands_at owner key i) (f i) 0) (items_of t) ≡ number_there f t owner key
+  at_place : (f : Item → ℕ) (owner key : ℕ) → sum_at f (items_of t) owner key ≡ number_there f t owner key
   at_place f owner key =
       sym (sum_by-filter (stands_at owner key) f (items_of t))
       ∙ elim (entry_at t owner key) as (λ o. entry_at t owner key ≡ o → sum_by f (items_at owner key (items_of t)) ≡ number_here f owner o) [

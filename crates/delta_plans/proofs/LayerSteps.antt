@@ -1,10 +1,10 @@
 -- Layers of an offer, gone over as long as they fit.
 -- Serves `breadth` and `one_more`.
 use Rattle.delta_plans.proofs.Common.{◌≡◌, ℕ, ◌+◌, ◌-◌, ◌*◌, ◌<◌, ◌≤◌, cond, ltb, List, length, get_or, map, inl, inr, sym, ap, ◌∙◌, subst, arith, nat_tests, cases_lt, length-map, MOST_NODES, MOST_KEYS, amount_of, Cells, count_between, HasEach, IsNextAbove, IsLeastAbove, AreChanged, sum_below, sum_below-same, sum_below-plus, sum_below-le, Offer, Step, cells_in, low_in, high_in, marks, weights_in, weight_in, count_in, IsOffer, Oldest, raised, AreFarther, IsNextLayer, IsNextMark, AreLayersSoFar, IsLayerMark}
-use Rattle.delta_plans.proofs.Columns.{where_true}
+use Rattle.delta_plans.proofs.Sums.{where_true, sum_below-each_none}
 use Rattle.delta_plans.proofs.Layers.{counted-next, layer-stays, layer-next}
 use Rattle.delta_plans.proofs.OfferWeights.{offer-few, offer-weighs_none, offer-counts_none, more-farther, left-farther, beyond-farther}
-use Rattle.delta_plans.proofs.WeightLaws.{weight_of-none, weight_of-upto, weight_of-all, sum_below-each_none}
+use Rattle.delta_plans.proofs.WeightLaws.{weight_of-none, weight_of-upto, weight_of-all}
 
 -- the next number, or else the mark itself
 module _ (most : ℕ) (cells : Cells) (keys owner mark least y : ℕ) (below : (key : ℕ) → key < keys → cells owner key < most) (next : IsNextAbove most cells keys owner mark least) (settled : y ≡ cond (ltb least most) least mark) where

@@ -1,7 +1,7 @@
 -- Marks layer by layer: one more number of each owner at a time.
 -- Serves `LayerSteps` and `LevelMarks`.
 use Rattle.delta_plans.proofs.Common.{◌≡◌, ℕ, ◌+◌, ◌<◌, ◌≤◌, eqb, ltb, inl, inr, ap, ◌∙◌, arith, nat_tests, cases_lt, cases_eq, sum_below, Cells, count_between, IsLeastAbove, HasNoneAbove, sum_below-le, sum_below-same, rank_above, IsLayerMark, NumbersDiffer}
-use Rattle.delta_plans.proofs.Columns.{sum_below-changed, where_true}
+use Rattle.delta_plans.proofs.Sums.{sum_below-changed, where_true}
 use Rattle.delta_plans.proofs.WeightLaws.{part}
 
 module _ (cells : Cells) (keys owner low : ℕ) where

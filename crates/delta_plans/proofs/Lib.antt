@@ -1,4 +1,5 @@
 pub mod SentSets
+pub mod Sums
 pub mod Grids
 pub mod OfferSums
 pub mod Lifts

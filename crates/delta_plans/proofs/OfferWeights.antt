@@ -2,7 +2,7 @@
 -- Serves the functions of `breadths`, `depths`, `marked` and `offers`, `LayerSteps`, `RoundMarks`, `RunSteps` and
 -- `TurnSteps`.
 use Rattle.delta_plans.proofs.Common.{◌≡◌, ℕ, ◌+◌, ◌-◌, ◌*◌, ◌<◌, ◌≤◌, Bool, true, false, inl, inr, List, length, Option, Some, None, sym, ◌∙◌, transport, arith, nat_tests, ◌↔◌, cases_lt, mul-le-mul_right, sum_below-same, sum_below-plus, Entry, Budget, Entries, Bytes, amount_of, MOST_NODES, MOST_KEYS, MOST_ENTRY_SIZE, write_numbered, all_writes, Offer, cells_in, marks, weights_in, weight_in, count_in, AreCounted, IsLeftOf, IsOffer, share_or_none, one_each, weight_of, weight_between, AreFarther, Oldest}
-use Rattle.delta_plans.proofs.Columns.{sum_below-none}
+use Rattle.delta_plans.proofs.Sums.{sum_below-none}
 use Rattle.delta_plans.proofs.WeightLaws.{weight_of-none, weight_of-split, weight_between-same, weight_between-most, number_share-one, count_all_between-most}
 
 -- no write takes more than the largest share

@@ -2,7 +2,7 @@
 -- Serves `Rounds::count`, `Rounds::few_rounds`, `Rounds::left_of_few`, `Rounds::level`, `Rounds::look` and
 -- `version_tables`.
 use Rattle.delta_plans.proofs.Common.{◌≡◌, ℕ, ◌+◌, ◌-◌, ◌*◌, ◌<◌, ◌≤◌, ◌↔◌, IfSome, IsTrue, is_some, false, false≢true, MOST_ENTRY_SIZE, Option, max, map, ltb, List, length, Some, None, inl, inr, refl, sym, ap, ◌∙◌, subst, transport, arith, nat_tests, nat_lt, length-map, cases_lt, Entry, amount_of, all_writes, Cells, cell, total_of, HasNoneAbove, sum_below-same, sum_below-plus, AreMadeBy, IsRoundMark, numbered-some, First, Oldest, Newest, Offer, Level, Found, Rounds, cells_in, low_in, high_in, marks, weights_in, count_in, IsLeftOf, IsOffer, count_on, weight_on, AreFarther, end_mark, round_mark, mark_of_rounds, AreFewAndEnough, AreRaised, AreRoundMarks, HasRounds, IsFound, IsLevelOfRounds, AreRounds, IsOn, weight_through, count_all_between, one_each}
-use Rattle.delta_plans.proofs.Columns.{where_true, sum_below-none}
+use Rattle.delta_plans.proofs.Sums.{where_true, sum_below-none}
 use Rattle.delta_plans.proofs.OfferWeights.{offer-most}
 use Rattle.delta_plans.proofs.TurnSteps.{through-same}
 use Rattle.delta_plans.proofs.WeightLaws.{part, weight_of-all, weight_of-none}

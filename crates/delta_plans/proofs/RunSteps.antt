@@ -1,9 +1,9 @@
 -- Runs of an offer, gone over as long as they fit.
 -- Serves `depth` and `next_runs`.
 use Rattle.delta_plans.proofs.Common.{◌≡◌, ℕ, zero, suc, ◌+◌, ◌-◌, ◌*◌, ◌<◌, ◌≤◌, cond, eqb, ltb, leb, List, length, get_or, map, inl, inr, refl, sym, ap, ◌∙◌, subst, arith, nat_tests, cases_lt, length-map, MOST_NODES, amount_of, Cells, count_above, count_between, HasNoneAbove, HasEach, AreChanged, sum_below, sum_below-same, sum_below-plus, MOST_KEYS, Offer, cells_in, low_in, high_in, marks, owner_count_in, weights_in, weight_in, count_in, IsOffer, Step, Oldest, AreFarther, IsMarkFrom, AreMarksFrom, AreNextRuns, AreRunsSoFar, IsRunMark, AreRuns, weight_of}
-use Rattle.delta_plans.proofs.Columns.{where_true, sum_below-none}
+use Rattle.delta_plans.proofs.Sums.{where_true, sum_below-none, sum_below-each_none}
 use Rattle.delta_plans.proofs.OfferWeights.{offer-few, offer-weighs_none, offer-counts_none, more-farther, left-farther, beyond-farther}
-use Rattle.delta_plans.proofs.WeightLaws.{weight_of-none, count_between-most, sum_below-each_none}
+use Rattle.delta_plans.proofs.WeightLaws.{weight_of-none, count_between-most}
 
 -- so many times a sum
 sum_below-scaled : (n size : ℕ) (f : ℕ → ℕ) → sum_below n (λ i. f i * size) ≡ sum_below n f * size

@@ -1,7 +1,7 @@
 -- What numbers weigh between marks.
 -- Serves most of the crate and `version_tables`.
 use Rattle.delta_plans.proofs.Common.{◌≡◌, ℕ, zero, suc, ◌+◌, ◌*◌, ◌<◌, ◌≤◌, ltb, leb, List, length, ◌⊎◌, inl, inr, ap, ◌∙◌, arith, nat_tests, cases_lt, Entry, Budget, Entries, Cells, count_between, HasNoneAbove, sum_below, sum_below-same, sum_below-le, sum_below-plus, numbered-some, number_share, share_or_none, weight_of, weight_between, count_all_between}
-use Rattle.delta_plans.proofs.Columns.{where_true, sum_below-none}
+use Rattle.delta_plans.proofs.Sums.{sum_below-none, sum_below-times, where_true}
 
 -- one number's part of a weight
 abbrev pub part : (ℕ → ℕ) → ℕ → ℕ → ℕ → ℕ
@@ -33,11 +33,6 @@ weight_of-split weight cells keys owner low mark high below above =
     sum_below-same keys _ (λ key. part weight low mark (cells owner key) + part weight mark high (cells owner key)) (λ key lt. grind (arith, nat_tests))
     ∙ sum_below-plus keys _ _
 
--- a sum of terms that are no more than so many times others
-sum_below-times : (n most : ℕ) (f g : ℕ → ℕ) → ((i : ℕ) → i < n → f i ≤ g i * most) → sum_below n f ≤ sum_below n g * most
-sum_below-times zero most f g le = omega arith
-sum_below-times (suc n) most f g le = omega (arith, sum_below-times n most f g (λ i lt. le i (omega (arith, lt))), le n (omega arith))
-
 -- no more than so many times the largest
 pub weight_of-most : (weight : ℕ → ℕ) (most : ℕ) (cells : Cells) (keys owner low high : ℕ) → ((number : ℕ) → weight number ≤ most) → weight_of weight cells keys owner low high ≤ count_between cells keys owner low high * most
 weight_of-most weight most cells keys owner low high le = sum_below-times keys most _ _ (λ key lt. let few = le (cells owner key) in grind (arith, nat_tests))
@@ -65,14 +60,6 @@ count_all_between-most cells (suc nodes) keys low high = omega (arith, count_all
 pub weight-next : (weights : ℕ → ℕ → ℕ) (cells : Cells) (owner keys : ℕ) (low high : ℕ → ℕ) → weight_between weights cells (owner + 1) keys low high ≡ weight_between weights cells owner keys low high + weight_of (weights owner) cells keys owner (low owner) (high owner)
 weight-next weights cells owner keys low high = ap (λ n. weight_between weights cells n keys low high) {x = owner + 1} {y = suc owner} (omega arith)
 
--- a sum of fewer terms is no more
-pub sum_below-longer : (f : ℕ → ℕ) (n m : ℕ) → n ≤ m → sum_below n f ≤ sum_below m f
-sum_below-longer f n zero le = omega (arith, ap (λ k. sum_below k f) {x = n} {y = zero} (omega (arith, le)))
-sum_below-longer f n (suc m) le = elim (cases_lt n (suc m)) [
-  | inl below ↦ omega (arith, sum_below-longer f n m (omega (arith, below)))
-  | inr not_below ↦ omega (arith, ap (λ k. sum_below k f) {x = n} {y = suc m} (omega (arith, le, not_below)))
-]
-
 -- marks above all numbers let through as much as any such
 module _ (weight : ℕ → ℕ) (cells : Cells) (keys owner low mark high : ℕ) (covered : HasNoneAbove cells keys owner high) where
   pub weight_of-upto : weight_of weight cells keys owner low mark ≤ weight_of weight cells keys owner low high
@@ -80,11 +67,3 @@ module _ (weight : ℕ → ℕ) (cells : Cells) (keys owner low mark high : ℕ)
 
   pub weight_of-all : HasNoneAbove cells keys owner mark → weight_of weight cells keys owner low mark ≡ weight_of weight cells keys owner low high
   weight_of-all none = sum_below-same keys _ _ (λ key lt. let le = covered key lt in let le' = none key lt in grind (arith, nat_tests))
-
--- where a sum is 0, each term is
-pub sum_below-each_none : (n : ℕ) (f : ℕ → ℕ) → sum_below n f ≡ 0 → (i : ℕ) → i < n → f i ≡ 0
-sum_below-each_none zero f none i lt = absurd (omega (arith, lt))
-sum_below-each_none (suc n) f none i lt = elim (cases_lt i n) [
-  | inl below ↦ sum_below-each_none n f (omega (arith, none)) i below
-  | inr here ↦ ap f {x = i} {y = n} (omega (arith, lt, here)) ∙ omega (arith, none)
-]

@@ -1,23 +1,9 @@
--- What a table holds, owner by owner and key by key. Source: this project.
-use Rattle.std.specs.Prelude.{ℕ, zero, suc, List, [], ◌∷◌, ◌++◌, Option, Some, None}
+-- Sums over what a table holds, owner by owner and key by key. Source: this project.
+use Rattle.std.specs.Prelude.{ℕ, Option, Some, None}
 use Rattle.bench_types.specs.declared.entries.Entry.{Entry}
 use Rattle.bench_types.specs.declared.entries.Item.{Item}
 use Rattle.model.specs.Table.{Table, entry_at}
 use Rattle.bench_types.specs.Sums.{sum_below}
-
--- what a table holds at a place, as a list of one item or none
-abbrev pub item_here : ℕ → Option Entry → List Item
-item_here owner None = []
-item_here owner (Some e) = record { owner = owner; entry = e } ∷ []
-
--- the items of an owner's keys below a bound, and of all keys of the owners below a bound
-abbrev pub column_items : Table → ℕ → ℕ → List Item
-column_items t owner zero = []
-column_items t owner (suc key) = column_items t owner key ++ item_here owner (entry_at t owner key)
-
-abbrev pub grid_items : Table → ℕ → List Item
-grid_items t zero = []
-grid_items t (suc owner) = grid_items t owner ++ column_items t owner t.keys
 
 -- what a number of an item is at a place, 0 where nothing is held
 abbrev pub number_here : (Item → ℕ) → ℕ → Option Entry → ℕ

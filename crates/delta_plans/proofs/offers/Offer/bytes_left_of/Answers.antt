@@ -1,5 +1,6 @@
 use Rattle.delta_plans.proofs.Common.{suc, ltb, sym, ◌∙◌, subst, arith, ltb-false, cells_in, marks, weight_in, weights_in, IsLeftOf, weight_of}
-use Rattle.delta_plans.proofs.WeightLaws.{weight_of-none, weight-next, sum_below-longer}
+use Rattle.delta_plans.proofs.Sums.{sum_below-longer}
+use Rattle.delta_plans.proofs.WeightLaws.{weight_of-none, weight-next}
 use Rattle.delta_plans.proofs.offers.Offer.bytes_left_of.Goals as goal
 use Rattle.delta_plans.proofs.offers.Offer.bytes_left_of.Goals.{then-is_above+in_ok-left, else-is_above}
 

@@ -36,3 +36,8 @@ pub use Rattle.planes.proofs.Elementwise.{number-at}
 pub use Rattle.grids.specs.Lags.{IsLeastBehind}
 pub use Rattle.planes.specs.Planes.{ArePlanesChanged, HasEach, IsGrid, cell, total_of}
 pub use Rattle.round_tables.specs.Histories.{BirthsRise, HistoriesView, StandsBeside}
+pub use Rattle.version_lags.specs.Missed.{HasNoneMissed, IsFirstMissed, IsLastNumber, IsMissed, IsNumberAt, NonePassUpto, base_of, number_staleness}
+pub use Rattle.version_lags.specs.Pieces.{AreGrids, AreNumbersOf, AreRoundNumbers, CountsPiece, IsTotal, MayBeCounted, MayWalk, StandTogether, WalksFrom, cells_in, histories_of, is_left, is_stale, last_cells, least_below, most_lag, numbers_in, table_at, total_below}
+pub use Rattle.version_lags.specs.declared.lags.Lags.{Lags}
+pub use Rattle.version_lags.specs.declared.lags.Piece.{Piece}
+pub use Rattle.version_lags.specs.declared.lags.RoundNumbers.{RoundNumbers}

@@ -1,8 +1,6 @@
 -- How long copies have been behind, by the numbers that they hold: the least number has been longest.
 -- Serves `Pieces`, `Walks` and `Whole`.
-use Rattle.version_lags.proofs.Common.{◌≡◌, ℕ, zero, suc, ◌+◌, ◌-◌, ◌<◌, ◌≤◌, min, max, ◌&&◌, List, length, get_or, Some, None, if◌then◌else◌, option_map, inl, inr, refl, sym, ap, ◌∙◌, arith, nat_lt, nat_le, cases_lt, lt-ltb, le-ltb, le-leb, lt-leb, reverse, is_write_of, position_or_len, find_at, find_passes, fails_before_first, slice_get-get_or, both_ways, eq-eqb, eqb-true, get_or-reverse, length-reverse, length-map, get_or_append_left, same_Some, get_or-map, Entry, Table, entry_at, IsProper, Write, write_of_entry, last_write, OwnerListView, entries_of, written, AreWrites, write_numbered, BirthsRise, StandsBeside, is_left_over, most_below, stale_count, rounds_behind, write_from-here, numbered-placed, numbered-some}
-use Rattle.version_lags.specs.Missed.{base_of, number_staleness, IsMissed, IsLastNumber}
-use Rattle.version_lags.specs.Pieces.{least_below}
+use Rattle.version_lags.proofs.Common.{◌≡◌, ℕ, zero, suc, ◌+◌, ◌-◌, ◌<◌, ◌≤◌, min, max, ◌&&◌, List, length, get_or, Some, None, if◌then◌else◌, option_map, inl, inr, refl, sym, ap, ◌∙◌, arith, nat_lt, nat_le, cases_lt, lt-ltb, le-ltb, le-leb, lt-leb, reverse, is_write_of, position_or_len, find_at, find_passes, fails_before_first, slice_get-get_or, both_ways, eq-eqb, eqb-true, get_or-reverse, length-reverse, length-map, get_or_append_left, same_Some, get_or-map, Entry, Table, entry_at, IsProper, Write, write_of_entry, last_write, OwnerListView, entries_of, written, AreWrites, write_numbered, BirthsRise, StandsBeside, is_left_over, most_below, stale_count, rounds_behind, write_from-here, numbered-placed, numbered-some, base_of, number_staleness, IsMissed, IsLastNumber, least_below}
 use Rattle.version_lags.proofs.Missed.{numbers-born, current-numbered, missed_cases}
 
 module _ (v : OwnerListView) (are : AreWrites v) where

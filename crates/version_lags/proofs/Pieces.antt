@@ -1,8 +1,6 @@
 -- How long a table's copy has been behind, and whether it is left over, by the number of what it holds.
 -- Serves `Parts`, `Walks` and `Whole`.
-use Rattle.version_lags.proofs.Common.{◌≡◌, ℕ, ◌<◌, false, ◌&&◌, List, [], length, Some, if◌then◌else◌, inl, inr, sym, ap, ◌∙◌, subst, arith, nat_lt, nat_le, cases_lt, cases_eq, le-ltb, lt-ltb, eq-eqb, ne_eqb, lt-leb, Entry, mark_held, Table, entry_at, table_of_node, OwnerListView, entries_of, list_of_owner, lists_in, no_writes, write_numbered, list_read, HistoriesView, StandsBeside, generation_at, staleness_of, staleness_at, is_left_over, leftover_at, stale_count}
-use Rattle.version_lags.specs.Missed.{base_of, IsNumberAt, number_staleness, IsLastNumber}
-use Rattle.version_lags.specs.Pieces.{StandTogether, MayBeCounted}
+use Rattle.version_lags.proofs.Common.{◌≡◌, ℕ, ◌<◌, false, ◌&&◌, List, [], length, Some, if◌then◌else◌, inl, inr, sym, ap, ◌∙◌, subst, arith, nat_lt, nat_le, cases_lt, cases_eq, le-ltb, lt-ltb, eq-eqb, ne_eqb, lt-leb, Entry, mark_held, Table, entry_at, table_of_node, OwnerListView, entries_of, list_of_owner, lists_in, no_writes, write_numbered, list_read, HistoriesView, StandsBeside, generation_at, staleness_of, staleness_at, is_left_over, leftover_at, stale_count, base_of, IsNumberAt, number_staleness, IsLastNumber, StandTogether, MayBeCounted}
 use Rattle.version_lags.proofs.Lagging.{last_fresh, stale_by_number, left_over-by_number, own_is_last, key_held}
 
 -- what is 0, or above how many writes are of earlier generations, is of no earlier one

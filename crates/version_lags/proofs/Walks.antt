@@ -1,9 +1,6 @@
 -- The first write of an owner that some copy misses has been missed for longest.
 -- Serves `Lags::greatest` and `Lags::lag_of_owner`.
-use Rattle.version_lags.proofs.Common.{◌≡◌, ℕ, zero, suc, ◌+◌, ◌-◌, ◌*◌, ◌<◌, ◌≤◌, max, List, length, map, get_or, Some, inl, inr, refl, sym, ap, ◌∙◌, subst, arith, mul-le-mul_right, cases_lt, Entry, OwnerListView, entries_of, list_of_owner, write_numbered, most_below, rounds_behind, IsRoundMark, numbered-placed, numbered-within, length-map, number-at, HasEach, IsLeastBehind}
-use Rattle.version_lags.specs.declared.lags.Lags.{Lags}
-use Rattle.version_lags.specs.Missed.{base_of, number_staleness, NonePassUpto}
-use Rattle.version_lags.specs.Pieces.{MayWalk, WalksFrom, cells_in, histories_of, last_cells, most_lag}
+use Rattle.version_lags.proofs.Common.{◌≡◌, ℕ, zero, suc, ◌+◌, ◌-◌, ◌*◌, ◌<◌, ◌≤◌, max, List, length, map, get_or, Some, inl, inr, refl, sym, ap, ◌∙◌, subst, arith, mul-le-mul_right, cases_lt, Entry, OwnerListView, entries_of, list_of_owner, write_numbered, most_below, rounds_behind, IsRoundMark, numbered-placed, numbered-within, length-map, number-at, HasEach, IsLeastBehind, Lags, base_of, number_staleness, NonePassUpto, MayWalk, WalksFrom, cells_in, histories_of, last_cells, most_lag}
 use Rattle.version_lags.proofs.Missed.{numbers-born}
 use Rattle.version_lags.proofs.Lagging.{lag-upto, lag-since}
 use Rattle.version_lags.proofs.Pieces.{key_within}

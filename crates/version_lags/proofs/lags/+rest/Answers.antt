@@ -1,6 +1,4 @@
-use Rattle.version_lags.proofs.Common.{◌≡◌, ℕ, ◌+◌, min, map, length, sym, ◌∙◌, subst, with_items_is, IfOk-at_ok, ArePlanesChanged}
-use Rattle.version_lags.specs.declared.lags.Piece.{Piece}
-use Rattle.version_lags.specs.Pieces.{cells_in, CountsPiece}
+use Rattle.version_lags.proofs.Common.{◌≡◌, ℕ, ◌+◌, min, map, length, sym, ◌∙◌, subst, with_items_is, IfOk-at_ok, ArePlanesChanged, Piece, cells_in, CountsPiece}
 use Rattle.version_lags.proofs.Parts.{counts-joined}
 use Rattle.version_lags.proofs.lags.+rest.Goals as goal
 

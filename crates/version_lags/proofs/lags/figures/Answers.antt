@@ -1,5 +1,4 @@
-use Rattle.version_lags.proofs.Common.{map, ap, sym}
-use Rattle.version_lags.specs.declared.lags.Lags.{Lags}
+use Rattle.version_lags.proofs.Common.{map, ap, sym, Lags}
 use Rattle.version_lags.proofs.Parts.{grids-of}
 use Rattle.version_lags.proofs.Whole.{may-walk, figures-are}
 use Rattle.version_lags.proofs.lags.figures.Goals as goal

@@ -1,5 +1,4 @@
-use Rattle.version_lags.proofs.Common.{◌≡◌, ℕ, max, get_or, length, length-map, leb-true, map, number-at, refl, sym, ap, ◌∙◌, arith, rules, get_or_default, list_of_owner, no_writes, cell}
-use Rattle.version_lags.specs.Pieces.{most_lag}
+use Rattle.version_lags.proofs.Common.{◌≡◌, ℕ, max, get_or, length, length-map, leb-true, map, number-at, refl, sym, ap, ◌∙◌, arith, rules, get_or_default, list_of_owner, no_writes, cell, most_lag}
 use Rattle.version_lags.proofs.Walks.{walks-from, lag-recent, most-next}
 use Rattle.version_lags.proofs.lags.Lags.greatest.Goals as goal
 

@@ -1,5 +1,4 @@
-use Rattle.version_lags.proofs.Common.{◌≡◌, list_of_owner, most_below}
-use Rattle.version_lags.specs.Pieces.{most_lag}
+use Rattle.version_lags.proofs.Common.{◌≡◌, list_of_owner, most_below, most_lag}
 use Rattle.version_lags.proofs.lags.Lags.greatest.Given as goal
 
 abbrev pub invariant-loop-owner : goal.invariant-loop-owner

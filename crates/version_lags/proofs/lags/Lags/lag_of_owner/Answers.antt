@@ -1,6 +1,4 @@
-use Rattle.version_lags.proofs.Common.{◌≡◌, ℕ, ◌+◌, List, map, None, Some, max, refl, sym, ap, ◌∙◌, arith, same_Some, Option, MatchOption, Bor, Entry, entries_of, write_numbered, Kept, entry_kept}
-use Rattle.version_lags.specs.Missed.{base_of}
-use Rattle.version_lags.specs.Pieces.{cells_in}
+use Rattle.version_lags.proofs.Common.{◌≡◌, ℕ, ◌+◌, List, map, None, Some, max, refl, sym, ap, ◌∙◌, arith, same_Some, Option, MatchOption, Bor, Entry, entries_of, write_numbered, Kept, entry_kept, base_of, cells_in}
 use Rattle.version_lags.proofs.Walks.{walk-next, walk-none, walk-found, walk-read, walk-index, born-upto}
 use Rattle.version_lags.proofs.lags.Lags.lag_of_owner.Goals as goal
 use Rattle.version_lags.proofs.lags.Lags.lag_of_owner.Goals.{in-Some+else-widen-place, in_default}

@@ -1,5 +1,4 @@
-use Rattle.version_lags.proofs.Common.{◌≡◌, ◌+◌, min, get_or, map, length, sym, ap, ◌∙◌, subst, arith, length-map, with_items_is, ArePlanesChanged, IsGrid, total_of}
-use Rattle.version_lags.specs.Pieces.{cells_in, is_left, CountsPiece}
+use Rattle.version_lags.proofs.Common.{◌≡◌, ◌+◌, min, get_or, map, length, sym, ap, ◌∙◌, subst, arith, length-map, with_items_is, ArePlanesChanged, IsGrid, total_of, cells_in, is_left, CountsPiece}
 use Rattle.version_lags.proofs.Parts.{counts-none, counts-more, none_left, table-read}
 use Rattle.version_lags.proofs.lags.Numbers.piece_of.Goals as goal
 use Rattle.version_lags.proofs.lags.Numbers.piece_of.Goals.{then-self, else-self}

@@ -1,5 +1,4 @@
-use Rattle.version_lags.proofs.Common.{map}
-use Rattle.version_lags.specs.Pieces.{CountsPiece}
+use Rattle.version_lags.proofs.Common.{map, CountsPiece}
 use Rattle.version_lags.proofs.lags.Numbers.piece_of.Given as goal
 
 abbrev pub invariant-loop-at : goal.invariant-loop-at

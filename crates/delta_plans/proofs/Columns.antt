@@ -1,6 +1,6 @@
 -- Ranks among an owner's candidates and how many it has, by its numbers.
 -- Serves most of the crate and `version_tables`.
-use Rattle.delta_plans.proofs.Common.{◌≡◌, ◌≢◌, ℕ, zero, suc, ◌+◌, ◌<◌, Bool, cond, eqb, ltb, List, inl, inr, refl, ap, ◌∙◌, arith, Contains, ◌&&◌, cases_lt, cases_eq, Entry, Item, Mode, Table, IsProper, candidates, rank_among, owner_count, sum_below, IsHistory, Cells, count_above, sum_below-same, number-of_version, nat_tests, subst, versions-rise, Offers, offered_sum, rank_above, item_number}
+use Rattle.delta_plans.proofs.Common.{◌≡◌, ℕ, cond, eqb, ltb, List, inl, inr, refl, ap, ◌∙◌, arith, Contains, ◌&&◌, cases_eq, Entry, Item, Mode, Table, IsProper, candidates, rank_among, owner_count, sum_below, IsHistory, Cells, count_above, sum_below-same, number-of_version, nat_tests, versions-rise, Offers, offered_sum, rank_above, item_number}
 use Rattle.delta_plans.proofs.Sums.{sum_below-none, sum_below-one, where_true}
 use Rattle.delta_plans.proofs.OfferSums.{offered-sum}
 use Rattle.delta_plans.proofs.CandidateNumbers.{candidate-number, candidate-below, alike, d_number}

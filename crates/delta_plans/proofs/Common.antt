@@ -1,6 +1,6 @@
 -- The names of other libraries that these proofs cite, passed on from one place. Declares nothing.
 -- Serves most of the crate.
-pub use Rattle.std.proofs.Common.{Bool, Fits, List, None, Option, Some, [], ap, arith, cond, drop, eqb, false, get_or, if◌then◌else◌, inl, inr, is_some, leb, length, ltb, map, max, min, nat_lt, not, refl, rules, set, slice_index, subst, suc, sym, take, true, w32, zero, ℕ, ◌*◌, ◌++◌, ◌+◌, ◌-◌, ◌<◌, ◌∙◌, ◌∷◌, ◌≡◌, ◌≢◌, ◌≤◌, ◌⊎◌}
+pub use Rattle.std.proofs.Common.{Bool, Fits, List, None, Option, Some, Vec, [], ap, arith, cond, drop, eqb, false, get_or, if◌then◌else◌, inl, inr, is_some, leb, length, ltb, map, max, min, nat_lt, not, refl, rules, set, slice_index, subst, suc, sym, take, true, w32, zero, ℕ, ◌*◌, ◌++◌, ◌+◌, ◌-◌, ◌<◌, ◌∙◌, ◌∷◌, ◌≡◌, ◌≢◌, ◌≤◌, ◌⊎◌}
 pub use Rattle.std.proofs.Math.Nat.{mul-le-mul_left, mul-le-mul_right}
 pub use Rattle.std.proofs.Math.Path.{transport}
 pub use Rattle.std.proofs.lemmas.Bool.{and_parts, both_ways, cases_eq, cases_lt, eqb-true, false≢true, le-leb, le-ltb, leb-false, leb-true, lt-leb, lt-ltb, ltb-false, ltb-true}
@@ -16,6 +16,7 @@ pub use Rattle.std.specs.List.{sum_by}
 pub use Rattle.std.specs.Ordering.{is_eq, is_lt, nat_cmp, ordering_reverse, ordering_then}
 pub use Rattle.std.specs.Prelude.{Contains, IfSome, IsPermutation, IsTrue, count_by, filter, nat_le, ◌&&◌, ◌↔◌}
 pub use Rattle.std.specs.Vec.{with_items}
+pub use Rattle.std.specs.declared.alloc.Global.{Global}
 pub use Rattle.std.specs.declared.cmp.Ordering.{Ordering}
 pub use Rattle.std.specs.declared.cmp.Ordering.TheVariants.{Equal, Greater, Less}
 pub use borrow.Rule.Slice.PartMut.{put_mid}
@@ -53,7 +54,7 @@ pub use Rattle.delta_plans.specs.LevelMarks.{AreLayers, AreLevelMarks, AreRounds
 pub use Rattle.delta_plans.specs.Marked.{AreMarked, IsLevelOf, KeepsLow}
 pub use Rattle.delta_plans.specs.OfferInMemory.{AreCounted, IsLeftOf, IsOffer, cells_in, count_in, high_in, low_in, marks, owner_count_in, weight_in, weights_in}
 pub use Rattle.delta_plans.specs.Offers.{AreSent, Offers, is_lacked, offered_sum, rank_above, told_by, told_number}
-pub use Rattle.delta_plans.specs.Plans.{AreFarther, AreLayersSoFar, AreMarksFrom, AreNextRuns, AreRunsSoFar, HasLayers, HasRuns, IsMarkFrom, IsNextLayer, IsNextMark, count_on, raised, weight_on}
+pub use Rattle.delta_plans.specs.Plans.{AreFarther, AreMarksFrom, AreNextRuns, HasLayers, HasRuns, IsLevel, IsLevelSoFar, IsMarkFrom, IsNextLayer, IsNextMark, IsStep, count_on, weight_on}
 pub use Rattle.delta_plans.specs.RoundLevels.{AreFewAndEnough, AreRaised, AreRoundMarks, HasRounds, IsFound, IsLevelOfRounds, end_mark, mark_of_rounds, round_at, round_mark}
 pub use Rattle.delta_plans.specs.SentSets.{DeltasHaveTheirSets, EndsBefore, HasAll, HasSet, IsKeptOut, IsSentSet, size_in}
 pub use Rattle.delta_plans.specs.Sharing.{AreShared}

@@ -1,13 +1,14 @@
 -- Layers of an offer, gone over as long as they fit.
 -- Serves `breadth` and `one_more`.
-use Rattle.delta_plans.proofs.Common.{◌≡◌, ℕ, ◌+◌, ◌-◌, ◌*◌, ◌<◌, ◌≤◌, cond, ltb, List, length, get_or, map, inl, inr, sym, ap, ◌∙◌, subst, arith, nat_tests, cases_lt, length-map, MOST_NODES, MOST_KEYS, amount_of, Cells, count_between, HasEach, IsNextAbove, IsLeastAbove, AreChanged, sum_below, sum_below-same, sum_below-plus, sum_below-le, Offer, Step, cells_in, low_in, high_in, marks, weights_in, weight_in, count_in, IsOffer, Oldest, raised, AreFarther, IsNextLayer, IsNextMark, AreLayersSoFar, IsLayerMark}
-use Rattle.delta_plans.proofs.Sums.{where_true, sum_below-each_none}
+use Rattle.delta_plans.proofs.Common.{◌≡◌, ℕ, ◌+◌, ◌<◌, ◌≤◌, cond, ltb, List, length, get_or, map, inl, inr, Some, Vec, Global, sym, ap, ◌∙◌, subst, arith, nat_tests, cases_lt, length-map, amount_of, Cells, count_between, HasEach, HasNoneAbove, IsNextAbove, IsLeastAbove, AreChanged, sum_below, sum_below-same, NumbersDiffer, Offer, Level, Step, cells_in, low_in, high_in, marks, weights_in, weight_in, count_in, IsLeftOf, IsOffer, IsNextLayer, IsNextMark, HasLayers, IsLayerMark}
+use Rattle.delta_plans.proofs.Sums.{sum_below-each_none}
 use Rattle.delta_plans.proofs.Layers.{counted-next, layer-stays, layer-next}
-use Rattle.delta_plans.proofs.OfferWeights.{offer-few, offer-weighs_none, offer-counts_none, more-farther, left-farther, beyond-farther}
-use Rattle.delta_plans.proofs.WeightLaws.{weight_of-none, weight_of-upto, weight_of-all}
+use Rattle.delta_plans.proofs.LevelSteps.{level-first, level-left, level-next}
+use Rattle.delta_plans.proofs.WeightLaws.{weight_of-none, weight_of-split, weight_of-all}
 
 -- the next number, or else the mark itself
-module _ (most : ℕ) (cells : Cells) (keys owner mark least y : ℕ) (below : (key : ℕ) → key < keys → cells owner key < most) (next : IsNextAbove most cells keys owner mark least) (settled : y ≡ cond (ltb least most) least mark) where
+module _ (most : ℕ) (cells : Cells) (keys owner mark least y : ℕ) (below : (key : ℕ) → key < keys → cells owner key < most)
+    (next : IsNextAbove most cells keys owner mark least) (settled : y ≡ cond (ltb least most) least mark) where
   pub next-mark : IsNextMark cells keys owner mark y
   next-mark = elim next [
     | inl none ↦ inl (none.0, grind (arith, nat_tests, none.1))
@@ -16,11 +17,35 @@ module _ (most : ℕ) (cells : Cells) (keys owner mark least y : ℕ) (below : (
         inr (subst (IsLeastAbove cells keys owner mark) (sym is) some)
   ]
 
-  pub next-raised : ◌≡◌ {A = ℕ} (cond (ltb least most) 1 0) (cond (ltb mark y) 1 0)
-  next-raised = elim next [
-    | inl none ↦ grind (arith, nat_tests, none.1)
-    | inr some ↦ grind (arith, nat_tests, some.is, some.above, below some.key some.below)
+  -- which is counted where it is a number
+  pub next-counted : NumbersDiffer cells keys owner → ◌≡◌ {A = ℕ} (cond (ltb least most) 1 0) (count_between cells keys owner mark y)
+  next-counted differ = elim next-mark [
+    | inl end ↦
+        let none = weight_of-none (λ _. 1) cells keys owner mark y (omega (arith, end.1)) in
+        let no_number : most ≤ least = elim next [ inl none ↦ omega (arith, none.1) | inr some ↦ absurd (omega (arith, some.is, some.above, end.0 some.key some.below)) ] in
+        grind (arith, nat_tests)
+    | inr some ↦
+        let one = counted-next cells keys owner mark mark y (omega arith) differ some in
+        let none = weight_of-none (λ _. 1) cells keys owner mark mark (omega arith) in
+        let number : least < most = elim next [ inl none ↦ absurd (omega (arith, some.is, some.above, none.0 some.key some.below)) | inr some ↦ omega (arith, some.is, below some.key some.below) ] in
+        grind (arith, nat_tests)
   ]
+
+-- each owner's next number is counted
+pub layer-counted : {N : Type 0} (number : N → ℕ) (most : ℕ) (offer : Offer N) → IsOffer number most offer → (near : ℕ → ℕ) (items old new : List N) (count : ℕ) → old ≡ items
+    → HasEach offer.nodes (λ r n. IsNextAbove most (cells_in number offer) offer.keys r (near r) n) (map number items)
+    → AreChanged (λ r x y. y ≡ cond (ltb x most) x (near r)) (map number old) (map number new)
+    → count ≡ sum_below (length old) (λ r. cond (ltb (get_or (map number old) r 0) most) 1 0)
+    → count ≡ count_in number offer near (λ r. get_or (map number new) r 0)
+layer-counted number most offer is near items old new count value found settled counted =
+    counted
+    ∙ ap (λ n. sum_below n (λ r. cond (ltb (get_or (map number old) r 0) most) 1 0)) (sym (length-map old number) ∙ of_old.size)
+    ∙ sum_below-same offer.nodes _ _ (λ r lt.
+    next-counted most (cells_in number offer) offer.keys r (near r) (get_or (map number old) r 0) (get_or (map number new) r 0)
+    (λ key in_keys. is.below r key lt in_keys) (of_old.each r lt) (settled.each r (omega (arith, lt, of_old.size))) (is.differ r lt))
+  where
+    of_old : HasEach offer.nodes (λ r n. IsNextAbove most (cells_in number offer) offer.keys r (near r) n) (map number old)
+    of_old = subst (λ xs. HasEach offer.nodes (λ r n. IsNextAbove most (cells_in number offer) offer.keys r (near r) n) (map number xs)) (sym value) found
 
 module _ {N : Type 0} {number : N → ℕ} {most : ℕ} {offer : Offer N} (is : IsOffer number most offer) where
   abbrev cells : Cells
@@ -29,100 +54,73 @@ module _ {N : Type 0} {number : N → ℕ} {most : ℕ} {offer : Offer N} (is : 
   abbrev low : ℕ → ℕ
   low = low_in number offer
 
-  -- before the first layer
-  pub layers-first : (step : Step N) → IsNextLayer number offer low step → {room : ℕ} → room ≡ amount_of offer.budget → AreLayersSoFar number offer low (marks number step.marks.items) 0 step.more room
-  layers-first step layer all = record {
-    layers = 0;
-    layered = λ owner lt. record {
-      above = omega arith;
-      count = omega (arith, weight_of-none (λ _. 1) cells offer.keys owner (low owner) (low owner) (omega arith));
-      full = λ key in_keys over. weight_of-none (λ _. 1) cells offer.keys owner (low owner) (low owner) (omega arith);
-    };
-    next = layer.next;
-    more = layer.more;
-    whole = sym (offer-counts_none number offer low);
-    left = omega (arith, offer-weighs_none number offer low, all);
-  }
+  -- marks of so many layers
+  abbrev AreMarks : ℕ → (ℕ → ℕ) → Type 0
+  AreMarks layers mark = (owner : ℕ) → owner < offer.nodes → IsLayerMark cells offer.keys owner (low owner) layers (mark owner)
 
-  module _ {near far : ℕ → ℕ} {count added room : ℕ} (so_far : AreLayersSoFar number offer near far count added room) where
-    pub layers-far : (owner : ℕ) → owner < offer.nodes → IsLayerMark cells offer.keys owner (low owner) (so_far.layers + 1) (far owner)
-    layers-far owner lt = elim (so_far.next owner lt) [
-      | inl none ↦
-          subst (IsLayerMark cells offer.keys owner (low owner) (so_far.layers + 1)) (sym none.1)
-          (layer-stays cells offer.keys owner (low owner) so_far.layers (near owner) (so_far.layered owner lt) none.0)
-      | inr some ↦ layer-next cells offer.keys owner (low owner) so_far.layers (near owner) (so_far.layered owner lt) (far owner) (is.differ owner lt) some
-    ]
+  none-marks : AreMarks 0 low
+  none-marks owner lt =
+      let none = weight_of-none (λ _. 1) cells offer.keys owner (low owner) (low owner) (omega arith) in
+      record { above = omega arith; count = omega (arith, none); full = λ key in_keys over. none }
 
-    pub layers-farther : (owner : ℕ) → owner < offer.nodes → AreFarther Oldest (low owner) (near owner) (far owner)
-    layers-farther owner lt = ((so_far.layered owner lt).above, (layers-far owner lt).above, elim (so_far.next owner lt) [ inl none ↦ omega (arith, none.1) | inr some ↦ omega (arith, some.above) ])
+  one-more : {layers : ℕ} {near far : ℕ → ℕ} → AreMarks layers near → ((owner : ℕ) → owner < offer.nodes → IsNextMark cells offer.keys owner (near owner) (far owner))
+      → AreMarks (layers + 1) far
+  one-more {layers} {near} {far} before next owner lt = elim (next owner lt) [
+    | inl none ↦
+        subst (IsLayerMark cells offer.keys owner (low owner) (layers + 1)) (sym none.1)
+        (layer-stays cells offer.keys owner (low owner) layers (near owner) (before owner lt) none.0)
+    | inr some ↦ layer-next cells offer.keys owner (low owner) layers (near owner) (before owner lt) (far owner) (is.differ owner lt) some
+  ]
 
-    one_owner : (owner : ℕ) → owner < offer.nodes → count_between cells offer.keys owner (low owner) (far owner) ≡ count_between cells offer.keys owner (low owner) (near owner) + where_true (ltb (near owner) (far owner)) 1
-    one_owner owner lt = elim (so_far.next owner lt) [
-      | inl none ↦ let same = ap (count_between cells offer.keys owner (low owner)) none.1 in grind (arith, nat_tests, none.1)
-      | inr some ↦ let one = counted-next cells offer.keys owner (low owner) (near owner) (far owner) (so_far.layered owner lt).above (is.differ owner lt) some in grind (arith, nat_tests, some.above)
-    ]
-
-    -- so many with the next layer
-    pub layers-count : count + added ≡ count_in number offer low far
-    layers-count =
-        (λ i. so_far.whole i + so_far.more i)
-        ∙ sym (sum_below-plus offer.nodes (λ owner. count_between cells offer.keys owner (low owner) (near owner)) (λ owner. where_true (ltb (near owner) (far owner)) 1))
-        ∙ sym (sum_below-same offer.nodes _ _ one_owner)
-
-    pub layers-few : count + added ≤ MOST_NODES * MOST_KEYS
-    layers-few = omega (arith, layers-count, offer-few number most offer is low far)
-
-    pub layers-upto : count + added ≤ count_in number offer low (high_in number offer)
-    layers-upto =
-        omega (
-          arith,
-          layers-count,
-          sum_below-le offer.nodes (λ owner. count_between cells offer.keys owner (low owner) (far owner)) (λ owner. count_between cells offer.keys owner (low owner) (high_in number offer owner))
-              (λ owner lt. weight_of-upto (λ _. 1) cells offer.keys owner (low owner) (far owner) (high_in number offer owner) (is.covered owner lt)),
-        )
-
-    -- and of the next layer alone
-    pub layers-between : added ≡ count_in number offer near far
-    layers-between = more-farther number offer layers-farther so_far.whole layers-count
-
-    pub layers-beyond : (weight_in number offer near far ≤ room → ⊥) → amount_of offer.budget < weight_in number offer low far
-    layers-beyond = beyond-farther number offer layers-farther so_far.left
-
-    module _ {rest : ℕ} (fits : (weight_in number offer near far ≤ room) × (rest ≡ room - weight_in number offer near far)) where
-      -- where not all fits, a layer that does has something
-      pub layers-more : amount_of offer.budget < weight_in number offer low (high_in number offer) → 0 < added
-      layers-more cut = elim (cases_lt 0 added) [
-        | inl some ↦ some
-        | inr none ↦ absurd (omega (arith, left-farther number offer layers-farther so_far.left fits, cut, all (sym so_far.more ∙ omega (arith, none))))
-      ]
-        where
-          all : raised offer.nodes near far ≡ 0 → weight_in number offer low far ≡ weight_in number offer low (high_in number offer)
-          all none = sum_below-same offer.nodes _ _ (λ owner lt. elim (so_far.next owner lt) [
-            | inr some ↦ let stays = sum_below-each_none offer.nodes (λ r. where_true (ltb (near r) (far r)) 1) none owner lt in absurd (grind (arith, nat_tests, some.above))
-            | inl end ↦ weight_of-all (weights_in offer owner) cells offer.keys owner (low owner) (far owner) (high_in number offer owner) (is.covered owner lt) (λ key in_keys. omega (arith, end.1, end.0 key in_keys))
-          ])
-
-      -- one layer more
-      pub layers-next : (step : Step N) → IsNextLayer number offer far step → AreLayersSoFar number offer far (marks number step.marks.items) (count + added) step.more rest
-      layers-next step layer = record {
-        layers = so_far.layers + 1;
-        layered = layers-far;
-        next = layer.next;
-        more = layer.more;
-        whole = layers-count;
-        left = left-farther number offer layers-farther so_far.left fits;
+  -- the first layer
+  pub layers-first : {near : Vec N Global} {step : Step N} {level : Level N}
+      → level ≡ record { near = near; far = step.marks; whole = 0; left = amount_of offer.budget }
+      → near.items ≡ offer.low.now → IsNextLayer number offer (marks number near.items) step → HasLayers number offer level step.more
+  layers-first {near} {step} made start layer =
+      let near_is = subst (λ xs. AreMarks 0 (marks number xs)) (sym start) none-marks in
+      record {
+        so_far = level-first is made start layer.is_step;
+        shape = rw made (record { layers = 0; near_is = near_is; far_is = one-more near_is layer.next });
       }
 
--- each owner's next mark is counted where it is raised
-pub steps-raised : {N : Type 0} (number : N → ℕ) (most : ℕ) (offer : Offer N) → IsOffer number most offer → (near : ℕ → ℕ) (items old new : List N) (count : ℕ) → old ≡ items
-    → HasEach offer.nodes (λ r n. IsNextAbove most (cells_in number offer) offer.keys r (near r) n) (map number items)
-    → AreChanged (λ r x y. y ≡ cond (ltb x most) x (near r)) (map number old) (map number new)
-    → count ≡ sum_below (length old) (λ r. cond (ltb (get_or (map number old) r 0) most) 1 0)
-    → count ≡ raised offer.nodes near (λ r. get_or (map number new) r 0)
-steps-raised number most offer is near items old new count value found settled counted =
-    counted
-    ∙ ap (λ n. sum_below n (λ r. cond (ltb (get_or (map number old) r 0) most) 1 0)) (sym (length-map old number) ∙ of_old.size)
-    ∙ sum_below-same offer.nodes _ _ (λ r lt. next-raised most (cells_in number offer) offer.keys r (near r) (get_or (map number old) r 0) (get_or (map number new) r 0) (λ key in_keys. is.below r key lt in_keys) (of_old.each r lt) (settled.each r (omega (arith, lt, of_old.size))))
-  where
-    of_old : HasEach offer.nodes (λ r n. IsNextAbove most (cells_in number offer) offer.keys r (near r) n) (map number old)
-    of_old = subst (λ xs. HasEach offer.nodes (λ r n. IsNextAbove most (cells_in number offer) offer.keys r (near r) n) (map number xs)) (sym value) found
+  module _ {level : Level N} {more left : ℕ} (has : HasLayers number offer level more)
+      (fits : IsLeftOf level.left (weight_in number offer (marks number level.near.items) (marks number level.far.items)) (Some left)) where
+    abbrev near : ℕ → ℕ
+    near = marks number level.near.items
+
+    abbrev far : ℕ → ℕ
+    far = marks number level.far.items
+
+    -- where not all fits, a layer that does has something
+    pub layers-more : amount_of offer.budget < weight_in number offer low (high_in number offer) → 0 < more
+    layers-more cut = elim (cases_lt 0 more) [
+      | inl some ↦ some
+      | inr none ↦ absurd (omega (arith, level-left is has.so_far fits, cut, all (omega (arith, none, has.so_far.added))))
+    ]
+      where
+        -- a number beyond both would be of the next layer
+        ends : count_in number offer near far ≡ 0 → (owner : ℕ) → owner < offer.nodes → HasNoneAbove cells offer.keys owner (far owner)
+        ends none owner lt key in_keys = elim (cases_lt (far owner) (cells owner key)) [
+          | inr upto ↦ omega (arith, upto)
+          | inl over ↦
+              let farther = has.so_far.farther owner lt in
+              absurd (omega (
+                arith,
+                weight_of-split (λ _. 1) cells offer.keys owner (low owner) (near owner) (far owner) farther.0 farther.2,
+                sum_below-each_none offer.nodes _ none owner lt,
+                (has.shape.near_is owner lt).count,
+                (has.shape.far_is owner lt).full key in_keys over,
+              ))
+        ]
+
+        all : count_in number offer near far ≡ 0 → weight_in number offer low far ≡ weight_in number offer low (high_in number offer)
+        all none = sum_below-same offer.nodes _ _ (λ owner lt.
+            weight_of-all (weights_in offer owner) cells offer.keys owner (low owner) (far owner) (high_in number offer owner) (is.covered owner lt) (ends none owner lt))
+
+    -- one layer more
+    pub layers-next : {step : Step N} {next : Level N} → next ≡ record { near = level.far; far = step.marks; whole = level.whole + more; left = left }
+        → IsNextLayer number offer far step → HasLayers number offer next step.more
+    layers-next made layer = record {
+      so_far = level-next is has.so_far fits made layer.is_step;
+      shape = rw made (record { layers = has.shape.layers + 1; near_is = has.shape.far_is; far_is = one-more has.shape.far_is layer.next });
+    }

@@ -15,6 +15,7 @@ pub mod DeltaMarks
 pub mod Firsts
 pub mod WeightLaws
 pub mod OfferWeights
+pub mod LevelSteps
 pub mod LayerSteps
 pub mod RunSteps
 pub mod StopSteps

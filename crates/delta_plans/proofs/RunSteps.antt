@@ -1,8 +1,9 @@
 -- Runs of an offer, gone over as long as they fit.
 -- Serves `depth` and `next_runs`.
-use Rattle.delta_plans.proofs.Common.{◌≡◌, ℕ, zero, suc, ◌+◌, ◌-◌, ◌*◌, ◌<◌, ◌≤◌, cond, eqb, ltb, leb, List, length, get_or, map, inl, inr, refl, sym, ap, ◌∙◌, subst, arith, nat_tests, cases_lt, length-map, MOST_NODES, amount_of, Cells, count_above, count_between, HasNoneAbove, HasEach, AreChanged, sum_below, sum_below-same, sum_below-plus, MOST_KEYS, Offer, cells_in, low_in, high_in, marks, owner_count_in, weights_in, weight_in, count_in, IsOffer, Step, Oldest, AreFarther, IsMarkFrom, AreMarksFrom, AreNextRuns, AreRunsSoFar, IsRunMark, AreRuns, weight_of}
+use Rattle.delta_plans.proofs.Common.{◌≡◌, ℕ, zero, suc, ◌+◌, ◌-◌, ◌*◌, ◌<◌, ◌≤◌, cond, eqb, ltb, List, length, get_or, map, inl, inr, Some, Vec, Global, refl, sym, ap, ◌∙◌, subst, arith, nat_tests, cases_lt, cases_eq, length-map, amount_of, Cells, count_above, count_between, HasNoneAbove, HasEach, AreChanged, sum_below, sum_below-same, MOST_KEYS, Offer, Level, cells_in, low_in, high_in, marks, owner_count_in, weights_in, weight_in, IsLeftOf, IsOffer, Step, IsStep, IsMarkFrom, AreMarksFrom, AreNextRuns, HasRuns, IsRunMark, AreRuns, weight_of}
 use Rattle.delta_plans.proofs.Sums.{where_true, sum_below-none, sum_below-each_none}
-use Rattle.delta_plans.proofs.OfferWeights.{offer-few, offer-weighs_none, offer-counts_none, more-farther, left-farther, beyond-farther}
+use Rattle.delta_plans.proofs.LevelSteps.{level-first, level-left, level-next}
+use Rattle.delta_plans.proofs.OfferWeights.{offer-weighs_none}
 use Rattle.delta_plans.proofs.WeightLaws.{weight_of-none, count_between-most}
 
 -- so many times a sum
@@ -14,15 +15,9 @@ module _ (cells : Cells) (keys owner low high : ℕ) (covered : HasNoneAbove cel
   abbrev above : ℕ
   above = count_above cells keys owner low
 
-  abbrev upto : ℕ → ℕ
-  upto mark = count_between cells keys owner low mark
-
   -- up to a mark that is above all numbers there are all
-  pub count-covered : upto high ≡ above
+  pub count-covered : count_between cells keys owner low high ≡ above
   count-covered = sum_below-same keys _ _ (λ key lt. let le = covered key lt in grind (arith, nat_tests))
-
-  count-empty : (mark : ℕ) → mark ≤ low → upto mark ≡ 0
-  count-empty mark le = weight_of-none (λ _. 1) cells keys owner low mark le
 
   -- where there is nothing above the mark, nothing weighs
   pub weight-empty : (weight : ℕ → ℕ) → above ≡ 0 → weight_of weight cells keys owner low high ≡ 0
@@ -30,35 +25,37 @@ module _ (cells : Cells) (keys owner low high : ℕ) (covered : HasNoneAbove cel
       sum_below-none keys _ (λ key lt. let out = sum_below-each_none keys (λ k. where_true (ltb low (cells owner k)) 1) none key lt in grind (arith, nat_tests))
 
   -- one owner's part of the next runs
-  from-count : (size mark : ℕ) → IsMarkFrom above low high size mark → upto mark ≡ where_true (leb size above) above
-  from-count size mark from = elim (cases_lt above size) [
-    | inl shorter ↦ let here = ap upto (from.none shorter) in let none = count-empty low (omega arith) in grind (arith, nat_tests)
-    | inr no_shorter ↦ let here = ap upto (from.all (omega (arith, no_shorter))) in let all = count-covered in grind (arith, nat_tests)
-  ]
+  module _ (size near next : ℕ) (longer : IsMarkFrom above low high (size + 1) near) (is : next ≡ cond (eqb above size) high near) where
+    pub run-from : IsMarkFrom above low high size next
+    run-from = record {
+      all = λ le. grind (arith, nat_tests, longer.all);
+      none = λ lt. grind (arith, nat_tests, longer.none);
+    }
 
-  pub run-count : (size near far : ℕ) → IsMarkFrom above low high (size + 1) near → IsMarkFrom above low high size far → upto far ≡ upto near + where_true (eqb above size) 1 * size
-  run-count size near far longer next = let before = from-count (size + 1) near longer in let now = from-count size far next in grind (arith, nat_tests)
+    pub run-rises : 0 < size → near ≤ next
+    run-rises some = elim (cases_lt low high) [
+      | inl lt ↦ grind (arith, nat_tests, longer.none)
+      | inr le ↦ let empty = weight_of-none (λ _. 1) cells keys owner low high (omega (arith, le)) in grind (arith, nat_tests, count-covered)
+    ]
+
+    pub run-count : count_between cells keys owner near next ≡ where_true (eqb above size) 1 * size
+    run-count = elim (cases_eq above size) [
+      | inl same ↦
+          let from = longer.none (omega (arith, same)) in
+          let to : next ≡ high = grind (arith, nat_tests) in
+          let all = (λ i. count_between cells keys owner (from i) (to i)) ∙ count-covered in
+          grind (arith, nat_tests)
+      | inr other ↦
+          let stays : next ≡ near = grind (arith, nat_tests) in
+          let none = weight_of-none (λ _. 1) cells keys owner near next (omega (arith, stays)) in
+          grind (arith, nat_tests)
+    ]
 
   pub run-mark : (from size mark : ℕ) → from ≡ size + 1 → IsMarkFrom above low high from mark → IsRunMark cells keys owner low size mark
   run-mark from size mark one marked = record {
     all = λ more. subst (HasNoneAbove cells keys owner) (sym (marked.all (omega (arith, one, more)))) covered;
     none = λ no_more. marked.none (omega (arith, one, no_more));
   }
-
-  pub run-farther : (size near far : ℕ) → IsMarkFrom above low high (size + 1) near → IsMarkFrom above low high size far → 0 < size → (low ≤ near) × (low ≤ far) × (near ≤ far)
-  run-farther size near far longer next some =
-      let empty : high ≤ low → above ≡ 0 = λ le. sym count-covered ∙ count-empty high le in (
-        grind (arith, empty, longer.all, longer.none),
-        grind (arith, empty, next.all, next.none),
-        grind (arith, empty, longer.all, longer.none, next.all, next.none),
-      )
-
--- runs of one size less are added
-from-next : (count low high size mark next : ℕ) → IsMarkFrom count low high (size + 1) mark → next ≡ cond (eqb count size) high mark → IsMarkFrom count low high size next
-from-next count low high size mark next from is = record {
-  all = λ le. grind (arith, nat_tests, from.all, from.none);
-  none = λ lt. grind (arith, nat_tests, from.all, from.none);
-}
 
 module _ {N : Type 0} {number : N → ℕ} {most : ℕ} {offer : Offer N} (is : IsOffer number most offer) where
   abbrev cells : Cells
@@ -70,76 +67,86 @@ module _ {N : Type 0} {number : N → ℕ} {most : ℕ} {offer : Offer N} (is : 
   abbrev high : ℕ → ℕ
   high = high_in number offer
 
-  abbrev IsLongest : ℕ → Type 0
-  IsLongest size = (owner : ℕ) → owner < offer.nodes → owner_count_in number offer owner ≤ size
+  abbrev weigh : ℕ → ℕ → ℕ
+  weigh owner = weight_of (weights_in offer owner) cells offer.keys owner (low owner)
 
-  -- runs of one size, which some owners have
-  runs-added : {near : ℕ → ℕ} (size count : ℕ) {step : Step N} → AreMarksFrom number offer (size + 1) near → AreNextRuns number offer near size step
-      → count ≡ count_in number offer low near → {room : ℕ} → weight_in number offer low near + room ≡ amount_of offer.budget → AreRunsSoFar number offer near (marks number step.marks.items) size count step.more room
-  runs-added {near} size count {step} longer runs whole left = record {
-    longer = longer;
-    next = next;
-    whole = whole;
-    more =
-        (λ i. whole i + (runs.more ∙ sym (sum_below-scaled offer.nodes size (λ owner. where_true (eqb (owner_count_in number offer owner) size) 1))) i)
-        ∙ sym (sum_below-plus offer.nodes (λ owner. count_between cells offer.keys owner (low owner) (near owner)) (λ owner. where_true (eqb (owner_count_in number offer owner) size) 1 * size))
-        ∙ sym (sum_below-same offer.nodes _ _ (λ owner lt. run-count cells offer.keys owner (low owner) (high owner) (is.covered owner lt) size (near owner) (marks number step.marks.items owner) (longer owner lt) (next owner lt)));
-    left = left;
-  }
+  module _ {near : ℕ → ℕ} {size : ℕ} {step : Step N} (longer : AreMarksFrom number offer (size + 1) near) (runs : AreNextRuns number offer near size step) where
+    run-next : AreMarksFrom number offer size (marks number step.marks.items)
+    run-next owner lt =
+        run-from cells offer.keys owner (low owner) (high owner) (is.covered owner lt) size (near owner) (marks number step.marks.items owner)
+        (longer owner lt) (runs.marked owner lt)
+
+    run-step : 0 < size → IsStep number offer near step
+    run-step some = record {
+      count = runs.count;
+      rises = λ owner lt.
+          run-rises cells offer.keys owner (low owner) (high owner) (is.covered owner lt) size (near owner) (marks number step.marks.items owner)
+          (longer owner lt) (runs.marked owner lt) some;
+      more =
+          runs.more
+          ∙ sym (sum_below-scaled offer.nodes size (λ owner. where_true (eqb (owner_count_in number offer owner) size) 1))
+          ∙ sym (sum_below-same offer.nodes _ _ (λ owner lt.
+          run-count cells offer.keys owner (low owner) (high owner) (is.covered owner lt) size (near owner) (marks number step.marks.items owner)
+          (longer owner lt) (runs.marked owner lt)));
+    }
+
+  -- where what fits isn't all, the runs that are next have something
+  runs-some : {size : ℕ} {near : ℕ → ℕ} → AreMarksFrom number offer (size + 1) near → weight_in number offer low near ≤ amount_of offer.budget
+      → amount_of offer.budget < weight_in number offer low high → 0 < size
+  runs-some {size} {near} longer within cut = elim (cases_lt 0 size) [
+    | inl some ↦ some
+    | inr none ↦ absurd (omega (arith, cut, within, sum_below-same offer.nodes _ _ (all (omega (arith, none)))))
+  ]
     where
-      next : AreMarksFrom number offer size (marks number step.marks.items)
-      next owner lt = from-next (owner_count_in number offer owner) (low owner) (high owner) size (near owner) (marks number step.marks.items owner) (longer owner lt) (runs.marked owner lt)
+      all : size ≡ 0 → (owner : ℕ) → owner < offer.nodes → weigh owner (near owner) ≡ weigh owner (high owner)
+      all none owner lt = elim (cases_lt 0 (owner_count_in number offer owner)) [
+        | inl some ↦ ap (weigh owner) ((longer owner lt).all (omega (arith, none, some)))
+        | inr empty ↦
+            ap (weigh owner) ((longer owner lt).none (omega (arith, none, empty)))
+            ∙ weight_of-none (weights_in offer owner) cells offer.keys owner (low owner) (low owner) (omega arith)
+            ∙ sym (weight-empty cells offer.keys owner (low owner) (high owner) (is.covered owner lt) (weights_in offer owner) (omega (arith, empty)))
+      ]
 
-  -- the longest runs are next
-  pub runs-start : {size : ℕ} {step : Step N} → IsLongest size → AreNextRuns number offer low size step → {room : ℕ} → room ≡ amount_of offer.budget → AreRunsSoFar number offer low (marks number step.marks.items) size 0 step.more room
-  runs-start {size} longest runs all =
-      runs-added size 0 (λ owner lt. record { all = λ le. absurd (omega (arith, le, longest owner lt)); none = λ _. refl }) runs
-      (sym (offer-counts_none number offer low)) (omega (arith, offer-weighs_none number offer low, all))
+  module _ (beyond : amount_of offer.budget < weight_in number offer low high) where
+    -- the longest runs are next
+    pub runs-first : {size : ℕ} {near : Vec N Global} {step : Step N} {level : Level N} → ((owner : ℕ) → owner < offer.nodes → owner_count_in number offer owner ≤ size) → size ≤ MOST_KEYS
+        → level ≡ record { near = near; far = step.marks; whole = 0; left = amount_of offer.budget }
+        → near.items ≡ offer.low.now → AreNextRuns number offer (marks number near.items) size step → HasRuns number offer level size step.more
+    runs-first {size} {near} {step} longest short made start runs =
+        let none : AreMarksFrom number offer (size + 1) low = λ owner lt. record { all = λ le. absurd (omega (arith, le, longest owner lt)); none = λ _. refl } in
+        let longer = subst (λ xs. AreMarksFrom number offer (size + 1) (marks number xs)) (sym start) none in
+        let some = runs-some none (omega (arith, offer-weighs_none number offer low)) beyond in
+        rw made (record {
+          so_far = level-first is refl start (run-step longer runs some);
+          some = some;
+          short = short;
+          longer = longer;
+          next = run-next longer runs;
+        })
 
-  module _ {near far : ℕ → ℕ} {size count added room : ℕ} (so_far : AreRunsSoFar number offer near far size count added room) where
-    pub runs-few : count + added ≤ MOST_NODES * MOST_KEYS
-    runs-few = omega (arith, so_far.more, offer-few number most offer is low far)
-
-    -- where what fits isn't all, the runs that are next have something
-    pub runs-some : amount_of offer.budget < weight_in number offer low high → 0 < size
-    runs-some cut = elim (cases_lt 0 size) [
-      | inl some ↦ some
-      | inr none ↦ absurd (omega (arith, cut, so_far.left, all (omega (arith, none))))
-    ]
-      where
-        all : size ≡ 0 → weight_in number offer low near ≡ weight_in number offer low high
-        all none = sum_below-same offer.nodes _ _ (λ owner lt. elim (cases_lt 0 (owner_count_in number offer owner)) [
-          | inl some ↦ ap (weight_of (weights_in offer owner) cells offer.keys owner (low owner)) ((so_far.longer owner lt).all (omega (arith, none, some)))
-          | inr empty ↦
-              ap (weight_of (weights_in offer owner) cells offer.keys owner (low owner)) ((so_far.longer owner lt).none (omega (arith, none, empty)))
-              ∙ weight_of-none (weights_in offer owner) cells offer.keys owner (low owner) (low owner) (omega arith)
-              ∙ sym (weight-empty cells offer.keys owner (low owner) (high owner) (is.covered owner lt) (weights_in offer owner) (omega (arith, empty)))
-        ])
-
-    module _ (some : 0 < size) where
-      pub runs-farther : (owner : ℕ) → owner < offer.nodes → AreFarther Oldest (low owner) (near owner) (far owner)
-      runs-farther owner lt = run-farther cells offer.keys owner (low owner) (high owner) (is.covered owner lt) size (near owner) (far owner) (so_far.longer owner lt) (so_far.next owner lt) some
-
-      -- so many runs' numbers are next
-      pub runs-between : added ≡ count_in number offer near far
-      runs-between = more-farther number offer runs-farther so_far.whole so_far.more
-
-      pub runs-beyond : (weight_in number offer near far ≤ room → ⊥) → amount_of offer.budget < weight_in number offer low far
-      runs-beyond = beyond-farther number offer runs-farther so_far.left
-
+    module _ {level : Level N} {size more : ℕ} (has : HasRuns number offer level size more) where
       -- those of one number less
-      pub runs-next : {rest : ℕ} {step : Step N} → (weight_in number offer near far ≤ room) × (rest ≡ room - weight_in number offer near far) → AreNextRuns number offer far (size - 1) step
-          → AreRunsSoFar number offer far (marks number step.marks.items) (size - 1) (count + added) step.more rest
-      runs-next fits runs =
-          runs-added (size - 1) (count + added) (subst (λ n. AreMarksFrom number offer n far) {x = size} {y = size - 1 + 1} (omega (arith, some)) so_far.next) runs so_far.more
-          (left-farther number offer runs-farther so_far.left fits)
+      pub runs-next : {left : ℕ} {step : Step N} {next : Level N}
+          → IsLeftOf level.left (weight_in number offer (marks number level.near.items) (marks number level.far.items)) (Some left)
+          → next ≡ record { near = level.far; far = step.marks; whole = level.whole + more; left = left }
+          → AreNextRuns number offer (marks number level.far.items) (size - 1) step → HasRuns number offer next (size - 1) step.more
+      runs-next fits made runs =
+          let longer = subst (λ n. AreMarksFrom number offer n (marks number level.far.items)) {x = size} {y = size - 1 + 1} (omega (arith, has.some)) has.next in
+          let some = runs-some longer (omega (arith, level-left is has.so_far fits)) beyond in
+          rw made (record {
+            so_far = level-next is has.so_far fits refl (run-step longer runs some);
+            some = some;
+            short = omega (arith, has.short);
+            longer = longer;
+            next = run-next longer runs;
+          })
 
       -- the level at which they end
-      pub runs-of_level : AreRuns cells offer.nodes offer.keys low near far
+      pub runs-of_level : AreRuns cells offer.nodes offer.keys low (marks number level.near.items) (marks number level.far.items)
       runs-of_level = record {
         size = size - 1;
-        near_is = run-marks (size + 1) (size - 1 + 1) near (omega (arith, some)) so_far.longer;
-        far_is = run-marks size (size - 1) far (omega (arith, some)) so_far.next;
+        near_is = run-marks (size + 1) (size - 1 + 1) (marks number level.near.items) (omega (arith, has.some)) has.longer;
+        far_is = run-marks size (size - 1) (marks number level.far.items) (omega (arith, has.some)) has.next;
       }
         where
           run-marks : (from less : ℕ) (mark : ℕ → ℕ) → from ≡ less + 1 → AreMarksFrom number offer from mark → (owner : ℕ) → owner < offer.nodes → IsRunMark cells offer.keys owner (low owner) less (mark owner)

@@ -1,6 +1,6 @@
 -- What numbers weigh between marks.
 -- Serves most of the crate and `version_tables`.
-use Rattle.delta_plans.proofs.Common.{◌≡◌, ℕ, zero, suc, ◌+◌, ◌*◌, ◌<◌, ◌≤◌, ltb, leb, List, length, ◌⊎◌, inl, inr, ap, ◌∙◌, arith, nat_tests, cases_lt, Entry, Budget, Entries, Cells, count_between, HasNoneAbove, sum_below, sum_below-same, sum_below-le, sum_below-plus, numbered-some, number_share, share_or_none, weight_of, weight_between, count_all_between}
+use Rattle.delta_plans.proofs.Common.{◌≡◌, ℕ, zero, suc, ◌+◌, ◌*◌, ◌<◌, ◌≤◌, ltb, leb, List, length, ◌⊎◌, ap, ◌∙◌, arith, nat_tests, Entry, Budget, Entries, Cells, count_between, HasNoneAbove, sum_below-same, sum_below-le, sum_below-plus, numbered-some, number_share, share_or_none, weight_of, weight_between, count_all_between}
 use Rattle.delta_plans.proofs.Sums.{sum_below-none, sum_below-times, where_true}
 
 -- one number's part of a weight

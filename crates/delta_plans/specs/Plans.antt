@@ -1,16 +1,17 @@
 -- Levels of what is offered, as marks: near marks let through whole levels, and far marks one level more, which doesn't
 -- fit. Source: this project.
-use Rattle.std.specs.Prelude.{◌≡◌, ◌⊎◌, ℕ, ◌+◌, ◌*◌, ◌<◌, ◌≤◌, nat_eq, nat_lt, List, length, map, if◌then◌else◌}
+use Rattle.std.specs.Prelude.{◌≡◌, ◌⊎◌, ℕ, ◌+◌, ◌*◌, ◌<◌, ◌≤◌, nat_eq, List, length, map, if◌then◌else◌}
 use Rattle.delta_plans.specs.declared.marked.First.{First}
+use Rattle.delta_plans.specs.declared.marked.First.TheVariants.{Oldest}
 use Rattle.bench_types.specs.Budget.{amount_of}
 use Rattle.planes.specs.Planes.{Cells, HasEach, HasNoneAbove, IsLeastAbove}
 use Rattle.bench_types.specs.Sums.{sum_below}
-use Rattle.bench_types.specs.declared.limits.TheConstants.{MOST_KEYS, MOST_NODES}
+use Rattle.bench_types.specs.declared.limits.TheConstants.{MOST_KEYS}
 use Rattle.delta_plans.specs.declared.offers.Offer.{Offer}
 use Rattle.delta_plans.specs.declared.offers.Level.{Level}
 use Rattle.delta_plans.specs.declared.offers.Step.{Step}
 use Rattle.delta_plans.specs.OfferInMemory.{cells_in, low_in, high_in, owner_count_in, marks, weights_in, weight_in, count_in, IsOffer}
-use Rattle.delta_plans.specs.LevelMarks.{IsLayerMark}
+use Rattle.delta_plans.specs.LevelMarks.{AreLayers}
 use Rattle.delta_plans.specs.Stops.{IsOn}
 use Rattle.delta_plans.specs.Weights.{weight_through, one_each}
 
@@ -19,18 +20,19 @@ abbrev pub IsNextMark : Cells → ℕ → ℕ → ℕ → ℕ → Type 0
 IsNextMark cells keys owner mark next =
     (HasNoneAbove cells keys owner mark × (next ≡ mark)) ⊎ IsLeastAbove cells keys owner mark next
 
--- how many of the owners' marks are raised
-abbrev pub raised : ℕ → (ℕ → ℕ) → (ℕ → ℕ) → ℕ
-raised nodes mark next = sum_below nodes (λ owner. if nat_lt (mark owner) (next owner) then 1 else 0)
+-- marks of one level more, of which none is lower than before, and so many numbers more
+pub record IsStep {N : Type 0} (number : N → ℕ) (offer : Offer N) (near : ℕ → ℕ) (step : Step N) : Type 0 where
+  pub count : length step.marks.items ≡ offer.nodes
+  pub rises : (owner : ℕ) → owner < offer.nodes → near owner ≤ marks number step.marks.items owner
+  pub more : step.more ≡ count_in number offer near (marks number step.marks.items)
 
--- one number more of each owner that has one is added
+-- one number more of each owner that has one
 pub record IsNextLayer {N : Type 0} (number : N → ℕ) (offer : Offer N) (near : ℕ → ℕ)
     (step : Step N) : Type 0 where
-  pub count : length step.marks.items ≡ offer.nodes
+  pub is_step : IsStep number offer near step
   pub next : (owner : ℕ) → owner < offer.nodes
       → IsNextMark (cells_in number offer) offer.keys owner (near owner)
       (marks number step.marks.items owner)
-  pub more : step.more ≡ raised offer.nodes near (marks number step.marks.items)
 
 -- what marks let through takes so much of the budget, and is so many numbers
 abbrev pub weight_on : {N : Type 0} → First → (N → ℕ) → Offer N → (ℕ → ℕ) → ℕ
@@ -58,29 +60,24 @@ pub record IsLevel {N : Type 0} (first : First) (number : N → ℕ) (offer : Of
   pub left : weight_on first number offer (marks number level.near.items) + level.left ≡ amount_of offer.budget
   pub beyond : amount_of offer.budget < weight_on first number offer (marks number level.far.items)
 
--- layers as far as they were gone over: the first fit, and the next is known
-pub record AreLayersSoFar {N : Type 0} (number : N → ℕ) (offer : Offer N) (near far : ℕ → ℕ)
-    (count added room : ℕ) : Type 0 where
-  pub layers : ℕ
-  pub layered : (owner : ℕ) → owner < offer.nodes
-      → IsLayerMark (cells_in number offer) offer.keys owner (low_in number offer owner) layers (near owner)
-  pub next : (owner : ℕ) → owner < offer.nodes
-      → IsNextMark (cells_in number offer) offer.keys owner (near owner) (far owner)
-  pub more : added ≡ raised offer.nodes near far
-  pub whole : count ≡ count_in number offer (low_in number offer) near
-  pub left : weight_in number offer (low_in number offer) near + room ≡ amount_of offer.budget
-
--- the marks of a level, of which the far ones let through so many numbers more
-pub record HasCome {N : Type 0} (offer : Offer N) (level : Level N) (added : ℕ) : Type 0 where
+-- levels as far as they were gone over, the oldest first: near marks, up to which all fit, and far marks, with so many
+-- numbers more
+pub record IsLevelSoFar {N : Type 0} (number : N → ℕ) (offer : Offer N) (level : Level N) (more : ℕ) : Type 0 where
   pub near : length level.near.items ≡ offer.nodes
   pub far : length level.far.items ≡ offer.nodes
-  pub few : level.whole + added ≤ MOST_NODES * MOST_KEYS
+  pub farther : (owner : ℕ) → owner < offer.nodes
+      → AreFarther Oldest (low_in number offer owner) (marks number level.near.items owner)
+      (marks number level.far.items owner)
+  pub whole : level.whole ≡ count_in number offer (low_in number offer) (marks number level.near.items)
+  pub added : more ≡ count_in number offer (marks number level.near.items) (marks number level.far.items)
+  pub left : weight_in number offer (low_in number offer) (marks number level.near.items) + level.left
+      ≡ amount_of offer.budget
 
--- layers as far as they were gone over, as a level
-pub record HasLayers {N : Type 0} (number : N → ℕ) (offer : Offer N) (level : Level N) (added : ℕ) : Type 0 where
-  pub come : HasCome offer level added
-  pub so_far : AreLayersSoFar number offer (marks number level.near.items) (marks number level.far.items) level.whole
-      added level.left
+-- layers as far as they were gone over
+pub record HasLayers {N : Type 0} (number : N → ℕ) (offer : Offer N) (level : Level N) (more : ℕ) : Type 0 where
+  pub so_far : IsLevelSoFar number offer level more
+  pub shape : AreLayers (cells_in number offer) offer.nodes offer.keys (low_in number offer)
+      (marks number level.near.items) (marks number level.far.items)
 
 -- a mark that goes all the way for owners that have so many numbers, and for others not at all
 pub record IsMarkFrom (count low high size mark : ℕ) : Type 0 where
@@ -113,17 +110,9 @@ pub record AreNextRuns {N : Type 0} (number : N → ℕ) (offer : Offer N) (near
       (λ owner. if nat_eq (owner_count_in number offer owner) size then 1 else 0) * size
 
 -- runs as far as they were gone over: the longer ones fit, and those of this size are next
-pub record AreRunsSoFar {N : Type 0} (number : N → ℕ) (offer : Offer N) (near far : ℕ → ℕ)
-    (size count added room : ℕ) : Type 0 where
-  pub longer : AreMarksFrom number offer (size + 1) near
-  pub next : AreMarksFrom number offer size far
-  pub whole : count ≡ count_in number offer (low_in number offer) near
-  pub more : count + added ≡ count_in number offer (low_in number offer) far
-  pub left : weight_in number offer (low_in number offer) near + room ≡ amount_of offer.budget
-
--- and so as a level
-pub record HasRuns {N : Type 0} (number : N → ℕ) (offer : Offer N) (level : Level N) (size added : ℕ) : Type 0 where
+pub record HasRuns {N : Type 0} (number : N → ℕ) (offer : Offer N) (level : Level N) (size more : ℕ) : Type 0 where
+  pub so_far : IsLevelSoFar number offer level more
+  pub some : 0 < size
   pub short : size ≤ MOST_KEYS
-  pub come : HasCome offer level added
-  pub so_far : AreRunsSoFar number offer (marks number level.near.items) (marks number level.far.items) size level.whole
-      added level.left
+  pub longer : AreMarksFrom number offer (size + 1) (marks number level.near.items)
+  pub next : AreMarksFrom number offer size (marks number level.far.items)

@@ -1,5 +1,5 @@
-use Rattle.delta_plans.proofs.Common.{nat_lt, get_or, length, map, sym, ap, subst, ◌∙◌, arith, if◌then◌else◌, length-map, with_items_is, HasEach, IsNextAbove, number-at, each-next, cells_in, marks, raised, IsNextMark}
-use Rattle.delta_plans.proofs.LayerSteps.{next-mark, steps-raised}
+use Rattle.delta_plans.proofs.Common.{nat_lt, get_or, length, map, sym, ap, subst, ◌∙◌, arith, if◌then◌else◌, length-map, with_items_is, HasEach, IsNextAbove, number-at, each-next, cells_in, marks, count_in, with_items, inl, inr, ℕ, ◌<◌, IsNextMark}
+use Rattle.delta_plans.proofs.LayerSteps.{next-mark, layer-counted}
 use Rattle.delta_plans.proofs.Nodes.{count_fits, counted_next, counted_all}
 use Rattle.delta_plans.proofs.breadths.one_more.Goals as goal
 
@@ -34,10 +34,16 @@ returns-clause-layer g c =
     all.0
     (λ r x y lt is now. next-mark most cells offer.keys r (near r) x y (λ key in_keys. c.requires.is_offer.below r key lt in_keys) is now)
     in
+    let same = λ (owner : ℕ). ap (λ xs. marks number xs owner) whole in
+    let nexts : (owner : ℕ) → owner < offer.nodes → IsNextMark cells offer.keys owner (near owner) (marks number (with_items c.in_ok-marks.marks new).items owner) =
+    λ owner lt. subst (IsNextMark cells offer.keys owner (near owner)) (same owner) (next.each owner lt) in
     record {
-      count = sym (ap length whole) ∙ sym (length-map new number) ∙ next.size;
-      next = λ owner lt. subst (λ xs. IsNextMark cells offer.keys owner (near owner) (marks number xs owner)) whole (next.each owner lt);
-      more =
-          steps-raised number most offer c.requires.is_offer near c.in_ok-marks.marks.items old new c.loop-r.more c.deref_mut-all.ensures.value c.in_ok-marks.ensures.least all.0 all.1
-          ∙ ap (λ xs. raised offer.nodes near (marks number xs)) whole;
+      is_step = record {
+        count = sym (ap length whole) ∙ sym (length-map new number) ∙ next.size;
+        rises = λ owner lt. elim (nexts owner lt) [ inl none ↦ omega (arith, none.1) | inr some ↦ omega (arith, some.above) ];
+        more =
+            layer-counted number most offer c.requires.is_offer near c.in_ok-marks.marks.items old new c.loop-r.more c.deref_mut-all.ensures.value c.in_ok-marks.ensures.least all.0 all.1
+            ∙ ap (λ xs. count_in number offer near (marks number xs)) whole;
+      };
+      next = nexts;
     }

@@ -1,6 +1,6 @@
-use Rattle.delta_plans.proofs.Common.{ℕ, ◌-◌, ◌≤◌, ◌<◌, length, get_or, map, refl, sym, ap, ◌∙◌, subst, arith, length-map, MOST_KEYS, amount_of, marks, AreRunsSoFar, AreNextRuns, HasRuns}
-use Rattle.delta_plans.proofs.OfferWeights.{asked-counted, asked-left}
-use Rattle.delta_plans.proofs.RunSteps.{runs-start, runs-few, runs-between, runs-beyond, runs-next, runs-some, runs-of_level, runs-farther, counts-few}
+use Rattle.delta_plans.proofs.Common.{ℕ, ◌-◌, ◌≤◌, ◌<◌, length, get_or, map, sym, subst, arith, length-map, MOST_KEYS, marks, AreNextRuns}
+use Rattle.delta_plans.proofs.LevelSteps.{level-asked, level-ends, level-few, level-told}
+use Rattle.delta_plans.proofs.RunSteps.{counts-few, runs-first, runs-next, runs-of_level}
 use Rattle.delta_plans.proofs.depths.depth.Goals as goal
 
 pub greatest_of-size-requires : goal.greatest_of-size-requires
@@ -13,67 +13,35 @@ greatest_of-size-requires g c = record {
 pub loop-left-init : goal.loop-left-init
 loop-left-init g c =
     let number = g.N.Number.number in
-    let offer = c.args.offer.now in
-    let is = c.requires.offer.is_offer in
     let known = c.in_ok-counts.ensures.counts in
     let size = c.greatest_of-size.result in
-    let step = c.in_ok-first.first in
-    let runs = subst (λ xs. AreNextRuns number offer (marks number xs) size step) (c.deref-3.ensures.value ∙ c.in_ok-near.ensures.items) c.in_ok-first.ensures.runs in
+    let runs = subst (λ xs. AreNextRuns number c.args.offer.now (marks number xs) size c.in_ok-first.first) c.deref-3.ensures.value c.in_ok-first.ensures.runs in
     let longest = subst (λ xs. (r : ℕ) → r < length xs → get_or (map number xs) r 0 ≤ size) c.deref.ensures.value c.greatest_of-size.ensures.greatest in
-    let start = runs-start is (λ owner lt. omega (arith, known.each owner lt, longest owner (omega (arith, lt, known.size, length-map c.in_ok-counts.counts.items number)))) runs {room = amount_of offer.budget} refl in
     record {
-      has =
-          subst (λ level. HasRuns number offer level size step.more) (sym c.first_level-level.ensures)
-          (record {
-            short = c.greatest_of-size.ensures.few;
-            come = record { near = ap length c.in_ok-near.ensures.items ∙ is.low; far = runs.count; few = runs-few is start };
-            so_far = subst (λ xs. AreRunsSoFar number offer (marks number xs) (marks number step.marks.items) size 0 step.more (amount_of offer.budget)) (sym c.in_ok-near.ensures.items) start;
-          });
+      has = runs-first c.requires.offer.is_offer c.requires.offer.beyond
+          (λ owner lt. omega (arith, known.each owner lt, longest owner (omega (arith, lt, known.size, length-map c.in_ok-counts.counts.items number))))
+          c.greatest_of-size.ensures.few c.first_level-level.ensures c.in_ok-near.ensures.items runs;
     }
 
-pub overflow_sub-size : goal.overflow_sub-size
-overflow_sub-size g c = omega (arith, runs-some c.requires.offer.is_offer c.loop-left.invariant.has.so_far c.requires.offer.beyond)
-
 pub left_of-requires : goal.left_of-requires
-left_of-requires g c =
-    let is = c.requires.offer.is_offer in
-    let has = c.loop-left.invariant.has in
-    asked-counted is c.deref-in-loop-left.ensures.value c.deref-in-loop-left-2.ensures.value has.come.near has.come.far
-    (runs-between is has.so_far (runs-some is has.so_far c.requires.offer.beyond))
+left_of-requires g c = level-asked c.requires.offer.is_offer c.loop-left.invariant.has.so_far c.deref-in-loop-left.ensures.value c.deref-in-loop-left-2.ensures.value
 
 pub next-level-requires : goal.next-level-requires
-next-level-requires g c = omega (arith, c.loop-left.invariant.has.come.few)
-
-pub loop-left-smaller : goal.loop-left-smaller
-loop-left-smaller g c = omega (arith, runs-some c.requires.offer.is_offer c.loop-left.invariant.has.so_far c.requires.offer.beyond)
+next-level-requires g c = omega (arith, level-few c.requires.offer.is_offer c.loop-left.invariant.has.so_far)
 
 pub loop-left-preserved : goal.loop-left-preserved
 loop-left-preserved g c =
     let is = c.requires.offer.is_offer in
     let has = c.loop-left.invariant.has in
-    let step = c.in_ok-next.next in
-    let runs = subst (λ xs. AreNextRuns g.N.Number.number c.args.offer.now (marks g.N.Number.number xs) (c.loop-left.size - 1) step) c.deref-in-Some-2.ensures.value c.in_ok-next.ensures.runs in
-    let fits = asked-left is c.deref-in-loop-left.ensures.value c.deref-in-loop-left-2.ensures.value c.loop-left.level.left c.in-Some.is c.left_of.ensures in
-    let next = runs-next is has.so_far (runs-some is has.so_far c.requires.offer.beyond) fits runs in
-    record {
-      has =
-          subst (λ level. HasRuns g.N.Number.number c.args.offer.now level (c.loop-left.size - 1) step.more) (sym c.next-level.ensures)
-          (record { short = omega (arith, has.short); come = record { near = has.come.far; far = runs.count; few = runs-few is next }; so_far = next });
-    }
+    let runs = subst (λ xs. AreNextRuns g.N.Number.number c.args.offer.now (marks g.N.Number.number xs) (c.loop-left.size - 1) c.in_ok-next.next) c.deref-in-Some-2.ensures.value c.in_ok-next.ensures.runs in
+    let fits = level-told is has.so_far c.deref-in-loop-left.ensures.value c.deref-in-loop-left-2.ensures.value c.in-Some.is c.left_of.ensures in
+    record { has = runs-next is c.requires.offer.beyond has fits c.next-level.ensures runs }
 
 pub returns-clause-level : goal.returns-clause-level
 returns-clause-level g c =
     let is = c.requires.offer.is_offer in
     let has = c.loop-left.invariant.has in
-    let some = runs-some is has.so_far c.requires.offer.beyond in
     record {
-      is_level = record {
-        near = has.come.near;
-        far = has.come.far;
-        farther = runs-farther is has.so_far some;
-        whole = has.so_far.whole;
-        left = has.so_far.left;
-        beyond = runs-beyond is has.so_far some (asked-left is c.deref-in-loop-left.ensures.value c.deref-in-loop-left-2.ensures.value c.loop-left.level.left c.in_default.is c.left_of.ensures);
-      };
-      shape = runs-of_level is has.so_far some;
+      is_level = level-ends is has.so_far (level-told is has.so_far c.deref-in-loop-left.ensures.value c.deref-in-loop-left-2.ensures.value c.in_default.is c.left_of.ensures);
+      shape = runs-of_level is c.requires.offer.beyond has;
     }

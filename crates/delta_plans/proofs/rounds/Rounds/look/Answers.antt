@@ -1,5 +1,5 @@
-use Rattle.delta_plans.proofs.Common.{refl, ap, ◌*◌, arith, amount_of, MOST_ENTRY_SIZE, marks, weight_on}
-use Rattle.delta_plans.proofs.RoundMarks.{left-tells, on-most}
+use Rattle.delta_plans.proofs.Common.{refl, ap, ◌*◌, arith, MOST_ENTRY_SIZE, marks}
+use Rattle.delta_plans.proofs.RoundMarks.{on-most}
 use Rattle.delta_plans.proofs.TurnSteps.{count_on-few}
 use Rattle.delta_plans.proofs.rounds.Rounds.look.Goals as goal
 

@@ -3,10 +3,6 @@ use Rattle.delta_plans.proofs.OfferWeights.{over}
 use Rattle.delta_plans.proofs.MarkedLaws.{whole-size, whole-marked, sent-found, share-marked}
 use Rattle.delta_plans.proofs.marked.planned.Goals as goal
 
-pub returns-then-fits-clause-size : goal.returns-then-fits-clause-size
-returns-then-fits-clause-size g c =
-    whole-size g.N.Number.number g.N.Number.most c.args.offer.now c.requires.offer c.of-first.result c.in_ok-mark.mark.items c.in_ok-mark.ensures.marks
-
 pub returns-then-fits-clause-marked : goal.returns-then-fits-clause-marked
 returns-then-fits-clause-marked g c =
     let number = g.N.Number.number in
@@ -29,10 +25,3 @@ returns-clause-marked g c =
     let level = c.in_ok-level.level in
     share-marked number g.N.Number.most c.args.offer.now c.requires.offer c.args.rotation c.args.found c.requires.found c.args.mode c.in_ok-level.ensures.level share.mark.items c.in_ok-share.ensures.shared.size
     (subst (λ first. AreShared first c.args.rotation number c.args.offer.now (marks number level.near.items) (marks number level.far.items) (marks number share.mark.items) share.sent) c.of-first.ensures c.in_ok-share.ensures.shared.shared)
-
-pub level_of-requires : goal.level_of-requires
-level_of-requires g c = record {
-  too_large = record { is_offer = c.requires.offer; beyond = over c.fits.result _ _ c.fits.ensures c.if-fits.false };
-  are_ends_of = c.requires.ends;
-  counted = c.requires.found;
-}

@@ -28,10 +28,6 @@ loop-few-preserved g c =
       }
     ]
 
-pub look-found_there-requires-clause-mark : goal.look-found_there-requires-clause-mark
-look-found_there-requires-clause-mark g c =
-    subst (AreRaised g.N.Number.number c.args.self.now.offer.now) (sym c.deref.ensures.value) (rounds-raised c.args.self.now c.requires (c.loop-few.few + c.min-by.result) c.in_ok-mark.mark.items c.in_ok-mark.ensures.marks)
-
 pub returns-clause-few : goal.returns-clause-few
 returns-clause-few g c =
     subst (λ few. AreFewAndEnough g.N.Number.number c.args.self.now few c.loop-few.enough c.loop-few.whole c.loop-few.left) {x = c.loop-few.few} {y = c.loop-few.enough - 1}

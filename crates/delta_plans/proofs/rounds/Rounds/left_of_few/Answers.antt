@@ -2,9 +2,6 @@ use Rattle.delta_plans.proofs.Common.{◌≡◌, ◌+◌, ◌-◌, sym, ◌∙�
 use Rattle.delta_plans.proofs.RoundMarks.{let_through, rounds-raised}
 use Rattle.delta_plans.proofs.rounds.Rounds.left_of_few.Goals as goal
 
-pub weighed-requires-clause-mark : goal.weighed-requires-clause-mark
-weighed-requires-clause-mark g c = rounds-raised c.args.self.now c.requires.rounds (c.args.few.enough - 1) c.args.near.now c.requires.near
-
 pub weighed-requires-clause-count : goal.weighed-requires-clause-count
 weighed-requires-clause-count g c = c.requires.few.counted ∙ sym (let_through c.args.self.now c.requires.rounds (c.args.few.enough - 1) c.args.near.now c.requires.near one_each)
 

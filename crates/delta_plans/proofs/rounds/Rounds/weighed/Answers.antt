@@ -12,11 +12,3 @@ left_of-requires-in-Newest g c = record {
   has_marks = record { is_offer = c.requires.rounds.too_large.is_offer; each_low = c.requires.mark.size; each_high = c.requires.rounds.too_large.is_offer.high };
   counted = c.requires.count ∙ ap (λ first. count_on first g.N.Number.number c.args.self.now.offer.now (marks g.N.Number.number c.args.mark.now)) c.in-Newest.is;
 }
-
-pub returns-in-Oldest : goal.returns-in-Oldest
-returns-in-Oldest g c =
-    transport (λ i. IsLeftOf (c.amount-room.ensures i) (weight_on (sym c.in-Oldest.is i) g.N.Number.number c.args.self.now.offer.now (marks g.N.Number.number c.args.mark.now)) c.left_of.result) c.left_of.ensures
-
-pub returns-in-Newest : goal.returns-in-Newest
-returns-in-Newest g c =
-    transport (λ i. IsLeftOf (c.amount-room.ensures i) (weight_on (sym c.in-Newest.is i) g.N.Number.number c.args.self.now.offer.now (marks g.N.Number.number c.args.mark.now)) c.left_of-in-Newest.result) c.left_of-in-Newest.ensures

@@ -20,6 +20,3 @@ pass_some-reached-requires-clause-turns g c =
       sum = c.count_of_parts-count.ensures.count;
       fits = c.if-reached-count.false;
     }
-
-pub loop-reached-smaller : goal.loop-reached-smaller
-loop-reached-smaller g c = omega (arith, c.pass_some-reached.ensures.turn, c.min-size.ensures, c.max.ensures, c.owner_of_turn-owner.ensures.below, c.loop-reached-test.true)

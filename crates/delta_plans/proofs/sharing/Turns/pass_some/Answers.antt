@@ -2,9 +2,6 @@ use Rattle.delta_plans.proofs.Common.{◌+◌, set, ap, ◌∙◌, arith, length
 use Rattle.delta_plans.proofs.TurnSteps.{turns-same, some-next, put-here, put-other, count_on-few}
 use Rattle.delta_plans.proofs.sharing.Turns.pass_some.Goals as goal
 
-pub loop-i-init : goal.loop-i-init
-loop-i-init g c = record { size = c.requires.reached.size; so_far = turns-same c.requires.reached.so_far (omega arith) (omega arith) (omega arith) }
-
 pub loop-i-preserved : goal.loop-i-preserved
 loop-i-preserved g c =
     let number = g.N.Number.number in

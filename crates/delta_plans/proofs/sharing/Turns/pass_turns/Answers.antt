@@ -3,14 +3,6 @@ use Rattle.delta_plans.proofs.StopSteps.{few-from}
 use Rattle.delta_plans.proofs.TurnSteps.{turns-first, turns-next, turns-end, put-here, put-other, count_on-few}
 use Rattle.delta_plans.proofs.sharing.Turns.pass_turns.Goals as goal
 
-pub pass_many-reached-requires-clause-start : goal.pass_many-reached-requires-clause-start
-pass_many-reached-requires-clause-start g c = record {
-  size = ap length c.requires.mark ∙ c.requires.turns.level.near;
-  so_far =
-      subst (λ xs. AreTurnsPassed g.N.Number.number c.args.self.now (marks g.N.Number.number xs) 0 c.args.self.now.level.now.left c.args.self.now.level.now.whole) (sym c.requires.mark)
-      (turns-first c.requires.turns);
-}
-
 pub loop-turn-preserved : goal.loop-turn-preserved
 loop-turn-preserved g c =
     let number = g.N.Number.number in

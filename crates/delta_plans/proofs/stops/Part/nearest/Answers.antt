@@ -2,9 +2,6 @@ use Rattle.delta_plans.proofs.Common.{ap, ◌∙◌, arith, cells_in, nearer_bey
 use Rattle.delta_plans.proofs.StopSteps.{next-first, next-nearer, next-found}
 use Rattle.delta_plans.proofs.stops.Part.nearest.Goals as goal
 
-pub loop-key-init : goal.loop-key-init
-loop-key-init g c first near answers = next-first first (cells_in g.N.Number.number c.args.self.now.offer.now) c.args.self.now.owner near (g.N.Number.number c.args.self.now.far)
-
 pub loop-key-preserved : goal.loop-key-preserved
 loop-key-preserved g c first near answers =
     let number = g.N.Number.number in

@@ -38,6 +38,3 @@ overflow_add-sent g c =
       few-from (cells_in g.N.Number.number part.offer.now) part.offer.now.keys part.owner part.first (g.N.Number.number c.args.near) (g.N.Number.number c.loop-weight.mark),
       c.requires.part.is_offer.grid.few_keys,
     )
-
-pub returns : goal.returns
-returns g c = stop-found c.loop-weight.invariant (omega (arith, c.loop-weight-test.false))

@@ -37,7 +37,7 @@ pub use Rattle.model.specs.Candidates.{candidates, known_mark}
 pub use Rattle.model.specs.Deltas.{DeltaView, delta_between, item_share}
 pub use Rattle.model.specs.Order.{owner_count, rank_among, rotated, sending_order}
 pub use Rattle.model.specs.Picks.{before_count, cut_count, fits, sent, size_through}
-pub use Rattle.model.specs.Table.{IsProper, Table, entry_at, generation_held, items_of}
+pub use Rattle.model.specs.Table.{IsInPlace, IsProper, Table, entry_at, generation_held, items_of}
 pub use Rattle.model.specs.calls.Numbers.{write_from, write_numbered}
 pub use Rattle.model.specs.calls.OwnerListView.{AreWrites, OwnerListView, all_writes, entries_of, list_of_owner, no_writes}
 pub use Rattle.model.specs.inner.Applied.{items_at, stands_at}
@@ -50,17 +50,17 @@ pub use Rattle.planes.specs.Elementwise.{AreChanged, AreChangedUpto}
 pub use Rattle.planes.specs.Planes.{Cells, HasEach, HasNoneAbove, IsLeastAbove, IsNextAbove, cell, count_above, count_between, total_of}
 pub use Rattle.delta_plans.specs.Firsts.{by_first, comes_first, item_number}
 pub use Rattle.delta_plans.specs.Grids.{number_here, number_there, sum_over}
-pub use Rattle.delta_plans.specs.LevelMarks.{AreLayers, AreLevelMarks, AreRounds, AreRuns, HasShape, IsLayerMark, IsRunMark, NumbersDiffer, PartByRounds, StopAt, first_sent, lets_through, size_through_marks}
+pub use Rattle.delta_plans.specs.LevelMarks.{AreLayers, AreLevelMarks, AreRounds, AreRuns, HasShape, IsLayerMark, IsRunMark, NumbersDiffer, PartByRounds, first_sent, lets_through}
 pub use Rattle.delta_plans.specs.Marked.{AreMarked, IsLevelOf, KeepsLow}
 pub use Rattle.delta_plans.specs.OfferInMemory.{AreCounted, IsLeftOf, IsOffer, cells_in, count_in, high_in, low_in, marks, owner_count_in, weight_in, weights_in}
 pub use Rattle.delta_plans.specs.Offers.{AreSent, Offers, is_lacked, offered_sum, rank_above, told_by, told_number}
 pub use Rattle.delta_plans.specs.Plans.{AreFarther, AreMarksFrom, AreNextRuns, HasLayers, HasRuns, IsLevel, IsLevelSoFar, IsMarkFrom, IsNextLayer, IsNextMark, IsStep, count_on, weight_on}
 pub use Rattle.delta_plans.specs.RoundLevels.{AreFewAndEnough, AreRaised, AreRoundMarks, HasRounds, IsFound, IsLevelOfRounds, end_mark, mark_of_rounds, round_at, round_mark}
 pub use Rattle.delta_plans.specs.SentSets.{DeltasHaveTheirSets, EndsBefore, HasAll, HasSet, IsKeptOut, IsSentSet, size_in}
-pub use Rattle.delta_plans.specs.Sharing.{AreShared}
+pub use Rattle.delta_plans.specs.Sharing.{AreShared, StopAt}
 pub use Rattle.delta_plans.specs.Stops.{AnswersNearer, HasBetween, HasNext, IsBeyond, IsNext, IsOn, IsPast, IsStopFrom, nearer_beyond}
 pub use Rattle.delta_plans.specs.Told.{IsKnown}
-pub use Rattle.delta_plans.specs.Turns.{AreKnownFor, AreTurns, AreTurnsPassed, HasReached, HasTurn, HaveTurns, part_weight, parts_count}
+pub use Rattle.delta_plans.specs.Turns.{AreKnownFor, AreSharedBy, AreTurns, AreTurnsPassed, HasReached, HasTurn, HaveTurns, part_weight, parts_count}
 pub use Rattle.delta_plans.specs.Weights.{count_all_between, number_share, number_shares, one_each, share_or_none, weight_between, weight_from, weight_of, weight_through}
 pub use Rattle.delta_plans.specs.declared.marked.First.{First}
 pub use Rattle.delta_plans.specs.declared.marked.First.TheVariants.{Newest, Oldest}

@@ -1,9 +1,8 @@
 -- The marks of a mode's levels.
--- Serves `Lifts` and `StopMarks`.
-use Rattle.delta_plans.proofs.Common.{◌≡◌, ℕ, ◌+◌, ◌<◌, ◌≤◌, true, false, leb, List, Some, refl, arith, nat_tests, Contains, nat_cmp, leb-true, leb-false, ltb-true, ltb-false, Entry, Item, Mode, ScuttleBreadth, ScuttleDepth, PreciseOldest, PreciseNewest, Table, IsProper, candidates, write_numbered, rank_among, owner_count, level_cmp, version_cmp, IsHistory, IsRoundMark, Cells, count_above, First, Oldest, Newest, Offers, rank_above, item_number, first_sent, lets_through, AreLevelMarks, IsLayerMark, IsRunMark, AreLayers, AreRuns, AreRounds, PartByRounds, HasShape}
+-- Serves `DeltaMarks`.
+use Rattle.delta_plans.proofs.Common.{◌≡◌, ℕ, ◌+◌, ◌<◌, ◌≤◌, true, false, leb, List, refl, arith, nat_tests, IsRoundMark, Contains, nat_cmp, leb-true, leb-false, ltb-true, ltb-false, Entry, Item, Mode, ScuttleBreadth, ScuttleDepth, PreciseOldest, PreciseNewest, Table, candidates, rank_among, owner_count, level_cmp, version_cmp, IsRoundMark, Cells, count_above, First, Oldest, Newest, rank_above, item_number, first_sent, lets_through, AreLevelMarks, IsLayerMark, IsRunMark, AreLayers, AreRuns, AreRounds, PartByRounds, HasShape}
 use Rattle.delta_plans.proofs.Firsts.{age_cmp}
-use Rattle.delta_plans.proofs.CandidateNumbers.{candidate-number, candidate-below, candidate-key}
-use Rattle.delta_plans.proofs.Columns.{rank_among-is, owner_count-is}
+use Rattle.delta_plans.proofs.Candidates.{IsOffered, candidate-number, candidate-place, owner_count-is, rank_among-is}
 use Rattle.delta_plans.proofs.Layers.{layer-upto, layer-above}
 
 -- versions compare by what a mode sends first
@@ -13,33 +12,22 @@ version_cmp-first ScuttleDepth v w = refl
 version_cmp-first PreciseOldest v w = refl
 version_cmp-first PreciseNewest v w = refl
 
-module _ (mode : Mode) (from to : Table) (proper : IsProper from) (lists : ℕ → List Entry) (histories : (owner : ℕ) → IsHistory (lists owner)) (cells : Cells) (low : ℕ → ℕ) (offers : Offers mode from to lists cells low) (next : Item) (in_next : Contains (candidates mode from to) next) where
+module _ {mode : Mode} {from to : Table} {lists : ℕ → List Entry} {cells : Cells} {low : ℕ → ℕ} (given : IsOffered mode from to lists cells low)
+    (next : Item) (in_next : Contains (candidates mode from to) next) where
   abbrev cs : List Item
   cs = candidates mode from to
-
-  in_key : (c : Item) → Contains cs c → c.entry.key < from.keys
-  in_key c in_c = candidate-key mode from to proper c in_c
-
-  in_node : (c : Item) → Contains cs c → c.owner < from.nodes
-  in_node c in_c = candidate-below mode from to proper c in_c
-
-  number-is : (c : Item) → Contains cs c → (low c.owner < item_number cells c) × (write_numbered (lists c.owner) (item_number cells c) ≡ Some c.entry)
-  number-is c in_c = candidate-number mode from to proper lists histories cells low offers c in_c
 
   -- layer by layer
   module _ (near far : ℕ → ℕ) (shape : AreLayers cells from.nodes from.keys low near far) (outside : leb (item_number cells next) (near next.owner) ≡ false) (inside : leb (item_number cells next) (far next.owner) ≡ true) where
     abbrev rank : Item → ℕ
     rank c = rank_above cells from.keys c.owner (low c.owner) (item_number cells c)
 
-    rank_is : (c : Item) → Contains cs c → rank_among cs c ≡ rank c
-    rank_is c in_c = rank_among-is mode from to proper lists histories cells low offers c in_c
-
     -- what a mark lets through is of its layers
     layered : (layers : ℕ) (mark : ℕ → ℕ) → ((r : ℕ) → r < from.nodes → IsLayerMark cells from.keys r (low r) layers (mark r)) → (c : Item) → Contains cs c
         → (item_number cells c ≤ mark c.owner → rank c < layers) × (mark c.owner < item_number cells c → layers ≤ rank c)
     layered layers mark is c in_c = (
-      layer-upto cells from.keys c.owner (low c.owner) layers (mark c.owner) (is c.owner (in_node c in_c)) c.entry.key (in_key c in_c) (number-is c in_c).0,
-      layer-above cells from.keys c.owner (low c.owner) layers (mark c.owner) (is c.owner (in_node c in_c)) c.entry.key (in_key c in_c),
+      layer-upto cells from.keys c.owner (low c.owner) layers (mark c.owner) (is c.owner (candidate-place given c in_c).owner_below) c.entry.key (candidate-place given c in_c).key_below (candidate-number given c in_c).0,
+      layer-above cells from.keys c.owner (low c.owner) layers (mark c.owner) (is c.owner (candidate-place given c in_c).owner_below) c.entry.key (candidate-place given c in_c).key_below,
     )
 
     next_rank : rank next ≡ shape.layers
@@ -50,8 +38,8 @@ module _ (mode : Mode) (from to : Table) (proper : IsProper from) (lists : ℕ �
 
     layer-marks : AreLevelMarks Oldest (λ c d. nat_cmp (rank_among cs c) (rank_among cs d)) cs cells next near far
     layer-marks = record {
-      before = λ c in_c. let tells = layered shape.layers near shape.near_is c in_c in grind (arith, nat_tests, tells.0, tells.1, next_rank, rank_is c in_c, rank_is next in_next);
-      upto = λ c in_c. let tells = layered (shape.layers + 1) far shape.far_is c in_c in grind (arith, nat_tests, tells.0, tells.1, next_rank, rank_is c in_c, rank_is next in_next);
+      before = λ c in_c. let tells = layered shape.layers near shape.near_is c in_c in grind (arith, nat_tests, tells.0, tells.1, next_rank, rank_among-is given c in_c, rank_among-is given next in_next);
+      upto = λ c in_c. let tells = layered (shape.layers + 1) far shape.far_is c in_c in grind (arith, nat_tests, tells.0, tells.1, next_rank, rank_among-is given c in_c, rank_among-is given next in_next);
     }
 
   -- run by run, the longest first
@@ -59,16 +47,13 @@ module _ (mode : Mode) (from to : Table) (proper : IsProper from) (lists : ℕ �
     abbrev count : Item → ℕ
     count c = count_above cells from.keys c.owner (low c.owner)
 
-    count_is : (c : Item) → Contains cs c → owner_count cs c ≡ count c
-    count_is c in_c = owner_count-is mode from to proper lists histories cells low offers c in_c
-
     -- what a mark lets through has a longer run than the size
     longer : (size : ℕ) (mark : ℕ → ℕ) → ((r : ℕ) → r < from.nodes → IsRunMark cells from.keys r (low r) size (mark r)) → (c : Item) → Contains cs c
         → (item_number cells c ≤ mark c.owner → size < count c) × (mark c.owner < item_number cells c → count c ≤ size)
     longer size mark is c in_c =
-        let here = is c.owner (in_node c in_c) in
-        let above = (number-is c in_c).0 in
-        let over : size < count c → item_number cells c ≤ mark c.owner = λ more. here.all more c.entry.key (in_key c in_c) in
+        let here = is c.owner (candidate-place given c in_c).owner_below in
+        let above = (candidate-number given c in_c).0 in
+        let over : size < count c → item_number cells c ≤ mark c.owner = λ more. here.all more c.entry.key (candidate-place given c in_c).key_below in
         ((λ le. grind (arith, here.none, above)), (λ lt. grind (arith, over)))
 
     its_count : count next ≡ shape.size + 1
@@ -79,16 +64,16 @@ module _ (mode : Mode) (from to : Table) (proper : IsProper from) (lists : ℕ �
 
     run-marks : AreLevelMarks Oldest (λ c d. nat_cmp (owner_count cs d) (owner_count cs c)) cs cells next near far
     run-marks = record {
-      before = λ c in_c. let tells = longer (shape.size + 1) near shape.near_is c in_c in grind (arith, nat_tests, tells.0, tells.1, its_count, count_is c in_c, count_is next in_next);
-      upto = λ c in_c. let tells = longer shape.size far shape.far_is c in_c in grind (arith, nat_tests, tells.0, tells.1, its_count, count_is c in_c, count_is next in_next);
+      before = λ c in_c. let tells = longer (shape.size + 1) near shape.near_is c in_c in grind (arith, nat_tests, tells.0, tells.1, its_count, owner_count-is given c in_c, owner_count-is given next in_next);
+      upto = λ c in_c. let tells = longer shape.size far shape.far_is c in_c in grind (arith, nat_tests, tells.0, tells.1, its_count, owner_count-is given c in_c, owner_count-is given next in_next);
     }
 
   -- round by round: what a mark lets through was written up to its round
   born : (last : ℕ) (mark : ℕ → ℕ) → ((r : ℕ) → r < from.nodes → IsRoundMark (lists r) (low r) last (mark r)) → (c : Item) → Contains cs c
       → (item_number cells c ≤ mark c.owner → c.entry.born ≤ last) × (mark c.owner < item_number cells c → last < c.entry.born)
   born last mark is c in_c =
-      let here = is c.owner (in_node c in_c) in
-      let number = number-is c in_c in
+      let here = is c.owner (candidate-place given c in_c).owner_below in
+      let number = candidate-number given c in_c in
       (here.upto (item_number cells c) c.entry number.0 number.1, here.above (item_number cells c) c.entry number.0 number.1)
 
   -- a candidate between marks of two rounds is of the later

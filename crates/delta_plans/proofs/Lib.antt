@@ -1,14 +1,10 @@
 pub mod SentSets
 pub mod Sums
 pub mod Grids
-pub mod OfferSums
-pub mod Lifts
+pub mod Candidates
 pub mod MarkedLaws
 pub mod RoundMarks
 pub mod Starts
-pub mod CandidateNumbers
-pub mod StopMarks
-pub mod Columns
 pub mod Layers
 pub mod LevelMarks
 pub mod DeltaMarks

@@ -1,6 +1,6 @@
 -- Marks of all that is offered, or of a level that was shared out.
 -- Serves `planned` and `version_tables`.
-use Rattle.delta_plans.proofs.Common.{◌≡◌, ℕ, ◌-◌, ◌<◌, ◌≤◌, true, List, length, get_or, map, inl, inr, refl, sym, ap, ◌∙◌, subst, arith, nat_tests, lt-ltb, le-leb, length-map, get_or_past, Mode, amount_of, Cells, HasNoneAbove, sum_below-le, First, Oldest, Newest, Offer, Level, by_first, first_sent, lets_through, KeepsLow, AreMarked, IsLevelOf, cells_in, low_in, high_in, marks, weights_in, weight_in, count_in, IsOffer, count_on, AreShared, weight_between, weight_through, count_all_between, one_each}
+use Rattle.delta_plans.proofs.Common.{◌≡◌, ℕ, ◌-◌, ◌<◌, ◌≤◌, true, List, length, get_or, map, inl, inr, refl, sym, ap, ◌∙◌, subst, arith, nat_tests, lt-ltb, le-leb, length-map, Mode, amount_of, Cells, HasNoneAbove, sum_below-le, First, Oldest, Newest, Offer, Level, by_first, first_sent, lets_through, KeepsLow, AreMarked, IsLevelOf, cells_in, low_in, high_in, marks, weights_in, weight_in, count_in, IsOffer, count_on, AreShared, weight_between, weight_through, count_all_between, one_each}
 
 -- fewer are between nearer marks
 count-le : (cells : Cells) (nodes keys : ℕ) (low low' high high' : ℕ → ℕ) → ((owner : ℕ) → owner < nodes → low' owner ≤ low owner) → ((owner : ℕ) → owner < nodes → HasNoneAbove cells keys owner (high' owner))
@@ -61,13 +61,10 @@ module _ {N : Type 0} (number : N → ℕ) (most : ℕ) (offer : Offer N) (is : 
       })
 
     -- and a level that was shared out
-    module _ (mode : Mode) {level : Level N} (is_level : IsLevelOf mode number offer level) (xs : List N) (size : length xs ≡ offer.nodes) {sent : ℕ}
+    module _ (mode : Mode) {level : Level N} (is_level : IsLevelOf mode number offer level) (xs : List N) {sent : ℕ}
         (shared : AreShared (first_sent mode) rotation number offer (marks number level.near.items) (marks number level.far.items) (marks number xs) sent) where
       pub sent-found : sent ≤ found
       sent-found = omega (arith, all, shared.count, count_on-le (first_sent mode) (marks number xs) shared.above)
-
-      past : (ys : List N) → length ys ≡ offer.nodes → (r : ℕ) → offer.nodes ≤ r → marks number ys r ≡ 0
-      past ys len r le = get_or_past (map number ys) r 0 (omega (arith, len, le, length-map ys number))
 
       pub share-marked : AreMarked mode rotation number offer (marks number xs) sent (found - sent)
       share-marked = record {
@@ -78,8 +75,6 @@ module _ {N : Type 0} (number : N → ℕ) (most : ℕ) (offer : Offer N) (is : 
           near = marks number level.near.items;
           far = marks number level.far.items;
           shape = is_level.shape;
-          past_near = λ r le. past xs size r le ∙ sym (past level.near.items is_level.is_level.near r le);
-          past_far = λ r le. past xs size r le ∙ sym (past level.far.items is_level.is_level.far r le);
           shared = shared;
         });
       }

@@ -118,16 +118,18 @@ module _ {N : Type 0} {number : N → ℕ} {most : ℕ} {turns : Turns N} (are :
       pub turns-shared : {stop_sent : ℕ} → IsStopFrom turns.first (weights_in offer owner) (cells_in number offer) offer.keys owner (near owner) (far owner) left to stop_sent
           → AreShared turns.first turns.rotation number offer near far next (sent + stop_sent)
       turns-shared {stop_sent} stop = record {
-        owner = owner;
-        key = stop.next.key;
-        owner_below = in_nodes;
-        key_below = stop.next.in_keys;
-        offered = offered-by turns.first (low owner) (near owner) (far owner) (cells_in number offer owner stop.next.key) level outside inside;
-        outside = outside;
-        inside = inside;
-        passed = λ r lt before. others r lt (λ same. omega (arith, before, ap (rotated offer.nodes turns.rotation) same)) ∙ so_far.passed r lt (omega (arith, before, its));
-        waiting = λ r lt later. others r lt (λ same. omega (arith, later, ap (rotated offer.nodes turns.rotation) same)) ∙ so_far.waiting r lt (omega (arith, later, its));
-        own = λ k lt _. ap (λ m. lets_through turns.first m (cells_in number offer owner k)) here ∙ tells.2 k lt ∙ ap (comes_first turns.first (cells_in number offer owner k)) (sym stop.next.is);
+        stop = record {
+          owner = owner;
+          key = stop.next.key;
+          owner_below = in_nodes;
+          key_below = stop.next.in_keys;
+          offered = offered-by turns.first (low owner) (near owner) (far owner) (cells_in number offer owner stop.next.key) level outside inside;
+          outside = outside;
+          inside = inside;
+          passed = λ r lt before. others r lt (λ same. omega (arith, before, ap (rotated offer.nodes turns.rotation) same)) ∙ so_far.passed r lt (omega (arith, before, its));
+          waiting = λ r lt later. others r lt (λ same. omega (arith, later, ap (rotated offer.nodes turns.rotation) same)) ∙ so_far.waiting r lt (omega (arith, later, its));
+          own = λ k lt _. ap (λ m. lets_through turns.first m (cells_in number offer owner k)) here ∙ tells.2 k lt ∙ ap (comes_first turns.first (cells_in number offer owner k)) (sym stop.next.is);
+        };
         above = λ r lt. elim (cases_eq r owner) [
           | inl same ↦ omega (arith, ap low same, ap next same, here, above)
           | inr other ↦ elim (cases_lt (rotated offer.nodes turns.rotation r) turn) [

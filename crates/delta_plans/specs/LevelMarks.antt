@@ -1,6 +1,6 @@
 -- A delta as marks, one for each owner: whole levels, and of the level that doesn't fit what comes before the first
 -- candidate that doesn't. Source: this project.
-use Rattle.std.specs.Prelude.{◌≡◌, ℕ, ◌+◌, ◌<◌, ◌≤◌, List, Contains, nat_lt, nat_le, Bool, if◌then◌else◌}
+use Rattle.std.specs.Prelude.{◌≡◌, ℕ, ◌+◌, ◌<◌, ◌≤◌, List, Contains, nat_lt, nat_le, Bool}
 use Rattle.std.specs.declared.cmp.Ordering.{Ordering}
 use Rattle.std.specs.declared.cmp.Ordering.TheVariants.{Less}
 use Rattle.std.specs.Ordering.{ordering_then, is_lt}
@@ -10,12 +10,9 @@ use Rattle.delta_plans.specs.declared.marked.First.{First}
 use Rattle.delta_plans.specs.declared.marked.First.TheVariants.{Oldest, Newest}
 use Rattle.bench_types.specs.declared.exchanges.Mode.{Mode}
 use Rattle.bench_types.specs.declared.exchanges.Mode.TheVariants.{ScuttleBreadth, ScuttleDepth, PreciseOldest, PreciseNewest}
-use Rattle.model.specs.Order.{rotated}
-use Rattle.model.specs.Table.{Table}
 use Rattle.owner_writes.specs.Numbered.{IsRoundMark}
-use Rattle.delta_plans.specs.Offers.{offered_sum}
 use Rattle.planes.specs.Planes.{Cells, count_above, count_between, HasNoneAbove}
-use Rattle.delta_plans.specs.Firsts.{item_number, comes_first}
+use Rattle.delta_plans.specs.Firsts.{item_number}
 
 -- which of an owner's candidates of one level a mode sends first
 abbrev pub first_sent : Mode → First
@@ -37,16 +34,6 @@ pub record AreLevelMarks (first : First) (level : Item → Item → Ordering) (c
       → lets_through first (near c.owner) (item_number cells c) ≡ is_lt (level c next)
   pub upto : (c : Item) → Contains cs c
       → lets_through first (far c.owner) (item_number cells c) ≡ is_lt (ordering_then (level c next) Less)
-
--- marks that stop at a candidate: owners whose turn is before that of its owner have the far mark, those whose turn is
--- behind the near one, and its owner's lets through what comes before it
-pub record StopAt (first : First) (nodes rotation : ℕ) (cs : List Item) (cells : Cells) (next : Item)
-    (near far mark : ℕ → ℕ) : Type 0 where
-  pub passed : (r : ℕ) → rotated nodes rotation r < rotated nodes rotation next.owner → mark r ≡ far r
-  pub waiting : (r : ℕ) → rotated nodes rotation next.owner < rotated nodes rotation r → mark r ≡ near r
-  pub own : (c : Item) → Contains cs c → c.owner ≡ next.owner
-      → lets_through first (mark c.owner) (item_number cells c)
-      ≡ comes_first first (item_number cells c) (item_number cells next)
 
 -- an owner's numbers differ from key to key
 abbrev pub NumbersDiffer : Cells → ℕ → ℕ → Type 0
@@ -93,9 +80,3 @@ HasShape ScuttleBreadth lists cells nodes keys low near far = AreLayers cells no
 HasShape ScuttleDepth lists cells nodes keys low near far = AreRuns cells nodes keys low near far
 HasShape PreciseOldest lists cells nodes keys low near far = AreRounds Oldest lists nodes low near far
 HasShape PreciseNewest lists cells nodes keys low near far = AreRounds Newest lists nodes low near far
-
--- the sizes of what marks let through of the numbers above others
-abbrev pub size_through_marks : First → Table → Cells → (ℕ → ℕ) → (ℕ → ℕ → ℕ) → (ℕ → ℕ) → ℕ
-size_through_marks first from cells low sizes mark =
-    offered_sum from cells low
-    (λ owner key. if lets_through first (mark owner) (cells owner key) then sizes owner key else 0)

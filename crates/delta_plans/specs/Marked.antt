@@ -30,14 +30,12 @@ pub record LetAll {N : Type 0} (first : First) (number : N → ℕ) (offer : Off
       → lets_through first (mark owner) (cells_in number offer owner key) ≡ true
   pub within : weight_on first number offer mark ≤ amount_of offer.budget
 
--- marks that share out the first level that doesn't fit; past the owners all marks are alike
+-- marks that share out the first level that doesn't fit
 pub record ShareLevel {N : Type 0} (mode : Mode) (rotation : ℕ) (number : N → ℕ) (offer : Offer N) (mark : ℕ → ℕ)
     (sent : ℕ) : Type 0 where
   pub near : ℕ → ℕ
   pub far : ℕ → ℕ
   pub shape : HasShapeIn mode number offer near far
-  pub past_near : (r : ℕ) → offer.nodes ≤ r → mark r ≡ near r
-  pub past_far : (r : ℕ) → offer.nodes ≤ r → mark r ≡ far r
   pub shared : AreShared (first_sent mode) rotation number offer near far mark sent
 
 -- from the newest on no mark is below the low one

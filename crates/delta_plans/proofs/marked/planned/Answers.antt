@@ -1,6 +1,5 @@
 use Rattle.delta_plans.proofs.Common.{map, ap, ◌∙◌, subst, by_first, marks, AreShared}
-use Rattle.delta_plans.proofs.OfferWeights.{over}
-use Rattle.delta_plans.proofs.MarkedLaws.{whole-size, whole-marked, sent-found, share-marked}
+use Rattle.delta_plans.proofs.MarkedLaws.{whole-marked, sent-found, share-marked}
 use Rattle.delta_plans.proofs.marked.planned.Goals as goal
 
 pub returns-then-fits-clause-marked : goal.returns-then-fits-clause-marked
@@ -15,7 +14,7 @@ overflow_sub-cut g c =
     let number = g.N.Number.number in
     let share = c.in_ok-share.share in
     let level = c.in_ok-level.level in
-    sent-found number g.N.Number.most c.args.offer.now c.requires.offer c.args.rotation c.args.found c.requires.found c.args.mode c.in_ok-level.ensures.level share.mark.items c.in_ok-share.ensures.shared.size
+    sent-found number g.N.Number.most c.args.offer.now c.requires.offer c.args.rotation c.args.found c.requires.found c.args.mode c.in_ok-level.ensures.level share.mark.items
     (subst (λ first. AreShared first c.args.rotation number c.args.offer.now (marks number level.near.items) (marks number level.far.items) (marks number share.mark.items) share.sent) c.of-first.ensures c.in_ok-share.ensures.shared.shared)
 
 pub returns-clause-marked : goal.returns-clause-marked
@@ -23,5 +22,5 @@ returns-clause-marked g c =
     let number = g.N.Number.number in
     let share = c.in_ok-share.share in
     let level = c.in_ok-level.level in
-    share-marked number g.N.Number.most c.args.offer.now c.requires.offer c.args.rotation c.args.found c.requires.found c.args.mode c.in_ok-level.ensures.level share.mark.items c.in_ok-share.ensures.shared.size
+    share-marked number g.N.Number.most c.args.offer.now c.requires.offer c.args.rotation c.args.found c.requires.found c.args.mode c.in_ok-level.ensures.level share.mark.items
     (subst (λ first. AreShared first c.args.rotation number c.args.offer.now (marks number level.near.items) (marks number level.far.items) (marks number share.mark.items) share.sent) c.of-first.ensures c.in_ok-share.ensures.shared.shared)

@@ -1,5 +1,5 @@
-use Rattle.delta_plans.proofs.Common.{◌+◌, ◌-◌, ◌<◌, sym, subst, transport, arith, AreFewAndEnough, AreRaised, IsFound}
-use Rattle.delta_plans.proofs.RoundMarks.{begun, further, nearer, rounds-raised}
+use Rattle.delta_plans.proofs.Common.{◌+◌, ◌-◌, ◌<◌, sym, subst, transport, arith, AreFewAndEnough, IsFound}
+use Rattle.delta_plans.proofs.RoundMarks.{begun, further, nearer}
 use Rattle.delta_plans.proofs.rounds.Rounds.few_rounds.Goals as goal
 use Rattle.delta_plans.proofs.rounds.Rounds.few_rounds.Goals.{then-found_there, else-found_there}
 

@@ -1,5 +1,5 @@
 use Rattle.delta_plans.proofs.Common.{◌≡◌, ◌+◌, ◌-◌, sym, ◌∙◌, subst, arith, amount_of, IfSome, marks, weights_in, IsLeftOf, weight_on, mark_of_rounds, one_each}
-use Rattle.delta_plans.proofs.RoundMarks.{let_through, rounds-raised}
+use Rattle.delta_plans.proofs.RoundMarks.{let_through}
 use Rattle.delta_plans.proofs.rounds.Rounds.left_of_few.Goals as goal
 
 pub weighed-requires-clause-count : goal.weighed-requires-clause-count

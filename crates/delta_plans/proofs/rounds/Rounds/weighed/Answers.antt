@@ -1,4 +1,4 @@
-use Rattle.delta_plans.proofs.Common.{sym, ap, ◌∙◌, transport, marks, IsLeftOf, count_on, weight_on}
+use Rattle.delta_plans.proofs.Common.{ap, ◌∙◌, marks, count_on}
 use Rattle.delta_plans.proofs.rounds.Rounds.weighed.Goals as goal
 
 pub left_of-requires : goal.left_of-requires

@@ -1,5 +1,5 @@
 use Rattle.delta_plans.proofs.Common.{◌+◌, set, ap, ◌∙◌, arith, length-set, marks, parts_count}
-use Rattle.delta_plans.proofs.TurnSteps.{turns-same, some-next, put-here, put-other, count_on-few}
+use Rattle.delta_plans.proofs.TurnSteps.{some-next, put-here, put-other, count_on-few}
 use Rattle.delta_plans.proofs.sharing.Turns.pass_some.Goals as goal
 
 pub loop-i-preserved : goal.loop-i-preserved

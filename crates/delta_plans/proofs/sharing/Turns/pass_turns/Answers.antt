@@ -1,6 +1,6 @@
-use Rattle.delta_plans.proofs.Common.{length, set, sym, ap, ◌∙◌, subst, arith, length-set, cells_in, marks, AreTurnsPassed}
+use Rattle.delta_plans.proofs.Common.{set, ap, ◌∙◌, arith, length-set, cells_in, marks}
 use Rattle.delta_plans.proofs.StopSteps.{few-from}
-use Rattle.delta_plans.proofs.TurnSteps.{turns-first, turns-next, turns-end, put-here, put-other, count_on-few}
+use Rattle.delta_plans.proofs.TurnSteps.{turns-next, turns-end, put-here, put-other, count_on-few}
 use Rattle.delta_plans.proofs.sharing.Turns.pass_turns.Goals as goal
 
 pub loop-turn-preserved : goal.loop-turn-preserved

@@ -1,5 +1,5 @@
 use Rattle.delta_plans.proofs.Common.{ap, ◌∙◌, arith, cells_in, nearer_beyond}
-use Rattle.delta_plans.proofs.StopSteps.{next-first, next-nearer, next-found}
+use Rattle.delta_plans.proofs.StopSteps.{next-nearer, next-found}
 use Rattle.delta_plans.proofs.stops.Part.nearest.Goals as goal
 
 pub loop-key-preserved : goal.loop-key-preserved

@@ -1,5 +1,5 @@
 use Rattle.delta_plans.proofs.Common.{arith, cells_in, weights_in}
-use Rattle.delta_plans.proofs.StopSteps.{past-rest, some-next, few-from, stop-first, stop-more, stop-next, stop-found}
+use Rattle.delta_plans.proofs.StopSteps.{past-rest, some-next, few-from, stop-first, stop-more, stop-next}
 use Rattle.delta_plans.proofs.stops.Part.stop_from.Goals as goal
 
 pub next-next-requires-clause-some : goal.next-next-requires-clause-some

@@ -1,0 +1,119 @@
+-- Candidates by their numbers, and sums over them.
+-- Serves `DeltaMarks`, `LevelMarks` and `version_tables`.
+use Rattle.delta_plans.proofs.Common.{◌≡◌, ℕ, ◌<◌, true, cond, eqb, ltb, List, Some, None, inl, inr, refl, sym, ap, ◌∙◌, subst, arith, nat_tests, ◌&&◌, Contains, sum_by, cases_lt, cases_eq, le-ltb, both_ways, same_Some, Entry, Item, Mode, Table, entry_at, items_of, generation_held, IsProper, IsInPlace, Contains-items_of, entry_at-items_of, Contains-filter, Contains-kept, candidates, rank_among, owner_count, sum_below, sum_below-same, IsHistory, write_numbered, Cells, count_above, versions-rise, number-of_version, number_here, number_there, Offers, is_lacked, item_number, offered_sum, rank_above}
+use Rattle.delta_plans.proofs.Grids.{candidates_sum}
+use Rattle.delta_plans.proofs.Sums.{sum_below-none, sum_below-one, where_true}
+
+-- what a proper table offers another one, told by numbers of its owners' writes
+pub record IsOffered (mode : Mode) (from to : Table) (lists : ℕ → List Entry) (cells : Cells) (low : ℕ → ℕ) : Type 0 where
+  pub proper : IsProper from
+  pub histories : (owner : ℕ) → IsHistory (lists owner)
+  pub offers : Offers mode from to lists cells low
+
+module _ {mode : Mode} {from to : Table} {lists : ℕ → List Entry} {cells : Cells} {low : ℕ → ℕ} (given : IsOffered mode from to lists cells low) where
+  abbrev cs : List Item
+  cs = candidates mode from to
+
+  candidate-held : (c : Item) → Contains cs c → (entry_at from c.owner c.entry.key ≡ Some c.entry) × (is_lacked mode to c ≡ true)
+  candidate-held c there =
+      let kept = Contains-kept (is_lacked mode to) (items_of from) c there in
+      (entry_at-items_of from c given.proper kept.0, kept.1)
+
+  -- a candidate's owner and key are of the sender's
+  pub candidate-place : (c : Item) → Contains cs c → IsInPlace from.nodes from.keys c.owner c.entry.key c.entry
+  candidate-place c there = given.proper.in_place c.owner c.entry.key c.entry (candidate-held c there).0
+
+  -- it is the write of its number, which is above the owner's mark
+  pub candidate-number : (c : Item) → Contains cs c → (low c.owner < item_number cells c) × (write_numbered (lists c.owner) (item_number cells c) ≡ Some c.entry)
+  candidate-number c there = elim (cases_lt (low c.owner) (item_number cells c)) [
+    | inl above ↦
+        let place = candidate-place c there in
+        let offered = given.offers.above c.owner c.entry.key place.owner_below place.key_below above in
+        (above, offered.2 ∙ ap Some (same_Some offered.0 c.entry (sym offered.1 ∙ held.0)))
+    | inr not_above ↦ absurd (both_ways (is_lacked mode to c) (given.offers.below c.owner c.entry.key c.entry held.0 (omega (arith, not_above))) held.1)
+  ]
+    where
+      held : (entry_at from c.owner c.entry.key ≡ Some c.entry) × (is_lacked mode to c ≡ true)
+      held = candidate-held c there
+
+  -- each number above its owner's mark is that of a candidate
+  pub candidate-at : (owner key : ℕ) → owner < from.nodes → key < from.keys → low owner < cells owner key → (e : Entry) × (entry_at from owner key ≡ Some e) × Contains cs (record { owner = owner; entry = e })
+  candidate-at owner key in_nodes in_keys lt =
+      let found = given.offers.above owner key in_nodes in_keys lt in
+      (found.0, found.1, Contains-filter (is_lacked mode to) (items_of from) (record { owner = owner; entry = found.0 }) (Contains-items_of from owner key found.0 found.1) found.3)
+
+  -- two candidates of one owner
+  module _ (c d : Item) (in_c : Contains cs c) (in_d : Contains cs d) (owners : c.owner ≡ d.owner) where
+    other_number : write_numbered (lists c.owner) (item_number cells d) ≡ Some d.entry
+    other_number = subst (λ o. write_numbered (lists o) (item_number cells d) ≡ Some d.entry) (sym owners) (candidate-number d in_d).1
+
+    alike : c.entry.generation ≡ d.entry.generation
+    alike =
+        given.proper.copies c.owner c.entry.key c.entry (candidate-held c in_c).0
+        ∙ ap (generation_held from) owners
+        ∙ sym (given.proper.copies d.owner d.entry.key d.entry (candidate-held d in_d).0)
+
+    pub one_item : item_number cells c ≡ item_number cells d → c ≡ d
+    one_item same =
+        let entries : c.entry ≡ d.entry = same_Some c.entry d.entry (sym (candidate-number c in_c).1 ∙ ap (write_numbered (lists c.owner)) same ∙ other_number) in
+        λ i. record { owner = owners i; entry = entries i }
+
+    -- versions rise with the numbers
+    pub older : item_number cells c < item_number cells d → c.entry.version < d.entry.version
+    older = versions-rise (lists c.owner) (given.histories c.owner) (item_number cells c) (item_number cells d) c.entry d.entry (candidate-number c in_c).1 other_number alike
+
+    newer : c.entry.version < d.entry.version → item_number cells c < item_number cells d
+    newer = number-of_version (lists c.owner) (given.histories c.owner) (item_number cells c) (item_number cells d) c.entry d.entry (candidate-number c in_c).1 other_number alike
+
+  -- what a candidate's place tells of it sums up over the places of numbers above the marks
+  pub offered-sum : (f : Item → ℕ) (g : ℕ → ℕ → ℕ) → ((c : Item) → Contains cs c → f c ≡ g c.owner c.entry.key) → sum_by f cs ≡ offered_sum from cells low g
+  offered-sum f g told =
+      candidates_sum mode from to given.proper f
+      ∙ sum_below-same from.nodes _ _ (λ owner in_nodes. sum_below-same from.keys _ _ (λ key in_keys. at owner key in_nodes in_keys))
+    where
+      at : (owner key : ℕ) → owner < from.nodes → key < from.keys → number_there (λ i. cond (is_lacked mode to i) (f i) 0) from owner key ≡ cond (ltb (low owner) (cells owner key)) (g owner key) 0
+      at owner key in_nodes in_keys = elim (cases_lt (low owner) (cells owner key)) [
+        | inl above ↦
+            let there = candidate-at owner key in_nodes in_keys above in
+            let i : Item = record { owner = owner; entry = there.0 } in
+            let here = ap (number_here (λ i. cond (is_lacked mode to i) (f i) 0) owner) there.1 in
+            let is = told i there.2 ∙ ap (g owner) (given.proper.in_place owner key there.0 there.1).keyed in
+            grind (arith, nat_tests, here, is, (candidate-held i there.2).1)
+        | inr not_above ↦
+            elim (entry_at from owner key) as (λ o. entry_at from owner key ≡ o → number_here (λ i. cond (is_lacked mode to i) (f i) 0) owner o ≡ 0) [
+              | None ↦ λ _. refl
+              | Some e ↦ λ held. ap (λ b. cond b (f (record { owner = owner; entry = e })) 0) (given.offers.below owner key e held (omega (arith, not_above)))
+            ] refl
+            ∙ ap (λ b. cond b (g owner key) 0) (sym (le-ltb (low owner) (cells owner key) (omega (arith, not_above))))
+      ]
+
+  module _ (c : Item) (in_c : Contains cs c) where
+    -- a number of one owner's places alone
+    of_owner : (g : ℕ → ℕ) → offered_sum from cells low (λ owner key. cond (eqb owner c.owner) (g key) 0) ≡ sum_below from.keys (λ key. cond (ltb (low c.owner) (cells c.owner key)) (g key) 0)
+    of_owner g =
+        sum_below-one from.nodes c.owner _ (candidate-place c in_c).owner_below (λ owner lt other. sum_below-none from.keys _ (λ key lt'. grind (arith, nat_tests)))
+        ∙ sum_below-same from.keys _ _ (λ key lt. grind (arith, nat_tests))
+
+    -- how many candidates its owner has
+    pub owner_count-is : owner_count cs c ≡ count_above cells from.keys c.owner (low c.owner)
+    owner_count-is = offered-sum (λ d. cond (eqb d.owner c.owner) 1 0) (λ owner key. cond (eqb owner c.owner) 1 0) (λ d in_d. refl) ∙ of_owner (λ _. 1)
+
+    -- and how many of them come before it by version
+    pub rank_among-is : rank_among cs c ≡ rank_above cells from.keys c.owner (low c.owner) (item_number cells c)
+    rank_among-is =
+        offered-sum (λ d. cond (eqb d.owner c.owner && ltb d.entry.version c.entry.version) 1 0)
+        (λ owner key. cond (eqb owner c.owner) (cond (ltb (cells owner key) (item_number cells c)) 1 0) 0) told
+        ∙ sum_below-same from.nodes _ _ (λ owner lt. sum_below-same from.keys _ _ (λ key lt'. same_owner owner key))
+        ∙ of_owner (λ key. cond (ltb (cells c.owner key) (item_number cells c)) 1 0)
+      where
+        same_owner : (owner key : ℕ) → where_true (ltb (low owner) (cells owner key)) (where_true (eqb owner c.owner) (where_true (ltb (cells owner key) (item_number cells c)) 1)) ≡ where_true (ltb (low owner) (cells owner key)) (where_true (eqb owner c.owner) (where_true (ltb (cells c.owner key) (item_number cells c)) 1))
+        same_owner owner key = elim (cases_eq owner c.owner) [
+          | inl same ↦ let alike = ap (λ o. cells o key) same in grind (arith, nat_tests)
+          | inr other ↦ grind (arith, nat_tests)
+        ]
+
+        told : (d : Item) → Contains cs d → where_true (eqb d.owner c.owner && ltb d.entry.version c.entry.version) 1 ≡ where_true (eqb d.owner c.owner) (where_true (ltb (item_number cells d) (item_number cells c)) 1)
+        told d in_d = elim (cases_eq d.owner c.owner) [
+          | inr other ↦ grind (arith, nat_tests)
+          | inl same ↦ let rise = older d c in_d in_c same in let fall = newer d c in_d in_c same in grind (arith, nat_tests)
+        ]

@@ -60,7 +60,7 @@ pub use Rattle.delta_plans.specs.SentSets.{DeltasHaveTheirSets, EndsBefore, HasA
 pub use Rattle.delta_plans.specs.Sharing.{AreShared, StopAt}
 pub use Rattle.delta_plans.specs.Stops.{AnswersNearer, HasBetween, HasNext, IsBeyond, IsNext, IsOn, IsPast, IsStopFrom, nearer_beyond}
 pub use Rattle.delta_plans.specs.Told.{IsKnown}
-pub use Rattle.delta_plans.specs.Turns.{AreKnownFor, AreSharedBy, AreTurns, AreTurnsPassed, HasReached, HasTurn, HaveTurns, part_weight, parts_count}
+pub use Rattle.delta_plans.specs.Turns.{AreKnownFor, AreSharedBy, AreTurns, HasReached, HasTurn, HaveTurns, part_weight, parts_count, reached_after}
 pub use Rattle.delta_plans.specs.Weights.{count_all_between, number_share, number_shares, one_each, share_or_none, weight_between, weight_from, weight_of, weight_through}
 pub use Rattle.delta_plans.specs.declared.marked.First.{First}
 pub use Rattle.delta_plans.specs.declared.marked.First.TheVariants.{Newest, Oldest}

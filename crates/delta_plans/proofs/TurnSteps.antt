@@ -1,7 +1,8 @@
 -- The owners' turns in a level.
 -- Serves the functions of `rounds` and `sharing` and `RoundMarks`.
-use Rattle.delta_plans.proofs.Common.{◌≡◌, ◌≢◌, ℕ, suc, ◌+◌, ◌-◌, ◌*◌, ◌<◌, ◌≤◌, true, false, List, length, get_or, set, map, inl, inr, refl, sym, ap, ◌∙◌, subst, transport, arith, nat_tests, get_or-set_same, get_or-set_other, length-map, map-set, Entries, MOST_NODES, MOST_KEYS, MOST_ENTRY_SIZE, cases_lt, cases_eq, all_writes, Cells, HasNoneAbove, sum_below-same, sum_below-plus, rotated, rotated-injective, rotated-is, write_numbered, First, Oldest, Newest, Offer, Reached, Turns, by_first, comes_first, cells_in, low_in, high_in, marks, weights_in, IsOffer, count_on, AreFarther, lets_through, AreShared, IsNext, IsOn, IsStopFrom, part_weight, parts_count, AreTurns, AreTurnsPassed, HasTurn, HaveTurns, weight_of, weight_from, weight_through, one_each}
+use Rattle.delta_plans.proofs.Common.{◌≡◌, ◌≢◌, ℕ, suc, ◌+◌, ◌-◌, ◌*◌, ◌<◌, ◌≤◌, true, false, List, length, get_or, set, map, inl, inr, refl, sym, ap, ◌∙◌, subst, transport, arith, nat_tests, get_or-set_same, get_or-set_other, length-map, map-set, Entries, MOST_NODES, MOST_KEYS, MOST_ENTRY_SIZE, cases_lt, cases_eq, all_writes, Cells, HasNoneAbove, sum_below-same, sum_below-plus, rotated, rotated-injective, rotated-is, write_numbered, First, Oldest, Newest, Offer, Reached, Turns, by_first, comes_first, cells_in, low_in, high_in, marks, weights_in, IsOffer, count_on, AreFarther, lets_through, AreShared, IsNext, IsOn, IsStopFrom, part_weight, parts_count, AreTurns, HasReached, AreSharedBy, reached_after, length-set, HasTurn, HaveTurns, weight_of, weight_from, weight_through, one_each}
 use Rattle.delta_plans.proofs.Sums.{sum_below-changed, sum_below-longer}
+use Rattle.delta_plans.proofs.StopSteps.{few-from}
 use Rattle.delta_plans.proofs.WeightLaws.{part, weight_of-split, weight_of-same, weight_of-most, number_share-one}
 use Rattle.delta_plans.proofs.OfferWeights.{offer-few, share-most}
 
@@ -39,6 +40,11 @@ module _ (weights : ℕ → ℕ → ℕ) (cells : Cells) (nodes keys : ℕ) (low
         sum_below-changed nodes owner _ _ _ in_nodes (λ r lt ne. ap (λ m. weight_of (weights r) cells keys r m (high r)) (others r lt ne))
         (split-covered (weights owner) cells keys owner (next owner) (mark owner) (high owner) ordered.2 covered)
 
+-- so many at most
+pub count_on-few : {N : Type 0} (first : First) (number : N → ℕ) (most : ℕ) (offer : Offer N) → IsOffer number most offer → (mark : ℕ → ℕ) → count_on first number offer mark ≤ MOST_NODES * MOST_KEYS
+count_on-few first number most offer is mark =
+    offer-few number most offer is (λ owner. by_first first (low_in number offer owner) (mark owner)) (λ owner. by_first first (mark owner) (high_in number offer owner))
+
 -- the marks of a level as they are
 above-low : (first : First) (low near far mark : ℕ) → AreFarther first low near far → IsOn first near mark → IsOn first mark far → low ≤ mark
 above-low Oldest low near far mark level on upto = omega (arith, level.0, on)
@@ -61,91 +67,115 @@ module _ {N : Type 0} {number : N → ℕ} {most : ℕ} {turns : Turns N} (are :
   abbrev far : ℕ → ℕ
   far = marks number turns.level.now.far.items
 
-  -- before the first turn
-  pub turns-first : AreTurnsPassed number turns near 0 turns.level.now.left turns.level.now.whole
-  turns-first = record { passed = λ r lt before. absurd (omega (arith, before)); waiting = λ r lt _. refl; left = are.level.left; count = are.level.whole }
+  -- an owner's part has no more numbers than there are keys
+  pub part-few : (owner : ℕ) → part_weight number (λ _. 1) turns owner ≤ MOST_KEYS
+  part-few owner = omega (arith, few-from (cells_in number offer) offer.keys owner turns.first (near owner) (far owner), are.offer.grid.few_keys)
 
-  module _ {mark : ℕ → ℕ} {turn left sent : ℕ} (so_far : AreTurnsPassed number turns mark turn left sent) where
+  module _ {mark : List N} {reached : Reached} (so_far : HasReached number turns mark reached) where
+    -- so many numbers at most
+    pub turns-few : reached.sent ≤ MOST_NODES * MOST_KEYS
+    turns-few = omega (arith, so_far.count, count_on-few turns.first number most offer are.offer (marks number mark))
+
     -- not all owners have their turns
-    pub turns-end : offer.nodes ≤ turn → ⊥
+    pub turns-end : offer.nodes ≤ reached.turn → ⊥
     turns-end all =
         omega (
           arith,
           so_far.left,
           are.level.beyond,
-          through-same (weights_in offer) (cells_in number offer) offer.nodes offer.keys low (high_in number offer) far mark turns.first (λ r lt. so_far.passed r lt (omega (arith, all, rotated-below r lt))),
+          through-same (weights_in offer) (cells_in number offer) offer.nodes offer.keys low (high_in number offer) far (marks number mark) turns.first
+              (λ r lt. so_far.passed r lt (omega (arith, all, rotated-below r lt))),
         )
       where
         rotated-below : (r : ℕ) → r < offer.nodes → rotated offer.nodes turns.rotation r < offer.nodes
         rotated-below r lt = elim (rotated-is offer.nodes turns.rotation r are.rotation lt) [ inl a ↦ omega (arith, a.0, a.1, lt) | inr a ↦ omega (arith, a.0, a.1, are.rotation, lt) ]
 
     -- one more owner's mark goes on
-    module _ {owner : ℕ} (in_nodes : owner < offer.nodes) (its : rotated offer.nodes turns.rotation owner ≡ turn) (to : ℕ) (next : ℕ → ℕ) (here : next owner ≡ to) (others : (r : ℕ) → r < offer.nodes → r ≢ owner → next r ≡ mark r) where
-      grown : AreFarther turns.first (low owner) (near owner) to → (weights : ℕ → ℕ → ℕ)
+    module _ {owner : ℕ} (in_nodes : owner < offer.nodes) (its : rotated offer.nodes turns.rotation owner ≡ reached.turn) (to : N) where
+      abbrev next : ℕ → ℕ
+      next = marks number (set mark owner to)
+
+      here : next owner ≡ number to
+      here =
+          ap (λ ys. get_or ys owner 0) (map-set number mark owner to)
+          ∙ get_or-set_same (map number mark) owner (number to) 0 (omega (arith, in_nodes, so_far.size, length-map mark number))
+
+      others : (r : ℕ) → r ≢ owner → next r ≡ marks number mark r
+      others r other = ap (λ ys. get_or ys r 0) (map-set number mark owner to) ∙ get_or-set_other (map number mark) owner r (number to) 0 other
+
+      grown : AreFarther turns.first (low owner) (near owner) (number to) → (weights : ℕ → ℕ → ℕ)
           → weight_through turns.first weights (cells_in number offer) offer.nodes offer.keys low (high_in number offer) next
-          ≡ weight_through turns.first weights (cells_in number offer) offer.nodes offer.keys low (high_in number offer) mark + weight_from turns.first (weights owner) (cells_in number offer) offer.keys owner (near owner) to
+          ≡ weight_through turns.first weights (cells_in number offer) offer.nodes offer.keys low (high_in number offer) (marks number mark)
+          + weight_from turns.first (weights owner) (cells_in number offer) offer.keys owner (near owner) (number to)
       grown ordered weights =
-          through-changed weights (cells_in number offer) offer.nodes offer.keys low (high_in number offer) mark next owner in_nodes others turns.first (are.offer.covered owner in_nodes)
+          through-changed weights (cells_in number offer) offer.nodes offer.keys low (high_in number offer) (marks number mark) next owner in_nodes
+          (λ r lt. others r) turns.first (are.offer.covered owner in_nodes)
           (transport (λ i. AreFarther turns.first (low owner) (sym from_near i) (sym here i)) ordered)
-          ∙ (λ i. weight_through turns.first weights (cells_in number offer) offer.nodes offer.keys low (high_in number offer) mark + weight_from turns.first (weights owner) (cells_in number offer) offer.keys owner (from_near i) (here i))
+          ∙ (λ i. weight_through turns.first weights (cells_in number offer) offer.nodes offer.keys low (high_in number offer) (marks number mark)
+          + weight_from turns.first (weights owner) (cells_in number offer) offer.keys owner (from_near i) (here i))
         where
-          from_near : mark owner ≡ near owner
+          from_near : marks number mark owner ≡ near owner
           from_near = so_far.waiting owner in_nodes (omega (arith, its))
 
       -- all the way
-      pub turns-next : {weight count : ℕ} → weight ≤ left → weight ≡ part_weight number (weights_in offer owner) turns owner → count ≡ part_weight number (λ _. 1) turns owner → to ≡ far owner
-          → AreTurnsPassed number turns next (turn + 1) (left - weight) (sent + count)
-      turns-next {weight} {count} fits weighs counts to_far = record {
+      pub turns-next : {weight count : ℕ} → weight ≤ reached.left → weight ≡ part_weight number (weights_in offer owner) turns owner
+          → count ≡ part_weight number (λ _. 1) turns owner → number to ≡ far owner
+          → HasReached number turns (set mark owner to) (record { turn = reached.turn + 1; left = reached.left - weight; sent = reached.sent + count })
+      turns-next fits weighs counts to_far = record {
+        size = length-set mark owner to ∙ so_far.size;
         passed = λ r lt before. elim (cases_eq r owner) [
           | inl same ↦ ap next same ∙ here ∙ to_far ∙ ap far (sym same)
-          | inr other ↦ others r lt other ∙ so_far.passed r lt (elim (cases_lt (rotated offer.nodes turns.rotation r) turn) [
+          | inr other ↦ others r other ∙ so_far.passed r lt (elim (cases_lt (rotated offer.nodes turns.rotation r) reached.turn) [
             | inl earlier ↦ earlier
             | inr not_earlier ↦ absurd (other (rotated-injective offer.nodes turns.rotation r owner are.rotation lt in_nodes (omega (arith, its, before, not_earlier))))
           ])
         ];
-        waiting = λ r lt later. others r lt (λ same. omega (arith, its, later, ap (rotated offer.nodes turns.rotation) same)) ∙ so_far.waiting r lt (omega (arith, later));
+        waiting = λ r lt later. others r (λ same. omega (arith, its, later, ap (rotated offer.nodes turns.rotation) same)) ∙ so_far.waiting r lt (omega (arith, later));
         left = omega (arith, so_far.left, fits, weighs, grown ordered (weights_in offer), part-to (weights_in offer owner));
         count = omega (arith, so_far.count, counts, grown ordered one_each, part-to (λ _. 1));
       }
         where
-          ordered : AreFarther turns.first (low owner) (near owner) to
+          ordered : AreFarther turns.first (low owner) (near owner) (number to)
           ordered = subst (AreFarther turns.first (low owner) (near owner)) (sym to_far) (are.level.farther owner in_nodes)
 
-          part-to : (weight : ℕ → ℕ) → weight_from turns.first weight (cells_in number offer) offer.keys owner (near owner) to ≡ part_weight number weight turns owner
+          part-to : (weight : ℕ → ℕ) → weight_from turns.first weight (cells_in number offer) offer.keys owner (near owner) (number to) ≡ part_weight number weight turns owner
           part-to weight = ap (weight_from turns.first weight (cells_in number offer) offer.keys owner (near owner)) to_far
 
       -- or it stops at a number
-      pub turns-shared : {stop_sent : ℕ} → IsStopFrom turns.first (weights_in offer owner) (cells_in number offer) offer.keys owner (near owner) (far owner) left to stop_sent
-          → AreShared turns.first turns.rotation number offer near far next (sent + stop_sent)
+      pub turns-shared : {stop_sent : ℕ} → IsStopFrom turns.first (weights_in offer owner) (cells_in number offer) offer.keys owner (near owner) (far owner) reached.left (number to) stop_sent
+          → AreSharedBy number turns (set mark owner to) (reached.sent + stop_sent)
       turns-shared {stop_sent} stop = record {
-        stop = record {
-          owner = owner;
-          key = stop.next.key;
-          owner_below = in_nodes;
-          key_below = stop.next.in_keys;
-          offered = offered-by turns.first (low owner) (near owner) (far owner) (cells_in number offer owner stop.next.key) level outside inside;
-          outside = outside;
-          inside = inside;
-          passed = λ r lt before. others r lt (λ same. omega (arith, before, ap (rotated offer.nodes turns.rotation) same)) ∙ so_far.passed r lt (omega (arith, before, its));
-          waiting = λ r lt later. others r lt (λ same. omega (arith, later, ap (rotated offer.nodes turns.rotation) same)) ∙ so_far.waiting r lt (omega (arith, later, its));
-          own = λ k lt _. ap (λ m. lets_through turns.first m (cells_in number offer owner k)) here ∙ tells.2 k lt ∙ ap (comes_first turns.first (cells_in number offer owner k)) (sym stop.next.is);
+        size = length-set mark owner to ∙ so_far.size;
+        shared = record {
+          stop = record {
+            owner = owner;
+            key = stop.next.key;
+            owner_below = in_nodes;
+            key_below = stop.next.in_keys;
+            offered = offered-by turns.first (low owner) (near owner) (far owner) (cells_in number offer owner stop.next.key) level outside inside;
+            outside = outside;
+            inside = inside;
+            passed = λ r lt before. others r (λ same. omega (arith, before, ap (rotated offer.nodes turns.rotation) same)) ∙ so_far.passed r lt (omega (arith, before, its));
+            waiting = λ r lt later. others r (λ same. omega (arith, later, ap (rotated offer.nodes turns.rotation) same)) ∙ so_far.waiting r lt (omega (arith, later, its));
+            own = λ k lt _. ap (λ m. lets_through turns.first m (cells_in number offer owner k)) here ∙ tells.2 k lt ∙ ap (comes_first turns.first (cells_in number offer owner k)) (sym stop.next.is);
+          };
+          above = λ r lt. elim (cases_eq r owner) [
+            | inl same ↦ omega (arith, ap low same, ap next same, here, above)
+            | inr other ↦ elim (cases_lt (rotated offer.nodes turns.rotation r) reached.turn) [
+              | inl before ↦ omega (arith, others r other, so_far.passed r lt before, (are.level.farther r lt).1)
+              | inr later ↦ omega (arith, others r other, so_far.waiting r lt (omega (arith, later)), (are.level.farther r lt).0)
+            ]
+          ];
+          count = omega (arith, so_far.count, stop.count, grown ordered one_each);
+          within = omega (arith, so_far.left, stop.within, grown ordered (weights_in offer));
+          beyond = omega (arith, so_far.left, stop.beyond, grown ordered (weights_in offer), ap (weights_in offer owner) stop.next.is);
         };
-        above = λ r lt. elim (cases_eq r owner) [
-          | inl same ↦ omega (arith, ap low same, ap next same, here, above)
-          | inr other ↦ elim (cases_lt (rotated offer.nodes turns.rotation r) turn) [
-            | inl before ↦ omega (arith, others r lt other, so_far.passed r lt before, (are.level.farther r lt).1)
-            | inr later ↦ omega (arith, others r lt other, so_far.waiting r lt (omega (arith, later)), (are.level.farther r lt).0)
-          ]
-        ];
-        count = omega (arith, so_far.count, stop.count, grown ordered one_each);
-        within = omega (arith, so_far.left, stop.within, grown ordered (weights_in offer));
-        beyond = omega (arith, so_far.left, stop.beyond, grown ordered (weights_in offer), ap (weights_in offer owner) stop.next.is);
       }
         where
           level : AreFarther turns.first (low owner) (near owner) (far owner)
           level = are.level.farther owner in_nodes
 
-          tells : IsStopTold turns.first (cells_in number offer) offer.keys owner (near owner) to (far owner) stop.number
+          tells : IsStopTold turns.first (cells_in number offer) offer.keys owner (near owner) (number to) (far owner) stop.number
           tells = stop-tells turns.first (near owner) stop.next stop.on
 
           outside : lets_through turns.first (near owner) (cells_in number offer owner stop.next.key) ≡ false
@@ -154,10 +184,10 @@ module _ {N : Type 0} {number : N → ℕ} {most : ℕ} {turns : Turns N} (are :
           inside : lets_through turns.first (far owner) (cells_in number offer owner stop.next.key) ≡ true
           inside = ap (lets_through turns.first (far owner)) stop.next.is ∙ tells.1
 
-          above : low owner ≤ to
-          above = above-low turns.first (low owner) (near owner) (far owner) to level stop.on tells.3
+          above : low owner ≤ number to
+          above = above-low turns.first (low owner) (near owner) (far owner) (number to) level stop.on tells.3
 
-          ordered : AreFarther turns.first (low owner) (near owner) to
+          ordered : AreFarther turns.first (low owner) (near owner) (number to)
           ordered = (level.0, above, stop.on)
 
 module _ {N : Type 0} {number : N → ℕ} {most : ℕ} {turns : Turns N} {owner : ℕ} (has : HasTurn number most turns owner) where
@@ -188,36 +218,21 @@ pub turns-in_row : {N : Type 0} (turns : Turns N) (turn owner size : ℕ) → tu
 turns-in_row turns turn owner size in_rotation its in_nodes in_turns i lt =
     grind (arith, its, in_nodes, in_turns, rotated-is turns.offer.now.nodes turns.rotation owner in_rotation (omega (arith, in_nodes, lt)), rotated-is turns.offer.now.nodes turns.rotation (owner + i) in_rotation (omega (arith, in_nodes, lt)))
 
--- what is passed, in other words
-pub turns-same : {N : Type 0} {number : N → ℕ} {turns : Turns N} {mark : ℕ → ℕ} {turn turn2 left left2 sent sent2 : ℕ} → AreTurnsPassed number turns mark turn left sent
-    → turn ≡ turn2 → left ≡ left2 → sent ≡ sent2 → AreTurnsPassed number turns mark turn2 left2 sent2
-turns-same {number} {turns} {mark} so_far turn left sent = transport (λ i. AreTurnsPassed number turns mark (turn i) (left i) (sent i)) so_far
+-- what is reached, in other words
+pub turns-same : {N : Type 0} {number : N → ℕ} {turns : Turns N} {mark : List N} {reached other : Reached} → HasReached number turns mark reached
+    → reached.turn ≡ other.turn → reached.left ≡ other.left → reached.sent ≡ other.sent → HasReached number turns mark other
+turns-same {number} {turns} {mark} so_far turn left sent =
+    transport (λ i. HasReached number turns mark (record { turn = turn i; left = left i; sent = sent i })) so_far
 
 -- one more of the owners that are next
 pub some-next : {N : Type 0} {number : N → ℕ} {most : ℕ} {turns : Turns N} {reached : Reached} {owner size count : ℕ} → HaveTurns number most turns reached owner size count
-    → {mark : ℕ → ℕ} (i : ℕ) → i < size → AreTurnsPassed number turns mark (reached.turn + i) (reached.left - parts_count number turns owner i) (reached.sent + parts_count number turns owner i)
-    → (to : ℕ) (next : ℕ → ℕ) → next (owner + i) ≡ to → ((r : ℕ) → r < turns.offer.now.nodes → r ≢ owner + i → next r ≡ mark r) → to ≡ marks number turns.level.now.far.items (owner + i)
-    → AreTurnsPassed number turns next (reached.turn + (i + 1)) (reached.left - parts_count number turns owner (i + 1)) (reached.sent + parts_count number turns owner (i + 1))
-some-next {number} {turns} {owner} {size} have i lt so_far to next here others to_far =
+    → {mark : List N} (i : ℕ) → i < size → HasReached number turns mark (reached_after number turns reached owner i)
+    → (to : N) → number to ≡ marks number turns.level.now.far.items (owner + i)
+    → HasReached number turns (set mark (owner + i) to) (reached_after number turns reached owner (i + 1))
+some-next {number} {turns} {owner} {size} have i lt so_far to to_far =
     let in_nodes : owner + i < turns.offer.now.nodes = omega (arith, have.in_nodes, lt) in
     let more = ap (parts_count number turns owner) {x = i + 1} {y = suc i} (omega arith) in
     let fits = sum_below-longer (λ j. part_weight number (λ _. 1) turns (owner + j)) (i + 1) size (omega (arith, lt)) in
-    let passed =
-    turns-next have.are so_far in_nodes (have.next i lt) to next here others (omega (arith, fits, have.fits, have.sum, more)) (part-entries (record { are = have.are; in_nodes = in_nodes }) have.entries have.counted) refl to_far
-    in
+    let entries = part-entries (record { are = have.are; in_nodes = in_nodes }) have.entries have.counted in
+    let passed = turns-next have.are so_far in_nodes (have.next i lt) to (omega (arith, fits, have.fits, have.sum, more)) entries refl to_far in
     turns-same passed (omega arith) (omega (arith, more)) (omega (arith, more))
-
--- marks of which one is put
-module _ {N : Type 0} (number : N → ℕ) (xs : List N) (i : ℕ) (x : N) where
-  pub put-here : i < length xs → marks number (set xs i x) i ≡ number x
-  put-here lt =
-      ap (λ ys. get_or ys i 0) (map-set number xs i x)
-      ∙ get_or-set_same (map number xs) i (number x) 0 (omega (arith, lt, length-map xs number))
-
-  pub put-other : (r : ℕ) → r ≢ i → marks number (set xs i x) r ≡ marks number xs r
-  put-other r other = ap (λ ys. get_or ys r 0) (map-set number xs i x) ∙ get_or-set_other (map number xs) i r (number x) 0 other
-
--- so many at most
-pub count_on-few : {N : Type 0} (first : First) (number : N → ℕ) (most : ℕ) (offer : Offer N) → IsOffer number most offer → (mark : ℕ → ℕ) → count_on first number offer mark ≤ MOST_NODES * MOST_KEYS
-count_on-few first number most offer is mark =
-    offer-few number most offer is (λ owner. by_first first (low_in number offer owner) (mark owner)) (λ owner. by_first first (mark owner) (high_in number offer owner))

@@ -1,5 +1,5 @@
 -- The owners' turns in a level, from the rotation on. Source: this project.
-use Rattle.std.specs.Prelude.{◌≡◌, ◌⊎◌, ℕ, ◌+◌, ◌<◌, ◌≤◌, List, length, map}
+use Rattle.std.specs.Prelude.{◌≡◌, ◌⊎◌, ℕ, ◌+◌, ◌-◌, ◌<◌, ◌≤◌, List, length, map}
 use Rattle.bench_types.specs.Budget.{amount_of}
 use Rattle.bench_types.specs.Sums.{sum_below}
 use Rattle.bench_types.specs.declared.exchanges.Budget.TheVariants.{Entries}
@@ -57,19 +57,25 @@ pub record AreSharedBy {N : Type 0} (number : N → ℕ) (turns : Turns N) (mark
       (marks number turns.level.now.far.items) (marks number mark) sent
 
 -- owners whose turn has come have the far mark, and the others the near one
-pub record AreTurnsPassed {N : Type 0} (number : N → ℕ) (turns : Turns N) (mark : ℕ → ℕ)
-    (turn room sent : ℕ) : Type 0 where
-  pub passed : (r : ℕ) → r < turns.offer.now.nodes → rotated turns.offer.now.nodes turns.rotation r < turn
-      → mark r ≡ marks number turns.level.now.far.items r
-  pub waiting : (r : ℕ) → r < turns.offer.now.nodes → turn ≤ rotated turns.offer.now.nodes turns.rotation r
-      → mark r ≡ marks number turns.level.now.near.items r
-  pub left : weight_on turns.first number turns.offer.now mark + room ≡ amount_of turns.offer.now.budget
-  pub count : sent ≡ count_on turns.first number turns.offer.now mark
-
--- and so they have up to a turn
 pub record HasReached {N : Type 0} (number : N → ℕ) (turns : Turns N) (mark : List N) (reached : Reached) : Type 0 where
   pub size : length mark ≡ turns.offer.now.nodes
-  pub so_far : AreTurnsPassed number turns (marks number mark) reached.turn reached.left reached.sent
+  pub passed : (r : ℕ) → r < turns.offer.now.nodes
+      → rotated turns.offer.now.nodes turns.rotation r < reached.turn
+      → marks number mark r ≡ marks number turns.level.now.far.items r
+  pub waiting : (r : ℕ) → r < turns.offer.now.nodes
+      → reached.turn ≤ rotated turns.offer.now.nodes turns.rotation r
+      → marks number mark r ≡ marks number turns.level.now.near.items r
+  pub left : weight_on turns.first number turns.offer.now (marks number mark) + reached.left
+      ≡ amount_of turns.offer.now.budget
+  pub count : reached.sent ≡ count_on turns.first number turns.offer.now (marks number mark)
+
+-- what is reached once so many owners more, from one on, have the far mark
+abbrev pub reached_after : {N : Type 0} → (N → ℕ) → Turns N → Reached → ℕ → ℕ → Reached
+reached_after number turns reached owner size = record {
+  turn = reached.turn + size;
+  left = reached.left - parts_count number turns owner size;
+  sent = reached.sent + parts_count number turns owner size;
+}
 
 -- so many owners, from one on, are next, one after another; entries are counted, and the parts of all fit
 pub record HaveTurns {N : Type 0} (number : N → ℕ) (most : ℕ) (turns : Turns N) (reached : Reached)
@@ -83,10 +89,12 @@ pub record HaveTurns {N : Type 0} (number : N → ℕ) (most : ℕ) (turns : Tur
   pub sum : count ≡ parts_count number turns owner size
   pub fits : count ≤ reached.left
 
--- and so they have up to the one whose part doesn't fit
+-- they have it up to an owner whose part doesn't fit
 pub record ArePassedBy {N : Type 0} (number : N → ℕ) (turns : Turns N) (mark : List N) (passed : Passed) : Type 0 where
   pub owner : passed.owner < turns.offer.now.nodes
-  pub size : length mark ≡ turns.offer.now.nodes
-  pub so_far : AreTurnsPassed number turns (marks number mark)
-      (rotated turns.offer.now.nodes turns.rotation passed.owner) passed.left passed.sent
+  pub reached : HasReached number turns mark (record {
+    turn = rotated turns.offer.now.nodes turns.rotation passed.owner;
+    left = passed.left;
+    sent = passed.sent;
+  })
   pub beyond : passed.left < part_weight number (weights_in turns.offer.now passed.owner) turns passed.owner

@@ -21,14 +21,14 @@ pub use Rattle.bench_types.proofs.Sums.{sum_below-most, sum_below-same}
 pub use Rattle.bench_types.specs.Budget.{largest_share}
 pub use Rattle.bench_types.specs.declared.exchanges.Budget.TheVariants.{Bytes, Entries}
 pub use Rattle.bench_types.specs.declared.limits.TheConstants.{MOST_ROUNDS}
-pub use Rattle.delta_plans.proofs.CandidateNumbers.{candidate-below, candidate-key, candidate-number}
-pub use Rattle.delta_plans.proofs.Columns.{sum_below-none}
+pub use Rattle.delta_plans.proofs.Candidates.{IsOffered, candidate-number, candidate-place}
+pub use Rattle.delta_plans.proofs.DeltaMarks.{are-sent, count-cut, count-sent, lets, shared-sent, whole-sent}
 pub use Rattle.delta_plans.proofs.Grids.{items_sum}
-pub use Rattle.delta_plans.proofs.Lifts.{are-sent, count-cut, count-sent, lets, shared-sent, whole-sent}
 pub use Rattle.delta_plans.proofs.MarkedLaws.{whole-marked, whole-size}
 pub use Rattle.delta_plans.proofs.RoundMarks.{count-newest}
 pub use Rattle.delta_plans.proofs.Starts.{all_writes-here}
-pub use Rattle.delta_plans.proofs.WeightLaws.{count_between-most, part, part-cases, sum_below-each_none, weight_between-most, weight_of-none, weight_of-split}
+pub use Rattle.delta_plans.proofs.Sums.{sum_below-each_none, sum_below-none}
+pub use Rattle.delta_plans.proofs.WeightLaws.{count_between-most, part, part-cases, weight_between-most, weight_of-none, weight_of-split}
 pub use Rattle.delta_plans.specs.Firsts.{by_first}
 pub use Rattle.delta_plans.specs.Grids.{number_here, number_there}
 pub use Rattle.delta_plans.specs.LevelMarks.{NumbersDiffer, first_sent, lets_through}

@@ -1,6 +1,6 @@
 -- From an offer's marks to the marks of a delta between two tables.
 -- Serves `marks_sent` and `Merged`.
-use Rattle.version_tables.proofs.Common.{◌≡◌, ℕ, ◌<◌, ◌≤◌, List, length, get_or, map, inl, inr, refl, sym, ap, ◌∙◌, subst, arith, nat_lt, ◌&&◌, cases_eq, length-map, nat_tests, Entry, First, Oldest, Newest, Rules, DigestKind, Scuttle, Precise, digest_kind, first_sent, Table, candidates, delta_between, write_numbered, all_writes, Cells, cell, HasEach, HasNoneAbove, Offer, HasSet, by_first, AreMarked, KeepsLow, IsOffer, IsHistory, Offers, offered_by, told_by, told_number, lets_through, NumbersDiffer, candidate-below, candidate-key, candidate-number, lets, count-sent, count-cut, are-sent, shared-sent, whole-sent, numbered-some, VersionTableView, HistoriesView, table_in, is_taken_at, AreLaidBoth, AreMarksOf, AreLow, AreOffered, is_taken}
+use Rattle.version_tables.proofs.Common.{◌≡◌, ℕ, ◌<◌, ◌≤◌, List, length, get_or, map, inl, inr, refl, sym, ap, ◌∙◌, subst, arith, nat_lt, ◌&&◌, cases_eq, length-map, nat_tests, Entry, First, Oldest, Newest, Rules, DigestKind, Scuttle, Precise, digest_kind, first_sent, Table, candidates, delta_between, write_numbered, all_writes, Cells, cell, HasEach, HasNoneAbove, Offer, HasSet, by_first, AreMarked, KeepsLow, IsOffer, IsHistory, Offers, offered_by, told_by, told_number, lets_through, NumbersDiffer, IsOffered, candidate-place, candidate-number, lets, count-sent, count-cut, are-sent, shared-sent, whole-sent, numbered-some, VersionTableView, HistoriesView, table_in, is_taken_at, AreLaidBoth, AreMarksOf, AreLow, AreOffered, is_taken}
 use Rattle.version_tables.proofs.Fitting.{turned, first-numbers}
 use Rattle.version_tables.proofs.Told.{told-offers, offered-is, offered-upto}
 
@@ -107,16 +107,15 @@ module _ {N : Type 0} (number : N → ℕ) {written : ℕ → List Entry} {most 
     histories : (owner : ℕ) → IsHistory (lists owner)
     histories owner = (two.known.so_far owner).history
 
-    has : HasSet (candidates rules.mode F T) (lets F T two.first.proper lists histories cells low high covered rules.mode offers m) (delta_between rules.mode rotation rules.budget F T)
+    given_is : IsOffered rules.mode F T lists cells low
+    given_is = record { proper = two.first.proper; histories = histories; offers = offers }
+
+    has : HasSet (candidates rules.mode F T) (lets rules.mode cells m) (delta_between rules.mode rotation rules.budget F T)
     has = elim marked.how [
       | inl all ↦
-          whole-sent F T two.first.proper lists histories cells low high covered rules.mode offers rotation in_nodes rules.budget m marked.above
-          (λ c in_c. all.all c.owner c.entry.key (candidate-below rules.mode F T two.first.proper c in_c) (candidate-key rules.mode F T two.first.proper c in_c)
-          (candidate-number rules.mode F T two.first.proper lists histories cells low offers c in_c).0) all.within
-      | inr level ↦
-          let s = level.shared in
-          shared-sent F T two.first.proper lists histories cells low high covered rules.mode offers rotation in_nodes rules.budget level.near level.far m level.shape marked.above
-          level.past_near level.past_far s.owner s.key s.owner_below s.key_below s.offered s.outside s.inside s.passed s.waiting s.own s.within s.beyond
+          whole-sent given_is in_nodes covered m marked.above rules.budget
+          (λ c in_c. all.all c.owner c.entry.key (candidate-place given_is c in_c).owner_below (candidate-place given_is c in_c).key_below (candidate-number given_is c in_c).0) all.within
+      | inr level ↦ shared-sent given_is in_nodes covered m marked.above rules.budget level.shape level.shared.stop level.shared.within level.shared.beyond
     ]
 
     -- all that the receiver holds is up to the low marks of a scuttle digest
@@ -136,14 +135,14 @@ module _ {N : Type 0} (number : N → ℕ) {written : ℕ → List Entry} {most 
     pub delta-marks : length mark ≡ from.nodes
         → AreMarksOf rules rotation written from to (by_first first (map number given.low.now) mark) (by_first first mark (map number given.high.now)) sent cut
     delta-marks mark_size =
-        let sent_is = marked.count ∙ sym (count-sent F T two.first.proper lists histories cells low high covered rules.mode offers rotation in_nodes rules.budget m marked.above has) in
+        let sent_is = marked.count ∙ sym (count-sent given_is in_nodes covered m marked.above rules.budget has) in
         record {
           low_count = by_first-size first (map number given.low.now) mark from.nodes (low_is.count ∙ sym two.both.size.nodes) mark_size;
           high_count = by_first-size first mark (map number given.high.now) from.nodes mark_size (ap length high_is ∙ two.first.greatest_count);
-          marks = are-sent F T two.first.proper lists histories cells low high covered rules.mode offers rotation in_nodes rules.budget m marked.above has
+          marks = are-sent given_is in_nodes covered m marked.above rules.budget has
               (is_taken_at from to (by_first first (map number given.low.now) mark) (by_first first mark (map number given.high.now))) taken-is;
           count = sent_is;
-          left = omega (arith, sent_is, marked.left, count-cut F T two.first.proper lists histories cells low high covered rules.mode offers rotation in_nodes rules.budget m marked.above has);
+          left = omega (arith, sent_is, marked.left, count-cut given_is in_nodes covered m marked.above rules.budget has);
         }
 
 -- what is told makes low marks: of the receiver itself the most, which no number is

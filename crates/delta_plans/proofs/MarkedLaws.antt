@@ -17,58 +17,60 @@ module _ {N : Type 0} (number : N → ℕ) (most : ℕ) (offer : Offer N) (is : 
   abbrev high : ℕ → ℕ
   high = high_in number offer
 
-  -- what is let through is no more than all
-  count_on-le : (first : First) (mark : ℕ → ℕ) → ((r : ℕ) → r < offer.nodes → low r ≤ mark r) → count_on first number offer mark ≤ count_in number offer low high
-  count_on-le Oldest mark above = count-le (cells_in number offer) offer.nodes offer.keys low low mark high (λ owner in_nodes. omega arith) is.covered
-  count_on-le Newest mark above = count-le (cells_in number offer) offer.nodes offer.keys mark low high high above is.covered
-
-  keeps : (first : First) (mark : ℕ → ℕ) → ((r : ℕ) → r < offer.nodes → low r ≤ mark r) → KeepsLow first offer.nodes low mark
-  keeps Oldest mark above = tt
-  keeps Newest mark above = above
+  -- marks above the low ones let through no more than all
+  above-tells : (first : First) (mark : ℕ → ℕ) → ((r : ℕ) → r < offer.nodes → low r ≤ mark r)
+      → (count_on first number offer mark ≤ count_in number offer low high) × KeepsLow first offer.nodes low mark
+  above-tells Oldest mark above = (count-le (cells_in number offer) offer.nodes offer.keys low low mark high (λ owner in_nodes. omega arith) is.covered, tt)
+  above-tells Newest mark above = (count-le (cells_in number offer) offer.nodes offer.keys mark low high high above is.covered, above)
 
   -- the marks that let all through: the high ones, or from the newest on the low ones
   abbrev whole_marks : First → List ℕ
   whole_marks first = by_first first (map number offer.high.now) (map number offer.low.now)
 
-  whole-length : (first : First) → length (whole_marks first) ≡ offer.nodes
-  whole-length Oldest = length-map offer.high.now number ∙ is.high
-  whole-length Newest = length-map offer.low.now number ∙ is.low
+  abbrev whole : First → ℕ → ℕ
+  whole first r = get_or (whole_marks first) r 0
 
-  whole-keeps : (first : First) → KeepsLow first offer.nodes low (λ r. get_or (whole_marks first) r 0)
-  whole-keeps Oldest = tt
-  whole-keeps Newest = λ r below. omega arith
-
-  whole-lets : (first : First) (owner key : ℕ) → owner < offer.nodes → key < offer.keys → low owner < cells_in number offer owner key → lets_through first (get_or (whole_marks first) owner 0) (cells_in number offer owner key) ≡ true
-  whole-lets Oldest owner key in_nodes in_keys lt = le-leb (cells_in number offer owner key) (high owner) (is.covered owner in_nodes key in_keys)
-  whole-lets Newest owner key in_nodes in_keys lt = lt-ltb (low owner) (cells_in number offer owner key) lt
-
-  whole-through : (first : First) (weights : ℕ → ℕ → ℕ) → weight_through first weights (cells_in number offer) offer.nodes offer.keys low high (λ r. get_or (whole_marks first) r 0) ≡ weight_between weights (cells_in number offer) offer.nodes offer.keys low high
-  whole-through Oldest weights = refl
-  whole-through Newest weights = refl
+  whole-tells : (first : First) → (length (whole_marks first) ≡ offer.nodes) × KeepsLow first offer.nodes low (whole first)
+      × ((weights : ℕ → ℕ → ℕ) → weight_through first weights (cells_in number offer) offer.nodes offer.keys low high (whole first)
+      ≡ weight_between weights (cells_in number offer) offer.nodes offer.keys low high)
+      × ((owner key : ℕ) → owner < offer.nodes → key < offer.keys → low owner < cells_in number offer owner key
+      → lets_through first (whole first owner) (cells_in number offer owner key) ≡ true)
+  whole-tells Oldest = (
+    length-map offer.high.now number ∙ is.high,
+    tt,
+    (λ weights. refl),
+    (λ owner key in_nodes in_keys lt. le-leb (cells_in number offer owner key) (high owner) (is.covered owner in_nodes key in_keys)),
+  )
+  whole-tells Newest = (
+    length-map offer.low.now number ∙ is.low,
+    (λ r below. omega arith),
+    (λ weights. refl),
+    (λ owner key in_nodes in_keys lt. lt-ltb (low owner) (cells_in number offer owner key) lt),
+  )
 
   pub whole-size : (first : First) (xs : List N) → map number xs ≡ whole_marks first → length xs ≡ offer.nodes
-  whole-size first xs same = sym (length-map xs number) ∙ ap length same ∙ whole-length first
+  whole-size first xs same = sym (length-map xs number) ∙ ap length same ∙ (whole-tells first).0
 
   module _ (rotation found : ℕ) (all : found ≡ count_in number offer low high) where
     -- all where it fits
     module _ (fits : weight_in number offer low high ≤ amount_of offer.budget) where
       pub whole-marked : (mode : Mode) (xs : List N) → map number xs ≡ whole_marks (first_sent mode) → AreMarked mode rotation number offer (marks number xs) found 0
       whole-marked mode xs same = subst (λ ys. AreMarked mode rotation number offer (λ r. get_or ys r 0) found 0) (sym same) (record {
-        above = whole-keeps (first_sent mode);
-        count = all ∙ sym (whole-through (first_sent mode) one_each);
+        above = (whole-tells (first_sent mode)).1;
+        count = all ∙ sym ((whole-tells (first_sent mode)).2 one_each);
         left = omega (arith, all);
-        how = inl (record { all = whole-lets (first_sent mode); within = omega (arith, fits, whole-through (first_sent mode) (weights_in offer)) });
+        how = inl (record { all = (whole-tells (first_sent mode)).3; within = omega (arith, fits, (whole-tells (first_sent mode)).2 (weights_in offer)) });
       })
 
     -- and a level that was shared out
     module _ (mode : Mode) {level : Level N} (is_level : IsLevelOf mode number offer level) (xs : List N) {sent : ℕ}
         (shared : AreShared (first_sent mode) rotation number offer (marks number level.near.items) (marks number level.far.items) (marks number xs) sent) where
       pub sent-found : sent ≤ found
-      sent-found = omega (arith, all, shared.count, count_on-le (first_sent mode) (marks number xs) shared.above)
+      sent-found = omega (arith, all, shared.count, (above-tells (first_sent mode) (marks number xs) shared.above).0)
 
       pub share-marked : AreMarked mode rotation number offer (marks number xs) sent (found - sent)
       share-marked = record {
-        above = keeps (first_sent mode) (marks number xs) shared.above;
+        above = (above-tells (first_sent mode) (marks number xs) shared.above).1;
         count = shared.count;
         left = omega (arith, all, sent-found);
         how = inr (record {

@@ -1,6 +1,6 @@
 -- The owners' turns in a level.
 -- Serves the functions of `rounds` and `sharing` and `RoundMarks`.
-use Rattle.delta_plans.proofs.Common.{◌≡◌, ◌≢◌, ℕ, suc, ◌+◌, ◌-◌, ◌*◌, ◌<◌, ◌≤◌, true, false, List, length, get_or, set, map, inl, inr, refl, sym, ap, ◌∙◌, subst, transport, arith, nat_tests, get_or-set_same, get_or-set_other, length-map, map-set, Entries, MOST_NODES, MOST_KEYS, MOST_ENTRY_SIZE, cases_lt, cases_eq, all_writes, Cells, HasNoneAbove, sum_below-same, sum_below-plus, rotated, rotated-injective, rotated-is, write_numbered, First, Oldest, Newest, Offer, Reached, Turns, by_first, comes_first, cells_in, low_in, high_in, marks, weights_in, IsOffer, count_on, AreFarther, lets_through, AreShared, IsNext, IsOn, IsStopFrom, part_weight, parts_count, AreTurns, HasReached, AreSharedBy, reached_after, length-set, HasTurn, HaveTurns, weight_of, weight_from, weight_through, one_each}
+use Rattle.delta_plans.proofs.Common.{◌≡◌, ◌≢◌, ℕ, suc, ◌+◌, ◌-◌, ◌*◌, ◌<◌, ◌≤◌, true, false, List, get_or, set, map, inl, inr, refl, sym, ap, ◌∙◌, subst, transport, arith, nat_tests, get_or-set_same, get_or-set_other, length-map, map-set, Entries, MOST_NODES, MOST_KEYS, MOST_ENTRY_SIZE, cases_lt, cases_eq, all_writes, Cells, HasNoneAbove, sum_below-same, sum_below-plus, rotated, rotated-injective, rotated-is, write_numbered, First, Oldest, Newest, Offer, Reached, Turns, by_first, comes_first, cells_in, low_in, high_in, marks, weights_in, IsOffer, count_on, AreFarther, lets_through, IsNext, IsOn, IsStopFrom, part_weight, parts_count, AreTurns, HasReached, AreSharedBy, reached_after, length-set, HasTurn, HaveTurns, weight_of, weight_from, weight_through, one_each}
 use Rattle.delta_plans.proofs.Sums.{sum_below-changed, sum_below-longer}
 use Rattle.delta_plans.proofs.StopSteps.{few-from}
 use Rattle.delta_plans.proofs.WeightLaws.{part, weight_of-split, weight_of-same, weight_of-most, number_share-one}

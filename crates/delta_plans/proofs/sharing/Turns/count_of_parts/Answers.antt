@@ -1,4 +1,4 @@
-use Rattle.delta_plans.proofs.Common.{ℕ, suc, ◌+◌, arith, sum_below-most, MOST_KEYS, part_weight}
+use Rattle.delta_plans.proofs.Common.{suc, ◌+◌, arith, sum_below-most, MOST_KEYS, part_weight}
 use Rattle.delta_plans.proofs.TurnSteps.{part-few}
 use Rattle.delta_plans.proofs.sharing.Turns.count_of_parts.Goals as goal
 

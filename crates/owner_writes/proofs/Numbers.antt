@@ -1,12 +1,22 @@
 -- Writes by their numbers: which there are, and how their marks compare.
--- Serves `delta_plans`, `version_lags` and `version_tables`.
-use Rattle.owner_writes.proofs.Common.{◌≡◌, ℕ, zero, suc, ◌<◌, ◌≤◌, List, [], ◌∷◌, length, get_or, Some, None, inl, inr, refl, sym, ap, ◌∙◌, subst, arith, nat_lt, cases_lt, lt-ltb, le-ltb, same_Some, Entry, mark_of, is_before, IsBefore, IsUpTo, before-yes, before-no, before-up_to, up_to-itself, write_from, write_numbered, IsHistory}
+-- Serves `OwnerWrites::numbered`, `delta_plans`, `version_lags` and `version_tables`.
+use Rattle.owner_writes.proofs.Common.{◌≡◌, ℕ, zero, suc, ◌<◌, ◌≤◌, List, [], ◌∷◌, length, get_or, get_or-map, length-map, map, ap, ◌∙◌, Some, None, inl, inr, refl, sym, ap, ◌∙◌, subst, arith, nat_lt, cases_lt, lt-ltb, le-ltb, same_Some, Entry, mark_of, is_before, IsBefore, IsUpTo, Kept, entry_kept, before-yes, before-no, before-up_to, up_to-itself, write_from, write_numbered, IsHistory}
 
--- what stands at a place
+-- what stands at a place, and that something does
 pub write_from-at : (writes : List Entry) (place : ℕ) (e d : Entry) → write_from writes place ≡ Some e → (place < length writes) × (get_or writes place d ≡ e)
 write_from-at [] place e d is = absurd (cc)
 write_from-at (x ∷ xs) zero e d is = (omega arith, same_Some x e is)
 write_from-at (x ∷ xs) (suc place) e d is = let rest = write_from-at xs place e d is in (omega (arith, rest.0), rest.1)
+
+pub write_from-here : (es : List Entry) (place : ℕ) (d : Entry) → place < length es → write_from es place ≡ Some (get_or es place d)
+write_from-here [] place d lt = absurd (omega arith)
+write_from-here (e ∷ es) zero d lt = refl
+write_from-here (e ∷ es) (suc place) d lt = write_from-here es place d (omega arith)
+
+pub write_from-past : (es : List Entry) (place : ℕ) → length es ≤ place → write_from es place ≡ None
+write_from-past [] place le = refl
+write_from-past (e ∷ es) zero le = absurd (omega arith)
+write_from-past (e ∷ es) (suc place) le = write_from-past es place (omega arith)
 
 -- a number is that of a place, where its write stands
 pub record IsPlaced (writes : List Entry) (number : ℕ) (e : Entry) : Type 0 where
@@ -79,3 +89,14 @@ numbers-compare writes history m n d e is_d is_e = elim (cases_lt m n) [
   | inl before ↦ before-yes (mark_of d) (mark_of e) (numbers-before writes history m n d e is_d is_e before) ∙ sym (lt-ltb m n before)
   | inr not_before ↦ before-no (mark_of d) (mark_of e) (numbers-up_to writes history n m e d is_e is_d (omega (arith, not_before))) ∙ sym (le-ltb m n (omega (arith, not_before)))
 ]
+
+-- the same of what is kept
+module _ (kept : List Kept) (place number : ℕ) (next : suc place ≡ number) where
+  pub numbered-here : (x : Kept) → place < length kept → x ≡ get_or kept place x → write_numbered (map entry_kept kept) number ≡ Some (entry_kept x)
+  numbered-here x lt here =
+      ap (write_numbered (map entry_kept kept)) (sym next)
+      ∙ write_from-here (map entry_kept kept) place (entry_kept x) (omega (arith, lt, length-map kept entry_kept))
+      ∙ ap Some (get_or-map entry_kept kept place x (entry_kept x) lt ∙ ap entry_kept (sym here))
+
+  pub numbered-past : length kept ≤ place → write_numbered (map entry_kept kept) number ≡ None
+  numbered-past past = ap (write_numbered (map entry_kept kept)) (sym next) ∙ write_from-past (map entry_kept kept) place (omega (arith, past, length-map kept entry_kept))

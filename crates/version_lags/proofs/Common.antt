@@ -26,8 +26,7 @@ pub use Rattle.model.specs.calls.Numbers.{write_numbered}
 pub use Rattle.model.specs.calls.OwnerListView.{AreWrites, OwnerListView, entries_of, list_of_owner, lists_in, no_writes, written}
 pub use Rattle.model.specs.calls.Writes.{is_write_of, last_write}
 pub use Rattle.model.specs.declared.writes.Write.{Write}
-pub use Rattle.owner_writes.proofs.Numbered.{write_from-here}
-pub use Rattle.owner_writes.proofs.Numbers.{numbered-placed, numbered-some, numbered-within, numbers-compare}
+pub use Rattle.owner_writes.proofs.Numbers.{numbered-placed, numbered-some, numbered-within, numbers-compare, write_from-here}
 pub use Rattle.owner_writes.specs.Kept.{entry_kept}
 pub use Rattle.owner_writes.specs.Numbered.{IsRoundMark}
 pub use Rattle.owner_writes.specs.declared.writes.Kept.{Kept}

@@ -1,6 +1,6 @@
 use Rattle.owner_writes.proofs.Common.{◌≡◌, suc, List, map, Some, None, sym, ap, ◌∙◌, arith, MatchOption, IsGetResult, Entry, write_numbered, entries_of, entry_kept}
 use Rattle.owner_writes.proofs.Keeping.{entries_whole}
-use Rattle.owner_writes.proofs.Numbered.{numbered-here, numbered-past}
+use Rattle.owner_writes.proofs.Numbers.{numbered-here, numbered-past}
 use Rattle.owner_writes.proofs.writes.OwnerWrites.numbered.Goals as goal
 
 pub returns-in-Some : goal.returns-in-Some

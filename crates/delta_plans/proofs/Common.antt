@@ -54,9 +54,9 @@ pub use Rattle.delta_plans.specs.LevelMarks.{AreLayers, AreLevelMarks, AreRounds
 pub use Rattle.delta_plans.specs.Marked.{AreMarked, IsLevelOf, KeepsLow}
 pub use Rattle.delta_plans.specs.OfferInMemory.{AreCounted, IsLeftOf, IsOffer, cells_in, count_in, high_in, low_in, marks, owner_count_in, weight_in, weights_in}
 pub use Rattle.delta_plans.specs.Offers.{AreSent, Offers, is_lacked, offered_sum, rank_above, told_by, told_number}
-pub use Rattle.delta_plans.specs.Plans.{AreFarther, AreMarksFrom, AreNextRuns, HasLayers, HasRuns, IsLevel, IsLevelSoFar, IsMarkFrom, IsNextLayer, IsNextMark, IsStep, count_on, weight_on}
+pub use Rattle.delta_plans.specs.Plans.{AreFarther, AreMarksFrom, AreNextRuns, HasLayers, HasRuns, IsLevel, IsLevelSoFar, IsNextLayer, IsNextMark, IsStep, count_on, weight_on}
 pub use Rattle.delta_plans.specs.RoundLevels.{AreFewAndEnough, AreRaised, AreRoundMarks, HasRounds, IsFound, IsLevelOfRounds, end_mark, mark_of_rounds, round_at, round_mark}
-pub use Rattle.delta_plans.specs.SentSets.{DeltasHaveTheirSets, EndsBefore, HasAll, HasSet, IsKeptOut, IsSentSet, size_in}
+pub use Rattle.delta_plans.specs.SentSets.{DeltasHaveTheirSets, HasSet, IsKeptOut, IsSentSet, size_in}
 pub use Rattle.delta_plans.specs.Sharing.{AreShared, StopAt}
 pub use Rattle.delta_plans.specs.Stops.{AnswersNearer, HasBetween, HasNext, IsBeyond, IsNext, IsOn, IsPast, IsStopFrom, nearer_beyond}
 pub use Rattle.delta_plans.specs.Told.{IsKnown}

@@ -169,18 +169,15 @@ module _ {mode : Mode} {from to : Table} {lists : ℕ → List Entry} {cells : C
           → through weights ≤ amount_of budget → amount_of budget < through weights + weights stop.owner (cells stop.owner stop.key) → HasSet cs (lets mode cells mark) delta
       shared-sent shape stop within beyond =
           set_sent mode rotation budget from to (lets mode cells mark) given.proper in_nodes
-          (stops_sent order (sending_order-total mode from.nodes rotation cs) cs (item_share budget) (lets mode cells mark) (amount_of budget) (next shape stop) (record {
-            candidate = in_next shape stop;
-            set = marks-stop shape stop;
-            within = omega (arith, sizes-weigh, within);
-            beyond = omega (arith, sizes-weigh, share-is (next shape stop) (in_next shape stop), ap (weights stop.owner) (its_number shape stop), beyond);
-          }))
+          (stops_sent order (sending_order-total mode from.nodes rotation cs) cs (item_share budget) (lets mode cells mark) (amount_of budget)
+          (next shape stop) (in_next shape stop) (marks-stop shape stop) (omega (arith, sizes-weigh, within))
+          (omega (arith, sizes-weigh, share-is (next shape stop) (in_next shape stop), ap (weights stop.owner) (its_number shape stop), beyond)))
 
       -- and marks that let all through, where it fits
       pub whole-sent : ((c : Item) → Contains cs c → lets mode cells mark c ≡ true) → through weights ≤ amount_of budget → HasSet cs (lets mode cells mark) delta
       whole-sent all within =
           set_sent mode rotation budget from to (lets mode cells mark) given.proper in_nodes
-          (all_sent order (sending_order-total mode from.nodes rotation cs) cs (item_share budget) (lets mode cells mark) (amount_of budget) (record { all = all; within = omega (arith, sizes-weigh, within) }))
+          (all_sent order (sending_order-total mode from.nodes rotation cs) cs (item_share budget) (lets mode cells mark) (amount_of budget) all (omega (arith, sizes-weigh, within)))
 
       -- the delta that marks let through, as it is taken
       module _ (has : HasSet cs (lets mode cells mark) delta) where

@@ -1,6 +1,6 @@
 -- Runs of an offer, gone over as long as they fit.
 -- Serves `depth` and `next_runs`.
-use Rattle.delta_plans.proofs.Common.{◌≡◌, ℕ, zero, suc, ◌+◌, ◌-◌, ◌*◌, ◌<◌, ◌≤◌, cond, eqb, ltb, List, length, get_or, map, inl, inr, Some, Vec, Global, refl, sym, ap, ◌∙◌, subst, arith, nat_tests, cases_lt, cases_eq, length-map, amount_of, Cells, count_above, count_between, HasNoneAbove, HasEach, AreChanged, sum_below, sum_below-same, MOST_KEYS, Offer, Level, cells_in, low_in, high_in, marks, owner_count_in, weights_in, weight_in, IsLeftOf, IsOffer, Step, IsStep, IsMarkFrom, AreMarksFrom, AreNextRuns, HasRuns, IsRunMark, AreRuns, weight_of}
+use Rattle.delta_plans.proofs.Common.{◌≡◌, ℕ, zero, suc, ◌+◌, ◌-◌, ◌*◌, ◌<◌, ◌≤◌, cond, eqb, leb, ltb, List, length, get_or, map, inl, inr, Some, Vec, Global, refl, sym, ap, ◌∙◌, subst, arith, nat_tests, cases_lt, cases_eq, length-map, amount_of, Cells, count_above, count_between, HasNoneAbove, HasEach, AreChanged, sum_below, sum_below-same, MOST_KEYS, Offer, Level, cells_in, low_in, high_in, marks, owner_count_in, weights_in, weight_in, IsLeftOf, IsOffer, Step, IsStep, AreMarksFrom, AreNextRuns, HasRuns, IsRunMark, AreRuns, weight_of}
 use Rattle.delta_plans.proofs.Sums.{where_true, sum_below-none, sum_below-each_none}
 use Rattle.delta_plans.proofs.LevelSteps.{level-first, level-left, level-next}
 use Rattle.delta_plans.proofs.OfferWeights.{offer-weighs_none}
@@ -25,23 +25,20 @@ module _ (cells : Cells) (keys owner low high : ℕ) (covered : HasNoneAbove cel
       sum_below-none keys _ (λ key lt. let out = sum_below-each_none keys (λ k. where_true (ltb low (cells owner k)) 1) none key lt in grind (arith, nat_tests))
 
   -- one owner's part of the next runs
-  module _ (size near next : ℕ) (longer : IsMarkFrom above low high (size + 1) near) (is : next ≡ cond (eqb above size) high near) where
-    pub run-from : IsMarkFrom above low high size next
-    run-from = record {
-      all = λ le. grind (arith, nat_tests, longer.all);
-      none = λ lt. grind (arith, nat_tests, longer.none);
-    }
+  module _ (size near next : ℕ) (longer : near ≡ cond (leb (size + 1) above) high low) (is : next ≡ cond (eqb above size) high near) where
+    pub run-from : next ≡ cond (leb size above) high low
+    run-from = grind (arith, nat_tests)
 
     pub run-rises : 0 < size → near ≤ next
     run-rises some = elim (cases_lt low high) [
-      | inl lt ↦ grind (arith, nat_tests, longer.none)
+      | inl lt ↦ grind (arith, nat_tests)
       | inr le ↦ let empty = weight_of-none (λ _. 1) cells keys owner low high (omega (arith, le)) in grind (arith, nat_tests, count-covered)
     ]
 
     pub run-count : count_between cells keys owner near next ≡ where_true (eqb above size) 1 * size
     run-count = elim (cases_eq above size) [
       | inl same ↦
-          let from = longer.none (omega (arith, same)) in
+          let from : near ≡ low = grind (arith, nat_tests) in
           let to : next ≡ high = grind (arith, nat_tests) in
           let all = (λ i. count_between cells keys owner (from i) (to i)) ∙ count-covered in
           grind (arith, nat_tests)
@@ -51,10 +48,10 @@ module _ (cells : Cells) (keys owner low high : ℕ) (covered : HasNoneAbove cel
           grind (arith, nat_tests)
     ]
 
-  pub run-mark : (from size mark : ℕ) → from ≡ size + 1 → IsMarkFrom above low high from mark → IsRunMark cells keys owner low size mark
-  run-mark from size mark one marked = record {
-    all = λ more. subst (HasNoneAbove cells keys owner) (sym (marked.all (omega (arith, one, more)))) covered;
-    none = λ no_more. marked.none (omega (arith, one, no_more));
+  pub run-mark : (from size mark : ℕ) → from ≡ size + 1 → mark ≡ cond (leb from above) high low → IsRunMark cells keys owner low size mark
+  run-mark from size mark one is = record {
+    all = λ more. let here : mark ≡ high = grind (arith, nat_tests) in subst (HasNoneAbove cells keys owner) (sym here) covered;
+    none = λ no_more. grind (arith, nat_tests);
   }
 
 module _ {N : Type 0} {number : N → ℕ} {most : ℕ} {offer : Offer N} (is : IsOffer number most offer) where
@@ -100,9 +97,9 @@ module _ {N : Type 0} {number : N → ℕ} {most : ℕ} {offer : Offer N} (is : 
     where
       all : size ≡ 0 → (owner : ℕ) → owner < offer.nodes → weigh owner (near owner) ≡ weigh owner (high owner)
       all none owner lt = elim (cases_lt 0 (owner_count_in number offer owner)) [
-        | inl some ↦ ap (weigh owner) ((longer owner lt).all (omega (arith, none, some)))
+        | inl some ↦ let here = longer owner lt in ap (weigh owner) {x = near owner} {y = high owner} (grind (arith, nat_tests))
         | inr empty ↦
-            ap (weigh owner) ((longer owner lt).none (omega (arith, none, empty)))
+            (let here = longer owner lt in ap (weigh owner) {x = near owner} {y = low owner} (grind (arith, nat_tests)))
             ∙ weight_of-none (weights_in offer owner) cells offer.keys owner (low owner) (low owner) (omega arith)
             ∙ sym (weight-empty cells offer.keys owner (low owner) (high owner) (is.covered owner lt) (weights_in offer owner) (omega (arith, empty)))
       ]
@@ -113,7 +110,7 @@ module _ {N : Type 0} {number : N → ℕ} {most : ℕ} {offer : Offer N} (is : 
         → level ≡ record { near = near; far = step.marks; whole = 0; left = amount_of offer.budget }
         → near.items ≡ offer.low.now → AreNextRuns number offer (marks number near.items) size step → HasRuns number offer level size step.more
     runs-first {size} {near} {step} longest short made start runs =
-        let none : AreMarksFrom number offer (size + 1) low = λ owner lt. record { all = λ le. absurd (omega (arith, le, longest owner lt)); none = λ _. refl } in
+        let none : AreMarksFrom number offer (size + 1) low = λ owner lt. let few = longest owner lt in grind (arith, nat_tests) in
         let longer = subst (λ xs. AreMarksFrom number offer (size + 1) (marks number xs)) (sym start) none in
         let some = runs-some none (omega (arith, offer-weighs_none number offer low)) beyond in
         rw made (record {

@@ -1,6 +1,6 @@
 -- Any set of candidates that is closed downwards, fits, and lets nothing more in is what is sent.
 -- Serves `deltas_have_their_sets` and `DeltaMarks`.
-use Rattle.delta_plans.proofs.Common.{◌≡◌, ◌≢◌, ℕ, zero, suc, ◌+◌, ◌<◌, ◌≤◌, Bool, true, false, cond, not, eqb, List, [], ◌∷◌, refl, sym, ap, ◌∙◌, subst, arith, nat_tests, count_by, filter, IsPermutation, Contains, ◌&&◌, sum_by, Ordering, Less, Equal, Greater, is_lt, ordering_reverse, IsTotalOrder, tied_itself, both_ways, le-leb, lt-leb, AllPairs-filter, length_permutation, sum_by-cons, length-filter, Item, amount_of, is_before, mark_of, digest_kind, items_of, stands_at, IsApart, candidates, known_mark, DeltaView, delta_between, item_share, sending_order, sending_order-total, sending_order-strict, Contains-filter, Contains-kept, same_members, before_count, size_through, fits, sent, cut_count, Contains-first_places, first_places-Contains, sent_apart, size_in, IsKeptOut, IsSentSet, EndsBefore, HasAll, DeltasHaveTheirSets}
+use Rattle.delta_plans.proofs.Common.{◌≡◌, ◌≢◌, ℕ, zero, suc, ◌+◌, ◌<◌, ◌≤◌, Bool, true, false, cond, not, eqb, List, [], ◌∷◌, refl, sym, ap, ◌∙◌, subst, arith, nat_tests, count_by, filter, IsPermutation, Contains, ◌&&◌, sum_by, Ordering, Less, Equal, Greater, is_lt, ordering_reverse, IsTotalOrder, tied_itself, both_ways, le-leb, lt-leb, AllPairs-filter, length_permutation, sum_by-cons, length-filter, Item, amount_of, is_before, mark_of, digest_kind, items_of, stands_at, IsApart, candidates, known_mark, DeltaView, delta_between, item_share, sending_order, sending_order-total, sending_order-strict, Contains-filter, Contains-kept, same_members, before_count, size_through, fits, sent, cut_count, Contains-first_places, first_places-Contains, sent_apart, size_in, IsKeptOut, IsSentSet, DeltasHaveTheirSets}
 use Rattle.delta_plans.proofs.Grids.{table_apart}
 
 -- a sum over a list whose terms are no greater, for the elements of the list
@@ -100,25 +100,26 @@ module _ {X : Type 0} (order : X → X → Ordering) (total : IsTotalOrder order
 
 module _ {X : Type 0} (order : X → X → Ordering) (total : IsTotalOrder order) (cs : List X) (size : X → ℕ) (is_in : X → Bool) (budget : ℕ) where
   -- what comes before a candidate that doesn't fit beside it
-  pub stops_sent : (next : X) → EndsBefore order cs size is_in budget next → IsSentSet order cs size is_in budget
-  stops_sent next is = record {
-    closed = λ c d at_c at_d before yes'. is.set c at_c ∙ ap is_lt (total.trans c d next before (is_less (order d next) (sym (is.set d at_d) ∙ yes')));
-    within = is.within;
+  pub stops_sent : (next : X) → Contains cs next → ((c : X) → Contains cs c → is_in c ≡ is_lt (order c next))
+      → size_in order cs size is_in ≤ budget → budget < size_in order cs size is_in + size next → IsSentSet order cs size is_in budget
+  stops_sent next candidate set within beyond = record {
+    closed = λ c d at_c at_d before yes'. set c at_c ∙ ap is_lt (total.trans c d next before (is_less (order d next) (sym (set d at_d) ∙ yes')));
+    within = within;
     tight = λ c at_c no'. record {
       next = next;
-      candidate = is.candidate;
-      outside = is.set next is.candidate ∙ ap is_lt (tied_itself total next);
-      no_later = λ before. both_ways (is_in c) no' (is.set c at_c ∙ ap is_lt before);
-      beyond = is.beyond;
+      candidate = candidate;
+      outside = set next candidate ∙ ap is_lt (tied_itself total next);
+      no_later = λ before. both_ways (is_in c) no' (set c at_c ∙ ap is_lt before);
+      beyond = beyond;
     };
   }
 
   -- all, where they fit
-  pub all_sent : HasAll order cs size is_in budget → IsSentSet order cs size is_in budget
-  all_sent is = record {
-    closed = λ c d at_c at_d before yes'. is.all c at_c;
-    within = is.within;
-    tight = λ c at_c no'. absurd (both_ways (is_in c) no' (is.all c at_c));
+  pub all_sent : ((c : X) → Contains cs c → is_in c ≡ true) → size_in order cs size is_in ≤ budget → IsSentSet order cs size is_in budget
+  all_sent all within = record {
+    closed = λ c d at_c at_d before yes'. all c at_c;
+    within = within;
+    tight = λ c at_c no'. absurd (both_ways (is_in c) no' (all c at_c));
   }
 
 pub set_sent : DeltasHaveTheirSets

@@ -14,15 +14,30 @@ split-covered weight cells keys owner low mark high le covered =
     ∙ sum_below-plus keys _ _
 
 -- where an owner's part stops
-abbrev IsStopTold : First → Cells → ℕ → ℕ → ℕ → ℕ → ℕ → ℕ → Type 0
-IsStopTold first cells keys owner near mark far next =
-    (lets_through first near next ≡ false) × (lets_through first far next ≡ true)
-    × ((k : ℕ) → k < keys → lets_through first mark (cells owner k) ≡ comes_first first (cells owner k) next) × IsOn first mark far
+record IsStopTold (first : First) (cells : Cells) (keys owner low near mark far next : ℕ) : Type 0 where
+  outside : lets_through first near next ≡ false
+  inside : lets_through first far next ≡ true
+  own : (k : ℕ) → k < keys → lets_through first mark (cells owner k) ≡ comes_first first (cells owner k) next
+  offered : low < next
+  above : low ≤ mark
 
 module _ {cells : Cells} {keys owner mark far next : ℕ} where
-  stop-tells : (first : First) (near : ℕ) → IsNext first cells keys owner mark far next → IsOn first near mark → IsStopTold first cells keys owner near mark far next
-  stop-tells Oldest near is on = (grind (arith, nat_tests, is.above, on), grind (arith, nat_tests, is.upto), (λ k lt. grind (arith, nat_tests, is.above, is.nearest k lt)), omega (arith, is.above, is.upto))
-  stop-tells Newest near is on = (grind (arith, nat_tests, is.upto, on), grind (arith, nat_tests, is.above), (λ k lt. grind (arith, nat_tests, is.upto, is.nearest k lt)), omega (arith, is.above, is.upto))
+  stop-tells : (first : First) (low near : ℕ) → AreFarther first low near far → IsNext first cells keys owner mark far next → IsOn first near mark
+      → IsStopTold first cells keys owner low near mark far next
+  stop-tells Oldest low near level is on = record {
+    outside = grind (arith, nat_tests, is.above, on);
+    inside = grind (arith, nat_tests, is.upto);
+    own = λ k lt. grind (arith, nat_tests, is.above, is.nearest k lt);
+    offered = omega (arith, level.0, on, is.above);
+    above = omega (arith, level.0, on);
+  }
+  stop-tells Newest low near level is on = record {
+    outside = grind (arith, nat_tests, is.upto, on);
+    inside = grind (arith, nat_tests, is.above);
+    own = λ k lt. grind (arith, nat_tests, is.upto, is.nearest k lt);
+    offered = omega (arith, level.1, is.above);
+    above = omega (arith, level.1, is.above, is.upto);
+  }
 
 module _ (weights : ℕ → ℕ → ℕ) (cells : Cells) (nodes keys : ℕ) (low high : ℕ → ℕ) (mark next : ℕ → ℕ) where
   -- marks that are the same for each owner
@@ -44,15 +59,6 @@ module _ (weights : ℕ → ℕ → ℕ) (cells : Cells) (nodes keys : ℕ) (low
 pub count_on-few : {N : Type 0} (first : First) (number : N → ℕ) (most : ℕ) (offer : Offer N) → IsOffer number most offer → (mark : ℕ → ℕ) → count_on first number offer mark ≤ MOST_NODES * MOST_KEYS
 count_on-few first number most offer is mark =
     offer-few number most offer is (λ owner. by_first first (low_in number offer owner) (mark owner)) (λ owner. by_first first (mark owner) (high_in number offer owner))
-
--- the marks of a level as they are
-above-low : (first : First) (low near far mark : ℕ) → AreFarther first low near far → IsOn first near mark → IsOn first mark far → low ≤ mark
-above-low Oldest low near far mark level on upto = omega (arith, level.0, on)
-above-low Newest low near far mark level on upto = omega (arith, level.1, upto)
-
-offered-by : (first : First) (low near far number : ℕ) → AreFarther first low near far → lets_through first near number ≡ false → lets_through first far number ≡ true → low < number
-offered-by Oldest low near far number level outside inside = grind (arith, nat_tests, level.0)
-offered-by Newest low near far number level outside inside = grind (arith, nat_tests, level.1)
 
 module _ {N : Type 0} {number : N → ℕ} {most : ℕ} {turns : Turns N} (are : AreTurns number most turns) where
   abbrev offer : Offer N
@@ -152,15 +158,15 @@ module _ {N : Type 0} {number : N → ℕ} {most : ℕ} {turns : Turns N} (are :
             key = stop.next.key;
             owner_below = in_nodes;
             key_below = stop.next.in_keys;
-            offered = offered-by turns.first (low owner) (near owner) (far owner) (cells_in number offer owner stop.next.key) level outside inside;
-            outside = outside;
-            inside = inside;
+            offered = subst (λ n. low owner < n) (sym stop.next.is) tells.offered;
+            outside = ap (lets_through turns.first (near owner)) stop.next.is ∙ tells.outside;
+            inside = ap (lets_through turns.first (far owner)) stop.next.is ∙ tells.inside;
             passed = λ r lt before. others r (λ same. omega (arith, before, ap (rotated offer.nodes turns.rotation) same)) ∙ so_far.passed r lt (omega (arith, before, its));
             waiting = λ r lt later. others r (λ same. omega (arith, later, ap (rotated offer.nodes turns.rotation) same)) ∙ so_far.waiting r lt (omega (arith, later, its));
-            own = λ k lt _. ap (λ m. lets_through turns.first m (cells_in number offer owner k)) here ∙ tells.2 k lt ∙ ap (comes_first turns.first (cells_in number offer owner k)) (sym stop.next.is);
+            own = λ k lt _. ap (λ m. lets_through turns.first m (cells_in number offer owner k)) here ∙ tells.own k lt ∙ ap (comes_first turns.first (cells_in number offer owner k)) (sym stop.next.is);
           };
           above = λ r lt. elim (cases_eq r owner) [
-            | inl same ↦ omega (arith, ap low same, ap next same, here, above)
+            | inl same ↦ omega (arith, ap low same, ap next same, here, tells.above)
             | inr other ↦ elim (cases_lt (rotated offer.nodes turns.rotation r) reached.turn) [
               | inl before ↦ omega (arith, others r other, so_far.passed r lt before, (are.level.farther r lt).1)
               | inr later ↦ omega (arith, others r other, so_far.waiting r lt (omega (arith, later)), (are.level.farther r lt).0)
@@ -172,23 +178,11 @@ module _ {N : Type 0} {number : N → ℕ} {most : ℕ} {turns : Turns N} (are :
         };
       }
         where
-          level : AreFarther turns.first (low owner) (near owner) (far owner)
-          level = are.level.farther owner in_nodes
-
-          tells : IsStopTold turns.first (cells_in number offer) offer.keys owner (near owner) (number to) (far owner) stop.number
-          tells = stop-tells turns.first (near owner) stop.next stop.on
-
-          outside : lets_through turns.first (near owner) (cells_in number offer owner stop.next.key) ≡ false
-          outside = ap (lets_through turns.first (near owner)) stop.next.is ∙ tells.0
-
-          inside : lets_through turns.first (far owner) (cells_in number offer owner stop.next.key) ≡ true
-          inside = ap (lets_through turns.first (far owner)) stop.next.is ∙ tells.1
-
-          above : low owner ≤ number to
-          above = above-low turns.first (low owner) (near owner) (far owner) (number to) level stop.on tells.3
+          tells : IsStopTold turns.first (cells_in number offer) offer.keys owner (low owner) (near owner) (number to) (far owner) stop.number
+          tells = stop-tells turns.first (low owner) (near owner) (are.level.farther owner in_nodes) stop.next stop.on
 
           ordered : AreFarther turns.first (low owner) (near owner) (number to)
-          ordered = (level.0, above, stop.on)
+          ordered = ((are.level.farther owner in_nodes).0, tells.above, stop.on)
 
 module _ {N : Type 0} {number : N → ℕ} {most : ℕ} {turns : Turns N} {owner : ℕ} (has : HasTurn number most turns owner) where
   abbrev first-mark : ℕ

@@ -1,6 +1,6 @@
 -- Levels of what is offered, as marks: near marks let through whole levels, and far marks one level more, which doesn't
 -- fit. Source: this project.
-use Rattle.std.specs.Prelude.{◌≡◌, ◌⊎◌, ℕ, ◌+◌, ◌*◌, ◌<◌, ◌≤◌, nat_eq, List, length, map, if◌then◌else◌}
+use Rattle.std.specs.Prelude.{◌≡◌, ◌⊎◌, ℕ, ◌+◌, ◌*◌, ◌<◌, ◌≤◌, nat_eq, nat_le, List, length, map, if◌then◌else◌}
 use Rattle.delta_plans.specs.declared.marked.First.{First}
 use Rattle.delta_plans.specs.declared.marked.First.TheVariants.{Oldest}
 use Rattle.bench_types.specs.Budget.{amount_of}
@@ -79,17 +79,12 @@ pub record HasLayers {N : Type 0} (number : N → ℕ) (offer : Offer N) (level 
   pub shape : AreLayers (cells_in number offer) offer.nodes offer.keys (low_in number offer)
       (marks number level.near.items) (marks number level.far.items)
 
--- a mark that goes all the way for owners that have so many numbers, and for others not at all
-pub record IsMarkFrom (count low high size mark : ℕ) : Type 0 where
-  pub all : size ≤ count → mark ≡ high
-  pub none : count < size → mark ≡ low
-
--- and so each owner's
+-- each owner's mark goes all the way where it has so many numbers, and else not at all
 abbrev pub AreMarksFrom : {N : Type 0} → (N → ℕ) → Offer N → ℕ → (ℕ → ℕ) → Type 0
 AreMarksFrom number offer size mark =
     (owner : ℕ) → owner < offer.nodes
-    → IsMarkFrom (owner_count_in number offer owner) (low_in number offer owner) (high_in number offer owner) size
-    (mark owner)
+    → mark owner ≡ (if nat_le size (owner_count_in number offer owner) then high_in number offer owner
+    else low_in number offer owner)
 
 -- near marks, how many numbers each owner has, and so many as some may have
 pub record AreRunsFrom {N : Type 0} (number : N → ℕ) (most : ℕ) (offer : Offer N) (counts near : List N)

@@ -1,7 +1,6 @@
 -- What a budget lets through of candidates, told by any set of them. Source: this project.
 use Rattle.std.specs.Prelude.{◌≡◌, ◌≢◌, ℕ, ◌+◌, ◌<◌, ◌≤◌, ◌↔◌, Bool, true, false, not, List, length, count_by, Contains, if◌then◌else◌}
 use Rattle.std.specs.List.{sum_by}
-use Rattle.std.specs.Ordering.{is_lt}
 use Rattle.std.specs.declared.cmp.Ordering.{Ordering}
 use Rattle.std.specs.declared.cmp.Ordering.TheVariants.{Less}
 use Rattle.bench_types.specs.declared.entries.Item.{Item}
@@ -32,18 +31,6 @@ module _ {X : Type 0} (order : X → X → Ordering) (candidates : List X) (size
         → order c d ≡ Less → is_in d ≡ true → is_in c ≡ true
     pub within : size_in ≤ budget
     pub tight : (c : X) → Contains candidates c → is_in c ≡ false → IsKeptOut budget c
-
-  -- the set is what comes before one candidate, which doesn't fit beside it
-  pub record EndsBefore (budget : ℕ) (next : X) : Type 0 where
-    pub candidate : Contains candidates next
-    pub set : (c : X) → Contains candidates c → is_in c ≡ is_lt (order c next)
-    pub within : size_in ≤ budget
-    pub beyond : budget < size_in + size next
-
-  -- the set is all, and fits
-  pub record HasAll (budget : ℕ) : Type 0 where
-    pub all : (c : X) → Contains candidates c → is_in c ≡ true
-    pub within : size_in ≤ budget
 
 -- a delta has those of the candidates that are in the set, and cuts the others
 pub record HasSet (candidates : List Item) (is_in : Item → Bool) (delta : DeltaView) : Type 0 where

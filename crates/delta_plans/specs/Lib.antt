@@ -1,4 +1,5 @@
 pub mod Firsts
+pub mod Granted
 pub mod Grids
 pub mod LevelMarks
 pub mod Marked

@@ -1,7 +1,6 @@
 //! Layers: one number more of each owner at a time, as long as they fit.
 
-ghost use Rattle.std.specs.Prelude.{IfOk, IsOkUnless};
-ghost use Rattle.bench_types.specs.declared.faults.Fault.TheVariants.{OutOfMemory};
+ghost use Rattle.delta_plans.specs.Granted.{IfGranted};
 ghost use Rattle.bench_types.specs.declared.exchanges.Mode.TheVariants.{ScuttleBreadth};
 ghost use Rattle.delta_plans.specs.Marked.{IsLevelOf};
 ghost use Rattle.delta_plans.specs.OfferInMemory.{marks, HasMarks, IsTooLarge};
@@ -15,8 +14,7 @@ use std::alloc::Global;
 // One number more of each owner that has one. The marks of the others stay.
 fn one_more<N: Number>(alloc: Global, offer: &Offer<N>, near: &[N]) -> Result<Step<N>, Fault>
     requires { HasMarks N.number N.most offer.now near.now offer.now.high.now }
-    ensures layer { IfOk result (IsNextLayer N.number offer.now (marks N.number near.now)) }
-    ensures only { IsOkUnless result OutOfMemory }
+    ensures { IfGranted result (IsNextLayer N.number offer.now (marks N.number near.now)) }
 {
     let grid = Grid {
         cells: offer.cells,
@@ -40,8 +38,7 @@ fn one_more<N: Number>(alloc: Global, offer: &Offer<N>, near: &[N]) -> Result<St
 /// Layers as long as they fit, and the first that doesn't.
 pub(crate) fn breadth<N: Number>(alloc: Global, offer: &Offer<N>) -> Result<Level<N>, Fault>
     requires offer { IsTooLarge N.number N.most offer.now }
-    ensures level { IfOk result (IsLevelOf ScuttleBreadth N.number offer.now) }
-    ensures only { IsOkUnless result OutOfMemory }
+    ensures { IfGranted result (IsLevelOf ScuttleBreadth N.number offer.now) }
 {
     let near = Vec::from_slice(alloc, offer.low)?;
     let first = one_more(alloc, offer, &near)?;

@@ -1,7 +1,7 @@
 //! Runs: all that an owner offers, the longest run first, as long as they fit.
 
-ghost use Rattle.std.specs.Prelude.{ℕ, ◌<◌, ◌≤◌, IfOk, IsOkUnless, length, map, slice_index};
-ghost use Rattle.bench_types.specs.declared.faults.Fault.TheVariants.{OutOfMemory};
+ghost use Rattle.std.specs.Prelude.{ℕ, ◌<◌, ◌≤◌, length, map, slice_index};
+ghost use Rattle.delta_plans.specs.Granted.{IfGranted};
 ghost use Rattle.bench_types.specs.declared.limits.TheConstants.{MOST_KEYS};
 ghost use Rattle.bench_types.specs.declared.exchanges.Mode.TheVariants.{ScuttleDepth};
 ghost use Rattle.delta_plans.specs.Marked.{IsLevelOf};
@@ -35,9 +35,8 @@ fn next_runs<N: Number>(
     size: u32,
 ) -> Result<Step<N>, Fault>
     requires { AreRunsFrom N.number N.most offer.now counts.now near.now size }
-    ensures runs { IfOk result
+    ensures { IfGranted result
         (λ s. AreNextRuns N.number offer.now (marks N.number near.now) size s) }
-    ensures only { IsOkUnless result OutOfMemory }
 {
     let mut marks = Vec::from_slice(alloc, near)?;
     let all: &mut [N] = &mut marks;
@@ -55,8 +54,7 @@ fn next_runs<N: Number>(
 /// Runs as long as they fit, the longest first, and the first that don't.
 pub(crate) fn depth<N: Number>(alloc: Global, offer: &Offer<N>) -> Result<Level<N>, Fault>
     requires offer { IsTooLarge N.number N.most offer.now }
-    ensures level { IfOk result (IsLevelOf ScuttleDepth N.number offer.now) }
-    ensures only { IsOkUnless result OutOfMemory }
+    ensures { IfGranted result (IsLevelOf ScuttleDepth N.number offer.now) }
 {
     let grid = Grid {
         cells: offer.cells,

@@ -3,6 +3,7 @@
 ghost use Rattle.std.specs.Prelude.{◌≡◌, ◌<◌, length, map, IfOk, IsOkUnless};
 ghost use Rattle.bench_types.specs.declared.faults.Fault.TheVariants.{OutOfMemory};
 ghost use Rattle.delta_plans.specs.Firsts.{by_first};
+ghost use Rattle.delta_plans.specs.Granted.{IfGranted};
 ghost use Rattle.delta_plans.specs.LevelMarks.{first_sent};
 ghost use Rattle.delta_plans.specs.Marked.{AreMarked, IsLevelOf};
 ghost use Rattle.delta_plans.specs.OfferInMemory.{marks, IsCountOffered, IsOffer};
@@ -93,9 +94,8 @@ pub fn planned<N: Number>(
 }
 
 fn whole_mark<N: Number>(alloc: Global, offer: &Offer<N>, first: First) -> Result<Vec<N>, Fault>
-    ensures marks { IfOk result (λ v. map N.number v.items
+    ensures { IfGranted result (λ v. map N.number v.items
         ≡ by_first first (map N.number offer.now.high.now) (map N.number offer.now.low.now)) }
-    ensures only { IsOkUnless result OutOfMemory }
 {
     match first {
         First::Oldest => Ok(Vec::from_slice(alloc, offer.high)?),
@@ -111,8 +111,7 @@ fn level_of<N: Number>(
     found: u32,
 ) -> Result<Level<N>, Fault>
     requires { IsAsked N.number N.most offer.now ends found }
-    ensures level { IfOk result (IsLevelOf mode N.number offer.now) }
-    ensures only { IsOkUnless result OutOfMemory }
+    ensures { IfGranted result (IsLevelOf mode N.number offer.now) }
 {
     match mode {
         Mode::ScuttleBreadth => breadth(alloc, offer),

@@ -1,7 +1,7 @@
 //! Rounds: all that was written in a round, the oldest or the newest first, as long as they fit.
 
-ghost use Rattle.std.specs.Prelude.{◌≡◌, ◌+◌, ◌-◌, ◌≤◌, length, map, max, slice_index, IfOk, IsOkUnless};
-ghost use Rattle.bench_types.specs.declared.faults.Fault.TheVariants.{OutOfMemory};
+ghost use Rattle.std.specs.Prelude.{◌≡◌, ◌+◌, ◌-◌, ◌≤◌, length, map, max, slice_index};
+ghost use Rattle.delta_plans.specs.Granted.{IfGranted};
 ghost use Rattle.planes.specs.Elementwise.{AreChanged};
 ghost use Rattle.bench_types.specs.Budget.{amount_of};
 ghost use Rattle.delta_plans.specs.OfferInMemory.{marks, IsLeftOf};
@@ -43,8 +43,7 @@ impl<'a, 'b, N: Number> Rounds<'a, 'b, N> {
     /// The first round that doesn't fit with those before it, from the oldest on or from the newest on.
     pub(crate) fn level(&self, alloc: Global) -> Result<Level<N>, Fault>
         requires { HasRounds N.number N.most self.now }
-        ensures level { IfOk result (IsLevelOfRounds N.number self.now) }
-        ensures only { IsOkUnless result OutOfMemory }
+        ensures { IfGranted result (IsLevelOfRounds N.number self.now) }
     {
         let few = self.few_rounds(alloc)?;
         let near = self.mark_after(alloc, few.enough - 1)?;
@@ -78,9 +77,8 @@ impl<'a, 'b, N: Number> Rounds<'a, 'b, N> {
     // on.
     fn few_rounds(&self, alloc: Global) -> Result<Few, Fault>
         requires { HasRounds N.number N.most self.now }
-        ensures few { IfOk result
+        ensures { IfGranted result
             (λ few. AreFewAndEnough N.number self.now (few.enough - 1) few.enough few.whole few.left) }
-        ensures only { IsOkUnless result OutOfMemory }
     {
         let mut few = 0;
         let mut enough = self.ends.rounds;
@@ -169,8 +167,7 @@ impl<'a, 'b, N: Number> Rounds<'a, 'b, N> {
     fn mark_after(&self, alloc: Global, count: u32) -> Result<Vec<N>, Fault>
         requires rounds { HasRounds N.number N.most self.now }
         requires count { count ≤ self.now.ends.rounds }
-        ensures marks { IfOk result (λ v. AreRoundMarks N.number self.now count v.items) }
-        ensures only { IsOkUnless result OutOfMemory }
+        ensures { IfGranted result (λ v. AreRoundMarks N.number self.now count v.items) }
     {
         let round = match self.first {
             First::Oldest => count,

@@ -1,8 +1,8 @@
 //! A level that doesn't fit, shared out: the owners take turns from the rotation on, up to the first number that
 //! doesn't fit.
 
-ghost use Rattle.std.specs.Prelude.{◌≡◌, ℕ, ◌+◌, ◌-◌, ◌<◌, ◌≤◌, IfOk, IsOkUnless};
-ghost use Rattle.bench_types.specs.declared.faults.Fault.TheVariants.{OutOfMemory};
+ghost use Rattle.std.specs.Prelude.{◌≡◌, ℕ, ◌+◌, ◌-◌, ◌<◌, ◌≤◌};
+ghost use Rattle.delta_plans.specs.Granted.{IfGranted};
 ghost use Rattle.delta_plans.specs.Firsts.{by_first};
 ghost use Rattle.delta_plans.specs.OfferInMemory.{marks, weights_in};
 ghost use Rattle.delta_plans.specs.Turns.{part_weight, parts_count, AreKnownFor, ArePassedBy, AreSharedBy, AreTurns, HasReached, HasTurn, HaveTurns, IsOwnerOfTurn, KnowsPart};
@@ -250,8 +250,7 @@ impl<'a, 'b, N: Number> Turns<'a, 'b, N> {
     /// What of the levels and of the one that doesn't fit is sent.
     pub(crate) fn share(&self, alloc: Global) -> Result<Share<N>, Fault>
         requires turns { AreTurns N.number N.most self.now }
-        ensures shared { IfOk result (λ s. AreSharedBy N.number self.now s.mark.items s.sent) }
-        ensures only { IsOkUnless result OutOfMemory }
+        ensures { IfGranted result (λ s. AreSharedBy N.number self.now s.mark.items s.sent) }
     {
         let mut counts = all_of(alloc, self.offer.nodes, N::greatest())?;
         let mut mark = Vec::from_slice(alloc, &self.level.near)?;

@@ -5,7 +5,7 @@ use Rattle.delta_plans.proofs.breadths.breadth.Goals as goal
 
 pub loop-left-init : goal.loop-left-init
 loop-left-init g c =
-    let layer = subst (λ xs. IsNextLayer g.N.Number.number c.args.offer.now (marks g.N.Number.number xs) c.in_ok-first.first) c.deref.ensures.value c.in_ok-first.ensures.layer in
+    let layer = subst (λ xs. IsNextLayer g.N.Number.number c.args.offer.now (marks g.N.Number.number xs) c.in_ok-first.first) c.deref.ensures.value c.in_ok-first.ensures.0 in
     record { has = layers-first c.requires.offer.is_offer c.first_level-level.ensures c.in_ok-near.ensures.items layer }
 
 pub left_of-requires : goal.left_of-requires
@@ -26,14 +26,16 @@ loop-left-preserved g c =
     let is = c.requires.offer.is_offer in
     let has = c.loop-left.invariant.has in
     let fits = level-told is has.so_far c.deref-in-loop-left.ensures.value c.deref-in-loop-left-2.ensures.value c.in-Some.is c.left_of.ensures in
-    let layer = subst (λ xs. IsNextLayer g.N.Number.number c.args.offer.now (marks g.N.Number.number xs) c.in_ok-next.next) c.deref-in-Some.ensures.value c.in_ok-next.ensures.layer in
+    let layer = subst (λ xs. IsNextLayer g.N.Number.number c.args.offer.now (marks g.N.Number.number xs) c.in_ok-next.next) c.deref-in-Some.ensures.value c.in_ok-next.ensures.0 in
     record { has = layers-next is has fits c.next-level.ensures layer }
 
-pub returns-clause-level : goal.returns-clause-level
-returns-clause-level g c =
+pub returns : goal.returns
+returns g c =
     let is = c.requires.offer.is_offer in
-    let has = c.loop-left.invariant.has in
-    record {
-      is_level = level-ends is has.so_far (level-told is has.so_far c.deref-in-loop-left.ensures.value c.deref-in-loop-left-2.ensures.value c.in_default.is c.left_of.ensures);
-      shape = has.shape;
-    }
+    let has = c.loop-left.invariant.has in (
+      record {
+        is_level = level-ends is has.so_far (level-told is has.so_far c.deref-in-loop-left.ensures.value c.deref-in-loop-left-2.ensures.value c.in_default.is c.left_of.ensures);
+        shape = has.shape;
+      },
+      tt,
+    )

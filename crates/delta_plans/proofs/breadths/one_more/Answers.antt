@@ -17,8 +17,8 @@ loop-r-preserved g c =
     (c.pick.ensures ∙ (λ i. if found i then least i else mark i))
     (c.one_if-more.ensures ∙ (λ i. if found i then 1 else 0))
 
-pub returns-clause-layer : goal.returns-clause-layer
-returns-clause-layer g c =
+pub returns : goal.returns
+returns g c =
     let number = g.N.Number.number in
     let most = g.N.Number.most in
     let offer = c.args.offer.now in
@@ -36,14 +36,16 @@ returns-clause-layer g c =
     in
     let same = λ (owner : ℕ). ap (λ xs. marks number xs owner) whole in
     let nexts : (owner : ℕ) → owner < offer.nodes → IsNextMark cells offer.keys owner (near owner) (marks number (with_items c.in_ok-marks.marks new).items owner) =
-    λ owner lt. subst (IsNextMark cells offer.keys owner (near owner)) (same owner) (next.each owner lt) in
-    record {
-      is_step = record {
-        count = sym (ap length whole) ∙ sym (length-map new number) ∙ next.size;
-        rises = λ owner lt. elim (nexts owner lt) [ inl none ↦ omega (arith, none.1) | inr some ↦ omega (arith, some.above) ];
-        more =
-            layer-counted number most offer c.requires.is_offer near c.in_ok-marks.marks.items old new c.loop-r.more c.deref_mut-all.ensures.value c.in_ok-marks.ensures.least all.0 all.1
-            ∙ ap (λ xs. count_in number offer near (marks number xs)) whole;
-      };
-      next = nexts;
-    }
+    λ owner lt. subst (IsNextMark cells offer.keys owner (near owner)) (same owner) (next.each owner lt) in (
+      record {
+        is_step = record {
+          count = sym (ap length whole) ∙ sym (length-map new number) ∙ next.size;
+          rises = λ owner lt. elim (nexts owner lt) [ inl none ↦ omega (arith, none.1) | inr some ↦ omega (arith, some.above) ];
+          more =
+              layer-counted number most offer c.requires.is_offer near c.in_ok-marks.marks.items old new c.loop-r.more c.deref_mut-all.ensures.value c.in_ok-marks.ensures.least all.0 all.1
+              ∙ ap (λ xs. count_in number offer near (marks number xs)) whole;
+        };
+        next = nexts;
+      },
+      tt,
+    )

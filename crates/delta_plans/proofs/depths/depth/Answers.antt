@@ -15,7 +15,7 @@ loop-left-init g c =
     let number = g.N.Number.number in
     let known = c.in_ok-counts.ensures.counts in
     let size = c.greatest_of-size.result in
-    let runs = subst (λ xs. AreNextRuns number c.args.offer.now (marks number xs) size c.in_ok-first.first) c.deref-3.ensures.value c.in_ok-first.ensures.runs in
+    let runs = subst (λ xs. AreNextRuns number c.args.offer.now (marks number xs) size c.in_ok-first.first) c.deref-3.ensures.value c.in_ok-first.ensures.0 in
     let longest = subst (λ xs. (r : ℕ) → r < length xs → get_or (map number xs) r 0 ≤ size) c.deref.ensures.value c.greatest_of-size.ensures.greatest in
     record {
       has = runs-first c.requires.offer.is_offer c.requires.offer.beyond
@@ -33,15 +33,17 @@ pub loop-left-preserved : goal.loop-left-preserved
 loop-left-preserved g c =
     let is = c.requires.offer.is_offer in
     let has = c.loop-left.invariant.has in
-    let runs = subst (λ xs. AreNextRuns g.N.Number.number c.args.offer.now (marks g.N.Number.number xs) (c.loop-left.size - 1) c.in_ok-next.next) c.deref-in-Some-2.ensures.value c.in_ok-next.ensures.runs in
+    let runs = subst (λ xs. AreNextRuns g.N.Number.number c.args.offer.now (marks g.N.Number.number xs) (c.loop-left.size - 1) c.in_ok-next.next) c.deref-in-Some-2.ensures.value c.in_ok-next.ensures.0 in
     let fits = level-told is has.so_far c.deref-in-loop-left.ensures.value c.deref-in-loop-left-2.ensures.value c.in-Some.is c.left_of.ensures in
     record { has = runs-next is c.requires.offer.beyond has fits c.next-level.ensures runs }
 
-pub returns-clause-level : goal.returns-clause-level
-returns-clause-level g c =
+pub returns : goal.returns
+returns g c =
     let is = c.requires.offer.is_offer in
-    let has = c.loop-left.invariant.has in
-    record {
-      is_level = level-ends is has.so_far (level-told is has.so_far c.deref-in-loop-left.ensures.value c.deref-in-loop-left-2.ensures.value c.in_default.is c.left_of.ensures);
-      shape = runs-of_level is c.requires.offer.beyond has;
-    }
+    let has = c.loop-left.invariant.has in (
+      record {
+        is_level = level-ends is has.so_far (level-told is has.so_far c.deref-in-loop-left.ensures.value c.deref-in-loop-left-2.ensures.value c.in_default.is c.left_of.ensures);
+        shape = runs-of_level is c.requires.offer.beyond has;
+      },
+      tt,
+    )

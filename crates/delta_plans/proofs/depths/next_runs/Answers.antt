@@ -45,7 +45,4 @@ returns g c =
     let start : old ≡ c.args.near.now = c.deref_mut-all.ensures.value ∙ c.in_ok-marks.ensures.items in
     let whole : xs ≡ new = with_items_is v new (c.loop-r.auto.all ∙ c.deref_mut-all.ensures.len) in
     let all = counted_all _ _ number old new c.loop-r.r c.loop-r.owners c.loop-r.invariant (omega (arith, c.loop-r-test.false)) (omega (arith, c.loop-r.auto.r-end)) in
-    record {
-      runs = next-runs number offer c.args.near.now c.args.counts.now old new _ c.args.size c.loop-r.owners start c.requires.each_near whole refl c.requires.counts_are all.0 all.1;
-      only = tt;
-    }
+    (next-runs number offer c.args.near.now c.args.counts.now old new _ c.args.size c.loop-r.owners start c.requires.each_near whole refl c.requires.counts_are all.0 all.1, tt)

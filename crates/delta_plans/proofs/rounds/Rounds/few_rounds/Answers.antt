@@ -17,18 +17,20 @@ loop-few-preserved g c =
       | then-found_there w ↦ record {
         found =
             transport (λ i. AreFewAndEnough g.N.Number.number rounds (sym w.few-is i) (sym w.enough-is i) (sym w.whole-is i) (sym w.left-is i))
-            (further rounds c.requires (c.loop-few.few + c.min-by.result) c.in_ok-mark.mark.items c.in_ok-mark.ensures.marks so_far look less w.if-found_there.true);
+            (further rounds c.requires (c.loop-few.few + c.min-by.result) c.in_ok-mark.mark.items c.in_ok-mark.ensures.0 so_far look less w.if-found_there.true);
         step = omega (arith, w.step-is, some);
       }
       | else-found_there w ↦ record {
         found =
             transport (λ i. AreFewAndEnough g.N.Number.number rounds (sym w.few-is i) (sym w.enough-is i) (sym w.whole-is i) (sym w.left-is i))
-            (nearer rounds c.requires (c.loop-few.few + c.min-by.result) c.in_ok-mark.mark.items c.in_ok-mark.ensures.marks so_far look (omega (arith, some)) (omega (arith, less)) w.if-found_there.false);
+            (nearer rounds c.requires (c.loop-few.few + c.min-by.result) c.in_ok-mark.mark.items c.in_ok-mark.ensures.0 so_far look (omega (arith, some)) (omega (arith, less)) w.if-found_there.false);
         step = omega (arith, w.step-is, c.loop-few.invariant.step);
       }
     ]
 
-pub returns-clause-few : goal.returns-clause-few
-returns-clause-few g c =
-    subst (λ few. AreFewAndEnough g.N.Number.number c.args.self.now few c.loop-few.enough c.loop-few.whole c.loop-few.left) {x = c.loop-few.few} {y = c.loop-few.enough - 1}
-    (omega (arith, c.loop-few-test.false, c.loop-few.invariant.found.below)) c.loop-few.invariant.found
+pub returns : goal.returns
+returns g c = (
+  subst (λ few. AreFewAndEnough g.N.Number.number c.args.self.now few c.loop-few.enough c.loop-few.whole c.loop-few.left) {x = c.loop-few.few} {y = c.loop-few.enough - 1}
+      (omega (arith, c.loop-few-test.false, c.loop-few.invariant.found.below)) c.loop-few.invariant.found,
+  tt,
+)

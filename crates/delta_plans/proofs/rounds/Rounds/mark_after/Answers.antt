@@ -2,8 +2,8 @@ use Rattle.delta_plans.proofs.Common.{◌≡◌, length, map, max, get_or, ap, s
 use Rattle.delta_plans.proofs.rounds.Rounds.mark_after.Goals as goal
 use Rattle.delta_plans.proofs.rounds.Rounds.mark_after.Goals.{in-Oldest, in-Newest}
 
-pub returns-clause-marks : goal.returns-clause-marks
-returns-clause-marks g c =
+pub returns : goal.returns
+returns g c =
     let number = g.N.Number.number in
     let offer = c.args.self.now.offer.now in
     let ends = map number c.args.self.now.ends.numbers.now in
@@ -15,12 +15,14 @@ returns-clause-marks g c =
       | in-Oldest w ↦ w.round-is ∙ (λ i. round_at (sym w.in-Oldest.is i) c.args.self.now.ends.rounds c.args.count)
     ]
     in
-    let whole = with_items_is c.in_ok-mark.mark c.raise.new.numbers (c.raise.auto.numbers ∙ c.deref_mut.ensures.len) in
-    subst (λ at. HasEach offer.nodes (λ r n. n ≡ end_mark ends offer.nodes low at r) (map number (with_items c.in_ok-mark.mark c.raise.new.numbers).items)) round
-    (subst (λ xs. HasEach offer.nodes (λ r n. n ≡ end_mark ends offer.nodes low c.match-self.round r) (map number xs)) (sym whole)
-    (record {
-      size = c.raise.ensures.size ∙ length-map c.deref_mut.result.now number ∙ ap length start ∙ c.requires.rounds.too_large.is_offer.low;
-      each = λ r lt.
-          c.raise.ensures.each r (omega (arith, lt, length-map c.deref_mut.result.now number, ap length start, c.requires.rounds.too_large.is_offer.low))
-          ∙ (λ i. max (get_or (map number (start i)) r 0) (c.row-row.ensures.each r lt i));
-    }))
+    let whole = with_items_is c.in_ok-mark.mark c.raise.new.numbers (c.raise.auto.numbers ∙ c.deref_mut.ensures.len) in (
+      subst (λ at. HasEach offer.nodes (λ r n. n ≡ end_mark ends offer.nodes low at r) (map number (with_items c.in_ok-mark.mark c.raise.new.numbers).items)) round
+          (subst (λ xs. HasEach offer.nodes (λ r n. n ≡ end_mark ends offer.nodes low c.match-self.round r) (map number xs)) (sym whole)
+          (record {
+            size = c.raise.ensures.size ∙ length-map c.deref_mut.result.now number ∙ ap length start ∙ c.requires.rounds.too_large.is_offer.low;
+            each = λ r lt.
+                c.raise.ensures.each r (omega (arith, lt, length-map c.deref_mut.result.now number, ap length start, c.requires.rounds.too_large.is_offer.low))
+                ∙ (λ i. max (get_or (map number (start i)) r 0) (c.row-row.ensures.each r lt i));
+          })),
+      tt,
+    )

@@ -1,8 +1,10 @@
 use Rattle.delta_plans.proofs.Common.{sym, ◌∙◌, subst, with_items_is, AreSharedBy}
 use Rattle.delta_plans.proofs.sharing.Turns.share.Goals as goal
 
-pub returns-clause-shared : goal.returns-clause-shared
-returns-clause-shared g c =
-    subst (λ xs. AreSharedBy g.N.Number.number c.args.self.now xs c.share_into-sent.result)
-    (sym (with_items_is c.in_ok-mark.mark c.share_into-sent.new.mark (c.share_into-sent.auto.mark ∙ c.deref_mut-2.ensures.len)))
-    c.share_into-sent.ensures
+pub returns : goal.returns
+returns g c = (
+  subst (λ xs. AreSharedBy g.N.Number.number c.args.self.now xs c.share_into-sent.result)
+      (sym (with_items_is c.in_ok-mark.mark c.share_into-sent.new.mark (c.share_into-sent.auto.mark ∙ c.deref_mut-2.ensures.len)))
+      c.share_into-sent.ensures,
+  tt,
+)

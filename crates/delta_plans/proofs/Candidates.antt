@@ -24,7 +24,8 @@ module _ {mode : Mode} {from to : Table} {lists : ℕ → List Entry} {cells : C
   candidate-place c there = given.proper.in_place c.owner c.entry.key c.entry (candidate-held c there).0
 
   -- it is the write of its number, which is above the owner's mark
-  pub candidate-number : (c : Item) → Contains cs c → (low c.owner < item_number cells c) × (write_numbered (lists c.owner) (item_number cells c) ≡ Some c.entry)
+  pub candidate-number : (c : Item) → Contains cs c
+      → (low c.owner < item_number cells c) × (write_numbered (lists c.owner) (item_number cells c) ≡ Some c.entry)
   candidate-number c there = elim (cases_lt (low c.owner) (item_number cells c)) [
     | inl above ↦
         let place = candidate-place c there in
@@ -37,10 +38,15 @@ module _ {mode : Mode} {from to : Table} {lists : ℕ → List Entry} {cells : C
       held = candidate-held c there
 
   -- each number above its owner's mark is that of a candidate
-  pub candidate-at : (owner key : ℕ) → owner < from.nodes → key < from.keys → low owner < cells owner key → (e : Entry) × (entry_at from owner key ≡ Some e) × Contains cs (record { owner = owner; entry = e })
+  pub candidate-at : (owner key : ℕ) → owner < from.nodes → key < from.keys → low owner < cells owner key
+      → (e : Entry) × (entry_at from owner key ≡ Some e) × Contains cs (record { owner = owner; entry = e })
   candidate-at owner key in_nodes in_keys lt =
-      let found = given.offers.above owner key in_nodes in_keys lt in
-      (found.0, found.1, Contains-filter (is_lacked mode to) (items_of from) (record { owner = owner; entry = found.0 }) (Contains-items_of from owner key found.0 found.1) found.3)
+      let found = given.offers.above owner key in_nodes in_keys lt in (
+        found.0,
+        found.1,
+        Contains-filter (is_lacked mode to) (items_of from) (record { owner = owner; entry = found.0 })
+            (Contains-items_of from owner key found.0 found.1) found.3,
+      )
 
   -- two candidates of one owner
   module _ (c d : Item) (in_c : Contains cs c) (in_d : Contains cs d) (owners : c.owner ≡ d.owner) where
@@ -55,15 +61,18 @@ module _ {mode : Mode} {from to : Table} {lists : ℕ → List Entry} {cells : C
 
     pub one_item : item_number cells c ≡ item_number cells d → c ≡ d
     one_item same =
-        let entries : c.entry ≡ d.entry = same_Some c.entry d.entry (sym (candidate-number c in_c).1 ∙ ap (write_numbered (lists c.owner)) same ∙ other_number) in
+        let entries : c.entry ≡ d.entry = same_Some c.entry d.entry
+        (sym (candidate-number c in_c).1 ∙ ap (write_numbered (lists c.owner)) same ∙ other_number) in
         λ i. record { owner = owners i; entry = entries i }
 
     -- versions rise with the numbers
     pub older : item_number cells c < item_number cells d → c.entry.version < d.entry.version
-    older = versions-rise (lists c.owner) (given.histories c.owner) (item_number cells c) (item_number cells d) c.entry d.entry (candidate-number c in_c).1 other_number alike
+    older = versions-rise (lists c.owner) (given.histories c.owner) (item_number cells c) (item_number cells d) c.entry d.entry
+        (candidate-number c in_c).1 other_number alike
 
     newer : c.entry.version < d.entry.version → item_number cells c < item_number cells d
-    newer = number-of_version (lists c.owner) (given.histories c.owner) (item_number cells c) (item_number cells d) c.entry d.entry (candidate-number c in_c).1 other_number alike
+    newer = number-of_version (lists c.owner) (given.histories c.owner) (item_number cells c) (item_number cells d) c.entry d.entry
+        (candidate-number c in_c).1 other_number alike
 
   -- what a candidate's place tells of it sums up over the places of numbers above the marks
   pub offered-sum : (f : Item → ℕ) (g : ℕ → ℕ → ℕ) → ((c : Item) → Contains cs c → f c ≡ g c.owner c.entry.key) → sum_by f cs ≡ offered_sum from cells low g
@@ -71,7 +80,8 @@ module _ {mode : Mode} {from to : Table} {lists : ℕ → List Entry} {cells : C
       candidates_sum mode from to given.proper f
       ∙ sum_below-same from.nodes _ _ (λ owner in_nodes. sum_below-same from.keys _ _ (λ key in_keys. at owner key in_nodes in_keys))
     where
-      at : (owner key : ℕ) → owner < from.nodes → key < from.keys → number_there (λ i. cond (is_lacked mode to i) (f i) 0) from owner key ≡ cond (ltb (low owner) (cells owner key)) (g owner key) 0
+      at : (owner key : ℕ) → owner < from.nodes → key < from.keys
+          → number_there (λ i. cond (is_lacked mode to i) (f i) 0) from owner key ≡ cond (ltb (low owner) (cells owner key)) (g owner key) 0
       at owner key in_nodes in_keys = elim (cases_lt (low owner) (cells owner key)) [
         | inl above ↦
             let there = candidate-at owner key in_nodes in_keys above in
@@ -89,9 +99,11 @@ module _ {mode : Mode} {from to : Table} {lists : ℕ → List Entry} {cells : C
 
   module _ (c : Item) (in_c : Contains cs c) where
     -- a number of one owner's places alone
-    of_owner : (g : ℕ → ℕ) → offered_sum from cells low (λ owner key. cond (eqb owner c.owner) (g key) 0) ≡ sum_below from.keys (λ key. cond (ltb (low c.owner) (cells c.owner key)) (g key) 0)
+    of_owner : (g : ℕ → ℕ) → offered_sum from cells low (λ owner key. cond (eqb owner c.owner) (g key) 0)
+        ≡ sum_below from.keys (λ key. cond (ltb (low c.owner) (cells c.owner key)) (g key) 0)
     of_owner g =
-        sum_below-one from.nodes c.owner _ (candidate-place c in_c).owner_below (λ owner lt other. sum_below-none from.keys _ (λ key lt'. grind (arith, nat_tests)))
+        sum_below-one from.nodes c.owner _ (candidate-place c in_c).owner_below
+        (λ owner lt other. sum_below-none from.keys _ (λ key lt'. grind (arith, nat_tests)))
         ∙ sum_below-same from.keys _ _ (λ key lt. grind (arith, nat_tests))
 
     -- how many candidates its owner has
@@ -112,7 +124,9 @@ module _ {mode : Mode} {from to : Table} {lists : ℕ → List Entry} {cells : C
           | inr other ↦ grind (arith, nat_tests)
         ]
 
-        told : (d : Item) → Contains cs d → where_true (eqb d.owner c.owner && ltb d.entry.version c.entry.version) 1 ≡ where_true (eqb d.owner c.owner) (where_true (ltb (item_number cells d) (item_number cells c)) 1)
+        told : (d : Item) → Contains cs d
+            → where_true (eqb d.owner c.owner && ltb d.entry.version c.entry.version) 1
+            ≡ where_true (eqb d.owner c.owner) (where_true (ltb (item_number cells d) (item_number cells c)) 1)
         told d in_d = elim (cases_eq d.owner c.owner) [
           | inr other ↦ grind (arith, nat_tests)
           | inl same ↦ let rise = older d c in_d in_c same in let fall = newer d c in_d in_c same in grind (arith, nat_tests)

@@ -52,7 +52,8 @@ module _ {mode : Mode} {from to : Table} {lists : ℕ → List Entry} {cells : C
     in_next = (candidate-at given stop.owner stop.key stop.owner_below stop.key_below stop.offered).2
 
     its_number : item_number cells next ≡ cells stop.owner stop.key
-    its_number = ap (cells stop.owner) (given.proper.in_place stop.owner stop.key entry (candidate-at given stop.owner stop.key stop.owner_below stop.key_below stop.offered).1).keyed
+    its_number = ap (cells stop.owner) (given.proper.in_place stop.owner stop.key entry
+        (candidate-at given stop.owner stop.key stop.owner_below stop.key_below stop.offered).1).keyed
 
     outside : lets_through first (near stop.owner) (item_number cells next) ≡ false
     outside = ap (lets_through first (near stop.owner)) its_number ∙ stop.outside
@@ -65,12 +66,14 @@ module _ {mode : Mode} {from to : Table} {lists : ℕ → List Entry} {cells : C
 
     -- what compares behind the levels
     abbrev behind : Item → Ordering
-    behind c = ordering_then (nat_cmp (turn c.owner) (turn stop.owner)) (ordering_then (age_cmp first c.entry.version entry.version) (nat_cmp c.entry.key entry.key))
+    behind c = ordering_then (nat_cmp (turn c.owner) (turn stop.owner))
+        (ordering_then (age_cmp first c.entry.version entry.version) (nat_cmp c.entry.key entry.key))
 
     by_levels : (c : Item) → Contains cs c → order c next ≡ ordering_then (level_cmp mode cs c next) (behind c)
     by_levels c in_c =
         order-levels mode from.nodes rotation cs c next in_nodes (candidate-place given c in_c).owner_below stop.owner_below in_c in_next
-        ∙ ap (λ o. ordering_then (level_cmp mode cs c next) (ordering_then (nat_cmp (turn c.owner) (turn stop.owner)) (ordering_then o (nat_cmp c.entry.key entry.key))))
+        ∙ ap (λ o. ordering_then (level_cmp mode cs c next)
+        (ordering_then (nat_cmp (turn c.owner) (turn stop.owner)) (ordering_then o (nat_cmp c.entry.key entry.key))))
         (version_cmp-first mode c.entry.version entry.version)
 
     -- of a level those go with the far marks that are less, and those with the near ones that are greater
@@ -87,7 +90,8 @@ module _ {mode : Mode} {from to : Table} {lists : ℕ → List Entry} {cells : C
         (ap (λ o. lets_through first (near o) n) owners ∙ outside) (ap (λ o. lets_through first (far o) n) owners ∙ inside)
         (λ before. by_far c in_c (by_version Less (version-first m n c.entry.version entry.version rise fall first before)))
         (λ after. by_near c in_c (by_version Greater (version-last m n c.entry.version entry.version rise fall first after)))
-        (λ same. ap is_lt (ap (order c) (sym (one_item given c next in_c in_next owners same)) ∙ tied_itself (sending_order-total mode from.nodes rotation cs) c))
+        (λ same. ap is_lt (ap (order c) (sym (one_item given c next in_c in_next owners same)) ∙ tied_itself
+        (sending_order-total mode from.nodes rotation cs) c))
       where
         m : ℕ
         m = item_number cells c
@@ -121,7 +125,8 @@ module _ {mode : Mode} {from to : Table} {lists : ℕ → List Entry} {cells : C
           | inl after ↦
               ap (λ m. lets_through first m (item_number cells c)) (stop.waiting c.owner place.owner_below after)
               ∙ by_near c in_c (by_turn Greater (nat_cmp-greater (turn c.owner) (turn stop.owner) after))
-          | inr same ↦ absurd (other (rotated-injective from.nodes rotation c.owner stop.owner in_nodes place.owner_below stop.owner_below (omega (arith, not_before, same))))
+          | inr same ↦ absurd (other (rotated-injective from.nodes rotation c.owner stop.owner in_nodes place.owner_below stop.owner_below
+              (omega (arith, not_before, same))))
         ]
       ]
     ]
@@ -129,22 +134,29 @@ module _ {mode : Mode} {from to : Table} {lists : ℕ → List Entry} {cells : C
         place : IsInPlace from.nodes from.keys c.owner c.entry.key c.entry
         place = candidate-place given c in_c
 
-        by_turn : (o : Ordering) → nat_cmp (turn c.owner) (turn stop.owner) ≡ o → behind c ≡ ordering_then o (ordering_then (age_cmp first c.entry.version entry.version) (nat_cmp c.entry.key entry.key))
+        by_turn : (o : Ordering) → nat_cmp (turn c.owner) (turn stop.owner) ≡ o
+            → behind c ≡ ordering_then o (ordering_then (age_cmp first c.entry.version entry.version) (nat_cmp c.entry.key entry.key))
         by_turn o is = ap (λ t. ordering_then t (ordering_then (age_cmp first c.entry.version entry.version) (nat_cmp c.entry.key entry.key))) is
 
   -- sums over what marks let through are weights
-  module _ {high : ℕ → ℕ} (covered : (owner : ℕ) → owner < from.nodes → HasNoneAbove cells from.keys owner (high owner)) (mark : ℕ → ℕ) (above : KeepsLow first from.nodes low mark) where
+  module _ {high : ℕ → ℕ} (covered : (owner : ℕ) → owner < from.nodes → HasNoneAbove cells from.keys owner (high owner)) (mark : ℕ → ℕ)
+      (above : KeepsLow first from.nodes low mark) where
     abbrev through : (ℕ → ℕ → ℕ) → ℕ
     through weights = weight_through first weights cells from.nodes from.keys low high mark
 
-    sum-through : (f : Item → ℕ) (weights : ℕ → ℕ → ℕ) → ((c : Item) → Contains cs c → f c ≡ cond (lets mode cells mark c) (weights c.owner (item_number cells c)) 0) → sum_by f cs ≡ through weights
-    sum-through f weights told = offered-sum given f (λ owner key. cond (lets_through first (mark owner) (cells owner key)) (weights owner (cells owner key)) 0) told ∙ by first above
+    sum-through : (f : Item → ℕ) (weights : ℕ → ℕ → ℕ)
+        → ((c : Item) → Contains cs c → f c ≡ cond (lets mode cells mark c) (weights c.owner (item_number cells c)) 0) → sum_by f cs ≡ through weights
+    sum-through f weights told = offered-sum given f
+        (λ owner key. cond (lets_through first (mark owner) (cells owner key)) (weights owner (cells owner key)) 0) told ∙ by first above
       where
         by : (f : First) → KeepsLow f from.nodes low mark
-            → sum_below from.nodes (λ owner. sum_below from.keys (λ key. cond (nat_lt (low owner) (cells owner key)) (cond (lets_through f (mark owner) (cells owner key)) (weights owner (cells owner key)) 0) 0))
+            → sum_below from.nodes (λ owner. sum_below from.keys
+            (λ key. cond (nat_lt (low owner) (cells owner key))
+            (cond (lets_through f (mark owner) (cells owner key)) (weights owner (cells owner key)) 0) 0))
             ≡ weight_through f weights cells from.nodes from.keys low high mark
         by Oldest _ = refl
-        by Newest above = sum_below-same from.nodes _ _ (λ owner lt. sum_below-same from.keys _ _ (λ key lt'. let le = above owner lt in let upto = covered owner lt key lt' in grind (arith, nat_tests)))
+        by Newest above = sum_below-same from.nodes _ _
+            (λ owner lt. sum_below-same from.keys _ _ (λ key lt'. let le = above owner lt in let upto = covered owner lt key lt' in grind (arith, nat_tests)))
 
     all-counted : sum_by (λ c. 1) cs ≡ weight_between one_each cells from.nodes from.keys low high
     all-counted =
@@ -165,8 +177,10 @@ module _ {mode : Mode} {from to : Table} {lists : ℕ → List Entry} {cells : C
       sizes-weigh = sum-through _ weights (λ c in_c. ap (λ n. cond (lets mode cells mark c) n 0) (share-is c in_c))
 
       -- marks that share out a level up to a number that doesn't fit give the delta
-      pub shared-sent : {near far : ℕ → ℕ} → HasShape mode lists cells from.nodes from.keys low near far → (stop : StopAt first rotation from.nodes from.keys cells low near far mark)
-          → through weights ≤ amount_of budget → amount_of budget < through weights + weights stop.owner (cells stop.owner stop.key) → HasSet cs (lets mode cells mark) delta
+      pub shared-sent : {near far : ℕ → ℕ} → HasShape mode lists cells from.nodes from.keys low near far
+          → (stop : StopAt first rotation from.nodes from.keys cells low near far mark)
+          → through weights ≤ amount_of budget → amount_of budget < through weights + weights stop.owner (cells stop.owner stop.key)
+          → HasSet cs (lets mode cells mark) delta
       shared-sent shape stop within beyond =
           set_sent mode rotation budget from to (lets mode cells mark) given.proper in_nodes
           (stops_sent order (sending_order-total mode from.nodes rotation cs) cs (item_share budget) (lets mode cells mark) (amount_of budget)
@@ -174,10 +188,12 @@ module _ {mode : Mode} {from to : Table} {lists : ℕ → List Entry} {cells : C
           (omega (arith, sizes-weigh, share-is (next shape stop) (in_next shape stop), ap (weights stop.owner) (its_number shape stop), beyond)))
 
       -- and marks that let all through, where it fits
-      pub whole-sent : ((c : Item) → Contains cs c → lets mode cells mark c ≡ true) → through weights ≤ amount_of budget → HasSet cs (lets mode cells mark) delta
+      pub whole-sent : ((c : Item) → Contains cs c → lets mode cells mark c ≡ true) → through weights ≤ amount_of budget
+          → HasSet cs (lets mode cells mark) delta
       whole-sent all within =
           set_sent mode rotation budget from to (lets mode cells mark) given.proper in_nodes
-          (all_sent order (sending_order-total mode from.nodes rotation cs) cs (item_share budget) (lets mode cells mark) (amount_of budget) all (omega (arith, sizes-weigh, within)))
+          (all_sent order (sending_order-total mode from.nodes rotation cs) cs (item_share budget) (lets mode cells mark) (amount_of budget) all
+          (omega (arith, sizes-weigh, within)))
 
       -- the delta that marks let through, as it is taken
       module _ (has : HasSet cs (lets mode cells mark) delta) where
@@ -187,19 +203,24 @@ module _ {mode : Mode} {from to : Table} {lists : ℕ → List Entry} {cells : C
         pub count-cut : length delta.items + delta.cut ≡ weight_between one_each cells from.nodes from.keys low high
         count-cut = omega (arith, has.count, has.cut, count-others (lets mode cells mark) cs, all-counted)
 
-        pub are-sent : (sent : ℕ → ℕ → Bool) → ((owner key : ℕ) → owner < from.nodes → key < from.keys → sent owner key ≡ (nat_lt (low owner) (cells owner key) && lets_through first (mark owner) (cells owner key)))
+        pub are-sent : (sent : ℕ → ℕ → Bool)
+            → ((owner key : ℕ) → owner < from.nodes → key < from.keys → sent owner key ≡
+            (nat_lt (low owner) (cells owner key) && lets_through first (mark owner) (cells owner key)))
             → AreSent from delta.items sent
         are-sent sent is = record {
           held = λ owner key lt lt' holds. let found = candidate-at given owner key lt lt' (parts owner key lt lt' holds).0 in (found.0, found.1);
           members = λ owner key e held. (into owner key e held, out_of owner key e held);
         }
           where
-            parts : (owner key : ℕ) → owner < from.nodes → key < from.keys → sent owner key ≡ true → (low owner < cells owner key) × (lets_through first (mark owner) (cells owner key) ≡ true)
+            parts : (owner key : ℕ) → owner < from.nodes → key < from.keys → sent owner key ≡ true
+                → (low owner < cells owner key) × (lets_through first (mark owner) (cells owner key) ≡ true)
             parts owner key lt lt' holds =
-                let both = and_parts (nat_lt (low owner) (cells owner key)) (lets_through first (mark owner) (cells owner key)) (sym (is owner key lt lt') ∙ holds) in
+                let both = and_parts (nat_lt (low owner) (cells owner key)) (lets_through first (mark owner) (cells owner key))
+                (sym (is owner key lt lt') ∙ holds) in
                 (ltb-true (low owner) (cells owner key) both.0, both.1)
 
-            into : (owner key : ℕ) (e : Entry) → entry_at from owner key ≡ Some e → sent owner key ≡ true → Contains delta.items (record { owner = owner; entry = e })
+            into : (owner key : ℕ) (e : Entry) → entry_at from owner key ≡ Some e → sent owner key ≡ true
+                → Contains delta.items (record { owner = owner; entry = e })
             into owner key e held holds =
                 let place = given.proper.in_place owner key e held in
                 let both = parts owner key place.owner_below place.key_below holds in
@@ -209,10 +230,12 @@ module _ {mode : Mode} {from to : Table} {lists : ℕ → List Entry} {cells : C
                   ap (λ k. lets_through first (mark owner) (cells owner k)) place.keyed ∙ both.1,
                 )
 
-            out_of : (owner key : ℕ) (e : Entry) → entry_at from owner key ≡ Some e → Contains delta.items (record { owner = owner; entry = e }) → sent owner key ≡ true
+            out_of : (owner key : ℕ) (e : Entry) → entry_at from owner key ≡ Some e → Contains delta.items (record { owner = owner; entry = e })
+                → sent owner key ≡ true
             out_of owner key e held in_items =
                 let place = given.proper.in_place owner key e held in
                 let both = (has.members (record { owner = owner; entry = e })).0 in_items in
                 let lt = (candidate-number given (record { owner = owner; entry = e }) both.0).0 in
                 is owner key place.owner_below place.key_below
-                ∙ (λ i. (lt-ltb (low owner) (cells owner key) (omega (arith, lt, ap (cells owner) place.keyed)) i) && ((sym (ap (λ k. lets_through first (mark owner) (cells owner k)) place.keyed) ∙ both.1) i))
+                ∙ (λ i. (lt-ltb (low owner) (cells owner key) (omega (arith, lt, ap (cells owner) place.keyed)) i) &&
+                ((sym (ap (λ k. lets_through first (mark owner) (cells owner k)) place.keyed) ∙ both.1) i))

@@ -1,5 +1,5 @@
 -- What goes first, by numbers, versions and marks.
--- Serves `LevelMarks` and `StopMarks`.
+-- Serves `DeltaMarks` and `LevelMarks`.
 use Rattle.delta_plans.proofs.Common.{Bool, ◌≡◌, ℕ, ◌<◌, true, false, arith, nat_tests, Less, Greater, ltb-true, nat_cmp-less, nat_cmp-greater, nat_cmp, Ordering, First, Oldest, Newest, comes_first, lets_through}
 
 -- rounds and versions compare: the lower first, or from the newest on the higher

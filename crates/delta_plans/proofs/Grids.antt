@@ -1,5 +1,5 @@
 -- The items of a table are those of its places, so a sum over them is one over all places.
--- Serves `OfferSums`, `SentSets` and `version_tables`.
+-- Serves `Candidates`, `SentSets` and `version_tables`.
 use Rattle.delta_plans.proofs.Common.{◌≡◌, ◌≢◌, ℕ, suc, ◌+◌, ◌<◌, Bool, true, false, cond, not, eqb, List, [], ◌∷◌, get_or, Some, None, refl, sym, ap, ◌∙◌, subst, arith, nat_tests, filter, Contains, Contains-get_or, ◌&&◌, sum_by, is_eq, eqb-true, and_parts, sum_by-cons, Item, Mode, mark_of, is_before, digest_kind, candidates, known_mark, Table, entry_at, items_of, IsProper, stands_at, items_at, items_at-none, items_at-apart, IsApart, entry_at-items_of, Contains-items_of, apart-items_of, tied-stands_at, sum_below, sum_below-same, number_here, number_there, sum_over}
 use Rattle.delta_plans.proofs.Sums.{sum_below-changed, sum_below-none}
 
@@ -79,7 +79,8 @@ module _ (t : Table) (proper : IsProper t) where
 
 -- a sum over the candidates from one table to another
 pub candidates_sum : (mode : Mode) (from to : Table) → IsProper from → (f : Item → ℕ)
-    → sum_by f (candidates mode from to) ≡ sum_over (λ i. cond (not (eqb i.owner to.node) && is_before (known_mark (digest_kind mode) to i) (mark_of i.entry)) (f i) 0) from
+    → sum_by f (candidates mode from to)
+    ≡ sum_over (λ i. cond (not (eqb i.owner to.node) && is_before (known_mark (digest_kind mode) to i) (mark_of i.entry)) (f i) 0) from
 candidates_sum mode from to proper f =
     let lacked = λ (i : Item). not (eqb i.owner to.node) && is_before (known_mark (digest_kind mode) to i) (mark_of i.entry) in
     sum_by-filter lacked f (items_of from) ∙ items_sum from proper (λ i. cond (lacked i) (f i) 0)

@@ -22,17 +22,26 @@ module _ (most : ℕ) (cells : Cells) (keys owner mark least y : ℕ) (below : (
   next-counted differ = elim next-mark [
     | inl end ↦
         let none = weight_of-none (λ _. 1) cells keys owner mark y (omega (arith, end.1)) in
-        let no_number : most ≤ least = elim next [ inl none ↦ omega (arith, none.1) | inr some ↦ absurd (omega (arith, some.is, some.above, end.0 some.key some.below)) ] in
+        let no_number : most ≤ least = elim next [
+          | inl none ↦ omega (arith, none.1)
+          | inr some ↦ absurd
+              (omega (arith, some.is, some.above, end.0 some.key some.below))
+        ] in
         grind (arith, nat_tests)
     | inr some ↦
         let one = counted-next cells keys owner mark mark y (omega arith) differ some in
         let none = weight_of-none (λ _. 1) cells keys owner mark mark (omega arith) in
-        let number : least < most = elim next [ inl none ↦ absurd (omega (arith, some.is, some.above, none.0 some.key some.below)) | inr some ↦ omega (arith, some.is, below some.key some.below) ] in
+        let number : least < most = elim next [
+          | inl none ↦ absurd (omega (arith, some.is, some.above, none.0 some.key some.below))
+          | inr some ↦ omega
+              (arith, some.is, below some.key some.below)
+        ] in
         grind (arith, nat_tests)
   ]
 
 -- each owner's next number is counted
-pub layer-counted : {N : Type 0} (number : N → ℕ) (most : ℕ) (offer : Offer N) → IsOffer number most offer → (near : ℕ → ℕ) (items old new : List N) (count : ℕ) → old ≡ items
+pub layer-counted : {N : Type 0} (number : N → ℕ) (most : ℕ) (offer : Offer N) → IsOffer number most offer
+    → (near : ℕ → ℕ) (items old new : List N) (count : ℕ) → old ≡ items
     → HasEach offer.nodes (λ r n. IsNextAbove most (cells_in number offer) offer.keys r (near r) n) (map number items)
     → AreChanged (λ r x y. y ≡ cond (ltb x most) x (near r)) (map number old) (map number new)
     → count ≡ sum_below (length old) (λ r. cond (ltb (get_or (map number old) r 0) most) 1 0)
@@ -63,7 +72,8 @@ module _ {N : Type 0} {number : N → ℕ} {most : ℕ} {offer : Offer N} (is : 
       let none = weight_of-none (λ _. 1) cells offer.keys owner (low owner) (low owner) (omega arith) in
       record { above = omega arith; count = omega (arith, none); full = λ key in_keys over. none }
 
-  one-more : {layers : ℕ} {near far : ℕ → ℕ} → AreMarks layers near → ((owner : ℕ) → owner < offer.nodes → IsNextMark cells offer.keys owner (near owner) (far owner))
+  one-more : {layers : ℕ} {near far : ℕ → ℕ} → AreMarks layers near
+      → ((owner : ℕ) → owner < offer.nodes → IsNextMark cells offer.keys owner (near owner) (far owner))
       → AreMarks (layers + 1) far
   one-more {layers} {near} {far} before next owner lt = elim (next owner lt) [
     | inl none ↦
@@ -115,7 +125,8 @@ module _ {N : Type 0} {number : N → ℕ} {most : ℕ} {offer : Offer N} (is : 
 
         all : count_in number offer near far ≡ 0 → weight_in number offer low far ≡ weight_in number offer low (high_in number offer)
         all none = sum_below-same offer.nodes _ _ (λ owner lt.
-            weight_of-all (weights_in offer owner) cells offer.keys owner (low owner) (far owner) (high_in number offer owner) (is.covered owner lt) (ends none owner lt))
+            weight_of-all (weights_in offer owner) cells offer.keys owner (low owner) (far owner) (high_in number offer owner) (is.covered owner lt)
+            (ends none owner lt))
 
     -- one layer more
     pub layers-next : {step : Step N} {next : Level N} → next ≡ record { near = level.far; far = step.marks; whole = level.whole + more; left = left }

@@ -67,16 +67,33 @@ module _ {mode : Mode} {from to : Table} {lists : ℕ → List Entry} {cells : C
       here = is c.owner (candidate-place given c in_c).owner_below
 
       tells : (f : First) → lets_through f (mark c.owner) (item_number cells c) ≡ comes_first f c.entry.born (by_first f (last + 1) last)
-      tells Oldest = grind (arith, nat_tests, here.upto (item_number cells c) c.entry number.0 number.1, here.above (item_number cells c) c.entry number.0 number.1)
-      tells Newest = grind (arith, nat_tests, here.upto (item_number cells c) c.entry number.0 number.1, here.above (item_number cells c) c.entry number.0 number.1)
+      tells Oldest = grind (
+        arith,
+        nat_tests,
+        here.upto (item_number cells c) c.entry number.0 number.1,
+        here.above
+            (item_number cells c) c.entry number.0 number.1,
+      )
+      tells Newest = grind (
+        arith,
+        nat_tests,
+        here.upto (item_number cells c) c.entry number.0 number.1,
+        here.above
+            (item_number cells c) c.entry number.0 number.1,
+      )
 
   -- near and far marks of each mode's levels, by a candidate of the level
   pub level-marks : (m : Mode) (near far : ℕ → ℕ) → HasShape m lists cells from.nodes from.keys low near far
-      → lets_through (first_sent m) (near next.owner) (item_number cells next) ≡ false → lets_through (first_sent m) (far next.owner) (item_number cells next) ≡ true
+      → lets_through (first_sent m) (near next.owner) (item_number cells next) ≡ false
+      → lets_through (first_sent m) (far next.owner) (item_number cells next) ≡ true
       → AreLevelMarks (first_sent m) (level_cmp m cs) cs cells next near far
-  level-marks ScuttleBreadth near far shape = by-key Oldest Oldest (rank_among cs) shape.layers near far (layered shape.layers near shape.near_is) (layered (shape.layers + 1) far shape.far_is)
-  level-marks ScuttleDepth near far shape = by-key Oldest Newest (owner_count cs) shape.size near far (longer (shape.size + 1) near shape.near_is) (longer shape.size far shape.far_is)
+  level-marks ScuttleBreadth near far shape = by-key Oldest Oldest (rank_among cs) shape.layers near far (layered shape.layers near shape.near_is)
+      (layered (shape.layers + 1) far shape.far_is)
+  level-marks ScuttleDepth near far shape = by-key Oldest Newest (owner_count cs) shape.size near far (longer (shape.size + 1) near shape.near_is)
+      (longer shape.size far shape.far_is)
   level-marks PreciseOldest near far shape =
-      by-key Oldest Oldest (λ c. c.entry.born) (shape.round + 1) near far (born Oldest shape.round near shape.early_is) (born Oldest (shape.round + 1) far shape.late_is)
+      by-key Oldest Oldest (λ c. c.entry.born) (shape.round + 1) near far (born Oldest shape.round near shape.early_is)
+      (born Oldest (shape.round + 1) far shape.late_is)
   level-marks PreciseNewest near far shape =
-      by-key Newest Newest (λ c. c.entry.born) shape.round near far (born Newest (shape.round + 1) near shape.late_is) (born Newest shape.round far shape.early_is)
+      by-key Newest Newest (λ c. c.entry.born) shape.round near far (born Newest (shape.round + 1) near shape.late_is)
+      (born Newest shape.round far shape.early_is)

@@ -3,7 +3,8 @@
 use Rattle.delta_plans.proofs.Common.{◌≡◌, ℕ, ◌-◌, ◌<◌, ◌≤◌, true, List, length, get_or, map, inl, inr, refl, sym, ap, ◌∙◌, subst, arith, nat_tests, lt-ltb, le-leb, length-map, Mode, amount_of, Cells, HasNoneAbove, sum_below-le, First, Oldest, Newest, Offer, Level, by_first, first_sent, lets_through, KeepsLow, AreMarked, IsLevelOf, cells_in, low_in, high_in, marks, weights_in, weight_in, count_in, IsOffer, count_on, AreShared, weight_between, weight_through, count_all_between, one_each}
 
 -- fewer are between nearer marks
-count-le : (cells : Cells) (nodes keys : ℕ) (low low' high high' : ℕ → ℕ) → ((owner : ℕ) → owner < nodes → low' owner ≤ low owner) → ((owner : ℕ) → owner < nodes → HasNoneAbove cells keys owner (high' owner))
+count-le : (cells : Cells) (nodes keys : ℕ) (low low' high high' : ℕ → ℕ) → ((owner : ℕ) → owner < nodes → low' owner ≤ low owner)
+    → ((owner : ℕ) → owner < nodes → HasNoneAbove cells keys owner (high' owner))
     → count_all_between cells nodes keys low high ≤ count_all_between cells nodes keys low' high'
 count-le cells nodes keys low low' high high' lower covered = sum_below-le nodes _ _ (λ owner in_nodes. sum_below-le keys _ _ (λ key in_keys.
     let le = lower owner in_nodes in
@@ -54,7 +55,8 @@ module _ {N : Type 0} (number : N → ℕ) (most : ℕ) (offer : Offer N) (is : 
   module _ (rotation found : ℕ) (all : found ≡ count_in number offer low high) where
     -- all where it fits
     module _ (fits : weight_in number offer low high ≤ amount_of offer.budget) where
-      pub whole-marked : (mode : Mode) (xs : List N) → map number xs ≡ whole_marks (first_sent mode) → AreMarked mode rotation number offer (marks number xs) found 0
+      pub whole-marked : (mode : Mode) (xs : List N) → map number xs ≡ whole_marks (first_sent mode)
+          → AreMarked mode rotation number offer (marks number xs) found 0
       whole-marked mode xs same = subst (λ ys. AreMarked mode rotation number offer (λ r. get_or ys r 0) found 0) (sym same) (record {
         above = (whole-tells (first_sent mode)).1;
         count = all ∙ sym ((whole-tells (first_sent mode)).2 one_each);

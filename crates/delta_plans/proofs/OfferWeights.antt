@@ -1,6 +1,5 @@
 -- What an offer's numbers take of its budget.
--- Serves the functions of `breadths`, `depths`, `marked` and `offers`, `LayerSteps`, `RoundMarks`, `RunSteps` and
--- `TurnSteps`.
+-- Serves the functions of `offers`, `LevelSteps`, `RoundMarks`, `RunSteps` and `TurnSteps`.
 use Rattle.delta_plans.proofs.Common.{◌≡◌, ℕ, ◌*◌, ◌<◌, ◌≤◌, Bool, true, false, Option, Some, None, arith, nat_tests, ◌↔◌, mul-le-mul_right, Entry, Budget, Entries, Bytes, MOST_NODES, MOST_KEYS, MOST_ENTRY_SIZE, write_numbered, all_writes, Offer, cells_in, weights_in, weight_in, count_in, IsOffer, share_or_none, one_each}
 use Rattle.delta_plans.proofs.Sums.{sum_below-none}
 use Rattle.delta_plans.proofs.WeightLaws.{weight_of-none, weight_between-same, weight_between-most, number_share-one, count_all_between-most}

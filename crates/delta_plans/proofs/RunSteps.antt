@@ -106,7 +106,8 @@ module _ {N : Type 0} {number : N → ℕ} {most : ℕ} {offer : Offer N} (is : 
 
   module _ (beyond : amount_of offer.budget < weight_in number offer low high) where
     -- the longest runs are next
-    pub runs-first : {size : ℕ} {near : Vec N Global} {step : Step N} {level : Level N} → ((owner : ℕ) → owner < offer.nodes → owner_count_in number offer owner ≤ size) → size ≤ MOST_KEYS
+    pub runs-first : {size : ℕ} {near : Vec N Global} {step : Step N} {level : Level N}
+        → ((owner : ℕ) → owner < offer.nodes → owner_count_in number offer owner ≤ size) → size ≤ MOST_KEYS
         → level ≡ record { near = near; far = step.marks; whole = 0; left = amount_of offer.budget }
         → near.items ≡ offer.low.now → AreNextRuns number offer (marks number near.items) size step → HasRuns number offer level size step.more
     runs-first {size} {near} {step} longest short made start runs =
@@ -128,7 +129,8 @@ module _ {N : Type 0} {number : N → ℕ} {most : ℕ} {offer : Offer N} (is : 
           → next ≡ record { near = level.far; far = step.marks; whole = level.whole + more; left = left }
           → AreNextRuns number offer (marks number level.far.items) (size - 1) step → HasRuns number offer next (size - 1) step.more
       runs-next fits made runs =
-          let longer = subst (λ n. AreMarksFrom number offer n (marks number level.far.items)) {x = size} {y = size - 1 + 1} (omega (arith, has.some)) has.next in
+          let longer = subst (λ n. AreMarksFrom number offer n (marks number level.far.items)) {x = size} {y = size - 1 + 1}
+          (omega (arith, has.some)) has.next in
           let some = runs-some longer (omega (arith, level-left is has.so_far fits)) beyond in
           rw made (record {
             so_far = level-next is has.so_far fits refl (run-step longer runs some);
@@ -146,17 +148,28 @@ module _ {N : Type 0} {number : N → ℕ} {most : ℕ} {offer : Offer N} (is : 
         far_is = run-marks size (size - 1) (marks number level.far.items) (omega (arith, has.some)) has.next;
       }
         where
-          run-marks : (from less : ℕ) (mark : ℕ → ℕ) → from ≡ less + 1 → AreMarksFrom number offer from mark → (owner : ℕ) → owner < offer.nodes → IsRunMark cells offer.keys owner (low owner) less (mark owner)
-          run-marks from less mark one marked owner lt = run-mark cells offer.keys owner (low owner) (high owner) (is.covered owner lt) from less (mark owner) one (marked owner lt)
+          run-marks : (from less : ℕ) (mark : ℕ → ℕ) → from ≡ less + 1 → AreMarksFrom number offer from mark → (owner : ℕ) → owner < offer.nodes
+              → IsRunMark cells offer.keys owner (low owner) less (mark owner)
+          run-marks from less mark one marked owner lt = run-mark cells offer.keys owner (low owner) (high owner) (is.covered owner lt) from less
+              (mark owner) one (marked owner lt)
 
   -- no owner has more than so many
-  pub counts-few : (found : List N) → HasEach offer.nodes (λ r n. n ≡ owner_count_in number offer r) (map number found) → (r : ℕ) → r < length found → get_or (map number found) r 0 ≤ MOST_KEYS
+  pub counts-few : (found : List N) → HasEach offer.nodes (λ r n. n ≡ owner_count_in number offer r) (map number found) → (r : ℕ) → r < length found
+      → get_or (map number found) r 0 ≤ MOST_KEYS
   counts-few found known r lt =
       let in_nodes : r < offer.nodes = omega (arith, lt, length-map found number, known.size) in
-      omega (arith, known.each r in_nodes, is.grid.few_keys, count-covered cells offer.keys r (low r) (high r) (is.covered r in_nodes), count_between-most cells offer.keys r (low r) (high r))
+      omega (
+        arith,
+        known.each r in_nodes,
+        is.grid.few_keys,
+        count-covered cells offer.keys r (low r) (high r)
+            (is.covered r in_nodes),
+        count_between-most cells offer.keys r (low r) (high r),
+      )
 
 -- what a step over the owners' runs writes
-pub next-runs : {N : Type 0} (number : N → ℕ) (offer : Offer N) (near counts old new : List N) (step : Step N) (size owners : ℕ) → old ≡ near → length near ≡ offer.nodes → step.marks.items ≡ new → step.more ≡ owners * size
+pub next-runs : {N : Type 0} (number : N → ℕ) (offer : Offer N) (near counts old new : List N) (step : Step N) (size owners : ℕ) → old ≡ near
+    → length near ≡ offer.nodes → step.marks.items ≡ new → step.more ≡ owners * size
     → HasEach offer.nodes (λ r n. n ≡ owner_count_in number offer r) (map number counts)
     → AreChanged (λ r x y. y ≡ cond (eqb (get_or (map number counts) r 0) size) (get_or (map number offer.high.now) r 0) x) (map number old) (map number new)
     → owners ≡ sum_below (length old) (λ r. cond (eqb (get_or (map number counts) r 0) size) 1 0)

@@ -1,5 +1,5 @@
 -- An owner's numbers gone over one after another.
--- Serves `Part::nearest`, `Part::stop_from`, `Turns::count_of_parts`, `Turns::pass_turns` and `Turns::share_into`.
+-- Serves `Part::nearest`, `Part::stop_from`, `Turns::share_into` and `TurnSteps`.
 use Rattle.delta_plans.proofs.Common.{◌≡◌, ℕ, zero, suc, ◌+◌, ◌-◌, ◌<◌, ◌≤◌, ◌⊎◌, inl, inr, refl, sym, ap, ◌∙◌, subst, arith, nat_tests, cases_lt, Cells, First, Oldest, Newest, by_first, NumbersDiffer, HasBetween, HasNext, IsBeyond, IsNext, IsOn, IsPast, IsStopFrom, nearer_beyond, weight_of, weight_from}
 use Rattle.delta_plans.proofs.Sums.{sum_below-one}
 use Rattle.delta_plans.proofs.WeightLaws.{part-cases, weight_of-none, weight_of-split, count_between-most}

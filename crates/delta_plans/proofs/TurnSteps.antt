@@ -10,7 +10,8 @@ use Rattle.delta_plans.proofs.OfferWeights.{offer-few, share-most}
 split-covered : (weight : ℕ → ℕ) (cells : Cells) (keys owner low mark high : ℕ) → low ≤ mark → HasNoneAbove cells keys owner high
     → weight_of weight cells keys owner low high ≡ weight_of weight cells keys owner mark high + weight_of weight cells keys owner low mark
 split-covered weight cells keys owner low mark high le covered =
-    sum_below-same keys _ (λ key. part weight mark high (cells owner key) + part weight low mark (cells owner key)) (λ key lt. let upto = covered key lt in grind (arith, nat_tests))
+    sum_below-same keys _ (λ key. part weight mark high (cells owner key) + part weight low mark (cells owner key))
+    (λ key lt. let upto = covered key lt in grind (arith, nat_tests))
     ∙ sum_below-plus keys _ _
 
 -- where an owner's part stops
@@ -41,13 +42,16 @@ module _ {cells : Cells} {keys owner mark far next : ℕ} where
 
 module _ (weights : ℕ → ℕ → ℕ) (cells : Cells) (nodes keys : ℕ) (low high : ℕ → ℕ) (mark next : ℕ → ℕ) where
   -- marks that are the same for each owner
-  pub through-same : (first : First) → ((r : ℕ) → r < nodes → next r ≡ mark r) → weight_through first weights cells nodes keys low high next ≡ weight_through first weights cells nodes keys low high mark
-  through-same first same = sum_below-same nodes _ _ (λ r lt. ap (λ m. weight_of (weights r) cells keys r (by_first first (low r) m) (by_first first m (high r))) (same r lt))
+  pub through-same : (first : First) → ((r : ℕ) → r < nodes → next r ≡ mark r)
+      → weight_through first weights cells nodes keys low high next ≡ weight_through first weights cells nodes keys low high mark
+  through-same first same = sum_below-same nodes _ _
+      (λ r lt. ap (λ m. weight_of (weights r) cells keys r (by_first first (low r) m) (by_first first m (high r))) (same r lt))
 
   -- and marks that differ for one
   module _ (owner : ℕ) (in_nodes : owner < nodes) (others : (r : ℕ) → r < nodes → r ≢ owner → next r ≡ mark r) where
     pub through-changed : (first : First) → HasNoneAbove cells keys owner (high owner) → AreFarther first (low owner) (mark owner) (next owner)
-        → weight_through first weights cells nodes keys low high next ≡ weight_through first weights cells nodes keys low high mark + weight_from first (weights owner) cells keys owner (mark owner) (next owner)
+        → weight_through first weights cells nodes keys low high next
+        ≡ weight_through first weights cells nodes keys low high mark + weight_from first (weights owner) cells keys owner (mark owner) (next owner)
     through-changed Oldest covered ordered =
         sum_below-changed nodes owner _ _ _ in_nodes (λ r lt ne. ap (weight_of (weights r) cells keys r (low r)) (others r lt ne))
         (weight_of-split (weights owner) cells keys owner (low owner) (mark owner) (next owner) ordered.0 ordered.2)
@@ -56,9 +60,11 @@ module _ (weights : ℕ → ℕ → ℕ) (cells : Cells) (nodes keys : ℕ) (low
         (split-covered (weights owner) cells keys owner (next owner) (mark owner) (high owner) ordered.2 covered)
 
 -- so many at most
-pub count_on-few : {N : Type 0} (first : First) (number : N → ℕ) (most : ℕ) (offer : Offer N) → IsOffer number most offer → (mark : ℕ → ℕ) → count_on first number offer mark ≤ MOST_NODES * MOST_KEYS
+pub count_on-few : {N : Type 0} (first : First) (number : N → ℕ) (most : ℕ) (offer : Offer N) → IsOffer number most offer → (mark : ℕ → ℕ)
+    → count_on first number offer mark ≤ MOST_NODES * MOST_KEYS
 count_on-few first number most offer is mark =
-    offer-few number most offer is (λ owner. by_first first (low_in number offer owner) (mark owner)) (λ owner. by_first first (mark owner) (high_in number offer owner))
+    offer-few number most offer is (λ owner. by_first first (low_in number offer owner) (mark owner))
+    (λ owner. by_first first (mark owner) (high_in number offer owner))
 
 module _ {N : Type 0} {number : N → ℕ} {most : ℕ} {turns : Turns N} (are : AreTurns number most turns) where
   abbrev offer : Offer N
@@ -94,7 +100,11 @@ module _ {N : Type 0} {number : N → ℕ} {most : ℕ} {turns : Turns N} (are :
         )
       where
         rotated-below : (r : ℕ) → r < offer.nodes → rotated offer.nodes turns.rotation r < offer.nodes
-        rotated-below r lt = elim (rotated-is offer.nodes turns.rotation r are.rotation lt) [ inl a ↦ omega (arith, a.0, a.1, lt) | inr a ↦ omega (arith, a.0, a.1, are.rotation, lt) ]
+        rotated-below r lt = elim (rotated-is offer.nodes turns.rotation r are.rotation lt) [
+          | inl a ↦ omega (arith, a.0, a.1, lt)
+          | inr a ↦ omega
+              (arith, a.0, a.1, are.rotation, lt)
+        ]
 
     -- one more owner's mark goes on
     module _ {owner : ℕ} (in_nodes : owner < offer.nodes) (its : rotated offer.nodes turns.rotation owner ≡ reached.turn) (to : N) where
@@ -133,10 +143,12 @@ module _ {N : Type 0} {number : N → ℕ} {most : ℕ} {turns : Turns N} (are :
           | inl same ↦ ap next same ∙ here ∙ to_far ∙ ap far (sym same)
           | inr other ↦ others r other ∙ so_far.passed r lt (elim (cases_lt (rotated offer.nodes turns.rotation r) reached.turn) [
             | inl earlier ↦ earlier
-            | inr not_earlier ↦ absurd (other (rotated-injective offer.nodes turns.rotation r owner are.rotation lt in_nodes (omega (arith, its, before, not_earlier))))
+            | inr not_earlier ↦ absurd (other (rotated-injective offer.nodes turns.rotation r owner are.rotation lt in_nodes
+                (omega (arith, its, before, not_earlier))))
           ])
         ];
-        waiting = λ r lt later. others r (λ same. omega (arith, its, later, ap (rotated offer.nodes turns.rotation) same)) ∙ so_far.waiting r lt (omega (arith, later));
+        waiting = λ r lt later. others r (λ same. omega (arith, its, later, ap (rotated offer.nodes turns.rotation) same))
+            ∙ so_far.waiting r lt (omega (arith, later));
         left = omega (arith, so_far.left, fits, weighs, grown ordered (weights_in offer), part-to (weights_in offer owner));
         count = omega (arith, so_far.count, counts, grown ordered one_each, part-to (λ _. 1));
       }
@@ -144,11 +156,13 @@ module _ {N : Type 0} {number : N → ℕ} {most : ℕ} {turns : Turns N} (are :
           ordered : AreFarther turns.first (low owner) (near owner) (number to)
           ordered = subst (AreFarther turns.first (low owner) (near owner)) (sym to_far) (are.level.farther owner in_nodes)
 
-          part-to : (weight : ℕ → ℕ) → weight_from turns.first weight (cells_in number offer) offer.keys owner (near owner) (number to) ≡ part_weight number weight turns owner
+          part-to : (weight : ℕ → ℕ) → weight_from turns.first weight (cells_in number offer) offer.keys owner (near owner) (number to)
+              ≡ part_weight number weight turns owner
           part-to weight = ap (weight_from turns.first weight (cells_in number offer) offer.keys owner (near owner)) to_far
 
       -- or it stops at a number
-      pub turns-shared : {stop_sent : ℕ} → IsStopFrom turns.first (weights_in offer owner) (cells_in number offer) offer.keys owner (near owner) (far owner) reached.left (number to) stop_sent
+      pub turns-shared : {stop_sent : ℕ}
+          → IsStopFrom turns.first (weights_in offer owner) (cells_in number offer) offer.keys owner (near owner) (far owner) reached.left (number to) stop_sent
           → AreSharedBy number turns (set mark owner to) (reached.sent + stop_sent)
       turns-shared {stop_sent} stop = record {
         size = length-set mark owner to ∙ so_far.size;
@@ -161,9 +175,12 @@ module _ {N : Type 0} {number : N → ℕ} {most : ℕ} {turns : Turns N} (are :
             offered = subst (λ n. low owner < n) (sym stop.next.is) tells.offered;
             outside = ap (lets_through turns.first (near owner)) stop.next.is ∙ tells.outside;
             inside = ap (lets_through turns.first (far owner)) stop.next.is ∙ tells.inside;
-            passed = λ r lt before. others r (λ same. omega (arith, before, ap (rotated offer.nodes turns.rotation) same)) ∙ so_far.passed r lt (omega (arith, before, its));
-            waiting = λ r lt later. others r (λ same. omega (arith, later, ap (rotated offer.nodes turns.rotation) same)) ∙ so_far.waiting r lt (omega (arith, later, its));
-            own = λ k lt _. ap (λ m. lets_through turns.first m (cells_in number offer owner k)) here ∙ tells.own k lt ∙ ap (comes_first turns.first (cells_in number offer owner k)) (sym stop.next.is);
+            passed = λ r lt before. others r (λ same. omega (arith, before, ap (rotated offer.nodes turns.rotation) same))
+                ∙ so_far.passed r lt (omega (arith, before, its));
+            waiting = λ r lt later. others r (λ same. omega (arith, later, ap (rotated offer.nodes turns.rotation) same))
+                ∙ so_far.waiting r lt (omega (arith, later, its));
+            own = λ k lt _. ap (λ m. lets_through turns.first m (cells_in number offer owner k)) here ∙ tells.own k lt
+                ∙ ap (comes_first turns.first (cells_in number offer owner k)) (sym stop.next.is);
           };
           above = λ r lt. elim (cases_eq r owner) [
             | inl same ↦ omega (arith, ap low same, ap next same, here, tells.above)
@@ -192,10 +209,12 @@ module _ {N : Type 0} {number : N → ℕ} {most : ℕ} {turns : Turns N} {owner
   last-mark = by_first turns.first (marks number turns.level.now.far.items owner) (marks number turns.level.now.near.items owner)
 
   -- entries that are counted take as much as they are
-  pub part-entries : (n : ℕ) → turns.offer.now.budget ≡ Entries n → part_weight number (λ _. 1) turns owner ≡ part_weight number (weights_in turns.offer.now owner) turns owner
+  pub part-entries : (n : ℕ) → turns.offer.now.budget ≡ Entries n
+      → part_weight number (λ _. 1) turns owner ≡ part_weight number (weights_in turns.offer.now owner) turns owner
   part-entries n counted =
       weight_of-same (λ _. 1) (weights_in turns.offer.now owner) (cells_in number turns.offer.now) turns.offer.now.keys owner first-mark last-mark
-      (λ key in_keys above upto. sym (number_share-one turns.offer.now.budget n (all_writes turns.offer.now.lists.now owner) (cells_in number turns.offer.now owner key) counted (omega (arith, above)) (has.are.offer.written owner key has.in_nodes in_keys)))
+      (λ key in_keys above upto. sym (number_share-one turns.offer.now.budget n (all_writes turns.offer.now.lists.now owner)
+      (cells_in number turns.offer.now owner key) counted (omega (arith, above)) (has.are.offer.written owner key has.in_nodes in_keys)))
 
   -- a part without numbers weighs nothing
   pub part-none : 0 ≡ part_weight number (λ _. 1) turns owner → 0 ≡ part_weight number (weights_in turns.offer.now owner) turns owner
@@ -207,10 +226,20 @@ module _ {N : Type 0} {number : N → ℕ} {most : ℕ} {turns : Turns N} {owner
       )
 
 -- owners in a row have their turns one after another
-pub turns-in_row : {N : Type 0} (turns : Turns N) (turn owner size : ℕ) → turns.rotation < turns.offer.now.nodes → rotated turns.offer.now.nodes turns.rotation owner ≡ turn
-    → owner + size ≤ turns.offer.now.nodes → turn + size ≤ turns.offer.now.nodes → (i : ℕ) → i < size → rotated turns.offer.now.nodes turns.rotation (owner + i) ≡ turn + i
+pub turns-in_row : {N : Type 0} (turns : Turns N) (turn owner size : ℕ) → turns.rotation < turns.offer.now.nodes
+    → rotated turns.offer.now.nodes turns.rotation owner ≡ turn
+    → owner + size ≤ turns.offer.now.nodes → turn + size ≤ turns.offer.now.nodes → (i : ℕ) → i < size
+    → rotated turns.offer.now.nodes turns.rotation (owner + i) ≡ turn + i
 turns-in_row turns turn owner size in_rotation its in_nodes in_turns i lt =
-    grind (arith, its, in_nodes, in_turns, rotated-is turns.offer.now.nodes turns.rotation owner in_rotation (omega (arith, in_nodes, lt)), rotated-is turns.offer.now.nodes turns.rotation (owner + i) in_rotation (omega (arith, in_nodes, lt)))
+    grind (
+      arith,
+      its,
+      in_nodes,
+      in_turns,
+      rotated-is turns.offer.now.nodes turns.rotation owner in_rotation
+          (omega (arith, in_nodes, lt)),
+      rotated-is turns.offer.now.nodes turns.rotation (owner + i) in_rotation (omega (arith, in_nodes, lt)),
+    )
 
 -- what is reached, in other words
 pub turns-same : {N : Type 0} {number : N → ℕ} {turns : Turns N} {mark : List N} {reached other : Reached} → HasReached number turns mark reached
@@ -219,7 +248,8 @@ turns-same {number} {turns} {mark} so_far turn left sent =
     transport (λ i. HasReached number turns mark (record { turn = turn i; left = left i; sent = sent i })) so_far
 
 -- one more of the owners that are next
-pub some-next : {N : Type 0} {number : N → ℕ} {most : ℕ} {turns : Turns N} {reached : Reached} {owner size count : ℕ} → HaveTurns number most turns reached owner size count
+pub some-next : {N : Type 0} {number : N → ℕ} {most : ℕ} {turns : Turns N} {reached : Reached} {owner size count : ℕ}
+    → HaveTurns number most turns reached owner size count
     → {mark : List N} (i : ℕ) → i < size → HasReached number turns mark (reached_after number turns reached owner i)
     → (to : N) → number to ≡ marks number turns.level.now.far.items (owner + i)
     → HasReached number turns (set mark (owner + i) to) (reached_after number turns reached owner (i + 1))

@@ -1,5 +1,5 @@
 -- What these proofs cite of other libraries and of this crate's definitions, passed on from one place.
--- Serves the functions of `writes`, `Keeping`, `Numbered` and `Numbers`.
+-- Serves `OwnerWrites::begin_generation`, `OwnerWrites::numbered`, `OwnerWrites::write`, `Keeping` and `Numbers`.
 pub use Rattle.std.proofs.Common.{List, None, Some, [], ap, arith, drop, get_or, inl, inr, length, length-append, map, refl, subst, suc, sym, take, zero, ℕ, ◌++◌, ◌+◌, ◌-◌, ◌<◌, ◌^◌, ◌∙◌, ◌∷◌, ◌≡◌, ◌≤◌}
 pub use Rattle.std.proofs.lemmas.Bool.{cases_lt, le-ltb, lt-ltb}
 pub use Rattle.std.proofs.lemmas.List.{append-nil, append_assoc, drop-append-le, drop_all, get_or-append_right, get_or-map, get_or_append_left, get_or_push, length-drop, length-map, map-append, take-append-drop, take-append-le, take_all}

@@ -5,7 +5,8 @@ use Rattle.delta_plans.proofs.breadths.breadth.Goals as goal
 
 pub loop-left-init : goal.loop-left-init
 loop-left-init g c =
-    let layer = subst (λ xs. IsNextLayer g.N.Number.number c.args.offer.now (marks g.N.Number.number xs) c.in_ok-first.first) c.deref.ensures.value c.in_ok-first.ensures.0 in
+    let layer = subst (λ xs. IsNextLayer g.N.Number.number c.args.offer.now
+    (marks g.N.Number.number xs) c.in_ok-first.first) c.deref.ensures.value c.in_ok-first.ensures.0 in
     record { has = layers-first c.requires.offer.is_offer c.first_level-level.ensures c.in_ok-near.ensures.items layer }
 
 pub left_of-requires : goal.left_of-requires
@@ -19,14 +20,21 @@ loop-left-smaller g c =
     let is = c.requires.offer.is_offer in
     let has = c.loop-left.invariant.has in
     let fits = level-told is has.so_far c.deref-in-loop-left.ensures.value c.deref-in-loop-left-2.ensures.value c.in-Some.is c.left_of.ensures in
-    omega (arith, layers-more is has fits c.requires.offer.beyond, level-upto is has.so_far, ap (λ (level : Level g.row.N.Denot). level.whole) c.next-level.ensures)
+    omega (
+      arith,
+      layers-more is has fits c.requires.offer.beyond,
+      level-upto is has.so_far,
+      ap
+          (λ (level : Level g.row.N.Denot). level.whole) c.next-level.ensures,
+    )
 
 pub loop-left-preserved : goal.loop-left-preserved
 loop-left-preserved g c =
     let is = c.requires.offer.is_offer in
     let has = c.loop-left.invariant.has in
     let fits = level-told is has.so_far c.deref-in-loop-left.ensures.value c.deref-in-loop-left-2.ensures.value c.in-Some.is c.left_of.ensures in
-    let layer = subst (λ xs. IsNextLayer g.N.Number.number c.args.offer.now (marks g.N.Number.number xs) c.in_ok-next.next) c.deref-in-Some.ensures.value c.in_ok-next.ensures.0 in
+    let layer = subst (λ xs. IsNextLayer g.N.Number.number c.args.offer.now
+    (marks g.N.Number.number xs) c.in_ok-next.next) c.deref-in-Some.ensures.value c.in_ok-next.ensures.0 in
     record { has = layers-next is has fits c.next-level.ensures layer }
 
 pub returns : goal.returns

@@ -33,7 +33,8 @@ pub loop-left-preserved : goal.loop-left-preserved
 loop-left-preserved g c =
     let is = c.requires.offer.is_offer in
     let has = c.loop-left.invariant.has in
-    let runs = subst (λ xs. AreNextRuns g.N.Number.number c.args.offer.now (marks g.N.Number.number xs) (c.loop-left.size - 1) c.in_ok-next.next) c.deref-in-Some-2.ensures.value c.in_ok-next.ensures.0 in
+    let runs = subst (λ xs. AreNextRuns g.N.Number.number c.args.offer.now (marks g.N.Number.number xs)
+    (c.loop-left.size - 1) c.in_ok-next.next) c.deref-in-Some-2.ensures.value c.in_ok-next.ensures.0 in
     let fits = level-told is has.so_far c.deref-in-loop-left.ensures.value c.deref-in-loop-left-2.ensures.value c.in-Some.is c.left_of.ensures in
     record { has = runs-next is c.requires.offer.beyond has fits c.next-level.ensures runs }
 

@@ -10,7 +10,8 @@ overflow_add-result g c =
     omega (
       arith,
       c.stop_from-stop.ensures.count,
-      few-from (cells_in number offer) offer.keys c.pass_turns-passed.result.owner c.args.self.now.first (number c.number_at-near.result) (number c.stop_from-stop.result.mark),
+      few-from (cells_in number offer) offer.keys c.pass_turns-passed.result.owner c.args.self.now.first (number c.number_at-near.result)
+          (number c.stop_from-stop.result.mark),
       c.requires.turns.offer.grid.few_keys,
       turns-few c.requires.turns c.pass_turns-passed.ensures.reached,
     )

@@ -19,3 +19,4 @@ pub use Rattle.planes.specs.Planes.{ArePlanesChanged, ArePlanesChangedUpto, Cell
 pub use Rattle.planes.specs.Loops.{AnswersAs, AreCountedUpto, IsLeastOf, IsMade, count_passing}
 pub use Rattle.grids.specs.inner.Loops.{AreRaisedUpto, MakesAs}
 pub use Rattle.grids.specs.inner.Owners.{HasRaisedOwner}
+pub use Rattle.grids.specs.inner.Masks.{HasNoOtherMark}

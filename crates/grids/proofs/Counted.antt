@@ -1,9 +1,9 @@
 -- Planes of which some places are counted.
--- Serves `ahead`, `change_all_counting` and `merge`.
-use Rattle.grids.proofs.Common.{◌≡◌, ℕ, Fits, w32, ◌+◌, ◌*◌, ◌<◌, ◌≤◌, Bool, cond, nat_tests, List, length, get_or, map, take, drop, nat_lt, max, refl, sym, ◌∙◌, arith, length-map, put_mid, MOST_NODES, sum_below, sum_below-most, cell, number_ahead, total_above, total_of, IsGrid, ArePlanesChangedUpto, ArePlanesChanged, AreCountedUpto, AreRaisedUpto, number_raised}
+-- Serves `change_all_counting`, `count_behind`, `keep_ahead`, `mask` and `merge`.
+use Rattle.grids.proofs.Common.{◌≡◌, ℕ, Fits, w32, ◌+◌, ◌*◌, ◌<◌, ◌≤◌, Bool, cond, nat_tests, List, length, get_or, map, take, drop, nat_lt, max, refl, sym, ◌∙◌, ◌==◌, ap, arith, length-map, put_mid, MOST_NODES, sum_below, sum_below-most, cell, number_ahead, total_above, total_of, IsGrid, ArePlanesChangedUpto, ArePlanesChanged, AreCountedUpto, AreRaisedUpto, number_raised, count_passing, HasNoOtherMark}
 use Rattle.planes.proofs.Elementwise.{changed_all}
 use Rattle.planes.proofs.Counts.{count_le, sum_next}
-use Rattle.planes.proofs.Places.{plane-cells, plane_count, planes-all, planes-none, planes-written, block-cells, total-same, total_whole}
+use Rattle.planes.proofs.Places.{plane-cells, plane_count, planes-all, planes-none, planes-written, block-cells, plane-within, total-places, total-same, total_whole}
 
 -- the planes of the keys below a bound are changed, and so many places of them pass a test
 pub record ArePlanesCounted (changed : ℕ → ℕ → ℕ → ℕ → Type 0) (test : ℕ → ℕ → Bool) (nodes : ℕ) (old new : List ℕ) (bound passed : ℕ) : Type 0 where
@@ -56,3 +56,45 @@ pub total-kept : (nodes keys : ℕ) (peer : ℕ → ℕ → ℕ) (low old new : 
     → ArePlanesChanged (λ r k x y. y ≡ number_ahead x (peer r k) (get_or low r 0)) nodes keys old new → count ≡ total_above nodes keys new low
 total-kept nodes keys peer low old new count is kept =
     is ∙ total-same nodes keys _ _ (λ r k in_nodes in_keys. let now = kept.each r k in_nodes in_keys in grind (arith, nat_tests))
+
+-- all planes are gone over as one
+pub places-counted : (changed : ℕ → ℕ → ℕ → Type 0) (test : ℕ → Bool) (nodes keys : ℕ) (old new : List ℕ) (size passed : ℕ)
+    → IsGrid nodes keys size → AreCountedUpto changed test old new size passed
+    → ArePlanesChanged (λ r k x y. changed (k * nodes + r) x y) nodes keys old new
+    × (passed ≡ total_of nodes keys (λ r k. test (k * nodes + r)))
+places-counted changed test nodes keys old new size passed grid is = (
+  record {
+    size = is.numbers.size;
+    each = λ r k in_nodes in_keys. is.numbers.below (k * nodes + r) (omega (arith, in_nodes, plane-within nodes keys size k grid in_keys));
+  },
+  is.count ∙ ap (λ n. count_passing n test) grid.whole ∙ total-places nodes keys test,
+)
+
+pub above-alone : (mark x : ℕ) → cond (nat_lt mark x) x 0 ≡ number_ahead x 0 mark
+above-alone mark x = grind (arith, nat_tests)
+
+-- numbers are kept that are above the peer's and the marks, where only one owner has a mark, up to which its own were
+-- dropped before
+module _ (nodes keys own mark : ℕ) (peer : ℕ → ℕ → ℕ) (low old mid new : List ℕ) (size : length low ≡ nodes) (none : HasNoOtherMark low own)
+    (is : mark ≡ get_or low own 0) (dropped : ArePlanesChanged (λ r k x y. y ≡ cond (r == own) (number_ahead x 0 mark) x) nodes keys old mid) where
+  above_mark : (r k : ℕ) → r < nodes → k < keys → cell mid nodes r k ≡ number_ahead (cell old nodes r k) 0 (get_or low r 0)
+  above_mark r k in_nodes in_keys =
+      let now = dropped.each r k in_nodes in_keys in
+      let other = none r (omega (arith, in_nodes, size)) in
+      grind (arith, nat_tests)
+
+  pub masked-once : (count : ℕ) → ArePlanesChanged (λ r k x y. y ≡ number_ahead x (peer r k) 0) nodes keys mid new
+      → count ≡ total_of nodes keys (λ r k. nat_lt (peer r k) (cell mid nodes r k))
+      → ArePlanesChanged (λ r k x y. y ≡ number_ahead x (peer r k) (get_or low r 0)) nodes keys old new × (count ≡ total_above nodes keys new low)
+  masked-once count kept counted =
+      let all : ArePlanesChanged (λ r k x y. y ≡ number_ahead x (peer r k) (get_or low r 0)) nodes keys old new = record {
+        size = kept.size ∙ dropped.size;
+        each = λ r k in_nodes in_keys.
+            let now = kept.each r k in_nodes in_keys in
+            let before = above_mark r k in_nodes in_keys in
+            grind (arith, nat_tests);
+      } in (
+        all,
+        total-kept nodes keys peer low old new count
+            (counted ∙ total-same nodes keys _ _ (λ r k in_nodes in_keys. let before = above_mark r k in_nodes in_keys in grind (arith, nat_tests))) all,
+      )

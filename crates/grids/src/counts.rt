@@ -1,10 +1,10 @@
-//! Loops over one plane that count: for each owner one number.
+//! Loops over one plane, or all planes as one, that count.
 
 ghost use Rattle.grids.specs.inner.Loops.{AreCounted, ArePartCounted, MayCount, MayCountPart};
 
 use planes::Number;
 
-/// Changes each owner's number to the one that a closure makes of owner and number. It answers how many times the
+/// Changes each number to the one that a closure makes of place and number. It answers how many times the
 /// closure says yes beside.
 pub fn change_counting<N: Number, F: Fn(usize, N) -> (N, bool)>(numbers: &mut [N], to: F) -> u32
     requires { MayCount (F.pre to) numbers.old }

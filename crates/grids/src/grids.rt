@@ -1,11 +1,13 @@
 //! Loops over all planes of a table: `cells[key * nodes + owner]`. Where one answers an error, it is lack of memory
 //! (`OutOfMemory`).
 
-ghost use Rattle.std.specs.Prelude.{◌≡◌, ℕ, ◌<◌, Bool, length, map, max, nat_lt, slice_index, IfOk, IsOkUnless};
+ghost use Rattle.std.specs.Prelude.{◌≡◌, ℕ, ◌<◌, ◌≤◌, ◌==◌, ◌↔◌, Bool, IsTrue, length, map, max, nat_lt, slice_index, IfOk, IsOkUnless, if◌then◌else◌};
 ghost use Rattle.bench_types.specs.declared.faults.Fault.TheVariants.{OutOfMemory};
 ghost use Rattle.planes.specs.Planes.{cell, number_ahead, total_of, ArePlanesChanged, IsGrid};
 ghost use Rattle.grids.specs.Grids.{AreSentTaken, HasPeer, IsAhead, MayTake};
+ghost use Rattle.bench_types.specs.declared.limits.TheConstants.{MOST_NODES};
 ghost use Rattle.grids.specs.inner.Loops.{IsPlaneTaken, MakesAs, MayTakePlane};
+ghost use Rattle.grids.specs.inner.Masks.{AreKeptAhead, HasNoOtherMark};
 
 use crate::owners::FEW_TO_CHANGE;
 use crate::{counts, owners};
@@ -73,9 +75,76 @@ fn copied<N: Number>(alloc: Global, cells: &[N]) -> Result<Vec<N>, Fault>
     Ok(copy)
 }
 
-/// The numbers that are above both the peer's and their owner's mark, and 0 in place of the others. One pass masks them
-/// and counts those that it keeps. An error is lack of memory (`OutOfMemory`).
-pub fn ahead<N: Number>(
+// Whether no owner but one has a mark above 0.
+fn has_no_other_mark<N: Number>(low: &[N], own: usize) -> bool
+    requires room { length low.now ≤ MOST_NODES }
+    ensures { IsTrue result ↔ HasNoOtherMark (map N.number low.now) own }
+{
+    planes::how_many(
+        low,
+        |r, number| planes::pick(r == own, N::zero(), number).is_above(N::zero()),
+    ) == 0
+}
+
+// Puts 0 in place of an owner's numbers up to a mark.
+fn drop_owner<N: Number>(cells: &mut [N], size: Size, owner: usize, mark: N)
+    requires grid { IsGrid size.nodes size.keys (length cells.old) }
+    requires owner { owner < size.nodes }
+    ensures { ArePlanesChanged (λ r k x y. y ≡ (if r == owner then number_ahead x 0 (N.number mark) else x))
+        size.nodes size.keys (map N.number cells.old) (map N.number cells.new) }
+{
+    for key in 0..size.keys {
+        let cell = &mut cells[key * size.nodes + owner];
+        let number = *cell;
+        *cell = planes::pick(number.is_above(mark), number, N::zero());
+    }
+}
+
+// Puts 0 in place of numbers up to the peer's. It answers how many are kept. All planes are gone over as one.
+fn keep_ahead<N: Number>(numbers: &mut [N], size: Size, peer: &[N]) -> u32
+    requires grid { IsGrid size.nodes size.keys (length numbers.old) }
+    requires peer { length peer.now ≡ length numbers.old }
+    ensures { AreKeptAhead N.number size peer.now numbers.old numbers.new result }
+{
+    counts::change_counting(
+        numbers,
+        |at, number| -> (N, bool)
+            requires { at < length peer.now }
+            ensures number { N.number result.0 ≡ number_ahead (N.number number)
+                (slice_index (map N.number peer.entry.now) at) 0 }
+            ensures is_kept { result.1 ≡ nat_lt (slice_index (map N.number peer.entry.now) at) (N.number number) }
+        {
+            let above = number.is_above(peer[at]);
+            (planes::pick(above, number, N::zero()), above)
+        },
+    )
+}
+
+// The numbers ahead, where no owner but one has a mark. That owner's numbers up to it are dropped first, so all planes
+// are gone over as one, without marks.
+fn ahead_of_peer<N: Number>(
+    alloc: Global,
+    grid: Grid<N>,
+    peer: &[N],
+    low: &[N],
+    own: usize,
+) -> Result<Masked<N>, Fault>
+    requires peer { HasPeer grid peer.now low.now }
+    requires own { own < grid.size.nodes }
+    requires none { HasNoOtherMark (map N.number low.now) own }
+    ensures ahead { IfOk result (IsAhead N.number grid.entry peer.now low.now) }
+    ensures only { IsOkUnless result OutOfMemory }
+{
+    let Grid { cells, size } = grid;
+    let mut numbers = copied(alloc, cells)?;
+    let all: &mut [N] = &mut numbers;
+    drop_owner(all, size, own, low[own]);
+    let count = keep_ahead(all, size, peer);
+    Ok(Masked { numbers, count })
+}
+
+// The numbers ahead, plane by plane.
+fn ahead_of_both<N: Number>(
     alloc: Global,
     grid: Grid<N>,
     peer: &[N],
@@ -101,6 +170,27 @@ pub fn ahead<N: Number>(
         }
     });
     Ok(Masked { numbers, count })
+}
+
+/// The numbers that are above both the peer's and their owner's mark, and 0 in place of the others. One pass masks them
+/// and counts those that it keeps. It is faster where no owner has a mark but the one told, as most often. An error is
+/// lack of memory (`OutOfMemory`).
+pub fn ahead<N: Number>(
+    alloc: Global,
+    grid: Grid<N>,
+    peer: &[N],
+    low: &[N],
+    own: usize,
+) -> Result<Masked<N>, Fault>
+    requires peer { HasPeer grid peer.now low.now }
+    requires own { own < grid.size.nodes }
+    ensures ahead { IfOk result (IsAhead N.number grid.entry peer.now low.now) }
+    ensures only { IsOkUnless result OutOfMemory }
+{
+    if has_no_other_mark(low, own) {
+        return ahead_of_peer(alloc, grid, peer, low, own);
+    }
+    ahead_of_both(alloc, grid, peer, low)
 }
 
 // Raises the numbers of a key's plane to those sent that are above one mark and up to another, and each owner's

@@ -7,7 +7,7 @@ ghost use Rattle.grids.specs.Lags.{AreLowered, AreLoweredCounting, HasLast, IsLe
 ghost use Rattle.planes.specs.Grids.{cells_in};
 ghost use Rattle.planes.specs.Planes.{cell, HasEach};
 
-use crate::grids::change_all_counting;
+use crate::counts::change_counting;
 use bench_types::Fault;
 use planes::{Grid, Number, least_of, lower, plane_of};
 use std::alloc::Global;
@@ -26,31 +26,23 @@ pub fn lower_all<N: Number>(least: &mut [N], grid: Grid<N>)
     }
 }
 
-/// How many numbers are below the last ones. It lowers the least to each number: one pass, plane by plane.
+/// How many numbers are below the last ones. It lowers the least to each number: one pass over all planes as one.
 pub fn count_behind<N: Number>(least: &mut [N], grid: Grid<N>, last: &[N]) -> u32
     requires beside { HasLast grid least.old last.now }
     ensures { AreLoweredCounting N.number grid.entry last.now least.old least.new result }
 {
-    let Grid { cells, size } = grid;
-    change_all_counting(
+    let cells = grid.cells;
+    change_counting(
         least,
-        size,
-        |key|
-            requires { (key * size.nodes + size.nodes ≤ length cells.now)
-                × (key * size.nodes + size.nodes ≤ length last.now) }
+        |at, number| -> (N, bool)
+            requires { (at < length cells.now) × (at < length last.now) }
+            ensures number { N.number result.0 ≡ min (N.number number)
+                (slice_index (map N.number cells.entry.now) at) }
+            ensures is_behind { result.1 ≡ nat_lt (slice_index (map N.number cells.entry.now) at)
+                (slice_index (map N.number last.entry.now) at) }
         {
-            let plane = plane_of(cells, size.nodes, key);
-            let of_last = plane_of(last, size.nodes, key);
-            move |r, number| -> (N, bool)
-                requires { (r < length plane.now) × (r < length of_last.now) }
-                ensures number { N.number result.0 ≡ min (N.number number)
-                    (slice_index (map N.number plane.entry.now) r) }
-                ensures is_behind { result.1 ≡ nat_lt (slice_index (map N.number plane.entry.now) r)
-                    (slice_index (map N.number of_last.entry.now) r) }
-            {
-                let now = plane[r];
-                (number.min_with(now), of_last[r].is_above(now))
-            }
+            let now = cells[at];
+            (number.min_with(now), last[at].is_above(now))
         },
     )
 }

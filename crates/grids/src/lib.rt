@@ -7,6 +7,9 @@
 //!   once.
 //! - What goes over the same planes goes in one loop: to take numbers and to raise the greatest ones, to count what is
 //!   behind and to lower the least. Where tables are large, each pass waits for memory.
+//! - What asks for no owner's mark goes over all planes as one: a loop begins and ends once, not once for each key. So
+//!   does the mask of what is ahead, where no owner but the receiver has a mark, as the receiver's numbers are dropped
+//!   before.
 //! - Where all comes, both ways go in one pass (`merge`). A number of one table that is above the other's greatest one
 //!   goes over; it can't be that one comes back in its place, so neither way has to wait for the other. The pass counts
 //!   what goes each way, and the greatest numbers are raised once behind it.

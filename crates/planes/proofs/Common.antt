@@ -11,7 +11,7 @@ pub use Rattle.std.specs.List.{drop-map}
 pub use Rattle.std.specs.Prelude.{IsTrue, ◌↔◌}
 pub use borrow.Author.Count.{below_more}
 pub use borrow.Rule.Slice.PartMut.{post_of, put_mid}
-pub use Rattle.bench_types.proofs.Sums.{sum_below-most, sum_below-same, sum_below-turned}
+pub use Rattle.bench_types.proofs.Sums.{fold_below-join, one_more, sum_below-most, sum_below-same, sum_below-turned, sums}
 pub use Rattle.bench_types.specs.Sums.{sum_below}
 pub use Rattle.bench_types.specs.declared.limits.TheConstants.{MOST_KEYS, MOST_NODES}
 pub use Rattle.planes.specs.Elementwise.{AreChanged, AreChangedUpto}

@@ -1,6 +1,6 @@
 -- The numbers of a table's planes, one after another.
 -- Serves the functions of `ends`, `grids` and `owners`, `delta_plans`, `grids` and `version_tables`.
-use Rattle.planes.proofs.Common.{◌≡◌, ℕ, ◌+◌, ◌*◌, ◌-◌, ◌<◌, ◌≤◌, Bool, cond, List, length, get_or, map, take, drop, max, inl, inr, refl, sym, ap, ◌∙◌, subst, arith, rules, places, mul-le-mul_right, below_more, cases_lt, get_or-take, get_or-drop, length-map, length-drop, length-take-le, map-append, take-map, drop-map, put_mid, sum_below, sum_below-same, sum_below-turned, AreChanged, Cells, IsRaised, cell, total_of, IsGrid, HasEach, ArePlanesChangedUpto, ArePlanesChanged}
+use Rattle.planes.proofs.Common.{◌≡◌, ℕ, zero, suc, ◌+◌, ◌*◌, ◌-◌, ◌<◌, ◌≤◌, Bool, cond, List, length, get_or, map, take, drop, max, inl, inr, refl, sym, ap, ◌∙◌, subst, arith, rules, places, mul-le-mul_right, below_more, cases_lt, get_or-take, get_or-drop, length-map, length-drop, length-take-le, map-append, take-map, drop-map, put_mid, sum_below, sum_below-same, sum_below-turned, sums, fold_below-join, one_more, count_passing, AreChanged, Cells, IsRaised, cell, total_of, IsGrid, MOST_KEYS, MOST_NODES, HasEach, ArePlanesChangedUpto, ArePlanesChanged}
 
 -- a key's plane lies within the planes
 pub plane-within : (nodes keys size key : ℕ) → IsGrid nodes keys size → key < keys → key * nodes + nodes ≤ size
@@ -26,6 +26,25 @@ total_whole nodes keys key test x is le ge =
     is
     ∙ ap (λ m. sum_below m (λ k. sum_below nodes (λ r. cond (test r k) 1 0))) {x = key} {y = keys} (omega (arith, le, ge))
     ∙ sum_below-turned keys nodes (λ k r. cond (test r k) 1 0)
+
+-- the same places, all planes as one
+places_by_key : (nodes keys : ℕ) (test : ℕ → Bool)
+    → count_passing (keys * nodes) test ≡ sum_below keys (λ k. sum_below nodes (λ r. cond (test (k * nodes + r)) 1 0))
+places_by_key nodes zero test = ap (λ n. count_passing n test) {x = zero * nodes} {y = 0} (omega arith)
+places_by_key nodes (suc keys) test =
+    let next : suc keys * nodes ≡ keys * nodes + nodes = ap (λ k. k * nodes) {x = suc keys} {y = keys + 1} (omega arith) ∙ one_more keys nodes in
+    let here = sum_below nodes (λ r. cond (test (keys * nodes + r)) 1 0) in
+    ap (λ n. count_passing n test) next
+    ∙ sym (fold_below-join sums (λ i. cond (test i) 1 0) (keys * nodes) nodes)
+    ∙ ap (λ n. n + here) (places_by_key nodes keys test)
+
+pub total-places : (nodes keys : ℕ) (test : ℕ → Bool) → count_passing (keys * nodes) test ≡ total_of nodes keys (λ r k. test (k * nodes + r))
+total-places nodes keys test =
+    places_by_key nodes keys test ∙ sum_below-turned keys nodes (λ k r. cond (test (k * nodes + r)) 1 0)
+
+pub few-places : (nodes keys size : ℕ) → IsGrid nodes keys size → size ≤ MOST_NODES * MOST_KEYS
+few-places nodes keys size grid =
+    omega (arith, grid.whole, grid.few_nodes, mul-le-mul_right {m = keys} {n = MOST_KEYS} nodes grid.few_keys)
 
 pub total-same : (nodes keys : ℕ) (one other : ℕ → ℕ → Bool) → ((r k : ℕ) → r < nodes → k < keys → one r k ≡ other r k) → total_of nodes keys one ≡ total_of nodes keys other
 total-same nodes keys one other same = sum_below-same nodes _ _ (λ r in_nodes. sum_below-same keys _ _ (λ k in_keys. ap (λ b. cond b 1 0) (same r k in_nodes in_keys)))

@@ -182,7 +182,7 @@ pub fn total_held<N: Number>(grid: Grid<N>) -> u32
     ensures { result ≡ total_of grid.entry.size.nodes grid.entry.size.keys
         (λ r k. nat_lt 0 (cells_in N.number grid.entry r k)) }
 {
-    total(grid, |_, number| number.is_above(N::zero()))
+    planes::how_many(grid.cells, |_, number| number.is_above(N::zero()))
 }
 
 /// How many numbers are not 0 and up to their owners' marks.

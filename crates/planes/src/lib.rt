@@ -26,5 +26,5 @@ pub use grids::{
 };
 pub use numbers::{Number, Short};
 pub use owners::are_few;
-pub use planes::{change, is_between, lower, pick, raised_to};
+pub use planes::{change, how_many, is_between, lower, pick, raised_to};
 pub use sizes::{Grid, Size};

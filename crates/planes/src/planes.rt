@@ -1,7 +1,7 @@
 //! Loops over planes: for each owner one number.
 
-ghost use Rattle.std.specs.Prelude.{◌≡◌, ℕ, ◌+◌, ◌<◌, ◌≤◌, ◌&&◌, Bool, List, length, map, max, min, nat_le, nat_lt, slice_index, if◌then◌else◌};
-ghost use Rattle.bench_types.specs.declared.limits.TheConstants.{MOST_NODES};
+ghost use Rattle.std.specs.Prelude.{◌≡◌, ℕ, ◌+◌, ◌*◌, ◌<◌, ◌≤◌, ◌&&◌, Bool, List, length, map, max, min, nat_le, nat_lt, slice_index, if◌then◌else◌};
+ghost use Rattle.bench_types.specs.declared.limits.TheConstants.{MOST_KEYS, MOST_NODES};
 ghost use Rattle.planes.specs.Elementwise.{AreChanged};
 ghost use Rattle.planes.specs.Loops.{AnswersAs, IsMade, IsPart, count_passing};
 
@@ -48,9 +48,9 @@ pub fn lower<N: Number>(least: &mut [N], plane: &[N])
     change(least, |r, number| number.min_with(plane[r]));
 }
 
-/// How many numbers of a plane pass a test of owner and number.
+/// How many numbers of a plane, or of planes one after another, pass a test of place and number.
 pub fn how_many<N: Number, F: Fn(usize, N) -> bool>(plane: &[N], passes: F) -> u32
-    requires room { length plane.now ≤ MOST_NODES }
+    requires room { length plane.now ≤ MOST_NODES * MOST_KEYS }
     requires passes { (r : ℕ) (n : N) → r < length plane.now → F.pre passes r n }
     ensures upto { result ≤ length plane.now }
     ensures count { (test : ℕ → ℕ → Bool) → AnswersAs N.number (F.post passes) (length plane.now) test

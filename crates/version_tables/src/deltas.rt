@@ -145,7 +145,10 @@ fn ahead_of<N: Number, H: Written>(
             numbers: Vec::new(alloc),
             count: 0,
         }),
-        DigestKind::Precise => { grids::ahead(alloc, sender.grid(), receiver.cells(), low) }
+        DigestKind::Precise => {
+            let own = receiver.node() as usize;
+            grids::ahead(alloc, sender.grid(), receiver.cells(), low, own)
+        }
     }
 }
 

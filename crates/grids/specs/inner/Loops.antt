@@ -1,6 +1,6 @@
 -- What loops over one plane make of it, and what they ask. Source: this project.
 use Rattle.std.specs.Prelude.{◌≡◌, ℕ, ◌+◌, ◌*◌, ◌<◌, ◌≤◌, nat_lt, Bool, List, length, map, max, slice_index}
-use Rattle.bench_types.specs.declared.limits.TheConstants.{MOST_NODES}
+use Rattle.bench_types.specs.declared.limits.TheConstants.{MOST_KEYS, MOST_NODES}
 use Rattle.planes.specs.Elementwise.{AreChanged}
 use Rattle.planes.specs.Grids.{cells_in}
 use Rattle.planes.specs.Loops.{AreCountedUpto, IsPart}
@@ -11,7 +11,7 @@ use Rattle.grids.specs.declared.merges.BothMarks.{BothMarks}
 
 -- each number may be changed by a call, and counted
 pub record MayCount {N : Type 0} (may : ℕ → N → Type 0) (numbers : List N) : Type 0 where
-  pub room : length numbers ≤ MOST_NODES
+  pub room : length numbers ≤ MOST_NODES * MOST_KEYS
   pub to : (r : ℕ) (n : N) → r < length numbers → may r n
 
 pub record MayCountPart {N : Type 0} (most : ℕ) (may : ℕ → N → Type 0) (numbers : List N) (from size : ℕ) : Type 0 where

@@ -1,6 +1,6 @@
 use Rattle.grids.proofs.Common.{◌≡◌, rules, HasEach, max, nat_lt, slice_index, map, ◌∙◌, with_items_is, length-map, cell, number_ahead}
 use Rattle.grids.proofs.Counted.{total-kept}
-use Rattle.grids.proofs.grids.ahead.Goals as goal
+use Rattle.grids.proofs.grids.ahead_of_both.Goals as goal
 
 pub returns-clause-ahead : goal.returns-clause-ahead
 returns-clause-ahead g c =

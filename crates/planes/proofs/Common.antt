@@ -16,4 +16,4 @@ pub use Rattle.bench_types.specs.Sums.{sum_below}
 pub use Rattle.bench_types.specs.declared.limits.TheConstants.{MOST_KEYS, MOST_NODES}
 pub use Rattle.planes.specs.Elementwise.{AreChanged, AreChangedUpto}
 pub use Rattle.planes.specs.Planes.{ArePlanesChanged, ArePlanesChangedUpto, Cells, HasEach, HasNoneAbove, IsGrid, IsLeastAbove, IsNextAbove, IsRaised, cell, count_above, number_ahead, number_raised, number_taken, numbers_taken, total_above, total_of}
-pub use Rattle.planes.specs.Loops.{AnswersAs, AreCountedUpto, IsLeastOf, IsMade, count_passing}
+pub use Rattle.planes.specs.Loops.{AnswersAs, AreCountedUpto, IsLeastOf, IsMade, count_passing, one_between}

@@ -1,6 +1,6 @@
 -- The numbers of a table's planes, one after another.
 -- Serves the functions of `ends`, `grids` and `owners`, `delta_plans`, `grids` and `version_tables`.
-use Rattle.planes.proofs.Common.{◌≡◌, ℕ, zero, suc, ◌+◌, ◌*◌, ◌-◌, ◌<◌, ◌≤◌, Bool, cond, List, length, get_or, map, take, drop, max, inl, inr, refl, sym, ap, ◌∙◌, subst, arith, rules, places, mul-le-mul_right, below_more, cases_lt, get_or-take, get_or-drop, length-map, length-drop, length-take-le, map-append, take-map, drop-map, put_mid, sum_below, sum_below-same, sum_below-turned, sums, fold_below-join, one_more, count_passing, AreChanged, Cells, IsRaised, cell, total_of, IsGrid, MOST_KEYS, MOST_NODES, HasEach, ArePlanesChangedUpto, ArePlanesChanged}
+use Rattle.planes.proofs.Common.{◌≡◌, ℕ, zero, suc, ◌+◌, ◌*◌, ◌-◌, ◌<◌, ◌≤◌, Bool, cond, List, length, get_or, map, take, drop, max, inl, inr, refl, sym, ap, ◌∙◌, subst, arith, rules, places, mul-le-mul_right, below_more, cases_lt, get_or-take, get_or-drop, length-map, length-drop, length-take-le, map-append, take-map, drop-map, put_mid, sum_below, sum_below-same, sum_below-turned, sums, fold_below-join, one_more, count_passing, AreChanged, Cells, IsRaised, cell, total_of, IsGrid, HasEach, ArePlanesChangedUpto, ArePlanesChanged}
 
 -- a key's plane lies within the planes
 pub plane-within : (nodes keys size key : ℕ) → IsGrid nodes keys size → key < keys → key * nodes + nodes ≤ size
@@ -41,10 +41,6 @@ places_by_key nodes (suc keys) test =
 pub total-places : (nodes keys : ℕ) (test : ℕ → Bool) → count_passing (keys * nodes) test ≡ total_of nodes keys (λ r k. test (k * nodes + r))
 total-places nodes keys test =
     places_by_key nodes keys test ∙ sum_below-turned keys nodes (λ k r. cond (test (k * nodes + r)) 1 0)
-
-pub few-places : (nodes keys size : ℕ) → IsGrid nodes keys size → size ≤ MOST_NODES * MOST_KEYS
-few-places nodes keys size grid =
-    omega (arith, grid.whole, grid.few_nodes, mul-le-mul_right {m = keys} {n = MOST_KEYS} nodes grid.few_keys)
 
 pub total-same : (nodes keys : ℕ) (one other : ℕ → ℕ → Bool) → ((r k : ℕ) → r < nodes → k < keys → one r k ≡ other r k) → total_of nodes keys one ≡ total_of nodes keys other
 total-same nodes keys one other same = sum_below-same nodes _ _ (λ r in_nodes. sum_below-same keys _ _ (λ k in_keys. ap (λ b. cond b 1 0) (same r k in_nodes in_keys)))
@@ -98,9 +94,6 @@ module _ (changed : ℕ → ℕ → ℕ → ℕ → Type 0) (nodes : ℕ) (old :
 pub window-at : {N : Type 0} (number : N → ℕ) (start count n : ℕ) (xs : List N) → n ≡ count → (r : ℕ) → r < count → get_or (map number (take n (drop start xs))) r 0 ≡ get_or (map number xs) (start + r) 0
 window-at number start count n xs is r lt =
     rw (← take-map number n (drop start xs), ← drop-map number start xs, get_or-take n (drop start (map number xs)) r 0 (omega (arith, lt, is))) (get_or-drop start (map number xs) r 0)
-
-pub window-in : {N : Type 0} (start count n r : ℕ) (xs : List N) → n ≡ count → start + count ≤ length xs → r < count → r < length (take n (drop start xs))
-window-in start count n r xs is within lt = omega (arith, is, lt, length-take-le n (drop start xs) (omega (arith, is, within, length-drop start xs)))
 
 -- a plane of planes
 pub plane-cells : {N : Type 0} (number : N → ℕ) (nodes key n : ℕ) (xs : List N) → n ≡ nodes → key * nodes + nodes ≤ length xs → HasEach nodes (λ r m. m ≡ cell (map number xs) nodes r key) (map number (take n (drop (key * nodes) xs)))

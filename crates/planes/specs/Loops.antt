@@ -1,5 +1,5 @@
 -- What loops over planes make of what a closure answers. Source: this project.
-use Rattle.std.specs.Prelude.{◌≡◌, ◌⊎◌, ℕ, ◌+◌, ◌<◌, ◌≤◌, Bool, List, if◌then◌else◌}
+use Rattle.std.specs.Prelude.{◌≡◌, ◌⊎◌, ℕ, ◌+◌, ◌<◌, ◌≤◌, ◌&&◌, nat_le, nat_lt, Bool, List, length, map, slice_index, if◌then◌else◌}
 use Rattle.bench_types.specs.Sums.{sum_below}
 use Rattle.planes.specs.Elementwise.{AreChangedUpto}
 
@@ -37,3 +37,20 @@ pub record IsPart (most whole from size : ℕ) : Type 0 where
 abbrev pub AnswersAs : {N : Type 0} → (N → ℕ) → (ℕ → N → Bool → Type 0) → ℕ → (ℕ → ℕ → Bool) → Type 0
 AnswersAs {N} number answers bound test =
     (r : ℕ) (n : N) (passes : Bool) → r < bound → answers r n passes → passes ≡ test r (number n)
+
+-- one number of a plane, where it is above one mark and up to another
+abbrev pub one_between : {N : Type 0} → (N → ℕ) → List N → List N → List N → ℕ → ℕ
+one_between number plane low high r =
+    if nat_lt (slice_index (map number low) r) (slice_index (map number plane) r)
+    && nat_le (slice_index (map number plane) r) (slice_index (map number high) r) then 1 else 0
+
+-- a number of a plane and two marks for each count
+pub record MayCountPlane {N : Type 0} (counts plane low high : List N) : Type 0 where
+  pub plane_count : length plane ≡ length counts
+  pub low_count : length low ≡ length counts
+  pub high_count : length high ≡ length counts
+
+-- so many more can be counted
+abbrev pub HasRoomToCount : {N : Type 0} → (N → ℕ) → ℕ → ℕ → List N → Type 0
+HasRoomToCount number most more counts =
+    (r : ℕ) → r < length counts → slice_index (map number counts) r + more ≤ most

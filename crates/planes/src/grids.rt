@@ -6,7 +6,8 @@ ghost use Rattle.bench_types.specs.declared.faults.Fault.TheVariants.{OutOfMemor
 ghost use Rattle.planes.specs.Grids.{cells_in, HasMarkOfEach, HasTwoMarksOfEach, IsGridOf, IsMarked};
 ghost use Rattle.bench_types.specs.declared.limits.TheConstants.{MOST_NODES};
 ghost use Rattle.planes.specs.Planes.{cell, count_above, count_between, total_above, total_of, HasEach, HasNoneUpto, IsGrid, IsNextAbove};
-ghost use Rattle.planes.specs.Loops.{AnswersAs, IsLeastOf};
+ghost use Rattle.planes.specs.Loops.{one_between, AnswersAs, HasRoomToCount, IsLeastOf, MayCountPlane};
+ghost use Rattle.planes.specs.Elementwise.{AreChanged};
 
 use crate::numbers::Number;
 use crate::owners::{FEW_TO_COUNT, are_few, total_owners_above};
@@ -69,6 +70,7 @@ pub fn counts_above<N: Number>(alloc: Global, grid: Grid<N>, low: &[N]) -> Resul
 }
 
 /// For each owner of a part of them, from a first one on, how many of its numbers are above one mark and up to another.
+/// It goes over two planes at a time.
 pub fn count_some_between<N: Number>(
     counts: &mut [N],
     grid: Grid<N>,
@@ -88,21 +90,64 @@ pub fn count_some_between<N: Number>(
     let count = counts.len();
     let lows = &low[first..first + count];
     let highs = &high[first..first + count];
-    for key in 0..size.keys {
+    let mut key = 0;
+    while key + 1 < size.keys {
         let start = key * size.nodes + first;
-        let plane = &cells[start..start + count];
-        planes::change(
+        let next = start + size.nodes;
+        count_two(
             counts,
-            |r, count| -> N
-                requires { (r < length plane.now) × (r < length lows.now) × (r < length highs.now)
-                    × (N.number count < N.most) }
-                ensures { N.number result ≡ N.number count + (if nat_lt (slice_index (map N.number lows.entry.now) r)
-                    (slice_index (map N.number plane.entry.now) r)
-                    && nat_le (slice_index (map N.number plane.entry.now) r)
-                    (slice_index (map N.number highs.entry.now) r) then 1 else 0) }
-            { count.plus(planes::is_between(plane[r], lows[r], highs[r])) },
+            &cells[start..start + count],
+            &cells[next..next + count],
+            lows,
+            highs,
         );
+        key += 2;
     }
+    if key < size.keys {
+        let start = key * size.nodes + first;
+        count_one(counts, &cells[start..start + count], lows, highs);
+    }
+}
+
+// Adds one to each owner's count whose number in a plane is above one mark and up to another.
+fn count_one<N: Number>(counts: &mut [N], plane: &[N], low: &[N], high: &[N])
+    requires plane { MayCountPlane counts.old plane.now low.now high.now }
+    requires room { HasRoomToCount N.number N.most 1 counts.old }
+    ensures { AreChanged (λ r x y. y ≡ x + one_between N.number plane.now low.now high.now r)
+        (map N.number counts.old) (map N.number counts.new) }
+{
+    planes::change(
+        counts,
+        |r, count| -> N
+            requires { (r < length plane.now) × (r < length low.now) × (r < length high.now) × (N.number count < N.most) }
+            ensures { N.number result ≡ N.number count
+                + one_between N.number plane.entry.now low.entry.now high.entry.now r }
+        { count.plus(planes::is_between(plane[r], low[r], high[r])) },
+    );
+}
+
+// The same for two planes, whose counts and marks are then read once.
+fn count_two<N: Number>(counts: &mut [N], plane: &[N], other: &[N], low: &[N], high: &[N])
+    requires plane { MayCountPlane counts.old plane.now low.now high.now }
+    requires other { length other.now ≡ length counts.old }
+    requires room { HasRoomToCount N.number N.most 2 counts.old }
+    ensures { AreChanged (λ r x y. y ≡ x + one_between N.number plane.now low.now high.now r
+        + one_between N.number other.now low.now high.now r) (map N.number counts.old) (map N.number counts.new) }
+{
+    planes::change(
+        counts,
+        |r, count| -> N
+            requires { (r < length plane.now) × (r < length other.now) × (r < length low.now) × (r < length high.now)
+                × (N.number count + 1 < N.most) }
+            ensures { N.number result ≡ N.number count
+                + one_between N.number plane.entry.now low.entry.now high.entry.now r
+                + one_between N.number other.entry.now low.entry.now high.entry.now r }
+        {
+            count
+                .plus(planes::is_between(plane[r], low[r], high[r]))
+                .plus(planes::is_between(other[r], low[r], high[r]))
+        },
+    );
 }
 
 /// For each owner the least of the numbers that a closure makes of its places, or `N::greatest()` where there are none.

@@ -7,8 +7,8 @@
 //!   which numbers count or what one becomes, comes as a closure of owner and number, whose own clauses say what that
 //!   is: measured on five scenarios, with one worker, that took from 5 % less time to as much.
 //! - What is counted over a plane is counted in its numbers' bits, as a wider sum would halve what a vector instruction
-//!   does: of bytes 192 at a time, each time added into 32 bits, of others all, as they can count more nodes than there
-//!   may be.
+//!   does: of bytes 192 at a time, each time added into 32 bits, of others as many as there may be nodes. What asks for
+//!   no owner's mark is counted over all planes as one.
 //! - These loops know no table, so their proofs stand on nothing but the limits, and are checked beside the rest.
 #![tactic(auto)]
 

@@ -1,5 +1,5 @@
 use Rattle.planes.proofs.Common.{ℕ, rules, nat_lt, slice_index, map, ap, ◌*◌, ◌∙◌, count_passing}
-use Rattle.planes.proofs.Places.{few-places, total-places}
+use Rattle.planes.proofs.Places.{total-places}
 use Rattle.planes.proofs.grids.total_held.Goals as goal
 
 pub returns : goal.returns

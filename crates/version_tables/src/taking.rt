@@ -59,25 +59,24 @@ fn drop_owner<N: Number>(cells: &mut [N], nodes: usize, keys: usize, owner: usiz
 // Drops nothing, after one fast loop, where no owner's old number is of an earlier generation.
 fn drop_older<N: Number>(
     cells: &mut [N],
-    nodes: usize,
-    keys: usize,
+    size: Size,
     before: &[N],
     greatest: &[N],
     owners: Owners<N>,
 )
-    requires { MayDrop N.number nodes keys cells.old before.now greatest.now owners }
+    requires { MayDrop N.number size.nodes size.keys cells.old before.now greatest.now owners }
     ensures { ArePlanesChanged (λ r k x y. y ≡ number_kept
         (drop_starts (all_writes owners.entry.lists.now) (map N.number before.now)
-        (map N.number owners.entry.bases.now) (map N.number greatest.now) r) x) nodes keys
+        (map N.number owners.entry.bases.now) (map N.number greatest.now) r) x) size.nodes size.keys
         (map N.number cells.old) (map N.number cells.new) }
 {
     let Owners { lists, bases } = owners;
     if planes::none_upto(before, bases) {
         return;
     }
-    for owner in 0..nodes {
+    for owner in 0..size.nodes {
         let start = drop_from(&lists[owner], before[owner], bases[owner], greatest[owner]);
-        drop_owner(cells, nodes, keys, owner, start);
+        drop_owner(cells, size.nodes, size.keys, owner, start);
     }
 }
 
@@ -115,12 +114,5 @@ pub(crate) fn take_unless<N: Number, H: Written>(
         high: &arrival.marks.high,
     };
     grids::take(&mut table.cells, &mut table.greatest, sent);
-    drop_older(
-        &mut table.cells,
-        size.nodes,
-        size.keys,
-        before,
-        &table.greatest,
-        owners,
-    );
+    drop_older(&mut table.cells, size, before, &table.greatest, owners);
 }

@@ -5,7 +5,7 @@ use Rattle.version_tables.proofs.taking.drop_older.Goals as goal
 
 pub returns-then-none_upto : goal.returns-then-none_upto
 returns-then-none_upto g c =
-    planes-stay _ c.args.nodes c.args.keys (map g.N.Number.number c.args.cells.now)
+    planes-stay _ c.args.size.nodes c.args.size.keys (map g.N.Number.number c.args.cells.now)
     (λ r k x lt. let none = c.none_upto.ensures.0 c.if-none_upto.true r (omega (arith, lt, c.requires.before_count, length-map c.args.before.now g.N.Number.number)) in grind (arith, nat_tests))
 
 -- what an owner's numbers are dropped up to
@@ -27,11 +27,11 @@ pub loop-owner-preserved : goal.loop-owner-preserved
 loop-owner-preserved g c =
     let number = g.N.Number.number in
     owners-next (λ r k. number_kept (drop_starts (all_writes c.args.owners.lists.now) (map number c.args.before.now) (map number c.args.owners.bases.now) (map number c.args.greatest.now) r))
-    c.args.nodes c.args.keys (map number c.args.cells.now) c.loop-owner.owner (λ r k x. number_kept c.drop_from-start.result x) (map number c.loop-owner.cells) _ c.loop-owner.invariant c.drop_owner.ensures
+    c.args.size.nodes c.args.size.keys (map number c.args.cells.now) c.loop-owner.owner (λ r k x. number_kept c.drop_from-start.result x) (map number c.loop-owner.cells) _ c.loop-owner.invariant c.drop_owner.ensures
     (λ k x. ap (λ n. number_kept n x) (starts g c))
 
 pub returns : goal.returns
 returns g c =
     let number = g.N.Number.number in
     owners-all (λ r k. number_kept (drop_starts (all_writes c.args.owners.lists.now) (map number c.args.before.now) (map number c.args.owners.bases.now) (map number c.args.greatest.now) r))
-    c.args.nodes c.args.keys (map number c.args.cells.now) c.loop-owner.owner (map number c.loop-owner.cells) c.loop-owner-test.false c.loop-owner.invariant
+    c.args.size.nodes c.args.size.keys (map number c.args.cells.now) c.loop-owner.owner (map number c.loop-owner.cells) c.loop-owner-test.false c.loop-owner.invariant

@@ -1,5 +1,5 @@
 -- Planes of which some places are counted.
--- Serves `change_all_counting`, `count_behind`, `keep_ahead`, `mask` and `merge`.
+-- Serves the functions of `grids`, `lags` and `merges`.
 use Rattle.grids.proofs.Common.{◌≡◌, ℕ, Fits, w32, ◌+◌, ◌*◌, ◌<◌, ◌≤◌, Bool, cond, nat_tests, List, length, get_or, map, take, drop, nat_lt, max, refl, sym, ◌∙◌, ◌==◌, ap, arith, length-map, put_mid, MOST_NODES, sum_below, sum_below-most, cell, number_ahead, total_above, total_of, IsGrid, ArePlanesChangedUpto, ArePlanesChanged, AreCountedUpto, AreRaisedUpto, number_raised, count_passing, HasNoOtherMark}
 use Rattle.planes.proofs.Elementwise.{changed_all}
 use Rattle.planes.proofs.Counts.{count_le, sum_next}

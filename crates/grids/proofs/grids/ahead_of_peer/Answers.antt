@@ -1,4 +1,4 @@
-use Rattle.grids.proofs.Common.{◌≡◌, arith, map, ◌∙◌, with_items_is, length-map, cell}
+use Rattle.grids.proofs.Common.{◌≡◌, ◌<◌, arith, length, map, ◌∙◌, with_items_is, length-map, cell}
 use Rattle.planes.proofs.Elementwise.{number-at}
 use Rattle.grids.proofs.Counted.{masked-once}
 use Rattle.grids.proofs.grids.ahead_of_peer.Goals as goal
@@ -10,7 +10,8 @@ returns-clause-ahead g c =
     let old = c.deref_mut-all.result.now in
     let new = c.keep_ahead-count.new.numbers in
     let items = with_items_is c.in_ok-numbers.numbers new (c.keep_ahead-count.auto.numbers ∙ c.drop_owner.auto.cells ∙ c.deref_mut-all.ensures.len) in
-    let mark = number-at number c.args.low.now c.args.own c.index-low-own.result (omega (arith, c.requires.own, c.requires.peer.marks.count)) c.index-low-own.is in
+    let own : c.args.own < length c.args.low.now = omega (arith, c.requires.own, c.requires.peer.marks.count) in
+    let mark = number-at number c.args.low.now c.args.own c.index-low-own.result own c.index-low-own.is in
     let all =
     masked-once nodes c.args.grid.size.keys c.args.own (number c.index-low-own.result) (cell (map number c.args.peer.now) nodes)
     (map number c.args.low.now) (map number old) (map number c.drop_owner.new.cells) (map number new)

@@ -9,8 +9,9 @@ loop-key-init g c = planes-none _ _ _
 
 pub offset_bounds-cells-key : goal.offset_bounds-cells-key
 offset_bounds-cells-key g c =
+    let plane = plane-within c.args.size.nodes c.args.size.keys (length c.args.cells.now) c.loop-key.key c.requires.grid c.loop-key-test.true in
     let inside : c.loop-key.key * c.args.size.nodes + c.args.owner < length c.loop-key.cells =
-    omega (arith, c.requires.owner, c.loop-key.auto.cells, plane-within c.args.size.nodes c.args.size.keys (length c.args.cells.now) c.loop-key.key c.requires.grid c.loop-key-test.true) in
+    omega (arith, c.requires.owner, c.loop-key.auto.cells, plane) in
     search rules
 
 pub loop-key-preserved : goal.loop-key-preserved
@@ -22,7 +23,8 @@ loop-key-preserved g c =
     let was =
     sym (get_or-map number c.loop-key.cells place c.index-cells-key.result 0 (omega (arith, within, c.requires.owner, c.loop-key.auto.cells)))
     ∙ c.loop-key.invariant.from place (omega arith) in
-    owner-next (λ r k x. number_ahead x 0 mark) c.args.owner c.args.size.nodes (map number c.args.cells.now) c.requires.owner number c.loop-key.cells c.loop-key.key c.pick.result
+    owner-next (λ r k x. number_ahead x 0 mark) c.args.owner c.args.size.nodes (map number c.args.cells.now) c.requires.owner
+    number c.loop-key.cells c.loop-key.key c.pick.result
     c.loop-key.invariant (omega (arith, within, length-map c.args.cells.now number))
     (c.pick.ensures ∙ (λ i. cond ((c.is_above.ensures ∙ (λ j. nat_lt mark (was j))) i) (was i) (c.zero.ensures i)) ∙ above-alone mark _)
 

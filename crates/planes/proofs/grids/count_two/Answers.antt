@@ -20,5 +20,7 @@ returns g c =
     let high = c.args.high.now in
     record {
       size = c.change.ensures.size;
-      each = λ r lt. made-as number _ r _ _ (λ n. n + one_between number c.args.plane.now low high r + one_between number c.args.other.now low high r) (c.change.ensures.each r lt) (λ n m call. call);
+      each = λ r lt.
+          made-as number _ r _ _ (λ n. n + one_between number c.args.plane.now low high r + one_between number c.args.other.now low high r)
+          (c.change.ensures.each r lt) (λ n m call. call);
     }

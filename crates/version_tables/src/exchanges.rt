@@ -92,15 +92,17 @@ fn exchange_deltas<N: Number, H: Written>(
         lists: histories.lists(),
         bases: histories.bases(),
     };
-    let came_back = Arrival {
-        marks: &back,
-        nothing: is_nothing(back.counts.sent),
+    let came = Arrivals {
+        back: Arrival {
+            marks: &back,
+            nothing: is_nothing(back.counts.sent),
+        },
+        forth: Arrival {
+            marks: &forth,
+            nothing: plan.lost3 | is_nothing(forth.counts.sent),
+        },
     };
-    let came_forth = Arrival {
-        marks: &forth,
-        nothing: plan.lost3 | is_nothing(forth.counts.sent),
-    };
-    take_both(alloc, initiator, responder, came_back, came_forth, owners)?;
+    take_both(alloc, initiator, responder, came, owners)?;
     Ok(sent_both(digest1, digest2, back.counts, forth.counts, plan.lost3))
 }
 
@@ -110,22 +112,29 @@ fn is_nothing(sent: u32) -> bool
     sent == 0
 }
 
+// What comes to each of the two sides.
+#[derive(Clone, Copy)]
+struct Arrivals<'a, N: Number> {
+    back: Arrival<'a, N>,
+    forth: Arrival<'a, N>,
+}
+
 // Each side takes what came to it, unless that is nothing. The second delta may also be lost.
 fn take_both<N: Number, H: Written>(
     alloc: Global,
     initiator: &mut VersionTable<N, H>,
     responder: &mut VersionTable<N, H>,
-    back: Arrival<N>,
-    forth: Arrival<N>,
+    came: Arrivals<N>,
     owners: Owners<N>,
 ) -> Result<(), Fault>
-    requires may { MayTakeBoth N.number H.lists owners initiator.old responder.old back forth }
+    requires may { MayTakeBoth N.number H.lists owners initiator.old responder.old came.back came.forth }
     ensures ok { OnOk result (HaveTakenBoth N.number owners.entry initiator.old responder.old
-        back.entry forth.entry initiator.new responder.new) }
+        came.entry.back came.entry.forth initiator.new responder.new) }
     ensures stay { OnErr result
         (BothStay initiator.old responder.old initiator.new responder.new) }
     ensures only { IsOkUnless result OutOfMemory }
 {
+    let Arrivals { back, forth } = came;
     let initiator_before = Vec::from_slice(alloc, initiator.greatest())?;
     let responder_before = Vec::from_slice(alloc, responder.greatest())?;
     let came_back = responder.cells();

@@ -1,9 +1,9 @@
 //! Where the threads of a crew are given what to do.
 
 use std::alloc::{AllocError, Global};
+use std::mem;
 use std::sync::atomic::{AtomicU64, Ordering};
 use std::sync::{Condvar, Mutex, Wait};
-use std::{hint, mem};
 
 // What lies at a thread's post.
 #[derive(Drop)]
@@ -39,30 +39,11 @@ impl<D: Drop> Post<D> {
         self.given.notify_one();
     }
 
-    // The next order. It looks so many times before it sleeps.
-    fn next<R: Wait>(&self, rt: &R, looks: u32) -> Order<D> {
-        let seen = self.given.notifications();
-        if let Some(order) = self.at_hand(rt) {
-            return order;
-        }
-        for _ in 0..looks {
-            if self.given.notifications() != seen {
-                break;
-            }
-            hint::spin_loop();
-        }
+    fn next<R: Wait>(&self, rt: &R) -> Order<D> {
         let mut order = self
             .given
             .wait_while(rt, self.order.lock(rt), |order| order.is_none());
         mem::replace(&mut *order, Order::Nothing)
-    }
-
-    fn at_hand<R: Wait>(&self, rt: &R) -> Option<Order<D>> {
-        let mut order = self.order.lock(rt);
-        if order.is_none() {
-            return None;
-        }
-        Some(mem::replace(&mut *order, Order::Nothing))
     }
 }
 
@@ -72,15 +53,14 @@ pub struct Yard<D> {
     posts: Vec<Post<D>>,
     // How many duties were given that aren't finished yet.
     under_way: AtomicU64,
-    looks: u32,
 }
 
 impl<D: Drop> Yard<D> {
     ghost use Rattle.std.specs.Prelude.{◌≡◌, ◌<◌, IfOk};
     ghost use Rattle.crew.specs.Named.{post_count};
 
-    /// Posts for so many threads, none of which is started here. Whoever waits looks so many times before it sleeps.
-    pub fn new(alloc: Global, threads: usize, looks: u32) -> Result<Yard<D>, AllocError>
+    /// Posts for so many threads, none of which is started here.
+    pub fn new(alloc: Global, threads: usize) -> Result<Yard<D>, AllocError>
         ensures { IfOk result (λ yard. post_count yard ≡ threads) }
     {
         let mut posts = Vec::with_capacity(alloc, threads)?;
@@ -90,7 +70,6 @@ impl<D: Drop> Yard<D> {
         Ok(Yard {
             posts,
             under_way: AtomicU64::new(0),
-            looks,
         })
     }
 
@@ -106,7 +85,7 @@ impl<D: Drop> Yard<D> {
     pub fn next<R: Wait>(&self, rt: &R, i: usize) -> Option<D>
         requires { i < post_count self.now }
     {
-        match self.posts[i].next(rt, self.looks) {
+        match self.posts[i].next(rt) {
             Order::Duty(duty) => Some(duty),
             Order::Nothing | Order::GoHome => None,
         }
@@ -121,18 +100,12 @@ impl<D: Drop> Yard<D> {
 
     /// Waits until all that was given is finished.
     pub fn wait<R: Wait>(&self, rt: &R) {
-        let mut looks = 0;
         for _ in rt.forever() {
             let left = self.under_way.load(Ordering::SeqCst);
             if left == 0 {
                 return;
             }
-            if looks < self.looks {
-                looks += 1;
-                hint::spin_loop();
-            } else {
-                self.under_way.park(rt, (left % (1 << 32)) as u32);
-            }
+            self.under_way.park(rt, (left % (1 << 32)) as u32);
         }
         unreachable!()
     }

@@ -20,10 +20,6 @@ use std::sync::Wait;
 use std::thread;
 use std::thread::{Scope, Threads};
 
-// How often whoever waits looks before it sleeps: to look on takes a processor from the others, unless there is one for
-// each worker and for the caller.
-const LOOKS: u32 = 0;
-
 /// Where workers are given lists to carry out: the caller's thread where there is one, else each in a thread of its own.
 #[derive(Drop)]
 pub struct Posts<T: MemoryTable, X: Exchanging<T>, G> {
@@ -52,7 +48,7 @@ impl<T: MemoryTable, X: Exchanging<T> + Drop, G: Gate + Drop> Posts<T, X, G> {
         ensures workers { IfOk result (λ posts. posts ≡ workers) }
         ensures only { IsOkUnless result OutOfMemory }
     {
-        let yard = Yard::new(alloc, workers as usize, LOOKS)?;
+        let yard = Yard::new(alloc, workers as usize)?;
         Ok(Posts {
             alloc,
             yard,

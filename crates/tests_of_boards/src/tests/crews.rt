@@ -65,17 +65,13 @@ fn lists_by_the_same_threads(rt: HostRuntime) -> Result<(), Fault> {
     let list = list_of(&rt, 8, CROSSING);
     let (_, wanted) = run_fresh(&rt, &list, 1, &ONE_ENTRY, 1, &FreeGate)?;
     let posts = Posts::new(rt.alloc(), 3)?;
-    let lists = posts.with_threads(
-        &rt,
-        (),
-        |_| {
-            (
-                records_of(&rt, &posts, &list, false),
-                records_of(&rt, &posts, &list, true),
-                records_of(&rt, &posts, &list, false),
-            )
-        },
-    );
+    let lists = posts.with_threads(&rt, (), |_| {
+        (
+            records_of(&rt, &posts, &list, false),
+            records_of(&rt, &posts, &list, true),
+            records_of(&rt, &posts, &list, false),
+        )
+    });
     let Ok((first, second, third)) = lists else {
         return Err(Fault::NoThread);
     };

@@ -115,8 +115,7 @@ class Stages:
     """The stages of a study, carried out one after another."""
 
     def __init__(self, it, folder, program):
-        self.study, self.folder, self.program = it, folder, program
-        self.progress = Progress()
+        self.study, self.folder, self.program, self.progress = it, folder, program, Progress()
         # (the budgets and modes that were run, each with its seeds, by stage)
         self.made = {}
 
@@ -155,21 +154,21 @@ class Stages:
         made = self.made.setdefault(stage, {})
         for pair in pairs:
             made[pair] = max(made.get(pair, ()), seeds or self.study.seeds(stage), key=len)
-        text, runs = self.runs(stage, {pair: made[pair] for pair in pairs})
+        seeds = {pair: made[pair] for pair in pairs}
+        text, runs = self.runs(stage, seeds)
         if to_do := [name for name in runs if f"{stage}/{name}" not in self.progress.over]:
             left = f", {in_words(self.progress.left())} in all" if self.progress.left() else ""
             print(f"{stage}: {len(to_do)} runs of {self.study.rounds(stage)} rounds{self.shorter(stage)}{left}",
                   file=sys.stderr, flush=True)
         sweep.carry_out(self.folder / stage, text, runs, self.program, self.progress, os.environ.get("HOSTS"),
                         "gossip_advise")
-        return study.Found(self.study, stage, self.folder / stage, {pair: made[pair] for pair in pairs})
+        return study.Found(self.study, stage, self.folder / stage, seeds)
 
     def shorter(self, stage):
-        """Why a stage has fewer rounds than were asked for, in words."""
         it = self.study
-        if stage != "split" or it.split == it.told["split"]:
-            return ""
-        return f" (a split of {it.split} stands for {it.told['split']}, as each key is written anew in it)"
+        is_shorter = stage == "split" and it.split < it.told["split"]
+        said = f" (a split of {it.split} stands for {it.told['split']}, as each key is written anew in it)"
+        return said if is_shorter else ""
 
     def choose(self, stage, pairs, dropped):
         """What these runs choose. What can't be chosen after the first seeds isn't run under the others."""
@@ -199,16 +198,15 @@ class Stages:
             pairs = {(self.study.most(mode), mode) for mode in decision.contenders()}
         return decision
 
-    def bound_of(self, decision, budget):
-        """What bounds a budget in the mode of a decision: longer runs under other seeds."""
-        stage, pair = f"{decision.stage}-bound", (budget, decision.mode)
-        self.plan(stage, {pair}, 0)
-        return answer.Bound(self.study, stage, self.carry_out(stage, {pair}), pair)
+    def bound(self, stage, pair, times=0):
+        """What bounds a budget and a mode that a stage chose: longer runs under other seeds. For the time left it is
+        reckoned with as many again so many times."""
+        self.plan(f"{stage}-bound", {pair}, times)
+        return answer.Bound(self.study, f"{stage}-bound", self.carry_out(f"{stage}-bound", {pair}), pair)
 
     def is_level(self, decision):
         """Has a decision bounded. Whether `greatest` is level in those runs too."""
-        if not decision.bound:
-            decision.bound = self.bound_of(decision, decision.budget)
+        decision.bound = decision.bound or self.bound(decision.stage, (decision.budget, decision.mode))
         return decision.bound.is_level()
 
     def look_below(self, decision):
@@ -217,16 +215,14 @@ class Stages:
             if pairs <= decision.found.rows.keys():
                 break
             found = self.carry_out(decision.stage, pairs | decision.found.rows.keys(), rules.FIRST)
-            bound, decision = decision.bound, answer.Decision(self.study, found, decision.stage, decision.against)
-            decision.bound = bound
+            decision = answer.Decision(self.study, found, decision.stage, decision.against, decision.bound)
         return decision
 
     def look_at_floor(self, decision):
         """Has it what nothing goes below, from runs that cut nothing: its own, or others under the first seeds."""
-        it, bound = self.study, decision.bound
+        bound, ample = decision.bound, {(self.study.ample(), self.study.usual)}
         decision.floor = bound.found.uncut(bound.window)
         if not decision.floor:
-            ample = {(it.ample(), it.usual)}
             self.plan(bound.stage, ample, 0, rules.BOUNDING_FIRST)
             decision.floor = self.carry_out(bound.stage, ample, rules.BOUNDING_FIRST).uncut(bound.window)
 
@@ -254,9 +250,8 @@ def look(folder):
 
 def call_with_enough(decision, folder):
     """The whole call with room for nodes * writes entries, into another folder; empty where it wouldn't help."""
-    if decision.suffices or not decision.knee_suffices():
-        return ""
-    return call_with(decision.study, decision.study.packet(decision.mode), f"{folder}-enough")
+    helps, it = not decision.suffices and decision.knee_suffices(), decision.study
+    return call_with(it, it.packet(decision.mode), f"{folder}-enough") if helps else ""
 
 
 def call_with(it, packet, folder):
@@ -267,63 +262,48 @@ def call_with(it, packet, folder):
     return shlex.join(["gossip_advise", "-o", folder, *asked])
 
 
-class Told:
-    """What is told of an answer, line by line, which the folder keeps as answer.txt as far as it is told."""
-
-    def __init__(self, folder):
-        self.folder, self.lines = folder, []
-
-    def tell(self, lines, told=()):
-        """Tells these lines. Those that were told before are only kept."""
-        print(*(it for it in lines if it not in told), sep="\n", flush=True)
-        self.lines += lines
-        files.put(self.folder / "answer.txt", "\n".join(self.lines) + "\n")
+def tell(folder, lines, kept=(), told=()):
+    """Tells these lines, but for those that were told before, and keeps them behind those that are kept, as answer.txt.
+    Answers all of them."""
+    print(*(it for it in lines if it not in told), sep="\n", flush=True)
+    lines = [*kept, *lines]
+    files.put(folder / "answer.txt", "\n".join(lines) + "\n")
+    return lines
 
 
-def first_answer(it, stages, told, check_sum):
+def first_answer(it, stages, check_sum):
     """The first answer, which the folder has until the last one comes: what is chosen, bounds it and heals."""
+    folder, told = stages.folder, []
+    if it.least_rounds():
+        told = tell(folder, [f"By a sum, of the worst staleness: {it.why_at_least()}."])
     first = stages.decide(it.steady_stages()[0], it.wanted(it.usual))
-    told.tell(answer.first_words(first, call_with_enough(first, stages.folder)))
+    told = tell(folder, answer.first_words(first, call_with_enough(first, folder)), told)
     if not first.suffices:
         return first
     is_level = stages.is_level(first)
-    about_target = [f"The target is {target.judged(first)[1]}."] if it.target else []
-    told.tell([first.bound.added(), *(about_target if is_level else [])])
+    about_target = [f"The target is {target.judged(first)[1]}."] if it.target and is_level else []
+    told = tell(folder, [first.bound.added(), *about_target], told)
     if not is_level:
         return first
     stages.expect(first, first.stage, *it.healing_stages())
-    healed = {}
+    healing, healed = None, {}
     for tells, of_these in it.healing_groups():
-        for stage in of_these:
-            healed[stage] = stages.carry_out(stage, {(first.budget, first.mode)})
-        told.tell(Healing(it, first.mode, healed).lines(tells, first.budget))
-    healing = Healing(it, first.mode, healed) if healed else None
-    page.make(stages.folder, first, healing, stages.made, check_sum, head="First answer. ")
-    told.tell(answer.last_of_first_words(first, stages.folder))
+        healed |= {stage: stages.carry_out(stage, {(first.budget, first.mode)}) for stage in of_these}
+        healing = Healing(it, first.mode, healed)
+        told = tell(folder, healing.lines(tells, first.budget), told)
+    page.make(folder, first, healing, stages.made, check_sum, head="First answer. ")
+    tell(folder, answer.last_of_first_words(first, folder), told)
     return first
 
 
 def bounded_decision(it, stages, decision):
     """What is decided, from more and more intervals until the runs that bound it are level too."""
     while not (decision.suffices and stages.is_level(decision)):
-        later = it.later_stages(decision.stage)
-        if not later:
+        if not (later := it.later_stages(decision.stage)):
             decision.suffices, decision.budget = False, decision.most
             break
         decision = stages.decide_in_time(later, it.wanted(decision.mode), decision)
     return decision
-
-
-def last_answer(it, stages, first):
-    """What is decided, with smaller budgets beside it, and what heals with it, where a budget is enough."""
-    decision = bounded_decision(it, stages, first)
-    if not decision.suffices:
-        return decision, None
-    stages.expect(decision, decision.stage, *it.healing_stages())
-    decision = stages.look_below(decision)
-    healing = stages.heal(decision) if it.heals() else None
-    stages.look_at_floor(decision)
-    return decision, healing
 
 
 def smallest_packet(it, stages, check_sum):
@@ -332,8 +312,7 @@ def smallest_packet(it, stages, check_sum):
     pairs = {search.run_of(mode) for mode in search.modes} | {(search.budget, search.chosen)}
     met = target.Met(search, is_met, target.aged(stages, search.stage, search.found, pairs))
     stages.look_at_floor(met)
-    call = call_with(it, met.packet(), f"{stages.folder}-packet")
-    Told(stages.folder).tell(met.in_words(call))
+    tell(stages.folder, met.in_words(call_with(it, met.packet(), f"{stages.folder}-packet")))
     print("", page.make(stages.folder, met, None, stages.made, check_sum, more=met.more()), sep="\n")
 
 
@@ -344,26 +323,28 @@ def beside(it, stages, decision):
     if not decision.suffices:
         return [target.judged(decision)]
     if decision.budget < decision.most and not it.keeps_to_target(decision.bounded()):
-        decision.bound_of_most = stages.bound_of(decision, decision.most)
-    pairs = {(decision.budget, decision.mode)}
-    ages = target.aged(stages, decision.stage, decision.found, pairs)
-    return [target.judged(decision), *ages.told(decision.budget, decision.mode)]
+        decision.bound_of_most = stages.bound(decision.stage, (decision.most, decision.mode))
+    pair = decision.budget, decision.mode
+    return [target.judged(decision), *target.aged(stages, decision.stage, decision.found, {pair}).told(*pair)]
 
 
 def study_of(it, folder, program, check_sum):
-    stages, told = Stages(it, folder, program), Told(folder)
+    stages, healing = Stages(it, folder, program), None
     if it.told["packet"] is None:
         return smallest_packet(it, stages, check_sum)
-    if it.least_rounds():
-        told.tell([f"By a sum, of the worst staleness: {it.why_at_least()}."])
-    first = first_answer(it, stages, told, check_sum)
+    first = first_answer(it, stages, check_sum)
     print(flush=True)
     was_enough = bool(first.bound and first.bound.is_level())
-    decision, healing = last_answer(it, stages, first)
+    decision = bounded_decision(it, stages, first)
+    if decision.suffices:
+        stages.expect(decision, decision.stage, *it.healing_stages())
+        decision = stages.look_below(decision)
+        healing = stages.heal(decision) if it.heals() else None
+        stages.look_at_floor(decision)
     missing = answer.not_run(decision, call_with_enough(decision, folder), was_enough)
     more = beside(it, stages, decision)
     before = healing.counted_lines() if healing and was_enough else ()
-    Told(folder).tell(answer.in_words(decision, healing, missing, more), before)
+    tell(folder, answer.in_words(decision, healing, missing, more), told=before)
     print("", page.make(folder, decision, healing, stages.made, check_sum, missing, more), sep="\n")
 
 

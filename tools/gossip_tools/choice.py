@@ -5,26 +5,23 @@ from gossip_tools import rules
 class Choice:
     """The mode and the budget that follow from the runs of a stage."""
 
-    # What bounds it, once that was run, and what bounds all that fits, where a target asks for that.
-    bound = bound_of_most = None
+    # What bounds all that fits, where a target asks for that.
+    bound_of_most = None
     # What no mode and no budget goes below, for each seed: empty where no run shows it, None where none was made.
     floor = None
-    # The mode that is better than the others though none is level.
-    ahead = None
     # Whether it is what was looked for: with a target and no packet, a budget that keeps to it.
     is_met = True
 
-    def __init__(self, study, found, stage, against=()):
+    def __init__(self, study, found, stage, against=(), bound=None):
         self.study, self.found, self.stage, self.window = study, found, stage, study.window(stage)
-        # (what speaks against it alone, in words: why modes are no longer run)
-        self.against = list(against)
+        # (what speaks against it alone, in words: why modes are no longer run; and what bounds it, once that was run)
+        self.against, self.bound = list(against), bound
         self.figures = {mode: self.worst_with(study.most(mode), mode) for mode in study.fits
                         if (study.most(mode), mode) in found.rows}
         enough = {mode: it for mode, it in self.figures.items() if self.is_enough(study.most(mode), mode)}
-        # whether a budget that fits is enough, in some mode
+        # (whether a budget that fits is enough, in some mode, and the mode that is better though none is)
         self.suffices = bool(enough)
-        if not enough:
-            self.ahead = rules.ahead(self.figures, self.window[1])
+        self.ahead = None if enough else rules.ahead(self.figures, self.window[1])
         self.mode = rules.mode_of(enough) if enough else self.ahead or self.usual()
         self.most = self.budget = study.most(self.mode)
         # (what that is held against: all that suffices from nodes * writes on, and the other modes)
@@ -37,7 +34,6 @@ class Choice:
         self.read()
 
     def read(self):
-        """Reads what the budget and the mode had in the runs that chose."""
         self.worst = self.worst_with(self.budget, self.mode)
         self.cut = self.found.cut(self.budget, self.mode, self.window)
 
@@ -56,7 +52,6 @@ class Choice:
         return next(it for it in (self.study.usual, *rules.CHEAPEST_FIRST) if it in self.figures)
 
     def contenders(self):
-        """The modes that may still be the best, none of them being level."""
         return rules.contenders(self.figures, self.window[1])
 
     def worst_with(self, budget, mode):
@@ -69,7 +64,6 @@ class Choice:
         return sorted({it for it, _ in self.found.rows})
 
     def of_mode(self):
-        """Those that were run with the chosen mode."""
         return sorted(it for it, mode in self.found.rows if mode == self.mode)
 
     def run_of(self, mode):
@@ -100,7 +94,6 @@ class Choice:
         return self.is_enough(self.study.knee, self.mode)
 
     def of_knee(self):
-        """How the budget stands to nodes * writes."""
         return self.budget / self.study.knee
 
     def is_too_small(self):
@@ -119,5 +112,4 @@ class Choice:
         return rules.reckoned(self.bounded()) if self.study.parts > 1 else max(self.bounded())
 
     def heals(self):
-        """Whether what heals is run with it."""
         return self.suffices

@@ -102,7 +102,7 @@ class Folder:
         part, report = self.part(name), self.path / f"{name}.csv"
         try:
             content = part.read_bytes()
-            read.rows_in(content, *self.lengths[name])
+            read.rows_of(content, *self.lengths[name])
             # (in this order, as a report whose sum is another is made again)
             contents = {f"{name}.toml": self.runs[name].encode(), report.name: content}
             files.put(report.with_suffix(".sum"), files.check_sums(contents))

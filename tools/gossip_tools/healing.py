@@ -3,7 +3,6 @@ import textwrap
 
 from gossip_tools import rules
 from gossip_tools.measures import briefly, lasting, rows, run_of, sentences, span, unit
-from gossip_tools.study import ONE
 
 # What heals, by its stage, and the words for that.
 HEALED = {"split": "a split", "restart": "a restart", "forgotten": "a forgotten state"}
@@ -36,7 +35,7 @@ class Healing:
         # (by what heals, its runs, and those of one group alone)
         self.stages, self.alone = {}, {}
         for stage, found in stages.items():
-            heals = self.alone if stage in ONE else self.stages
+            heals = self.alone if stage.endswith("-one") else self.stages
             heals |= dict.fromkeys(study.healing_stages().get(stage, (stage,)), found)
 
     def taken(self, stage, budget):

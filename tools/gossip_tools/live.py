@@ -3,7 +3,7 @@ import itertools
 import re
 import sys
 
-from gossip_tools import live_beside, live_cluster, read, running, sweep
+from gossip_tools import live_beside, live_worker, read, running, sweep
 from gossip_tools.commands import Refused, number, refuse_if, shown, the_program
 from gossip_tools.live_figures import Figures
 from gossip_tools.live_plan import LARGEST, Plan
@@ -69,21 +69,15 @@ def plan_of(text, asked):
     return plan
 
 
-def put(*values):
-    print(*values, sep=",", flush=True)
-
-
-def print_report(columns, rows):
-    put("round", *columns)
-    for row in rows:
-        put(row["round"], *(row[name] for name in columns))
-
-
-def print_beside(columns, rows, benches, length):
-    """A row for each window of the intervals, beside what the bench has."""
-    put("from", "to", *(name for it in [*columns, "greatest_most"] for name in (it, f"bench_{it}")))
+def printed(columns, rows, benches, length):
+    """The report, line by line; beside the bench a line for each window of so many intervals."""
+    if not benches:
+        yield "round", *columns
+        yield from ((row["round"], *(row[name] for name in columns)) for row in rows)
+        return
+    yield "from", "to", *(name for it in [*columns, "greatest_most"] for name in (it, f"bench_{it}"))
     while live := list(itertools.islice(rows, length)):
-        put(*live_beside.side_by_side(columns, live, benches))
+        yield live_beside.side_by_side(columns, live, benches)
 
 
 def main(words):
@@ -99,12 +93,10 @@ def main(words):
         runs = live_beside.scenarios(text, plan.fanout, asked["beside"])
         sweep.check(runs, program)
         benches = live_beside.reports(runs, program, plan.fanout)
-    with live_cluster.processes(plan) as pipes:
-        rows = (figures.row(round, live_cluster.heard(pipes)) for round in range(1, plan.rounds + 1))
-        if benches:
-            print_beside(columns, rows, benches, asked["window"])
-        else:
-            print_report(columns, rows)
-        figures.end(live_cluster.heard(pipes))
+    with live_worker.processes(plan) as pipes:
+        rows = (figures.row(round, live_worker.heard(pipes)) for round in range(1, plan.rounds + 1))
+        for values in printed(columns, rows, benches, asked["window"]):
+            print(*values, sep=",", flush=True)
+        figures.end(live_worker.heard(pipes))
     print(f"gossip_live: {figures.how_fast()}", file=sys.stderr)
     return WORTHLESS if figures.is_worthless() else 0

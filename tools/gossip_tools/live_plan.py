@@ -1,8 +1,8 @@
 """What is to happen in a live cluster: a scenario with the interval, the latency and the fanout of the network."""
 import random
-from collections import defaultdict
-from dataclasses import dataclass
+from types import SimpleNamespace
 
+from gossip_tools import read
 from gossip_tools.live_node import ENTRY, HEADER, NUMBER
 from gossip_tools.scenario import digest_numbers
 
@@ -10,35 +10,16 @@ LARGEST = 65507  # the bytes of the largest datagram
 PADDINGS = 1000  # in format 2 an entry has from 0 to 999 bytes of padding
 
 
-@dataclass
-class Plan:
-    """The fields of the scenario that a live cluster goes by. A round is an interval."""
-    format: int
-    nodes: int
-    keys: int
-    rounds: int
-    mode: str
-    budget: int
-    peers: str
-    rotation: str
-    choice: str
-    loss_ppm: int
-    writes: int
-    partition: list
-    restart: list
-    load: list
-    interval: float  # in seconds
-    latency: tuple  # the least and the most, in intervals
-    fanout: int
+class Plan(SimpleNamespace):
+    """The fields of a scenario, whose rounds are intervals here, with the budget in one field; the seconds of an
+    interval; the least and the most latency, in intervals; and the fanout."""
 
-    def __post_init__(self):
+    def __init__(self, **fields):
+        super().__init__(**fields)
         self.is_scuttle = self.mode.startswith("scuttle-")
-        self.restarts_of = defaultdict(list)
-        for it in self.restart:
-            self.restarts_of[it["node"]].append(it)
+        self.restarts_of = read.grouped((it["node"], it) for it in self.restart)
         self.apart = [(it["from"], it["to"], frozenset(it["apart"])) for it in self.partition]
 
-    # What an entry takes.
     def padding(self, entry):
         return entry.value % PADDINGS if self.format == 2 else 0
 
@@ -53,12 +34,11 @@ class Plan:
             delta = min(self.budget, lacking * (ENTRY.size + PADDINGS - 1))
         return HEADER.size + digest_numbers(self.nodes, self.keys, self.mode) * NUMBER.size + delta
 
-    # What the scenario says of an interval.
     def is_down(self, node, round):
-        return any(it["round"] <= round < it["round"] + it["down"] for it in self.restarts_of[node])
+        return any(it["round"] <= round < it["round"] + it["down"] for it in self.restarts_of.get(node, ()))
 
     def restarts_in(self, node, round):
-        return [it for it in self.restarts_of[node] if it["round"] == round]
+        return [it for it in self.restarts_of.get(node, ()) if it["round"] == round]
 
     def writes_in(self, round):
         """The writes of each node that is up. The last listed load counts."""
@@ -68,7 +48,6 @@ class Plan:
         return any(first <= round <= last and (node in apart) != (other in apart) for first, last, apart in self.apart)
 
     def peers_of(self, node, round):
-        """Whom a node calls in an interval: as many others as the fanout says."""
         others = self.nodes - 1
         if self.peers == "random":
             return [it + (it >= node) for it in random.sample(range(others), self.fanout)]

@@ -1,36 +1,35 @@
-"""A process with some nodes of a live cluster, each with a socket and a clock of its own.
+"""The processes of a live cluster. Each has some of the nodes, and each of these a socket and a clock of its own.
 
-By a pipe, which has no part in gossip, it tells the process that supervises it on which addresses its nodes are, at the
-end of each interval what they hold, and at last how many datagrams they sent and received.
+By a pipe, which has no part in gossip, a process tells the one that supervises it on which addresses its nodes are, at
+the end of each interval what they hold, and at last how many datagrams they sent and received.
 """
 import asyncio
+import collections
 import contextlib
+import multiprocessing
 import os
 import queue
 import random
 import resource
+import sys
 import threading
+import time
 from array import array
-from dataclasses import dataclass
 
+from gossip_tools import running
+from gossip_tools.commands import Refused, workers
 from gossip_tools.live_figures import LATE
 from gossip_tools.live_node import Node
 
+NODES_OF_A_PROCESS = 16  # fewer aren't worth a process more
 MESSAGES = 3  # of an exchange
+TIME_TO_BEGIN = 0.2  # seconds, in which each process hears when the cluster begins
 TIME_TO_END = 0.2  # seconds, in which what is under way comes
 
 
-@dataclass
-class Told:
-    """What a process tells at the end of an interval. Counts are of all intervals so far."""
-    entries: int
-    cut: int
-    timers: int
-    late: int
-    lag: float  # the greatest since the last time, in intervals
-    writes: list  # since the last time
-    generations: dict
-    marks: dict  # of each node, what it holds
+# What a process tells at the end of an interval: counts of all intervals so far; the greatest lag, in intervals, and
+# the writes since the last time; and of each node its generation and the marks that it holds.
+Told = collections.namedtuple("Told", "entries, cut, timers, late, lag, writes, generations, marks")
 
 
 def marks_of(node, plan):
@@ -43,8 +42,6 @@ def marks_of(node, plan):
 
 
 class Socket(asyncio.DatagramProtocol):
-    """Where the datagrams of a node come in."""
-
     def __init__(self, host, number):
         self.host, self.number = host, number
 
@@ -59,11 +56,10 @@ class Host:
         self.plan, self.loop = plan, loop
         self.nodes = {it: Node(it, plan, lambda *what, it=it: self.send(it, *what)) for it in numbers}
         self.phases = {it: random.random() for it in numbers}
-        self.down = set()
         self.sockets, self.addresses, self.known, self.begin = {}, [], set(), 0.0
-        self.timers = self.late = 0
-        self.sent = self.received = 0  # datagrams, but for those that the scenario loses
-        self.lag, self.writes = 0.0, []
+        # (sent and received are datagrams, but for those that the scenario loses)
+        self.timers = self.late = self.sent = self.received = 0
+        self.lag, self.writes, self.down = 0.0, [], set()
 
     async def bind(self):
         """Gives each node a socket, and answers with their addresses."""
@@ -96,10 +92,10 @@ class Host:
         node, plan = self.nodes[number], self.plan
         if restarts := plan.restarts_in(number, round):
             node.restart(any(it.get("forget") for it in restarts))
+        self.down.discard(number)
         if plan.is_down(number, round):
             self.down.add(number)
         else:
-            self.down.discard(number)
             self.writes += [node.write(round) for _ in range(plan.writes_in(round))]
             for peer in plan.peers_of(number, round):
                 node.begin(peer)
@@ -128,10 +124,10 @@ class Host:
                 self.nodes[number].receive(datagram)
 
     def told(self):
-        nodes = self.nodes
-        told = Told(sum(it.entries for it in nodes.values()), sum(it.cut for it in nodes.values()), self.timers,
-                    self.late, self.lag, self.writes, {number: it.generation for number, it in nodes.items()},
-                    {number: marks_of(it, self.plan) for number, it in nodes.items()})
+        nodes = self.nodes.values()
+        told = Told(sum(it.entries for it in nodes), sum(it.cut for it in nodes), self.timers, self.late, self.lag,
+                    self.writes, {it.number: it.generation for it in nodes},
+                    {it.number: marks_of(it, self.plan) for it in nodes})
         self.lag, self.writes = 0.0, []
         return told
 
@@ -179,3 +175,48 @@ def main(plan, numbers, pipe, others):
         pipe.send(getattr(error, "strerror", None) or "out of memory")
     except EOFError:
         pass
+
+
+@contextlib.contextmanager
+def processes(plan):
+    """The pipes to processes that have the nodes, which begin at once. They end with the block."""
+    count = max(1, min(workers(), plan.nodes // NODES_OF_A_PROCESS))
+    fork, started, pipes = multiprocessing.get_context("fork"), [], []
+    # (what a buffer has would be printed by each of them)
+    sys.stdout.flush()
+    try:
+        for at in range(count):
+            with running.deaf():
+                pipe, theirs = fork.Pipe()
+                pipes.append(pipe)
+                process = fork.Process(target=main, args=(plan, range(at, plan.nodes, count), theirs, list(pipes)))
+                process.start()
+                started.append(process)
+                theirs.close()
+        addresses = dict(collections.ChainMap(*heard(pipes)))
+        when = time.monotonic() + TIME_TO_BEGIN
+        with talk():
+            for it in pipes:
+                it.send((addresses, when))
+        yield pipes
+    finally:
+        for it in started:
+            it.kill()
+            it.join()
+
+
+@contextlib.contextmanager
+def talk():
+    """A block that speaks with processes, in which one may be found to have ended."""
+    try:
+        yield
+    except (EOFError, OSError):
+        raise Refused("a process with nodes has ended, and with it the cluster.", 1) from None
+
+
+def heard(pipes):
+    with talk():
+        found = [it.recv() for it in pipes]
+    if failed := [it for it in found if isinstance(it, str)]:
+        raise Refused(f"a process with nodes failed: {failed[0]}.", 1)
+    return found

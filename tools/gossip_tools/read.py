@@ -37,31 +37,25 @@ def settings(text):
         raise Refused(f"the tools read TOML 1.0 alone, and the scenario isn't that: {error}.") from None
 
 
-def rows_of(text, form, rounds):
+def rows_of(content, form, rounds):
     """The rows of a report, in numbers, where it is that of a scenario of this format with so many rounds."""
-    header = COLUMNS[form]
-    first, _, rest = text.partition("\n")
-    if not text:
+    if not content:
         raise NotWhole("it is empty")
+    if not content.isascii():
+        raise NotWhole("it has other bytes than those of a report")
+    header, (first, _, rest) = COLUMNS[form], content.decode().partition("\n")
+    *lines, last = rest.split("\n")
     if first.split(",") != header:
         raise NotWhole("its header is another")
-    lines = rest.split("\n")
-    if len(lines) - 1 < rounds:
-        raise NotWhole(f"it is cut short after {len(lines) - 1} of {rounds} rounds")
-    if len(lines) - 1 > rounds or lines[-1]:
+    if len(lines) < rounds:
+        raise NotWhole(f"it is cut short after {len(lines)} of {rounds} rounds")
+    if len(lines) > rounds or last:
         raise NotWhole(f"it goes on after its {rounds} rounds")
     line = re.compile(",".join(["[0-9]{1,18}"] * len(header)))
-    for at, it in enumerate(lines[:-1], 1):
+    for at, it in enumerate(lines, 1):
         if not line.fullmatch(it) or int(it.partition(",")[0]) != at:
             raise NotWhole(f"its line of round {at} is another")
-    return [dict(zip(header, map(int, it.split(",")))) for it in lines[:-1]]
-
-
-def rows_in(content, form, rounds):
-    try:
-        return rows_of(content.decode("ascii"), form, rounds)
-    except UnicodeDecodeError:
-        raise NotWhole("it has other bytes than those of a report") from None
+    return [dict(zip(header, map(int, it.split(",")))) for it in lines]
 
 
 def report(path, form, rounds):
@@ -71,7 +65,7 @@ def report(path, form, rounds):
         content = path.read_bytes()
     except FileNotFoundError:
         raise NotWhole("it isn't there") from None
-    rows, beside = rows_in(content, form, rounds), path.with_suffix(".sum")
+    rows, beside = rows_of(content, form, rounds), path.with_suffix(".sum")
     if beside.exists():
         scenario = path.with_suffix(".toml")
         contents = {scenario.name: scenario.read_bytes(), path.name: content}

@@ -3,6 +3,7 @@
 A run's worst staleness is the most of `greatest` in the rounds of a window. A figure is a list of them, one for each
 seed, and its band goes from the least to the most. An interval has as many rounds as a node calls others in it.
 """
+import functools
 import math
 
 from gossip_tools.scenario import MODES, USUAL_MODE, digest_numbers
@@ -13,11 +14,9 @@ from gossip_tools.scenario import MODES, USUAL_MODE, digest_numbers
 CHOOSING = tuple(range(1, 21))
 BOUNDING, MORE_BOUNDING = tuple(range(21, 41)), tuple(range(21, 83))
 FIRST, BOUNDING_FIRST = CHOOSING[:6], BOUNDING[:4]
-# The intervals of a run and its window. In the first ones the tables fill and look too good, so they are left out.
-FEW_WINDOW = (31, 60)
-MANY, MANY_WINDOW = 200, (101, 200)
-# The intervals of longer runs, where nothing is level after those. Their windows are their second halves.
-LONGER, LONGEST = 400, 800
+# The intervals of a run that are looked at, up to its last, by its stage: longer ones come where nothing is level after
+# shorter ones. In the first intervals the tables fill and look too good, so they are left out.
+WINDOWS = {"few": (31, 60), "many": (101, 200), "longer": (201, 400), "longest": (401, 800)}
 # Parts of `nodes * writes` at which a smaller budget is looked at, as numerator and denominator.
 LOOKED_AT = ((1, 4), (1, 2), (3, 4), (1, 1), (3, 2), (2, 1))
 # By the size of their digests, and the usual one before scuttle-breadth, which lags longer below the knee.
@@ -61,8 +60,7 @@ def are_close(one, other):
     return not is_better(one, other) and not is_better(other, one)
 
 
-# One in so many further runs exceeds what is told as a bound.
-ONE_IN = 21
+ONE_IN = 21  # further runs exceeds what is told as a bound
 IN_MOST = f"in {ONE_IN - 1} of {ONE_IN}"
 
 
@@ -84,8 +82,8 @@ def rounds_of(window, fanout):
 
 def halves(window):
     first, last = window
-    half = (last - first + 1) // 2
-    return (first, first + half - 1), (first + half, last)
+    second = first + (last - first + 1) // 2
+    return (first, second - 1), (second, last)
 
 
 def suffices(in_first_half, in_second_half, window):
@@ -94,15 +92,14 @@ def suffices(in_first_half, in_second_half, window):
     return not is_better(in_first_half, in_second_half) and can_be_level(max(in_first_half + in_second_half), window)
 
 
-def can_be_level(figure, window):
-    """Whether what is as high as this can be seen to be level in a window. As `greatest` can't exceed the number of
-    the round, what is as high as the first round of the window, or higher, wasn't reached yet as that began."""
-    return figure <= highest_level(window)
-
-
 def highest_level(window):
-    """The highest level that a window can show: the rounds that are left out before it."""
+    """The highest level that a window can show: the rounds that are left out before it. As `greatest` can't exceed the
+    number of the round, what is higher wasn't reached yet as the window began."""
     return window[0] - 1
+
+
+def can_be_level(figure, window):
+    return figure <= highest_level(window)
 
 
 def has_left_the_diagonal(figure, last):
@@ -114,11 +111,8 @@ def has_left_the_diagonal(figure, last):
 def ahead(figures, last):
     """The mode that is better than each other one though none is level, or None. One that is on the diagonal is ahead
     of none, but others are of it, as it gets at least as high as it was seen."""
-    for mode, figure in figures.items():
-        others = [other for name, other in figures.items() if name != mode]
-        if has_left_the_diagonal(figure, last) and others and all(is_better(figure, other) for other in others):
-            return mode
-    return None
+    return next((mode for mode, figure in figures.items() if has_left_the_diagonal(figure, last) and len(figures) > 1
+                 and all(is_better(figure, other) for name, other in figures.items() if name != mode)), None)
 
 
 def contenders(figures, last):
@@ -134,8 +128,7 @@ def reckoned(figure):
 
 def tenth_holds(of_knee):
     """Whether a tenth was seen to hold with such a part of `nodes * writes`."""
-    least, most = TENTH_HOLDS
-    return least <= of_knee <= most
+    return TENTH_HOLDS[0] <= of_knee <= TENTH_HOLDS[1]
 
 
 def knee(nodes, keys, writes, fanout=1):
@@ -173,11 +166,8 @@ def smaller_budgets(budget, at_knee):
 def mode_of(figures):
     """"`scuttle-depth`", unless another mode is better; "else take the cheaper one". The figures are by mode, of those
     whose budget suffices: those that aren't level say nothing."""
-    chosen, *others = [it for it in CHEAPEST_FIRST if it in figures]
-    for mode in others:
-        if is_better(figures[mode], figures[chosen]):
-            chosen = mode
-    return chosen
+    in_order = [it for it in CHEAPEST_FIRST if it in figures]
+    return functools.reduce(lambda one, other: other if is_better(figures[other], figures[one]) else one, in_order)
 
 
 def counts_bytes(room):
@@ -201,11 +191,6 @@ DOWN_FOR_LONGER = "Nodes that are down for longer may take some rounds more, whi
 
 
 def healed_level(most_before):
-    """Where `greatest` has to come down to, by `HEALED`."""
+    """Where `greatest` has to come down to, by `HEALED`. It shows what a split left once a write of the split's first
+    round, missed since, is above that: so many rounds after the split began."""
     return most_before + 1
-
-
-def shows_split(begins, level):
-    """The first round whose `greatest` shows what a split left, by `HEALED`: a write of its first round, missed since,
-    is above the level from there on."""
-    return begins + level

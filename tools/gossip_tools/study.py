@@ -32,17 +32,9 @@ RESTARTING = 10
 LEAST = 2
 # How much more processor time a round takes, about: in bytes, in a precise mode, and with less than nodes * writes.
 IN_BYTES, IN_PRECISE, IN_SHORT = 3, 1.5, 1.8
-HEALED = ("split", "restart", "forgotten")
-# The stages with one group alone, and those with several.
-ONE = {"restart-one": "restart", "forgotten-one": "forgotten"}
-WINDOWS = {"few": rules.FEW_WINDOW, "many": rules.MANY_WINDOW, "longer": (rules.LONGER // 2 + 1, rules.LONGER),
-           "longest": (rules.LONGEST // 2 + 1, rules.LONGEST)}
-# The stages in which the writes stop, and those that they begin as.
-STOPS = {f"{stage}-stop": stage for stage in WINDOWS}
-# The stages that bound what others have chosen, and the intervals that these leave out, in which the tables fill.
-BOUNDS = {f"{stage}-bound": stage for stage in WINDOWS}
-FILLED = {"few": 50, **{stage: first - 1 for stage, (first, _) in WINDOWS.items() if stage != "few"}}
-# The intervals behind them: an hour of seconds, or less where the work of an answer would be above this. The work of a
+# The intervals that runs leave out which bound what a stage has chosen: the tables fill in them.
+FILLED = {stage: max(50, first - 1) for stage, (first, _) in rules.WINDOWS.items()}
+# The intervals behind these: an hour of seconds, or less where the work of an answer would be above this. The work of a
 # round is about a nanosecond of processor time for each node, with another one, and key.
 HOUR, SHORTER = 3600, (2400, 1800, 1200, 900, 600, 400, 300, 200, 100)
 BOUND_WORK, MOST_WORK = 2.1e10, 3.6e12
@@ -82,16 +74,16 @@ class Study:
                      if self.rooms[mode] >= LEAST}
         if self.usual not in self.fits:
             raise Refused(self.why_none_fits())
-        refuse_if(self.least_rounds() > rules.MANY * self.fanout, "no budget that fits keeps the worst staleness below "
-                  f"{rules.MANY * self.fanout} rounds: {self.why_at_least()}.")
+        _, last = self.window("many")
+        refuse_if(self.least_rounds() > last, f"no budget that fits keeps the worst staleness below {last} rounds: "
+                  f"{self.why_at_least()}.")
         self.target = None if told["target"] is None else self.target_of(told["target"])
-        self.hours = told["hours"]
+        self.asked = None if told["hours"] is None else self.intervals_of(told["hours"])
         # (after a hundred intervals in which each key was written four times no more is left to catch up with)
         self.split = min(int(told["split"]), max(100, 4 * math.ceil(self.keys / self.writes)))
         self.restarts = None if told["restarts"] is None else -(-int(told["restarts"]) // self.parts)
         self.place_healing()
         self.loss = int(told["loss"] * 10000)
-        self.check_hours()
 
     def room(self, mode):
         """The entries that a delta of all nodes has room for in a mode; without a packet all that are of use."""
@@ -107,7 +99,6 @@ class Study:
         return rounds
 
     def why_none_fits(self):
-        """Why a delta has no room, and how large it would have to be."""
         told, whole = self.told, self.knee_of_all
         lacks = f"no room for {LEAST} entries of {cluster.plain(told['entry'])} bytes"
         enough = f"takes packet={self.packet(self.usual)}"
@@ -136,8 +127,8 @@ class Study:
 
     def steady_stages(self):
         """The stages that can show a budget to be level, each longer than the one before."""
-        is_little = self.work_of(WINDOWS["many"][1]) <= LITTLE_WORK
-        return [it for it in WINDOWS if rules.can_be_level(self.least_rounds(), self.window(it))
+        is_little = self.work_of(self.intervals("many")) <= LITTLE_WORK
+        return [it for it in rules.WINDOWS if rules.can_be_level(self.least_rounds(), self.window(it))
                 and not (it == "few" and is_little)]
 
     def later_stages(self, stage):
@@ -145,11 +136,9 @@ class Study:
         return stages[stages.index(stage) + 1:]
 
     def asks_for_healing(self):
-        """Whether restarts or a split were asked for."""
         return bool(self.told["restarts"]) or self.told["split"] not in (0, USUAL_SPLIT)
 
     def digest_numbers(self, mode):
-        """How many numbers a whole digest has."""
         return scenario.digest_numbers(self.all_nodes, self.keys, mode)
 
     def digest_bytes(self, mode):
@@ -228,47 +217,41 @@ class Study:
         rounds = scenario.LIMITS["rounds"][1] // self.fanout
         return min(rounds, scenario.MOST_SECTIONS) if self.fanout > 1 else rounds
 
-    def check_hours(self):
-        """Refuses hours that a scenario doesn't take, or that take too much work."""
-        if self.hours is None:
-            return
-        asked, most = self.asked_for(), self.most_intervals() - max(FILLED.values())
-        most = min(most, int(MOST_WORK / self.work_of(1)))
-        hours = cluster.plain(Fraction(int(100 * most * self.fanout * self.seconds / 3600), 100))
-        refuse_if(not 1 <= asked <= most, f"hours={cluster.plain(self.hours)} would be {asked} intervals under each "
-                  f"seed, and from 1 to {most} are run: hours={hours} is the most.")
-
-    def asked_for(self):
-        """The intervals of the hours that were told."""
-        return -(-self.hours * 3600 // (self.fanout * self.seconds))
+    def intervals_of(self, hours):
+        """The intervals of so many hours. Refuses hours that a scenario doesn't take, or that take too much work."""
+        asked = int(-(-hours * 3600 // (self.fanout * self.seconds)))
+        most = min(self.most_intervals() - max(FILLED.values()), int(MOST_WORK / self.work_of(1)))
+        longest = cluster.plain(Fraction(int(100 * most * self.fanout * self.seconds / 3600), 100))
+        refuse_if(not 1 <= asked <= most, f"hours={cluster.plain(hours)} would be {asked} intervals under each seed, "
+                  f"and from 1 to {most} are run: hours={longest} is the most.")
+        return asked
 
     def bounded(self, stage):
         """For how many intervals, after those that are left out, runs bound what a stage has chosen."""
-        if self.hours is not None:
-            return int(self.asked_for())
+        if self.asked is not None:
+            return self.asked
         left = self.most_intervals() - FILLED[stage]
         lengths = [it for it in (HOUR, *SHORTER) if it <= left]
         return next((it for it in lengths if self.work_of(FILLED[stage] + it) <= BOUND_WORK), lengths[-1])
 
     def intervals(self, stage):
-        if stage in WINDOWS:
-            return WINDOWS[stage][1]
-        if stage in BOUNDS:
-            return FILLED[BOUNDS[stage]] + self.bounded(BOUNDS[stage])
-        if stage in STOPS:
-            return WINDOWS[STOPS[stage]][1] - (-self.target // self.fanout)
-        return self.waits + self.lasts(stage) + self.tail
+        base, _, kind = stage.partition("-")
+        if base not in rules.WINDOWS:
+            return self.waits + self.lasts(stage) + self.tail
+        if kind == "bound":
+            return FILLED[base] + self.bounded(base)
+        return rules.WINDOWS[base][1] - (-self.target // self.fanout if kind == "stop" else 0)
 
     def lasts(self, stage):
         """How many intervals what is to be healed lasts."""
-        return self.split if stage == "split" else 1 if stage in ONE else self.restarting()[1]
+        return self.split if stage == "split" else 1 if stage.endswith("-one") else self.restarting()[1]
 
     def seeds(self, stage):
         """The seeds of a stage, by whether it chooses or bounds; more for what heals where the work allows it."""
-        if stage in WINDOWS or stage in STOPS:
-            return rules.CHOOSING if stage in WINDOWS else rules.FIRST
+        if stage in rules.WINDOWS or stage.endswith("-stop"):
+            return rules.CHOOSING if stage in rules.WINDOWS else rules.FIRST
         work = self.work_of(sum(map(self.intervals, self.healing_stages())), rules.MORE_BOUNDING)
-        return rules.BOUNDING if stage in BOUNDS or work > BOUND_WORK else rules.MORE_BOUNDING
+        return rules.BOUNDING if stage.endswith("-bound") or work > BOUND_WORK else rules.MORE_BOUNDING
 
     def rounds(self, stage):
         return self.intervals(stage) * self.fanout
@@ -279,10 +262,9 @@ class Study:
         return self.rounds(stage) * more * (IN_SHORT if budget < self.knee else 1)
 
     def window(self, stage):
-        """The rounds of a stage that are looked at."""
-        if stage in BOUNDS:
-            return rules.rounds_of((FILLED[BOUNDS[stage]] + 1, self.intervals(stage)), self.fanout)
-        return rules.rounds_of(WINDOWS[stage], self.fanout)
+        base, _, kind = stage.partition("-")
+        window = (FILLED[base] + 1, self.intervals(stage)) if kind == "bound" else rules.WINDOWS[base]
+        return rules.rounds_of(window, self.fanout)
 
     def restarting(self):
         """How many nodes restart at once, at least one, and in how many intervals such a group does: together no more
@@ -328,7 +310,6 @@ class Study:
         return {(self.most(it), it) for it in self.fits} | {(self.knee, mode)}
 
     def between(self, mode):
-        """The budgets between nodes * writes and the largest, with this mode."""
         return {(it, mode) for it in rules.smaller_budgets(self.most(mode), self.knee) if it > self.knee}
 
     def next_smaller(self, budget, mode):
@@ -336,23 +317,24 @@ class Study:
         return {(it, mode) for it in rules.smaller_budgets(budget, self.knee)[:1] if it >= LEAST}
 
     def counts_bytes(self, stage):
-        return self.in_bytes or ONE.get(stage, stage) == "forgotten"
+        return self.in_bytes or stage.startswith("forgotten")
 
     def scene(self, stage):
         """The scenario of a stage. Its budget, mode and seed are other ones in each run."""
-        rounds, in_bytes = self.rounds(stage), self.counts_bytes(stage)
-        fields = scenario.top(self.nodes, self.keys, rounds, self.writes, self.loss, self.knee + 1, in_bytes)
-        last = self.rounds(STOPS.get(stage, stage))
+        (base, _, kind), rounds = stage.partition("-"), self.rounds(stage)
+        fields = scenario.top(self.nodes, self.keys, rounds, self.writes, self.loss, self.knee + 1,
+                              self.counts_bytes(stage))
+        last = self.rounds(base) if kind == "stop" else rounds
         text = scenario.written(fields) + cluster.without_writes(last, self.fanout)
-        if stage in STOPS:
-            text += scenario.load(last + 1, rounds, 0)
-        elif stage == "split":
-            text += scenario.partition(0, self.nodes // 2 - 1, self.begins, self.ends(stage))
-        elif ONE.get(stage, stage) in HEALED:
-            each, _ = self.restarting()
-            text += scenario.restarts(self.nodes, each, self.begins, self.ends(stage), self.fanout,
-                                      forget=self.forgets(), every=self.fanout)
-        return text
+        if kind == "stop":
+            return text + scenario.load(last + 1, rounds, 0)
+        if base in rules.WINDOWS:
+            return text
+        healed = self.begins, self.ends(stage)
+        if stage == "split":
+            return text + scenario.partition(0, self.nodes // 2 - 1, *healed)
+        return text + scenario.restarts(self.nodes, self.restarting()[0], *healed, self.fanout, forget=self.forgets(),
+                                        every=self.fanout)
 
     def choices(self, stage, seeds):
         """The choices of values that make the runs of these budgets and modes, each under its seeds, and no others."""
@@ -419,7 +401,7 @@ class Found:
         for rows, most in zip(self.rows[(budget, mode)], self.worst(budget, mode, self.before)):
             column, level, first = "greatest", rules.healed_level(most), ends + 1
             if stage == "split":
-                first = max(first, rules.shows_split(self.before[1] + 1, level))
+                first = max(first, self.before[1] + 1 + level)
             elif stage == "forgotten":
                 column, level = "leftover", 0
             at = read.first_at_most(column, rows, first, level)

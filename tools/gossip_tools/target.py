@@ -17,12 +17,8 @@ FINE = 100
 RAISED, OF_SEEDS = 20, 5
 
 
-def seconds(it):
-    return f"{cluster.plain(it.told['target'])} s"
-
-
 def in_time(it):
-    return f"{seconds(it)}, or {in_rounds([it.target])}"
+    return f"{cluster.plain(it.told['target'])} s, or {in_rounds([it.target])}"
 
 
 def above_target(it, worst):
@@ -77,13 +73,12 @@ class Ages:
     def told(self, budget, mode):
         """Both, as names and words."""
         first, last = self.window
-        share, age = span(self.shares(budget, mode)), self.at_most(budget, mode)
         why = "half of the stale copies lack only writes that are no older"
         if self.typical(budget, mode) is None:
             why = "so long after the last write fewer than half of the stale copies have caught up"
-        return [("stale copies", f"{share} %: so many of all copies lack some write, on average over rounds {first} to "
-                                 f"{last}"),
-                ("a typical one", f"{age}: {why}")]
+        return [("stale copies", f"{span(self.shares(budget, mode))} %: so many of all copies lack some write, on "
+                                 f"average over rounds {first} to {last}"),
+                ("a typical one", f"{self.at_most(budget, mode)}: {why}")]
 
 
 def aged(stages, stage, found, pairs):
@@ -136,14 +131,9 @@ class Search:
         return knee if below < knee < least else (below + least) // 2
 
     def carry_out(self):
-        """Whether some budget keeps to the target, the largest that is looked at being the last; then each mode has its
-        least, and that of the mode with the smallest packet is bounded."""
-        self.halve()
-        self.chosen = self.best() if self.modes else self.study.usual
-        return self.bound()
-
-    def halve(self):
-        """Finds which modes keep to the target, and the least budget of each. Where nothing is cut all do alike."""
+        """Whether some budget keeps to the target, the largest that is looked at being the last. Finds which modes do,
+        and the least budget of each; that of the mode with the smallest packet is bounded. Where nothing is cut all do
+        alike."""
         it = self.study
         cuts = self.top < (it.nodes - 1) * it.keys
         self.run({(self.top, mode) for mode in (it.fits if cuts else [it.usual])})
@@ -153,14 +143,17 @@ class Search:
             for mode, budget in steps.items():
                 bounds = self.least if self.keeps(budget, mode) else self.below
                 bounds[mode] = budget
+        # (of those that keep to it the one with the smallest packet)
+        self.chosen = min(self.modes, default=it.usual, key=lambda mode: (
+            self.packet(mode), rules.CHEAPEST_FIRST.index(mode)))
+        return self.bound()
 
     def bound(self):
         """Raises the least budget of the chosen mode until all the seeds that bound keep to the target, and then looks
         between that and the largest below it that doesn't. Whether some budget keeps to it."""
         below, budget, keeps = None, self.least[self.chosen], False
         while budget:
-            above = self.above(budget)
-            if above:
+            if above := self.above(budget):
                 below = budget
             else:
                 self.budget, keeps = budget, True
@@ -170,9 +163,7 @@ class Search:
 
     def above(self, budget):
         """Under how many of the seeds that bound a budget of the chosen mode has more than the target."""
-        stage, pair = f"{self.stage}-bound", (budget, self.chosen)
-        self.stages.plan(stage, {pair}, 1)
-        bound = self.bounded[budget] = answer.Bound(self.study, stage, self.stages.carry_out(stage, {pair}), pair)
+        bound = self.bounded[budget] = self.stages.bound(self.stage, (budget, self.chosen), 1)
         return above_target(self.study, bound.worst) if bound.is_level() else len(bound.worst)
 
     def raised(self, budget, above):
@@ -189,10 +180,6 @@ class Search:
     def packet(self, mode):
         return self.study.packet(mode, self.study.whole(self.least[mode]))
 
-    def best(self):
-        """The mode that keeps to the target with the smallest packet."""
-        return min(self.modes, key=lambda mode: (self.packet(mode), rules.CHEAPEST_FIRST.index(mode)))
-
 
 class Met(answer.Decision):
     """The smallest packet that keeps to the target; or, where none does, what is the best that can be had."""
@@ -202,7 +189,7 @@ class Met(answer.Decision):
     def __init__(self, search, is_met, ages):
         self.study, self.found, self.stage, self.window = search.study, search.found, search.stage, ages.window
         self.search, self.is_met, self.ages = search, is_met, ages
-        self.mode, self.bound = search.chosen, search.bounded[search.budget]
+        self.mode, self.bound, self.ahead = search.chosen, search.bounded[search.budget], None
         self.budget = self.most = search.budget
         self.suffices = is_met or self.bound.is_level()
         self.figures = {mode: self.worst_with(*search.run_of(mode)) for mode in search.modes or [self.mode]}
@@ -216,7 +203,7 @@ class Met(answer.Decision):
         return (self.budget, mode) if mode == self.mode else self.search.run_of(mode)
 
     def headline(self):
-        within = f"the worst staleness within {seconds(self.study)}"
+        within = f"the worst staleness within {cluster.plain(self.study.told['target'])} s"
         return f"{super().headline()} keeps {within}" if self.is_met else f"no budget keeps {within}"
 
     def heals(self):
@@ -244,10 +231,10 @@ class Met(answer.Decision):
     def more(self):
         """Whether the target is met, what the next smaller budget has, and ages, as names and words."""
         it = self.study
-        is_met = met(it, self.bound) if self.is_met else \
-            f"not met: the largest budget that was run has more than {in_time(it)}"
+        said = f"not met: the largest budget that was run has more than {in_time(it)}"
         smaller = [("a smaller one", self.smaller_one())] if self.is_met and self.smaller_one() else []
-        return [("target", is_met), *smaller, *self.ages.told(*self.run_of(self.mode))]
+        return [("target", met(it, self.bound) if self.is_met else said), *smaller,
+                *self.ages.told(*self.run_of(self.mode))]
 
     def of_mode_in_words(self, mode):
         """What a mode needs, and what it then has."""

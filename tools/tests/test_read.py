@@ -10,7 +10,7 @@ from given import outcome, table
 HEADER = "round,exchanges,unreached,lost,entries,cut,stale,greatest\n"
 # What was sent and cut is 40 and 10 in round 1, 30 and 20 in round 2, 100 and 0 in round 3.
 TEXT = HEADER + "1,4,0,0,40,10,7,1\n2,4,0,0,30,20,9,2\n3,4,0,0,100,0,0,0\n"
-ROWS = read.rows_of(TEXT, 1, 3)
+ROWS = read.rows_of(TEXT.encode(), 1, 3)
 # What stands beside it, its own check sum and its scenario's.
 SCENARIO, OWN = "seed = 1\n", hashlib.sha256(TEXT.encode()).hexdigest()
 SUM = f"{hashlib.sha256(SCENARIO.encode()).hexdigest()}  seed-1.toml\n{OWN}  seed-1.csv\n"
@@ -20,7 +20,7 @@ class Reports(unittest.TestCase):
     def test_rows(self):
         self.assertEqual([(1, 7), (2, 9), (3, 0)], [(row["round"], row["stale"]) for row in ROWS])
 
-    test_not_whole = table(lambda text: outcome(read.rows_of, text, 1, 3), {
+    test_not_whole = table(lambda text: outcome(read.rows_of, text.encode(), 1, 3), {
         "": "it is empty", HEADER: "it is cut short after 0 of 3 rounds",
         TEXT[:-1]: "it is cut short after 2 of 3 rounds", TEXT + "4,4,0,0,1,0,0,0\n": "it goes on after its 3 rounds",
         TEXT + "4,4": "it goes on after its 3 rounds", TEXT[1:]: "its header is another",

@@ -2,7 +2,7 @@
 import unittest
 
 import given
-from gossip_tools import answer, rules, target
+from gossip_tools import advise, answer, rules, target
 from given import BREADTH, DEPTH, NEWEST, OLDEST, of, outcome, table
 
 # What a budget is divided into: so many rounds the worst staleness then has, rounded up.
@@ -30,14 +30,12 @@ class Figures(given.Figures):
         return [2, 3]
 
 
-class Made:
+class Made(advise.Stages):
     """The stages, of which nothing is run. In those that bound the last seed may be another, and it may rise."""
 
     def __init__(self, it, rounds, last=0, rising=()):
-        self.study, self.rounds, self.last, self.rising, self.asked = it, rounds, last, rising, {}
-
-    def plan(self, *_):
-        pass
+        super().__init__(it, None, None)
+        self.rounds, self.last, self.rising, self.asked = rounds, last, rising, {}
 
     def carry_out(self, stage, pairs, seeds=None):
         self.asked.setdefault(stage, []).append(seeds)
@@ -84,7 +82,7 @@ class Searched(unittest.TestCase):
         in NEWEST, 6000 against the 4200 of 80 in DEPTH."""
         cases = {"digest=10": (DEPTH, 4200), "digest=10 shared=no": (NEWEST, 2000), "": (NEWEST, 2000)}
         found = {more: searched(f"target=10 {more}", ROUNDS | {NEWEST: 500})[0] for more in cases}
-        self.assertEqual(cases, {more: (it.best(), it.packet(it.best())) for more, it in found.items()})
+        self.assertEqual(cases, {more: (it.chosen, it.packet(it.chosen)) for more, it in found.items()})
 
     def test_large_budgets_are_known_to_a_hundredth(self):
         search, _ = searched("target=10 mode=scuttle-depth", {DEPTH: 12345}, nodes="nodes=2000 keys=4")

@@ -24,12 +24,10 @@ def listed(names):
 
 
 def by_seeds(one, other):
-    less, more, seeds = rules.seed_by_seed(one, other)
-    return f"less under {less} of {seeds} seeds, more under {more}"
+    return "less under {0} of {2} seeds, more under {1}".format(*rules.seed_by_seed(one, other))
 
 
 def ended(said):
-    """A sentence with its end, where there is one."""
     return said and f"{said}."
 
 
@@ -53,7 +51,6 @@ class Bound:
         return f"{rules.IN_MOST} {self.runs()}"
 
     def rests_on(self):
-        """What it was read from."""
         first, last = self.window
         return (f"the most of `greatest` in rounds {first} to {last} under {len(self.worst)} seeds, others than those "
                 f"that chose, which had {span(self.worst)}")
@@ -62,7 +59,7 @@ class Bound:
         if not self.is_level():
             return f"In {self.runs()} `greatest` isn't level with that, so runs of more rounds choose."
         oldest = lasting(self.study, [max(self.worst)])
-        return f"In{self.holds_in().removeprefix('in')} no copy is older than {oldest}{run_of(self.study)}."
+        return f"I{self.holds_in()[1:]} no copy is older than {oldest}{run_of(self.study)}."
 
 
 class Decision(Choice):
@@ -72,8 +69,8 @@ class Decision(Choice):
 
     def times(self):
         """How the budget stands to nodes * writes."""
-        name = self.study.knee_name
-        return name if self.budget == self.study.knee else f"{self.of_knee():.2g} times {name}"
+        of_knee = "" if self.budget == self.study.knee else f"{self.of_knee():.2g} times "
+        return of_knee + self.study.knee_name
 
     def whole_budget(self):
         return self.study.whole(self.budget)
@@ -89,30 +86,25 @@ class Decision(Choice):
         return self.packet() if self.study.told["packet"] is None else int(self.study.told["packet"])
 
     def room(self):
-        """The budget."""
-        it, entries, why = self.study, self.whole_budget(), self.times()
+        it, entries, why = self.study, self.whole_budget(), [self.times()]
         if self.budget == it.nodes * it.keys:
-            all_keys = "nodes * keys, above which nothing changes"
-            why = all_keys if why == "nodes * keys" else f"{all_keys}; {why}"
+            why = ["nodes * keys, above which nothing changes", *(name for name in why if name != "nodes * keys")]
         elif entries == it.fits_of_all[self.mode]:
-            why = f"what fits; {why}"
-        return f"room for {entries} entries in a delta, {self.bytes()} bytes ({why})"
+            why = ["what fits", *why]
+        return f"room for {entries} entries in a delta, {self.bytes()} bytes ({'; '.join(why)})"
 
     def all_that_fits(self):
-        """The largest budget that was looked at."""
         it, entries = self.study, self.study.whole(self.most)
         if entries == it.fits_of_all[self.mode]:
             return f"the {entries} entries that fit"
         return f"{entries} entries ({self.most / it.knee:.2g} times {it.knee_name})"
 
     def headline(self):
-        if not self.suffices:
-            return f"no budget that fits is enough: {self.no_level()}"
         few = ", which are too few" if self.is_too_small() else ""
-        return f"{self.mode} with {self.whole_budget()} entries{few}"
+        return f"{self.mode} with {self.whole_budget()} entries{few}" if self.suffices else \
+            f"no budget that fits is enough: {self.no_level()}"
 
     def takes(self):
-        """The decision, with what speaks against it first."""
         it = self.study
         if not self.is_too_small():
             return f"{self.mode} with {self.room()}; {'with the digest ' if it.shares else ''}packet={self.packet()}"
@@ -123,16 +115,15 @@ class Decision(Choice):
     def most_that_fits(self):
         """The largest budget where none is enough, and which mode is ahead with that, or why none is."""
         it, last, runs_on = self.study, self.window[1], self.contenders()
-        mode = "No mode can be preferred with that: "
+        why = "in each `greatest` is about the number of the round, which it can't exceed."
+        if any(rules.has_left_the_diagonal(figure, last) for figure in self.figures.values()):
+            why = f"of {listed(list(runs_on))} none is ahead under nearly all seeds."
+        mode = f" No mode can be preferred with that: {why}"
         if self.ahead or self.against and len(runs_on) == 1:
-            mode = (f"Of the modes {self.mode} is ahead with that, though it isn't level yet: its `greatest` was at "
+            mode = (f" Of the modes {self.mode} is ahead with that, though it isn't level yet: its `greatest` was at "
                     f"most {briefly(it, self.figures[self.mode])} up to round {last}, and the others' higher under "
                     "nearly all seeds.")
-        elif any(rules.has_left_the_diagonal(figure, last) for figure in self.figures.values()):
-            mode += f"of {listed(list(runs_on))} none is ahead under nearly all seeds."
-        else:
-            mode += "in each `greatest` is about the number of the round, which it can't exceed."
-        return f"The most that fits: {self.room()}.{f' {mode}' if len(it.fits) > 1 else ''}"
+        return f"The most that fits: {self.room()}.{mode if len(it.fits) > 1 else ''}"
 
     def why_dropped(self):
         kept = self.contenders()
@@ -144,10 +135,9 @@ class Decision(Choice):
 
     def no_level(self):
         """That no budget that fits has a level that the longest runs can show, of those that choose or bound."""
-        if self.bound:
-            level = rules.highest_level(self.bound.window)
-            return f"none keeps a level of at most {level} rounds in {self.bound.runs()}"
-        return f"none has a level of at most {rules.highest_level(self.window)} rounds within {self.window[1]}"
+        keeps, within = ("keeps", f"in {self.bound.runs()}") if self.bound else ("has", f"within {self.window[1]}")
+        level = rules.highest_level((self.bound or self).window)
+        return f"none {keeps} a level of at most {level} rounds {within}"
 
     def at_most(self):
         """The worst staleness to reckon with for the whole cluster, of which a tenth was run."""
@@ -162,11 +152,10 @@ class Decision(Choice):
             return f"not known: {self.no_level()}{by_sum}"
         if self.bound is None:
             return f"{lasting(it, self.worst)} so far{run_of(it)}"
-        holds_in = self.bound.holds_in()
         if it.parts > 1:
-            oldest = in_rounds([max(self.bound.worst)])
-            return f"{self.at_most()}: {holds_in} of {it.nodes} nodes no copy is older than {oldest}"
-        return f"{holds_in} no copy is older than {lasting(it, [self.most_rounds()])}"
+            return (f"{self.at_most()}: {self.bound.holds_in()} of {it.nodes} nodes no copy is older than "
+                    f"{in_rounds([max(self.bound.worst)])}")
+        return f"{self.bound.holds_in()} no copy is older than {lasting(it, [self.most_rounds()])}"
 
     def above_floor(self):
         """What no mode and no budget goes below; empty where it wasn't looked at."""
@@ -198,11 +187,10 @@ class Decision(Choice):
         if it.tells_all() is None:
             return ""
         entries, name = it.tells_all()
-        needed, given, more = it.packet(self.mode, entries), it.told["packet"], ""
+        needed = it.packet(self.mode, entries)
+        more = ", more than yours" if it.told["packet"] is not None and needed > it.told["packet"] else ""
         if entries <= self.whole_budget():
             more = "; this budget has room for them"
-        elif given is not None and needed > given:
-            more = ", more than yours"
         return ("In Cassandra a node tells all its keys as it starts, here as many as it writes. For that reckon with "
                 f"{name} = {entries} entries, packet={needed}{more}")
 
@@ -216,14 +204,12 @@ class Decision(Choice):
         """What more than the budget brings; empty where no more fits."""
         if not self.suffices or self.budget == self.most:
             return ""
-        figure = self.figures[self.mode]
-        seeds = by_seeds(figure, self.worst)
-        said = (f"With {self.all_that_fits()} it is {briefly(self.study, figure)} in the runs that chose, where the "
-                f"budget has {span(self.worst)}: ")
+        figure, how = self.figures[self.mode], "no better"
+        so = f"So packet={self.packet()} is enough, and what is above that is a reserve"
         if self.more_is_worse():
-            return f"{said}worse ({seeds}). More is worse here, so let a delta carry no more than the budget"
-        return (f"{said}no better ({seeds}). So packet={self.packet()} is enough, and what is above that is a "
-                "reserve")
+            how, so = "worse", "More is worse here, so let a delta carry no more than the budget"
+        return (f"With {self.all_that_fits()} it is {briefly(self.study, figure)} in the runs that chose, where the "
+                f"budget has {span(self.worst)}: {how} ({by_seeds(figure, self.worst)}). {so}")
 
     def why_not_knee(self):
         """Why more than nodes * writes is taken; empty where it isn't."""
@@ -241,21 +227,18 @@ class Decision(Choice):
             return f"{said}worse than {self.all_that_fits()} ({by_seeds(worst, figure)})"
         return f"{said}and something else that was run is better than that"
 
-    def held_against(self, budget, mode, few=""):
-        """What a budget and a mode have, against what is taken."""
-        it, worst = self.study, self.worst_with(budget, mode)
-        return (f"{mode} with {few}{it.whole(budget)} entries, {briefly(it, worst)} against {span(self.worst)}: "
-                f"{by_seeds(worst, self.worst)}")
-
     def too_close(self):
         """Which figures are too close to call. Those that aren't level say nothing."""
-        it = self.study
+        it, said = self.study, []
         if not self.suffices:
             return []
-        said = [self.held_against(it.most(mode), mode) for mode in self.close()]
-        if smaller := self.smaller():
-            said.append(self.held_against(smaller, self.mode, "as few as "))
-            if self.budget >= it.knee:
+        close = [("", it.most(mode), mode) for mode in self.close()]
+        close += [("as few as ", smaller, self.mode)] if (smaller := self.smaller()) else []
+        for few, budget, mode in close:
+            worst = self.worst_with(budget, mode)
+            said.append(f"{mode} with {few}{it.whole(budget)} entries, {briefly(it, worst)} against "
+                        f"{span(self.worst)}: {by_seeds(worst, self.worst)}")
+            if few and self.budget >= it.knee:
                 said[-1] += f"; still not taken, as staleness rises steeply below {it.knee_name}"
         others = "other mode and smaller budget" if len(self.figures) > 1 else "smaller budget"
         below = [self.worst_with(budget, self.mode) for budget in self.of_mode() if budget < self.budget]
@@ -276,7 +259,7 @@ def first_words(decision, call=""):
             to_knee and f"That is below {it.knee_name}. {to_knee}. {else_helps(decision)}",
             decision.forgetful(), *limits(decision), *(of_calls(it) if it.fanout > 1 else []))
     longer = " and then ".join(str(it.rounds(stage)) for stage in it.later_stages(decision.stage))
-    see = [f"{WHAT_HEALS} are run only if it does. To see them with a budget that is enough:", f"  {call}"]
+    see = (f"{WHAT_HEALS} are run only if it does. To see them with a budget that is enough:", f"  {call}")
     return sentences(
         f"First answer, from {since}: no budget that fits is seen to be enough, as {decision.no_level()}.",
         decision.most_that_fits(), decision.forgetful(), to_knee and f"{to_knee}. {else_helps(decision)}",
@@ -302,13 +285,11 @@ def not_run(decision, call, was_enough=False):
     it = decision.study
     if decision.suffices or not it.heals():
         return []
-    if was_enough:
-        why = f"{WHAT_HEALS} were run for the first answer, with a budget that isn't enough after more rounds."
-    elif it.asks_for_healing():
-        why = f"{WHAT_HEALS} were not run, as no budget that fits is enough."
-    else:
+    if not was_enough and not it.asks_for_healing():
         return sentences(call and f"Nor was a split or a restart run: give packet={it.packet(decision.mode)} and "
                          "another folder to see them.")
+    why = (f"{WHAT_HEALS} were run for the first answer, with a budget that isn't enough after more rounds."
+           if was_enough else f"{WHAT_HEALS} were not run, as no budget that fits is enough.")
     return [f"{why} To see them with a budget that is:", f"  {call}"] if call else [why]
 
 
@@ -347,34 +328,26 @@ def else_helps(decision):
 
 
 def limits(decision):
-    """What of the digest and the packet limits the decision."""
-    it = decision.study
+    """What of the digest and the packet limits the decision: that it wasn't told, or fits no packet, or leaves no room
+    to some modes; that a packet is more than one datagram."""
+    it, size, given, packet = decision.study, decision.study.told["digest"], decision.given(), decision.packet()
+    numbers = it.digest_numbers(decision.mode)
+    fits = it.told["shared"] == "yes" or it.digest_bytes(decision.mode) <= given
+    largest = max(given, it.packet(decision.mode)) if decision.to_knee() else given
+    in_one = f", and packet={packet} fits in one" if decision.suffices and packet <= rules.DATAGRAM < given else ""
     no_room = [mode for mode in scenario.MODES if it.rooms[mode] < 1]
     return sentences(
-        of_digest(decision), of_datagrams(decision), no_room and it.parts == 1 and not it.told["mode"] and
-        f"{' and '.join(no_room)} have no room: their digest alone takes the packet.")
-
-
-def of_digest(decision):
-    """What speaks against the digest: that it wasn't told, or fits no packet."""
-    it, size = decision.study, decision.study.told["digest"]
-    numbers = it.digest_numbers(decision.mode)
-    if not size:
-        return (f"You gave no digest, so it is free here. With digest={SUPPOSED} its {numbers} numbers would take "
-                f"{numbers * SUPPOSED} bytes. {TYPICAL}")
-    fits = it.told["shared"] == "yes" or it.digest_bytes(decision.mode) <= decision.given()
-    return "" if fits else (f"The digest has {numbers} numbers of {size} bytes, which fit no packet of "
-                            f"{decision.given()}: it would have to go in several.")
-
-
-def of_datagrams(decision):
-    """That a packet is more than one datagram."""
-    given, packet = decision.given(), decision.packet()
-    largest = max(given, decision.study.packet(decision.mode)) if decision.to_knee() else given
-    fits = f", and packet={packet} fits in one" if decision.suffices and packet <= rules.DATAGRAM < given else ""
-    return "" if largest <= rules.DATAGRAM else (
+        not size and
+        f"You gave no digest, so it is free here. With digest={SUPPOSED} its {numbers} numbers would take "
+        f"{numbers * SUPPOSED} bytes. {TYPICAL}",
+        size and not fits and
+        f"The digest has {numbers} numbers of {size} bytes, which fit no packet of {given}: it would have to go in "
+        "several.",
+        largest > rules.DATAGRAM and
         f"The 64 KB of a UDP datagram are at most {rules.DATAGRAM} bytes: packet={largest} takes several of them, or "
-        f"TCP{fits}.")
+        f"TCP{in_one}.",
+        no_room and it.parts == 1 and not it.told["mode"] and
+        f"{' and '.join(no_room)} have no room: their digest alone takes the packet.")
 
 
 def of_calls(it):
@@ -390,34 +363,32 @@ def of_calls(it):
 
 
 def left_out(decision):
-    it, entry, digest = decision.study, decision.study.told["entry"], decision.study.told["digest"]
-    numbers, waits = it.digest_numbers(decision.mode), "a heartbeat may come later than any limit."
+    it, entry = decision.study, decision.study.told["entry"]
+    waits, holds_in = "a heartbeat may come later than any limit.", "nothing bounds that yet"
+    if decision.bound:
+        holds_in = f"{decision.bound.holds_in()} no copy is older, and in longer ones some may be"
     if decision.suffices:
-        holds_in = "nothing bounds that yet"
-        if decision.bound:
-            holds_in = f"{decision.bound.holds_in()} no copy is older, and in longer ones some may be"
         waits = ("one that needs a heartbeat in time has to wait longer than "
                  f"{lasting(it, [decision.most_rounds()])}; {holds_in}.")
-    sizes = f"Sizes: all entries count alike, as {cluster.plain(entry)} bytes."
-    if it.in_bytes:
-        sizes = (f"Your sizes: those of the bench are spread evenly up to {1023 / 523.5 * float(entry):.0f} bytes, for "
-                 "your mean entry. If your largest is larger, give half of it as entry.")
     return sentences(
         *of_calls(it), f"Failure detectors: {waits}",
-        "Nodes that join and leave: one that joins is like one that restarts.", sizes,
+        "Nodes that join and leave: one that joins is like one that restarts.",
+        it.in_bytes and
+        f"Your sizes: those of the bench are spread evenly up to {1023 / 523.5 * float(entry):.0f} bytes, for your "
+        "mean entry. If your largest is larger, give half of it as entry.",
+        not it.in_bytes and f"Sizes: all entries count alike, as {cluster.plain(entry)} bytes.",
         it.shares and "The digest is taken off each message, though the last of an exchange has none.",
-        digest and not it.shares and
-        f"A digest of up to {numbers} numbers, {int(numbers * digest)} bytes, comes on top of the delta.",
+        it.told["digest"] and not it.shares and
+        f"A digest of up to {it.digest_numbers(decision.mode)} numbers, {it.digest_bytes(decision.mode)} bytes, comes "
+        "on top of the delta.",
         not decision.suffices and ended(decision.tells_all()),
         not it.tells_all() and decision.heals() and it.leaves() and (GENERATIONS if it.told["restarts"] else GROUPS))
 
 
 def heads(decision):
-    lines = []
-    for head, said in (("Mind", warnings(decision)), ("Too close to call", decision.too_close()),
-                       ("Left out for this cluster", left_out(decision))):
-        lines += ["", f"{head}:", *(f"  - {one}" for one in said)] if said else []
-    return lines
+    return [line for head, said in (("Mind", warnings(decision)), ("Too close to call", decision.too_close()),
+                                    ("Left out for this cluster", left_out(decision))) if said
+            for line in ("", f"{head}:", *(f"  - {one}" for one in said))]
 
 
 def of_staleness(decision, more):

@@ -20,10 +20,8 @@ def latest(times):
 def fewer(study, asked):
     """That fewer nodes restart at once than were asked for, in words; empty where that isn't so."""
     each = study.restarting()[0]
-    if each == study.restarts:
-        return ""
     why = "half of the nodes stay up" if each == study.nodes // 2 else f"a scenario takes {each} restarts"
-    return f", in place of {asked}, as {why}"
+    return "" if each == study.restarts else f", in place of {asked}, as {why}"
 
 
 class Healing:
@@ -62,20 +60,16 @@ class Healing:
 
     def what(self, stage):
         it = self.study
-        one = unit(it)[:-1]
         if stage == "split":
             for_all = f", which stand for {it.told['split']}, as each key is written anew in them"
             return f"of half of the nodes for {it.split} {unit(it)}{for_all if it.split < it.told['split'] else ''}"
-        forgets = ", and then without its own state" if it.forgets() else ""
-        if not it.restarts:
-            return f"of one node, down for one {one}{forgets}"
-        each, groups = it.restarting()
-        nodes = f"{each} node{'s' if each != 1 else ''}"
+        (each, groups), alone = it.restarting(), ""
+        nodes = f"{each} node{'s' if each != 1 else ''}" if it.restarts else "one node"
         if groups > 1:
-            nodes += f" in each of {groups} {unit(it)}"
-            forgets += ", and of such a group alone"
-        down = "each down" if each > 1 or groups > 1 else "down"
-        return f"of {nodes}{fewer(it, it.restarts)}, {down} for one {one}{forgets}"
+            nodes, alone = f"{nodes} in each of {groups} {unit(it)}", ", and of such a group alone"
+        few = fewer(it, it.restarts) if it.restarts else ""
+        down = f"{'each down' if each * groups > 1 else 'down'} for one {unit(it)[:-1]}"
+        return f"of {nodes}{few}, {down}{', and then without its own state' if it.forgets() else ''}{alone}"
 
     def lines(self, heals, budget):
         """The lines of what heals; below the first of all that is looked at what is counted, and below a restart how
@@ -92,7 +86,6 @@ class Healing:
         return lines
 
     def counted(self):
-        """What the rounds of a split and of a restart are."""
         after = ", or after ".join(LAST_ROUNDS[it] for it in self.study.heals() if it in LAST_ROUNDS)
         return f"Healed after N rounds: N rounds after {after}, {rules.HEALED.format(*self.study.before)}"
 
@@ -113,13 +106,12 @@ class Healing:
         runs, most = (*self.stages.values(), *self.alone.values()), (decision.most, self.mode)
         if decision.budget == decision.most or not all(most in it.rows for it in runs):
             return ""
-        said, seeds = [], 0
+        said = []
         for stage in self.study.heals():
             taken = self.taken(stage, decision.most)
             after = "not over in time" if None in taken else f"{ENDS[stage]} after {briefly(self.study, taken)}"
             said.append(f"{HEALED[stage]} is {after}")
-            seeds = len(taken)
-        return (f"if your program fills the packet anyway, {'; '.join(said)}, under {seeds} of the "
+        return (f"if your program fills the packet anyway, {'; '.join(said)}, under {len(taken)} of the "
                 f"seeds{run_of(self.study)}")
 
 

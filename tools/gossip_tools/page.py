@@ -49,8 +49,7 @@ pre { font-size: .8em; white-space: pre-wrap; overflow-wrap: anywhere; backgroun
 """
 
 
-# The most cards that stand beside each other.
-MOST_COLUMNS = 5
+MOST_COLUMNS = 5  # of cards beside each other
 
 
 def told(it):
@@ -63,50 +62,46 @@ def listed(head, said, kind=""):
     return f'<h2>{head}</h2><ul class="{kind}">{lines}</ul>' if said else ""
 
 
+def chosen_cards(decision):
+    """The cards of mode, budget and worst staleness, each as its name, a few large words, more words and its kind."""
+    it, of_budget = decision.study, f"{decision.bytes()} bytes, {decision.times()}"
+    entries = f"{decision.whole_budget()} entries"
+    if not decision.suffices:
+        return [("budget", "none that fits is enough", f"tried: {entries}, {of_budget}", "none"),
+                ("worst staleness", "not known", decision.no_level(), "none")]
+    kind = "first" if decision.is_met and not decision.is_too_small() else "none"
+    rounds, _, time = lasting(it, [decision.most_rounds()]).partition(", ")
+    of_worst = sentences(time, decision.bound and decision.bound.holds_in(),
+                         it.parts > 1 and f"{it.nodes} nodes run; reckon with {decision.at_most()}")
+    return [("mode", decision.mode, "", kind),
+            ("budget", entries, f"{of_budget}; packet={decision.packet()}", kind),
+            ("worst staleness", f"at most {rounds}", "; ".join(of_worst), "")]
+
+
 def cards(decision, healing, more):
     """The decision in a few large words."""
-    it, budget = decision.study, decision.whole_budget()
-    of_budget = f"{decision.bytes()} bytes, {decision.times()}"
-    if decision.suffices:
-        of_budget += f"; packet={decision.packet()}"
-        rounds, _, time = lasting(it, [decision.most_rounds()]).partition(", ")
-        kind = "first" if decision.is_met and not decision.is_too_small() else "none"
-        of_worst = "; ".join(sentences(
-            time, decision.bound and decision.bound.holds_in(),
-            it.parts > 1 and f"{it.nodes} nodes run; reckon with {decision.at_most()}"))
-        rows = [("mode", decision.mode, "", kind), ("budget", f"{budget} entries", of_budget, kind),
-                ("worst staleness", f"at most {rounds}", of_worst, "")]
-    else:
-        rows = [("budget", "none that fits is enough", f"tried: {budget} entries, {of_budget}", "none"),
-                ("worst staleness", "not known", decision.no_level(), "none")]
+    it, rows = decision.study, chosen_cards(decision)
     if decision.is_too_small() or not decision.suffices and decision.to_knee():
         rows.append(("enough", f"{it.packet(decision.mode)} bytes", decision.to_knee(), "first"))
     if decision.floor:
         rows.append((answer.FLOOR, in_rounds(decision.floor), decision.above_floor(), ""))
     rows += [(name, *said.partition(": ")[::2], "none" if said.startswith("not met") else "") for name, said in more]
     rows.append(("share cut", f"{span(decision.cut, 2)}\u00a0%", "of what was lacking", ""))
-    for stage in it.heals() if healing else ():
-        name = f"{HEALED[stage]} is {ENDS[stage]} after"
-        rows.append((name, *healing.in_words(stage, decision.budget), ""))
+    rows += [(f"{HEALED[stage]} is {ENDS[stage]} after", *healing.in_words(stage, decision.budget), "")
+             for stage in it.heals() if healing]
     if healing and it.leaves():
         words, _, more = healing.wait(decision.budget).partition(": ")[0].partition(", ")
         rows.append((ROLLING, words, more, ""))
-    columns, broad = layout([len(name) + len(words) + len(more) for name, words, more, _ in rows])
-    said = "".join(f'<div class="{" ".join(filter(None, (kind, "broad" * (at in broad))))}">{told(name)}'
-                   f"<b>{told(words)}</b>{told(more)}</div>" for at, (name, words, more, kind) in enumerate(rows))
+    # (so that the lines of cards are full, those with most letters take two columns)
+    lines = -(-len(rows) // MOST_COLUMNS)
+    columns = -(-len(rows) // lines)
+    broad = sorted(rows, key=lambda row: -sum(map(len, row[:3])))[:lines * columns - len(rows)]
+    said = "".join(f'<div class="{" ".join(filter(None, (row[3], "broad" * (row in broad))))}">{told(row[0])}'
+                   f"<b>{told(row[1])}</b>{told(row[2])}</div>" for row in rows)
     return f'<div class="cards" style="--columns: {columns}">{said}</div>'
 
 
-def layout(letters):
-    """How many columns so many cards have, and which take two so that rows are full: those with most letters."""
-    rows = -(-len(letters) // MOST_COLUMNS)
-    columns = -(-len(letters) // rows)
-    by_letters = sorted(range(len(letters)), key=lambda at: -letters[at])
-    return columns, by_letters[:rows * columns - len(letters)]
-
-
 def below_the_cards(decision, healing):
-    """What other budgets bring, and what the rounds of healing are."""
     no_floor = f"{answer.FLOOR}: {decision.above_floor()}".capitalize() if decision.floor == [] else ""
     reserve = healing and healing.with_reserve(decision)
     said = sentences(
@@ -117,12 +112,10 @@ def below_the_cards(decision, healing):
 
 def paragraphs(lines):
     """Lines as paragraphs; those that begin with a space are commands."""
-    return "".join(f"<pre>{html.escape(it.strip())}</pre>" if it.startswith(" ") else f"<p>{told(it)}</p>"
-                   for it in lines)
+    return "".join(f"<pre>{html.escape(it.strip())}</pre>" if it[:1] == " " else f"<p>{told(it)}</p>" for it in lines)
 
 
 def captions(decision):
-    """What each picture shows, whether it is drawn or not."""
     it, (first, last), (each, _) = decision.study, decision.window, decision.study.restarting()
     above = "What is higher than the picture is in the table. "
     same = plots.lie_on_each_other(decision)
@@ -164,34 +157,29 @@ def pictures(folder, decision, healing):
     return text + "</div>"
 
 
+def field(decision, budget, mode):
+    if (budget, mode) not in decision.found.rows:
+        return "<td></td>"
+    level = "" if decision.is_enough(budget, mode) else " not level"
+    chosen = "chosen" if decision.suffices and (budget, mode) == (decision.budget, decision.mode) else ""
+    return (f'<td class="{chosen}">{span(decision.worst_with(budget, mode))}{level}<br>'
+            f"<small>{span(decision.found.cut(budget, mode, decision.window), 2)} %</small></td>")
+
+
 def table(decision):
     """Worst staleness and share cut, by budget and mode."""
-    it, window = decision.study, decision.window
-    head = "<tr><th>budget</th>" + "".join(f"<th>{mode}</th>" for mode in decision.figures) + "</tr>"
-    text = ""
-    for budget in decision.budgets():
-        text += f"<tr><th>{it.whole(budget)}</th>"
-        for mode in decision.figures:
-            if (budget, mode) not in decision.found.rows:
-                text += "<td></td>"
-                continue
-            level = "" if decision.found.suffices(budget, mode, window) else " not level"
-            chosen = "chosen" if decision.suffices and (budget, mode) == (decision.budget, decision.mode) else ""
-            text += (f'<td class="{chosen}">{span(decision.worst_with(budget, mode))}{level}<br>'
-                     f"<small>{span(decision.found.cut(budget, mode, window), 2)} %</small></td>")
-        text += "</tr>"
-    return f'<div class="wide"><table><thead>{head}</thead><tbody>{text}</tbody></table></div>'
-
-
-def not_level(decision):
-    """What the table means by `not level`; empty where it doesn't say so."""
-    level = all(decision.found.suffices(*pair, decision.window) for pair in decision.found.rows
-                if pair[1] in decision.figures)
-    return "" if level else " Not level: this budget isn't enough."
+    it, (first, last) = decision.study, decision.window
+    head = "".join(f"<th>{mode}</th>" for mode in decision.figures)
+    text = "".join(f"<tr><th>{it.whole(budget)}</th>"
+                   f"{''.join(field(decision, budget, mode) for mode in decision.figures)}</tr>"
+                   for budget in decision.budgets())
+    not_level = " Not level: this budget isn't enough." if " not level" in text else ""
+    return f"""<p class="before-table">In rounds {first} to {last}, by budget in entries and mode.{not_level} A field is
+empty where its runs could change nothing: {decision.why_empty}.</p>
+<div class="wide"><table><thead><tr><th>budget</th>{head}</tr></thead><tbody>{text}</tbody></table></div>"""
 
 
 def made_of(folder, study, made, check_sum):
-    """The scenarios and the commands that make everything again."""
     text = ""
     for stage, pairs in made.items():
         words = [" ".join(f"{field}={','.join(values)}" for field, values in choices.items())
@@ -211,7 +199,6 @@ def make(folder, decision, healing, made, check_sum, missing=(), more=(), head="
     Without healing it has lines on what is missing. What stands beside the worst staleness comes as names and words.
     A first answer says so in the head."""
     it = decision.study
-    first, last = decision.window
     tenth = f", of which {it.nodes} were run; budgets are those of all" if it.parts > 1 else ""
     title = f"{head}{int(it.told['nodes'])} nodes: {decision.headline()}"
     text = f"""<!DOCTYPE html>
@@ -227,8 +214,6 @@ they bring is bounded by others, {rules.IN_MOST} runs.</p>
 {listed("Mind", answer.warnings(decision), "mind")}
 {pictures(folder, decision, healing)}
 <h2>Worst staleness and share cut</h2>
-<p class="before-table">In rounds {first} to {last}, by budget in entries and mode.{not_level(decision)} A field is
-empty where its runs could change nothing: {decision.why_empty}.</p>
 {table(decision)}
 {listed("Too close to call", decision.too_close())}
 {listed("Left out for this cluster", answer.left_out(decision))}

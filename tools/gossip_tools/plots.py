@@ -25,6 +25,7 @@ set tics nomirror
 set xlabel "{x}" offset 0, 0.4
 set ylabel "{y}"
 """
+LINE = 'nohead linewidth 1.5 linecolor "#555555" dashtype'
 LEAST_SHOWN = 20
 # A budget has bars at so many rounds at most, the next one's so far beside them, of the way to the next round.
 MOST_BARS, BESIDE = 40, 0.25
@@ -36,11 +37,11 @@ def is_there():
 
 def draw(folder, name, script):
     """The picture, as SVG, which the folder gets with its script."""
-    with files.named(folder / f"{name}.gnuplot"):
-        (folder / f"{name}.gnuplot").write_text(script)
-    (folder / f"{name}.svg").unlink(missing_ok=True)
-    done = subprocess.run(["gnuplot", f"{name}.gnuplot"], cwd=folder, capture_output=True, text=True)
-    picture = folder / f"{name}.svg"
+    source, picture = folder / f"{name}.gnuplot", folder / f"{name}.svg"
+    with files.named(source):
+        source.write_text(script)
+    picture.unlink(missing_ok=True)
+    done = subprocess.run(["gnuplot", source.name], cwd=folder, capture_output=True, text=True)
     if done.returncode or not picture.exists() or not picture.read_text().rstrip().endswith("</svg>"):
         said = "".join(done.stderr.strip().splitlines()[-1:]) or "perhaps the disk is full"
         raise OSError(0, f"gnuplot wrote no whole picture: {said}", str(picture))
@@ -73,17 +74,22 @@ def knee(decision, name, y, figure, capped):
                   f'linecolor "{colour}" title "{mode}"']
     top = (min(most, 6 * max(figure(*decision.run_of(decision.mode)))) if capped else most) or 1
     budgets = [study.whole(it) for it in decision.budgets()]
-    tics = ", ".join(str(it) for it in spaced(budgets))
-    text += f"set logscale x 2\nset xtics ({tics}) rotate by -45\nset yrange [0:{1.08 * top:.4g}]\n"
-    text += f"set xrange [{0.85 * budgets[0]:.6g}:{1.18 * budgets[-1]:.6g}]\n"
+    tics = []
+    for it in budgets:
+        # (so that their labels have room beside each other)
+        if not tics or it > 1.13 * tics[-1]:
+            tics.append(it)
+    text += f"set logscale x 2\nset xtics ({', '.join(map(str, tics))}) rotate by -45\n"
+    text += f"set yrange [0:{1.08 * top:.4g}]\nset xrange [{0.85 * budgets[0]:.6g}:{1.18 * budgets[-1]:.6g}]\n"
     text += budget_line(decision, budgets[-1])
     if capped and (at := study.target) and study.parts == 1:
         text += (f'set arrow from graph 0, first {at} to graph 1, first {at} {LINE} 3\n'
                  f'set label "target" at graph 1, first {at} right offset 0, 0.5\n')
-    return text + "set clip two\nplot " + ", \\\n  ".join(plots) + "\n"
+    return text + "set clip two\n" + plotted(plots)
 
 
-LINE = 'nohead linewidth 1.5 linecolor "#555555" dashtype'
+def plotted(plots):
+    return "plot " + ", \\\n  ".join(plots) + "\n"
 
 
 def budget_line(decision, most):
@@ -94,15 +100,6 @@ def budget_line(decision, most):
     if study.told["packet"] is None:
         at, label = decision.whole_budget(), f"taken: {decision.whole_budget()}"
     return f'set arrow from {at}, graph 0 to {at}, graph 1 {LINE} 2\nset label "{label}" at {at}, graph 1.03 center\n'
-
-
-def spaced(budgets):
-    """Those of the budgets whose labels have room beside each other."""
-    kept = []
-    for it in budgets:
-        if not kept or it > 1.13 * kept[-1]:
-            kept.append(it)
-    return kept
 
 
 def rounds(decision, name, y, value):
@@ -117,7 +114,7 @@ def rounds(decision, name, y, value):
             text += block(f"mode{at}", [(it[-1]["round"], max(value(row) for row in it)) for it in intervals])
             plots.append(f'$mode{at} with lines linewidth {width} linecolor "{colour}" '
                          f'title "{mode}, {study.whole(budget)}"')
-    return text + "set xrange [0:*]\nset yrange [0:*]\nplot " + ", \\\n  ".join(plots) + "\n"
+    return text + "set xrange [0:*]\nset yrange [0:*]\n" + plotted(plots)
 
 
 def healing(healed, stage, name, y, value):
@@ -142,27 +139,23 @@ def healing(healed, stage, name, y, value):
                      "notitle")
         plots.append(f'$budget{at} with lines linewidth {width} linecolor "{colour}" '
                      f'title "{study.whole(budget)} entries"')
-    return text + f"set xrange [-5:{shown}]\nset yrange [0:*]\nplot " + ", \\\n  ".join(plots) + "\n"
+    return text + f"set xrange [-5:{shown}]\nset yrange [0:*]\n" + plotted(plots)
 
 
 def all_of(decision, healed):
-    study = decision.study
-    copies = study.nodes * (study.nodes - 1) * study.keys
-    of_node = (study.nodes - 1) * study.keys
+    of_node = (decision.study.nodes - 1) * decision.study.keys
+    copies, greatest = decision.study.nodes * of_node, ("greatest, in rounds", lambda row: row["greatest"])
     pictures = {
         "worst": knee(decision, "worst", "worst staleness, in rounds", decision.worst_with, capped=True),
         "cut": knee(decision, "cut", "share cut, in per cent",
                     lambda budget, mode: decision.found.cut(budget, mode, decision.window), capped=False),
-        "greatest": rounds(decision, "greatest", "greatest, in rounds", lambda row: row["greatest"]),
+        "greatest": rounds(decision, "greatest", *greatest),
         "stale": rounds(decision, "stale", "stale copies, in per cent",
                         lambda row: round(100 * row["stale"] / copies, 3)),
     }
-    for stage in study.heals() if healed else ():
-        y, value = "greatest, in rounds", lambda row: row["greatest"]
-        if stage == "forgotten":
-            y, value = "leftover, in states of a node", lambda row: round(row["leftover"] / of_node, 4)
-        pictures[stage] = healing(healed, stage, stage, y, value)
-    return pictures
+    leftover = "leftover, in states of a node", lambda row: round(row["leftover"] / of_node, 4)
+    return pictures | {stage: healing(healed, stage, stage, *(leftover if stage == "forgotten" else greatest))
+                       for stage in decision.study.heals() if healed}
 
 
 def lie_on_each_other(decision):

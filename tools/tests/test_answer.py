@@ -331,23 +331,22 @@ class Decided(unittest.TestCase):
     def test_no_digest(self):
         """300 numbers of 20 bytes are 6000. It is told in the first answer too."""
         depth = dict.fromkeys((300, 600, 1000), [7, 8])
-        said = answer.of_digest(roomy(depth))
+        said, = answer.limits(roomy(depth))
         self.assertEqual("You gave no digest, so it is free here. With digest=20 its 300 numbers would take 6000 "
                          f"bytes. {answer.TYPICAL}", said)
         self.assertEqual([said], answer.first_words(roomy(depth))[3:])
-        self.assertEqual("", answer.of_digest(roomy(depth, more="digest=1 shared=no")))
+        self.assertEqual([], answer.limits(roomy(depth, more="digest=1 shared=no")))
         self.assertIn("300 numbers of 200 bytes, which fit no packet of 40000",
-                      answer.of_digest(roomy(depth, more="digest=200 shared=no")))
+                      answer.limits(roomy(depth, more="digest=200 shared=no"))[0])
 
     def test_datagrams(self):
         """A packet of 65508 bytes is more than a datagram, and so are the 600 * 200 bytes that would be enough."""
-        self.assertEqual("", answer.of_datagrams(roomy(dict.fromkeys((300, 600, 1000), [7, 8]))))
         for more, delta, less in (("entry=50 packet=65508", 65508, ", and packet=60000 fits in one"),
                                   ("entry=200 packet=40000", 120000, "")):
             words = f"nodes=300 keys=4 writes=2 digest=10 shared=no {more}"
-            self.assertEqual("The 64 KB of a UDP datagram are at most 65507 bytes: "
-                             f"packet={delta} takes several of them, or TCP{less}.",
-                             answer.of_datagrams(decided(words, {}, {of(words).most(DEPTH): [7, 8]})))
+            self.assertEqual(["The 64 KB of a UDP datagram are at most 65507 bytes: "
+                              f"packet={delta} takes several of them, or TCP{less}."],
+                             answer.limits(decided(words, {}, {of(words).most(DEPTH): [7, 8]})))
 
     def test_all_keys_at_the_start(self):
         """200 nodes and 5 that restart with 4 keys make 200 + 5 * 4 = 220 entries, 8800 bytes, and with the digest of

@@ -141,10 +141,9 @@ class Healing(unittest.TestCase):
 
 class Table(unittest.TestCase):
     def test_not_level_is_told_where_it_stands(self):
-        for rising, wanted in (((), ""), ([50], " Not level: this budget isn't enough.")):
-            decision = decided(rising)
-            self.assertEqual(wanted, page.not_level(decision))
-            self.assertEqual(bool(wanted), " not level" in page.table(decision))
+        for rising, wanted in (((), False), ([50], True)):
+            text = page.table(decided(rising))
+            self.assertEqual([wanted] * 2, [" not level" in text, " Not level: this budget isn't enough." in text])
 
 
 class Printed(unittest.TestCase):

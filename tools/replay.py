@@ -34,7 +34,6 @@ import stat
 import tomllib
 from collections import defaultdict
 from contextlib import contextmanager, suppress
-from dataclasses import dataclass, field, replace
 from functools import lru_cache
 from itertools import accumulate, pairwise
 from math import isinf
@@ -105,20 +104,20 @@ def check_scenario(top):
               "rotation": ("random", "none"), "choice": ("random", "cycle"), "loss_ppm": range(1000001),
               "writes": range(9)}
     check_fields(top, "", fields)
-    forget = [] if top["format"] == 1 else ["forget"]
-    arrays = {"partition": ["from", "to", "apart"], "restart": ["node", "round", "down", *forget],
-              "load": ["from", "to", "writes"]}
+    forget = {"forget"} if top["format"] == 2 else set()
+    arrays = {"partition": {"from", "to", "apart"}, "restart": {"node", "round", "down"} | forget,
+              "load": {"from", "to", "writes"}}
     for array in arrays:
         elements = top.get(array, [])
         check_value(elements, array, list)
         check_value(len(elements), array, range(1001))
         for table in elements:
             check_element(table, array, top)
-    if set(top) - {"format", "nodes", "keys", *fields, *arrays}:
-        raise Fault("fault 7: unknown field in table top")
-    for array, names in arrays.items():
-        if any(set(table) - set(names) for table in top.get(array, [])):
-            raise Fault(f"fault 7: unknown field in table {array}")
+    tables = [("top", top, {"format", "nodes", "keys", *fields, *arrays})]
+    tables += [(array, table, names) for array, names in arrays.items() for table in top.get(array, [])]
+    for name, table, known in tables:
+        if set(table) - known:
+            raise Fault(f"fault 7: unknown field in table {name}")
 
 
 def binary64(text):
@@ -214,12 +213,11 @@ class Entry(NamedTuple):
         return self.generation, self.version
 
 
-@dataclass
 class Node:
-    number: int
-    generation: int = 0
-    writes: list = field(default_factory=list)  # all of its current generation
-    table: dict = field(default_factory=dict)  # for each owner of whom it holds something, the entries by their keys
+    def __init__(self, number):
+        self.number, self.generation = number, 0
+        self.writes = []  # all of its current generation
+        self.table = {}  # for each owner of whom it holds something, the entries by their keys
 
 
 def entries(table):
@@ -236,23 +234,22 @@ def generation(table, owner):
     return next((entry.generation for entry in table.get(owner, {}).values()), 0)
 
 
-class ScuttleDigest:
-    def __init__(self, table):
-        self.greatest = {owner: max(entry.mark for entry in part.values()) for owner, part in table.items()}
-        self.size = len(self.greatest)
+class Digest:
+    """In a scuttle mode the greatest mark of each owner, in a precise one the mark of each key."""
 
-    def lacks(self, entry):
-        return entry.mark > self.greatest.get(entry.owner, ABSENT)
-
-
-class PreciseDigest:
-    def __init__(self, table):
-        self.marks = {(entry.owner, entry.key): entry.mark for entry in entries(table)}
+    def __init__(self, scenario, table):
+        self.is_scuttle = scenario.mode.startswith("scuttle-")
         self.generations = {owner: generation(table, owner) for owner in table}
-        self.size = len(self.marks)
+        self.marks = {}
+        for entry in entries(table):
+            place = self.place(entry)
+            self.marks[place] = max(entry.mark, self.marks.get(place, ABSENT))
+
+    def place(self, entry):
+        return entry.owner if self.is_scuttle else (entry.owner, entry.key)
 
     def lacks(self, entry):
-        is_above = entry.mark > self.marks.get((entry.owner, entry.key), ABSENT)
+        is_above = entry.mark > self.marks.get(self.place(entry), ABSENT)
         return is_above and entry.generation >= self.generations.get(entry.owner, 0)
 
 
@@ -300,8 +297,7 @@ def apply(sent, table):
 
 # Exchanges, rounds and figures.
 
-@dataclass(frozen=True)
-class Record:
+class Record(NamedTuple):
     """What was sent in an exchange."""
     initiator: int
     responder: int
@@ -316,18 +312,17 @@ class Record:
 
 def exchange(scenario, p, q, round):
     """Carries out an exchange from p to q. Both deltas are taken from the tables as they were before it."""
-    digest = ScuttleDigest if scenario.mode.startswith("scuttle-") else PreciseDigest
     words = [word(scenario, p.number, round, place) for place in range(5)]
     lost = next((message for message in (1, 2, 3) if words[message] % 1000000 < scenario.loss_ppm), None)
     turn = words[4] % scenario.nodes if scenario.rotation == "random" else 0
-    told1, told2 = digest(p.table), digest(q.table)
+    told1, told2 = Digest(scenario, p.table), Digest(scenario, q.table)
     back, back_cut = delta(scenario, q, p, told1, turn)
     forth, forth_cut = delta(scenario, p, q, told2, turn)
-    record = Record(p.number, q.number, f"lost{lost}" if lost else "ok", told1.size)
+    record = Record(p.number, q.number, f"lost{lost}" if lost else "ok", len(told1.marks))
     if lost != 1:
-        record = replace(record, digest2=told2.size, back=back, back_cut=back_cut)
+        record = record._replace(digest2=len(told2.marks), back=back, back_cut=back_cut)
     if lost in (3, None):
-        record = replace(record, forth=forth, forth_cut=forth_cut)
+        record = record._replace(forth=forth, forth_cut=forth_cut)
         apply(back, p.table)
     if lost is None:
         apply(forth, q.table)
@@ -409,11 +404,8 @@ def made(path):
 
 def put(file, *values):
     if file:
-        try:
+        with named("the output" if file is sys.stdout else file.name):
             print(*values, sep=",", file=file)
-        except OSError as error:
-            error.filename = "the output" if file is sys.stdout else file.name
-            raise
 
 
 def put_record(trace, sent, round, index, it):
@@ -543,9 +535,8 @@ def main():
         place = error.filename or "the output"
         place = shown(place) if error.errno == errno.ENAMETOOLONG else place
         reason = "it is closed" if error.errno == errno.EBADF else error.strerror
-        status, why = 1, f"{NAME}: {place}: {reason}."
-        if isinstance(error, BrokenPipeError):
-            why = f"{NAME}: nobody reads {place} any more."
+        broken = isinstance(error, BrokenPipeError)
+        status, why = 1, f"{NAME}: {f'nobody reads {place} any more' if broken else f'{place}: {reason}'}."
     except SystemExit as ended:
         status = ended.code
     end(status, why)

@@ -38,14 +38,11 @@ USUAL_ROUNDS = 60
 # The most others that a node calls in an interval.
 MOST_CALLS = 16
 # What is asked of the wrong tool, or in another way.
-ELSEWHERE = {
-    **{name: f" For {name}= there is gossip_scenario, and gossip_sweep runs what that prints."
-       for name in ("rounds", "seed")},
-    **{name: f" For {name}= there is gossip_advise."
-       for name in ("shared", "interval", "restarts", "forget", "split", "hours", "target")},
-    **{name: " How many runs go at once is said in front of the call, as JOBS=2."
-       for name in ("--jobs", "-j", "jobs", "JOBS")},
-}
+ELSEWHERE = {name: f" {said}" for said, names in {
+    "For {}= there is gossip_scenario, and gossip_sweep runs what that prints.": ("rounds", "seed"),
+    "For {}= there is gossip_advise.": ("shared", "interval", "restarts", "forget", "split", "hours", "target"),
+    "How many runs go at once is said in front of the call, as JOBS=2.": ("--jobs", "-j", "jobs", "JOBS"),
+}.items() for name in names}
 NEEDED = ("nodes", "keys", "writes", "entry", "packet")
 # Names that are taken for others.
 ALIASES = {"delta": "packet"}
@@ -69,8 +66,8 @@ def instead(name, text):
         return (f"take writes={whole} and give {part.numerator} of {part.denominator} rounds writes = {whole + 1} by "
                 f"[[load]], or take writes={whole + 1}, which is on the safe side")
     if name in BYTES and unit:
-        power = 1 if unit[2] in "kK" else 2
-        return f"write {name}={int(unit[1]) * 1000**power}, or {name}={int(unit[1]) * 1024**power} where K is 1024"
+        thousands, kibi = (int(unit[1]) * it**(1 if unit[2] in "kK" else 2) for it in (1000, 1024))
+        return f"write {name}={thousands}, or {name}={kibi} where K is 1024"
     if name not in DECIMALS and (thousands := re.fullmatch("([0-9]+)[kK]", text)):
         return f"write {name}={int(thousands[1]) * 1000}"
     if name == "loss" and text.endswith("%"):
@@ -103,7 +100,7 @@ def told(words, usual, call, instead_of=None):
     def more(word, name):
         if name in names:
             return f" Write {word}=VALUE, without a space."
-        return ELSEWHERE.get(name, " See --help." if word.startswith("-") else "")
+        return ELSEWHERE.get(name, " See --help." if word.startswith("-") else "").format(name)
 
     values = values_of(words, names, more, ALIASES)
     for name in NEEDED:
@@ -111,11 +108,9 @@ def told(words, usual, call, instead_of=None):
             raise Refused(f"{name}= is missing; {call} is a whole call.")
     values = {**dict.fromkeys(NEEDED), **usual, **values}
     for name, text in values.items():
-        if text is None:
-            continue
         if name not in TEXTS:
-            values[name] = number_of(name, text)
-        elif text not in TEXTS[name]:
+            values[name] = None if text is None else number_of(name, text)
+        elif text not in (None, *TEXTS[name]):
             raise Refused(f"{name} is one of {', '.join(TEXTS[name])}.")
     return values
 
@@ -138,23 +133,16 @@ def is_too_large(nodes, keys):
 
 
 def check_size(it):
-    if not is_too_large(it["nodes"], it["keys"]):
-        limited("nodes", it["nodes"])
-        return
     why = f"nodes would be {it['nodes']}, and a scenario takes 2 to 4096"
     if it["nodes"] <= scenario.LIMITS["nodes"][1]:
         why = f"nodes * nodes * keys is above {scenario.MOST_TRIPLES}, the most that a scenario takes"
-    raise Refused(f"{why}: take nodes={it['nodes'] // 10} and packet={it['packet'] // 10}, a tenth of each, in "
-                  "scuttle-depth.")
+    refuse_if(is_too_large(it["nodes"], it["keys"]), f"{why}: take nodes={it['nodes'] // 10} and "
+              f"packet={it['packet'] // 10}, a tenth of each, in scuttle-depth.")
+    limited("nodes", it["nodes"])
 
 
 def check_fanout(fanout):
     refuse_if(not 1 <= fanout <= MOST_CALLS, f"a node calls 1 to {MOST_CALLS} peers in an interval, not {fanout}.")
-
-
-def room_for_delta(it, mode):
-    """The bytes that a digest of this mode leaves for a delta, which may be none or less."""
-    return it["packet"] - it["digest"] * scenario.digest_numbers(it["nodes"], it["keys"], mode)
 
 
 def without_writes(rounds, fanout):
@@ -193,15 +181,13 @@ def main(words):
     check_fanout(fanout)
     rounds = limited("rounds", USUAL_ROUNDS * fanout if it["rounds"] is None else int(it["rounds"]))
     seed, loads = limited("seed", it["seed"]), without_writes(rounds, fanout)
-    room = room_for_delta(it, it["mode"])
-    taken = it["packet"] - room
+    taken = it["digest"] * scenario.digest_numbers(it["nodes"], it["keys"], it["mode"])
+    room = it["packet"] - taken
     refuse_if(it["packet"] < it["entry"], f"the packet has {it['packet']} bytes, fewer than the {plain(it['entry'])} "
               "of an entry: give a larger packet, or a shorter entry.")
     refuse_if(room < it["entry"], f"the digest takes {taken} of the {it['packet']} bytes, which leaves no entry.")
-    count = it["count"] or ("bytes" if rules.counts_bytes(room / it["entry"]) else "entries")
-    in_bytes = count == "bytes"
+    in_bytes = it["count"] == "bytes" or not it["count"] and rules.counts_bytes(room / it["entry"])
     fields = scenario.top(it["nodes"], it["keys"], rounds, it["writes"], it["loss"] * 10000, room / it["entry"],
                           in_bytes, it["mode"], seed)
-    for line in remarks(it, room, in_bytes, loads):
-        print(f"# {line}")
-    print(scenario.written(fields) + loads, end="")
+    print(*(f"# {line}" for line in remarks(it, room, in_bytes, loads)), scenario.written(fields) + loads, sep="\n",
+          end="")

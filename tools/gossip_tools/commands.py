@@ -42,12 +42,11 @@ def shown(word):
 
 def number(text, what, least=0, most=None):
     """The whole number that a word has, from the least to the most, where there is a most."""
-    is_whole = re.fullmatch("[0-9]+", text)
-    if is_whole and len(text) > MOST_DIGITS:
-        raise Refused(f"{what} has at most {MOST_DIGITS} digits, which '{shown(text)}' hasn't.")
-    if not is_whole or int(text) < least or most is not None and int(text) > most:
-        bounds = f"from {least} on" if most is None else f"from {least} to {most}"
-        raise Refused(f"{what} is a whole number {bounds}, which '{shown(text)}' isn't.")
+    is_whole, bounds = re.fullmatch("[0-9]+", text), f"from {least} {'on' if most is None else f'to {most}'}"
+    refuse_if(is_whole and len(text) > MOST_DIGITS,
+              f"{what} has at most {MOST_DIGITS} digits, which '{shown(text)}' hasn't.")
+    refuse_if(not is_whole or int(text) < least or most is not None and int(text) > most,
+              f"{what} is a whole number {bounds}, which '{shown(text)}' isn't.")
     return int(text)
 
 
@@ -66,24 +65,20 @@ def the_program():
     beside = pathlib.Path(__file__).resolve().parent.parent
     named = os.environ.get("GOSSIP_BENCH")
     choices = [named] if named else [beside / "gossip_bench", beside.parent / "crates/gossip_bench/out/gossip_bench"]
-    for choice in choices:
-        if found := shutil.which(choice):
-            return os.path.abspath(found)
-    if named:
-        raise Refused(f"GOSSIP_BENCH names '{shown(named)}', which is no program that can be started.")
-    if (beside.parent / "crates").is_dir():
-        raise Refused(f"the program isn't built: {beside.parent / 'gossip_bench'} --help builds it.")
+    if found := next(filter(None, map(shutil.which, choices)), None):
+        return os.path.abspath(found)
+    refuse_if(named, f"GOSSIP_BENCH names '{shown(named or '')}', which is no program that can be started.")
+    refuse_if((beside.parent / "crates").is_dir(), f"the program isn't built: {beside.parent / 'gossip_bench'} --help "
+              "builds it.")
     raise Refused(f"the program isn't beside this tool, in {beside}: install both again, or name it in GOSSIP_BENCH.")
 
 
 def workers():
     """How many runs may go at once: JOBS, else as many as there are cores for this process."""
     told = os.environ.get("JOBS", "")
-    if told and not re.fullmatch("[1-9][0-9]{0,3}", told):
-        raise Refused(f"JOBS is a whole number from 1 to 9999, which '{shown(told)}' isn't.")
-    if told:
-        return int(told)
-    return len(os.sched_getaffinity(0)) if hasattr(os, "sched_getaffinity") else os.cpu_count() or 1
+    refuse_if(told and not re.fullmatch("[1-9][0-9]{0,3}", told),
+              f"JOBS is a whole number from 1 to 9999, which '{shown(told)}' isn't.")
+    return int(told or len(os.sched_getaffinity(0)))
 
 
 def drop_output():
@@ -99,20 +94,19 @@ def fault_of(error):
 
 
 def answer(name, main, tool):
-    words, status = sys.argv[1:], 0
+    words = sys.argv[1:]
     if "--help" in words or "-h" in words:
-        print(tool.help())
-    elif "--version" in words:
-        print(name, VERSION)
-    else:
-        status = main(words) or 0
-    sys.stdout.flush()
-    return status
+        return print(tool.help())
+    if "--version" in words:
+        return print(name, VERSION)
+    return main(words)
 
 
 def run(name, main, tool):
     try:
-        return answer(name, main, tool)
+        status = answer(name, main, tool) or 0
+        sys.stdout.flush()
+        return status
     except Refused as refused:
         why, status = str(refused), refused.status
     except Stopped as stopped:

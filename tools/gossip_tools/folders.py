@@ -9,7 +9,7 @@ import contextlib
 import os
 
 from gossip_tools import files, read
-from gossip_tools.commands import Refused, refuse_if
+from gossip_tools.commands import refuse_if
 
 
 def fields_of(name):
@@ -22,10 +22,8 @@ class Folder:
 
     def __init__(self, path, scenario, runs, program):
         self.path, self.scenario, self.runs, self.program = path, scenario, runs, f"{program}\n"
-        self.lengths, self.changed = {}, set()
-        for name, text in runs.items():
-            top = read.settings(text)
-            self.lengths[name] = top["format"], top["rounds"]
+        tops, self.changed = {name: read.settings(text) for name, text in runs.items()}, set()
+        self.lengths = {name: (it["format"], it["rounds"]) for name, it in tops.items()}
 
     @contextlib.contextmanager
     def held(self):
@@ -42,22 +40,20 @@ class Folder:
         if not self.path.exists():
             return
         refuse_if(not self.path.is_dir(), f"{self.path} isn't a folder: name another one.")
-        names = {it.name for it in self.path.iterdir()}
+        names, wanted = {it.name for it in self.path.iterdir()}, {fields_of(name) for name in self.runs}
         if "scenario" in names:
-            if (self.path / "scenario").read_bytes() != self.scenario.encode():
-                raise Refused(f"{self.path} has runs of another scenario: name a new folder by -o.")
-        elif {it for it in names if not it.startswith(".scenario.")} - {"lock"}:
-            raise Refused(f"{self.path} isn't empty and has no runs: name a new folder by -o.")
-        wanted = {fields_of(name) for name in self.runs}
-        for it in sorted(names):
-            name, dot, ending = it.rpartition(".")
-            if dot and ending in ("toml", "csv", "sum") and "-" in name and fields_of(name) not in wanted:
-                others = ", ".join(fields_of(name))
-                raise Refused(f"{self.path} has runs of the fields {others}: take these, in this order, or a new "
-                              "folder.")
+            refuse_if((self.path / "scenario").read_bytes() != self.scenario.encode(),
+                      f"{self.path} has runs of another scenario: name a new folder by -o.")
+        else:
+            refuse_if({it for it in names if not it.startswith(".scenario.")} - {"lock"},
+                      f"{self.path} isn't empty and has no runs: name a new folder by -o.")
+        for name, dot, ending in (it.rpartition(".") for it in sorted(names)):
+            refuse_if(dot and ending in ("toml", "csv", "sum") and "-" in name and fields_of(name) not in wanted,
+                      f"{self.path} has runs of the fields {', '.join(fields_of(name))}: take these, in this order, or "
+                      "a new folder.")
         is_known = "program" in names and self.has_reports()
-        if is_known and (self.path / "program").read_bytes() != self.program.encode():
-            raise Refused(f"{self.path} has reports of another program: name a new folder by -o.")
+        refuse_if(is_known and (self.path / "program").read_bytes() != self.program.encode(),
+                  f"{self.path} has reports of another program: name a new folder by -o.")
 
     def has_reports(self):
         return any(self.path.glob("*.csv"))
@@ -66,10 +62,9 @@ class Folder:
         """Sentences on what doesn't show of the reports: which program made them, and that they are as it made them."""
         if not self.has_reports() or (self.path / "program").exists():
             return []
-        without = sum(read.is_without_sum(it) for it in self.path.glob("*.csv"))
-        sentence = f"{self.path} lacks the file program, which says what made its reports: they are taken as made by " \
-                   "this program."
-        return [sentence, read.told_without_sum(without, self.path)] if without else [sentence]
+        without = sum(map(read.is_without_sum, self.path.glob("*.csv")))
+        return [f"{self.path} lacks the file program, which says what made its reports: they are taken as made by this "
+                "program.", *([read.told_without_sum(without, self.path)] if without else [])]
 
     def fill(self):
         """Fixes the scenario and those of the runs, and drops what ended sweeps have left half-written."""
@@ -94,7 +89,6 @@ class Folder:
         return "its scenario was another" if name in self.changed else ""
 
     def part(self, name):
-        """Where a run of this process writes."""
         return files.part_of(self.path / f"{name}.csv")
 
     def keep(self, name):

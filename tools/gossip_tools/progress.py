@@ -4,10 +4,8 @@ import statistics
 import sys
 import time
 
-# So many runs that ended last tell what share of a processor a run has now.
-LAST = 8
-# The least time that is told apart, in seconds.
-LEAST = 0.001
+LAST = 8  # runs that ended tell what share of a processor a run has now
+LEAST = 0.001  # seconds are told apart
 
 
 class Progress:
@@ -20,15 +18,12 @@ class Progress:
     """
 
     def __init__(self, work=()):
-        self.work, self.over = dict(work), set()
-        self.shown = sys.stderr.isatty()
+        self.work, self.over, self.shown = dict(work), set(), sys.stderr.isatty()
         self.what, self.total, self.count, self.at_once = "", 0, 0, 1
-        self.done_work, self.processor = 0, 0.0
-        self.shares = collections.deque(maxlen=LAST)
+        self.done_work, self.processor, self.shares = 0, 0.0, collections.deque(maxlen=LAST)
         self.since = time.monotonic()
 
     def plan(self, work):
-        """What is still to be made, besides what is over."""
         self.work = {name: it for name, it in work.items() if name not in self.over}
 
     def begin(self, what, to_do, there, at_once=1):
@@ -40,7 +35,6 @@ class Progress:
         self.show()
 
     def drop(self, name):
-        """The work of a run that is over."""
         self.over.add(f"{self.what}/{name}")
         return self.work.pop(f"{self.what}/{name}", 0)
 
@@ -79,6 +73,5 @@ class Progress:
 def in_words(seconds):
     if seconds is None:
         return "no end known yet"
-    if seconds < 100:
-        return f"some {seconds:.0f} s left"
-    return f"some {seconds / 60:.0f} min left" if seconds < 6000 else f"some {seconds / 3600:.0f} h left"
+    unit, length = ("s", 1) if seconds < 100 else ("min", 60) if seconds < 6000 else ("h", 3600)
+    return f"some {seconds / length:.0f} {unit} left"

@@ -114,19 +114,17 @@ class Runs:
                 self.without_sum += is_without_sum(file.with_suffix(".csv"))
             except NotWhole as why:
                 self.missing[file.stem] = str(why)
-        if not self.fields:
-            others = sorted({it.parent.name for it in folder.glob("*/*-*.toml")})
-            below = f", but in its {', '.join(others)}" if others else ""
-            if not folder.is_dir():
-                below = ", which isn't a folder" if folder.exists() else ", which isn't there"
-            raise Refused(f"there are no runs in {folder}{below}.")
+        others = "" if self.fields else ", ".join(sorted({it.parent.name for it in folder.glob("*/*-*.toml")}))
+        below = f", but in its {others}" if others else ""
+        if not folder.is_dir():
+            below = ", which isn't a folder" if folder.exists() else ", which isn't there"
+        refuse_if(not self.fields, f"there are no runs in {folder}{below}.")
 
     def what_is_missing(self):
-        """A sentence on the runs that have no whole report."""
-        some = [f"{name} ({why})" for name, why in list(self.missing.items())[:5]]
-        more = [f"{len(self.missing) - 5} more"] if len(self.missing) > 5 else []
+        said = [f"{name} ({why})" for name, why in self.missing.items()]
+        said[5:] = [f"{len(said) - 5} more"] if len(said) > 5 else []
         runs = len(self.missing) + len(self.rows)
-        return f"{len(self.missing)} of {runs} runs are missing: {', '.join(some + more)}."
+        return f"{len(self.missing)} of {runs} runs are missing: {', '.join(said)}."
 
 
 def told_without_sum(count, folder):
@@ -152,12 +150,9 @@ def between(rows, first, last):
 
 def window(rows, first, last):
     rows = between(rows, first, last)
-    found = {"percent_cut": f"{percent_cut(rows):.2f}"}
-    for name in ("greatest", "stale", "leftover"):
-        if name in rows[0]:
-            found[f"{name}_least"] = min(row[name] for row in rows)
-            found[f"{name}_most"] = max(row[name] for row in rows)
-    return found
+    return {"percent_cut": f"{percent_cut(rows):.2f}"} | {
+        f"{name}_{which}": of(row[name] for row in rows) for name in ("greatest", "stale", "leftover")
+        if name in rows[0] for which, of in (("least", min), ("most", max))}
 
 
 def first_at_most(name, rows, first, most):
@@ -197,14 +192,12 @@ def figures(runs, folder, what, first, second):
     found, last = {}, second if what == "window" else first
     for values in sorted(runs.rows, key=place):
         rows = runs.rows[values]
-        if not 1 <= first <= last <= len(rows):
-            raise Refused(f"the rounds {first} to {last} aren't in all runs: one has {len(rows)}.")
-        if what == "window":
-            found[values] = window(rows, first, last)
-        elif what == "leftover" and what not in rows[0]:
-            raise Refused(f"the runs in {folder} are of format 1, which has no column leftover.")
-        else:
-            found[values] = level("greatest" if what == "level" else what, rows, first, second)
+        refuse_if(not 1 <= first <= last <= len(rows),
+                  f"the rounds {first} to {last} aren't in all runs: one has {len(rows)}.")
+        refuse_if(what == "leftover" and what not in rows[0],
+                  f"the runs in {folder} are of format 1, which has no column leftover.")
+        found[values] = window(rows, first, last) if what == "window" else \
+            level("greatest" if what == "level" else what, rows, first, second)
     return found
 
 
@@ -214,8 +207,8 @@ def main(words):
     is_named = "-o" in words
     folder, words = folder_of(words, "runs")
     for word in words:
-        if re.match("-[^0-9]", word):
-            raise Refused(f"'{shown(word)}' is no option: there are -o FOLDER, --seeds and --partial.")
+        refuse_if(re.match("-[^0-9]", word),
+                  f"'{shown(word)}' is no option: there are -o FOLDER, --seeds and --partial.")
     if len(words) == 4 and not is_named:
         folder, words = pathlib.Path(words[3]), words[:3]
     if len(words) != 3 or words[0] not in ("window", "level", "leftover"):
@@ -224,9 +217,9 @@ def main(words):
     second = number(words[2], "TO", 1) if what == "window" else number(words[2], "LEVEL")
     runs = Runs(folder)
     refuse_if(seeds and "seed" not in runs.fields, f"the runs in {folder} have no field seed of their own.")
+    refuse_if(runs.missing and not (partial and runs.rows),
+              f"{runs.what_is_missing()} The same sweep makes them; --partial goes on without them.")
     if runs.missing:
-        if not partial or not runs.rows:
-            raise Refused(f"{runs.what_is_missing()} The same sweep makes them; --partial goes on without them.")
         print(f"gossip_read: {runs.what_is_missing()}", file=sys.stderr)
     if runs.without_sum:
         print(f"gossip_read: {told_without_sum(runs.without_sum, folder)}", file=sys.stderr)

@@ -38,10 +38,8 @@ def budget_field(entries, in_bytes):
 
 def written(fields):
     """Lines of a scenario, in the order in which the fields are given."""
-    def value(it):
-        return f'"{it}"' if isinstance(it, str) else str(it).lower()
-
-    return "".join(f"{name} = {value(it)}\n" for name, it in fields.items())
+    values = {name: f'"{it}"' if isinstance(it, str) else str(it).lower() for name, it in fields.items()}
+    return "".join(f"{name} = {it}\n" for name, it in values.items())
 
 
 def sections(array, elements):
@@ -71,20 +69,15 @@ def read(file, what="the scenario"):
 
 def set_field(text, field, value):
     """The scenario with another value in the one line that the field has above all sections."""
-    lines, found = text.splitlines(keepends=True), []
-    for at, line in enumerate(lines):
-        if re.match(r"[ \t]*\[", line):
-            break
-        if given := re.match(rf"[ \t]*{re.escape(field)}[ \t]*=[ \t]*([\"']?)", line):
-            found.append((at, '"' if given[1] else ""))
     refuse_if(not text.strip(), "the scenario is empty: it comes by standard input, as < SCENARIO.")
-    if len(found) != 1:
-        those = f"{len(found)} lines of the scenario above all sections set" if found else \
-            "no line of the scenario above all sections sets"
-        raise Refused(f"{those} the field {shown(field)}, where one has to.")
-    (at, quote), = found
-    lines[at] = f"{field} = {quote}{value}{quote}\n"
-    return "".join(lines)
+    begins = re.search(r"^[ \t]*\[|\Z", text, re.MULTILINE).start()
+    line = re.compile(rf"^[ \t]*{re.escape(field)}[ \t]*=[ \t]*([\"']?).*\n?", re.MULTILINE)
+    quotes = line.findall(text, 0, begins)
+    those = f"{len(quotes)} lines of the scenario above all sections set" if quotes else \
+        "no line of the scenario above all sections sets"
+    refuse_if(len(quotes) != 1, f"{those} the field {shown(field)}, where one has to.")
+    quote = '"' if quotes[0] else ""
+    return line.sub(lambda _: f"{field} = {quote}{value}{quote}\n", text, 1)
 
 
 def restarts(nodes, each, first_round, last_round, down, forget=False, first=0, every=1):

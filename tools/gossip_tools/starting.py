@@ -63,9 +63,16 @@ def tool_of(name):
     return [getattr(importlib.import_module(f"gossip_tools.{module}"), it) for it in names]
 
 
-def start(name):
-    """Ends the process with the status of a tool."""
-    interrupt = _signal.getsignal(_signal.SIGINT)
+def name_of(path):
+    """The tool that a file is by its name, or by that of what it is a link to."""
+    while (name := os.path.basename(path)) not in TOOLS:
+        path = os.path.join(os.path.dirname(path), os.readlink(path))
+    return name
+
+
+def start():
+    """Ends the process with the status of the tool that was called."""
+    interrupt, name = _signal.getsignal(_signal.SIGINT), name_of(sys.argv[0])
     end_at_signals()
     fill_closed_streams()
     commands = importlib.import_module("gossip_tools.commands")

@@ -1,40 +1,148 @@
-"""What a live cluster is to do, how its figures are counted, and how they stand beside the bench: by hand."""
+"""What a live cluster is to do, what its nodes make of datagrams that come late, twice or in another order, and how its
+figures stand beside the bench: by hand. That nodes send, hold and count what the bench does is tried in scripts/."""
+import random
 import unittest
 from types import SimpleNamespace
 
-from gossip_tools import live, live_beside, live_figures, scenario
-from gossip_tools.live_node import Entry
-from given import outcome
-from test_live_node import mark, plan
+from gossip_tools import live, live_beside, live_figures, live_node, scenario
+from gossip_tools.live_node import Entry, Kind, Message, Node
+from gossip_tools.live_plan import Plan
+from gossip_tools.scenario import MODES
+from given import outcome, table
+
+
+def plan(**fields):
+    usual = {"format": 1, "nodes": 4, "keys": 2, "rounds": 9, "mode": "scuttle-breadth", "budget": 9, "peers": "ring",
+             "rotation": "none", "choice": "cycle", "loss_ppm": 0, "writes": 1, "partition": [], "restart": [],
+             "load": [], "interval": 1, "latency": (0, 0), "fanout": 1}
+    return Plan(**{**usual, **fields})
+
+
+def mark(generation, version):
+    return generation * 2**32 + version
+
+
+class Cluster:
+    """Nodes and the datagrams that are under way between them, as (receiver, datagram)."""
+
+    def __init__(self, **fields):
+        rules = plan(**fields)
+        self.under_way = []
+        self.nodes = [Node(it, rules, lambda *what: self.under_way.append(what)) for it in range(rules.nodes)]
+
+    def bring(self, at=0):
+        receiver, datagram = self.under_way.pop(at)
+        self.nodes[receiver].receive(datagram)
+
+    def exchange(self, initiator, responder):
+        self.nodes[initiator].begin(responder)
+        for _ in range(3):
+            self.bring()
+
+    def do_anything(self, drawn, round):
+        node, what = drawn.choice(self.nodes), drawn.random()
+        if what < 0.15:
+            node.write(round)
+        elif what < 0.35:
+            node.begin(drawn.choice([it.number for it in self.nodes if it is not node]))
+        elif what < 0.38:
+            node.restart(forgets=drawn.random() < 0.3)
+        elif self.under_way:
+            # (any datagram that is under way comes, and one of ten stays under way too)
+            at = drawn.randrange(len(self.under_way))
+            if drawn.random() < 0.1:
+                self.under_way.append(self.under_way[at])
+            self.bring(at)
+
+
+class Datagrams(unittest.TestCase):
+    message = Message(Kind.ANSWER, 5, 1, 7, {3: {0: mark(1, 9)}}, [Entry(4, 2, mark(0, 6), 1003, 8)])
+    # (a line each for the head, a number of the digest, an entry)
+    datagram = bytes.fromhex("02 0005 00000001 00000007 00000001 00000001"
+                             "0003 0000 00000001 00000009"
+                             "0004 0002 00000000 00000006 000003eb 00000008 00000003 000000")
+
+    def test_bytes(self):
+        self.assertEqual(self.datagram, live_node.encoded(self.message, lambda it: it.value % 1000))
+        self.assertEqual(self.message, live_node.decoded(self.datagram))
+
+    def test_entries_have_the_bytes_of_the_bench(self):
+        for form, value, wanted in ((1, 999, 24), (2, 0, 24), (2, 999, 1023), (2, 1003, 27)):
+            entry = Entry(1, 0, mark(0, 3), value, 2)
+            none, one = (live_node.encoded(self.message._replace(delta=it), plan(format=form).padding)
+                         for it in ([], [entry]))
+            self.assertEqual(wanted, len(one) - len(none))
+
+
+class Order(unittest.TestCase):
+    """Datagrams that come late, in another order, twice, or after a restart."""
+
+    def test_an_older_delta_lowers_nothing(self):
+        """Node 0 is told version 1 of node 1 and then version 2, by deltas that come the other way round."""
+        for mode in MODES:
+            cluster = Cluster(nodes=2, keys=1, mode=mode)
+            for _ in range(2):
+                cluster.nodes[1].write(1)
+                cluster.nodes[0].begin(1)
+                # (the digest comes, and the answers stay under way)
+                cluster.bring(-1)
+            for answer in (1, 0):
+                cluster.bring(answer)
+                self.assertEqual(2, cluster.nodes[0].table[1][0].mark, mode)
+
+    def test_a_delta_for_an_earlier_life_is_dropped(self):
+        """Node 0 tells that it holds version 1 of node 1, restarts, and then gets version 2, to which 1 belongs."""
+        for mode in MODES:
+            cluster = Cluster(nodes=2, mode=mode)
+            cluster.nodes[1].write(1)
+            cluster.exchange(0, 1)
+            cluster.nodes[1].write(2)
+            cluster.nodes[0].begin(1)
+            cluster.bring()
+            cluster.nodes[0].restart(forgets=False)
+            cluster.bring()
+            self.assertEqual({}, cluster.nodes[0].table, mode)
+            cluster.exchange(0, 1)
+            self.assertEqual({0: 1, 1: 2}, {it.key: it.mark for it in cluster.nodes[0].table[1].values()}, mode)
+
+    def test_no_gap(self):
+        """In a scuttle mode a node has all of an owner's own entries up to the greatest mark that it holds of it."""
+        for seed in range(20):
+            drawn = random.Random(seed)
+            cluster = Cluster(nodes=5, keys=3, budget=4, mode=drawn.choice(MODES[:2]), choice="random",
+                              rotation="random")
+            for round in range(300):
+                cluster.do_anything(drawn, round)
+                self.assertEqual([], gaps(cluster.nodes), (seed, round))
+
+
+def gaps(nodes):
+    """What a copy lacks of its owner below the greatest mark that it has, where that is of the owner's generation."""
+    found = []
+    for holder in nodes:
+        for owner, part in holder.table.items():
+            greatest = max(it.mark for it in part.values())
+            own = nodes[owner].table.get(owner, {}) if greatest >> 32 == nodes[owner].generation else {}
+            found += [(holder.number, it) for it in own.values() if it.mark <= greatest and part.get(it.key) != it]
+    return found
 
 
 class Plans(unittest.TestCase):
-    def test_ring(self):
-        """Of four nodes node 2 calls 3, 0, 1, 3 .., and with a fanout of 2 first 3 and 0, then 1 and 3."""
-        self.assertEqual([[3], [0], [1], [3]], [plan().peers_of(2, it) for it in (1, 2, 3, 4)])
-        self.assertEqual([[3, 0], [1, 3]], [plan(fanout=2).peers_of(2, it) for it in (1, 2)])
+    # Of four nodes node 2 calls 3, 0, 1, 3 .., and with a fanout of 2 first 3 and 0, then 1 and 3; or all others.
+    test_peers = table(lambda fanout, round: plan(fanout=fanout).peers_of(2, round), {
+        (1, 1): [3], (1, 2): [0], (1, 3): [1], (1, 4): [3], (2, 1): [3, 0], (2, 2): [1, 3]})
+    test_random_peers = table(lambda fanout: sorted(plan(peers="random", fanout=fanout).peers_of(2, 1)), {3: [0, 1, 3]})
 
-    def test_random_peers(self):
-        found = plan(peers="random", fanout=3).peers_of(2, 1)
-        self.assertEqual([0, 1, 3], sorted(found))
+    # Two nodes are separated where one alone is listed.
+    test_separated = table(plan(partition=[{"from": 2, "to": 3, "apart": [0, 1]}]).are_separated, {
+        (1, 2, 1): False, (1, 2, 2): True, (1, 2, 3): True, (1, 2, 4): False, (0, 1, 2): False, (2, 3, 2): False})
 
-    def test_mishaps(self):
-        """A node is down from the round of a restart on, two nodes are separated where one alone is listed."""
-        it = plan(restart=[{"node": 1, "round": 3, "down": 2}], partition=[{"from": 2, "to": 3, "apart": [0, 1]}],
-                  load=[{"from": 2, "to": 4, "writes": 3}, {"from": 4, "to": 5, "writes": 0}])
-        self.assertEqual([False, False, True, True, False], [it.is_down(1, round) for round in range(1, 6)])
-        self.assertEqual([False, True, True, False], [it.are_separated(1, 2, round) for round in range(1, 5)])
-        self.assertEqual([1, 3, 3, 0, 0, 1], [it.writes_in(round) for round in range(1, 7)])
-        self.assertEqual((False, False), (it.are_separated(0, 1, 2), it.are_separated(2, 3, 2)))
-
-    def test_largest_message(self):
-        """19 bytes, 12 for each number of the digest, and the delta: no more than what can be lacking."""
-        cases = {
-            19 + 4 * 12 + 5 * 24: plan(budget=5), 19 + 4 * 12 + 6 * 24: plan(budget=7),
-            19 + 8 * 12 + 5 * 24: plan(budget=5, mode="precise-oldest"),
-            19 + 4 * 12 + 5000: plan(budget=5000, format=2), 19 + 4 * 12 + 6 * 1023: plan(budget=9999, format=2),
-        }
-        self.assertEqual(list(cases), [it.largest_message() for it in cases.values()])
+    # 19 bytes, 12 for each number of the digest, and the delta: no more than what can be lacking.
+    test_largest_message = table(lambda form, budget, mode: plan(
+        format=form, budget=budget, mode=mode).largest_message(), {
+            (1, 5, "scuttle-depth"): 19 + 4 * 12 + 5 * 24, (1, 7, "scuttle-depth"): 19 + 4 * 12 + 6 * 24,
+            (1, 5, "precise-oldest"): 19 + 8 * 12 + 5 * 24, (2, 5000, "scuttle-depth"): 19 + 4 * 12 + 5000,
+            (2, 9999, "scuttle-depth"): 19 + 4 * 12 + 6 * 1023})
 
     def test_too_large(self):
         """2000 nodes have a digest of 24000 bytes and may lack 1999 entries of 24 bytes."""
@@ -45,56 +153,18 @@ class Plans(unittest.TestCase):
         self.assertIn("1999 others", outcome(live.plan_of, text, {**asked, "fanout": 2000}))
 
 
-def told(writes=(), generations=None, marks=None, **counts):
-    usual = dict.fromkeys(("entries", "cut", "timers", "late", "lag"), 0)
-    return SimpleNamespace(writes=writes, generations=generations or {0: 0, 1: 0}, marks=marks, **{**usual, **counts})
+def is_worthless(timers, late, sent, received):
+    figures = live_figures.Figures(plan(nodes=2, keys=1))
+    figures.row(1, [SimpleNamespace(writes=(), generations={0: 0, 1: 0}, marks={0: [0, 0], 1: [0, 0]}, timers=timers,
+                                    late=late, entries=0, cut=0, lag=0)])
+    figures.end([(sent, 0), (0, received)])
+    return figures.is_worthless()
 
 
 class Figures(unittest.TestCase):
-    two = plan(nodes=2, keys=1)
-
-    def test_age_from_the_first_write_missed(self):
-        """Of the writes of the rounds 1 to 3 the copy holds the first: the second is missing for 2 rounds."""
-        writes = [Entry(1, 0, mark(0, it), 0, it) for it in (1, 2, 3)]
-        row = live_figures.Figures(self.two).row(3, [told(writes, marks={0: [0, 1], 1: [0, 3]})])
-        self.assertEqual((1, 2, 0), (row["stale"], row["greatest"], row["leftover"]))
-
-    def test_the_oldest_copy_counts(self):
-        """At the end of round 3 node 0 misses the write of round 3 alone, and node 1 that of round 2 too."""
-        writes = [Entry(2, 0, mark(0, it), 0, it) for it in (1, 2, 3)]
-        parts = [told(writes, {0: 0, 1: 0, 2: 0}, {0: [0, 0, 2], 2: [0, 0, 3]}), told(marks={1: [0, 0, 1]})]
-        row = live_figures.Figures(plan(nodes=3, keys=1)).row(3, parts)
-        self.assertEqual((2, 2), (row["stale"], row["greatest"]))
-
-    def test_a_node_forgets(self):
-        """As in "worked rounds: a node forgets": node 0 keeps what node 1 has forgotten, which lacks its copy. But node
-        1 has written twice, and its second write never comes to node 0."""
-        figures = live_figures.Figures(self.two)
-        writes = [Entry(0, 0, mark(0, 1), 0, 1), Entry(1, 0, mark(0, 1), 0, 1), Entry(1, 0, mark(0, 2), 0, 1)]
-        figures.row(1, [told(writes, marks={0: [1, 1], 1: [1, 2]})])
-        row = figures.row(2, [told((), {0: 0, 1: 1}, {0: [1, 1], 1: [0, 0]})])
-        self.assertEqual((1, 2, 1), (row["stale"], row["greatest"], row["leftover"]))
-        # (its next write is of another generation, and node 0 misses it since round 3, not since round 1)
-        row = figures.row(4, [told([Entry(1, 0, mark(1, 1), 0, 3)], {0: 0, 1: 1}, {0: [1, 1], 1: [1, mark(1, 1)]})])
-        self.assertEqual((1, 2, 1), (row["stale"], row["greatest"], row["leftover"]))
-
-    def test_counts_are_of_one_round(self):
-        figures, nothing = live_figures.Figures(self.two), {0: [0, 0], 1: [0, 0]}
-        figures.row(1, [told(marks=nothing, entries=5, cut=1), told(marks={}, entries=2, cut=0)])
-        row = figures.row(2, [told(marks=nothing, entries=9, cut=1), told(marks={}, entries=3, cut=4)])
-        self.assertEqual((5, 4), (row["entries"], row["cut"]))
-
-    def test_worthless(self):
-        """More than one timer in 20 was late, or more than one datagram in 1000 didn't come."""
-        cases = {(100, 5, 1000, 999): False, (100, 6, 1000, 999): True, (100, 5, 1000, 998): True,
-                 (100, 0, 10, 11): False}
-        found = {}
-        for timers, late, sent, received in cases:
-            figures = live_figures.Figures(self.two)
-            figures.row(1, [told(marks={0: [0, 0], 1: [0, 0]}, timers=timers, late=late)])
-            figures.end([(sent, 0), (0, received)])
-            found[timers, late, sent, received] = figures.is_worthless()
-        self.assertEqual(cases, found)
+    # More than one timer in 20 was late, or more than one datagram in 1000 didn't come.
+    test_worthless = table(is_worthless, {
+        (100, 5, 1000, 999): False, (100, 6, 1000, 999): True, (100, 5, 1000, 998): True, (100, 0, 10, 11): False})
 
 
 class Beside(unittest.TestCase):

@@ -5,15 +5,10 @@ from fractions import Fraction
 
 from gossip_tools import cluster, scenario
 from gossip_tools.commands import Refused
-from given import BREADTH, DEPTH, NEWEST, OLDEST, outcome, table
+from given import outcome, table
 
 
 class Budgets(unittest.TestCase):
-    # 64000 bytes less 1000 numbers of 20 bytes leave 44000; precise digests have one for each of 4 keys.
-    PACKET = {"nodes": Fraction(1000), "keys": Fraction(4), "packet": Fraction(64000), "digest": Fraction(20)}
-    test_room_of_a_packet = table(lambda mode: cluster.room_for_delta(Budgets.PACKET, mode), {
-        DEPTH: 44000, BREADTH: 44000, OLDEST: -16000, NEWEST: -16000})
-
     # Five entries of the mean size are 2617.5 bytes.
     test_fields = table(scenario.budget_field, {
         (Fraction(5), True): ("budget_bytes", 2617), (Fraction("5.9"), False): ("budget", 5)})

@@ -13,9 +13,9 @@ Pictures need gnuplot, and a sweep over several machines GNU parallel.
   advise     from a cluster to a mode and a budget, over `study`, what is run, `choice`, what that chooses, `answer`,
              `healing` and `measures`, what is said of it, and `target`
   page       the page that has it all, over `plots`, its pictures
-  live       a scenario as a live cluster, over `live_plan`, what is to happen, `live_cluster`, its processes, each a
-             `live_worker` with some nodes, `live_node`, what a node sends, `live_figures`, what all of them hold, and
-             `live_beside`, what the bench says
+  live       a scenario as a live cluster, beside what the bench says, over `live_plan`, what is to happen,
+             `live_worker`, processes with some nodes each, `live_node`, what a node sends, and `live_figures`, what all
+             of them hold
 """
 import sys
 

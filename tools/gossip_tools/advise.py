@@ -94,7 +94,6 @@ def numbers_of(words, file):
 
 
 def as_text(value):
-    """A number or a name as it stands in cluster.toml."""
     if not isinstance(value, Fraction):
         return value
     return int(value) if value.denominator == 1 else cluster.plain(value)
@@ -112,8 +111,6 @@ def keep(folder, told, kept, program):
 
 
 class Stages:
-    """The stages of a study, carried out one after another."""
-
     def __init__(self, it, folder, program):
         self.study, self.folder, self.program, self.progress = it, folder, program, Progress()
         # (the budgets and modes that were run, each with its seeds, by stage)

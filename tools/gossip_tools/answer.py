@@ -63,8 +63,6 @@ class Bound:
 
 
 class Decision(Choice):
-    """What is chosen, in words."""
-
     why_empty = "smaller budgets are run with the chosen mode, down to the first that is worse, for the last answer"
 
     def times(self):

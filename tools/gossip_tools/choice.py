@@ -90,7 +90,6 @@ class Choice:
         return [it for it in self.figures if it != self.mode and rules.are_close(self.figures[it], self.worst)]
 
     def knee_suffices(self):
-        """Whether nodes * writes entries, where they were run, are enough."""
         return self.is_enough(self.study.knee, self.mode)
 
     def of_knee(self):
@@ -108,7 +107,6 @@ class Choice:
         return self.bound.worst if self.bound else self.worst
 
     def most_rounds(self):
-        """The most rounds to reckon with, for the whole cluster."""
         return rules.reckoned(self.bounded()) if self.study.parts > 1 else max(self.bounded())
 
     def heals(self):

@@ -128,7 +128,6 @@ def check_limits(it):
 
 
 def is_too_large(nodes, keys):
-    """Whether a scenario doesn't take so many nodes with so many keys."""
     return nodes > scenario.LIMITS["nodes"][1] or nodes**2 * keys > scenario.MOST_TRIPLES
 
 
@@ -154,7 +153,6 @@ def without_writes(rounds, fanout):
 
 
 def remarks(it, room, in_bytes, loads):
-    """What the scenario stands for, and what it leaves out."""
     entry, fanout = plain(it["entry"]), int(it["fanout"])
     yield f"{room} bytes for a delta are {float(room / it['entry']):.6g} entries of {entry} bytes."
     if it["digest"]:

@@ -87,7 +87,6 @@ def drop_output():
 
 
 def fault_of(error):
-    """What a call of the system failed on, and why, in a sentence."""
     place = str(error.filename or "the output")
     place = shown(place) if error.errno == errno.ENAMETOOLONG else place
     return f"{place}: {'it is closed' if error.errno == errno.EBADF else error.strerror}."

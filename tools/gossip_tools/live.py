@@ -1,9 +1,11 @@
 """A scenario as a live cluster; the tool gossip_live."""
 import itertools
 import re
+import statistics
+import subprocess
 import sys
 
-from gossip_tools import live_beside, live_worker, read, running, sweep
+from gossip_tools import cluster, live_worker, read, running, scenario, sweep
 from gossip_tools.commands import Refused, number, refuse_if, shown, the_program
 from gossip_tools.live_figures import Figures
 from gossip_tools.live_plan import LARGEST, Plan
@@ -69,6 +71,65 @@ def plan_of(text, asked):
     return plan
 
 
+def stretched(top, fanout):
+    """The text of a scenario in which each interval is as many rounds as a node has calls. Writes are in the first."""
+    refuse_if((loads := len(top.get("load", [])) + top["rounds"]) > scenario.MOST_SECTIONS, "beside the bench a fanout "
+              f"needs {loads} loads, and a scenario takes {scenario.MOST_SECTIONS}: take fewer rounds.")
+
+    def stretch(fields):
+        """What begins does so in the first round of an interval, and what ends in the last."""
+        return {name: (it - 1) * fanout + 1 if name in ("from", "round") else it * fanout
+                if name in ("to", "down", "rounds") else it for name, it in fields.items()}
+
+    arrays = {name: top.get(name, []) for name in ("partition", "restart", "load")}
+    text = scenario.written(stretch({name: it for name, it in top.items() if name not in arrays}))
+    text += "".join(scenario.sections(array, map(stretch, elements)) for array, elements in arrays.items())
+    return text + cluster.without_writes(top["rounds"] * fanout, fanout)
+
+
+def intervals(rows, fanout):
+    found = []
+    for number, (*others, last) in enumerate(zip(*[iter(rows)] * fanout), 1):
+        sums = {name: sum(it[name] for it in (*others, last)) for name in ("entries", "cut")}
+        found.append({**last, **sums, "round": number, "greatest": last["greatest"] // fanout})
+    return found
+
+
+def scenarios(text, fanout, seeds):
+    if fanout > 1:
+        text = stretched(read.settings(text), fanout)
+    return {f"the scenario under seed {seed}": scenario.set_field(text, "seed", seed) for seed in range(1, seeds + 1)}
+
+
+def reports(runs, program, fanout):
+    found = []
+    for name, text in runs.items():
+        top = read.settings(text)
+        answer = subprocess.run([program, "run"], input=text.encode(), capture_output=True)
+        refuse_if(answer.returncode, f"{name}: the program ended with status {answer.returncode}: "
+                  f"{answer.stderr.decode(errors='replace').strip()}", 1)
+        try:
+            rows = read.rows_of(answer.stdout, top["format"], top["rounds"])
+        except read.NotWhole as lacks:
+            raise Refused(f"{name}: the program printed no whole report: {lacks}.", 1) from None
+        found.append(intervals(rows, fanout))
+    return found
+
+
+def window(columns, rows):
+    """What some intervals have: the mean of each column, with a decimal for an age, and the most of `greatest`."""
+    means = {name: f"{statistics.fmean(it[name] for it in rows):.{int(name == 'greatest')}f}" for name in columns}
+    return {**means, "greatest_most": max(it["greatest"] for it in rows)}
+
+
+def side_by_side(columns, live, benches):
+    """The row of some intervals: of each column what the live cluster has, and the least and most of the bench."""
+    first, last = live[0]["round"], live[-1]["round"]
+    found = window(columns, live)
+    others = [window(columns, read.between(it, first, last)) for it in benches]
+    return [first, last, *(it for name in found for it in (found[name], read.span([each[name] for each in others])))]
+
+
 def printed(columns, rows, benches, length):
     """The report, line by line; beside the bench a line for each window of so many intervals."""
     if not benches:
@@ -77,7 +138,7 @@ def printed(columns, rows, benches, length):
         return
     yield "from", "to", *(name for it in [*columns, "greatest_most"] for name in (it, f"bench_{it}"))
     while live := list(itertools.islice(rows, length)):
-        yield live_beside.side_by_side(columns, live, benches)
+        yield side_by_side(columns, live, benches)
 
 
 def main(words):
@@ -90,9 +151,9 @@ def main(words):
     columns = [it for it in read.COLUMNS[plan.format][1:] if it not in LACKING]
     figures, benches = Figures(plan), []
     if asked["beside"]:
-        runs = live_beside.scenarios(text, plan.fanout, asked["beside"])
+        runs = scenarios(text, plan.fanout, asked["beside"])
         sweep.check(runs, program)
-        benches = live_beside.reports(runs, program, plan.fanout)
+        benches = reports(runs, program, plan.fanout)
     with live_worker.processes(plan) as pipes:
         rows = (figures.row(round, live_worker.heard(pipes)) for round in range(1, plan.rounds + 1))
         for values in printed(columns, rows, benches, asked["window"]):

@@ -44,7 +44,6 @@ class Message(NamedTuple):
 
 
 def encoded(message, padding):
-    """The bytes of a message, in which an entry has so much padding."""
     *head, digest, delta = message
     numbers = [NUMBER.pack(owner, key, mark) for owner, told in digest.items() for key, mark in told.items()]
     entries = [ENTRY.pack(*it, padding(it)) + bytes(padding(it)) for it in delta]

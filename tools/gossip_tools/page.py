@@ -141,7 +141,6 @@ def captions(decision):
 
 
 def pictures(folder, decision, healing):
-    """The figures of the page; none where gnuplot isn't there."""
     if not plots.is_there():
         return "<p class='mind'>gnuplot isn't there, so there are no pictures. With it the same call draws them.</p>"
     room = folder / "pictures"
@@ -167,7 +166,6 @@ def field(decision, budget, mode):
 
 
 def table(decision):
-    """Worst staleness and share cut, by budget and mode."""
     it, (first, last) = decision.study, decision.window
     head = "".join(f"<th>{mode}</th>" for mode in decision.figures)
     text = "".join(f"<tr><th>{it.whole(budget)}</th>"

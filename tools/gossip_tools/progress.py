@@ -65,7 +65,6 @@ class Progress:
                   file=sys.stderr, flush=True)
 
     def end(self):
-        """The end of a stage, also where it was stopped."""
         if self.shown:
             print("\r\033[K", end="", file=sys.stderr, flush=True)
 

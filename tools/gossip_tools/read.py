@@ -156,7 +156,6 @@ def window(rows, first, last):
 
 
 def first_at_most(name, rows, first, most):
-    """The first round from `first` on in which a column is at most that, or None."""
     return next((row["round"] for row in rows[first - 1:] if row[name] <= most), None)
 
 

@@ -44,10 +44,10 @@ def is_better(one, other):
     return 4 * less >= 3 * seeds and 10 * more <= seeds
 
 
-def may_get_better(one, other, seeds=len(CHOOSING)):
-    """Whether the one may be better once so many seeds were run."""
+def may_get_better(one, other):
+    """Whether the one may be better once all seeds were run."""
     less, more, there = seed_by_seed(one, other)
-    return 4 * (less + seeds - there) >= 3 * seeds and 10 * more <= seeds
+    return 4 * (less + len(CHOOSING) - there) >= 3 * len(CHOOSING) and 10 * more <= len(CHOOSING)
 
 
 def is_far_better(one, other):

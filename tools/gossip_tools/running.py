@@ -62,9 +62,9 @@ class Signals:
 
 def reason(status, told):
     ended = f"it was ended by {signal.Signals(-status).name}" if status < 0 else f"status {status}"
-    lines = [it for it in told.splitlines() if it.strip()]
-    more = ", as on a full disk" if lines and lines[-1].startswith("fault 13:") else ""
-    return f"{ended}: {lines[-1].strip()}{more}" if lines else ended
+    last = "".join(told.strip().splitlines()[-1:]).strip()
+    more = ", as on a full disk" if last.startswith("fault 13:") else ""
+    return f"{ended}: {last}{more}" if last else ended
 
 
 def close(folder, name, process, program):
@@ -131,19 +131,11 @@ def lead(reader, first):
 
 
 def others_in_group():
-    found = []
     for pid in (int(it) for it in os.listdir("/proc") if it.isdigit()):
         with contextlib.suppress(ProcessLookupError):
-            found += [pid] * (os.getpgid(pid) == os.getpgrp() and pid != os.getpid())
-    return found
-
-
-def in_memory(text):
-    """A text as a file that has no name, so that nobody changes it."""
-    file = open(os.memfd_create("scenario"), "w+b")
-    file.write(text.encode())
-    file.seek(0)
-    return file
+            if os.getpgid(pid) == os.getpgrp() and pid != os.getpid():
+                return True
+    return False
 
 
 def here(folder, names, program, jobs, done):
@@ -156,7 +148,11 @@ def here(folder, names, program, jobs, done):
             while running or waiting and not failed:
                 while waiting and not failed and len(running) < jobs:
                     name = waiting.pop(0)
-                    with Signals.hold(), in_memory(folder.runs[name]) as given, open(folder.part(name), "wb") as report:
+                    # (the scenario as a file that has no name, so that nobody changes it)
+                    with (Signals.hold(), open(os.memfd_create("scenario"), "w+b") as given,
+                          open(folder.part(name), "wb") as report):
+                        given.write(folder.runs[name].encode())
+                        given.seek(0)
                         begun[name] = time.monotonic()
                         running[name] = subprocess.Popen([program, "run"], stdin=given, stdout=report,
                                                          stderr=subprocess.PIPE, process_group=runs,
@@ -195,33 +191,18 @@ def ended(running):
     return found
 
 
-def is_gnu_parallel():
-    try:
-        answer = subprocess.run(["parallel", "--version"], capture_output=True, text=True)
-    except OSError:
-        return False
-    return answer.stdout.startswith("GNU parallel")
-
-
 def hosts():
     """The machines of HOSTS, divided by commas; empty where there are none."""
-    told = os.environ.get("HOSTS", "")
+    told, version = os.environ.get("HOSTS", ""), ""
     for host in told.split(",") if told else []:
         refuse_if(not host.strip(), f"HOSTS is '{shown(told)}', which lacks the name of a machine: write them as in "
                   "HOSTS=:,alpha,8/beta.")
         refuse_if(not re.fullmatch(HOST, host), f"'{shown(host)}' in HOSTS isn't the name of a machine: write them as "
                   "in HOSTS=:,alpha,8/beta, or with a user, as 8/me@beta.")
-    refuse_if(told and not is_gnu_parallel(), "other machines need GNU parallel, which isn't there.")
+    with contextlib.suppress(OSError):
+        version = told and subprocess.run(["parallel", "--version"], capture_output=True, text=True).stdout
+    refuse_if(told and not version.startswith("GNU parallel"), "other machines need GNU parallel, which isn't there.")
     return told
-
-
-def end(process):
-    for number, seconds in GENTLY:
-        process.send_signal(number)
-        with contextlib.suppress(subprocess.TimeoutExpired):
-            process.wait(timeout=seconds)
-    process.kill()
-    process.wait()
 
 
 @contextlib.contextmanager
@@ -238,8 +219,13 @@ def gnu_parallel(words, given, told):
                 yield process
             process.wait()
         finally:
+            for number, seconds in GENTLY if process else ():
+                process.send_signal(number)
+                with contextlib.suppress(subprocess.TimeoutExpired):
+                    process.wait(timeout=seconds)
             if process:
-                end(process)
+                process.kill()
+                process.wait()
 
 
 def start(program, hosts):

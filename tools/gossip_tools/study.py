@@ -181,7 +181,6 @@ class Study:
         return exact.get(budget, budget * self.knee_of_all // self.knee)
 
     def most(self, mode):
-        """The largest budget that a mode may take."""
         return rules.most_of(self.fits[mode], self.nodes, self.keys, self.knee)
 
     def ample(self):

@@ -2,7 +2,7 @@
 import pathlib
 import unittest
 
-from gossip_tools import advise, answer, cluster, measures, rules
+from gossip_tools import advise, answer, measures, rules
 from given import BREADTH, DEPTH, NEWEST, OLDEST, ROOMY, SOME, TENTH, Figures, bound, decided, of, of_depth, table
 
 WORSE_MODES = {(1000, OLDEST): [9, 9], (1000, NEWEST): [9, 9]}
@@ -427,11 +427,6 @@ class Bounded(unittest.TestCase):
 
 
 class Words(unittest.TestCase):
-    def test_a_name_that_no_answer_can_have(self):
-        """A byte of a name that isn't UTF-8 comes as half of a pair."""
-        with self.assertRaisesRegex(cluster.Refused, r"the folder's name '\\udcff' isn't UTF-8"):
-            advise.look(pathlib.Path("\udcff"))
-
     # Three calls in 300 s are 100 s apart. What latency adds isn't known, but how to see it is.
     test_latency = table(lambda more: answer.of_calls(of(f"{ROOMY} {more}"))[0], {
         "interval=1000000": "Latency: right where an exchange takes much less than the interval of 1000000 s; else the "

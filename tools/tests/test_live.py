@@ -4,7 +4,7 @@ import random
 import unittest
 from types import SimpleNamespace
 
-from gossip_tools import live, live_beside, live_figures, live_node, scenario
+from gossip_tools import live, live_figures, live_node, scenario
 from gossip_tools.live_node import Entry, Kind, Message, Node
 from gossip_tools.live_plan import Plan
 from gossip_tools.scenario import MODES
@@ -176,14 +176,14 @@ class Beside(unittest.TestCase):
         wanted = ("format = 2\nnodes = 2\nrounds = 6\n[[partition]]\nfrom = 1\nto = 6\napart = [0]\n"
                   "[[restart]]\nnode = 1\nround = 4\ndown = 3\nforget = true\n[[load]]\nfrom = 4\nto = 6\nwrites = 5\n"
                   "[[load]]\nfrom = 2\nto = 3\nwrites = 0\n[[load]]\nfrom = 5\nto = 6\nwrites = 0\n")
-        self.assertEqual(wanted, live_beside.stretched(self.top, 3))
-        self.assertIn("needs 1001 loads", outcome(live_beside.stretched, {**self.top, "rounds": 1000}, 3))
+        self.assertEqual(wanted, live.stretched(self.top, 3))
+        self.assertIn("needs 1001 loads", outcome(live.stretched, {**self.top, "rounds": 1000}, 3))
 
     def test_intervals(self):
         rows = [{"round": it, "entries": it, "cut": 10 * it, "stale": it, "greatest": it} for it in range(1, 7)]
         self.assertEqual([{"round": 1, "entries": 6, "cut": 60, "stale": 3, "greatest": 1},
                           {"round": 2, "entries": 15, "cut": 150, "stale": 6, "greatest": 2}],
-                         live_beside.intervals(rows, 3))
+                         live.intervals(rows, 3))
 
     def test_side_by_side(self):
         """Of the rounds 2 and 3 the means, and the most of `greatest`, with the least and the most of two seeds."""
@@ -191,7 +191,7 @@ class Beside(unittest.TestCase):
                                  for rows in ([(2, 6, 1), (3, 8, 4)], [(1, 9, 9), (2, 4, 2), (3, 6, 2)],
                                               [(1, 9, 9), (2, 10, 1), (3, 11, 4)]))
         self.assertEqual([2, 3, "7", "5 to 10", "2.5", "2.0 to 2.5", 4, "2 to 4"],
-                         live_beside.side_by_side(["stale", "greatest"], live_rows, [one, other]))
+                         live.side_by_side(["stale", "greatest"], live_rows, [one, other]))
 
 
 class Words(unittest.TestCase):

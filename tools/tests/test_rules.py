@@ -47,7 +47,6 @@ class Better(unittest.TestCase):
     test_what_six_seeds_settle = table(lambda *it: rules.may_get_better(*alike(*it)), {
         (1, 0, 6): True, (0, 0, 6): False, (1, 2, 6): True, (3, 3, 6): False, (0, 2, 6): False, (15, 2, 20): True,
         (14, 2, 20): False})
-    test_six_seeds_alone = table(lambda less: rules.may_get_better(*alike(less, 0, 6), seeds=6), {5: True, 4: False})
 
     def test_five_seeds(self):
         """With 50 and with 100 depth has less than the other under four of five seeds or all, which is three quarters.

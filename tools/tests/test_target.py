@@ -3,7 +3,7 @@ import unittest
 
 import given
 from gossip_tools import advise, answer, rules, target
-from given import BREADTH, DEPTH, NEWEST, OLDEST, of, outcome, table
+from given import BREADTH, DEPTH, NEWEST, OLDEST, of, table
 
 # What a budget is divided into: so many rounds the worst staleness then has, rounded up.
 ROUNDS = {DEPTH: 800, BREADTH: 1200, OLDEST: 900, NEWEST: 1000}
@@ -115,9 +115,6 @@ class Searched(unittest.TestCase):
     # 200 rounds show a level of up to 100, 400 of 200, and 800 of 400; above that none does.
     test_runs_that_can_show_it = table(lambda rounds: searched(f"target={rounds}")[0].stage, {
         100: "many", 101: "longer", 200: "longer", 400: "longest"})
-    test_targets_that_no_run_can_show = table(lambda seconds: outcome(searched, f"target={seconds}"), {
-        "401": "target=401 would be 401 rounds of 1 s, and has to be from 1 to 400 of them.",
-        "0.9": "target=0.9 would be 0 rounds of 1 s, and has to be from 1 to 400 of them."})
 
 
 class Told(unittest.TestCase):

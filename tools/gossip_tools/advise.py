@@ -123,28 +123,25 @@ class Stages:
             runs |= sweep.spread(text, choices)
         return text, runs
 
-    def works(self, stage, pairs, seeds=None):
-        """The work of each of these runs of a stage, by its name, under its seeds if no others are told."""
-        it = self.study
-        return {f"{stage}/{name}": it.work(stage, *pair) for pair in pairs
-                for name in self.runs(stage, {pair: seeds or it.seeds(stage)})[1]}
+    def plan(self, *parts, times=0):
+        """Reckons with these runs for the time left, and with as many again so many times. A part is a stage, with its
+        budgets and modes, and their seeds if those aren't the stage's."""
+        it, work = self.study, {}
+        for stage, pairs, *seeds in parts:
+            for pair in pairs:
+                _, runs = self.runs(stage, {pair: seeds[0] if seeds else it.seeds(stage)})
+                work |= {f"{stage}/{name}": it.work(stage, *pair) for name in runs}
+        self.progress.plan(work | {f"{name} {at}": it for at in range(times) for name, it in work.items()})
 
     def expect(self, decision, *stages):
-        """Reckons with what is still to be run in these stages where this is decided, for the time left."""
+        """Reckons with what is still to be run in these stages where this is decided."""
         it, pair = self.study, (decision.budget, decision.mode)
-        most, work = (it.most(decision.mode), decision.mode), {}
+        most, parts = (it.most(decision.mode), decision.mode), []
         for stage in stages:
-            if stage in it.healing_stages():
-                work |= self.works(stage, {pair}) | self.works(stage, {most}, rules.BOUNDING_FIRST)
-            else:
-                work |= self.works(stage, it.wanted(decision.mode) | it.next_smaller(*pair))
-        self.progress.plan(work)
-
-    def plan(self, stage, pairs, times, seeds=None):
-        """Reckons with these budgets and modes, for the time left, and with as many again so many times."""
-        work = self.works(stage, pairs, seeds)
-        again = {f"{name} {at}": it for at in range(times) for name, it in work.items()}
-        self.progress.plan(work | again)
+            heals = stage in it.healing_stages()
+            parts.append((stage, {pair} if heals else it.wanted(decision.mode) | it.next_smaller(*pair)))
+            parts += [(stage, {most}, rules.BOUNDING_FIRST)] if heals else []
+        self.plan(*parts)
 
     def carry_out(self, stage, pairs, seeds=None):
         """Makes these runs of a stage, under its seeds if no others are told, and reads them."""
@@ -198,7 +195,7 @@ class Stages:
     def bound(self, stage, pair, times=0):
         """What bounds a budget and a mode that a stage chose: longer runs under other seeds. For the time left it is
         reckoned with as many again so many times."""
-        self.plan(f"{stage}-bound", {pair}, times)
+        self.plan((f"{stage}-bound", {pair}), times=times)
         return answer.Bound(self.study, f"{stage}-bound", self.carry_out(f"{stage}-bound", {pair}), pair)
 
     def is_level(self, decision):
@@ -220,7 +217,7 @@ class Stages:
         bound, ample = decision.bound, {(self.study.ample(), self.study.usual)}
         decision.floor = bound.found.uncut(bound.window)
         if not decision.floor:
-            self.plan(bound.stage, ample, 0, rules.BOUNDING_FIRST)
+            self.plan((bound.stage, ample, rules.BOUNDING_FIRST))
             decision.floor = self.carry_out(bound.stage, ample, rules.BOUNDING_FIRST).uncut(bound.window)
 
     def heal(self, decision):

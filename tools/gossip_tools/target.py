@@ -83,7 +83,7 @@ class Ages:
 
 def aged(stages, stage, found, pairs):
     """The ages of copies, once these budgets and modes were run with writes that stop."""
-    stages.plan(f"{stage}-stop", pairs, 0)
+    stages.plan((f"{stage}-stop", pairs))
     return Ages(stages.study, stage, found, stages.carry_out(f"{stage}-stop", pairs))
 
 
@@ -108,7 +108,7 @@ class Search:
     def run(self, pairs):
         # (about so many halvings are left)
         left = [math.log2(FINE * (self.least[it] - self.below[it]) / self.least[it]) for it in self.modes]
-        self.stages.plan(self.stage, pairs, math.ceil(max(left + [0])))
+        self.stages.plan((self.stage, pairs), times=math.ceil(max(left + [0])))
         self.pairs |= pairs
         self.found = self.stages.carry_out(self.stage, self.pairs, rules.FIRST)
 

@@ -268,7 +268,7 @@ def tell(folder, lines, kept=(), told=()):
 def first_answer(it, stages, check_sum):
     """The first answer, which the folder has until the last one comes: what is chosen, bounds it and heals."""
     folder, told = stages.folder, []
-    if it.least_rounds():
+    if it.least_rounds:
         told = tell(folder, [f"By a sum, of the worst staleness: {it.why_at_least()}."])
     first = stages.decide(it.steady_stages()[0], it.wanted(it.usual))
     told = tell(folder, answer.first_words(first, call_with_enough(first, folder)), told)

@@ -146,7 +146,7 @@ class Decision(Choice):
         """The worst staleness: what bounds it, or what the runs that chose had."""
         it = self.study
         if not self.suffices:
-            by_sum = f"; by a sum at least {it.least_rounds()}" if it.least_rounds() else ""
+            by_sum = f"; by a sum at least {it.least_rounds}" if it.least_rounds else ""
             return f"not known: {self.no_level()}{by_sum}"
         if self.bound is None:
             return f"{lasting(it, self.worst)} so far{run_of(it)}"
@@ -195,7 +195,7 @@ class Decision(Choice):
     def forgetful(self):
         """What counts where nodes forget and the budget is short; empty where that isn't so."""
         it = self.study
-        is_short = it.forgets() and it.leaves() and self.budget < it.knee
+        is_short = it.forgets and it.leaves() and self.budget < it.knee
         return f"Nodes forget here, and the budget is below {it.knee_name}: {rules.FORGETFUL}." if is_short else ""
 
     def reserve(self):

@@ -69,7 +69,7 @@ class Healing:
             nodes, alone = f"{nodes} in each of {groups} {unit(it)}", ", and of such a group alone"
         few = fewer(it, it.restarts) if it.restarts else ""
         down = f"{'each down' if each * groups > 1 else 'down'} for one {unit(it)[:-1]}"
-        return f"of {nodes}{few}, {down}{', and then without its own state' if it.forgets() else ''}{alone}"
+        return f"of {nodes}{few}, {down}{', and then without its own state' if it.forgets else ''}{alone}"
 
     def lines(self, heals, budget):
         """The lines of what heals; below the first of all that is looked at what is counted, and below a restart how
@@ -96,7 +96,7 @@ class Healing:
         it, rounds = self.study, self.waited(budget)
         if rounds is None:
             return "no wait is known, as not all of this is over in the rounds that were run: take a larger budget"
-        gone = " and its forgotten state was gone" if it.forgets() else ""
+        gone = " and its forgotten state was gone" if it.forgets else ""
         who = f"a group of {it.group()} nodes" if it.told["restarts"] and it.group() > 1 else "a node"
         return (f"wait {lasting(it, [rounds])}, after {who} is up again: {rules.IN_MOST} cases a restart was "
                 f"healed{gone} by then")

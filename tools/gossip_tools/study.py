@@ -28,8 +28,7 @@ from gossip_tools.commands import Refused, refuse_if
 FILLING, LEVEL = 30, 20
 USUAL_SPLIT = 30
 RESTARTING = 10
-# So many mean entries the format that counts bytes takes at least.
-LEAST = 2
+LEAST = 2  # mean entries the format that counts bytes takes at least
 # How much more processor time a round takes, about: in bytes, in a precise mode, and with less than nodes * writes.
 IN_BYTES, IN_PRECISE, IN_SHORT = 3, 1.5, 1.8
 # The intervals that runs leave out which bound what a stage has chosen: the tables fill in them.
@@ -38,8 +37,7 @@ FILLED = {stage: max(50, first - 1) for stage, (first, _) in rules.WINDOWS.items
 # round is about a nanosecond of processor time for each node, with another one, and key.
 HOUR, SHORTER = 3600, (2400, 1800, 1200, 900, 600, 400, 300, 200, 100)
 BOUND_WORK, MOST_WORK = 2.1e10, 3.6e12
-# The work of many intervals that is little.
-LITTLE_WORK = 2e9
+LITTLE_WORK = 2e9  # of many intervals
 
 
 class Study:
@@ -49,9 +47,9 @@ class Study:
         self.told = told
         self.usual = told["mode"] or scenario.USUAL_MODE
         self.parts = 10 if cluster.is_too_large(told["nodes"], told["keys"]) else 1
-        if self.parts > 1 and self.usual != scenario.USUAL_MODE:
-            raise Refused(f"{told['nodes']} nodes are more than a scenario takes, and a tenth of them says little but "
-                          f"in {scenario.USUAL_MODE}: leave out mode={self.usual}.")
+        refuse_if(self.parts > 1 and self.usual != scenario.USUAL_MODE, f"{told['nodes']} nodes are more than a "
+                  f"scenario takes, and a tenth of them says little but in {scenario.USUAL_MODE}: leave out "
+                  f"mode={self.usual}.")
         self.all_nodes, self.keys, self.writes = int(told["nodes"]), int(told["keys"]), int(told["writes"])
         self.nodes = self.all_nodes // self.parts
         refuse_if(cluster.is_too_large(self.nodes, self.keys), "a tenth of these nodes is still too large for a "
@@ -67,23 +65,25 @@ class Study:
         self.rooms = {mode: self.room(mode) / self.parts for mode in scenario.MODES}
         modes = (self.usual,) if told["mode"] or self.parts > 1 else scenario.MODES
         room = self.knee if told["packet"] is None else max(self.rooms[it] for it in modes)
-        count = told["count"] or ("bytes" if rules.counts_bytes(room) else "entries")
-        self.in_bytes = count == "bytes"
+        self.in_bytes = told["count"] == "bytes" or not told["count"] and rules.counts_bytes(room)
         self.fits_of_all = {mode: int(self.room(mode)) for mode in modes}
         self.fits = {mode: min(self.run_of(self.fits_of_all[mode]), scenario.LIMITS["budget"][1]) for mode in modes
                      if self.rooms[mode] >= LEAST}
         if self.usual not in self.fits:
             raise Refused(self.why_none_fits())
-        _, last = self.window("many")
-        refuse_if(self.least_rounds() > last, f"no budget that fits keeps the worst staleness below {last} rounds: "
+        # (the largest budget that some mode may take, and the rounds that the worst staleness has at least, by a sum)
+        self.largest, (_, last) = self.whole(max(map(self.most, self.fits))), self.window("many")
+        self.least_rounds = max(0, int(self.fanout * rules.least_staleness(
+            self.largest, self.all_nodes, self.keys, self.writes, self.fanout)))
+        refuse_if(self.least_rounds > last, f"no budget that fits keeps the worst staleness below {last} rounds: "
                   f"{self.why_at_least()}.")
         self.target = None if told["target"] is None else self.target_of(told["target"])
         self.asked = None if told["hours"] is None else self.intervals_of(told["hours"])
         # (after a hundred intervals in which each key was written four times no more is left to catch up with)
         self.split = min(int(told["split"]), max(100, 4 * math.ceil(self.keys / self.writes)))
         self.restarts = None if told["restarts"] is None else -(-int(told["restarts"]) // self.parts)
+        self.forgets, self.loss = told["forget"] == "yes", int(told["loss"] * 10000)
         self.place_healing()
-        self.loss = int(told["loss"] * 10000)
 
     def room(self, mode):
         """The entries that a delta of all nodes has room for in a mode; without a packet all that are of use."""
@@ -110,25 +110,16 @@ class Study:
                 f"delta has room for {alone}, {alone / whole:.2g} times {self.knee_name}{too_large}; room for the "
                 f"digest and {self.knee_name} = {whole} entries {enough}.")
 
-    def largest(self):
-        """The largest budget that some mode may take, as one of the whole cluster."""
-        return self.whole(max(self.most(it) for it in self.fits))
-
-    def least_rounds(self):
-        """The rounds that the worst staleness has at least, by a sum; 0 where the sum says nothing."""
-        intervals = rules.least_staleness(self.largest(), self.all_nodes, self.keys, self.writes, self.fanout)
-        return max(0, int(intervals * self.fanout))
-
     def why_at_least(self):
         """The sum in words, and how large a packet would have to be."""
         return (f"each node has {(self.all_nodes - 1) * self.keys} copies to renew and gets about two deltas of "
-                f"{self.largest()} entries in a round, so it is at least {self.least_rounds()} rounds; room for "
+                f"{self.largest} entries in a round, so it is at least {self.least_rounds} rounds; room for "
                 f"{self.knee_name} = {self.knee_of_all} entries takes packet={self.packet(self.usual)}")
 
     def steady_stages(self):
         """The stages that can show a budget to be level, each longer than the one before."""
         is_little = self.work_of(self.intervals("many")) <= LITTLE_WORK
-        return [it for it in rules.WINDOWS if rules.can_be_level(self.least_rounds(), self.window(it))
+        return [it for it in rules.WINDOWS if rules.can_be_level(self.least_rounds, self.window(it))
                 and not (it == "few" and is_little)]
 
     def later_stages(self, stage):
@@ -279,14 +270,11 @@ class Study:
     def ends(self, stage):
         return self.begins + self.lasts(stage) * self.fanout - 1
 
-    def forgets(self):
-        return self.told["forget"] == "yes"
-
     def leaves(self):
         """What a restart leaves and is looked at, in its order; nothing where no restart is looked at."""
         if self.restarts == 0:
             return ()
-        return ("restart", "forgotten") if self.forgets() else ("restart",)
+        return ("restart", "forgotten") if self.forgets else ("restart",)
 
     def heals(self):
         """What heals and is looked at, in its order."""
@@ -332,7 +320,7 @@ class Study:
         healed = self.begins, self.ends(stage)
         if stage == "split":
             return text + scenario.partition(0, self.nodes // 2 - 1, *healed)
-        return text + scenario.restarts(self.nodes, self.restarting()[0], *healed, self.fanout, forget=self.forgets(),
+        return text + scenario.restarts(self.nodes, self.restarting()[0], *healed, self.fanout, forget=self.forgets,
                                         every=self.fanout)
 
     def choices(self, stage, seeds):

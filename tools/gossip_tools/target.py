@@ -96,13 +96,11 @@ class Search:
         top = min(it.nodes * it.keys, *it.fits.values())
         # (of a tenth those budgets are looked at with which it was seen to hold)
         least, self.top = (study.LEAST, top) if it.parts == 1 else (it.knee, min(top, rules.TENTH_HOLDS[1] * it.knee))
-        self.pairs, self.found = set(), None
-        # (those that can keep to the target)
-        self.modes = list(it.fits)
-        # by mode, the least budget that keeps to the target, and the largest below it that doesn't
-        self.least = dict.fromkeys(it.fits, self.top)
-        self.below = dict.fromkeys(it.fits, least - 1)
-        # the mode with the smallest packet, its budget, and by budgets what bounds it
+        # (those that can keep to the target, and by mode the least budget that does and the largest below it that
+        # doesn't)
+        self.modes, self.pairs, self.found = list(it.fits), set(), None
+        self.least, self.below = dict.fromkeys(it.fits, self.top), dict.fromkeys(it.fits, least - 1)
+        # (the mode with the smallest packet, its budget, and by budgets what bounds it)
         self.chosen, self.budget, self.bounded = None, self.top, {}
 
     def run(self, pairs):
@@ -153,29 +151,20 @@ class Search:
         between that and the largest below it that doesn't. Whether some budget keeps to it."""
         below, budget, keeps = None, self.least[self.chosen], False
         while budget:
-            if above := self.above(budget):
+            bound = self.bounded[budget] = self.stages.bound(self.stage, (budget, self.chosen), 1)
+            above = above_target(self.study, bound.worst) if bound.is_level() else len(bound.worst)
+            if above:
                 below = budget
             else:
                 self.budget, keeps = budget, True
-            budget = self.between(below) if keeps else self.raised(budget, above)
+            if keeps:
+                are_close = below is None or self.budget - below <= max(1, self.budget // RAISED)
+                budget = None if are_close else (self.budget + below) // 2
+            else:
+                more = max(1, budget * max(1, above // OF_SEEDS) // RAISED)
+                budget = min(self.top, budget + more) if budget < self.top else None
         self.run({(self.budget, self.chosen)})
         return keeps
-
-    def above(self, budget):
-        """Under how many of the seeds that bound a budget of the chosen mode has more than the target."""
-        bound = self.bounded[budget] = self.stages.bound(self.stage, (budget, self.chosen), 1)
-        return above_target(self.study, bound.worst) if bound.is_level() else len(bound.worst)
-
-    def raised(self, budget, above):
-        """The budget to be run after one that has too much under so many seeds; None after the largest."""
-        more = max(1, budget * max(1, above // OF_SEEDS) // RAISED)
-        return min(self.top, budget + more) if budget < self.top else None
-
-    def between(self, below):
-        """The budget to be run between one that keeps to the target and one that doesn't; None where they are close."""
-        if below is None or self.budget - below <= max(1, self.budget // RAISED):
-            return None
-        return (self.budget + below) // 2
 
     def packet(self, mode):
         return self.study.packet(mode, self.study.whole(self.least[mode]))
@@ -238,12 +227,11 @@ class Met(answer.Decision):
 
     def of_mode_in_words(self, mode):
         """What a mode needs, and what it then has."""
-        it, budget, pair = self.study, self.search.least[mode], self.search.run_of(mode)
-        age = self.ages.at_most(*pair)
-        half = age if self.ages.typical(*pair) is None else f"at most {age}"
-        return (f"{it.whole(budget)} entries, packet={self.search.packet(mode)}: worst staleness "
+        budget, pair = self.search.least[mode], self.search.run_of(mode)
+        most = "" if self.ages.typical(*pair) is None else "at most "
+        return (f"{self.study.whole(budget)} entries, packet={self.search.packet(mode)}: worst staleness "
                 f"{in_rounds(self.figures[mode])}; {span(self.ages.shares(*pair))} % of the copies are stale, half of "
-                f"them by {half}")
+                f"them by {most}{self.ages.at_most(*pair)}")
 
     def in_words(self, call):
         it = self.study

@@ -17,7 +17,7 @@ def roomy(more):
 def levels(words):
     """What a sum says of the worst staleness of a cluster, and the stages that can show it."""
     it = of(f"{words} writes=1 entry=40")
-    return it.least_rounds(), it.steady_stages()
+    return it.least_rounds, it.steady_stages()
 
 
 class Numbers(unittest.TestCase):

@@ -9,7 +9,6 @@ import io
 import os
 import sys
 
-INPUT, OUTPUT, ERROR = 0, 1, 2
 # Of each tool the module, with the function that carries it out and what is said of it.
 TOOLS = {
     "gossip_advise": ("advise", "main", "TOOL"), "gossip_apart": ("sections", "apart", "APART"),
@@ -22,8 +21,8 @@ TOOLS = {
 class StandardError(io.TextIOWrapper):
     """Standard error. What can't be written there is dropped, as the work is worth more than what is said of it."""
 
-    def __init__(self, number=ERROR):
-        super().__init__(open(number, "wb", closefd=False), errors="backslashreplace", line_buffering=True)
+    def __init__(self):
+        super().__init__(open(2, "wb", closefd=False), errors="backslashreplace", line_buffering=True)
 
     def write(self, text):
         try:
@@ -41,13 +40,13 @@ class StandardError(io.TextIOWrapper):
 def fill_closed_streams():
     """Opens /dev/null for each stream that is closed, so that no file of the tool gets its number. Input is opened for
     writing, output for reading, so that they fail where they are used."""
-    for number, way in ((INPUT, os.O_WRONLY), (OUTPUT, os.O_RDONLY), (ERROR, os.O_RDONLY)):
+    for number, way in enumerate((os.O_WRONLY, os.O_RDONLY, os.O_RDONLY)):
         try:
             os.fstat(number)
         except OSError:
             os.set_inheritable(os.open(os.devnull, way), True)
-    sys.stdin = sys.stdin or open(INPUT, closefd=False)
-    sys.stdout = sys.stdout or open(OUTPUT, "w", closefd=False)
+    sys.stdin = sys.stdin or open(0, closefd=False)
+    sys.stdout = sys.stdout or open(1, "w", closefd=False)
     sys.stderr = StandardError()
 
 

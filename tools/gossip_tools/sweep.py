@@ -34,12 +34,11 @@ LASTING = {errno.EACCES, errno.EPERM, errno.EROFS, errno.EISDIR, errno.ENOTDIR, 
 def choices_of(words):
     choices = {}
     for word in words:
-        if not re.fullmatch("[a-z_]+=[A-Za-z0-9_-]+(,[A-Za-z0-9_-]+)*", word):
-            more = "" if "=" in word else f" A scenario comes by standard input, as < {shlex.quote(shown(word))}."
-            if word.startswith("-"):
-                more = " The options are -o FOLDER and --help; how many runs go at once is said in front, as JOBS=2."
-            raise Refused(f"'{shown(word)}' isn't FIELD=VALUE,VALUE.., with letters, digits, - and _ in the values."
-                          f"{more}")
+        more = "" if "=" in word else f" A scenario comes by standard input, as < {shlex.quote(shown(word))}."
+        if word.startswith("-"):
+            more = " The options are -o FOLDER and --help; how many runs go at once is said in front, as JOBS=2."
+        refuse_if(not re.fullmatch("[a-z_]+=[A-Za-z0-9_-]+(,[A-Za-z0-9_-]+)*", word),
+                  f"'{shown(word)}' isn't FIELD=VALUE,VALUE.., with letters, digits, - and _ in the values.{more}")
         field, _, values = word.partition("=")
         refuse_if(field in choices, f"the field {shown(field)} comes twice.")
         choices[field] = values.split(",")
@@ -54,8 +53,8 @@ def spread(text, choices, name=""):
     runs = {}
     for value in values:
         more = spread(scenario.set_field(text, field, value), dict(rest), f"{name}{'.' if name else ''}{field}-{value}")
-        if twice := runs.keys() & more.keys():
-            raise Refused(f"{shown(min(twice))} comes twice.")
+        twice = runs.keys() & more.keys()
+        refuse_if(twice, f"{shown(min(twice, default=''))} comes twice.")
         runs |= more
     return runs
 
@@ -74,14 +73,13 @@ def check(runs, program):
             answer = subprocess.run([program, "check"], input=text.encode(), capture_output=True)
         except OSError as error:
             raise Refused(f"{program} can't be started: {error.strerror}.") from None
-        if (answer.returncode, answer.stdout) == (0, b"ok\n"):
-            continue
-        told = answer.stderr.decode(errors="replace")
-        if answer.returncode != 1 or not told.startswith("fault "):
+        if (answer.returncode, answer.stdout) != (0, b"ok\n"):
+            told = answer.stderr.decode(errors="replace")
             ended = f" ({shown(running.reason(answer.returncode, told))})" if answer.returncode else ""
-            raise Refused(f"{program} doesn't answer as gossip_bench does{ended}: what does GOSSIP_BENCH name?")
-        sys.stderr.write(told)
-        raise Refused(f"that is the program's answer to {shown(name)}, so nothing was run.", 1)
+            refuse_if(answer.returncode != 1 or not told.startswith("fault "),
+                      f"{program} doesn't answer as gossip_bench does{ended}: what does GOSSIP_BENCH name?")
+            sys.stderr.write(told)
+            raise Refused(f"that is the program's answer to {shown(name)}, so nothing was run.", 1)
 
 
 def make(folder, program, progress, hosts, what):

@@ -266,29 +266,6 @@ class Decided(unittest.TestCase):
                 self.assertTrue(first.endswith("more calls in an interval (fanout=2, as nodes * writes / 2 entries "
                                                "fit), a shorter interval, a shorter entry or fewer writes would help."))
 
-    def test_first_answer_from_the_knee_on(self):
-        """The decision, the worst staleness, and what is left in reserve; with 600 entries that fit no reserve."""
-        depth = dict.fromkeys((300, 600, 1000), [7, 8])
-        said = answer.first_words(roomy(depth, more="digest=1 shared=no", stage="few"))
-        self.assertEqual(["First answer, from 60 rounds: scuttle-depth with", "Worst staleness 7 to 8 rounds, 7 to 8 s "
-                          "so far, which bounds nothing: runs of other seeds come next",
-                          "With the 1000 entries that fit it is 7 to 8 rounds in the runs that chose, where the budget "
-                          "has 7 to 8"],
-                         [it.partition(sign)[0] for it, sign in zip(said, (" room", ".", ": no better"))])
-        found = decided(f"{SOME} packet=24000 digest=1 shared=no", {}, {600: [7, 8]}, stage="few")
-        self.assertEqual(2, len(answer.first_words(found)))
-
-    def test_calls(self):
-        """Where a node calls three others in an interval of 30 s, a round is 10 s: 10 to 11 rounds are 3.3 to 3.7
-        intervals. A third of 300 * 2 entries is 200."""
-        found = decided(f"{SOME} packet=8000 fanout=3 interval=30 digest=1 shared=no", {}, {200: [10, 11]}, stage="few")
-        self.assertEqual(["First answer, from 60 intervals of 3 rounds: scuttle-depth with room for 200 entries in a "
-                          "delta, 8000 bytes (what fits; nodes * writes / 3); packet=8000.",
-                          "Worst staleness 10 to 11 rounds, 3.3 to 3.7 intervals, 100 to 110 s so far, which bounds "
-                          "nothing: runs of other seeds come next.", answer.left_out(found)[0]],
-                         answer.first_words(found))
-        self.assertIn("less than the 10 s between two of the 3 calls of an interval", answer.left_out(found)[0])
-
     def test_calls_of_a_tenth(self):
         """1000 nodes had 9 to 12 rounds of a third of a second in 100 intervals of three, to which six are added."""
         found = decided("nodes=10000 keys=4 writes=1 entry=40 packet=400000 digest=10 fanout=3",

@@ -1,4 +1,5 @@
 """What is run for a cluster and what is read of it, with numbers worked out by hand."""
+import copy
 import unittest
 
 from gossip_tools import advise, cluster, rules, scenario, study, sweep
@@ -24,10 +25,6 @@ class Numbers(unittest.TestCase):
     # 6000 bytes less 100 numbers of 10 have room for 125 entries of 40; less 400 numbers, as precise, for 50.
     test_what_fits = table(lambda words: list(of(words).fits.values()), {
         ROOMY: [1000] * 4, SHARED: [125, 125, 50, 50], SHARED + " shared=no": [150] * 4, LARGE: [1100], FEW: [5] * 4})
-
-    def test_other_name(self):
-        """A packet was called a delta."""
-        self.assertEqual(of(SHARED).told, of(SHARED.replace("packet=", "delta=")).told)
 
     # nodes * writes are 300 * 2 = 600, 100 and 10; a tenth of 10000 is 1000. Of 1000, 125, 1100 and 5 that fit no more
     # than twice that is of use, but nodes * keys, of which 1200 fit in 48000 bytes.
@@ -139,9 +136,6 @@ class Numbers(unittest.TestCase):
     test_what_cuts_nothing = table(lambda words: of(words).ample(), {
         ROOMY: 1200, LARGE: 4000, FEW: 79, "nodes=2000 keys=64 writes=1 entry=40 packet=120000": 65535})
 
-    def test_field_of_what_cuts_nothing(self):
-        self.assertEqual(("budget_bytes", 41356), scenario.budget_field(79, True))
-
     # 39 * 6 copies at two times 2 entries in a round take 58 rounds, less 6; 60 rounds show no more than 30. 199 * 8 at
     # two times 7 take 113, less 8, and 200 rounds show 100. 399 * 6 at two times 25 take 47, less 6, and at two times
     # 300 less than 6. 200 rounds under 20 seeds are little work where they take two seconds at a nanosecond for each
@@ -183,20 +177,6 @@ class Calls(unittest.TestCase):
     """Three calls in an interval of half a minute: a round takes ten seconds, and an interval three rounds."""
     words = f"{SHARED} fanout=3 interval=30"
 
-    def setUp(self):
-        self.it = of(f"{self.words} restarts=5 split=40")
-
-    def test_rounds(self):
-        """The first answer looks at the intervals 31 to 60, which are the rounds 91 to 180."""
-        it = self.it
-        self.assertEqual((180, 600, (91, 180), (301, 600), 10),
-                         (it.rounds("few"), it.rounds("many"), it.window("few"), it.window("many"), it.seconds))
-
-    def test_writes(self):
-        """In the first round of an interval alone: 60 times the two others have none."""
-        text = self.it.scene("few")
-        self.assertEqual((60, True), (text.count("[[load]]"), scenario.load(179, 180, 0) in text))
-
     def test_writes_that_stop(self):
         """After 200 intervals, which are 600 rounds, none for the 7 rounds of a target of 70 s, so for 3 intervals."""
         it = of(f"{self.words} target=70 hours=1")
@@ -204,16 +184,10 @@ class Calls(unittest.TestCase):
         self.assertEqual((7, 609, 201, True), (it.target, it.rounds("many-stop"), text.count("[[load]]"),
                                                text.endswith(scenario.load(601, 609, 0))))
 
-    def test_runs_that_bound(self):
-        """An hour is 120 intervals of half a minute, behind 100: the rounds 301 to 660, two of three without writes."""
-        it = of(f"{self.words} hours=1")
-        self.assertEqual((660, (301, 660), 220), (it.rounds("many-bound"), it.window("many-bound"),
-                                                  it.scene("many-bound").count("[[load]]")))
-
     def test_healing(self):
         """After 50 intervals, so in round 151. A split of 40 of them ends with round 270; ten groups are down for an
         interval each, and the last of them until round 180."""
-        it = self.it
+        it = of(f"{self.words} restarts=5 split=40")
         self.assertEqual(((91, 150), 151, 270, 180), (it.before, it.begins, it.ends("split"), it.ends("restart")))
         restarts = [line for line in it.scene("restart").splitlines() if line.startswith(("round = ", "down = "))]
         self.assertEqual(50, restarts.count("down = 3"))
@@ -284,28 +258,27 @@ def rows(*greatest):
             for at, it in enumerate(greatest, 1)]
 
 
+def stale(*counts):
+    """The rows of rounds, the last of them with so many stale copies, from round 40 on."""
+    return [{"stale": it} for it in [0] * 39 + [*counts]]
+
+
+# Two seeds, whose greatest was at most 3 and 4 in the rounds 1 and 2 and is healed at 4 and 5.
+TWO = {(9, DEPTH): [rows(2, 3, 8, 9, 5, 4), rows(4, 4, 7, 5, 6, 6)]}
+
+
 class Reading(unittest.TestCase):
-    def setUp(self):
-        """Two seeds, whose greatest was at most 3 and 4 in the rounds 1 and 2 and is healed at 4 and 5."""
-        self.found = found_of({(9, DEPTH): [rows(2, 3, 8, 9, 5, 4), rows(4, 4, 7, 5, 6, 6)]})
-
-    def test_window(self):
-        self.assertEqual([9, 7], self.found.worst(9, DEPTH, (3, 4)))
-        self.assertEqual([85.0, 60.0], self.found.cut(9, DEPTH, (3, 4)))
-
     def test_floor(self):
         """In the rounds 3 and 4: the first seed cut nothing with 9 entries, the second with 12, and only up to round 5.
         Up to round 6 it has no such run."""
-        self.found.rows[(12, NEWEST)] = [rows(2, 3, 9, 9, 9, 9), rows(4, 4, 6, 5, 5, 5)]
-        for row in [*self.found.rows[(9, DEPTH)][0], *self.found.rows[(12, NEWEST)][1][:5]]:
+        found = found_of(copy.deepcopy(TWO) | {(12, NEWEST): [rows(2, 3, 9, 9, 9, 9), rows(4, 4, 6, 5, 5, 5)]})
+        for row in [*found.rows[(9, DEPTH)][0], *found.rows[(12, NEWEST)][1][:5]]:
             row["cut"] = 0
-        self.assertEqual({(3, 4): [9, 6], (3, 6): []}, {it: self.found.uncut(it) for it in ((3, 4), (3, 6))})
+        self.assertEqual({(3, 4): [9, 6], (3, 6): []}, {it: found.uncut(it) for it in ((3, 4), (3, 6))})
 
-    def test_healed(self):
-        """After round 3 the first seed is back in round 6, the third, and the other in round 4; after round 4 it never
-        is."""
-        cases = {3: [3, 1], 4: [2, None], 5: [1, None]}
-        self.assertEqual(cases, {ends: self.found.healed_after("restart", 9, DEPTH, ends) for ends in cases})
+    # After round 3 the first seed is back in round 6, the third, and the other in round 4; after round 4 it never is.
+    test_healed = table(lambda ends: found_of(TWO).healed_after("restart", 9, DEPTH, ends), {
+        3: [3, 1], 4: [2, None], 5: [1, None]})
 
     def test_a_split_shorter_than_the_level(self):
         """A split is in round 3 alone, where the levels are 4 and 6. A write of that round that is missing since is 5
@@ -314,35 +287,9 @@ class Reading(unittest.TestCase):
         found = found_of({(9, DEPTH): [rows(2, 3, 3, 4, 4, 4, 5, 4, 4), rows(4, 5, 5, 6, 5, 6, 5, 6, 6)]})
         self.assertEqual([5, 6], found.healed_after("split", 9, DEPTH, 3))
 
-    def test_forgotten(self):
-        """Old state was left over up to round 5 under the first seed, and to the end under the other."""
-        for row in [*self.found.rows[(9, DEPTH)][0][:5], *self.found.rows[(9, DEPTH)][1]]:
-            row["leftover"] = 1
-        self.assertEqual([3, None], self.found.healed_after("forgotten", 9, DEPTH, 3))
-
-    def test_level(self):
-        """The first half of the rounds 7 to 10 has 2 and 3, the second 5 and 4; that of 9 to 12 has 5 and 4, then 3 and
-        4."""
-        found = found_of({(9, DEPTH): [rows(*[0] * 6, 2, 2, 4, 5, 3, 1), rows(*[0] * 6, 3, 2, 4, 4, 4, 2)]})
-        cases = {(7, 10): False, (9, 12): True}
-        self.assertEqual(cases, {it: found.suffices(9, DEPTH, it) for it in cases})
-
-
-class Aged(unittest.TestCase):
-    @staticmethod
-    def stale(*counts):
-        """The rows of rounds, the last of them with so many stale copies, from round 40 on."""
-        return [{"stale": it} for it in [0] * 39 + [*counts]]
-
-    def test_half_of_the_stale_copies(self):
-        """Of docs/study.md, the rounds from 40 on, the last with writes: 22670 copies are stale there, and two rounds
-        later fewer than half of them. Where an interval has two rounds, it's at the second of its intervals."""
-        found = found_of({(9, DEPTH): [self.stale(22670, 13201, 5504, 1049, 67, 0), self.stale(*[0] * 6),
-                                       self.stale(*[9] * 6)], (5, DEPTH): [self.stale(30, 30, 20, 10, 15, 9)]})
-        self.assertEqual([2, 0, None], found.half_of_stale_after(9, DEPTH, 40, 1))
-        self.assertEqual([2], found.half_of_stale_after(5, DEPTH, 40, 2))
-
-    def test_stale_on_average(self):
-        """30, 30, 20 and 10 copies in the rounds 40 to 43 are 22.5."""
-        found = found_of({(5, DEPTH): [self.stale(30, 30, 20, 10, 15, 9)]})
-        self.assertEqual([22.5], found.stale(5, DEPTH, (40, 43)))
+    # Of docs/study.md, the rounds from 40 on, the last with writes: 22670 copies are stale there, and two rounds later
+    # fewer than half of them. Where an interval has two rounds, it's at the second of its intervals.
+    test_half_of_the_stale_copies = table(lambda fanout, *seeds: found_of(
+        {(9, DEPTH): [stale(*it) for it in seeds]}).half_of_stale_after(9, DEPTH, 40, fanout), {
+            (1, (22670, 13201, 5504, 1049, 67, 0), (0,) * 6, (9,) * 6): [2, 0, None],
+            (2, (30, 30, 20, 10, 15, 9)): [2]})

@@ -3,7 +3,7 @@ import math
 
 from gossip_tools import cluster, healing, rules, scenario
 from gossip_tools.choice import Choice
-from gossip_tools.measures import briefly, in_rounds, lasting, rows, run_of, sentences, span, unit
+from gossip_tools.measures import briefly, in_rounds, lasting, rows, sentences, span
 
 FLOOR = "the floor"
 WHAT_HEALS = "A split, a restart and a rolling restart"
@@ -59,7 +59,7 @@ class Bound:
         if not self.is_level():
             return f"In {self.runs()} `greatest` isn't level with that, so runs of more rounds choose."
         oldest = lasting(self.study, [max(self.worst)])
-        return f"I{self.holds_in()[1:]} no copy is older than {oldest}{run_of(self.study)}."
+        return f"I{self.holds_in()[1:]} no copy is older than {oldest}{self.study.nodes_run}."
 
 
 class Decision(Choice):
@@ -108,7 +108,7 @@ class Decision(Choice):
             return f"{self.mode} with {self.room()}; {'with the digest ' if it.shares else ''}packet={self.packet()}"
         at_knee = briefly(it, self.worst_with(it.knee, self.mode))
         return (f"{self.mode}, but packet={self.given()} is too small: with {self.room()}, the worst copy was "
-                f"{lasting(it, self.worst)}, behind, and with packet={it.packet(self.mode)} {at_knee}{run_of(it)}")
+                f"{lasting(it, self.worst)}, behind, and with packet={it.packet(self.mode)} {at_knee}{it.nodes_run}")
 
     def most_that_fits(self):
         """The largest budget where none is enough, and which mode is ahead with that, or why none is."""
@@ -149,7 +149,7 @@ class Decision(Choice):
             by_sum = f"; by a sum at least {it.least_rounds}" if it.least_rounds else ""
             return f"not known: {self.no_level()}{by_sum}"
         if self.bound is None:
-            return f"{lasting(it, self.worst)} so far{run_of(it)}"
+            return f"{lasting(it, self.worst)} so far{it.nodes_run}"
         if it.parts > 1:
             return (f"{self.at_most()}: {self.bound.holds_in()} of {it.nodes} nodes no copy is older than "
                     f"{in_rounds([max(self.bound.worst)])}")
@@ -165,7 +165,7 @@ class Decision(Choice):
         own = self.bounded()[:len(self.floor)]
         had = "that" if self.floor == own else span(own)
         chosen = f"; the chosen one had {had} under the same {len(own)} seeds" if self.suffices else ""
-        return f"{rules.FLOOR.format(lasting(it, self.floor))}{chosen}{run_of(it)}"
+        return f"{rules.FLOOR.format(lasting(it, self.floor))}{chosen}{it.nodes_run}"
 
     def to_knee(self):
         """The bytes with which nodes * writes entries fit, and what they would bring; empty where they do fit."""
@@ -247,7 +247,7 @@ class Decision(Choice):
 def first_words(decision, call=""):
     """The first answer, from few intervals: what is chosen, and what it can't say yet."""
     it, to_knee = decision.study, decision.to_knee()
-    since = f"{it.intervals(decision.stage)} {unit(it)}{f' of {it.fanout} rounds' if it.fanout > 1 else ''}"
+    since = f"{it.intervals(decision.stage)} {it.unit}{f' of {it.fanout} rounds' if it.fanout > 1 else ''}"
     if decision.suffices:
         return sentences(
             f"First answer, from {since}: {decision.takes()}.",
@@ -262,7 +262,7 @@ def first_words(decision, call=""):
         f"First answer, from {since}: no budget that fits is seen to be enough, as {decision.no_level()}.",
         decision.most_that_fits(), decision.forgetful(), to_knee and f"{to_knee}. {else_helps(decision)}",
         *limits(decision), longer and f"Whether it levels off later is seen from {longer} rounds, and no more.",
-        *(see if call and it.asks_for_healing() else []))
+        *(see if call and it.asks_for_healing else []))
 
 
 def last_of_first_words(decision, folder):
@@ -283,7 +283,7 @@ def not_run(decision, call, was_enough=False):
     it = decision.study
     if decision.suffices or not it.heals():
         return []
-    if not was_enough and not it.asks_for_healing():
+    if not was_enough and not it.asks_for_healing:
         return sentences(call and f"Nor was a split or a restart run: give packet={it.packet(decision.mode)} and "
                          "another folder to see them.")
     why = (f"{WHAT_HEALS} were run for the first answer, with a budget that isn't enough after more rounds."

@@ -2,7 +2,7 @@
 import textwrap
 
 from gossip_tools import rules
-from gossip_tools.measures import briefly, lasting, rows, run_of, sentences, span, unit
+from gossip_tools.measures import briefly, lasting, rows, sentences, span
 
 # What heals, by its stage, and the words for that.
 HEALED = {"split": "a split", "restart": "a restart", "forgotten": "a forgotten state"}
@@ -62,13 +62,13 @@ class Healing:
         it = self.study
         if stage == "split":
             for_all = f", which stand for {it.told['split']}, as each key is written anew in them"
-            return f"of half of the nodes for {it.split} {unit(it)}{for_all if it.split < it.told['split'] else ''}"
+            return f"of half of the nodes for {it.split} {it.unit}{for_all if it.split < it.told['split'] else ''}"
         (each, groups), alone = it.restarting(), ""
         nodes = f"{each} node{'s' if each != 1 else ''}" if it.restarts else "one node"
         if groups > 1:
-            nodes, alone = f"{nodes} in each of {groups} {unit(it)}", ", and of such a group alone"
+            nodes, alone = f"{nodes} in each of {groups} {it.unit}", ", and of such a group alone"
         few = fewer(it, it.restarts) if it.restarts else ""
-        down = f"{'each down' if each * groups > 1 else 'down'} for one {unit(it)[:-1]}"
+        down = f"{'each down' if each * groups > 1 else 'down'} for one {it.unit[:-1]}"
         return f"of {nodes}{few}, {down}{', and then without its own state' if it.forgets else ''}{alone}"
 
     def lines(self, heals, budget):
@@ -78,11 +78,11 @@ class Healing:
         for stage in heals:
             rounds, time = self.in_words(stage, budget)
             took = f"{ENDS[stage]} after {rounds}, {time}" if time else rounds
-            lines += rows((HEALED[stage], f"{self.what(stage)}: {took}{run_of(self.study)}"))
+            lines += rows((HEALED[stage], f"{self.what(stage)}: {took}{self.study.nodes_run}"))
             if stage == self.study.heals()[0]:
                 lines += self.counted_lines()
         if "restart" in heals:
-            lines += rows((ROLLING, f"{self.wait(budget)}{run_of(self.study)}"))
+            lines += rows((ROLLING, f"{self.wait(budget)}{self.study.nodes_run}"))
         return lines
 
     def counted(self):
@@ -112,12 +112,12 @@ class Healing:
             after = "not over in time" if None in taken else f"{ENDS[stage]} after {briefly(self.study, taken)}"
             said.append(f"{HEALED[stage]} is {after}")
         return (f"if your program fills the packet anyway, {'; '.join(said)}, under {len(taken)} of the "
-                f"seeds{run_of(self.study)}")
+                f"seeds{self.study.nodes_run}")
 
 
 def to_mind(it):
     """What was run of a split and of restarts, where that isn't what was asked for, and what no run has."""
-    one, (_, groups) = unit(it)[:-1], it.restarting()
+    one, (_, groups) = it.unit[:-1], it.restarting()
     run = f"is one such group, down for one {one}"
     if groups > 1:
         run = (f"are {groups} such groups, one in each {one}, each down for one, and one alone. The times count from "
@@ -125,7 +125,7 @@ def to_mind(it):
                "`greatest` is the number of the round and bounds nothing")
     return sentences(
         it.split < it.told["split"] and
-        f"A split of {it.split} {unit(it)} was run in place of {it.told['split']}: each key was written anew "
+        f"A split of {it.split} {it.unit} was run in place of {it.told['split']}: each key was written anew "
         "meanwhile, so a longer one leaves no more to catch up with.",
         it.restarts and
         f"{it.group()} is the size of a group that restarts at once{fewer(it, it.told['restarts'])}. What was run "

@@ -33,16 +33,6 @@ def briefly(study, rounds):
     return in_rounds(rounds) if study.fanout == 1 else lasting(study, rounds)
 
 
-def unit(study):
-    """What intervals are called: rounds, where they are that."""
-    return "rounds" if study.fanout == 1 else "intervals"
-
-
-def run_of(study):
-    """How many nodes were run, where that is a tenth."""
-    return f" ({study.nodes} nodes run)" if study.parts > 1 else ""
-
-
 def rows(*pairs):
     """The lines of an answer that have names; one of which nothing is said isn't there."""
     return [f"  {name:<19} {said}" for name, said in pairs if said]

@@ -5,7 +5,7 @@ import re
 
 from gossip_tools import answer, cluster, files, plots, read, rules
 from gossip_tools.healing import ENDS, HEALED, ROLLING
-from gossip_tools.measures import in_rounds, lasting, sentences, span, unit
+from gossip_tools.measures import in_rounds, lasting, sentences, span
 
 # (on paper the page is light, whatever the screen is; pictures, which are drawn on white, are turned dark, and their
 # colours stay what they are)
@@ -129,10 +129,10 @@ def captions(decision):
         "greatest": "The age of the oldest write that some copy lacks, round by round, under seed 1. Each mode has the "
                     f"budget that it would take, as the key says. Wide curves lie below narrow ones.{most}",
         "stale": f"The share of copies that are behind their owner, in the same runs.{most}",
-        "split": f"After a split of half of the nodes for {it.split} {unit(it)}, whose last round is 0, in "
+        "split": f"After a split of half of the nodes for {it.split} {it.unit}, whose last round is 0, in "
                  f"{decision.mode}. {band}.",
         "restart": f"After {each if it.restarts else 'one'} node{'s' if each > 1 else ''} restarted"
-                   f"{f' in each of some {unit(it)}' if it.restarts else ''}, the last in round 0. A restarted "
+                   f"{f' in each of some {it.unit}' if it.restarts else ''}, the last in round 0. A restarted "
                    "node lacks the writes of round 1, so `greatest` is the number of the round until it has caught up. "
                    f"{band}.",
         "forgotten": "What others still hold of forgotten states: at 1 all other nodes still hold one node's whole old "

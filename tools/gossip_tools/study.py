@@ -56,6 +56,9 @@ class Study:
                   f"scenario, which takes 4096 nodes and {scenario.MOST_TRIPLES} of nodes * nodes * keys.")
         scenario.limited("nodes", self.nodes)
         self.fanout, self.seconds = int(told["fanout"]), told["interval"] / told["fanout"]
+        # (what intervals are called, and how many nodes were run, where that is a tenth)
+        self.unit = "rounds" if self.fanout == 1 else "intervals"
+        self.nodes_run = f" ({self.nodes} nodes run)" if self.parts > 1 else ""
         self.knee, self.knee_of_all = (max(LEAST, rules.knee(nodes, self.keys, self.writes, self.fanout))
                                        for nodes in (self.nodes, self.all_nodes))
         product = "nodes * writes" if self.writes <= self.keys else "nodes * keys"
@@ -78,10 +81,14 @@ class Study:
         refuse_if(self.least_rounds > last, f"no budget that fits keeps the worst staleness below {last} rounds: "
                   f"{self.why_at_least()}.")
         self.target = None if told["target"] is None else self.target_of(told["target"])
+        # (the most that a scenario takes: in rounds, and in sections where each interval has one)
+        self.most_intervals = min(scenario.LIMITS["rounds"][1] // self.fanout,
+                                  scenario.MOST_SECTIONS if self.fanout > 1 else math.inf)
         self.asked = None if told["hours"] is None else self.intervals_of(told["hours"])
         # (after a hundred intervals in which each key was written four times no more is left to catch up with)
         self.split = min(int(told["split"]), max(100, 4 * math.ceil(self.keys / self.writes)))
         self.restarts = None if told["restarts"] is None else -(-int(told["restarts"]) // self.parts)
+        self.asks_for_healing = bool(told["restarts"]) or told["split"] not in (0, USUAL_SPLIT)
         self.forgets, self.loss = told["forget"] == "yes", int(told["loss"] * 10000)
         self.place_healing()
 
@@ -125,9 +132,6 @@ class Study:
     def later_stages(self, stage):
         stages = self.steady_stages()
         return stages[stages.index(stage) + 1:]
-
-    def asks_for_healing(self):
-        return bool(self.told["restarts"]) or self.told["split"] not in (0, USUAL_SPLIT)
 
     def digest_numbers(self, mode):
         return scenario.digest_numbers(self.all_nodes, self.keys, mode)
@@ -202,15 +206,10 @@ class Study:
         """About the nanoseconds of processor time of runs with so many intervals under these seeds."""
         return len(seeds) * intervals * self.fanout * self.nodes**2 * (self.keys + 1)
 
-    def most_intervals(self):
-        """The most intervals that a scenario takes: in rounds, and in sections where each interval has one."""
-        rounds = scenario.LIMITS["rounds"][1] // self.fanout
-        return min(rounds, scenario.MOST_SECTIONS) if self.fanout > 1 else rounds
-
     def intervals_of(self, hours):
         """The intervals of so many hours. Refuses hours that a scenario doesn't take, or that take too much work."""
         asked = int(-(-hours * 3600 // (self.fanout * self.seconds)))
-        most = min(self.most_intervals() - max(FILLED.values()), int(MOST_WORK / self.work_of(1)))
+        most = min(self.most_intervals - max(FILLED.values()), int(MOST_WORK / self.work_of(1)))
         longest = cluster.plain(Fraction(int(100 * most * self.fanout * self.seconds / 3600), 100))
         refuse_if(not 1 <= asked <= most, f"hours={cluster.plain(hours)} would be {asked} intervals under each seed, "
                   f"and from 1 to {most} are run: hours={longest} is the most.")
@@ -220,7 +219,7 @@ class Study:
         """For how many intervals, after those that are left out, runs bound what a stage has chosen."""
         if self.asked is not None:
             return self.asked
-        left = self.most_intervals() - FILLED[stage]
+        left = self.most_intervals - FILLED[stage]
         lengths = [it for it in (HOUR, *SHORTER) if it <= left]
         return next((it for it in lengths if self.work_of(FILLED[stage] + it) <= BOUND_WORK), lengths[-1])
 

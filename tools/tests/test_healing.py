@@ -3,7 +3,7 @@ import pathlib
 import unittest
 
 from gossip_tools import answer, healing, rules
-from given import DEPTH, decided, of
+from given import DEPTH, decided, of, table
 
 WORDS = "nodes=200 keys=4 writes=1 entry=40 packet=8000 interval=0.5"
 IN_MOST = "in 20 of 21 cases"
@@ -111,30 +111,14 @@ class Healed(unittest.TestCase):
         self.assertEqual("no wait is known, as not all of this is over in the rounds that were run: take a larger "
                          "budget", heals(restart=[6, None], forgotten=[7, 8]).wait(200))
 
-    def test_wait_at_once(self):
-        """The wait is told with the restart; where nodes forget, both that and the forgotten state are of runs in which
-        they do. 80 of 200 nodes restart once, as twice as many were more than half of them; 150 don't, but 100 do."""
-        groups = "of 5 nodes in each of 10 rounds, each down for one round{}, and of such a group alone: "
-        forgetful = groups.format(", and then without its own state")
-        cases = {
-            "restarts=5": [f"a restart           {groups.format('')}healed after at most 7 rounds, 3.5 s, ",
-                           "a rolling restart   wait 7 rounds, 3.5 s, after a group of 5 nodes is up again: "],
-            "restarts=5 forget=yes": [
-                f"a restart           {forgetful}healed after at most 7 rounds, 3.5 s, ",
-                f"a forgotten state   {forgetful}gone from all copies after at most 8 rounds, 4 s, ",
-                "a rolling restart   wait 8 rounds, 4 s, after a group of 5 nodes is up again: "],
-            "restarts=80": ["a restart           of 80 nodes, each down for one round: healed after at most 7 rounds",
-                            "a rolling restart   wait 7 rounds, 3.5 s, after a group of 80 nodes is up again: "],
-            "restarts=150": ["a restart           of 100 nodes, in place of 150, as half of the nodes stay up, each "
-                             "down for one round: healed after at most 7 rounds",
-                             "a rolling restart   wait 7 rounds, 3.5 s, after a group of 100 nodes is up again: "],
-        }
-        for more, begins in cases.items():
-            it = of(f"{WORDS} split=0 {more}")
-            runs = {stage: Taken([6, 7], forgotten=[6, 8]) for stage in it.healing_stages()}
-            lines = healing.Healing(it, DEPTH, runs).lines(it.leaves(), 200)
-            self.assertEqual(begins, [line[2:2 + len(start)] for line, start in
-                                      zip((line for line in lines if not line.startswith("   ")), begins)])
+    # 80 of 200 nodes restart once, as twice as many were more than half of them; 150 don't, but 100 do.
+    test_who_restarts = table(lambda more: heals(more).what("restart"), {
+        "": "of one node, down for one round", "fanout=3": "of one node, down for one interval",
+        "restarts=5": "of 5 nodes in each of 10 rounds, each down for one round, and of such a group alone",
+        "restarts=5 forget=yes": "of 5 nodes in each of 10 rounds, each down for one round, and then without its own "
+                                 "state, and of such a group alone",
+        "restarts=80": "of 80 nodes, each down for one round",
+        "restarts=150": "of 100 nodes, in place of 150, as half of the nodes stay up, each down for one round"})
 
     def test_groups_in_words(self):
         """What to mind of groups, as many as there are."""
@@ -145,5 +129,3 @@ class Healed(unittest.TestCase):
                                 "for one round."}
         for more, said in cases.items():
             self.assertTrue(healing.to_mind(heals(more).study)[0].startswith(said))
-        self.assertIn(" of one node, down for one interval: healed",
-                      heals("fanout=3", restart=[6, 7]).lines(["restart"], 200)[0])

@@ -8,7 +8,7 @@ from gossip_tools import live, live_figures, live_node, scenario
 from gossip_tools.live_node import Entry, Kind, Message, Node
 from gossip_tools.live_plan import Plan
 from gossip_tools.scenario import MODES
-from given import outcome, table
+from given import DEPTH, OLDEST, outcome, table
 
 
 def plan(**fields):
@@ -140,9 +140,9 @@ class Plans(unittest.TestCase):
     # 19 bytes, 12 for each number of the digest, and the delta: no more than what can be lacking.
     test_largest_message = table(lambda form, budget, mode: plan(
         format=form, budget=budget, mode=mode).largest_message(), {
-            (1, 5, "scuttle-depth"): 19 + 4 * 12 + 5 * 24, (1, 7, "scuttle-depth"): 19 + 4 * 12 + 6 * 24,
-            (1, 5, "precise-oldest"): 19 + 8 * 12 + 5 * 24, (2, 5000, "scuttle-depth"): 19 + 4 * 12 + 5000,
-            (2, 9999, "scuttle-depth"): 19 + 4 * 12 + 6 * 1023})
+            (1, 5, DEPTH): 19 + 4 * 12 + 5 * 24, (1, 7, DEPTH): 19 + 4 * 12 + 6 * 24,
+            (1, 5, OLDEST): 19 + 8 * 12 + 5 * 24, (2, 5000, DEPTH): 19 + 4 * 12 + 5000,
+            (2, 9999, DEPTH): 19 + 4 * 12 + 6 * 1023})
 
     def test_too_large(self):
         """2000 nodes have a digest of 24000 bytes and may lack 1999 entries of 24 bytes."""

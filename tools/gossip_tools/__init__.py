@@ -10,8 +10,8 @@ Pictures need gnuplot, and a sweep over several machines GNU parallel.
   sweep      runs of one scenario with other values of its fields, over `files`, `folders`, `running` and `progress`
   read       reports and what they say of some rounds
   rules      what counts as better, as enough and as healed
-  advise     from a cluster to a mode and a budget, over `study`, what is run, `choice`, what that chooses, `answer`,
-             `healing` and `measures`, what is said of it, and `target`
+  advise     from a cluster to a mode and a budget, over `study`, what is run, `choice`, what that chooses and what is
+             said of it, `healing`, `measures` and `answer`, which says all of it, and `target`
   page       the page that has it all, over `plots`, its pictures
   live       a scenario as a live cluster, beside what the bench says, over `live_plan`, what is to happen,
              `live_worker`, processes with some nodes each, `live_node`, what a node sends, and `live_figures`, what all

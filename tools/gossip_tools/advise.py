@@ -5,7 +5,7 @@ import sys
 import tomllib
 from fractions import Fraction
 
-from gossip_tools import answer, cluster, files, page, rules, running, scenario, study, sweep, target
+from gossip_tools import answer, choice, cluster, files, page, rules, running, scenario, study, sweep, target
 from gossip_tools.healing import Healing
 from gossip_tools.commands import Refused, folder_of, refuse_if, the_program, workers
 from gossip_tools.progress import Progress, in_words
@@ -166,9 +166,9 @@ class Stages:
 
     def choose(self, stage, pairs, dropped):
         """What these runs choose. What can't be chosen after the first seeds isn't run under the others."""
-        decision = answer.Decision(self.study, self.carry_out(stage, pairs, rules.FIRST), stage, dropped)
+        decision = choice.Decision(self.study, self.carry_out(stage, pairs, rules.FIRST), stage, dropped)
         self.carry_out(stage, decision.may_be_chosen())
-        return answer.Decision(self.study, self.carry_out(stage, pairs, rules.FIRST), stage, dropped)
+        return choice.Decision(self.study, self.carry_out(stage, pairs, rules.FIRST), stage, dropped)
 
     def decide(self, stage, pairs, dropped=()):
         """What these runs choose, once nodes * writes were run too, and what is between where those are worse."""
@@ -196,7 +196,7 @@ class Stages:
         """What bounds a budget and a mode that a stage chose: longer runs under other seeds. For the time left it is
         reckoned with as many again so many times."""
         self.plan((f"{stage}-bound", {pair}), times=times)
-        return answer.Bound(self.study, f"{stage}-bound", self.carry_out(f"{stage}-bound", {pair}), pair)
+        return choice.Bound(self.study, f"{stage}-bound", self.carry_out(f"{stage}-bound", {pair}), pair)
 
     def is_level(self, decision):
         """Has a decision bounded. Whether `greatest` is level in those runs too."""
@@ -209,7 +209,7 @@ class Stages:
             if pairs <= decision.found.rows.keys():
                 break
             found = self.carry_out(decision.stage, pairs | decision.found.rows.keys(), rules.FIRST)
-            decision = answer.Decision(self.study, found, decision.stage, decision.against, decision.bound)
+            decision = choice.Decision(self.study, found, decision.stage, decision.against, decision.bound)
         return decision
 
     def look_at_floor(self, decision):

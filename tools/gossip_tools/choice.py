@@ -1,10 +1,54 @@
-"""What the figures of a stage choose, by the rules: a mode and a budget."""
+"""What the figures of a stage choose, by the rules, and what bounds that; and what is said of both."""
+import math
+
 from gossip_tools import rules
+from gossip_tools.measures import briefly, in_rounds, lasting, sentences, span
 
 
-class Choice:
+def listed(names):
+    *others, last = names
+    return f"{', '.join(others)} and {last}" if others else last
+
+
+def by_seeds(one, other):
+    return "less under {0} of {2} seeds, more under {1}".format(*rules.seed_by_seed(one, other))
+
+
+class Bound:
+    """How old a copy gets in most runs, with a budget and a mode that others have chosen: the greatest of all seeds."""
+
+    def __init__(self, study, stage, found, pair):
+        self.study, self.stage, self.found, self.pair = study, stage, found, pair
+        self.window = study.window(stage)
+        self.worst = found.worst(*pair, self.window)
+
+    def is_level(self):
+        return self.found.suffices(*self.pair, self.window)
+
+    def runs(self):
+        first, last = self.window
+        rounds, _, time = lasting(self.study, [last - first + 1]).partition(", ")
+        return f"runs of {rounds} ({time})"
+
+    def holds_in(self):
+        return f"{rules.IN_MOST} {self.runs()}"
+
+    def rests_on(self):
+        first, last = self.window
+        return (f"the most of `greatest` in rounds {first} to {last} under {len(self.worst)} seeds, others than those "
+                f"that chose, which had {span(self.worst)}")
+
+    def added(self):
+        if not self.is_level():
+            return f"In {self.runs()} `greatest` isn't level with that, so runs of more rounds choose."
+        oldest = lasting(self.study, [max(self.worst)])
+        return f"I{self.holds_in()[1:]} no copy is older than {oldest}{self.study.nodes_run}."
+
+
+class Decision:
     """The mode and the budget that follow from the runs of a stage."""
 
+    why_empty = "smaller budgets are run with the chosen mode, down to the first that is worse, for the last answer"
     # What bounds all that fits, where a target asks for that.
     bound_of_most = None
     # What no mode and no budget goes below, for each seed: empty where no run shows it, None where none was made.
@@ -86,9 +130,6 @@ class Choice:
         """Whether the budget is better than all that fits, which then is no reserve."""
         return rules.is_better(self.worst, self.figures[self.mode])
 
-    def close(self):
-        return [it for it in self.figures if it != self.mode and rules.are_close(self.figures[it], self.worst)]
-
     def knee_suffices(self):
         return self.is_enough(self.study.knee, self.mode)
 
@@ -111,3 +152,182 @@ class Choice:
 
     def heals(self):
         return self.suffices
+
+    def times(self):
+        """How the budget stands to nodes * writes."""
+        of_knee = "" if self.budget == self.study.knee else f"{self.of_knee():.2g} times "
+        return of_knee + self.study.knee_name
+
+    def whole_budget(self):
+        return self.study.whole(self.budget)
+
+    def bytes(self):
+        return math.ceil(self.whole_budget() * self.study.told["entry"])
+
+    def packet(self):
+        return self.study.packet(self.mode, self.whole_budget())
+
+    def given(self):
+        """The bytes of the packet that was told; that of the budget where none was."""
+        return self.packet() if self.study.told["packet"] is None else int(self.study.told["packet"])
+
+    def room(self):
+        it, entries, why = self.study, self.whole_budget(), [self.times()]
+        if self.budget == it.nodes * it.keys:
+            why = ["nodes * keys, above which nothing changes", *(name for name in why if name != "nodes * keys")]
+        elif entries == it.fits_of_all[self.mode]:
+            why = ["what fits", *why]
+        return f"room for {entries} entries in a delta, {self.bytes()} bytes ({'; '.join(why)})"
+
+    def all_that_fits(self):
+        it, entries = self.study, self.study.whole(self.most)
+        if entries == it.fits_of_all[self.mode]:
+            return f"the {entries} entries that fit"
+        return f"{entries} entries ({self.most / it.knee:.2g} times {it.knee_name})"
+
+    def headline(self):
+        few = ", which are too few" if self.is_too_small() else ""
+        return f"{self.mode} with {self.whole_budget()} entries{few}" if self.suffices else \
+            f"no budget that fits is enough: {self.no_level()}"
+
+    def takes(self):
+        it = self.study
+        if not self.is_too_small():
+            return f"{self.mode} with {self.room()}; {'with the digest ' if it.shares else ''}packet={self.packet()}"
+        at_knee = briefly(it, self.worst_with(it.knee, self.mode))
+        return (f"{self.mode}, but packet={self.given()} is too small: with {self.room()}, the worst copy was "
+                f"{lasting(it, self.worst)}, behind, and with packet={it.packet(self.mode)} {at_knee}{it.nodes_run}")
+
+    def most_that_fits(self):
+        """The largest budget where none is enough, and which mode is ahead with that, or why none is."""
+        it, last, runs_on = self.study, self.window[1], self.contenders()
+        why = "in each `greatest` is about the number of the round, which it can't exceed."
+        if any(rules.has_left_the_diagonal(figure, last) for figure in self.figures.values()):
+            why = f"of {listed(list(runs_on))} none is ahead under nearly all seeds."
+        mode = f" No mode can be preferred with that: {why}"
+        if self.ahead or self.against and len(runs_on) == 1:
+            mode = (f" Of the modes {self.mode} is ahead with that, though it isn't level yet: its `greatest` was at "
+                    f"most {briefly(it, self.figures[self.mode])} up to round {last}, and the others' higher under "
+                    "nearly all seeds.")
+        return f"The most that fits: {self.room()}.{mode if len(it.fits) > 1 else ''}"
+
+    def why_dropped(self):
+        kept = self.contenders()
+        best = min(kept, key=lambda mode: max(kept[mode]))
+        lost = [f"{mode} with {in_rounds(figure)}" for mode, figure in self.figures.items() if mode not in kept]
+        return [*self.against, *sentences(
+            lost and f"Up to round {self.window[1]} these modes were behind {best} with "
+            f"{in_rounds(self.figures[best])}, under nearly all seeds, and weren't run on: {', '.join(lost)}.")]
+
+    def no_level(self):
+        """That no budget that fits has a level that the longest runs can show, of those that choose or bound."""
+        keeps, within = ("keeps", f"in {self.bound.runs()}") if self.bound else ("has", f"within {self.window[1]}")
+        level = rules.highest_level((self.bound or self).window)
+        return f"none {keeps} a level of at most {level} rounds {within}"
+
+    def at_most(self):
+        """The worst staleness to reckon with for the whole cluster, of which a tenth was run."""
+        more = "up to" if rules.tenth_holds(self.of_knee()) else "more than"
+        return f"{more} {lasting(self.study, [self.most_rounds()])}, for {self.study.all_nodes} nodes"
+
+    def staleness(self):
+        """The worst staleness: what bounds it, or what the runs that chose had."""
+        it = self.study
+        if not self.suffices:
+            by_sum = f"; by a sum at least {it.least_rounds}" if it.least_rounds else ""
+            return f"not known: {self.no_level()}{by_sum}"
+        if self.bound is None:
+            return f"{lasting(it, self.worst)} so far{it.nodes_run}"
+        if it.parts > 1:
+            return (f"{self.at_most()}: {self.bound.holds_in()} of {it.nodes} nodes no copy is older than "
+                    f"{in_rounds([max(self.bound.worst)])}")
+        return f"{self.bound.holds_in()} no copy is older than {lasting(it, [self.most_rounds()])}"
+
+    def above_floor(self):
+        """What no mode and no budget goes below; empty where it wasn't looked at."""
+        it = self.study
+        if self.floor is None:
+            return ""
+        if not self.floor:
+            return f"none to tell: the largest budget that a scenario takes, {it.ample()} entries, still cuts some"
+        own = self.bounded()[:len(self.floor)]
+        had = "that" if self.floor == own else span(own)
+        chosen = f"; the chosen one had {had} under the same {len(own)} seeds" if self.suffices else ""
+        return f"{rules.FLOOR.format(lasting(it, self.floor))}{chosen}{it.nodes_run}"
+
+    def to_knee(self):
+        """The bytes with which nodes * writes entries fit, and what they would bring; empty where they do fit."""
+        it, brings = self.study, ""
+        if self.budget >= it.knee:
+            return ""
+        if self.knee_suffices():
+            brings = f", and {briefly(it, self.worst_with(it.knee, self.mode))} in the runs that chose"
+        elif (it.knee, self.mode) in self.found.rows:
+            brings = ", where `greatest` isn't level either"
+        return (f"packet={it.packet(self.mode)} has room for {it.knee_name} = {it.whole(it.knee)} entries"
+                f"{' and the digest' if it.shares else ''}{brings}")
+
+    def tells_all(self):
+        """What to reckon with where a node tells all its keys as it starts; empty where no groups forget."""
+        it = self.study
+        if it.tells_all() is None:
+            return ""
+        entries, name = it.tells_all()
+        needed = it.packet(self.mode, entries)
+        more = ", more than yours" if it.told["packet"] is not None and needed > it.told["packet"] else ""
+        if entries <= self.whole_budget():
+            more = "; this budget has room for them"
+        return ("In Cassandra a node tells all its keys as it starts, here as many as it writes. For that reckon with "
+                f"{name} = {entries} entries, packet={needed}{more}")
+
+    def forgetful(self):
+        """What counts where nodes forget and the budget is short; empty where that isn't so."""
+        it = self.study
+        is_short = it.forgets and it.leaves() and self.budget < it.knee
+        return f"Nodes forget here, and the budget is below {it.knee_name}: {rules.FORGETFUL}." if is_short else ""
+
+    def reserve(self):
+        """What more than the budget brings; empty where no more fits."""
+        if not self.suffices or self.budget == self.most:
+            return ""
+        figure, how = self.figures[self.mode], "no better"
+        so = f"So packet={self.packet()} is enough, and what is above that is a reserve"
+        if self.more_is_worse():
+            how, so = "worse", "More is worse here, so let a delta carry no more than the budget"
+        return (f"With {self.all_that_fits()} it is {briefly(self.study, figure)} in the runs that chose, where the "
+                f"budget has {span(self.worst)}: {how} ({by_seeds(figure, self.worst)}). {so}")
+
+    def why_not_knee(self):
+        """Why more than nodes * writes is taken; empty where it isn't."""
+        it = self.study
+        if not self.suffices or self.budget <= it.knee:
+            return ""
+        at_knee = f"With {it.knee_name} = {it.whole(it.knee)} entries"
+        if not self.knee_suffices():
+            return f"{at_knee} `greatest` isn't level"
+        worst, figure = self.worst_with(it.knee, self.mode), self.figures[self.mode]
+        said = f"{at_knee} it is {briefly(it, worst)} in the runs that chose, "
+        if rules.is_better(self.worst, worst):
+            return f"{said}where the budget has {span(self.worst)}: worse ({by_seeds(worst, self.worst)})"
+        if rules.is_better(figure, worst):
+            return f"{said}worse than {self.all_that_fits()} ({by_seeds(worst, figure)})"
+        return f"{said}and something else that was run is better than that"
+
+    def too_close(self):
+        """Which figures are too close to call. Those that aren't level say nothing."""
+        it, said = self.study, []
+        if not self.suffices:
+            return []
+        close = [("", it.most(mode), mode) for mode, figure in self.figures.items()
+                 if mode != self.mode and rules.are_close(figure, self.worst)]
+        close += [("as few as ", smaller, self.mode)] if (smaller := self.smaller()) else []
+        for few, budget, mode in close:
+            worst = self.worst_with(budget, mode)
+            said.append(f"{mode} with {few}{it.whole(budget)} entries, {briefly(it, worst)} against "
+                        f"{span(self.worst)}: {by_seeds(worst, self.worst)}")
+            if few and self.budget >= it.knee:
+                said[-1] += f"; still not taken, as staleness rises steeply below {it.knee_name}"
+        others = "other mode and smaller budget" if len(self.figures) > 1 else "smaller budget"
+        below = [self.worst_with(budget, self.mode) for budget in self.of_mode() if budget < self.budget]
+        than = "" if all(rules.is_better(self.worst, worst) for worst in below) else " than this one or another one"
+        return said or [f"none: each {others} that was run is worse{than}"]

@@ -8,7 +8,7 @@ target isn't taken for what is usual.
 """
 import math
 
-from gossip_tools import answer, cluster, rules, study
+from gossip_tools import answer, choice, cluster, rules, study
 from gossip_tools.measures import briefly, in_rounds, lasting, rows, sentences, span
 
 # Budgets aren't halved any further where the next smaller one that was run is an entry or less than a hundredth below.
@@ -170,7 +170,7 @@ class Search:
         return self.study.packet(mode, self.study.whole(self.least[mode]))
 
 
-class Met(answer.Decision):
+class Met(choice.Decision):
     """The smallest packet that keeps to the target; or, where none does, what is the best that can be had."""
 
     why_empty = "in each mode budgets are halved until the smallest that keeps to the target is known"

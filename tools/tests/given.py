@@ -1,5 +1,5 @@
 """What tests are given: clusters by their words, and figures for which nothing was run."""
-from gossip_tools import advise, answer, cluster, study
+from gossip_tools import advise, choice, cluster, study
 from gossip_tools.commands import Refused
 from gossip_tools.read import NotWhole
 
@@ -42,13 +42,13 @@ def decided(words, depth, others=(), rising=(), stage="many"):
     it, figures = of(words), {}
     for key, worst in dict(others).items():
         figures |= {key: worst} if isinstance(key, tuple) else {(key, mode): worst for mode in it.fits}
-    return answer.Decision(it, Figures(figures | of_depth(depth), rising), stage)
+    return choice.Decision(it, Figures(figures | of_depth(depth), rising), stage)
 
 
 def bound(decision, depth, rising=()):
     """Bounds what is decided by figures in scuttle-depth."""
     figures, pair = Figures(of_depth(depth), rising), (decision.budget, decision.mode)
-    decision.bound = answer.Bound(decision.study, f"{decision.stage}-bound", figures, pair)
+    decision.bound = choice.Bound(decision.study, f"{decision.stage}-bound", figures, pair)
     return decision
 
 

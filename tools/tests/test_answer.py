@@ -2,7 +2,7 @@
 import pathlib
 import unittest
 
-from gossip_tools import advise, answer, measures, rules
+from gossip_tools import advise, answer, choice, measures, rules
 from given import BREADTH, DEPTH, NEWEST, OLDEST, ROOMY, SOME, TENTH, Figures, bound, decided, of, of_depth, table
 
 WORSE_MODES = {(1000, OLDEST): [9, 9], (1000, NEWEST): [9, 9]}
@@ -21,7 +21,6 @@ class Decided(unittest.TestCase):
         """With 600 entries, which are nodes * writes, `greatest` is a round higher under one of two seeds: no worse."""
         found = roomy({1000: [7, 8], 600: [8, 8], 450: [8, 8], 300: [9, 12]})
         self.assertEqual((DEPTH, 600, 450), (found.mode, found.budget, found.smaller()))
-        self.assertEqual([OLDEST, NEWEST], found.close())
         self.assertEqual("scuttle-depth with room for 600 entries in a delta, 24000 bytes (nodes * writes); "
                          "packet=24000", found.takes())
         self.assertEqual([
@@ -151,7 +150,7 @@ class Decided(unittest.TestCase):
             self.assertIn("No budget that fits is enough: none has a level of at most 100 rounds within 200. The most "
                           "that fits: room for 28 entries in a delta, 1120 bytes", lines[0])
             self.assertTrue(lines[0].endswith("No mode can be preferred with that: of "
-                                              f"{answer.listed(list(found.study.fits))} none is ahead under nearly all "
+                                              f"{choice.listed(list(found.study.fits))} none is ahead under nearly all "
                                               "seeds."))
             self.assertIn("  worst staleness     not known: none has a level of at most 100 rounds within 200; by a "
                           "sum at least 19", lines)
@@ -185,7 +184,7 @@ class Decided(unittest.TestCase):
                                 "fits; 0.047 times nodes * writes). Of the modes scuttle-depth is ahead"),
                                ((), "Take scuttle-depth, but packet=1120 is too small: with room for 28 entries")):
             figures = Figures(of_depth({28: [210, 230], 600: [7, 8]}), rising)
-            found = answer.Decision(of(words), figures, "longer", said)
+            found = choice.Decision(of(words), figures, "longer", said)
             self.assertTrue(answer.in_words(found, None)[0].startswith(begins), answer.in_words(found, None)[0])
             self.assertEqual(said, [it for it in answer.warnings(found) if "weren't run on" in it])
 
@@ -358,7 +357,7 @@ class Bounded(unittest.TestCase):
                  ("nodes=10000 keys=4 writes=1 entry=40 packet=640000", "100 rounds (100 s)",
                   "9 rounds, 9 s (1000 nodes run)"))
         for words, runs, oldest in cases:
-            bounds = [answer.Bound(of(words), "many-bound", Figures(of_depth({600: [7, 9, 8]}), rising), (600, DEPTH))
+            bounds = [choice.Bound(of(words), "many-bound", Figures(of_depth({600: [7, 9, 8]}), rising), (600, DEPTH))
                       for rising in ((), [600])]
             self.assertEqual([f"In 20 of 21 runs of {runs} no copy is older than {oldest}.",
                               f"In runs of {runs} `greatest` isn't level with that, so runs of more rounds choose."],

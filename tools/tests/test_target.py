@@ -2,7 +2,7 @@
 import unittest
 
 import given
-from gossip_tools import advise, answer, rules, target
+from gossip_tools import advise, choice, rules, target
 from given import BREADTH, DEPTH, NEWEST, OLDEST, of, table
 
 # What a budget is divided into: so many rounds the worst staleness then has, rounded up.
@@ -194,7 +194,7 @@ class Told(unittest.TestCase):
             words = f"nodes=100 keys=4 writes=1 entry=40 packet=15960 target={seconds}"
             decision = given.bound(given.decided(words, {100: [9, 9]}, {200: [9, 9]}), bounds)
             found = decision.bound.found
-            decision.bound_of_most = answer.Bound(decision.study, "many-bound", found, (200, DEPTH))
+            decision.bound_of_most = choice.Bound(decision.study, "many-bound", found, (200, DEPTH))
             self.assertEqual(("target", said), target.judged(decision))
         # (all that fits doesn't count where it isn't level)
         found.rising, decision.study.target = [200], 9

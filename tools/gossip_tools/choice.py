@@ -11,7 +11,8 @@ def listed(names):
 
 
 def by_seeds(one, other):
-    return "less under {0} of {2} seeds, more under {1}".format(*rules.seed_by_seed(one, other))
+    less, more, seeds = rules.seed_by_seed(one, other)
+    return f"less under {less} of {seeds} seeds, more under {more}"
 
 
 class Bound:

@@ -3,7 +3,6 @@
 A run's worst staleness is the most of `greatest` in the rounds of a window. A figure is a list of them, one for each
 seed, and its band goes from the least to the most. An interval has as many rounds as a node calls others in it.
 """
-import functools
 import math
 
 from gossip_tools.scenario import MODES, USUAL_MODE, digest_numbers
@@ -166,8 +165,11 @@ def smaller_budgets(budget, at_knee):
 def mode_of(figures):
     """"`scuttle-depth`", unless another mode is better; "else take the cheaper one". The figures are by mode, of those
     whose budget suffices: those that aren't level say nothing."""
-    in_order = [it for it in CHEAPEST_FIRST if it in figures]
-    return functools.reduce(lambda one, other: other if is_better(figures[other], figures[one]) else one, in_order)
+    chosen, *others = [it for it in CHEAPEST_FIRST if it in figures]
+    for mode in others:
+        if is_better(figures[mode], figures[chosen]):
+            chosen = mode
+    return chosen
 
 
 def counts_bytes(room):

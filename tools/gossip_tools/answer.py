@@ -8,8 +8,7 @@ WHAT_HEALS = "A split, a restart and a rolling restart"
 SUPPOSED = 20
 TYPICAL = (f"What names a node, its generation and its version, as sent, takes about {SUPPOSED} bytes for an IPv4 "
            "address, port, generation and version in binary, and 60 and more with host names or UUIDs.")
-# How to see what latency adds.
-BY_LATENCY = "by how much `gossip_live latency=.. beside=5` shows"
+BY_LATENCY = "by how much `gossip_live latency=.. beside=5` shows"  # to see what latency adds
 GENERATIONS = "Generations: a node that restarts keeps its own state here; forget=yes lets it lose that too."
 GROUPS = ("Groups: one node restarts at a time here. For a rolling restart in groups give their size, as restarts=50; "
           "forget=yes, where a node loses its own state too.")

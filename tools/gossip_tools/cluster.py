@@ -35,8 +35,7 @@ BYTES = ("entry", "packet", "digest")
 USUAL = {"digest": "0", "loss": "0", "fanout": "1", "rounds": None, "seed": "1", "mode": scenario.USUAL_MODE,
          "count": None}
 USUAL_ROUNDS = 60
-# The most others that a node calls in an interval.
-MOST_CALLS = 16
+MOST_CALLS = 16  # others that a node calls in an interval
 # What is asked of the wrong tool, or in another way.
 ELSEWHERE = {name: f" {said}" for said, names in {
     "For {}= there is gossip_scenario, and gossip_sweep runs what that prints.": ("rounds", "seed"),
@@ -44,8 +43,7 @@ ELSEWHERE = {name: f" {said}" for said, names in {
     "How many runs go at once is said in front of the call, as JOBS=2.": ("--jobs", "-j", "jobs", "JOBS"),
 }.items() for name in names}
 NEEDED = ("nodes", "keys", "writes", "entry", "packet")
-# Names that are taken for others.
-ALIASES = {"delta": "packet"}
+ALIASES = {"delta": "packet"}  # names that are taken for others
 # How a number looks, how one that is taken, and what to say of the others.
 WHOLE = "[0-9]+", "[0-9]{1,19}", "19 are the most"
 DECIMAL = r"[0-9]+(\.[0-9]+)?", r"[0-9]{1,18}(\.[0-9]{1,9})?", "18 are the most, and 9 behind the point"

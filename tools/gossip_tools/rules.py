@@ -186,8 +186,7 @@ HEALED = ("the oldest write that some copy lacked was for the first time no olde
 FORGETFUL = ("old state goes sooner in `scuttle-breadth`, but a restart heals later there than old state goes in "
              "`scuttle-depth`, and copies are staler. Take `scuttle-breadth` only where old state does more harm than "
              "that, or better a larger budget")
-# The most bytes of a packet that is one datagram of UDP.
-DATAGRAM = 65507
+DATAGRAM = 65507  # bytes at most of a packet that is one datagram of UDP
 # What a restart takes where nodes are down for longer than the one round of the test.
 DOWN_FOR_LONGER = "Nodes that are down for longer may take some rounds more, which no time above has."
 

@@ -166,8 +166,6 @@ class Figures(unittest.TestCase):
     test_worthless = table(is_worthless, {
         (100, 5, 1000, 999): False, (100, 6, 1000, 999): True, (100, 5, 1000, 998): True, (100, 0, 10, 11): False})
 
-
-class Beside(unittest.TestCase):
     top = {"format": 2, "nodes": 2, "rounds": 2, "partition": [{"from": 1, "to": 2, "apart": [0]}],
            "restart": [{"node": 1, "round": 2, "down": 1, "forget": True}], "load": [{"from": 2, "to": 2, "writes": 5}]}
 

@@ -104,6 +104,11 @@ class Cards(unittest.TestCase):
         self.assertIn(f'<div class="">worst staleness<b>at most 9 rounds</b>9 s; {runs}</div>',
                       page.cards(given.bound(decided(), {100: [8, 9]}), None, []))
 
+    def test_not_level_is_told_where_it_stands(self):
+        for rising, wanted in (((), False), ([50], True)):
+            text = page.table(decided(rising))
+            self.assertEqual([wanted] * 2, [" not level" in text, " Not level: this budget isn't enough." in text])
+
 
 class Healed:
     """Runs of 60 rounds that heal from round 30 on, with the greatest age of all rounds under three seeds."""
@@ -137,13 +142,6 @@ class Healing(unittest.TestCase):
     def test_seeds_that_agree_have_no_bar(self):
         (one, other), _ = self.bars(b50=(9, 9, 9), b100=(4, 4, 5))
         self.assertEqual((0, 26), (len(one), len(other)))
-
-
-class Table(unittest.TestCase):
-    def test_not_level_is_told_where_it_stands(self):
-        for rising, wanted in (((), False), ([50], True)):
-            text = page.table(decided(rising))
-            self.assertEqual([wanted] * 2, [" not level" in text, " Not level: this budget isn't enough." in text])
 
 
 class Printed(unittest.TestCase):

@@ -1,25 +1,23 @@
-"""Scenarios and numbers of a cluster, with figures worked out by hand."""
+"""Scenarios, numbers of a cluster and what is read of runs, with figures worked out by hand."""
+import pathlib
+import tempfile
 import unittest
 from fractions import Fraction
 
-from gossip_tools import cluster, scenario
+from gossip_tools import cluster, read, scenario
 from given import outcome, table
 
 
-class Budgets(unittest.TestCase):
+class Scenarios(unittest.TestCase):
     # Five entries of the mean size are 2617.5 bytes.
     test_fields = table(scenario.budget_field, {
         (Fraction(5), True): ("budget_bytes", 2617), (Fraction("5.9"), False): ("budget", 5)})
 
-
-class Fanout(unittest.TestCase):
     # Of three rounds to an interval the second and third have no writes; the last interval may be cut short.
     test_rounds_without_writes = table(cluster.without_writes, {
         (9, 1): "", (2, 3): scenario.load(2, 2, 0),
         (8, 3): scenario.load(2, 3, 0) + scenario.load(5, 6, 0) + scenario.load(8, 8, 0)})
 
-
-class Advice(unittest.TestCase):
     test_no_numbers = table(lambda *it: outcome(cluster.number_of, *it), {
         ("nodes", "-5"): "nodes is a whole number from 0 on, which '-5' isn't.",
         ("loss", "-0.5"): "loss is a number from 0 on, which '-0.5' isn't.",
@@ -40,8 +38,6 @@ class Advice(unittest.TestCase):
     test_plain = table(lambda text: cluster.plain(Fraction(text)), {
         "1000000": "1000000", "0.00001": "0.00001", "1234567.5": "1234567.5", "4": "4", "0.50": "0.5"})
 
-
-class Texts(unittest.TestCase):
     test_set_field = table(scenario.set_field, {
         ("a = 1\nb = 'x' # of b\n", "b", "y"): 'a = 1\nb = "y"\n',
         ("a=1\n[[a]]\na = 2\n", "a", "3"): "a = 3\n[[a]]\na = 2\n",
@@ -52,3 +48,23 @@ class Texts(unittest.TestCase):
         lines = scenario.partition(0, 20, 3, 4).splitlines()
         self.assertEqual(["[[partition]]", "from = 3", "to = 4", "apart = [", "    20,", "]"], lines[:4] + lines[5:])
         self.assertEqual(20, lines[4].count(","))
+
+
+class Reading(unittest.TestCase):
+    def test_those_that_are_wanted(self):
+        """Of three runs, the last of which has no report, two are read, and one alone where it alone is wanted."""
+        with tempfile.TemporaryDirectory() as room:
+            folder = pathlib.Path(room)
+            for seed in (1, 2, 3):
+                (folder / f"seed-{seed}.toml").write_text("format = 1\nrounds = 1\n")
+            for seed in (1, 2):
+                (folder / f"seed-{seed}.csv").write_text(f"{','.join(read.COLUMNS[1])}\n1,4,0,0,40,10,7,1\n")
+            found = [read.Runs(folder, wanted) for wanted in (None, {("2",)})]
+        self.assertEqual([(2, 1), (1, 0)], [(len(it.rows), len(it.missing)) for it in found])
+
+    def test_over_seeds(self):
+        """Runs are alike where all but their seed is, and `never` is more than all numbers."""
+        found = {("5", "1"): {"took": 9}, ("5", "2"): {"took": 11}, ("7", "1"): {"took": "never"},
+                 ("7", "2"): {"took": 3}, ("9", "1"): {"took": 4}, ("9", "2"): {"took": 4}}
+        wanted = {("5",): {"took": "9 to 11"}, ("7",): {"took": "3 to never"}, ("9",): {"took": 4}}
+        self.assertEqual((("budget",), wanted), read.over_seeds(("budget", "seed"), found))

@@ -142,6 +142,11 @@ def check_fanout(fanout):
     refuse_if(not 1 <= fanout <= MOST_CALLS, f"a node calls 1 to {MOST_CALLS} peers in an interval, not {fanout}.")
 
 
+def counts_bytes(it, room):
+    """Whether a scenario counts bytes, where a delta has room for so many entries."""
+    return it["count"] == "bytes" or not it["count"] and rules.counts_bytes(room)
+
+
 def without_writes(rounds, fanout):
     """The sections that leave the writes to the first of the rounds that an interval has."""
     firsts = range(2, rounds + 1, fanout) if fanout > 1 else ()
@@ -182,7 +187,7 @@ def main(words):
     refuse_if(it["packet"] < it["entry"], f"the packet has {it['packet']} bytes, fewer than the {plain(it['entry'])} "
               "of an entry: give a larger packet, or a shorter entry.")
     refuse_if(room < it["entry"], f"the digest takes {taken} of the {it['packet']} bytes, which leaves no entry.")
-    in_bytes = it["count"] == "bytes" or not it["count"] and rules.counts_bytes(room / it["entry"])
+    in_bytes = counts_bytes(it, room / it["entry"])
     fields = scenario.top(it["nodes"], it["keys"], rounds, it["writes"], it["loss"] * 10000, room / it["entry"],
                           in_bytes, it["mode"], seed)
     print(*(f"# {line}" for line in remarks(it, room, in_bytes, loads)), scenario.written(fields) + loads, sep="\n",

@@ -68,7 +68,7 @@ class Study:
         self.rooms = {mode: self.room(mode) / self.parts for mode in scenario.MODES}
         modes = (self.usual,) if told["mode"] or self.parts > 1 else scenario.MODES
         room = self.knee if told["packet"] is None else max(self.rooms[it] for it in modes)
-        self.in_bytes = told["count"] == "bytes" or not told["count"] and rules.counts_bytes(room)
+        self.in_bytes = cluster.counts_bytes(told, room)
         self.fits_of_all = {mode: int(self.room(mode)) for mode in modes}
         self.fits = {mode: min(self.run_of(self.fits_of_all[mode]), scenario.LIMITS["budget"][1]) for mode in modes
                      if self.rooms[mode] >= LEAST}

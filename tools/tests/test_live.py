@@ -137,6 +137,10 @@ class Plans(unittest.TestCase):
     test_separated = table(plan(partition=[{"from": 2, "to": 3, "apart": [0, 1]}]).are_separated, {
         (1, 2, 1): False, (1, 2, 2): True, (1, 2, 3): True, (1, 2, 4): False, (0, 1, 2): False, (2, 3, 2): False})
 
+    # The last listed load counts.
+    test_writes = table(plan(load=[{"from": 2, "to": 4, "writes": 3}, {"from": 4, "to": 5, "writes": 0}]).writes_in, {
+        1: 1, 2: 3, 3: 3, 4: 0, 5: 0, 6: 1})
+
     # 19 bytes, 12 for each number of the digest, and the delta: no more than what can be lacking.
     test_largest_message = table(lambda form, budget, mode: plan(
         format=form, budget=budget, mode=mode).largest_message(), {

@@ -50,7 +50,16 @@ class Scenarios(unittest.TestCase):
         self.assertEqual(20, lines[4].count(","))
 
 
+HEADER = f"{','.join(read.COLUMNS[1])}\n"
+ROW = "1,4,0,0,40,10,7,1\n"
+
+
 class Reading(unittest.TestCase):
+    test_not_whole = table(lambda text: outcome(read.rows_of, text.encode(), 1, 1), {
+        "": "it is empty", HEADER[1:] + ROW: "its header is another", HEADER + "2" + ROW: "its line of round 1 is another",
+        HEADER[:-1]: "it is cut short after 0 of 1 rounds", HEADER + ROW[:-1]: "it is cut short after 0 of 1 rounds",
+        HEADER + ROW + ROW: "it goes on after its 1 rounds", HEADER + ROW + "2,4": "it goes on after its 1 rounds"})
+
     def test_those_that_are_wanted(self):
         """Of three runs, the last of which has no report, two are read, and one alone where it alone is wanted."""
         with tempfile.TemporaryDirectory() as room:
@@ -58,7 +67,7 @@ class Reading(unittest.TestCase):
             for seed in (1, 2, 3):
                 (folder / f"seed-{seed}.toml").write_text("format = 1\nrounds = 1\n")
             for seed in (1, 2):
-                (folder / f"seed-{seed}.csv").write_text(f"{','.join(read.COLUMNS[1])}\n1,4,0,0,40,10,7,1\n")
+                (folder / f"seed-{seed}.csv").write_text(HEADER + ROW)
             found = [read.Runs(folder, wanted) for wanted in (None, {("2",)})]
         self.assertEqual([(2, 1), (1, 0)], [(len(it.rows), len(it.missing)) for it in found])
 

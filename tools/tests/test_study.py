@@ -70,8 +70,9 @@ class Numbers(unittest.TestCase):
         10, which are counted in bytes. With the digest 100 entries take 8000."""
         it = of(f"{SHARED} mode={NEWEST}")
         self.assertEqual(({NEWEST: 50}, {(50, NEWEST), (100, NEWEST)}), (it.fits, it.wanted(it.usual)))
-        self.assertEqual([False, True], [of(f"{words} mode={NEWEST}").in_bytes for words in
-                                         (SHARED, SHARED.replace("6000", "4400"))])
+        few = SHARED.replace("6000", "4400")
+        self.assertEqual([False, True, False], [of(f"{words} mode={NEWEST}").in_bytes for words in
+                                                (SHARED, few, f"{few} count=entries")])
         self.assertEqual(8000, it.packet(it.usual))
         with self.assertRaisesRegex(cluster.Refused, "10000 nodes are .* leave out mode=precise-newest"):
             of(f"{LARGE} mode={NEWEST}")

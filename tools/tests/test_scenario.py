@@ -56,7 +56,8 @@ ROW = "1,4,0,0,40,10,7,1\n"
 
 class Reading(unittest.TestCase):
     test_not_whole = table(lambda text: outcome(read.rows_of, text.encode(), 1, 1), {
-        "": "it is empty", HEADER[1:] + ROW: "its header is another", HEADER + "2" + ROW: "its line of round 1 is another",
+        "": "it is empty", HEADER[1:] + ROW: "its header is another",
+        HEADER + "2" + ROW: "its line of round 1 is another",
         HEADER[:-1]: "it is cut short after 0 of 1 rounds", HEADER + ROW[:-1]: "it is cut short after 0 of 1 rounds",
         HEADER + ROW + ROW: "it goes on after its 1 rounds", HEADER + ROW + "2,4": "it goes on after its 1 rounds"})
 

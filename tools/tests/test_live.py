@@ -105,6 +105,18 @@ class Order(unittest.TestCase):
             cluster.exchange(0, 1)
             self.assertEqual({0: 1, 1: 2}, {it.key: it.mark for it in cluster.nodes[0].table[1].values()}, mode)
 
+    def test_a_newer_generation_wins(self):
+        """Of owner 1 one node holds x, and another one y, which is of a newer generation."""
+        x, y = Entry(1, 1, mark(0, 5), 0, 3), Entry(1, 0, mark(1, 1), 0, 4)
+        for mode in MODES:
+            older, newer = Cluster(mode=mode).nodes[2:]
+            older.apply([x])
+            newer.apply([y])
+            self.assertEqual(([], [y]), (older.delta(0, newer.digest()), newer.delta(0, older.digest())), mode)
+            older.apply([y])
+            newer.apply([x])
+            self.assertEqual([{1: {0: y}}] * 2, [older.table, newer.table], mode)
+
     def test_no_gap(self):
         """In a scuttle mode a node has all of an owner's own entries up to the greatest mark that it holds of it."""
         for seed in range(20):

@@ -26,6 +26,21 @@ class Room(tempfile.TemporaryDirectory):
         return Path(self.name)
 
 
+class Text:
+    """Equals each text, or bytes, that begins so, has these parts and, where that is told, so many lines."""
+
+    def __init__(self, begin="", *parts, lines=None):
+        self.told = begin, parts, lines
+
+    def __eq__(self, found):
+        begin, parts, lines = self.told
+        text = found.decode(errors="replace") if isinstance(found, bytes) else found
+        return text.startswith(begin) and all(it in text for it in parts) and lines in (None, text.count("\n"))
+
+    def __repr__(self):
+        return f"Text{self.told}"
+
+
 def ran(*command, given=b"", **how):
     """The status, standard output and standard error of a command with an input: bytes, a text or a file."""
     source = {"input": given} if isinstance(given, (bytes, str)) else {"stdin": given}

@@ -6,7 +6,7 @@ import sys
 from toolchain import NEWER, OLDER, has_newer
 from tried.calls import run, started, stopped, waits_for
 from tried.toys import CRATES, Toy
-from trials import TOP, holds, small_files
+from trials import TOP, Text, holds, small_files
 
 BUILT = f"gossip_bench: built for {NEWER if has_newer() else OLDER} processors"
 
@@ -31,13 +31,11 @@ def try_kept(room):
     holds("the program", (0, f"{''.join(lines)}run \nthe scenario", ""),
           run(room, toy.program, "run", text="the scenario", GLIBC_TUNABLES=""))
     builds("a second build", toy, [])
-    status, out, err = toy.call_and_hear("scripts/build", READING="1.5")
-    holds("what is kept isn't said to be proved, however long the look at it takes", (0, "", 1, []),
-          (status, out, err.count("\n"), toy.proved()))
+    holds("what is kept isn't said to be proved, however long the look at it takes", (0, "", Text(lines=1), []),
+          (*toy.call_and_hear("scripts/build", READING="1.5"), toy.proved()))
     toy.add("low", "// a remark")
-    status, _, err = toy.call_and_hear("scripts/build", PROVING="sleep 2.5")
-    holds("a remark", (0, "gossip_bench: proving low, 1 of 4 crates", ["low"]),
-          (status, err.partition("\n")[0], toy.proved()))
+    holds("a remark", (0, "", Text("gossip_bench: proving low, 1 of 4 crates\n"), ["low"]),
+          (*toy.call_and_hear("scripts/build", PROVING="sleep 2.5"), toy.proved()))
     toy.add("left", "pub fn another()")
     builds("another statement", toy, ["left", "gossip_bench"])
     toy.add("low", "pub fn another()")
@@ -69,9 +67,9 @@ def try_changes_under_way(room):
     builds("what came later", toy, ["left", "gossip_bench"])
     library = toy.top / "crates/low/out/proved/low.rlib/statements"
     toy.add("right", "// a remark")
-    status, said, _ = toy.build(PROVING=f'[ "$0" != right ] || echo "pub fn other()" >>"{library}"')
-    holds("a library that changes while one above is proved", (1, True),
-          (status, "a library below was changed while this crate was proved: build again" in said))
+    holds("a library that changes while one above is proved",
+          (1, Text("", "a library below was changed while this crate was proved: build again"), ["right"]),
+          toy.build(PROVING=f'[ "$0" != right ] || echo "pub fn other()" >>"{library}"'))
     builds("a build again", toy, ["low", "right"])
 
 
@@ -81,15 +79,14 @@ def try_failing(room):
     builds("a first build", toy, CRATES)
     before = toy.program.read_bytes()
     toy.add("low", "pub fn wrong() // WRONG")
-    status, said, proved = toy.build()
     why = "src/lib.rt: a goal is not proved\ngossip_bench: low is not proved: the log is crates/low/out/build.log\n"
-    holds("a crate that isn't proved", (1, why, ["low"]), (status, said, proved))
+    holds("a crate that isn't proved", (1, why, ["low"]), toy.build())
     holds("it is tried again", (1, ["low"]), toy.build()[::2])
     holds("the program is as it was", before, toy.program.read_bytes())
     toy.source("low").write_text("// low\npub fn low()\n")
     builds("the former text", toy, [])
-    status, said, _ = toy.build(with_rt=False)
-    holds("no toolchain", (1, "gossip_bench: the command rt of the Rattle toolchain is not found\n"), (status, said))
+    holds("no toolchain", (1, "gossip_bench: the command rt of the Rattle toolchain is not found\n", []),
+          toy.build(with_rt=False))
     holds("nothing else is left", [], [*toy.top.glob("crates/*/out/rooms-*"), *toy.top.glob("crates/*/out/**/*.part")])
 
 
@@ -98,9 +95,8 @@ def try_toolchains(room):
     toy = Toy(room / "toolchains")
     rt = toy.kit / "bin/rt"
     rt.write_text(rt.read_text().replace("def handles_of(", "def handles("))
-    status, said, _ = toy.build()
-    holds("another toolchain", (1, f"gossip_bench: {rt} is of another toolchain than the scripts were written for: it "
-                                "lacks handles_of\n"), (status, said))
+    why = f"gossip_bench: {rt} is of another toolchain than the scripts were written for: it lacks handles_of\n"
+    holds("another toolchain", (1, why, []), toy.build())
     if not shutil.which("rt"):
         print("rt isn't there: that it has what the scripts use isn't tried")
         return
@@ -112,10 +108,8 @@ def try_full_disks(room):
     """A disk that is full is told in a sentence, and what was kept counts no less and no more."""
     toy = Toy(room / "full")
     for most in (0, 20, 40, 100, 150):
-        status, said, _ = toy.build(before=small_files(most))
-        lines = said.splitlines()
-        says_why = lines[0].startswith("gossip_bench: not built: ") and lines[0].endswith("File too large.")
-        holds(f"no file above {most} bytes", (1, 1, True), (status, len(lines), says_why))
+        holds(f"no file above {most} bytes", (1, Text("gossip_bench: not built: ", "File too large.\n", lines=1)),
+              toy.build(before=small_files(most))[:2])
     # (its seconds were being noted)
     (toy.top / "crates/low/out/seconds").write_text("")
     holds("with room", (0, True), (toy.build()[0], toy.program.exists()))
@@ -136,11 +130,10 @@ def try_words(room):
         builds(f"{word} once more", toy, [], word)
         builds(f"{word} without the word", toy, [])
         holds(f"the program after {word}", f"# for {kind}", toy.program.read_text().splitlines()[1])
-    status, out, err = toy.call("scripts/build", "--help", with_rt=False)
-    holds("--help", (0, "build [portable | native]: proves and builds", ""), (status, out[:44], err))
+    holds("--help", (0, Text("build [portable | native]: proves and builds"), ""),
+          toy.call("scripts/build", "--help", with_rt=False))
     for words in (("walk",), ("portable", "native"), ("--portable",)):
-        status, out, err = toy.call("scripts/build", *words)
-        holds(f"build {' '.join(words)}", (2, "", True, 1), (status, out, err.startswith("build: "), err.count("\n")))
+        holds(f"build {' '.join(words)}", (2, "", Text("build: ", lines=1)), toy.call("scripts/build", *words))
     holds("words that are refused prove nothing", [], toy.proved())
 
 

@@ -6,7 +6,7 @@ import subprocess
 import tempfile
 import time
 
-from trials import PROGRAM, TOP, holds
+from trials import PROGRAM, TOP, Text, holds
 
 GUIDE = TOP / "examples" / "guide"
 TOOLS = TOP / "tools"
@@ -61,9 +61,7 @@ def tells(name, text, *parts):
 
 def refuses(room, why, script, *words, **how):
     """The script ends with status 2, prints nothing, and says why in one line."""
-    status, out, err = run(room, script, *words, **how)
-    says_why = why in err and err.startswith(script) and err.count("\n") == 1
-    holds(f"{script} {' '.join(words)}: {why}", (2, "", True), (status, out, says_why or err))
+    holds(f"{script} {' '.join(words)}: {why}", (2, "", Text(script, why, lines=1)), run(room, script, *words, **how))
 
 
 def refuse(room, table, *script, **how):
@@ -82,9 +80,8 @@ def written(file, text):
 def fails(room, why, status, script, *words, **how):
     """The script ends with this status, prints nothing, and says why in its last line."""
     ended, out, err = run(room, script, *words, **how)
-    last = err.splitlines()[-1:]
-    says_why = bool(last) and why in last[0] and last[0].startswith(script) and "Traceback" not in err
-    holds(f"{script} {' '.join(words)}: {why}", (status, "", True), (ended, out or "", says_why or err))
+    holds(f"{script} {' '.join(words)}: {why}", (status, "", Text(script, why), False),
+          (ended, out or "", "".join(err.splitlines()[-1:]), "Traceback" in err))
 
 
 def program_that(room, name, body):

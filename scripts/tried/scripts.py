@@ -4,7 +4,7 @@ from pages import PAGES, in_package, without_marks
 from parts import Part, Parts, outcome_of
 from toolchain import imported
 from tried.calls import run, written
-from trials import TOP, holds
+from trials import TOP, Text, holds
 
 SCRIPTS = TOP / "scripts"
 # The last line and the status of a part, and how many of its trials have passed and failed.
@@ -29,11 +29,9 @@ def try_words(room):
     """Each says what it does, and refuses other words in a line."""
     holds("there are scripts", True, len(python_scripts()) > 15)
     for script in python_scripts():
-        status, out, err = run(room, script, "--help")
-        holds(f"{script.name} --help", (0, script.name, ""), (status, out[:len(script.name)], err))
-        status, out, err = run(room, script, "--walk", "about", "there")
-        holds(f"{script.name} --walk", (2, "", True, 1),
-              (status, out, err.startswith(f"{script.name}: "), err.count("\n")))
+        holds(f"{script.name} --help", (0, Text(script.name), ""), run(room, script, "--help"))
+        holds(f"{script.name} --walk", (2, "", Text(f"{script.name}: ", lines=1)),
+              run(room, script, "--walk", "about", "there"))
 
 
 def try_imports(_):

@@ -4,7 +4,7 @@ import shutil
 
 from tried.calls import run, written
 from tried.toys import LONG_AGO, Toy
-from trials import holds, small_files
+from trials import Text, holds, small_files
 
 BUILDING = "gossip_bench: building. The first build proves everything and takes minutes.\n"
 TUNABLES = "glibc.malloc.hugetlb=1"
@@ -26,16 +26,15 @@ def built(room):
 
 def try_building(room):
     """It builds where there is no program yet, where a source was changed, and where the program was."""
-    status, out, err = Toy(room / "unbuilt").call("gossip_bench", "run", with_rt=False)
-    holds("no toolchain and no program", (3, "", True, 1), (status, out, "rt of the Rattle toolchain" in err,
-                                                            err.count("\n")))
+    holds("no toolchain and no program", (3, "", Text("", "rt of the Rattle toolchain", lines=1)),
+          Toy(room / "unbuilt").call("gossip_bench", "run", with_rt=False))
     toy = built(room / "built")
     starts("a second call", toy, "check", with_rt=False)
     toy.source("low").touch()
     starts("a source with another time", toy, "check", with_rt=False)
     toy.add("low", "pub fn more()")
-    status, out, err = toy.call("gossip_bench", "run", with_rt=False)
-    holds("a source that was changed, without a toolchain", (3, "", 1), (status, out, err.count("\n")))
+    holds("a source that was changed, without a toolchain", (3, "", Text(lines=1)),
+          toy.call("gossip_bench", "run", with_rt=False))
     starts("a source that was changed", toy, "run", builds=True)
     holds("what was changed is in it", True, "pub fn more()" in toy.program.read_text())
     (toy.top / "crates/right/proofs").mkdir()
@@ -62,10 +61,10 @@ def try_calling(room):
     starts("another folder", toy, "run", room=elsewhere, CDPATH=str(toy.top))
     (elsewhere / "absolute").symlink_to(toy.top / "gossip_bench")
     (elsewhere / "link").symlink_to("absolute")
-    status, out, err = run(room, elsewhere / "link", "a b", "'c'", text="", PATH=str(toy.bare))
-    holds("links", (0, [f"a b 'c' {TUNABLES}"], ""), (status, out.splitlines()[-1:], err))
-    status, out, err = toy.call("gossip_bench", "run", with_rt=False, GLIBC_TUNABLES="")
-    holds("what the caller says of memory", (0, ["run "], ""), (status, out.splitlines()[-1:], err))
+    holds("links", (0, Text("", f"\na b 'c' {TUNABLES}\n"), ""),
+          run(room, elsewhere / "link", "a b", "'c'", text="", PATH=str(toy.bare)))
+    holds("what the caller says of memory", (0, Text("", "\nrun \n"), ""),
+          toy.call("gossip_bench", "run", with_rt=False, GLIBC_TUNABLES=""))
     toy.program.write_text("#!/bin/sh\ncat >&2\nexit 1\n")
     (toy.top / "scripts/build").write_text("#!/bin/sh\n")
     for name, said in (("status and standard error", BUILDING), ("once more", "")):
@@ -82,9 +81,8 @@ def try_failing(room):
     """Where the build fails nothing is run."""
     toy = built(room / "failing")
     toy.add("left", "// WRONG")
-    status, out, err = toy.call("gossip_bench", "run")
-    holds("a build that fails", (3, "", "gossip_bench: the build failed, so nothing was run"),
-          (status, out, err.splitlines()[-1]))
+    holds("a build that fails", (3, "", Text("", "\ngossip_bench: the build failed, so nothing was run\n")),
+          toy.call("gossip_bench", "run"))
     toy.source("left").write_text("// left\npub fn left()\n")
     starts("the former text", toy, "run", with_rt=False)
     toy.program.unlink()
@@ -96,18 +94,16 @@ def try_failing(room):
 def try_full_disks(room):
     """A full disk is told in a sentence where something is to be written, and the program is run all the same."""
     toy = Toy(room / "full")
-    status, out, err = toy.call("gossip_bench", "run", before=small_files(20))
-    said = err.removeprefix(BUILDING).splitlines()
-    holds("no room for a build", (3, "", ["gossip_bench: the build failed, so nothing was run"], True),
-          (status, out, said[1:], said[0].endswith("File too large.")))
+    why = "File too large.\ngossip_bench: the build failed, so nothing was run\n"
+    holds("no room for a build", (3, "", Text(BUILDING, why, lines=3)),
+          toy.call("gossip_bench", "run", before=small_files(20)))
     starts("with room", toy, "run", builds=True)
     kept = {it: it.read_bytes() for it in (toy.program.with_name(name) for name in ("seen", "built_from"))}
     shutil.copy(toy.source("low"), room / "low")
     (room / "low").replace(toy.source("low"))
     for _ in range(2):
-        status, out, err = toy.call("gossip_bench", "run", text="nodes = 2\n", before=small_files(20))
-        holds("no room for times", (0, "nodes = 2", 1, True), (status, out.splitlines()[-1], err.count("\n"),
-                                                             err.startswith("gossip_bench: ")))
+        holds("no room for times", (0, Text("", "\nnodes = 2\n"), Text("gossip_bench: ", lines=1)),
+              toy.call("gossip_bench", "run", text="nodes = 2\n", before=small_files(20)))
     holds("what was noted stays, and nothing is left", (kept, []),
           ({it: it.read_bytes() for it in kept}, [*toy.program.parent.glob("seen.*")]))
     starts("with room again", toy, "run")

@@ -6,7 +6,7 @@ import unittest
 import installed
 from gossip_tools import VERSION
 from tried.calls import COMPARED, GUIDE, LACKING, TOOLS, run, written
-from trials import TOP, holds, passed, ran
+from trials import TOP, Text, holds, passed, ran
 
 INSTALL = TOP / "scripts" / "install"
 # What may be said of the program that is installed.
@@ -17,16 +17,14 @@ def try_help(room):
     tools = sorted(it for it in TOOLS.glob("gossip_*") if it.is_file())
     holds("there are tools", True, len(tools) >= 5)
     for tool in (*tools, GUIDE / "check_trace.py"):
-        status, out, err = run(room, tool, "--help")
-        holds(f"{tool.name} --help", (0, True, ""), (status, out.startswith(tool.name) and out.count("\n") > 1, err))
+        holds(f"{tool.name} --help", (0, Text(tool.name, "\n\n"), ""), run(room, tool, "--help"))
     for name, tool in installed.commands().items():
         (room / name).symlink_to(tool)
         holds(f"{name} --version", (0, f"{name} {VERSION}\n", ""), run(room, room / name, "--version"))
     older = "import sys; sys.version_info = (3, 10); sys.path.insert(0, sys.argv[1]); import "
     for module, wanted in (("gossip_tools", 2), ("replay", 1)):
-        status, out, err = run(room, sys.executable, "-c", older + module, TOOLS)
-        holds(f"an older Python for {module}", (wanted, "", True),
-              (status, out, "Python 3.11 or later is needed" in err))
+        holds(f"an older Python for {module}", (wanted, "", Text("", "Python 3.11 or later is needed")),
+              run(room, sys.executable, "-c", older + module, TOOLS))
 
 
 def try_units(_):
@@ -67,8 +65,7 @@ def try_install(room):
     written(room / "lacking", LACKING)
     for words, variables in (((f"{room}/lacking",), {}), ((f"{room}/lacking/below",), {}), ((there, there), {}),
                              ((there,), {"GOSSIP_BENCH": "none"}), ((there,), {"GOSSIP_BENCH": "./lacking"})):
-        status, out, err = run(room, INSTALL, *words, **variables)
-        holds(f"install {words}", (2, "", True), (status, out, err.startswith("install: ") and err.count("\n") == 1))
+        holds(f"install {words}", (2, "", Text("install: ", lines=1)), run(room, INSTALL, *words, **variables))
 
 
 TRIALS = (try_help, try_units, try_install)

@@ -96,11 +96,16 @@ def end():
     return 1 if failed else 0
 
 
-def try_each(text, *trials):
-    """Makes trials of the program, each in a room of its own, for a script that has this text and takes no words."""
-    arguments.take_none(text)
+def trials_of(names):
+    """The functions `try_..` among the names of a module, in their order there."""
+    return [it for name, it in names.items() if name.startswith("try_") and it.__module__ == names["__name__"]]
+
+
+def try_each(names):
+    """Makes the trials of the program that a script has, which takes no words, each in a room of its own."""
+    arguments.take_none(names["__doc__"])
     need_program()
-    for trial in trials:
+    for trial in trials_of(names):
         with Room() as room:
             trial(room)
     return end()

@@ -9,7 +9,7 @@ import signal
 import tomllib
 
 from tried.calls import program_that, refuses, run, started, stopped, tells, waits_for
-from trials import PROGRAM, holds
+from trials import PROGRAM, Text, holds
 
 
 class Tags(html.parser.HTMLParser):
@@ -100,8 +100,7 @@ def advised(room, *words, **how):
     """The first answer and the last, and all that is printed."""
     status, out, err = run(room, "gossip_advise", *words, **how)
     holds(f"gossip_advise {' '.join(words)}", (0, False), (status, "Traceback" in err))
-    first, _, last = out.partition("\n\n")
-    return first, last, out
+    return *out.partition("\n\n")[::2], out
 
 
 def page_of(folder, *parts):
@@ -420,14 +419,13 @@ def try_stopping_advice(room):
     with started(room, "gossip_advise", "-o", "ended", *cluster, GOSSIP_BENCH=slow) as process:
         holds("runs are made", True, waits_for(lambda: len(list(room.glob("ended/many/*.csv"))) == 4))
         refuses(room, f"ended is in use by process {process.pid}", "gossip_advise", "-o", "ended", *cluster)
-        status, out, err = stopped(process, signal.SIGTERM)
-    holds("advice is stopped", (143, "", True),
-          (status, out, "stopped by SIGTERM, which loses the runs under way. 4 of" in err or err))
+        holds("advice is stopped", (143, "", Text("", "stopped by SIGTERM, which loses the runs under way. 4 of")),
+              stopped(process, signal.SIGTERM))
     (room / "fast").touch()
-    status, out, err = run(room, "gossip_advise", "-o", "ended", GOSSIP_BENCH=slow)
+    outcome = run(room, "gossip_advise", "-o", "ended", GOSSIP_BENCH=slow)[:2]
     runs, reports = len((room / "slow.runs").read_text().splitlines()), len(list(room.glob("ended/*/*.csv")))
     # (the two that were stopped are run again)
-    holds("it goes on where it was", (0, True, runs - 2), (status, "Take scuttle-depth" in out, reports))
+    holds("it goes on where it was", (0, Text("", "Take scuttle-depth"), runs - 2), (*outcome, reports))
     # (those of the first answer are as usual, and those with a smaller budget wait)
     late = program_that(room, "late", 'text=$(cat)\ncase "$text" in *"budget = 4"*) exec sleep 60;; esac\n'
                         f'echo "$text" | exec "{PROGRAM}" run')
@@ -435,12 +433,8 @@ def try_stopping_advice(room):
     with started(room, "gossip_advise", *words, GOSSIP_BENCH=late) as process:
         holds("the first answer is there", True,
               waits_for(lambda: list((room / "first" / "many").glob("budget-4.*")), seconds=60))
-        status, out, err = stopped(process, signal.SIGTERM)
+        status, out, _ = stopped(process, signal.SIGTERM)
     answer = (room / "first" / "answer.txt").read_text()
-    holds("a stop leaves the first answer", (143, True, True),
-          (status, answer.startswith("First answer, from 200 rounds: "), out.startswith(answer)))
+    holds("a stop leaves the first answer", (143, Text("First answer, from 200 rounds: "), Text(answer)),
+          (status, answer, out))
     page_of(room / "first", "<h1>First answer. 6 nodes: ")
-
-
-TRIALS = (try_advice, try_reserve, try_target, try_calls, try_hopeless_advice, try_longer_runs,
-          try_advice_below_the_knee, try_restarts_of_half, try_stopping_advice)

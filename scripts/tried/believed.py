@@ -76,6 +76,3 @@ def try_changes(room):
         holds(name, wanted, [it for it in told if not it.startswith("docs/")])
         for file, text in kept.items():
             (room / "crates" / file).write_text(text)
-
-
-TRIALS = (try_changes,)

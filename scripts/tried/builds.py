@@ -163,6 +163,3 @@ def try_stopping(room):
         process.communicate()
     holds("each crate is proved once", sorted(CRATES), sorted(toy.proved()))
     holds("what was killed is gone", [], rooms())
-
-
-TRIALS = (try_kept, try_changes_under_way, try_failing, try_toolchains, try_full_disks, try_words, try_stopping)

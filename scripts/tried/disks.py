@@ -20,6 +20,3 @@ def try_full_disks(room):
     fails(room, "fullest/cluster.toml: File too large.", 1, "gossip_advise", "-o", "fullest", *CLUSTER,
           before=small_files(100))
     holds("no numbers that aren't whole", ["lock"], [it.name for it in (room / "fullest").iterdir()])
-
-
-TRIALS = (try_full_disks,)

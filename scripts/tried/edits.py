@@ -7,6 +7,7 @@ from toolchain import imported, load_reader
 from tried.calls import tells
 from trials import TOP, holds
 
+NEEDS = "rt"  # which reads the crate, and applies its edits
 SOURCE = """pub trait Number {
     fn next(self) -> u32;
 }
@@ -156,9 +157,3 @@ def try_groups(room):
                                ("one", (LOST, BARE, *of_double), [None, True])):
         _, crate, _ = toy(room, f"group of {name}", [said])
         holds(f"together: {name}", wanted, [*crate.refused(crate.edits, crate.check(crate.edits)).values()])
-
-
-# (the toolchain reads the crate, and applies its edits)
-TRIALS = (try_causes, try_names, try_lost_names, try_groups) if shutil.which("rt") else ()
-if not TRIALS:
-    print("rt isn't there: try_edits isn't tried")

@@ -8,7 +8,7 @@ import statistics
 from concurrent.futures import ThreadPoolExecutor
 
 from tried.calls import fails, is_running, program_that, refuses, run, started, stopped, waits_for
-from trials import PROGRAM, holds
+from trials import PROGRAM, Text, holds
 from gossip_tools import live
 from gossip_tools.live_figures import Figures
 from gossip_tools.live_node import Node, decoded
@@ -122,8 +122,8 @@ def try_words(room):
     large = CLUSTER.replace("nodes = 16", "nodes = 4000")
     # (19 bytes, 4000 numbers of 12, 16 entries of 24)
     refuses(room, "may take 72019 bytes", "gossip_live", text=large.replace("budget = 16", "budget = 1000"))
-    status, out, err = run(room, "gossip_live", text=CLUSTER.replace("keys = 4", "keys = 0"))
-    holds("a scenario that the program refuses", (1, "", True), (status, out, err.startswith("fault 6: field keys")))
+    holds("a scenario that the program refuses", (1, "", Text("fault 6: field keys")),
+          run(room, "gossip_live", text=CLUSTER.replace("keys = 4", "keys = 0")))
 
 
 def agreed(room, text):
@@ -151,12 +151,11 @@ def try_clusters(room):
         outcomes = at_once.map(lambda text: agreed(room, text), cases.values())
     for (name, text), (status, out, err, rows) in zip(cases.items(), outcomes):
         header = HEADER if "format = 1" in text else HEADER.replace("\n", ",leftover\n")
-        holds(f"a report of {name}", (True, list(range(1, len(rows) + 1))),
-              (out.startswith(header), [it[0] for it in rows]))
+        holds(f"a report of {name}", (Text(header), list(range(1, len(rows) + 1))), (out, [it[0] for it in rows]))
         last = rows[-1][3:] if rows else [out]
         holds(f"copies agree: {name}", [0] * len(last), last)
-        says_how_fast = err.startswith("gossip_live: ") and " timers were late" in err
-        holds(f"it says how fast it was: {name}", (True, True), (status in (0, WORTHLESS), says_how_fast))
+        holds(f"it says how fast it was: {name}", (True, Text("gossip_live: ", " timers were late")),
+              (status in (0, WORTHLESS), err))
         are_judged = status != WORTHLESS
         holds(f"figures of {name}", True, not are_judged or are_plausible(rows[5:15], 15 if RESTARTED in text else 8))
 
@@ -187,8 +186,8 @@ def try_beside(room):
 def try_slow_machines(room):
     """No machine is fast enough for 1560 exchanges in a hundredth of a second."""
     text = CLUSTER.replace("nodes = 16", "nodes = 40").replace("rounds = 30", "rounds = 3")
-    status, out, err = run(room, "gossip_live", "interval=0.01", "fanout=39", text=text)
-    holds("a machine that is too slow", (WORTHLESS, 4, True), (status, out.count("\n"), "figures are worthless" in err))
+    holds("a machine that is too slow", (WORTHLESS, Text(HEADER, lines=4), Text("", "figures are worthless")),
+          run(room, "gossip_live", "interval=0.01", "fanout=39", text=text))
 
 
 def wait_for_a_row(process):
@@ -237,6 +236,3 @@ def try_faults(room):
     fails(room, "printed no whole report", 1, "gossip_live", "beside=1", text=CLUSTER, GOSSIP_BENCH=half)
     faulty = program_that(room, "faulty", "echo fault 1: out of memory >&2; exit 1")
     fails(room, "status 1: fault 1: out of memory", 1, "gossip_live", "beside=1", text=CLUSTER, GOSSIP_BENCH=faulty)
-
-
-TRIALS = (try_words, try_following_traces, try_clusters, try_beside, try_slow_machines, try_stopping, try_faults)

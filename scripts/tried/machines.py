@@ -6,7 +6,7 @@ import shutil
 import signal
 
 from tried.calls import LACKING, fails, gives, is_running, program_that, refuses, started, stopped, waits_for, written
-from trials import PROGRAM, holds
+from trials import PROGRAM, Text, holds
 
 
 def try_several_machines(room):
@@ -43,11 +43,11 @@ def try_several_machines(room):
     for hosts, why in (("alpha,dying", "on dying: status 255: Connection closed. "),
                        ("silent,:", "on silent: status 255. ")):
         fails(room, why, 1, "gossip_sweep", "-o", "dying", *sweep, HOSTS=hosts, **far)
-    try_first_starts(room, sweep, far)
+    starts_first(room, sweep, far)
     faulty = program_that(room, "faulty", "echo fault 1: out of memory >&2; exit 1")
     fails(room, "status 1: fault 1: out of memory. 0 of 16", 1, "gossip_sweep", "-o", "far", *sweep,
           HOSTS="alpha", **far, GOSSIP_BENCH=faulty)
-    try_ends(room, sweep, far)
+    ends_machines(room, sweep, far)
 
 
 def running_at(home):
@@ -59,15 +59,14 @@ def running_at(home):
     return found
 
 
-def try_ends(room, sweep, far):
+def ends_machines(room, sweep, far):
     """A sweep that is stopped or killed leaves no run, here or on another machine."""
     hanging = program_that(room, "hanging", "echo $$ >>pids\nexec sleep 60")
-    for number, ends in ((signal.SIGTERM, (143, True)), (signal.SIGKILL, (-9, False))):
+    for number, status, said in ((signal.SIGTERM, 143, "0 of 16 runs stand in stopped"), (signal.SIGKILL, -9, "")):
         with started(room, "gossip_sweep", "-o", "stopped", *sweep, HOSTS=":,alpha", **far,
                      GOSSIP_BENCH=hanging) as process:
             holds("runs begin on machines", True, waits_for(lambda: len(list(room.glob("**/pids"))) == 2))
-            status, out, err = stopped(process, number)
-        holds(f"machines after {number.name}", (*ends, ""), (status, "0 of 16 runs stand in stopped" in err, out))
+            holds(f"machines after {number.name}", (status, "", Text("", said)), stopped(process, number))
         holds(f"nothing runs there after {number.name}", True, waits_for(lambda: not running_at(far["HOME"]), 30))
         for it in running_at(far["HOME"]):
             os.kill(int(it), signal.SIGKILL)
@@ -75,7 +74,7 @@ def try_ends(room, sweep, far):
             it.unlink()
 
 
-def try_first_starts(room, sweep, far):
+def starts_first(room, sweep, far):
     """Nothing is run where the program doesn't start on each machine, and its line is told."""
     # (JOBS is set here alone)
     written(room / "newer", LACKING.replace("echo", f'[ "$JOBS" ] && exec "{PROGRAM}" "$@"\necho'))
@@ -90,11 +89,7 @@ def try_first_starts(room, sweep, far):
                 "packet=4000", **how)
     with started(room, "gossip_sweep", "-o", "never", *sweep, HOSTS=":,slow", **far) as process:
         holds("a first start begins", True, waits_for(lambda: (room / "home" / "slow").exists()))
-        status, out, err = stopped(process, signal.SIGTERM)
+        holds("a first start is stopped", (143, "", Text("", "0 of 16 runs stand")), stopped(process, signal.SIGTERM))
     pid = (room / "home" / "slow").read_text()
-    holds("a first start is stopped", (143, "", True), (status, out, "0 of 16 runs stand" in err or err))
     holds("and leaves no ssh", True, waits_for(lambda: not is_running(int(pid)), 2))
     holds("nothing is run where a machine can't", [], [*room.glob("never*/**/*.csv"), *room.glob("never*/**/.*.part")])
-
-
-TRIALS = (try_several_machines,)

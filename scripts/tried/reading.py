@@ -47,6 +47,3 @@ def try_other_scenarios(room):
                       (b"#" * 1048577, f"{other.relative_to(room)} is longer than 1048576 bytes")):
         other.write_bytes(text)
         refuses(room, why, "gossip_read", "window", "1", "2", "read")
-
-
-TRIALS = (try_reading, try_other_scenarios)

@@ -90,6 +90,3 @@ def try_what_is_printed(room):
 
 def try_refusals(room):
     refuse(room, REFUSED, "gossip_scenario")
-
-
-TRIALS = (try_fields, try_what_is_printed, try_refusals)

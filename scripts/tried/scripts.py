@@ -64,6 +64,3 @@ def try_marks(_):
         text = (TOP / page).read_text()
         other = text.replace("`scripts/", "`scripts/another/")
         holds(f"{page} with other sentences", in_package(text, page), in_package(other, page))
-
-
-TRIALS = (try_words, try_imports, try_parts, try_marks)

@@ -53,6 +53,3 @@ def try_sections(room):
     _, printed, _ = run(room, "gossip_restarts", "7", "1", "1", "1000", "0")
     holds("1000 restarts", 1000, printed.count("[[restart]]"))
     refuse(room, REFUSED)
-
-
-TRIALS = (try_sections,)

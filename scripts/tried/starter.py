@@ -108,6 +108,3 @@ def try_full_disks(room):
           ({it: it.read_bytes() for it in kept}, [*toy.program.parent.glob("seen.*")]))
     starts("with room again", toy, "run")
     starts("and at once then", toy, "run")
-
-
-TRIALS = (try_building, try_calling, try_failing, try_full_disks)

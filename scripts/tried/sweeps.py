@@ -8,7 +8,7 @@ from tried.calls import (
     COMPARED, HEADER, LACKING, SMALL, fails, gives, is_running, program_that, refuse, refuses, run, started, stopped,
     takes_signal, waits_for, written,
 )
-from trials import PROGRAM, TOP, holds
+from trials import PROGRAM, TOP, Text, holds
 
 
 LONG = "x" * 5000
@@ -49,8 +49,7 @@ def try_words_of_sweeps(room):
     refuses(room, "the scenario is empty", "gossip_sweep", "seed=1", text="")
     fails(room, f"answer to mode-{'x' * 55}.., so nothing was run.", 1, "gossip_sweep", f"mode={LONG}")
     for words, text, fault in FAULTS:
-        status, out, err = run(room, "gossip_sweep", words, text=text)
-        holds(f"sweep of {words}", (1, "", True), (status, out, err.startswith(fault)))
+        holds(f"sweep of {words}", (1, "", Text(fault)), run(room, "gossip_sweep", words, text=text))
     holds("no runs are left", False, (room / "runs").exists())
 
 
@@ -171,15 +170,14 @@ def try_missing(room):
     for why, text in damaged.items():
         report.write_bytes(text)
         refuses(room, f"1 of 4 runs are missing: {name} ({why.strip()}", "gossip_read", "level", "1", "0", "missing")
-        status, out, err = run(room, "gossip_sweep", *sweep)
-        holds(f"made again: {why}", (0, "4 runs in missing\n", True, whole),
-              (status, out, why.strip() in err and name in err, report.read_text()))
+        holds(f"made again: {why}", (0, "4 runs in missing\n", Text("", why.strip(), name), whole),
+              (*run(room, "gossip_sweep", *sweep), report.read_text()))
     report.unlink()
     refuses(room, f"{name} (it isn't there)", "gossip_read", "level", "1", "0", "missing")
-    status, out, err = run(room, "gossip_read", "level", "1", "0", "missing", "--partial")
     # (with room for two each way, two exchanges of a round bring the three writes)
-    holds("what is there is read", (0, "budget,mode,round,took\n1,scuttle-depth,2,2\n2,scuttle-depth,1,1\n"
-          "2,precise-newest,1,1\n", True), (status, out, name in err))
+    rows = "budget,mode,round,took\n1,scuttle-depth,2,2\n2,scuttle-depth,1,1\n2,precise-newest,1,1\n"
+    holds("what is there is read", (0, rows, Text("", name)),
+          run(room, "gossip_read", "level", "1", "0", "missing", "--partial"))
     for it in (room / "missing").glob("*.csv"):
         it.unlink()
     refuses(room, "4 of 4 runs are missing", "gossip_read", "level", "1", "0", "missing", "--partial")
@@ -277,7 +275,3 @@ def try_lasting_faults(room):
     name = "x" * 5000
     holds("a name that is too long", (1, "", f"gossip_sweep: {'x' * 60}..: File name too long.\n"),
           run(room, "gossip_sweep", "-o", name, "budget=1"))
-
-
-TRIALS = (try_words_of_sweeps, try_variables, try_long_scenarios, try_runs, try_other_folders, try_what_is_kept,
-          try_forgetting, try_missing, try_sweeps_at_once, try_stopping, try_wrong_programs, try_lasting_faults)

@@ -2,7 +2,7 @@
 import shutil
 
 from tried.calls import COMPARED, GUIDE, SMALL, gives, refuses, run
-from trials import PROGRAM, holds
+from trials import PROGRAM, Text, holds
 
 
 def try_traces(room):
@@ -41,11 +41,6 @@ def try_picture(room):
     holds("its curves", 8, picture.count("<title>scuttle-") + picture.count("<title>precise-"))
     for file, *first in (("compared.csv",), ("compared.csv", "3"), ("compared.csv", "0"), ("compared.csv", "one"),
                          ("wrong.csv", "1"), ("none.csv", "1")):
-        status, out, err = drawn(file, "other.svg", *first)
-        holds(f"plot.gnuplot {file} other.svg {first}", (2, "", True), (status, out, err.startswith("plot.gnuplot: ")))
-    status, _, err = drawn("--help")
-    holds("plot.gnuplot --help", (0, True), (status, err.startswith("gnuplot -c plot.gnuplot")))
+        holds(f"plot.gnuplot {file} other.svg {first}", (2, "", Text("plot.gnuplot: ")), drawn(file, "other.svg", *first))
+    holds("plot.gnuplot --help", (0, Text(), Text("gnuplot -c plot.gnuplot")), drawn("--help"))
     holds("no picture where it refuses", False, (room / "other.svg").exists())
-
-
-TRIALS = (try_traces, try_picture)

@@ -66,6 +66,3 @@ def try_install(room):
     for words, variables in (((f"{room}/lacking",), {}), ((f"{room}/lacking/below",), {}), ((there, there), {}),
                              ((there,), {"GOSSIP_BENCH": "none"}), ((there,), {"GOSSIP_BENCH": "./lacking"})):
         holds(f"install {words}", (2, "", Text("install: ", lines=1)), run(room, INSTALL, *words, **variables))
-
-
-TRIALS = (try_help, try_units, try_install)

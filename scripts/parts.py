@@ -4,8 +4,8 @@ import re
 import subprocess
 import threading
 import time
+from collections import namedtuple
 from concurrent.futures import ThreadPoolExecutor
-from typing import NamedTuple
 
 LAST_LINE = re.compile(r"(\d+) passed, (\d+) failed")
 OF_A_CALLER = ("HOSTS", "JOBS", "REPLAY")
@@ -17,28 +17,16 @@ def with_program(program):
     return {**rest, "GOSSIP_BENCH": str(program)}
 
 
-class Part(NamedTuple):
-    name: str
-    command: tuple
-    environment: dict | None = None
+Part = namedtuple("Part", "name command environment", defaults=(None,))
 
 
-def clock(seconds):
-    return f"{round(seconds) // 60:>3}:{round(seconds) % 60:02}"
-
-
-class Outcome(NamedTuple):
+class Outcome(namedtuple("Outcome", "name passed failed took used")):
     """What came of a part, with its seconds on the clock and of processors."""
 
-    name: str
-    passed: int
-    failed: int
-    took: float
-    used: float
-
     def __str__(self):
+        took, used = (f"{round(it) // 60:>3}:{round(it) % 60:02}" for it in (self.took, self.used))
         counts = f"{self.passed:>5} passed {self.failed:>3} failed"
-        return f"{self.name:<33}{counts} {clock(self.took)} on the clock {clock(self.used)} of processor time"
+        return f"{self.name:<33}{counts} {took} on the clock {used} of processor time"
 
 
 def outcome_of(name, last, status, took, used):
@@ -71,17 +59,17 @@ class Parts:
         self.outcomes.append(outcome)
         return not outcome.failed
 
-    def run_quietly(self, part):
-        """Makes a part among others, and then prints what it said."""
-        said = []
-        self.run(part, said.append)
-        with self.printing:
-            print(*said, sep="\n", flush=True)
-
     def run_side_by_side(self, parts, lanes):
+        """Makes parts, and prints of each what it said once it is done."""
+        def run(part):
+            said = []
+            self.run(part, said.append)
+            with self.printing:
+                print(*said, sep="\n", flush=True)
+
         with ThreadPoolExecutor(lanes) as pool:
             # (what a part raises is raised here)
-            list(pool.map(self.run_quietly, parts))
+            list(pool.map(run, parts))
 
     def close(self):
         """Prints the table and the last line, and answers the status."""

@@ -2,6 +2,7 @@
 import csv
 import hashlib
 import html.parser
+import operator
 import pathlib
 import shlex
 import shutil
@@ -51,14 +52,13 @@ def budgets_of(folder):
 
 def held(one, other):
     """Under how many seeds the one has less, and more."""
-    pairs = list(zip(one, other))
-    return sum(a < b for a, b in pairs), sum(a > b for a, b in pairs), len(pairs)
+    return [sum(map(are_so, one, other)) for are_so in (operator.lt, operator.gt)]
 
 
 def is_better(one, other):
     """"At least 15 of 20 seeds say so and not more than 2 the other way", and of six as large a part."""
-    less, more, seeds = held(one, other)
-    return less >= 0.75 * seeds and more <= 0.1 * seeds
+    less, more = held(one, other)
+    return less >= 0.75 * len(one) and more <= 0.1 * len(one)
 
 
 def healed(folder, budget):
@@ -83,10 +83,6 @@ def healed(folder, budget):
 
 def spanned(figure):
     return f"{min(figure)} to {max(figure)}" if min(figure) < max(figure) else f"{max(figure)}"
-
-
-def as_rounds(figure):
-    return f"{spanned(figure)} rounds"
 
 
 def took(name, what, ends, seeds):
@@ -203,9 +199,9 @@ def try_reserve(room):
     others = [worst(many, 48, 101, 200, FIRST, it) for it in ("scuttle-breadth", "precise-oldest", "precise-newest")]
     taken = min(budget for budget, it in figures.items()
                 if not any(is_better(other, it) for other in (*figures.values(), *others)))
-    less, more, _ = held(figures[48], figures[taken])
-    reserve = (f"With 48 entries (2 times nodes * writes) it is {as_rounds(figures[48])} in the runs that chose, where "
-               f"the budget has {spanned(figures[taken])}: no better (less under {less} of 20 seeds, more under "
+    less, more = held(figures[48], figures[taken])
+    reserve = (f"With 48 entries (2 times nodes * writes) it is {spanned(figures[48])} rounds in the runs that chose, "
+               f"where the budget has {spanned(figures[taken])}: no better (less under {less} of 20 seeds, more under "
                f"{more}). So packet={40 * taken} is enough, and what is above that is a reserve")
     for name, told in (("first", first), ("last", said)):
         tells(f"the {name} answer", told, reserve,
@@ -221,7 +217,7 @@ def try_reserve(room):
     holds("the floor is of runs that cut nothing", {0},
           {it for rows in column(bound, "budget-144", "cut", BOUND[:4]) for it in rows})
     best = worst(bound, 144, 101, 460, BOUND[:4])
-    tells("the floor", said, f"\n  the floor           no mode and no budget does better than {as_rounds(best)}, "
+    tells("the floor", said, f"\n  the floor           no mode and no budget does better than {spanned(best)} rounds, "
           f"{spanned(best)} s, with these peers and losses; the chosen one had "
           f"{'that' if best == figure[:4] else spanned(figure[:4])} under the same 4 seeds\n")
     holds("nothing that heals is run where none is asked for", ({"many", "many-bound"}, False),
@@ -303,7 +299,7 @@ def try_calls(room):
     bound = worst(room / "calls" / "many-bound", 4, 301, 1200, BOUND)
     holds("three calls", "First answer, from 200 intervals of 3 rounds: scuttle-depth with room for 4 entries in a "
           "delta, 160 bytes (what fits; nodes * writes / 3); packet=160.", out.partition("\n")[0])
-    tells("three calls", out, f"\nWorst staleness {as_rounds(figure)}, ", "\nIn 20 of 21 runs of 900 rounds (300 "
+    tells("three calls", out, f"\nWorst staleness {spanned(figure)} rounds, ", "\nIn 20 of 21 runs of 900 rounds (300 "
           f"intervals, 180 s) no copy is older than {max(bound)} rounds, ")
     scenario = (room / "calls" / "many" / "scenario").read_text()
     printed = run(room, "gossip_scenario", *words[:-1], "rounds=600")[1]
@@ -360,8 +356,8 @@ def try_longer_runs(room):
           "\nWhether it levels off later is seen from 400 and then 800 rounds, and no more.\n")
     holds("the longer runs name mode, budget and what is enough", True, said.startswith(
         "Take scuttle-depth, but packet=200 is too small: with room for 5 entries in a delta, 200 bytes (what fits; "
-        f"0.21 times nodes * writes), the worst copy was {as_rounds(long)}, {spanned(long)} s, behind, and with "
-        f"packet=960 {as_rounds(at_knee)}.\n"))
+        f"0.21 times nodes * writes), the worst copy was {spanned(long)} rounds, {spanned(long)} s, behind, and with "
+        f"packet=960 {spanned(at_knee)} rounds.\n"))
     tells("and what bounds it and heals", said, "\n  worst staleness     in 20 of 21 runs of 360 rounds (360 s) no "
           f"copy is older than {max(bound)} rounds, {max(bound)} s: ", " in rounds 201 to 560 under 20 seeds, others ",
           "\n  a rolling restart   ")

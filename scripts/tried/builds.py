@@ -3,20 +3,17 @@ import shutil
 import signal
 import sys
 
-from toolchain import NEWER, OLDER, has_newer
+from toolchain import NEWER, has_newer
 from tried.calls import run, started, stopped, waits_for
 from tried.toys import CRATES, Toy
 from trials import TOP, Text, holds, small_files
-
-BUILT = f"gossip_bench: built for {NEWER if has_newer() else OLDER} processors"
 
 
 def builds(name, toy, wanted, *words, **how):
     """It is built, the last line says for what, and these crates were proved; in their order where it counts."""
     status, said, proved = toy.build(*words, **how)
-    last = said.splitlines()[-1:]
-    holds(name, (0, True, sorted(wanted)), (status, bool(last) and last[0].startswith("gossip_bench: built for "),
-                                            sorted(proved)))
+    last = "".join(said.splitlines()[-1:])
+    holds(name, (0, Text("gossip_bench: built for "), sorted(wanted)), (status, last, sorted(proved)))
     return proved
 
 
@@ -87,7 +84,7 @@ def try_failing(room):
     builds("the former text", toy, [])
     holds("no toolchain", (1, "gossip_bench: the command rt of the Rattle toolchain is not found\n", []),
           toy.build(with_rt=False))
-    holds("nothing else is left", [], [*toy.top.glob("crates/*/out/rooms-*"), *toy.top.glob("crates/*/out/**/*.part")])
+    holds("nothing else is left", [], toy.left())
 
 
 def try_toolchains(room):
@@ -146,20 +143,15 @@ def try_stopping(room):
         return started(toy.top, toy.top / "scripts/build", PATH=toy.path,
                        PROVING="until [ -e go ]; do sleep 0.05; done")
 
-    def rooms():
-        return [*toy.top.glob("crates/gossip_bench/out/rooms-*")]
-
     for number in (signal.SIGTERM, signal.SIGINT, signal.SIGHUP, signal.SIGKILL):
         with begun() as process:
             holds("a proof begins", True, waits_for(lambda: toy.proved() == ["low"]))
             status, _, _ = stopped(process, number)
         # (what is killed leaves what the next one removes)
         if number != signal.SIGKILL:
-            holds(f"{number.name} ends it, and leaves nothing", (-number, []), (status, rooms()))
+            holds(f"{number.name} ends it, and leaves nothing", (-number, []), (status, toy.left()))
     (toy.top / "go").touch()
     both = [begun(), begun()]
-    holds("two builds at once", [0, 0], [it.wait(timeout=60) for it in both])
-    for process in both:
-        process.communicate()
+    holds("two builds at once", [0, 0], [(it.communicate(timeout=60), it.returncode)[1] for it in both])
     holds("each crate is proved once", sorted(CRATES), sorted(toy.proved()))
-    holds("what was killed is gone", [], rooms())
+    holds("what was killed is gone", [], toy.left())

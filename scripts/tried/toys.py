@@ -8,7 +8,7 @@ from trials import TOP
 
 # The crates, with those that each stands on, and what is needed of scripts.
 CRATES = {"low": "", "left": "low", "right": "low", "gossip_bench": "left right"}
-SCRIPTS = ("build", "toolchain.py", "arguments.py")
+COPIED = ("gossip_bench", "scripts/build", "scripts/toolchain.py", "scripts/arguments.py")
 COMMANDS = ("sh", "env", "python3", "find", "cksum", "sort", "cat", "dirname", "readlink", "mv", "rm", "sleep")
 LONG_AGO = 1_000_000_000
 # What is said of a proof that takes long, as each may on a busy machine.
@@ -27,8 +27,8 @@ class Toy:
         self.bare.mkdir()
         for name in COMMANDS:
             (self.bare / name).symlink_to(shutil.which(name))
-        for name in ("gossip_bench", *(f"scripts/{name}" for name in SCRIPTS)):
-            (self.top / name).parent.mkdir(parents=True, exist_ok=True)
+        (self.top / "scripts").mkdir(parents=True)
+        for name in COPIED:
             shutil.copy(TOP / name, self.top / name)
         (self.top / "HANDLES").write_text("Handles allowed: none.\n")
         (self.top / "crates.txt").write_text("".join(f"{name}: {below}\n" for name, below in CRATES.items()))
@@ -36,13 +36,8 @@ class Toy:
             self.source(name).parent.mkdir(parents=True)
             self.source(name).write_text(f"// {name}\npub fn {name}()\n")
 
-    @property
-    def path(self):
-        return f"{self.kit / 'bin'}:{self.bare}"
-
-    @property
-    def program(self):
-        return self.top / "crates/gossip_bench/out/gossip_bench"
+    path = property(lambda self: f"{self.kit / 'bin'}:{self.bare}")
+    program = property(lambda self: self.top / "crates/gossip_bench/out/gossip_bench")
 
     def source(self, name):
         return self.top / "crates" / name / "src" / ("main.rt" if name == "gossip_bench" else "lib.rt")
@@ -66,6 +61,10 @@ class Toy:
         """The same without lines of progress."""
         status, out, err = self.call_and_hear(name, *words, **how)
         return status, out, PROGRESS.sub("", err)
+
+    def left(self):
+        """What a build should have removed."""
+        return [*self.top.glob("crates/*/out/rooms-*"), *self.top.glob("crates/*/out/**/*.part")]
 
     def build(self, *words, **how):
         """The status, the lines on standard error, and what was proved."""

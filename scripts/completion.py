@@ -30,7 +30,6 @@ class Words:
 
 
 def words_of_program(told):
-    """Those of the program behind each of its commands, and its commands."""
     for name, (_, options) in told.commands.items():
         yield f"{PROGRAM} {name}", Words([option for _, option, _, _ in options],
                                          before_file=[option for _, option, after, _ in options if after == "<FILE>"])

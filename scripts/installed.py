@@ -55,7 +55,6 @@ def tools():
 
 
 def beside(program):
-    """All that stands in the program's folder, by its place there."""
     modules = {it.relative_to(TOOLS).as_posix(): it for it in sorted(TOOLS.glob("gossip_tools/*.py"))}
     return {PROGRAM: program, **commands(), **modules}
 

@@ -32,7 +32,6 @@ def escaped(text):
 
 
 def filled(text):
-    """A text in lines that troff sets anew, none of them wide."""
     lines = textwrap.wrap(escaped(" ".join(text.split())), 78, break_long_words=False, break_on_hyphens=False)
     return "".join(re.sub("^([.'])", r"\\&\1", line) + "\n" for line in lines)
 

@@ -72,7 +72,6 @@ class Parts:
             list(pool.map(run, parts))
 
     def close(self):
-        """Prints the table and the last line, and answers the status."""
         passed, failed = (sum(getattr(it, name) for it in self.outcomes) for name in ("passed", "failed"))
         print("==", *self.outcomes, f"{passed} passed, {failed} failed", sep="\n", flush=True)
         return 1 if failed else 0

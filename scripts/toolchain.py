@@ -23,7 +23,6 @@ class Lacking(Exception):
 
 
 def imported(path):
-    """A script as a module."""
     loader = importlib.machinery.SourceFileLoader(f"imported_{path.name}", str(path))
     made = importlib.util.module_from_spec(importlib.util.spec_from_loader(loader.name, loader))
     # (one that has dataclasses looks itself up)
@@ -61,7 +60,6 @@ def load_rt(top):
 
 
 def load_reader(rt):
-    """The module by which the toolchain reads the functions of a crate."""
     return loaded(Path(rt.KIT, "bin", "rt-plant-bodies"), ("Source", "named"))
 
 
@@ -73,7 +71,6 @@ def has_newer():
 
 
 def build_for_newer(crate):
-    """Has a program built for the newer kind."""
     crate.said = {**crate.said, "cpu": NEWER}
 
 

@@ -59,7 +59,6 @@ def small_files(most):
 
 
 def crates():
-    """The crates of crates.txt, each with those that it stands on."""
     lines = [it for it in (TOP / "crates.txt").read_text().splitlines() if it and not it.startswith("#")]
     return {name: below.split() for name, _, below in (it.partition(":") for it in lines)}
 

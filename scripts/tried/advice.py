@@ -51,7 +51,6 @@ def budgets_of(folder):
 
 
 def held(one, other):
-    """Under how many seeds the one has less, and more."""
     return [sum(map(are_so, one, other)) for are_so in (operator.lt, operator.gt)]
 
 
@@ -93,7 +92,6 @@ def took(name, what, ends, seeds):
 
 
 def advised(room, *words, **how):
-    """The first answer and the last, and all that is printed."""
     status, out, err = run(room, "gossip_advise", *words, **how)
     holds(f"gossip_advise {' '.join(words)}", (0, False), (status, "Traceback" in err))
     return *out.partition("\n\n")[::2], out

@@ -44,7 +44,6 @@ def run(room, script, *words, **how):
 
 
 def stopped(process, number):
-    """How a script ends that gets a signal."""
     process.send_signal(number)
     out, err = process.communicate(timeout=60)
     return process.returncode, out, err
@@ -55,7 +54,6 @@ def gives(room, wanted, script, *words, **how):
 
 
 def tells(name, text, *parts):
-    """Each of the parts stands in the text."""
     holds(name, [], [it for it in parts if it not in text])
 
 
@@ -105,7 +103,6 @@ def takes_signal(pid, number):
 
 
 def waits_for(condition, seconds=20):
-    """Whether something comes to hold in this time."""
     until = time.monotonic() + seconds
     while not condition():
         if time.monotonic() > until:

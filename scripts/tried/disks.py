@@ -7,7 +7,6 @@ TEXTS = (str(SMALL / "two_nodes.report.csv"), str(SMALL / "two_nodes.trace.csv")
 
 
 def try_full_disks(room):
-    """What can't be written is told in a sentence."""
     gives(room, "1 runs in full\n", "gossip_sweep", "-o", "full", "mode=scuttle-depth")
     with open("/dev/full", "w") as full:
         for script, *words in (("gossip_scenario", *CLUSTER), ("gossip_restarts", "3", "1", "1", "1", "0"),

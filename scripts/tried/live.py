@@ -1,6 +1,6 @@
 """Trials of gossip_live: its nodes follow traces of the bench, and small clusters agree, however busy a machine is."""
 import csv
-import io
+import itertools
 import os
 import pathlib
 import signal
@@ -38,12 +38,6 @@ def columns(entry):
     return entry.owner, entry.key, entry.mark >> 32, entry.mark % 2**32, entry.value, entry.born
 
 
-def rows_of(file):
-    """The rows of a file, numbers as such."""
-    _, *rows = csv.reader(io.StringIO(file.read_text()))
-    return [[int(it) if it.isdigit() else it for it in row] for row in rows]
-
-
 class Follower:
     """Nodes that do what a trace says, without a network: what they send and hold, as replay.py tells it, and the rows
     of the report, as gossip_live counts them."""
@@ -55,26 +49,22 @@ class Follower:
 
     def follow(self, trace):
         for round in range(1, self.plan.rounds + 1):
-            writes = [it for node in self.nodes for it in self.begin(node, round)]
+            writes = []
+            for node in self.nodes:
+                if restarts := self.plan.restarts_in(node.number, round):
+                    node.restart(any(it.get("forget") for it in restarts))
+                if not self.plan.is_down(node.number, round):
+                    writes += [node.write(round) for _ in range(self.plan.writes_in(round))]
             for row in trace:
                 if int(row["round"]) == round:
                     self.exchange(row)
             self.tables += [[round, node.number, *columns(it)] for node in self.nodes
                             for part in node.table.values() for it in part.values()]
-            self.rows.append(self.figures.row(round, [self.told(writes)]))
-
-    def begin(self, node, round):
-        """A node's round begins: it restarts and writes, as the scenario says."""
-        if restarts := self.plan.restarts_in(node.number, round):
-            node.restart(any(it.get("forget") for it in restarts))
-        return [] if self.plan.is_down(node.number, round) else \
-            [node.write(round) for _ in range(self.plan.writes_in(round))]
-
-    def told(self, writes):
-        entries, cut = sum(it.entries for it in self.nodes), sum(it.cut for it in self.nodes)
-        generations = {it.number: it.generation for it in self.nodes}
-        marks = {it.number: marks_of(it, self.plan) for it in self.nodes}
-        return Told(entries, cut, timers=0, late=0, lag=0, writes=writes, generations=generations, marks=marks)
+            entries, cut = sum(it.entries for it in self.nodes), sum(it.cut for it in self.nodes)
+            generations = {it.number: it.generation for it in self.nodes}
+            marks = {it.number: marks_of(it, self.plan) for it in self.nodes}
+            told = Told(entries, cut, timers=0, late=0, lag=0, writes=writes, generations=generations, marks=marks)
+            self.rows.append(self.figures.row(round, [told]))
 
     def exchange(self, row):
         self.nodes[int(row["initiator"])].begin(int(row["responder"]))
@@ -94,21 +84,20 @@ class Follower:
 def try_following_traces(room):
     """A live node sends and holds what replay.py does, entry by entry, where both meet the same and lose the same, and
     the figures are those of the report."""
-    for mode in MODES:
-        for form in FORMATS:
-            text = mishaps(mode, form)
-            replayed = run(room, "replay.py", "run", "--trace", "trace.csv", "--sent", "sent.csv", "--tables",
-                           "tables.csv", text=text)
-            follower = Follower(live.plan_of(text, live.told([])))
-            follower.follow(list(csv.DictReader(io.StringIO((room / "trace.csv").read_text()))))
-            for name, found in (("sent", follower.sent), ("tables", sorted(follower.tables))):
-                rows = rows_of(room / f"{name}.csv")
-                holds(f"{name} of {mode} in format {form}", (0, rows), (replayed[0], found))
-                holds(f"there is much in {name} of {mode} in format {form}", True, len(rows) > 1000)
-            report = list(csv.DictReader(io.StringIO(replayed[1])))
-            found = [{name: str(row[name]) for name in report[0] if name in row} for row in follower.rows]
-            wanted = [{name: row[name] for name in it} for row, it in zip(report, found)]
-            holds(f"the report of {mode} in format {form}", (24, wanted), (len(report), found))
+    for mode, form in itertools.product(MODES, FORMATS):
+        text, name = mishaps(mode, form), f"{mode} in format {form}"
+        words = "run --trace trace --sent sent --tables tables".split()
+        status, out, _ = run(room, "replay.py", *words, text=text)
+        follower = Follower(live.plan_of(text, live.told([])))
+        follower.follow(list(csv.DictReader((room / "trace").read_text().splitlines())))
+        for file, found in (("sent", follower.sent), ("tables", sorted(follower.tables))):
+            _, *rows = csv.reader((room / file).read_text().splitlines())
+            holds(f"{file} of {name}", (0, rows), (status, [[str(it) for it in row] for row in found]))
+            holds(f"there is much in {file} of {name}", True, len(rows) > 1000)
+        report = list(csv.DictReader(out.splitlines()))
+        found = [{name: str(row[name]) for name in report[0] if name in row} for row in follower.rows]
+        wanted = [{name: row[name] for name in it} for row, it in zip(report, found)]
+        holds(f"the report of {name}", (24, wanted), (len(report), found))
 
 
 def children(pid):
@@ -156,31 +145,27 @@ def try_clusters(room):
         holds(f"copies agree: {name}", [0] * len(last), last)
         holds(f"it says how fast it was: {name}", (True, Text("gossip_live: ", " timers were late")),
               (status in (0, WORTHLESS), err))
-        are_judged = status != WORTHLESS
-        holds(f"figures of {name}", True, not are_judged or are_plausible(rows[5:15], 15 if RESTARTED in text else 8))
-
-
-def are_plausible(rows, oldest):
-    """Whether the figures are within wide bounds while nodes write. 16 writes make 240 entries to be sent in a round.
-    What a restarted node lacks may be as old as the first one."""
-    return all(60 <= it[1] <= 480 and 0 < it[3] <= 960 and 1 <= it[4] <= oldest for it in rows) or rows
+        # (wide bounds while nodes write: 16 writes make 240 entries to be sent in a round, and what a restarted node
+        # lacks may be as old as the first one)
+        oldest = 15 if RESTARTED in text else 8
+        wrong = [it for it in rows[5:15] if not (60 <= it[1] <= 480 and 0 < it[3] <= 960 and 1 <= it[4] <= oldest)]
+        holds(f"figures of {name}", [], wrong if status != WORTHLESS else [])
 
 
 def try_beside(room):
     """Beside the live cluster stand the means of the bench, and the most of `greatest`, under its seeds."""
     text = CLUSTER.replace("rounds = 30", "rounds = 8")
     status, out, _ = run(room, "gossip_live", "interval=0.1", "beside=3", "window=5", text=text)
-    header, *rows = csv.reader(io.StringIO(out))
+    header, *rows = csv.reader(out.splitlines())
     holds("windows", (True, [["1", "5"], ["6", "8"]]), (status in (0, WORTHLESS), [it[:2] for it in rows]))
     reports = [run(room, PROGRAM, "run", text=text.replace("seed = 1", f"seed = {seed}"))[1] for seed in (1, 2, 3)]
-    reports = [list(csv.DictReader(io.StringIO(it))) for it in reports]
+    reports = [list(csv.DictReader(it.splitlines())) for it in reports]
     for row, (first, last) in zip(rows, ((1, 5), (6, 8))):
-        found = dict(zip(header, row))
-        for name, form in (("entries", ".0f"), ("cut", ".0f"), ("stale", ".0f"), ("greatest", ".1f")):
+        for name, places in (("entries", 0), ("cut", 0), ("stale", 0), ("greatest", 1)):
             means = [statistics.fmean(int(it[name]) for it in report[first - 1:last]) for report in reports]
-            wanted = [f"{it:{form}}" for it in sorted(means)]
-            wanted = wanted[0] if wanted[0] == wanted[-1] else f"{wanted[0]} to {wanted[-1]}"
-            holds(f"{name} of the bench in {first} to {last}", wanted, found[f"bench_{name}"])
+            least, most = (f"{it(means):.{places}f}" for it in (min, max))
+            holds(f"{name} of the bench in {first} to {last}", least if least == most else f"{least} to {most}",
+                  row[header.index(f"bench_{name}")])
 
 
 def try_slow_machines(room):
@@ -191,7 +176,6 @@ def try_slow_machines(room):
 
 
 def wait_for_a_row(process):
-    """The header of a report of which one row is there."""
     header, _ = process.stdout.readline(), process.stdout.readline()
     return header
 
@@ -220,7 +204,6 @@ def try_stopping(room):
 
 
 def try_faults(room):
-    """What can't be written, or isn't printed by the program, is told in a sentence."""
     with open("/dev/full", "w") as full:
         fails(room, "No space left on device", 1, "gossip_live", "interval=0.1", text=CLUSTER, out=full)
     with started(room, "gossip_live", "interval=0.1", text=CLUSTER) as process:

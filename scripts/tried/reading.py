@@ -36,7 +36,6 @@ def try_reading(room):
 
 
 def try_other_scenarios(room):
-    """What stands in the place of a run's scenario and isn't that."""
     other = room / "read" / "seed-1.mode-scuttle-depth.toml"
     shutil.copy(room / "read" / "budget-1.mode-scuttle-depth.toml", other)
     refuses(room, "differ", "gossip_read", "window", "1", "2", "read")

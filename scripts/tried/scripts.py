@@ -26,7 +26,6 @@ def python_scripts():
 
 
 def try_words(room):
-    """Each says what it does, and refuses other words in a line."""
     holds("there are scripts", True, len(python_scripts()) > 15)
     for script in python_scripts():
         holds(f"{script.name} --help", (0, Text(script.name), ""), run(room, script, "--help"))

@@ -11,7 +11,6 @@ TUNABLES = "glibc.malloc.hugetlb=1"
 
 
 def starts(name, toy, *words, builds=False, **how):
-    """The program starts with these words and this input, and was built first or not."""
     text = "nodes = 2\nkeys = 1\n"
     printed = f"{' '.join(words)} {TUNABLES}\n{text}"
     status, out, err = toy.call("gossip_bench", *words, text=text, **how)
@@ -78,7 +77,6 @@ def try_calling(room):
 
 
 def try_failing(room):
-    """Where the build fails nothing is run."""
     toy = built(room / "failing")
     toy.add("left", "// WRONG")
     holds("a build that fails", (3, "", Text("", "\ngossip_bench: the build failed, so nothing was run\n")),

@@ -28,14 +28,8 @@ SUBSETS = [closed for count in (1, 2, 3) for closed in itertools.combinations((I
 
 
 def files_of(room):
-    """What the tools have written in a room, by its place there."""
-    return {it.relative_to(room): it.read_bytes() for it in sorted(room.rglob("*")) if it.is_file()
-            and it.name != "lock"}
-
-
-def differ(kept, found):
-    """The files that aren't a beginning of what is kept of them."""
-    return [str(name) for name, text in found.items() if not kept.get(name, b"").startswith(text)]
+    return {str(it.relative_to(room)): it.read_bytes() for it in sorted(room.rglob("*"))
+            if it.is_file() and it.name != "lock"}
 
 
 def try_closed_streams(room):
@@ -50,11 +44,12 @@ def try_closed_streams(room):
             says_why = re.search(rf"^{name}: .*it is closed\.\n\Z", err, re.MULTILINE) and "Traceback" not in err
             holds(f"{name} {words} with {closed} closed",
                   (fails, "" if fails else printed, fails and ERROR not in closed), (bool(status), out, bool(says_why)))
-            holds(f"the files of {name} with {closed} closed", [], differ(kept, files_of(room)))
+            # (each file is a beginning of what it was)
+            wrong = [it for it, text in files_of(room).items() if not kept.get(it, b"").startswith(text)]
+            holds(f"the files of {name} with {closed} closed", [], wrong)
 
 
 def try_folders(room):
-    """A folder as standard input is told in a sentence."""
     folder = os.open(room, os.O_RDONLY)
     for tool in installed.commands().values():
         holds(f"{tool.name} on a folder", (1, "", f"{tool.name}: standard input: Is a directory.\n"),

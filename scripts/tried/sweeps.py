@@ -54,7 +54,6 @@ def try_words_of_sweeps(room):
 
 
 def try_variables(room):
-    """Those of the environment that sweeps go by."""
     for jobs in ("0", "-2", "two", "99999"):
         refuses(room, f"JOBS is a whole number from 1 to 9999, which '{jobs}' isn't.", "gossip_sweep", "seed=1",
                JOBS=jobs)
@@ -83,7 +82,6 @@ def try_long_scenarios(room):
 
 
 def try_runs(room):
-    """The runs of the case of formats.md."""
     gives(room, "4 runs in runs\n", "gossip_sweep", "budget=1")
     rows = {
         "scuttle-breadth": "1,2,0,0,4,6,2,1\n2,2,0,0,4,2,0,0\n", "scuttle-depth": "1,2,0,0,4,6,2,1\n2,2,0,0,4,2,0,0\n",

@@ -63,7 +63,6 @@ class Toy:
         return status, out, PROGRESS.sub("", err)
 
     def left(self):
-        """What a build should have removed."""
         return [*self.top.glob("crates/*/out/rooms-*"), *self.top.glob("crates/*/out/**/*.part")]
 
     def build(self, *words, **how):

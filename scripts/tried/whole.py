@@ -28,7 +28,6 @@ def try_help(room):
 
 
 def try_units(_):
-    """The unit tests of the tools, of which each is a trial."""
     sys.path.insert(0, str(TOOLS))
     result = unittest.TestResult()
     unittest.defaultTestLoader.discover(str(TOOLS / "tests")).run(result)

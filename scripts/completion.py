@@ -1,8 +1,9 @@
 """Completion of the words of the program and its tools, for bash, zsh and fish, from the program's help and from what
 the tools declare."""
+import re
 from dataclasses import dataclass, field
 
-from installed import PROGRAM
+from installed import PROGRAM, TEXTS
 from gossip_tools import scenario, sweep
 
 # The fields that a sweep takes, with the words that a scenario has for some of them.
@@ -50,95 +51,40 @@ def all_words(told, tools):
     return {**dict(words_of_program(told)), **{name: words_of_tool(it) for name, it in tools.items()}}
 
 
-def cases(rows, indent=8):
-    return "".join(f"{'':{indent}}{pattern}) {body} ;;\n" for pattern, body in rows if pattern)
-
-
 def patterns(table, which):
     """The pattern for what stands before a file, or a folder, of each tool."""
     pairs = dict.fromkeys(f'"{key.partition(" ")[0]} {option}"' for key, it in table.items() for option in which(it))
     return " | ".join(pairs)
 
 
-def pattern_of(key):
-    return f'"{key}"*' if " " in key else f'"{key} "*'
+def filled(shell, table, plain, value):
+    """The text for a shell, with what its cases put where: of plain words and names, and of values."""
+    values = [f'"{key} {name}") {value(" ".join(values))} ;;' for key, words in table.items()
+              for name, values in words.named.items() if values]
+    rows = [(f'"{key}"*' if " " in key else f'"{key} "*') + f") {plain(it)}{' folders=yes' * it.is_folder} ;;"
+            for key, it in table.items()]
+    files, folders = (patterns(table, which) for which in (lambda it: it.before_file, lambda it: it.before_folder))
+    return put(shell, {
+        "files": [files], "folders": [folders],
+        "lists": [" | ".join(key for key, it in table.items() if it.has_lists)], "values": values, "plain": rows,
+        "commands": [" ".join(commands(table))]})
 
 
-def values_of(table, body):
-    return [(f'"{key} {name}"', body(" ".join(values))) for key, words in table.items()
-            for name, values in words.named.items() if values]
-
-
-def with_lists(table):
-    return " | ".join(key for key, it in table.items() if it.has_lists)
+def put(shell, parts):
+    """The text of a shell with these lines in place of marks, each indented as the mark is."""
+    text = (TEXTS / f"completion.{shell}").read_text().replace("@made@", MADE)
+    for name, lines in parts.items():
+        text = re.sub(rf"( *)@{name}@", lambda mark: "\n".join(mark[1] + it for it in lines), text)
+    return text
 
 
 def for_bash(table):
-    files, folders = patterns(table, lambda it: it.before_file), patterns(table, lambda it: it.before_folder)
-    plain = [(pattern_of(key), f'words="{" ".join([*words.names, *words.plain])}"' + " folders=yes" * words.is_folder)
-             for key, words in table.items()]
-    return f"""# {MADE}
-_gossip_bench() {{
-    local tool=${{1##*/}} word=${{COMP_WORDS[COMP_CWORD]}} before=${{COMP_WORDS[COMP_CWORD - 1]}}
-    local first= name= put= words= folders=
-    COMPREPLY=()
-    [ "$COMP_CWORD" -eq 1 ] || first=${{COMP_WORDS[1]}}
-    # (bash takes = for a word of its own, if its user doesn't say otherwise)
-    if [ "$word" = = ]; then name=$before word=
-    elif [ "$before" = = ]; then name=${{COMP_WORDS[COMP_CWORD - 2]}}
-    elif [[ $word == *=* ]]; then name=${{word%%=*}} put=${{word%%=*}}= word=${{word#*=}}
-    fi
-    case "$tool $before" in
-        {files} | *" <" | *" >") COMPREPLY=($(compgen -f -- "$word")); compopt -o filenames 2>/dev/null; return ;;
-        {folders}) COMPREPLY=($(compgen -d -- "$word")); compopt -o filenames 2>/dev/null; return ;;
-    esac
-    if [ "$name" ]; then
-        case "$tool $name" in
-{cases(values_of(table, lambda it: f'words="{it}"'), 12)}        esac
-        case $tool in
-            {with_lists(table)}) put=$put${{word%"${{word##*,}}"}} word=${{word##*,}} ;;
-        esac
-        COMPREPLY=($(compgen -P "$put" -W "$words" -- "$word"))
-        return
-    fi
-    case "$tool $first" in
-{cases(plain)}    esac
-    COMPREPLY=($(compgen -W "$words" -- "$word"))
-    [ -z "$folders" ] || {{ COMPREPLY+=($(compgen -d -- "$word")); compopt -o filenames 2>/dev/null; }}
-    [[ ${{COMPREPLY[0]}} != *= ]] || compopt -o nospace 2>/dev/null
-}}
-complete -F _gossip_bench {" ".join(commands(table))}
-"""
+    return filled("bash", table, lambda it: f'words="{" ".join([*it.names, *it.plain])}"', lambda it: f'words="{it}"')
 
 
 def for_zsh(table):
-    files, folders = patterns(table, lambda it: it.before_file), patterns(table, lambda it: it.before_folder)
-    plain = [(pattern_of(key), f"names=({' '.join(words.names)}) plain=({' '.join(words.plain)})" +
-              " folders=yes" * words.is_folder) for key, words in table.items()]
-    return f"""#compdef {" ".join(commands(table))}
-# {MADE}
-local tool=${{words[1]:t}} before=${{words[CURRENT - 1]}} name=${{PREFIX%%=*}} first= folders=
-local -a plain names
-(( CURRENT == 2 )) || first=${{words[2]}}
-case "$tool $before" in
-    {files}) _files; return ;;
-    {folders}) _files -/; return ;;
-esac
-if compset -P '*='; then
-    case $tool in
-        {with_lists(table)}) compset -P '*,' ;;
-    esac
-    case "$tool $name" in
-{cases(values_of(table, lambda it: f"plain=({it})"))}    esac
-    compadd -a plain
-    return
-fi
-case "$tool $first" in
-{cases(plain, 4)}esac
-compadd -S '' -a names
-compadd -a plain
-[[ -z $folders ]] || _files -/
-"""
+    return filled("zsh", table, lambda it: f"names=({' '.join(it.names)}) plain=({' '.join(it.plain)})",
+                  lambda it: f"plain=({it})")
 
 
 def lines_for_fish(key, words, has_commands):
@@ -168,12 +114,7 @@ def for_fish(table):
     lines = [f"complete -c {it} -f" for it in commands(table)]
     for key, words in table.items():
         lines += lines_for_fish(key, words, any(other.startswith(f"{key} ") for other in table))
-    return f"""# {MADE}
-function __gossip_values
-    set -l before (string replace -r '[^,=]*$' '' -- (commandline -ct))
-    printf '%s\\n' $before$argv
-end
-""" + "".join(f"{line}\n" for line in lines)
+    return put("fish", {"lines": lines})
 
 
 def commands(table):

@@ -8,6 +8,8 @@ from pathlib import Path
 sys.dont_write_bytecode = True
 TOP = Path(__file__).resolve().parent.parent
 TOOLS = TOP / "tools"
+# Texts in other languages, which scripts fill.
+TEXTS = TOP / "scripts" / "texts"
 # (where the tools have their Python package)
 sys.path.insert(0, str(TOOLS))
 from gossip_tools import starting

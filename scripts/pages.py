@@ -1,9 +1,10 @@
 """The pages of a package: those of this repository, with the names that commands and files have in a package, and
 without what is for a clone alone."""
 import re
+import tomllib
 from pathlib import PurePosixPath
 
-from installed import Missing
+from installed import TEXTS, Missing
 
 # The pages of docs/ that show commands with their outputs, which scripts/check_guide runs.
 WITH_OUTPUTS = ("guide.md", "by_hand.md", "study.md", "testing.md")
@@ -12,29 +13,7 @@ PAGES = ("README.md", *(f"docs/{page}" for page in WITH_OUTPUTS), "docs/model.md
 MODULES = "../../../lib/gossip_bench/gossip_tools"
 # What stands between these marks is for a clone. Where the first one has a name, a package says something else there.
 MARKED = re.compile(r"<!--clone(?::(\w+))?-->(.*?)<!--/clone-->", re.DOTALL)
-INSTEAD = {
-    "README.md": {
-        "promises": "This is in short what that comes to. (The repository, from which this package is made, has a "
-                    "page more, docs/proofs.md: all promises in full, with the contracts that carry each, what "
-                    "has to be believed, and what is trusted.)",
-        "processors": "The package's name has the processors that it is built for; on an older one it prints a line "
-                      "and ends with status 127.",
-    },
-    "docs/guide.md": {
-        "checked": "was run, and printed that",
-        "top": "The commands are for a folder of your own, into which you copied `examples` from "
-               "`share/doc/gossip-bench` of the package, where these pages are too.",
-    },
-    "docs/by_hand.md": {
-        "portable": "the one for `x86-64-v2`",
-        "benchmark": "were measured too",
-    },
-    "docs/testing.md": {
-        "top": "in a folder of your own, after `cp -r FOLDER/share/doc/gossip-bench/examples .`, where FOLDER is the "
-               "package's, and `/usr` for the .deb",
-    },
-    "docs/study.md": {"folder": "a folder with a copy of `examples`", "checked": "was run, and printed that"},
-}
+INSTEAD = tomllib.loads((TEXTS / "pages.toml").read_text())
 # The section that names contracts, which a package leaves out: a parenthesis with a name of code.
 PROVED, CONTRACTS = re.compile(r"(?<=\n## What is proved\n).*?(?=\n## )", re.DOTALL), re.compile(r" \([^()]*`[^()]*\)")
 
@@ -45,7 +24,7 @@ def without_marks(text, page):
     named = [name for name, _ in MARKED.findall(text) if name]
     if sorted(named) != sorted(instead):
         raise Missing(f"{page} has the marks {', '.join(named)} for what a package says otherwise, and not "
-                      f"{', '.join(instead)}, which scripts/pages.py has.")
+                      f"{', '.join(instead)}, which scripts/texts/pages.toml has.")
     text = MARKED.sub(lambda found: instead[found[1]] if found[1] else "", text)
     if "clone-->" in text:
         raise Missing(f"{page} has a mark <!--clone--> or <!--/clone--> without the other.")

@@ -9,7 +9,7 @@ import shutil
 import signal
 import tomllib
 
-from tried.calls import program_that, refuses, run, started, stopped, tells, waits_for
+from tried.calls import program_that, refuse, refuses, run, started, stopped, tells, waits_for
 from trials import PROGRAM, Text, holds
 
 
@@ -109,30 +109,6 @@ def times_of(folder):
     return {it: it.stat().st_mtime_ns for it in folder.glob("*/*.csv")}
 
 
-# Words in place of those of eight nodes, or besides, and why they are refused.
-REFUSED = {
-    "writes=0": "heartbeat", "writes=1.5": "[[load]]", "interval=0": "has seconds", "split=100001": "up to 100000",
-    "packet=30": "have no room", "fanout=17": "1 to 16 peers", "delta=30": "have no room",
-    "loss=100": "with loss=100 no message ever arrives", "nodes=50000": "still too large",
-    "forget=1": "forget is one of yes, no",
-    "digest=600": "the digest still fits no packet of 4000; room for the digest and nodes * writes = 8 entries takes "
-                  "packet=5120",
-    "rounds=9": "For rounds= there is gossip_scenario", "--jobs=2": "as JOBS=2",
-    "interval=100ms": "write interval=0.1.", "split=1h": "it is in intervals",
-    "restarts=9": "of 8 nodes no 9 can restart at once",
-    "hours=0": "would be 0 intervals under each seed, and from 1 to 99600 are run",
-    "hours=14": "would be 100800 intervals under each seed, and from 1 to 99600 are run: hours=13.83 is the most",
-    "restarts=5%": "'5%' isn't.", "restarts": "Write restarts=VALUE, without a space.",
-}
-# Targets of 24 nodes, and why they are refused.
-REFUSED_TARGETS = {
-    "target=0": "target is in seconds, and above 0.", "target=-4": "which '-4' isn't", "target=4s": "write target=4",
-    "target=0.4": "would be 0 rounds of 0.5 s, and has to be from 1 to 400",
-    "target=301": "would be 602 rounds of 0.5 s, and has to be from 1 to 400",
-    "target=1000000": "target=1000000 would be 2000000 rounds", "target=0.00001": "target=0.00001 would be 0 rounds",
-}
-
-
 def try_advice(room):
     """Eight nodes with a key: of 100 entries that fit 8 are of use, with which nothing is ever cut."""
     cluster = "nodes=8 keys=1 writes=1 entry=40 packet=4000 loss=1 interval=0.5 forget=yes hours=0.05".split()
@@ -174,13 +150,7 @@ def try_advice(room):
     other = program_that(room, "other", f'exec "{PROGRAM}" run')
     refuses(room, "the answer for another program", "gossip_advise", GOSSIP_BENCH=other)
     refuses(room, "isn't empty and has no answer", "gossip_advise", "-o", ".", *cluster)
-    for word, why in REFUSED.items():
-        words = {it.partition("=")[0].replace("delta", "packet"): it for it in (*cluster, word)}
-        refuses(room, why, "gossip_advise", "-o", "refused", *words.values())
-    refuses(room, "nodes= is missing", "gossip_advise", "-o", "refused")
-    large = "nodes=2000 keys=6 writes=1 entry=50 packet=1400 digest=10 shared=no".split()
-    refuses(room, "so it is at least 208 rounds; room for nodes * writes = 2000 entries takes packet=100000",
-            "gossip_advise", "-o", "refused", *large)
+    refuse(room, "gossip_advise")
     holds("nothing is left of what was refused", False, (room / "refused").exists())
     refuses(room, "isn't UTF-8, or not as this locale reads it", "gossip_advise", "-o", "é2", *cluster, LC_ALL="C",
             PYTHONUTF8="0")
@@ -282,10 +252,6 @@ def try_target(room):
         "No budget keeps the worst staleness within 1 s, or 2 rounds. The best that can be had, with room for 144 "
         "entries"))
     page_of(room / "never", "<h1>24 nodes: no budget keeps")
-    for word, why in REFUSED_TARGETS.items():
-        refuses(room, why, "gossip_advise", "-o", "refused", word, *words)
-    refuses(room, "packet= is missing", "gossip_advise", "-o", "refused", *words)
-    holds("nothing is left of refused targets", False, (room / "refused").exists())
 
 
 def try_calls(room):

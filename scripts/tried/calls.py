@@ -1,11 +1,13 @@
 """Calls of the tools in a room of their own, and what has to come of them."""
 import os
 import pathlib
+import re
 import shlex
 import subprocess
 import tempfile
 import time
 
+from installed import TEXTS
 from trials import PROGRAM, TOP, Text, holds
 
 GUIDE = TOP / "examples" / "guide"
@@ -27,7 +29,7 @@ def place(script):
 
 def started(room, script, *words, text=COMPARED, given=None, out=subprocess.PIPE, err=subprocess.PIPE, before=None,
             **variables):
-    """A script that runs in a room of its own, with its input: a text, which is that case if none is told, or a file."""
+    """A script that runs in a room of its own, with its input: a text, that case if none is told, or a file."""
     environment = {**os.environ, "GOSSIP_BENCH": PROGRAM, "JOBS": "2", **variables}
     with tempfile.TemporaryFile("w+") as written_text:
         written_text.write(text)
@@ -62,11 +64,11 @@ def refuses(room, why, script, *words, **how):
     holds(f"{script} {' '.join(words)}: {why}", (2, "", Text(script, why, lines=1)), run(room, script, *words, **how))
 
 
-def refuse(room, table, *script, **how):
-    """Each line of the table is a call, or words of a script, and behind an arrow why it is refused."""
-    for line in table.strip("\n").splitlines():
-        call, _, why = line.partition("-> ")
-        refuses(room, why, *script, *shlex.split(call), **how)
+def refuse(room, script):
+    """All that texts/refused.txt has of a script."""
+    text = re.sub(r"@(.)(\d+)@", lambda mark: mark[1] * int(mark[2]), (TEXTS / "refused.txt").read_text())
+    for call, _, why in (line.partition("-> ") for line in text.splitlines() if line.startswith(f"{script} ")):
+        refuses(room, why, *shlex.split(call))
 
 
 def written(file, text):

@@ -3,59 +3,13 @@ import shutil
 import types
 from pathlib import Path
 
+from installed import TEXTS
 from toolchain import imported, load_reader
 from tried.calls import tells
 from trials import TOP, holds
 
 NEEDS = "rt"  # which reads the crate, and applies its edits
-SOURCE = """pub trait Number {
-    fn next(self) -> u32;
-}
-
-impl Number for u32 {
-    fn next(self) -> u32 {
-        self.saturating_add(1)
-    }
-}
-
-pub struct Piece;
-
-impl Piece {
-    // What is left.
-    #[cycle(rest)]
-    fn rest_from(&self, from: usize) -> usize
-        requires { from <= 9 }
-    {
-        rest(self, from)
-    }
-}
-
-pub fn double(x: usize) -> usize
-    requires { x <= 100 }
-    ensures { result <= 200 }
-{
-    x + x
-}
-
-pub fn quad(x: usize) -> usize
-    requires { x <= 50 }
-{
-    let twice = double(x);
-    twice + twice
-}
-"""
-ANSWERS = """use Rattle.toy.proofs.quad.Goals as goal
-
--- the sum
-pub returns : goal.returns
-returns c = record { sum = helper c.double-twice.ensures }
-
-helper : 1 = 1
-helper = refl
-
-pub overflow : goal.overflow
-overflow c = also helper c.double-twice.requires
-"""
+SOURCE, ANSWERS = ((TEXTS / f"toy_{it}.txt").read_text() for it in ("lib", "answers"))
 AT = "./proofs/quad/Answers.antt:5:43: error: `returns`: "
 LOST = f"{AT}record `Rattle.toy.proofs.quad.Lts.After-double` has no field `double-twice` (nearest: .double-second)"
 # (a long message goes on below, and what its middle says with it)

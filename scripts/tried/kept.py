@@ -71,8 +71,9 @@ def try_reports_of_other_runs(room):
         why = f"{NAME} (its scenario's check sum isn't that of {NAME}.sum)"
         refuses(room, f"1 of 2 runs are missing: {why}. The same sweep makes", "gossip_read", "level", "1", "0", "kept")
         why = Text(f"gossip_sweep: {NAME} is run again, as ", lines=1)
+        outcome = run(room, "gossip_sweep", *MORE, text=APART)
         holds(f"what was {change.__name__} is made again", ((0, "2 runs in kept\n", why), before),
-              (run(room, "gossip_sweep", *MORE, text=APART), {it.name: it.read_bytes() for it in folder.glob("budget-*")}))
+              (outcome, {it.name: it.read_bytes() for it in folder.glob("budget-*")}))
     # (what was run is what the sweep has of the scenario, whatever the file has meanwhile)
     change = program_that(room, "change", f'echo "#" >>"changed/{NAME}.toml"\nexec "{PROGRAM}" run')
     gives(room, "1 runs in changed\n", "gossip_sweep", "-o", "changed", *SWEEP[2:], text=APART, GOSSIP_BENCH=change)

@@ -26,40 +26,6 @@ FIELDS = {
 # What is counted: bytes where a delta has room for fewer than fifty entries, 49.975, and the 49 that a digest leaves.
 COUNTED = {"packet=2000": "budget", "packet=1999": "budget_bytes", "packet=21999 digest=20": "budget_bytes",
            "packet=22000 digest=20": "budget"}
-# (budget_bytes would be 523: one entry of 523.5 bytes)
-REFUSED = f"""
--> nodes= is missing
-{CLUSTER} -> packet= is missing
-{SHARED} loss -> 'loss'
-{SHARED} node=2 -> 'node=2'
-{SHARED} keys=5 -> 'keys=5'
-{SHARED} loss=1% -> loss is a number
-{SHARED} loss=1% -> write loss=1.
-{SHARED} loss=. -> loss is a number
-{SHARED} rounds=2,000 -> is a whole number from 0 on
-{SHARED} seed=-1 -> is a whole number from 0 on
-{SHARED} rounds=1.5 -> is a whole number from 0 on
-{SHARED} fanout=0 -> 1 to 16 peers
-{SHARED} fanout=2 rounds=2002 -> 1001 intervals
-writes=1.1 nodes=1000 keys=4 entry=40 packet=64000 -> take writes=1 and give 1 of 10 rounds writes = 2 by [[load]]
-writes=0.25 nodes=1000 keys=4 entry=40 packet=64000 -> take writes=0 and give 1 of 4 rounds writes = 1 by [[load]]
-{CLUSTER} packet=64KB -> write packet=64000, or packet=65536 where K is 1024
-{CLUSTER} packet=64,000 -> write packet=64000.
-nodes=2k {BUT_NODES} packet=64000 -> write nodes=2000.
-nodes=10000 {BUT_NODES} packet=64000 -> take nodes=1000 and packet=6400, a tenth of each, in scuttle-depth
-nodes=9 keys=65 writes=1 entry=1 packet=9 -> as one key, with a larger entry
-{SHARED} loss=0.00001 -> four decimals
-{SHARED} loss=101 -> loss is in per cent, so from 0 to 100, and not 101
-{SHARED} rounds=0 -> rounds would be 0
-{SHARED} mode=depth -> mode is one of
-{SHARED} mode=precise-oldest -> leaves no entry
-nodes=1000 keys=4 writes=1 entry=41 packet=40 -> fewer than the 41 of an entry
-nodes=1000 keys=4 writes=1 entry=40.5 packet=40 -> fewer than the 40.5 of an entry
-nodes=1000 keys=4 writes=1 entry=40 packet=0 digest=10 -> fewer than the 40 of an entry
-nodes=2 keys=1 writes=1 entry=0 packet=9 -> has bytes
-{CLUSTER} packet=40 -> budget_bytes would be 523
-nodes=4096 keys=17 writes=1 entry=1 packet=9 -> nodes * nodes * keys
-"""
 
 
 def fields(room, words):
@@ -89,4 +55,4 @@ def try_what_is_printed(room):
 
 
 def try_refusals(room):
-    refuse(room, REFUSED, "gossip_scenario")
+    refuse(room, "gossip_scenario")

@@ -10,29 +10,7 @@ from tried.calls import (
 )
 from trials import PROGRAM, TOP, Text, holds
 
-
 LONG = "x" * 5000
-# Words of a sweep of the case of formats.md, and why they are refused.
-REFUSED = f"""
--> usage: gossip_sweep [-o FOLDER] FIELD=VALUE,VALUE.. .. < SCENARIO
-budget -> 'budget' isn't FIELD=VALUE
-budget= -> 'budget=' isn't FIELD=VALUE
-budget=1, -> 'budget=1,' isn't FIELD=VALUE
-budget=1,,2 -> 'budget=1,,2' isn't FIELD=VALUE
-'budget=a b' -> 'budget=a b' isn't FIELD=VALUE
-=1 -> '=1' isn't FIELD=VALUE
--o -> -o needs a folder
-budget=1 budget=2 -> comes twice
-budget=1,1 -> comes twice
-bugdet=1 -> the field bugdet
-from=1 -> the field from
-{LONG} -> as < {'x' * 60}..
-{LONG}=1 -> the field {'x' * 60}.., where
--{LONG} -> '-{'x' * 59}..' isn't FIELD=VALUE
-seed=1 mine.toml -> as < mine.toml
--o one seed=1 -o two -> comes once
---jobs=2 seed=1 -> as JOBS=2
-"""
 WRONG_HOSTS = ("x/alpha", "/", "é", "-oProxyCommand=true", "a b", "8/", "0/alpha", "8/-o", "me@", "me@-o", "alpha\n")
 # Words, a text, and the fault that the program has in a run of them.
 FAULTS = (
@@ -43,7 +21,7 @@ FAULTS = (
 
 
 def try_words_of_sweeps(room):
-    refuse(room, REFUSED, "gossip_sweep")
+    refuse(room, "gossip_sweep")
     refuses(room, "2 lines of the scenario above all sections set the field seed", "gossip_sweep", "seed=1",
             text="seed = 2\n" + COMPARED)
     refuses(room, "the scenario is empty", "gossip_sweep", "seed=1", text="")

@@ -41,6 +41,6 @@ def try_picture(room):
     holds("its curves", 8, picture.count("<title>scuttle-") + picture.count("<title>precise-"))
     for file, *first in (("compared.csv",), ("compared.csv", "3"), ("compared.csv", "0"), ("compared.csv", "one"),
                          ("wrong.csv", "1"), ("none.csv", "1")):
-        holds(f"plot.gnuplot {file} other.svg {first}", (2, "", Text("plot.gnuplot: ")), drawn(file, "other.svg", *first))
+        holds(f"plot.gnuplot {file} {first}", (2, "", Text("plot.gnuplot: ")), drawn(file, "other.svg", *first))
     holds("plot.gnuplot --help", (0, Text(), Text("gnuplot -c plot.gnuplot")), drawn("--help"))
     holds("no picture where it refuses", False, (room / "other.svg").exists())

@@ -1,0 +1,6 @@
+# @made@
+function __gossip_values
+    set -l before (string replace -r '[^,=]*$' '' -- (commandline -ct))
+    printf '%s\n' $before$argv
+end
+@lines@

@@ -1,5 +1,6 @@
 """What the scripts of trials share: the program that is tried, how a command is run, the tally and its last line."""
 import os
+import re
 import resource
 import signal
 import subprocess
@@ -56,6 +57,12 @@ def small_files(most):
         signal.signal(signal.SIGXFSZ, signal.SIG_IGN)
         resource.setrlimit(resource.RLIMIT_FSIZE, (most, most))
     return limit
+
+
+def text_of(name):
+    """A text that trials go by, in which @x60@ stands for 60 times x."""
+    text = (TOP / "scripts" / "texts" / name).read_text()
+    return re.sub(r"@(.)(\d+)@", lambda mark: mark[1] * int(mark[2]), text)
 
 
 def crates():

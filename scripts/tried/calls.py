@@ -1,14 +1,12 @@
 """Calls of the tools in a room of their own, and what has to come of them."""
 import os
 import pathlib
-import re
 import shlex
 import subprocess
 import tempfile
 import time
 
-from installed import TEXTS
-from trials import PROGRAM, TOP, Text, holds
+from trials import PROGRAM, TOP, Text, holds, text_of
 
 GUIDE = TOP / "examples" / "guide"
 TOOLS = TOP / "tools"
@@ -66,9 +64,10 @@ def refuses(room, why, script, *words, **how):
 
 def refuse(room, script):
     """All that texts/refused.txt has of a script."""
-    text = re.sub(r"@(.)(\d+)@", lambda mark: mark[1] * int(mark[2]), (TEXTS / "refused.txt").read_text())
-    for call, _, why in (line.partition("-> ") for line in text.splitlines() if line.startswith(f"{script} ")):
-        refuses(room, why, *shlex.split(call))
+    for line in text_of("refused.txt").splitlines():
+        call, _, why = line.partition("-> ")
+        if line.startswith(f"{script} "):
+            refuses(room, why, *shlex.split(call))
 
 
 def written(file, text):

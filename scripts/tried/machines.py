@@ -6,7 +6,7 @@ import shutil
 import signal
 
 from tried.calls import LACKING, fails, gives, is_running, program_that, refuses, started, stopped, waits_for, written
-from trials import PROGRAM, Text, holds
+from trials import PROGRAM, Text, holds, text_of
 
 
 def try_several_machines(room):
@@ -14,15 +14,7 @@ def try_several_machines(room):
     is ended, what it has started there isn't."""
     room, there = room / "machines", room / "machines" / "there"
     there.mkdir(parents=True)
-    # (the hosts `leaving`, `dying` and `silent` are there for the first call alone)
-    written(there / "ssh", '#!/bin/sh\nfor word; do shift; case $word in -*) ;; '
-            'leaving) mkdir ~/left 2>/dev/null && break; echo "no route to leaving" >&2; exit 255 ;; '
-            'slow) echo $$ >~/it && mv ~/it ~/slow; exec sleep 60 ;; '
-            'down) echo "no route to down" >&2; exit 255 ;; '
-            'dying) mkdir ~/died 2>/dev/null && break; echo "Connection closed" >&2; exit 255 ;; '
-            'silent) mkdir ~/silent 2>/dev/null && break; exit 255 ;; '
-            '*) break ;; esac; done\n[ "$1" != -- ] || shift\n'
-            'cd && setsid -w env -i HOME="$HOME" PATH="$PATH" sh -c "$*"\n')
+    written(there / "ssh", text_of("ssh"))
     (room / "home").mkdir()
     far = {"PATH": f"{there}:{os.environ['PATH']}", "HOME": str(room / "home")}
     written(room / "none" / "parallel", "#!/bin/sh\nexit 1\n")

@@ -149,10 +149,10 @@ def try_advice(room):
     refuses(room, "the answer for another loss", "gossip_advise", *cluster[:5], "loss=2", *cluster[6:])
     other = program_that(room, "other", f'exec "{PROGRAM}" run')
     refuses(room, "the answer for another program", "gossip_advise", GOSSIP_BENCH=other)
-    refuses(room, "isn't empty and has no answer", "gossip_advise", "-o", ".", *cluster)
+    refuses(room, "isn't empty and has no answer", "gossip_advise -o .", *cluster)
     refuse(room, "gossip_advise")
     holds("nothing is left of what was refused", False, (room / "refused").exists())
-    refuses(room, "isn't UTF-8, or not as this locale reads it", "gossip_advise", "-o", "é2", *cluster, LC_ALL="C",
+    refuses(room, "isn't UTF-8, or not as this locale reads it", "gossip_advise -o", "é2", *cluster, LC_ALL="C",
             PYTHONUTF8="0")
 
 
@@ -376,13 +376,13 @@ def try_stopping_advice(room):
     slow = program_that(room, "slow", f'echo >>slow.runs\n'
                         f'for it in 1 2 3 4; do mkdir usual.$it 2>/dev/null && exec "{PROGRAM}" run; done\n'
                         f'[ -e fast ] || sleep 60\nexec "{PROGRAM}" run')
-    with started(room, "gossip_advise", "-o", "ended", *cluster, GOSSIP_BENCH=slow) as process:
+    with started(room, "gossip_advise -o ended", *cluster, GOSSIP_BENCH=slow) as process:
         holds("runs are made", True, waits_for(lambda: len(list(room.glob("ended/many/*.csv"))) == 4))
-        refuses(room, f"ended is in use by process {process.pid}", "gossip_advise", "-o", "ended", *cluster)
+        refuses(room, f"ended is in use by process {process.pid}", "gossip_advise -o ended", *cluster)
         holds("advice is stopped", (143, "", Text("", "stopped by SIGTERM, which loses the runs under way. 4 of")),
               stopped(process, signal.SIGTERM))
     (room / "fast").touch()
-    outcome = run(room, "gossip_advise", "-o", "ended", GOSSIP_BENCH=slow)[:2]
+    outcome = run(room, "gossip_advise -o ended", GOSSIP_BENCH=slow)[:2]
     runs, reports = len((room / "slow.runs").read_text().splitlines()), len(list(room.glob("ended/*/*.csv")))
     # (the two that were stopped are run again)
     holds("it goes on where it was", (0, Text("", "Take scuttle-depth"), runs - 2), (*outcome, reports))

@@ -19,26 +19,27 @@ COMPARED = (SMALL / "comparison_of_the_modes.toml").read_text().replace(
 LACKING = '#!/bin/sh\necho "this machine lacks a feature" >&2\nexit 127\n'
 
 
-def place(script):
-    """Where a tool or a script of the guide stands, by its name, or what else is called."""
+def words_of(call):
+    """What is called, with its first words: a tool or a script of the guide by its name, or anything else."""
+    script, *words = call.split() if str(call).startswith(("gossip_", "replay.py", "check_trace.py")) else [call]
     found = (GUIDE if script == "check_trace.py" else TOOLS) / script
-    return found if found.is_file() else script
+    return found if found.is_file() else script, *words
 
 
-def started(room, script, *words, text=COMPARED, given=None, out=subprocess.PIPE, err=subprocess.PIPE, before=None,
+def started(room, call, *words, text=COMPARED, given=None, out=subprocess.PIPE, err=subprocess.PIPE, before=None,
             **variables):
     """A script that runs in a room of its own, with its input: a text, that case if none is told, or a file."""
     environment = {**os.environ, "GOSSIP_BENCH": PROGRAM, "JOBS": "2", **variables}
-    with tempfile.TemporaryFile("w+") as written_text:
-        written_text.write(text)
-        written_text.seek(0)
-        return subprocess.Popen([place(script), *words], stdin=given or written_text, stdout=out, stderr=err, text=True,
+    with tempfile.TemporaryFile("w+") as source:
+        source.write(text)
+        source.seek(0)
+        return subprocess.Popen([*words_of(call), *words], stdin=given or source, stdout=out, stderr=err, text=True,
                                 cwd=room, env=environment, preexec_fn=before)
 
 
-def run(room, script, *words, **how):
+def run(room, *call, **how):
     """The status, standard output and standard error of a script, run in a room of its own."""
-    with started(room, script, *words, **how) as process:
+    with started(room, *call, **how) as process:
         out, err = process.communicate(timeout=60)
     return process.returncode, out, err
 
@@ -49,17 +50,17 @@ def stopped(process, number):
     return process.returncode, out, err
 
 
-def gives(room, wanted, script, *words, **how):
-    holds(f"{script} {' '.join(words)}", (0, wanted, ""), run(room, script, *words, **how))
+def gives(room, wanted, *call, **how):
+    holds(" ".join(call), (0, wanted, ""), run(room, *call, **how))
 
 
 def tells(name, text, *parts):
     holds(name, [], [it for it in parts if it not in text])
 
 
-def refuses(room, why, script, *words, **how):
+def refuses(room, why, *call, **how):
     """The script ends with status 2, prints nothing, and says why in one line."""
-    holds(f"{script} {' '.join(words)}: {why}", (2, "", Text(script, why, lines=1)), run(room, script, *words, **how))
+    holds(f"{' '.join(call)}: {why}", (2, "", Text(call[0].split()[0], why, lines=1)), run(room, *call, **how))
 
 
 def refuse(room, script):
@@ -76,10 +77,10 @@ def written(file, text):
     file.chmod(0o755)
 
 
-def fails(room, why, status, script, *words, **how):
+def fails(room, why, status, *call, **how):
     """The script ends with this status, prints nothing, and says why in its last line."""
-    ended, out, err = run(room, script, *words, **how)
-    holds(f"{script} {' '.join(words)}: {why}", (status, "", Text(script, why), False),
+    ended, out, err = run(room, *call, **how)
+    holds(f"{' '.join(call)}: {why}", (status, "", Text(call[0].split()[0], why), False),
           (ended, out or "", "".join(err.splitlines()[-1:]), "Traceback" in err))
 
 

@@ -86,8 +86,7 @@ def try_lost_names(room):
     kept = "use Rattle.toy.proofs.quad.Goals as goal\n\n-- the sum\n"
     less = kept + ANSWERS[ANSWERS.index("helper :"):]
     script, crate, _ = toy(room, "answers")
-    holds("answers", [less, less, kept, ANSWERS],
-          [script.without(ANSWERS, lines) for lines in ([5], [4], [5, 7], [])])
+    holds("answers", [less, less, kept, ANSWERS], [script.without(ANSWERS, lines) for lines in ([5], [4], [5, 7], [])])
     gone = (LOST, BARE)
     cases = {
         "a cause": ([(LOST, FALSE, BARE)], "refused"), "a cause without": ([gone, (SEARCHED,)], "refused"),

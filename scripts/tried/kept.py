@@ -41,7 +41,7 @@ def try_damaged_reports(room):
     for case, (text, its_sum, why) in cases.items():
         report.write_bytes(text)
         beside.unlink() if its_sum is None else beside.write_bytes(its_sum)
-        refuses(room, why, "gossip_read", "level", "1", "0", "kept")
+        refuses(room, why, "gossip_read level 1 0 kept")
         wanted = (0, "1 runs in kept\n", Text("", f"{NAME} is run again", why)), whole, sums
         holds(f"it is made again where {case}", wanted,
               (run(room, "gossip_sweep", *SWEEP, text=APART), report.read_bytes(), beside.read_bytes()))
@@ -69,15 +69,15 @@ def try_reports_of_other_runs(room):
     for change in (copied, renamed, edited):
         change()
         why = f"{NAME} (its scenario's check sum isn't that of {NAME}.sum)"
-        refuses(room, f"1 of 2 runs are missing: {why}. The same sweep makes", "gossip_read", "level", "1", "0", "kept")
+        refuses(room, f"1 of 2 runs are missing: {why}. The same sweep makes", "gossip_read level 1 0 kept")
         why = Text(f"gossip_sweep: {NAME} is run again, as ", lines=1)
         outcome = run(room, "gossip_sweep", *MORE, text=APART)
         holds(f"what was {change.__name__} is made again", ((0, "2 runs in kept\n", why), before),
               (outcome, {it.name: it.read_bytes() for it in folder.glob("budget-*")}))
     # (what was run is what the sweep has of the scenario, whatever the file has meanwhile)
     change = program_that(room, "change", f'echo "#" >>"changed/{NAME}.toml"\nexec "{PROGRAM}" run')
-    gives(room, "1 runs in changed\n", "gossip_sweep", "-o", "changed", *SWEEP[2:], text=APART, GOSSIP_BENCH=change)
-    refuses(room, f"{NAME} (its scenario's check sum isn't that", "gossip_read", "level", "1", "0", "changed")
+    gives(room, "1 runs in changed\n", "gossip_sweep -o changed", *SWEEP[2:], text=APART, GOSSIP_BENCH=change)
+    refuses(room, f"{NAME} (its scenario's check sum isn't that", "gossip_read level 1 0 changed")
     for it in folder.glob("budget-2.*"):
         it.unlink()
 
@@ -102,14 +102,13 @@ def try_folders_of_before(room):
     before = times_of(folder)
     holds("only its program is unknown", (0, "1 runs in kept\n", NO_PROGRAM, before),
           (*run(room, "gossip_sweep", *SWEEP, text=APART), times_of(folder)))
-    gives(room, told, "gossip_read", "level", "1", "0", "kept")
+    gives(room, told, "gossip_read level 1 0 kept")
     for it in folder.glob("*.sum"):
         it.unlink()
     before = times_of(folder)
     holds("it is gone on with", (0, "1 runs in kept\n", OF_BEFORE, before),
           (*run(room, "gossip_sweep", *SWEEP, text=APART), times_of(folder)))
-    holds("it is read, and told", (0, told, f"gossip_read: {NO_SUM}"),
-          run(room, "gossip_read", "level", "1", "0", "kept"))
+    holds("it is read, and told", (0, told, f"gossip_read: {NO_SUM}"), run(room, "gossip_read level 1 0 kept"))
     holds("runs that are new have theirs",
           ((0, "2 runs in kept\n", OF_BEFORE), ["budget-2.mode-precise-newest.sum"], False),
           (run(room, "gossip_sweep", *MORE, text=APART), [it.name for it in folder.glob("*.sum")],
@@ -117,4 +116,4 @@ def try_folders_of_before(room):
     for it in folder.glob("*.sum"):
         it.unlink()
     holds("of two", "gossip_read: in kept 2 reports have no check sum and are taken as they are.\n",
-          run(room, "gossip_read", "level", "1", "0", "kept")[2])
+          run(room, "gossip_read level 1 0 kept")[2])

@@ -119,7 +119,7 @@ def agreed(room, text):
     """The report of a cluster whose writes stop, its rows and its status. A busy machine is given more intervals until
     the copies agree, as long as a minute in all."""
     for rounds in (30, 120, 400):
-        status, out, err = run(room, "gossip_live", "interval=0.1",
+        status, out, err = run(room, "gossip_live interval=0.1",
                                text=text.replace("rounds = 30", f"rounds = {rounds}") + WRITES_STOP)
         rows = [[int(it) for it in line.split(",")] for line in out.splitlines()[1:]]
         if rows and not any(rows[-1][3:]):
@@ -155,7 +155,7 @@ def try_clusters(room):
 def try_beside(room):
     """Beside the live cluster stand the means of the bench, and the most of `greatest`, under its seeds."""
     text = CLUSTER.replace("rounds = 30", "rounds = 8")
-    status, out, _ = run(room, "gossip_live", "interval=0.1", "beside=3", "window=5", text=text)
+    status, out, _ = run(room, "gossip_live interval=0.1 beside=3 window=5", text=text)
     header, *rows = csv.reader(out.splitlines())
     holds("windows", (True, [["1", "5"], ["6", "8"]]), (status in (0, WORTHLESS), [it[:2] for it in rows]))
     reports = [run(room, PROGRAM, "run", text=text.replace("seed = 1", f"seed = {seed}"))[1] for seed in (1, 2, 3)]
@@ -172,7 +172,7 @@ def try_slow_machines(room):
     """No machine is fast enough for 1560 exchanges in a hundredth of a second."""
     text = CLUSTER.replace("nodes = 16", "nodes = 40").replace("rounds = 30", "rounds = 3")
     holds("a machine that is too slow", (WORTHLESS, Text(HEADER, lines=4), Text("", "figures are worthless")),
-          run(room, "gossip_live", "interval=0.01", "fanout=39", text=text))
+          run(room, "gossip_live interval=0.01 fanout=39", text=text))
 
 
 def wait_for_a_row(process):
@@ -184,18 +184,18 @@ def try_stopping(room):
     """A cluster that is stopped leaves no process, and says so in a sentence."""
     text = CLUSTER.replace("rounds = 30", "rounds = 1000").replace("nodes = 16", "nodes = 40")
     for ends in (signal.SIGINT, signal.SIGTERM, signal.SIGHUP):
-        with started(room, "gossip_live", "interval=0.2", text=text) as process:
+        with started(room, "gossip_live interval=0.2", text=text) as process:
             header = wait_for_a_row(process)
             processes = children(process.pid)
             status, _, err = stopped(process, ends)
         holds(f"{ends.name}", (128 + ends, HEADER, 2, f"gossip_live: stopped by {ends.name}.\n", []),
               (status, header, len(processes), err, [it for it in processes if is_running(it)]))
-    with started(room, "gossip_live", "interval=0.2", text=text) as process:
+    with started(room, "gossip_live interval=0.2", text=text) as process:
         wait_for_a_row(process)
         processes = children(process.pid)
         stopped(process, signal.SIGKILL)
     holds("what a cluster that was killed leaves", True, waits_for(lambda: not any(map(is_running, processes))))
-    with started(room, "gossip_live", "interval=0.2", text=text) as process:
+    with started(room, "gossip_live interval=0.2", text=text) as process:
         wait_for_a_row(process)
         os.kill(children(process.pid)[0], signal.SIGKILL)
         _, err = process.communicate(timeout=60)
@@ -205,17 +205,16 @@ def try_stopping(room):
 
 def try_faults(room):
     with open("/dev/full", "w") as full:
-        fails(room, "No space left on device", 1, "gossip_live", "interval=0.1", text=CLUSTER, out=full)
-    with started(room, "gossip_live", "interval=0.1", text=CLUSTER) as process:
+        fails(room, "No space left on device", 1, "gossip_live interval=0.1", text=CLUSTER, out=full)
+    with started(room, "gossip_live interval=0.1", text=CLUSTER) as process:
         process.stdout.readline()
         process.stdout.close()
         holds("a reader that has ended", (1, "gossip_live: nobody reads the output any more.\n"),
               (process.wait(timeout=60), process.stderr.read()))
     with open(os.devnull, "w") as nowhere:
         for closed, why in ((0, "standard input: it is closed"), (1, "the output: it is closed")):
-            fails(room, why, 1, "gossip_live", "interval=0.1", text=CLUSTER, out=nowhere,
-                  before=lambda: os.close(closed))
+            fails(room, why, 1, "gossip_live interval=0.1", text=CLUSTER, out=nowhere, before=lambda: os.close(closed))
     half = program_that(room, "half", "echo half")
-    fails(room, "printed no whole report", 1, "gossip_live", "beside=1", text=CLUSTER, GOSSIP_BENCH=half)
+    fails(room, "printed no whole report", 1, "gossip_live beside=1", text=CLUSTER, GOSSIP_BENCH=half)
     faulty = program_that(room, "faulty", "echo fault 1: out of memory >&2; exit 1")
-    fails(room, "status 1: fault 1: out of memory", 1, "gossip_live", "beside=1", text=CLUSTER, GOSSIP_BENCH=faulty)
+    fails(room, "status 1: fault 1: out of memory", 1, "gossip_live beside=1", text=CLUSTER, GOSSIP_BENCH=faulty)

@@ -18,26 +18,25 @@ def try_several_machines(room):
     (room / "home").mkdir()
     far = {"PATH": f"{there}:{os.environ['PATH']}", "HOME": str(room / "home")}
     written(room / "none" / "parallel", "#!/bin/sh\nexit 1\n")
-    refuses(room, "GNU parallel", "gossip_sweep", "-o", "far", "budget=1", HOSTS="alpha",
+    refuses(room, "GNU parallel", "gossip_sweep -o far budget=1", HOSTS="alpha",
             PATH=f"{room / 'none'}:{os.environ['PATH']}")
     if not shutil.which("parallel"):
         return
     sweep = ("budget=1,2", "seed=1,2")
-    gives(room, "16 runs in here\n", "gossip_sweep", "-o", "here", *sweep)
+    gives(room, "16 runs in here\n", "gossip_sweep -o here", *sweep)
     for hosts, folder in ((":,alpha", "runs 2"), ("alpha", "home/shared 2")):
-        gives(room, f"16 runs in {folder}\n", "gossip_sweep", "-o", folder, *sweep, HOSTS=hosts, **far)
+        gives(room, f"16 runs in {folder}\n", "gossip_sweep -o", folder, *sweep, HOSTS=hosts, **far)
         holds(f"the runs on {hosts}", [], [it.name for it in (room / "here").iterdir() if it.name != "lock" and
                                            it.read_bytes() != (room / folder / it.name).read_bytes()])
     holds("nothing else at home", {".parallel", "shared 2"}, {it.name for it in (room / "home").iterdir()})
-    fails(room, "no route to leaving. 0 of 16 runs stand", 1, "gossip_sweep", "-o", "leaving", *sweep,
-          HOSTS="leaving", **far)
+    fails(room, "no route to leaving. 0 of 16 runs stand", 1, "gossip_sweep -o leaving", *sweep, HOSTS="leaving", **far)
     # (a machine that dies is named, though ssh doesn't name it)
     for hosts, why in (("alpha,dying", "on dying: status 255: Connection closed. "),
                        ("silent,:", "on silent: status 255. ")):
-        fails(room, why, 1, "gossip_sweep", "-o", "dying", *sweep, HOSTS=hosts, **far)
+        fails(room, why, 1, "gossip_sweep -o dying", *sweep, HOSTS=hosts, **far)
     starts_first(room, sweep, far)
     faulty = program_that(room, "faulty", "echo fault 1: out of memory >&2; exit 1")
-    fails(room, "status 1: fault 1: out of memory. 0 of 16", 1, "gossip_sweep", "-o", "far", *sweep,
+    fails(room, "status 1: fault 1: out of memory. 0 of 16", 1, "gossip_sweep -o far", *sweep,
           HOSTS="alpha", **far, GOSSIP_BENCH=faulty)
     ends_machines(room, sweep, far)
 
@@ -55,7 +54,7 @@ def ends_machines(room, sweep, far):
     """A sweep that is stopped or killed leaves no run, here or on another machine."""
     hanging = program_that(room, "hanging", "echo $$ >>pids\nexec sleep 60")
     for number, status, said in ((signal.SIGTERM, 143, "0 of 16 runs stand in stopped"), (signal.SIGKILL, -9, "")):
-        with started(room, "gossip_sweep", "-o", "stopped", *sweep, HOSTS=":,alpha", **far,
+        with started(room, "gossip_sweep -o stopped", *sweep, HOSTS=":,alpha", **far,
                      GOSSIP_BENCH=hanging) as process:
             holds("runs begin on machines", True, waits_for(lambda: len(list(room.glob("**/pids"))) == 2))
             holds(f"machines after {number.name}", (status, "", Text("", said)), stopped(process, number))
@@ -75,11 +74,11 @@ def starts_first(room, sweep, far):
                                 (":,alpha,:", "./newer", "alpha: this machine lacks a feature"),
                                 ("8/alpha", "./silent", "8/alpha: status ")):
         how = {"HOSTS": hosts, "GOSSIP_BENCH": program, **far}
-        refuses(room, f"not each of HOSTS runs the program. {why}", "gossip_sweep", "-o", "never", *sweep, **how)
+        refuses(room, f"not each of HOSTS runs the program. {why}", "gossip_sweep -o never", *sweep, **how)
         # (another program may come next, as none is kept of which nothing was run)
-        refuses(room, why, "gossip_advise", "-o", "never advised", "nodes=8", "keys=2", "writes=1", "entry=40",
+        refuses(room, why, "gossip_advise -o", "never advised", "nodes=8", "keys=2", "writes=1", "entry=40",
                 "packet=4000", **how)
-    with started(room, "gossip_sweep", "-o", "never", *sweep, HOSTS=":,slow", **far) as process:
+    with started(room, "gossip_sweep -o never", *sweep, HOSTS=":,slow", **far) as process:
         holds("a first start begins", True, waits_for(lambda: (room / "home" / "slow").exists()))
         holds("a first start is stopped", (143, "", Text("", "0 of 16 runs stand")), stopped(process, signal.SIGTERM))
     pid = (room / "home" / "slow").read_text()

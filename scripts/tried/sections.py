@@ -17,7 +17,7 @@ def try_sections(room):
     for words, first, last, apart in (("8 10 2 3", 2, 3, "8, 9, 10"), ("4095 4095 1 100000", 1, 100000, "4095")):
         gives(room, f"[[partition]]\nfrom = {first}\nto = {last}\napart = [\n    {apart},\n]\n", "gossip_apart",
               *words.split())
-    _, printed, _ = run(room, "gossip_restarts", "7", "1", "1", "1000", "0")
+    _, printed, _ = run(room, "gossip_restarts 7 1 1 1000 0")
     holds("1000 restarts", 1000, printed.count("[[restart]]"))
     for script in ("gossip_restarts", "gossip_apart"):
         refuse(room, script)

@@ -59,13 +59,13 @@ def try_folders(room):
 
 def try_full_errors(room):
     """What can't be said on standard error ends no work, and changes no status."""
-    run(room, "gossip_sweep", "budget=1")
+    run(room, "gossip_sweep budget=1")
     kept = files_of(room)
     report = next(room.glob("runs/*.csv"))
     report.write_bytes(b"")
     with open("/dev/full", "w") as full:
         holds("a report is made again", (0, "4 runs in runs\n", kept), (
-            *run(room, "gossip_sweep", "budget=1", err=full)[:2], files_of(room)))
+            *run(room, "gossip_sweep budget=1", err=full)[:2], files_of(room)))
         holds("an answer", (0, Text("", "\nTake scuttle-depth ")), run(room, "gossip_advise", *CLUSTER, err=full)[:2])
         for script, status, words in (("gossip_read", 2, ("window", "1", "3", "runs")), ("replay.py", 1, ("check",)),
                                       ("replay.py", 2, ("walk",)), ("check_trace.py", 2, ())):
@@ -88,7 +88,7 @@ def try_lost_terminals(room):
     """A terminal that goes away while a sweep shows its progress there."""
     waiting = program_that(room, "waiting", f'until [ -e go ]; do sleep 0.05; done\nexec "{PROGRAM}" run')
     terminal, shown = pty.openpty()
-    with started(room, "gossip_sweep", "-o", "lost", "budget=1", GOSSIP_BENCH=waiting, err=shown) as process:
+    with started(room, "gossip_sweep -o lost budget=1", GOSSIP_BENCH=waiting, err=shown) as process:
         os.close(shown)
         holds("progress is shown", True, b"0 of 4 runs" in os.read(terminal, 1000))
         os.close(terminal)

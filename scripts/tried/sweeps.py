@@ -22,9 +22,9 @@ FAULTS = (
 
 def try_words_of_sweeps(room):
     refuse(room, "gossip_sweep")
-    refuses(room, "2 lines of the scenario above all sections set the field seed", "gossip_sweep", "seed=1",
+    refuses(room, "2 lines of the scenario above all sections set the field seed", "gossip_sweep seed=1",
             text="seed = 2\n" + COMPARED)
-    refuses(room, "the scenario is empty", "gossip_sweep", "seed=1", text="")
+    refuses(room, "the scenario is empty", "gossip_sweep seed=1", text="")
     fails(room, f"answer to mode-{'x' * 55}.., so nothing was run.", 1, "gossip_sweep", f"mode={LONG}")
     for words, text, fault in FAULTS:
         holds(f"sweep of {words}", (1, "", Text(fault)), run(room, "gossip_sweep", words, text=text))
@@ -33,15 +33,14 @@ def try_words_of_sweeps(room):
 
 def try_variables(room):
     for jobs in ("0", "-2", "two", "99999"):
-        refuses(room, f"JOBS is a whole number from 1 to 9999, which '{jobs}' isn't.", "gossip_sweep", "seed=1",
-               JOBS=jobs)
+        refuses(room, f"JOBS is a whole number from 1 to 9999, which '{jobs}' isn't.", "gossip_sweep seed=1", JOBS=jobs)
     for hosts in (it for host in WRONG_HOSTS for it in (host, f":,{host}")):
-        refuses(room, "in HOSTS isn't the name of a machine", "gossip_sweep", "seed=1", HOSTS=hosts)
+        refuses(room, "in HOSTS isn't the name of a machine", "gossip_sweep seed=1", HOSTS=hosts)
     for hosts in (",", "alpha,,beta", ":, "):
-        refuses(room, f"HOSTS is '{hosts}', which lacks the name of a machine", "gossip_sweep", "seed=1", HOSTS=hosts)
-        refuses(room, f"HOSTS is '{hosts}'", "gossip_advise", "nodes=8", "keys=1", "writes=1", "entry=40",
+        refuses(room, f"HOSTS is '{hosts}', which lacks the name of a machine", "gossip_sweep seed=1", HOSTS=hosts)
+        refuses(room, f"HOSTS is '{hosts}'", "gossip_advise nodes=8 keys=1 writes=1 entry=40",
                 "packet=4000", HOSTS=hosts)
-    refuses(room, "GOSSIP_BENCH names 'no_program'", "gossip_sweep", "seed=1", GOSSIP_BENCH="no_program")
+    refuses(room, "GOSSIP_BENCH names 'no_program'", "gossip_sweep seed=1", GOSSIP_BENCH="no_program")
     holds("nor are any of those", False, (room / "runs").exists())
 
 
@@ -51,16 +50,16 @@ def try_long_scenarios(room):
         resource.setrlimit(resource.RLIMIT_AS, (2**28, 2**28))
 
     with open("/dev/zero") as endless:
-        refuses(room, "the scenario is longer than 1048576 bytes", "gossip_sweep", "seed=1", given=endless,
+        refuses(room, "the scenario is longer than 1048576 bytes", "gossip_sweep seed=1", given=endless,
                 before=little_memory)
     longest = COMPARED + "#" * (1048575 - len(COMPARED)) + "\n"
-    refuses(room, "the scenario is longer than 1048576 bytes", "gossip_sweep", "-o", "long", "mode=scuttle-depth",
+    refuses(room, "the scenario is longer than 1048576 bytes", "gossip_sweep -o long mode=scuttle-depth",
             text=longest + "\n")
-    gives(room, "1 runs in long\n", "gossip_sweep", "-o", "long", "mode=scuttle-depth", text=longest)
+    gives(room, "1 runs in long\n", "gossip_sweep -o long mode=scuttle-depth", text=longest)
 
 
 def try_runs(room):
-    gives(room, "4 runs in runs\n", "gossip_sweep", "budget=1")
+    gives(room, "4 runs in runs\n", "gossip_sweep budget=1")
     rows = {
         "scuttle-breadth": "1,2,0,0,4,6,2,1\n2,2,0,0,4,2,0,0\n", "scuttle-depth": "1,2,0,0,4,6,2,1\n2,2,0,0,4,2,0,0\n",
         "precise-oldest": "1,2,0,0,4,6,2,1\n2,2,0,0,4,2,0,0\n", "precise-newest": "1,2,0,0,4,6,2,1\n2,2,0,0,2,0,0,0\n",
@@ -70,25 +69,24 @@ def try_runs(room):
     # (the ring of four in bytes, worked out in docs/model.md)
     ring = (TOP / "examples" / "ring_of_four.toml").read_text()
     ring = ring.replace("format = 1", "format = 2").replace("budget = 1", "budget_bytes = 5000")
-    gives(room, "1 runs in ring\n", "gossip_sweep", "-o", "ring", "budget_bytes=1023", "mode=scuttle-breadth",
-          text=ring)
+    gives(room, "1 runs in ring\n", "gossip_sweep -o ring budget_bytes=1023 mode=scuttle-breadth", text=ring)
     holds("the ring of four in bytes", HEADER.replace("\n", ",leftover\n") + "1,4,0,0,11,0,1,1,0\n",
           (room / "ring" / "budget_bytes-1023.mode-scuttle-breadth.csv").read_text())
     # (a text with other ends of lines stays as it is)
     ends = COMPARED.replace("\n", "\r\n")
-    gives(room, "1 runs in of two\n", "gossip_sweep", "budget=1", "mode=scuttle-depth", "-o", "of two", text=ends)
+    gives(room, "1 runs in of two\n", "gossip_sweep budget=1 mode=scuttle-depth -o", "of two", text=ends)
     report = room / "of two" / "budget-1.mode-scuttle-depth.csv"
     made = report.stat().st_ino
-    gives(room, "1 runs in of two\n", "gossip_sweep", "budget=1", "mode=scuttle-depth", "-o", "of two", text=ends)
+    gives(room, "1 runs in of two\n", "gossip_sweep budget=1 mode=scuttle-depth -o", "of two", text=ends)
     holds("it isn't run again", made, report.stat().st_ino)
 
 
 def try_other_folders(room):
     """A folder of another kind, or with runs of another scenario or other fields, is refused and stays as it is."""
-    refuses(room, "another scenario", "gossip_sweep", "budget=1", text=COMPARED.replace("keys = 3", "keys = 2"))
-    refuses(room, "has no runs", "gossip_sweep", "-o", ".", "budget=1")
-    refuses(room, "isn't a folder", "gossip_sweep", "-o", "runs/scenario", "budget=1")
-    refuses(room, "isn't a folder", "gossip_read", "window", "1", "2", "runs/scenario")
+    refuses(room, "another scenario", "gossip_sweep budget=1", text=COMPARED.replace("keys = 3", "keys = 2"))
+    refuses(room, "has no runs", "gossip_sweep -o . budget=1")
+    refuses(room, "isn't a folder", "gossip_sweep -o runs/scenario budget=1")
+    refuses(room, "isn't a folder", "gossip_read window 1 2 runs/scenario")
     of_budgets = sorted(it.name for it in (room / "runs").iterdir())
     for words in (("seed=1",), ("budget=1", "seed=1"), ("mode=scuttle-depth", "budget=1"), ("mode=scuttle-depth",)):
         refuses(room, "has runs of the fields budget, mode:", "gossip_sweep", *words)
@@ -100,28 +98,28 @@ def try_what_is_kept(room):
     kept = room / "runs" / "budget-1.mode-precise-newest.csv"
     kept.write_text(HEADER + "1,2,0,0,4,6,2,1\n2,2,0,0,9,9,9,9\n")
     kept.with_suffix(".sum").write_text(run(kept.parent, "sha256sum", kept.stem + ".toml", kept.name)[1])
-    gives(room, "2 runs in runs\n", "gossip_sweep", "budget=1,65535", "mode=precise-newest")
+    gives(room, "2 runs in runs\n", "gossip_sweep budget=1,65535 mode=precise-newest")
     # (with room for all, exchange 1 of round 1 brings 3 each way, exchange 1 of round 2 one each way)
     gives(room, "budget,mode,percent_cut,greatest_least,greatest_most,stale_least,stale_most\n"
           "1,scuttle-breadth,33.33,0,0,0,0\n1,scuttle-depth,33.33,0,0,0,0\n1,precise-oldest,33.33,0,0,0,0\n"
-          "1,precise-newest,50.00,9,9,9,9\n65535,precise-newest,0.00,0,0,0,0\n", "gossip_read", "window", "2", "2")
+          "1,precise-newest,50.00,9,9,9,9\n65535,precise-newest,0.00,0,0,0,0\n", "gossip_read window 2 2")
     gives(room, "budget,mode,round,took\n1,scuttle-breadth,2,2\n1,scuttle-depth,2,2\n1,precise-oldest,2,2\n"
-          "1,precise-newest,never,never\n65535,precise-newest,1,1\n", "gossip_read", "level", "1", "0")
+          "1,precise-newest,never,never\n65535,precise-newest,1,1\n", "gossip_read level 1 0")
     kept.unlink()
-    gives(room, "2 runs in runs\n", "gossip_sweep", "budget=1,65535", "mode=precise-newest")
+    gives(room, "2 runs in runs\n", "gossip_sweep budget=1,65535 mode=precise-newest")
     gives(room, "budget,mode,percent_cut,greatest_least,greatest_most,stale_least,stale_most\n"
           "1,scuttle-breadth,50.00,0,1,0,2\n1,scuttle-depth,50.00,0,1,0,2\n1,precise-oldest,50.00,0,1,0,2\n"
-          "1,precise-newest,50.00,0,1,0,2\n65535,precise-newest,0.00,0,0,0,0\n", "gossip_read", "window", "1", "2")
+          "1,precise-newest,50.00,0,1,0,2\n65535,precise-newest,0.00,0,0,0,0\n", "gossip_read window 1 2")
 
 
 def try_forgetting(room):
     """A node forgets in round 2 and is down in it, and its next write comes to the other one in round 3."""
     forgets = (SMALL / "a_node_forgets.toml").read_text()
-    gives(room, "1 runs in forgets\n", "gossip_sweep", "-o", "forgets", "mode=scuttle-breadth", text=forgets)
+    gives(room, "1 runs in forgets\n", "gossip_sweep -o forgets mode=scuttle-breadth", text=forgets)
     gives(room, "mode,percent_cut,greatest_least,greatest_most,stale_least,stale_most,leftover_least,leftover_most\n"
-          "scuttle-breadth,0.00,0,2,0,1,0,1\n", "gossip_read", "window", "2", "3", "forgets")
+          "scuttle-breadth,0.00,0,2,0,1,0,1\n", "gossip_read window 2 3 forgets")
     for first, level, wanted in (("1", "0", "1,1"), ("2", "0", "3,2"), ("2", "1", "2,1")):
-        gives(room, f"mode,round,took\nscuttle-breadth,{wanted}\n", "gossip_read", "leftover", first, level, "forgets")
+        gives(room, f"mode,round,took\nscuttle-breadth,{wanted}\n", "gossip_read leftover", first, level, "forgets")
 
 
 def try_missing(room):
@@ -145,18 +143,17 @@ def try_missing(room):
     }
     for why, text in damaged.items():
         report.write_bytes(text)
-        refuses(room, f"1 of 4 runs are missing: {name} ({why.strip()}", "gossip_read", "level", "1", "0", "missing")
+        refuses(room, f"1 of 4 runs are missing: {name} ({why.strip()}", "gossip_read level 1 0 missing")
         holds(f"made again: {why}", (0, "4 runs in missing\n", Text("", why.strip(), name), whole),
               (*run(room, "gossip_sweep", *sweep), report.read_text()))
     report.unlink()
-    refuses(room, f"{name} (it isn't there)", "gossip_read", "level", "1", "0", "missing")
+    refuses(room, f"{name} (it isn't there)", "gossip_read level 1 0 missing")
     # (with room for two each way, two exchanges of a round bring the three writes)
     rows = "budget,mode,round,took\n1,scuttle-depth,2,2\n2,scuttle-depth,1,1\n2,precise-newest,1,1\n"
-    holds("what is there is read", (0, rows, Text("", name)),
-          run(room, "gossip_read", "level", "1", "0", "missing", "--partial"))
+    holds("what is there is read", (0, rows, Text("", name)), run(room, "gossip_read level 1 0 missing --partial"))
     for it in (room / "missing").glob("*.csv"):
         it.unlink()
-    refuses(room, "4 of 4 runs are missing", "gossip_read", "level", "1", "0", "missing", "--partial")
+    refuses(room, "4 of 4 runs are missing", "gossip_read level 1 0 missing --partial")
 
 
 def try_sweeps_at_once(room):
@@ -169,7 +166,7 @@ def try_sweeps_at_once(room):
         refuses(room, "has runs of another scenario", "gossip_sweep", *sweep, text=another)
         (room / "go").touch()
         holds("the first of two sweeps", ("4 runs in at_once\n", ""), first.communicate(timeout=60))
-    both = [started(room, "gossip_sweep", "-o", "new", "seed=1,2,3", text=it) for it in (COMPARED, another)]
+    both = [started(room, "gossip_sweep -o new seed=1,2,3", text=it) for it in (COMPARED, another)]
     ended = [(it.communicate(timeout=60), it.returncode) for it in both]
     texts = [it.read_text() for it in room.glob("new/*.toml")]
     holds("of two sweeps of different scenarios at once one is carried out", ([0, 2], True),
@@ -250,4 +247,4 @@ def try_lasting_faults(room):
         kept.rename(room / "taken" / name)
     name = "x" * 5000
     holds("a name that is too long", (1, "", f"gossip_sweep: {'x' * 60}..: File name too long.\n"),
-          run(room, "gossip_sweep", "-o", name, "budget=1"))
+          run(room, "gossip_sweep -o", name, "budget=1"))

@@ -7,7 +7,7 @@ from toolchain import imported, load_reader
 from tried.calls import tells
 from trials import TOP, holds, text_of
 
-NEEDS = "rt"  # which reads the crate, and applies its edits
+NEEDED = "rt"  # which reads the crate, and applies its edits
 SOURCE, ANSWERS = text_of("toy_lib.txt"), text_of("toy_answers.txt")
 AT = "./proofs/quad/Answers.antt:5:43: error: `returns`: "
 LOST = f"{AT}record `Rattle.toy.proofs.quad.Lts.After-double` has no field `double-twice` (nearest: .double-second)"

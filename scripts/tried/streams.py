@@ -1,4 +1,4 @@
-"""Trials of all tools with streams that are closed or full, and with Ctrl-C while they load."""
+"""Trials of all tools with streams that are closed or full, with full disks, and with Ctrl-C while they load."""
 import itertools
 import os
 import pathlib
@@ -7,11 +7,14 @@ import re
 import signal
 
 import installed
-from tried.calls import GUIDE, TOOLS, program_that, run, started, stopped, waits_for, written
-from tried.disks import TEXTS
-from trials import PROGRAM, Text, holds
+from tried.calls import (
+    GUIDE, SMALL, TOOLS, fails, gives, program_that, run, started, stopped, waits_for, written,
+)
+from trials import PROGRAM, Text, holds, small_files
 
 INPUT, OUTPUT, ERROR = range(3)
+TEXTS = (str(SMALL / "two_nodes.report.csv"), str(SMALL / "two_nodes.trace.csv"))
+LARGE = "nodes=300 keys=4 writes=1 entry=40 packet=60000"
 CLUSTER = ("nodes=8", "keys=1", "writes=1", "entry=40", "packet=4000", "split=0", "restarts=0")
 # Calls that print something.
 CALLS = {
@@ -105,3 +108,17 @@ def try_interrupts(room):
         with started(room, tool, "--help", PYTHONPATH=str(late)) as process:
             holds(f"{tool.name} loads", True, waits_for(loading.exists))
             holds(f"{tool.name} is interrupted", (-signal.SIGINT, "", ""), stopped(process, signal.SIGINT))
+
+
+def try_full_disks(room):
+    gives(room, "1 runs in full\n", "gossip_sweep -o full mode=scuttle-depth")
+    with open("/dev/full", "w") as full:
+        for call in (f"gossip_scenario {LARGE}", "gossip_restarts 3 1 1 1 0", "gossip_apart 1 2 3 4",
+                     "gossip_read window 1 2 full", "gossip_sweep --help"):
+            fails(room, "No space left on device", 1, call, out=full)
+        fails(room, "No space left on device", 2, "check_trace.py", *TEXTS, out=full)
+    fails(room, "File too large", 1, "gossip_sweep -o fuller seed=1", before=small_files(100))
+    holds("no scenario that isn't whole", [], [it.name for it in (room / "fuller").iterdir() if it.name != "lock"])
+    fails(room, "fullest/cluster.toml: File too large.", 1, f"gossip_advise -o fullest {LARGE}",
+          before=small_files(100))
+    holds("no numbers that aren't whole", ["lock"], [it.name for it in (room / "fullest").iterdir()])

@@ -97,14 +97,10 @@ def lines_for_fish(key, words, has_commands):
     plain = [it for it in words.plain if not it.startswith("-")]
     for option in (it for it in words.plain if it.startswith("--")):
         yield f"{behind} -l {option[2:]}" + " -r -F" * (option in words.before_file)
-    if plain:
-        yield f"{behind} -a '{' '.join(plain)}'"
-    if words.names:
-        yield f"{behind} -n '{NO_NAME_YET}' -a '{' '.join(words.names)}'"
-    if words.before_folder:
-        yield f"{behind} -s o -x -a '(__fish_complete_directories)'"
-    if words.is_folder:
-        yield f"{behind} -a '(__fish_complete_directories)'"
+    folders = "-a '(__fish_complete_directories)'"
+    rows = ((plain, f"-a '{' '.join(plain)}'"), (words.names, f"-n '{NO_NAME_YET}' -a '{' '.join(words.names)}'"),
+            (words.before_folder, f"-s o -x {folders}"), (words.is_folder, folders))
+    yield from (f"{behind} {row}" for are_there, row in rows if are_there)
     for name, values in words.named.items():
         if values:
             yield f"{behind} -n '{NAMED.format(name)}' -a '(__gossip_values {' '.join(values)})'"

@@ -36,7 +36,8 @@ class Text:
     def __eq__(self, found):
         begin, parts, lines = self.told
         text = found.decode(errors="replace") if isinstance(found, bytes) else found
-        return text.startswith(begin) and all(it in text for it in parts) and lines in (None, text.count("\n"))
+        has_parts = isinstance(text, str) and text.startswith(begin) and all(it in text for it in parts)
+        return has_parts and lines in (None, text.count("\n"))
 
     def __repr__(self):
         return f"Text{self.told}"

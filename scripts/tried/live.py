@@ -183,17 +183,14 @@ def wait_for_a_row(process):
 def try_stopping(room):
     """A cluster that is stopped leaves no process, and says so in a sentence."""
     text = CLUSTER.replace("rounds = 30", "rounds = 1000").replace("nodes = 16", "nodes = 40")
-    for ends in (signal.SIGINT, signal.SIGTERM, signal.SIGHUP):
+    for ends in (signal.SIGINT, signal.SIGTERM, signal.SIGHUP, signal.SIGKILL):
         with started(room, "gossip_live interval=0.2", text=text) as process:
             header = wait_for_a_row(process)
             processes = children(process.pid)
             status, _, err = stopped(process, ends)
-        holds(f"{ends.name}", (128 + ends, HEADER, 2, f"gossip_live: stopped by {ends.name}.\n", []),
-              (status, header, len(processes), err, [it for it in processes if is_running(it)]))
-    with started(room, "gossip_live interval=0.2", text=text) as process:
-        wait_for_a_row(process)
-        processes = children(process.pid)
-        stopped(process, signal.SIGKILL)
+        if ends != signal.SIGKILL:
+            holds(f"{ends.name}", (128 + ends, HEADER, 2, f"gossip_live: stopped by {ends.name}.\n", []),
+                  (status, header, len(processes), err, [it for it in processes if is_running(it)]))
     holds("what a cluster that was killed leaves", True, waits_for(lambda: not any(map(is_running, processes))))
     with started(room, "gossip_live interval=0.2", text=text) as process:
         wait_for_a_row(process)

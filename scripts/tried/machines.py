@@ -34,11 +34,11 @@ def try_several_machines(room):
     for hosts, why in (("alpha,dying", "on dying: status 255: Connection closed. "),
                        ("silent,:", "on silent: status 255. ")):
         fails(room, why, 1, "gossip_sweep -o dying", *sweep, HOSTS=hosts, **far)
-    starts_first(room, sweep, far)
+    look_at_first_starts(room, sweep, far)
     faulty = program_that(room, "faulty", "echo fault 1: out of memory >&2; exit 1")
     fails(room, "status 1: fault 1: out of memory. 0 of 16", 1, "gossip_sweep -o far", *sweep,
           HOSTS="alpha", **far, GOSSIP_BENCH=faulty)
-    ends_machines(room, sweep, far)
+    look_at_ends(room, sweep, far)
 
 
 def running_at(home):
@@ -50,7 +50,7 @@ def running_at(home):
     return found
 
 
-def ends_machines(room, sweep, far):
+def look_at_ends(room, sweep, far):
     """A sweep that is stopped or killed leaves no run, here or on another machine."""
     hanging = program_that(room, "hanging", "echo $$ >>pids\nexec sleep 60")
     for number, status, said in ((signal.SIGTERM, 143, "0 of 16 runs stand in stopped"), (signal.SIGKILL, -9, "")):
@@ -65,7 +65,7 @@ def ends_machines(room, sweep, far):
             it.unlink()
 
 
-def starts_first(room, sweep, far):
+def look_at_first_starts(room, sweep, far):
     """Nothing is run where the program doesn't start on each machine, and its line is told."""
     # (JOBS is set here alone)
     written(room / "newer", LACKING.replace("echo", f'[ "$JOBS" ] && exec "{PROGRAM}" "$@"\necho'))

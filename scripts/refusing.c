@@ -3,11 +3,13 @@
      REFUSED  CALL HOW FIRST LAST: the calls FIRST to LAST of a kind, counted from 1 and from the begin of main. CALL is
               growth, read, write or thread, or main: a growth of the thread that begins main. HOW is fails, or short: a
               read or write of one byte.
-     TOLD     the number of an open file, which is told at the end how often each was called, and how many were refused;
-              and then, of each thread that this one starts, how many growths it had made before and after the call
+     TOLD     the number of an open file, which is told at the end how often each was called, how many were refused and
+              how many threads there are; and then, of each thread that this one starts, how many growths it had made
+              before and after the call
 
    What comes before main, and what the threads of a program do in turn, is counted as it comes. */
 #define _GNU_SOURCE
+#include <dirent.h>
 #include <dlfcn.h>
 #include <errno.h>
 #include <pthread.h>
@@ -92,13 +94,27 @@ int pthread_create(pthread_t *made_thread, const pthread_attr_t *how, void *(*ru
     return answer;
 }
 
+/* How many threads there are, but for those that are just ending. */
+static int threads(void) {
+    int count = 0;
+    for (int looks = 0; looks < 1000; looks++) {
+        DIR *tasks = opendir("/proc/self/task");
+        if (!tasks) return 0;
+        for (count = -2; readdir(tasks); count++) {} /* (. and .. are none) */
+        closedir(tasks);
+        if (count == 1) break;
+        usleep(1000);
+    }
+    return count;
+}
+
 void _exit(int status) {
     const char *told = getenv("TOLD");
     counts = false;
     if (told) {
         int file = atoi(told);
         for (enum call call = 0; call < CALLS; call++) dprintf(file, "%ld ", made[call]);
-        dprintf(file, "%ld", refused);
+        dprintf(file, "%ld %d", refused, threads());
         for (int at = 0; at < told_of_starts; at++) dprintf(file, " %ld", around_starts[at]);
         dprintf(file, "\n");
     }

@@ -8,7 +8,7 @@ use lib.ListN.{get_elem?}
 use Rattle.std.proofs.lemmas.List.{length-map, length-replicate}
 use Rattle.atomic_table.specs.Table.{State, Me, rest, keeps, takes, gives, Allows, Arrives, opening}
 use Rattle.atomic_table.proofs.Lists.{set_here, set_else}
-use Rattle.crew.specs.Trays.{AreKept, IsOpened}
+use Rattle.crew.specs.Trays.{AreTraysKept, IsTrayOpened}
 
 abbrev first_held : {X : Type 0} → Option X → List (ℕ × Option X) → Option X
 first_held d [] = d
@@ -20,15 +20,15 @@ empty_at (suc n) zero h = refl
 empty_at (suc n) (suc i) h = empty_at n i (omega arith)
 
 module _ {X V : Type 0} (kept : ℕ → X → Type 0) where
-  pub all_empty : (words : List ℕ) (n : ℕ) (v : V) → length words ≡ n → AreKept kept (opening words (replicate n None) v)
+  pub all_empty : (words : List ℕ) (n : ℕ) (v : V) → length words ≡ n → AreTraysKept kept (opening words (replicate n None) v)
   all_empty words n v long = record {
     words = omega (arith, long, length-map (replicate {A = Option X} n None) some, length-replicate {A = Option X} n None);
     free = λ i below _. (None, empty_at {X = X} n i (omega (arith, below, length-map (replicate {A = Option X} n None) some, length-replicate {A = Option X} n None)), tt);
   }
 
   -- once a tray's word is 1, nothing is said of that tray
-  opened : (s : State (Option X) V) (i : ℕ) (homes : List _) (views : List V) → AreKept kept s → length homes ≡ length s.homes → i < length s.homes
-      → ((j : ℕ) → j ≢ i → get_elem? homes j ≡ get_elem? s.homes j) → AreKept kept (record { words = set s.words i 1; homes = homes; views = views })
+  opened : (s : State (Option X) V) (i : ℕ) (homes : List _) (views : List V) → AreTraysKept kept s → length homes ≡ length s.homes → i < length s.homes
+      → ((j : ℕ) → j ≢ i → get_elem? homes j ≡ get_elem? s.homes j) → AreTraysKept kept (record { words = set s.words i 1; homes = homes; views = views })
   opened s i homes views is long within same = record {
     words = length-set s.words i 1 ∙ (is.words ∙ sym long);
     free = λ j below free. dite (ℕ_discrete j i)
@@ -37,7 +37,7 @@ module _ {X V : Type 0} (kept : ℕ → X → Type 0) where
         (λ ne. let was = is.free j (omega arith) (sym (get_or-set_other s.words i j 1 0 ne) ∙ free) in (was.0, same j ne ∙ was.1, was.2));
   }
 
-  pub opens : (n i : ℕ) (v : V) → i < n → Arrives {V = V} (AreKept kept) n i (λ _. 1) (λ found m. found ≡ 0 → IsOpened (kept i) i m)
+  pub opens : (n i : ℕ) (v : V) → i < n → Arrives {V = V} (AreTraysKept kept) n i (λ _. 1) (λ found m. found ≡ 0 → IsTrayOpened (kept i) i m)
   opens n i v within s is wide _ =
       let below : i < length s.homes = omega arith in
       dite (ℕ_discrete (get_or s.words i 0) 0)
@@ -45,8 +45,8 @@ module _ {X V : Type 0} (kept : ℕ → X → Type 0) where
       (v, takes i t.0, t.1, opened s i (set s.homes i none) (s.views ++ v ∷ []) is (length-set s.homes i none) below (λ j ne. set_else s.homes i j none ne), λ _. (t.0, refl, t.2)))
       (λ taken. (v, keeps, tt, opened s i s.homes (s.views ++ v ∷ []) is refl below (λ j ne. refl), λ e. absurd (taken e)))
 
-  shut : (s : State (Option X) V) (i : ℕ) (held : Option X) (views : List V) → AreKept kept s → IfSome held (kept i)
-      → AreKept kept (record { words = set s.words i 0; homes = set s.homes i (some held); views = views })
+  shut : (s : State (Option X) V) (i : ℕ) (held : Option X) (views : List V) → AreTraysKept kept s → IfSome held (kept i)
+      → AreTraysKept kept (record { words = set s.words i 0; homes = set s.homes i (some held); views = views })
   shut s i held views is ok = record {
     words = length-set s.words i 0 ∙ (is.words ∙ sym (length-set s.homes i (some held)));
     free = λ j below free. let within : j < length s.homes = omega (arith, length-set s.homes i (some held)) in dite (ℕ_discrete j i)
@@ -55,12 +55,12 @@ module _ {X V : Type 0} (kept : ℕ → X → Type 0) where
   }
 
   pub shuts : (n id i : ℕ) (m : Me (Option X) V) (v : V) (held : Option X) (more : List (ℕ × Option X)) → m ≡ (v, (i, held) ∷ more) → IfSome held (kept i)
-      → Allows (AreKept kept) n id m i (λ _. 0) (λ _ _. Unit {0})
-  shuts n id i m v held more e ok = subst (λ (x : Me (Option X) V). Allows (AreKept kept) n id x i (λ _. 0) (λ _ _. Unit {0})) (sym e)
+      → Allows (AreTraysKept kept) n id m i (λ _. 0) (λ _ _. Unit {0})
+  shuts n id i m v held more e ok = subst (λ (x : Me (Option X) V). Allows (AreTraysKept kept) n id x i (λ _. 0) (λ _ _. Unit {0})) (sym e)
       (λ s is wide me _. (v, gives, tt, shut s i held (set s.views id v) is ok, tt))
 
   -- what an opened tray held keeps the promise
-  pub was_kept : (i : ℕ) (m : Me (Option X) V) (found : Option X) → IsOpened (kept i) i m → m.1 ≡ (i, found) ∷ rest m.1 → IfSome found (kept i)
+  pub was_kept : (i : ℕ) (m : Me (Option X) V) (found : Option X) → IsTrayOpened (kept i) i m → m.1 ≡ (i, found) ∷ rest m.1 → IfSome found (kept i)
   was_kept i m found opened e =
       let same : opened.0 ≡ found = sym (ap (first_held None) opened.1) ∙ ap (first_held None) e in
       subst (λ x. IfSome x (kept i)) same opened.2

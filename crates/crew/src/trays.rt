@@ -1,8 +1,8 @@
 //! Places in which threads leave values for others. A label, fixed when they are made, says what each may hold.
-ghost use Rattle.std.specs.Prelude.{◌≡◌, ℕ, ◌<◌, IfOk, IfSome, replicate};
-ghost use Rattle.crew.specs.Trays.{AreKept, IsOpened};
+ghost use Rattle.std.specs.Prelude.{◌≡◌, ℕ, ◌<◌, IfOk, IfSome};
+ghost use Rattle.crew.specs.Trays.{AreTraysKept, IsTrayOpened};
 
-use atomic_table::{Play, Seat, Table, TableRule};
+use atomic_table::{Play, Table, TableRule};
 use std::alloc::{AllocError, Global};
 use std::marker::PhantomData;
 use std::snapshot::Snapshot;
@@ -23,7 +23,7 @@ const OPEN: u64 = 1;
 pub struct Keeping<P>(PhantomData<P>);
 
 impl<X, P: Label<X>> TableRule<Option<X>, Snapshot<P>, Snapshot<P>> for Keeping<P> {
-    ghost holds = { λ key. AreKept (P.keeps key.value) };
+    ghost holds = { λ key. AreTraysKept (P.keeps key.value) };
 
     ghost first = { λ key. key };
 }
@@ -32,7 +32,8 @@ impl<X, P: Label<X>> TableRule<Option<X>, Snapshot<P>, Snapshot<P>> for Keeping<
 struct Open<P>(PhantomData<P>);
 
 impl<X, P: Label<X>> Play<Option<X>, Snapshot<P>> for Open<P> {
-    ghost then = { λ step before found after. found ≡ 0 → IsOpened (P.keeps before.0.value step.word) step.word after };
+    ghost then = { λ step before found after. found ≡ 0
+        → IsTrayOpened (P.keeps before.0.value step.word) step.word after };
 }
 
 // And closed.

@@ -56,7 +56,7 @@ pub struct Yard<D> {
 }
 
 impl<D: Drop> Yard<D> {
-    ghost use Rattle.std.specs.Prelude.{◌≡◌, ◌<◌, IfOk};
+    ghost use Rattle.std.specs.Prelude.{◌≡◌, ◌<◌, ◌≤◌, IfOk};
     ghost use Rattle.crew.specs.Named.{post_count};
 
     /// Posts for so many threads, none of which is started here.
@@ -73,7 +73,7 @@ impl<D: Drop> Yard<D> {
         })
     }
 
-    /// Gives a thread something to do. It should have nothing else to do, which would be dropped.
+    /// Gives a thread something to do. It should have nothing else to do: that would be dropped, and `wait` never end.
     pub fn give<R: Wait>(&self, rt: &R, i: usize, duty: D)
         requires { i < post_count self.now }
     {
@@ -98,7 +98,7 @@ impl<D: Drop> Yard<D> {
         }
     }
 
-    /// Waits until all that was given is finished.
+    /// Waits until all that was given is finished. One thread at a time may wait.
     pub fn wait<R: Wait>(&self, rt: &R) {
         for _ in rt.forever() {
             let left = self.under_way.load(Ordering::SeqCst);
@@ -110,9 +110,12 @@ impl<D: Drop> Yard<D> {
         unreachable!()
     }
 
-    /// Sends all threads home. One that has something to do should have finished it, as it would be dropped otherwise.
-    pub fn send_home<R: Wait>(&self, rt: &R) {
-        for post in &self.posts {
+    /// Sends the first so many threads home. One that has something to do should have finished it, as that would be
+    /// dropped otherwise.
+    pub fn send_home<R: Wait>(&self, rt: &R, threads: usize)
+        requires { threads ≤ post_count self.now }
+    {
+        for post in &self.posts[..threads] {
             post.give(rt, Order::GoHome);
         }
     }

@@ -1,6 +1,6 @@
 //! Loops over all planes of a table that compare its numbers with the last ones.
 
-ghost use Rattle.std.specs.Prelude.{◌≡◌, ◌+◌, ◌*◌, ◌<◌, ◌≤◌, length, map, min, nat_lt, slice_index, IfOk, IsOkUnless};
+ghost use Rattle.std.specs.Prelude.{◌≡◌, ◌+◌, ◌*◌, ◌<◌, length, map, min, nat_lt, slice_index, IfOk, IsOkUnless};
 ghost use Rattle.bench_types.specs.declared.faults.Fault.TheVariants.{OutOfMemory};
 ghost use Rattle.grids.specs.Grids.{IsBeside};
 ghost use Rattle.grids.specs.Lags.{AreLowered, AreLoweredCounting, HasLast, IsLeastBehind};

@@ -119,7 +119,8 @@ fn count_one<N: Number>(counts: &mut [N], plane: &[N], low: &[N], high: &[N])
     planes::change(
         counts,
         |r, count| -> N
-            requires { (r < length plane.now) × (r < length low.now) × (r < length high.now) × (N.number count < N.most) }
+            requires { (r < length plane.now) × (r < length low.now) × (r < length high.now)
+                × (N.number count < N.most) }
             ensures { N.number result ≡ N.number count
                 + one_between N.number plane.entry.now low.entry.now high.entry.now r }
         { count.plus(planes::is_between(plane[r], low[r], high[r])) },

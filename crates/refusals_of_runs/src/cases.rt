@@ -45,25 +45,21 @@ pub(crate) struct FirstRound {
 /// that were written in one round.
 pub(crate) const CASES: [Case; 4] = [DOWN, CUT, RING, FORGETFUL];
 
-/// A list that is tried alone, and whether its workers wait for each other in their first exchanges.
+/// A list that is tried alone.
 #[derive(Drop)]
 pub(crate) struct LoneList {
     pub(crate) name: &'static str,
     pub(crate) first: FirstRound,
-    pub(crate) gathers: bool,
 }
 
-/// Where one of the workers that wait can't be started, none begins a second exchange.
 pub(crate) const LISTS: [LoneList; 2] = [
     LoneList {
         name: "eight pairs",
         first: EIGHT_PAIRS,
-        gathers: true,
     },
     LoneList {
         name: "branches",
         first: BRANCHES,
-        gathers: false,
     },
 ];
 

@@ -1,16 +1,11 @@
-//! A gate that counts, and may let workers through together.
+//! A gate that counts.
 
 use pool::Gate;
-use std::hint::spin_loop;
 use std::sync::atomic::{AtomicU32, Ordering};
 
-// How often a gate turns at most while it waits: longer than it takes to find that a thread can't be started.
-const TURNS: u32 = 10_000_000;
-
-/// Counts how often it was entered and left. Where it gathers workers, who enters waits for the others.
+/// Counts how often it was entered and left.
 #[derive(Drop)]
 pub(crate) struct Counter {
-    gathered: u32,
     entered: AtomicU32,
     left: AtomicU32,
 }
@@ -23,23 +18,11 @@ pub(crate) struct Counts {
 }
 
 impl Counter {
-    /// A gate at which nobody waits.
     pub(crate) fn new() -> Counter {
-        Counter::gathering(0)
-    }
-
-    /// A gate at which so many workers wait for each other, and no longer than the others may take to come.
-    pub(crate) fn gathering(gathered: u32) -> Counter {
         Counter {
-            gathered,
             entered: AtomicU32::new(0),
             left: AtomicU32::new(0),
         }
-    }
-
-    /// Whether all have come that wait for each other.
-    pub(crate) fn has_gathered(&self) -> bool {
-        self.gathered > 0 && self.counts().entered >= self.gathered
     }
 
     pub(crate) fn counts(&self) -> Counts {
@@ -67,13 +50,6 @@ impl Counts {
 impl Gate for Counter {
     fn enter(&self, _i: u32) {
         self.entered.fetch_add(1, Ordering::SeqCst);
-        let turns = if self.gathered > 0 { TURNS } else { 0 };
-        for _ in 0..turns {
-            if self.has_gathered() {
-                break;
-            }
-            spin_loop();
-        }
     }
 
     fn leave(&self, _i: u32) {

@@ -98,13 +98,7 @@ pub(crate) fn try_lone<R: Print + Eprint + AllocGlobal + Threads + Wait + Sync>(
     list: &LoneList,
     trial: Trial,
 ) -> Result<(), Failure> {
-    let gathered = if list.gathers {
-        trial.team.workers()
-    } else {
-        0
-    };
-    let gate = Counter::gathering(gathered);
-    try_exchanges(rt, &list.first, trial, &gate)
+    try_exchanges(rt, &list.first, trial, &Counter::new())
 }
 
 fn try_exchanges<R: Print + Eprint + AllocGlobal + Threads + Wait + Sync>(
@@ -130,7 +124,7 @@ fn try_listed<R: Eprint + AllocGlobal + Threads + Wait + Sync>(
     match exchanged(rt, list, first, team, gate)? {
         Ok(exchanged) => check_exchanged(first, exchanged, gate),
         Err(fault) => {
-            check(fault != Fault::NoThread || !gate.has_gathered())?;
+            check(fault != Fault::NoThread || gate.counts().entered == 0)?;
             refused_with(rt, trial, team.workers(), fault)?;
             try_list_again(rt, list, first, team, gate)
         }

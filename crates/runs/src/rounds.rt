@@ -61,6 +61,7 @@ fn write_each<
     requires { IsAtStart sim }
     ensures { AnswersRounds O.wrote O.stops sim.settings output.old output.new resources.now.workers result }
 {
+    // (there is a first round, for which a thread may be lacking)
     let _rounds = sim.rounds();
     let posts = Posts::new(resources.alloc, resources.workers)?;
     let rt = resources.rt;

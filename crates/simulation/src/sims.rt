@@ -105,7 +105,8 @@ impl<T: MemoryTable + Send + Sync, K: RoundHistories<T>> Sim<T, K> {
         self.step_with(rt, workers, carriers)
     }
 
-    /// As `step`, by workers that were started before. No thread is started for the exchanges.
+    /// As `step`, by workers that were started before. No thread is started for the exchanges. With several workers it
+    /// is to be called within `Posts::with_threads`, and else never ends.
     pub fn step_by<H: Threads + Wait + Sync, G: Gate + Sync + Drop>(
         &mut self,
         rt: &H,

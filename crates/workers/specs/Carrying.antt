@@ -24,7 +24,7 @@ AreExchanged table rules es old new records =
     fold_of rules (map table old) es ≡ record { tables = map table new; records = records }
 
 -- a batch was carried out: so it is, what its workers shared comes back, and the call meanwhile gave what it may give
-pub record IsDone {T X G M : Type 0} (table : T → Table) (batch : Batch X G) (tables : List T) (gives : M → Type 0) (done : Done T X M) : Type 0 where
+pub record IsBatchDone {T X G M : Type 0} (table : T → Table) (batch : Batch X G) (tables : List T) (gives : M → Type 0) (done : Done T X M) : Type 0 where
   pub exchanged : AreExchanged table batch.rules.now batch.list.now.exchanges tables done.tables.items done.records.items
   pub shared : done.shared ≡ batch.shared
   pub made : gives done.made

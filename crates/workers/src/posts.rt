@@ -3,7 +3,7 @@
 ghost use Rattle.std.specs.Prelude.{◌≡◌, ◌<◌, map, IfOk, IfErr, IsOkUnless};
 ghost use Rattle.bench_types.specs.declared.faults.Fault.TheVariants.{NoThread, OutOfMemory};
 ghost use Rattle.model.specs.Runs.{AreWorkers, IsFaultOfWorkers};
-ghost use Rattle.workers.specs.Carrying.{MayCarryOut, IsDone};
+ghost use Rattle.workers.specs.Carrying.{MayCarryOut, IsBatchDone};
 
 use crate::gates::Gate;
 use crate::in_order::exchange_all;
@@ -20,7 +20,7 @@ use std::sync::Wait;
 use std::thread;
 use std::thread::{Scope, Threads};
 
-/// Where workers are given lists to carry out: the caller's thread where there is one, else each in a thread of its own.
+/// Where workers are given lists to carry out: the caller's thread where there is one, else each a thread of its own.
 #[derive(Drop)]
 pub struct Posts<T: MemoryTable, X: Exchanging<T>, G> {
     alloc: Global,
@@ -56,6 +56,7 @@ impl<T: MemoryTable, X: Exchanging<T> + Drop, G: Gate + Drop> Posts<T, X, G> {
         })
     }
 
+    /// How many workers there are.
     pub fn workers(&self) -> u32
         ensures value { result ≡ self.now }
         ensures lawful { AreWorkers result }
@@ -66,6 +67,8 @@ impl<T: MemoryTable, X: Exchanging<T> + Drop, G: Gate + Drop> Posts<T, X, G> {
     /// Carries out the exchanges of a list by threads that were started before. It calls `meanwhile` once they have
     /// what they need, and waits for them then. With one worker it calls that first. An error is lack of memory
     /// (`OutOfMemory`): the tables, and what was shared, are then given up, and all threads wait for the next list.
+    ///
+    /// With several workers it never ends outside `with_threads`, nor where another list is under way at these posts.
     pub fn carry_out<R: Wait, F: FnOnce() -> M + Drop, M: Drop>(
         &self,
         rt: &R,
@@ -76,7 +79,7 @@ impl<T: MemoryTable, X: Exchanging<T> + Drop, G: Gate + Drop> Posts<T, X, G> {
         requires tables { MayCarryOut (X.fits batch.shared) batch.rules.now batch.list.now.nodes
             (map T.table tables.items) }
         requires meanwhile { F.pre meanwhile }
-        ensures done { IfOk result (IsDone T.table batch.entry tables.items (F.post meanwhile)) }
+        ensures done { IfOk result (IsBatchDone T.table batch.entry tables.items (F.post meanwhile)) }
         ensures only { IsOkUnless result OutOfMemory }
     {
         if self.workers == 1 {
@@ -112,7 +115,7 @@ impl<T: MemoryTable, X: Exchanging<T> + Drop, G: Gate + Drop> Posts<T, X, G> {
         requires tables { MayCarryOut (X.fits batch.shared) batch.rules.now batch.list.now.nodes
             (map T.table tables.items) }
         requires meanwhile { F.pre meanwhile }
-        ensures done { IfOk result (IsDone T.table batch.entry tables.items (F.post meanwhile)) }
+        ensures done { IfOk result (IsBatchDone T.table batch.entry tables.items (F.post meanwhile)) }
         ensures only { IsOkUnless result OutOfMemory }
     {
         let made = meanwhile();
@@ -163,7 +166,7 @@ impl<
         requires tables { MayCarryOut (X.fits batch.shared) batch.rules.now batch.list.now.nodes
             (map T.table tables.items) }
         requires meanwhile { F.pre meanwhile }
-        ensures done { IfOk result (IsDone T.table batch.entry tables.items (F.post meanwhile)) }
+        ensures done { IfOk result (IsBatchDone T.table batch.entry tables.items (F.post meanwhile)) }
         ensures fault { IfErr result (IsFaultOfWorkers self) }
     {
         if self.workers == 1 {
@@ -183,7 +186,7 @@ impl<
         requires tables { MayCarryOut (X.fits batch.shared) batch.rules.now batch.list.now.nodes
             (map T.table tables.items) }
         requires meanwhile { F.pre meanwhile }
-        ensures done { IfOk result (IsDone T.table batch.entry tables.items (F.post meanwhile)) }
+        ensures done { IfOk result (IsBatchDone T.table batch.entry tables.items (F.post meanwhile)) }
         ensures fault { IfErr result (IsFaultOfWorkers self.now) }
     {
         thread::scope(
@@ -194,12 +197,12 @@ impl<
                 requires tables { MayCarryOut (X.fits batch.shared) batch.rules.now batch.list.now.nodes
                     (map T.table tables.items) }
                 requires meanwhile { F.pre meanwhile }
-                ensures done { IfOk result (IsDone T.table batch.entry tables.items (F.post meanwhile)) }
+                ensures done { IfOk result (IsBatchDone T.table batch.entry tables.items (F.post meanwhile)) }
                 ensures fault { IfErr result (IsFaultOfWorkers self.entry.now) }
             {
                 self.start(scope, rt)?;
                 let done = self.carry_out(rt, batch, tables, meanwhile);
-                self.yard.send_home(rt);
+                self.yard.send_home(rt, self.workers as usize);
                 done
             },
         )
@@ -234,7 +237,7 @@ impl<
                     return Err(lent);
                 }
                 let answer = body(lent);
-                self.yard.send_home(rt);
+                self.yard.send_home(rt, self.workers as usize);
                 Ok(answer)
             },
         )
@@ -255,7 +258,7 @@ impl<
                 { self.serve(rt, i) },
             );
             if started.is_err() {
-                self.yard.send_home(rt);
+                self.yard.send_home(rt, i);
                 return Err(Fault::NoThread);
             }
         }

@@ -7,7 +7,7 @@ ghost use Rattle.workers.specs.Carrying.{MayCarryOut, AreExchanged};
 use crate::gates::Gate;
 use crate::lent::Lent;
 use crate::posts::Posts;
-use crate::works::{Batch, Done, Work};
+use crate::works::{Batch, Work};
 use bench_types::{Fault, Record};
 use model::{Exchanging, MemoryTable};
 use std::alloc::Global;

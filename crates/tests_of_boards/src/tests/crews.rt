@@ -59,7 +59,7 @@ fn records_of<R: Abort + AllocGlobal + Wait>(
     Ok(done.records)
 }
 
-// A list, one that lacks memory, and the first again, by the same three threads.
+// A list, and one that lacks memory, by the same three threads, and the first again by others at the same posts.
 #[test]
 fn lists_by_the_same_threads(rt: HostRuntime) -> Result<(), Fault> {
     let list = list_of(&rt, 8, CROSSING);
@@ -69,10 +69,10 @@ fn lists_by_the_same_threads(rt: HostRuntime) -> Result<(), Fault> {
         (
             records_of(&rt, &posts, &list, false),
             records_of(&rt, &posts, &list, true),
-            records_of(&rt, &posts, &list, false),
         )
     });
-    let Ok((first, second, third)) = lists else {
+    let again = posts.with_threads(&rt, (), |_| records_of(&rt, &posts, &list, false));
+    let (Ok((first, second)), Ok(third)) = (lists, again) else {
         return Err(Fault::NoThread);
     };
     expect(&rt, second.err(), Some(Fault::OutOfMemory));

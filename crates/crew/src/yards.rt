@@ -1,9 +1,9 @@
 //! Where the threads of a crew are given what to do.
 
 use std::alloc::{AllocError, Global};
-use std::mem;
 use std::sync::atomic::{AtomicU64, Ordering};
 use std::sync::{Condvar, Mutex, Wait};
+use std::{mem, thread};
 
 // What lies at a thread's post.
 #[derive(Drop)]
@@ -19,11 +19,17 @@ impl<D: Drop> Order<D> {
     }
 }
 
+const NO_ORDER: u64 = 0;
+
+const ORDER: u64 = 1;
+
 // Where a thread waits for its next duty.
 #[derive(Drop)]
 struct Post<D> {
     order: Mutex<Order<D>>,
     given: Condvar,
+    // Whether an order lies here, for whoever looks before it sleeps.
+    sign: AtomicU64,
 }
 
 impl<D: Drop> Post<D> {
@@ -31,19 +37,34 @@ impl<D: Drop> Post<D> {
         Post {
             order: Mutex::new(Order::Nothing),
             given: Condvar::new(),
+            sign: AtomicU64::new(NO_ORDER),
         }
     }
 
     fn give<R: Wait>(&self, rt: &R, order: Order<D>) {
         *self.order.lock(rt) = order;
+        self.sign.store(ORDER, Ordering::SeqCst);
         self.given.notify_one();
     }
 
-    fn next<R: Wait>(&self, rt: &R) -> Order<D> {
+    // It looks so many times, and sleeps then.
+    fn next<R: Wait>(&self, rt: &R, looks: u64) -> Order<D> {
+        look_for(&self.sign, ORDER, looks);
         let mut order = self
             .given
             .wait_while(rt, self.order.lock(rt), |order| order.is_none());
+        self.sign.store(NO_ORDER, Ordering::SeqCst);
         mem::replace(&mut *order, Order::Nothing)
+    }
+}
+
+// Looks for a number, so many times, between which other threads may have the processor.
+fn look_for(place: &AtomicU64, wanted: u64, looks: u64) {
+    for _ in 0..looks {
+        if place.load(Ordering::SeqCst) == wanted {
+            return;
+        }
+        thread::yield_now();
     }
 }
 
@@ -53,6 +74,8 @@ pub struct Yard<D> {
     posts: Vec<Post<D>>,
     // How many duties were given that aren't finished yet.
     under_way: AtomicU64,
+    // How many times who waits looks before it sleeps.
+    looks: AtomicU64,
 }
 
 impl<D: Drop> Yard<D> {
@@ -70,7 +93,14 @@ impl<D: Drop> Yard<D> {
         Ok(Yard {
             posts,
             under_way: AtomicU64::new(0),
+            looks: AtomicU64::new(0),
         })
+    }
+
+    /// From now on, who waits looks so many times, and gives way to other threads each time, before it sleeps. It is for
+    /// threads that have a processor each: at first there is none of that.
+    pub fn look_before_sleep(&self, looks: u64) {
+        self.looks.store(looks, Ordering::SeqCst);
     }
 
     /// Gives a thread something to do. It should have nothing else to do: that would be dropped, and `wait` never end.
@@ -85,7 +115,8 @@ impl<D: Drop> Yard<D> {
     pub fn next<R: Wait>(&self, rt: &R, i: usize) -> Option<D>
         requires { i < post_count self.now }
     {
-        match self.posts[i].next(rt) {
+        let looks = self.looks.load(Ordering::SeqCst);
+        match self.posts[i].next(rt, looks) {
             Order::Duty(duty) => Some(duty),
             Order::Nothing | Order::GoHome => None,
         }
@@ -100,6 +131,7 @@ impl<D: Drop> Yard<D> {
 
     /// Waits until all that was given is finished. One thread at a time may wait.
     pub fn wait<R: Wait>(&self, rt: &R) {
+        look_for(&self.under_way, 0, self.looks.load(Ordering::SeqCst));
         for _ in rt.forever() {
             let left = self.under_way.load(Ordering::SeqCst);
             if left == 0 {

@@ -22,9 +22,9 @@ use std::thread::Threads;
 /// Nothing is written if the scenario is at fault or reading failed.
 ///
 /// What is written is the same for every number of workers. With one, the exchanges of a round are done one
-/// after another; with more, so many threads, which live for the run, do them, and where one can't be started the
-/// fault is `NoThread`. Other errors are those of `check_input`, lack of memory in a round (`OutOfMemory`), and what
-/// a writer answers (`WriteFailed`).
+/// after another; with more, so many threads do them, that of the caller and others, which live for the run. Where one
+/// can't be started the fault is `NoThread`. Other errors are those of `check_input`, lack of memory in a round
+/// (`OutOfMemory`), and what a writer answers (`WriteFailed`).
 pub fn run<H: Threads + Wait + Sync, R: Source, W: Sink, X: Sink>(
     rt: &H,
     alloc: Global,

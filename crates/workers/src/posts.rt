@@ -2,6 +2,7 @@
 
 ghost use Rattle.std.specs.Prelude.{◌≡◌, ◌<◌, map, IfOk, IfErr, IsOkUnless};
 ghost use Rattle.bench_types.specs.declared.faults.Fault.TheVariants.{NoThread, OutOfMemory};
+ghost use Rattle.crew.specs.Named.{post_count};
 ghost use Rattle.model.specs.Runs.{AreWorkers, IsFaultOfWorkers};
 ghost use Rattle.workers.specs.Carrying.{MayCarryOut, IsBatchDone};
 
@@ -16,16 +17,21 @@ use crew::{Yard, alone};
 use model::{Exchanging, MemoryTable};
 use std::alloc::Global;
 use std::marker::Model;
+use std::num::NonZeroUsize;
 use std::sync::Wait;
 use std::thread;
-use std::thread::{Scope, Threads};
+use std::thread::{Scope, Threads, available_parallelism};
 
-/// Where workers are given lists to carry out: the caller's thread where there is one, else each a thread of its own.
+// So many looks take about half a millisecond, as long as what comes between two lists.
+const LOOKS: u64 = 1000;
+
+/// Where workers are given lists to carry out. Each has a thread of its own, but that the caller's thread may be one.
 #[derive(Drop)]
 pub struct Posts<T: MemoryTable, X: Exchanging<T>, G> {
     alloc: Global,
     yard: Yard<Task<T, X, G>>,
     workers: u32,
+    threads: u32,
 }
 
 // Callers see how many workers there are.
@@ -38,21 +44,39 @@ impl<T: MemoryTable, X: Exchanging<T>, G> Model for Posts<T, X, G> {
 
     ghost view = { λ p. p.workers };
 
-    ghost invariant = { λ p. AreWorkers p.workers × (post_count p.yard ≡ p.workers) };
+    ghost invariant = { λ p. AreWorkers p.workers × (post_count p.yard ≡ p.threads) };
 }
 
 impl<T: MemoryTable, X: Exchanging<T> + Drop, G: Gate + Drop> Posts<T, X, G> {
-    /// Posts for so many workers. No thread is started yet.
+    /// Posts for so many workers, of which the caller's thread is one. No thread is started yet.
     pub fn new(alloc: Global, workers: u32) -> Result<Posts<T, X, G>, Fault>
         requires workers { AreWorkers workers }
         ensures workers { IfOk result (λ posts. posts ≡ workers) }
         ensures only { IsOkUnless result OutOfMemory }
     {
-        let yard = Yard::new(alloc, workers as usize)?;
+        Posts::with(alloc, workers, workers - 1)
+    }
+
+    /// Posts for so many workers, each of which has a thread of its own.
+    pub(crate) fn apart(alloc: Global, workers: u32) -> Result<Posts<T, X, G>, Fault>
+        requires workers { AreWorkers workers }
+        ensures workers { IfOk result (λ posts. posts ≡ workers) }
+        ensures only { IsOkUnless result OutOfMemory }
+    {
+        Posts::with(alloc, workers, workers)
+    }
+
+    fn with(alloc: Global, workers: u32, threads: u32) -> Result<Posts<T, X, G>, Fault>
+        requires workers { AreWorkers workers }
+        ensures workers { IfOk result (λ posts. posts ≡ workers) }
+        ensures only { IsOkUnless result OutOfMemory }
+    {
+        let yard = Yard::new(alloc, threads as usize)?;
         Ok(Posts {
             alloc,
             yard,
             workers,
+            threads,
         })
     }
 
@@ -65,7 +89,8 @@ impl<T: MemoryTable, X: Exchanging<T> + Drop, G: Gate + Drop> Posts<T, X, G> {
     }
 
     /// Carries out the exchanges of a list by threads that were started before. It calls `meanwhile` once they have
-    /// what they need, and waits for them then. With one worker it calls that first. An error is lack of memory
+    /// what they need, works on the list too if the caller's thread is one of the workers, and waits for the others
+    /// then. With one worker it calls `meanwhile` first. An error is lack of memory
     /// (`OutOfMemory`): the tables, and what was shared, are then given up, and all threads wait for the next list.
     ///
     /// With several workers it never ends outside `with_threads`, nor where another list is under way at these posts.
@@ -87,8 +112,11 @@ impl<T: MemoryTable, X: Exchanging<T> + Drop, G: Gate + Drop> Posts<T, X, G> {
         }
         let (shift, start) = open(self.alloc, self.workers, batch, tables)?;
         let (gathered, tasks) = hand_out(self.alloc, &shift, start)?;
-        self.give_all(rt, tasks);
+        let own = self.give_all(rt, tasks);
         let made = meanwhile();
+        for task in own {
+            task.carry_out(rt);
+        }
         self.yard.wait(rt);
         let gathered = take_all(rt, &shift, gathered, self.workers as usize);
         let Shift { shop, trays: _ } = alone(rt, shift);
@@ -141,12 +169,14 @@ impl<T: MemoryTable, X: Exchanging<T> + Drop, G: Gate + Drop> Posts<T, X, G> {
         })
     }
 
-    fn give_all<R: Wait>(&self, rt: &R, mut tasks: Vec<Task<T, X, G>>) {
-        for i in 0..self.workers as usize {
+    // What is left is the caller's.
+    fn give_all<R: Wait>(&self, rt: &R, mut tasks: Vec<Task<T, X, G>>) -> Vec<Task<T, X, G>> {
+        for i in 0..self.threads as usize {
             if let Some(task) = tasks.pop() {
                 self.yard.give(rt, i, task);
             }
         }
+        tasks
     }
 }
 
@@ -202,7 +232,7 @@ impl<
             {
                 self.start(scope, rt)?;
                 let done = self.carry_out(rt, batch, tables, meanwhile);
-                self.yard.send_home(rt, self.workers as usize);
+                self.yard.send_home(rt, self.threads as usize);
                 done
             },
         )
@@ -225,6 +255,7 @@ impl<
         if self.workers == 1 {
             return Ok(body(lent));
         }
+        self.look_before_sleep(rt);
         thread::scope(
             thread::scope_env(),
             rt,
@@ -237,10 +268,18 @@ impl<
                     return Err(lent);
                 }
                 let answer = body(lent);
-                self.yard.send_home(rt, self.workers as usize);
+                self.yard.send_home(rt, self.threads as usize);
                 Ok(answer)
             },
         )
+    }
+
+    // Where there is a processor for each worker, the next list comes sooner than a thread that slept is awake.
+    fn look_before_sleep<R: Threads>(&self, rt: &R) {
+        let processors = available_parallelism(rt).unwrap_or(NonZeroUsize::MIN);
+        if self.workers as usize <= processors.get() {
+            self.yard.look_before_sleep(LOOKS);
+        }
     }
 
     // Starts a thread for each worker. Where one can't be started, those that were go home.
@@ -251,31 +290,36 @@ impl<
     ) -> Result<(), Fault>
         ensures { IsOkUnless result NoThread }
     {
-        for i in 0..self.workers as usize {
+        let yard = &self.yard;
+        for i in 0..self.threads as usize {
             let started = scope.spawn(
                 move ||
-                    requires { i < self.now }
-                { self.serve(rt, i) },
+                    requires { i < post_count yard.now }
+                { serve(rt, yard, i) },
             );
             if started.is_err() {
-                self.yard.send_home(rt, i);
+                yard.send_home(rt, i);
                 return Err(Fault::NoThread);
             }
         }
         Ok(())
     }
+}
 
-    // What the thread of a worker does until it is sent home.
-    fn serve<R: Wait>(&self, rt: &R, i: usize)
-        requires { i < self.now }
-    {
-        for _ in rt.forever() {
-            let Some(task) = self.yard.next(rt, i) else {
-                return;
-            };
-            task.carry_out(rt);
-            self.yard.finish();
-        }
-        unreachable!()
+// What the thread of a worker does until it is sent home.
+fn serve<T: MemoryTable, X: Exchanging<T> + Drop, G: Gate + Drop, R: Wait>(
+    rt: &R,
+    yard: &Yard<Task<T, X, G>>,
+    i: usize,
+)
+    requires { i < post_count yard.now }
+{
+    for _ in rt.forever() {
+        let Some(task) = yard.next(rt, i) else {
+            return;
+        };
+        task.carry_out(rt);
+        yard.finish();
     }
+    unreachable!()
 }

@@ -49,7 +49,7 @@ pub fn run_list_with<
     ensures made { IfOk result (λ p. F.post meanwhile p.2) }
     ensures fault { IfErr result (IsFaultOfWorkers work.entry.workers) }
 {
-    let posts = Posts::new(alloc, work.workers)?;
+    let posts = Posts::apart(alloc, work.workers)?;
     let batch = Batch {
         shared: Lent {
             shared: work.shared,

@@ -59,7 +59,7 @@ fn records_of<R: Abort + AllocGlobal + Wait>(
     Ok(done.records)
 }
 
-// A list, and one that lacks memory, by the same three threads, and the first again by others at the same posts.
+// A list, and one that lacks memory, by the same three workers, and the first again by others at the same posts.
 #[test]
 fn lists_by_the_same_threads(rt: HostRuntime) -> Result<(), Fault> {
     let list = list_of(&rt, 8, CROSSING);

@@ -1,5 +1,5 @@
 -- A copy that has all of its owner's own part: what one exchange makes of it, and what leaves it.
--- Serves `Spreads` and `simulation`.
+-- Serves `Spreads` and `run_laws`.
 use Rattle.model.proofs.Common.{◌≡◌, ℕ, ◌<◌, ◌≤◌, List, Some, None, ◌⊎◌, inl, inr, refl, sym, ap, ◌∙◌, subst, arith, Entry, Mark, mark_of, mark_held, IsBefore, IsUpTo, before-up_to, not_both, up_to-itself}
 use Rattle.std.specs.Prelude.{Contains}
 use Rattle.model.specs.Table.{Table, entry_at, mark_at, greatest_mark, generation_held, IsProper}

@@ -1,5 +1,5 @@
 -- A copy that has all of its owner's own part hands it on by a delta of which nothing of that owner is cut.
--- Serves `simulation`.
+-- Serves `run_laws`.
 use Rattle.model.proofs.Common.{◌≡◌, ◌≢◌, ℕ, ◌<◌, ◌≤◌, List, Some, refl, sym, ◌∙◌, subst, arith, Exchange, Rules, IsPlanned, mark_of, mark_held, IsUpTo, up_to-itself}
 use Rattle.model.specs.Table.{Table, applied, entry_at, mark_at, generation_held}
 use Rattle.model.specs.Tables.{table_of_node}

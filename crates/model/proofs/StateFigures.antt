@@ -1,5 +1,5 @@
 -- Where copies hold no less, no more of them are stale, and none for longer.
--- Serves `simulation`.
+-- Serves `run_laws`.
 use Rattle.model.proofs.Common.{◌≡◌, ℕ, zero, suc, ◌+◌, ◌-◌, ◌<◌, ◌≤◌, Bool, true, false, ◌&&◌, cond, eqb, if◌then◌else◌, List, [], ◌∷◌, length, Option, Some, None, All, AllPairs, option_map, inl, inr, refl, sym, ap, ◌∙◌, subst, arith, cases_lt, and_parts, and_from, same_Some, All-tail, Mark, mark_of, mark_held, is_before, IsBefore, IsUpTo, sum_below, most_below, before-true, before-yes, up_to-before, sum_below-le}
 use Rattle.model.specs.Table.{Table, entry_at, mark_at}
 use Rattle.model.specs.Tables.{table_of_node}

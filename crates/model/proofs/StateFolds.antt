@@ -1,5 +1,5 @@
 -- Copies that are states through the exchanges of a list that cut nothing, beside those of another mode and budget.
--- Serves `Spreads`, `StateFigures` and `simulation`.
+-- Serves `Spreads`, `StateFigures` and `run_laws`.
 use Rattle.model.proofs.Common.{◌≡◌, ◌≢◌, ℕ, ◌<◌, List, [], ◌∷◌, fold, All, Some, None, inl, inr, refl, sym, ap, ◌∙◌, subst, arith, cases_eq, All-head, All-tail, Contains-append_left, Contains-append_right, Entry, Mark, Exchange, Fate, Record, Rules, IsPlanned, mark_of, mark_held, digest_kind, up_to-both}
 use Rattle.std.specs.Prelude.{Contains}
 use Rattle.bench_types.specs.declared.exchanges.Fate.TheVariants as fate

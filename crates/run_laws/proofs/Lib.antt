@@ -1,0 +1,15 @@
+pub mod Modes
+pub mod Moments
+pub mod Healing
+pub mod Paths
+pub mod Rings
+pub mod Ample
+pub mod Formats
+pub mod Floors
+pub mod CatchingUp
+pub mod Best
+pub mod Bounds
+pub mod Alike
+pub mod SmallRings
+pub mod Otherwise
+pub mod Common

@@ -1,6 +1,6 @@
 -- Two runs that have cut nothing, by whatever modes and budgets: their tables and rows are the same.
 -- Serves `uncut_modes_are_alike`.
-use Rattle.run_laws.proofs.Common.{◌≡◌, ℕ, ◌+◌, ◌-◌, ◌<◌, ◌≤◌, cond, List, [], ◌∷◌, ◌++◌, length, fold, All, refl, sym, ap, ◌∙◌, subst, arith, All-head, All-tail, sum_by-append, sum_by-cons, Exchange, Fate, Record, Rules, IsPlanned, digest_kind, Settings, Table, table_of_node, AreCopiesOf, WritesBy, DeltaView, delta_between, digest_size, exchanged, fate_of, sent_until, figures_of, Folded, exchange_in, RoundListView, lengths-alike, CutsNothing, CutNothing, MissNone, AreBeside, next_recorded, step_beside, same_held, same_tables, round_list_of, planned_list}
+use Rattle.run_laws.proofs.Common.{◌≡◌, ℕ, ◌+◌, ◌-◌, ◌<◌, ◌≤◌, cond, List, [], ◌∷◌, ◌++◌, length, fold, All, refl, sym, ap, ◌∙◌, subst, arith, All-head, All-tail, sum_by-append, sum_by-cons, Exchange, Fate, Record, Rules, IsPlanned, digest_kind, Settings, Table, table_of_node, AreCopiesOf, WritesBy, DeltaView, delta_between, digest_size, exchanged, fate_of, sent_until, figures_of, Folded, exchange_in, RoundListView, lengths-alike, same_tables, round_list_of, planned_list}
 use Rattle.bench_types.specs.declared.exchanges.Fate.TheVariants as fate
 use Rattle.run_laws.specs.Floors.{with_rules, CutsNothingUpTo}
 use Rattle.simulation.specs.Outcomes.{figures_in, row_in}
@@ -10,6 +10,7 @@ use Rattle.simulation.specs.Soundness.{writes_by}
 use Rattle.run_laws.proofs.Best.{same_writes, begun_beside, beside_after}
 use Rattle.run_laws.proofs.Floors.{uncut_round}
 use Rattle.run_laws.proofs.Modes.{same_list, same_lists}
+use Rattle.run_laws.proofs.StateFolds.{CutsNothing, CutNothing, MissNone, AreBeside, next_recorded, step_beside, same_held}
 
 -- two tables that stand beside each other both ways are one
 module _ (writes : WritesBy) (nodes keys : ℕ) (ts us : List Table) (to : AreBeside writes nodes keys ts us) (from : AreBeside writes nodes keys us ts) where

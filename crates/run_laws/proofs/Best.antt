@@ -1,7 +1,7 @@
 -- Beside a run that has cut nothing: none of another mode or budget holds more, and where that has cut nothing either both
 -- hold the same.
 -- Serves `uncut_runs_are_best`, `Alike` and `Bounds`.
-use Rattle.run_laws.proofs.Common.{◌≡◌, ◌≢◌, ℕ, zero, suc, ◌-◌, ◌<◌, ◌≤◌, true, false, if◌then◌else◌, List, [], length, AllPairs, Some, None, inl, inr, refl, sym, ap, ◌∙◌, subst, arith, cases_eq, cases_lt, get_or_past, get_or-map-range_with_len, AllPairs-filter, Entry, Rules, up_to-itself, Figures, Settings, Table, empty_table, entry_at, mark_at, greatest_mark, IsProper, table_of_node, AreCopiesOf, NoMarkFalls, writes_of_owner, figures_of, fold_of, RoundListView, HoldAsMuch, Write, write_of_entry, marks_stay, before_keeps_own, AllPairs-map, NoneIsOlder, stale-le, greatest-le, AreBeside, own_beside, fold_beside, HoldsAsMuchOf, generation_upto, restarts_now, round_list_of, writes_upto, written_upto, planned_list, is_of, writes_upto-filtered}
+use Rattle.run_laws.proofs.Common.{◌≡◌, ◌≢◌, ℕ, zero, suc, ◌-◌, ◌<◌, ◌≤◌, true, false, if◌then◌else◌, List, [], length, AllPairs, Some, None, inl, inr, refl, sym, ap, ◌∙◌, subst, arith, cases_eq, cases_lt, get_or_past, get_or-map-range_with_len, AllPairs-filter, Entry, Rules, up_to-itself, Figures, Settings, Table, empty_table, entry_at, mark_at, greatest_mark, IsProper, table_of_node, AreCopiesOf, NoMarkFalls, writes_of_owner, figures_of, fold_of, RoundListView, HoldAsMuch, Write, write_of_entry, marks_stay, before_keeps_own, AllPairs-map, generation_upto, restarts_now, round_list_of, writes_upto, written_upto, planned_list, is_of, writes_upto-filtered}
 use Rattle.run_laws.specs.Floors.{with_rules, CutsNothingUpTo, IsAsGood}
 use Rattle.simulation.specs.Lists.{list_after, lists_after}
 use Rattle.simulation.specs.Outcomes.{figures_in}
@@ -11,6 +11,9 @@ use Rattle.run_laws.proofs.Floors.{gone-as_much, kept-as_much, copies_after, cop
 use Rattle.run_laws.proofs.Modes.{generation, restarts, same_list, same_lists, written}
 use Rattle.simulation.proofs.Soundness.{sound_run, counts_after}
 use Rattle.simulation.proofs.Written.{births_rise}
+use Rattle.run_laws.proofs.StateFigures.{NoneIsOlder, stale-le, greatest-le}
+use Rattle.run_laws.proofs.StateFolds.{AreBeside, own_beside, fold_beside}
+use Rattle.run_laws.proofs.States.{HoldsAsMuchOf}
 
 as_much-itself : (owner : ℕ) (t : Table) → HoldsAsMuchOf owner t t
 as_much-itself owner t = record { greatest = up_to-itself (greatest_mark t owner); within = λ key _. up_to-itself (mark_at t owner key) }

@@ -1,6 +1,6 @@
 -- In a run that has cut nothing a path of exchanges brings all that its owner had written when it began.
 -- Serves `uncut_paths_catch_up` and `Bounds`.
-use Rattle.run_laws.proofs.Common.{◌≡◌, ◌≢◌, ℕ, ◌-◌, ◌<◌, ◌≤◌, false, Some, sym, ap, ◌∙◌, subst, arith, slice_get, Exchange, IsUpTo, up_to-itself, up_to-then, Settings, IsLawfulScenario, Table, applied, greatest_mark, table_of_node, LosesNothing, CutsNothing, MissNone, brought, restarts_now, round_list_of, All, Bool, List, inl, inr, refl, true, Entry, written_rises, greatest_mark-without_others_own, proper-without_others, AreCopiesOf, IsProper, with_own_writes, without_all, without_others, keys-own_writes, forgets_now, count_before, own_writes, if◌then◌else◌}
+use Rattle.run_laws.proofs.Common.{◌≡◌, ◌≢◌, ℕ, ◌-◌, ◌<◌, ◌≤◌, false, Some, sym, ap, ◌∙◌, subst, arith, slice_get, Exchange, IsUpTo, up_to-itself, up_to-then, Settings, IsLawfulScenario, Table, applied, greatest_mark, table_of_node, LosesNothing, restarts_now, round_list_of, All, Bool, List, inl, inr, refl, true, Entry, written_rises, greatest_mark-without_others_own, proper-without_others, AreCopiesOf, IsProper, with_own_writes, without_all, without_others, keys-own_writes, forgets_now, count_before, own_writes, if◌then◌else◌}
 use Rattle.run_laws.specs.CatchingUp.{KeepsCopy, IsPassedOn, begins, keeps, passed_back, passed_forth, UncutPathsCatchUp}
 use Rattle.run_laws.specs.Floors.{CutsNothingBefore}
 use Rattle.run_laws.specs.Healing.{Moment, IsUpToMoment, table_at_moment}
@@ -10,6 +10,7 @@ use Rattle.simulation.specs.Soundness.{writes_by, tables_within}
 use Rattle.simulation.proofs.Begun.{begun_at}
 use Rattle.run_laws.proofs.Floors.{copies_are_states}
 use Rattle.run_laws.proofs.Moments.{comes_back, comes_forth, cut_back, cut_forth, delta, folded, here, moments_then, next_tables, not_after, placed, planned, record_at, sound, stays, us}
+use Rattle.run_laws.proofs.StateFolds.{CutsNothing, MissNone, brought}
 
 module _ (s : Settings) (lawful : IsLawfulScenario s) where
   -- an owner that doesn't forget as a round begins doesn't lose its own greatest mark

@@ -3,9 +3,9 @@
 pub use Rattle.std.proofs.Common.{All, AllPairs, Bool, List, None, Option, Some, [], ap, arith, cond, drop, eqb, false, fold, get_or, if◌then◌else◌, inl, inr, length, length-append, map, not, option_map, refl, rules, subst, suc, sym, take, true, zero, ℕ, ◌%◌, ◌&&◌, ◌*◌, ◌++◌, ◌+◌, ◌-◌, ◌/◌, ◌<◌, ◌∙◌, ◌∷◌, ◌≡◌, ◌≢◌, ◌≤◌, ◌⊎◌}
 pub use Rattle.std.proofs.Math.ListN.{get_or-append}
 pub use Rattle.std.proofs.Math.Nat.{add-mod_right, add-mul-mod_self_left, mod-add-div, mod-eq_of_lt, mod-lt, mul-le-mul_right}
-pub use Rattle.std.proofs.lemmas.Bool.{and_parts, cases_eq, cases_lt, eqb-true, le-ltb, lt-ltb, ne_eqb}
+pub use Rattle.std.proofs.lemmas.Bool.{and_from, and_parts, cases_eq, cases_lt, eqb-true, le-ltb, lt-ltb, ne_eqb}
 pub use Rattle.std.proofs.lemmas.List.{get_or-append_right, get_or_past, length-take, take-append-drop, take_all}
-pub use Rattle.std.proofs.lemmas.List.Elements.{All-cons, All-contains, All-head, All-map, All-nil, All-tail, All-take, Contains-append_cases}
+pub use Rattle.std.proofs.lemmas.List.Elements.{All-cons, All-contains, All-head, All-map, All-nil, All-tail, All-take, Contains-append_cases, Contains-append_left, Contains-append_right}
 pub use Rattle.std.proofs.lemmas.List.FromFn.{get_or-map-range_with_len, get_or-range_with_len, length-map-range_with_len, length-range_with_len}
 pub use Rattle.std.proofs.lemmas.List.Kept.{AllPairs-filter}
 pub use Rattle.std.proofs.lemmas.List.Sums.{fold-append, fold_more, sum_by-append, sum_by-cons, sum_by-le}
@@ -17,23 +17,18 @@ pub use Rattle.bench_types.specs.Budget.{largest_share, share_of}
 pub use Rattle.bench_types.specs.declared.exchanges.Budget.TheVariants.{Bytes, Entries}
 pub use Rattle.bench_types.specs.declared.limits.TheConstants.{ENTRY_SIZES}
 pub use Rattle.bench_types.specs.declared.rows.Figures.{Figures}
-pub use Rattle.model.proofs.Common.{Budget, Entry, Exchange, Fate, IsBefore, IsPlanned, IsUpTo, Item, Mark, Mode, Record, Rules, absent, absent-first, amount_of, before-no, before-true, before-up_to, digest_kind, is_before, mark_held, mark_of, most_below, next_version, not_both, sum_below, up_to-itself, up_to-then}
+pub use Rattle.model.proofs.Common.{Budget, DigestKind, Entry, Exchange, Fate, IsBefore, IsPlanned, IsUpTo, Item, Mark, Mode, Precise, Record, Rules, Scuttle, absent, absent-first, amount_of, before-no, before-true, before-up_to, before-yes, cases_before, digest_kind, is_before, mark_held, mark_of, most_below, next_version, not_both, sum_below, sum_below-le, up_to-before, up_to-both, up_to-itself, up_to-then}
 pub use Rattle.model.proofs.BeginLaws.{copy-up_to, written_rises}
 pub use Rattle.model.proofs.DeltaLaws.{cut-none, sent-uncut}
 pub use Rattle.model.proofs.ExchangeLaws.{marks_stay}
 pub use Rattle.model.proofs.FoldLaws.{before_keeps_own, fold_counts_records, initiator_is, responder_is, step_proper, step_tables}
-pub use Rattle.model.proofs.Fresh.{HasAllOf, all_stays, fresh_from, has_all, not_behind, of_generation}
 pub use Rattle.model.proofs.Greatest.{greatest_mark-none, greatest_mark-same, mark_at-up_to_greatest, place_less}
 pub use Rattle.model.proofs.Items.{apart-items_of}
 pub use Rattle.model.proofs.MarkLaws.{greatest_mark-without_others_own}
 pub use Rattle.model.proofs.Members.{AllPairs-map}
 pub use Rattle.model.proofs.ProperLaws.{proper-without_others}
 pub use Rattle.model.proofs.Sent.{candidates-in_place}
-pub use Rattle.model.proofs.Spreads.{hands_on}
 pub use Rattle.model.proofs.StateDeltas.{lengths-alike}
-pub use Rattle.model.proofs.StateFigures.{NoneIsOlder, greatest-le, stale-le}
-pub use Rattle.model.proofs.StateFolds.{AreBeside, CutNothing, CutsNothing, MissNone, brought, fold_beside, fold_states, misses-own, next_recorded, own_beside, same_held, step_beside}
-pub use Rattle.model.proofs.States.{HoldsAsMuchOf, as_much-from}
 pub use Rattle.model.proofs.TableLaws.{entry_at-empty_table, entry_at-own_write_other, entry_at-without_all, entry_at-without_others_other, entry_at-without_others_own}
 pub use Rattle.model.proofs.Tables.{same_tables}
 pub use Rattle.model.specs.Candidates.{candidates, known_mark}

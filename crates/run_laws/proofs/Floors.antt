@@ -1,7 +1,7 @@
 -- Runs that have cut nothing: their copies are states of their owners, and hold as much as those of any other mode and
 -- budget.
 -- Serves most of the crate.
-use Rattle.run_laws.proofs.Common.{◌≡◌, ◌≢◌, ℕ, zero, suc, ◌+◌, ◌-◌, ◌<◌, ◌≤◌, true, false, if◌then◌else◌, List, [], ◌∷◌, length, take, All, Some, None, inl, inr, refl, sym, ap, ◌∙◌, subst, arith, Contains, cases_eq, All-take, Contains-append_cases, Entry, Mark, Exchange, Record, IsPlanned, absent, mark_of, mark_held, IsBefore, IsUpTo, absent-first, not_both, up_to-then, Settings, Table, entry_at, mark_at, greatest_mark, greatest_version, with_own_write, with_own_writes, without_others, without_all, table_of_node, AreCopiesOf, own_mark, MissesNone, copy-up_to, greatest_mark-same, greatest_mark-none, CutNothing, MissNone, misses-own, fold_states, HoldsAsMuchOf, as_much-from, entry_at-own_write_other, entry_at-without_all, entry_at-without_others_other, generation_upto, forgets_now, restarts_now, round_list_of, count_upto, count_before, own_writes, written_upto, generation_upto-same, generation_upto-next, restarts-forgets, count_before-grown, next-own_writes, written_upto-grown, planned_list, get_or_from_slice_get, slice_get_within}
+use Rattle.run_laws.proofs.Common.{◌≡◌, ◌≢◌, ℕ, zero, suc, ◌+◌, ◌-◌, ◌<◌, ◌≤◌, true, false, if◌then◌else◌, List, [], ◌∷◌, length, take, All, Some, None, inl, inr, refl, sym, ap, ◌∙◌, subst, arith, Contains, cases_eq, All-take, Contains-append_cases, Entry, Mark, Exchange, Record, IsPlanned, absent, mark_of, mark_held, IsBefore, IsUpTo, absent-first, not_both, up_to-then, Settings, Table, entry_at, mark_at, greatest_mark, greatest_version, with_own_write, with_own_writes, without_others, without_all, table_of_node, AreCopiesOf, own_mark, MissesNone, copy-up_to, greatest_mark-same, greatest_mark-none, entry_at-own_write_other, entry_at-without_all, entry_at-without_others_other, generation_upto, forgets_now, restarts_now, round_list_of, count_upto, count_before, own_writes, written_upto, generation_upto-same, generation_upto-next, restarts-forgets, count_before-grown, next-own_writes, written_upto-grown, planned_list, get_or_from_slice_get, slice_get_within}
 use Rattle.run_laws.specs.Floors.{CutsNothingBefore, CutsNothingUpTo, UncutCopiesAreStates}
 use Rattle.run_laws.specs.Healing.{Moment, IsUpToMoment}
 use Rattle.simulation.specs.Outcomes.{row_in}
@@ -12,6 +12,8 @@ use Rattle.simulation.proofs.Begun.{begun_at}
 use Rattle.run_laws.proofs.Moments.{not_after, recorded_before}
 use Rattle.run_laws.proofs.Rings.{sum_none}
 use Rattle.simulation.proofs.Soundness.{sound_run, counts_after}
+use Rattle.run_laws.proofs.StateFolds.{CutNothing, MissNone, misses-own, fold_states}
+use Rattle.run_laws.proofs.States.{HoldsAsMuchOf, as_much-from}
 
 -- of an owner whose entries stay, or are gone, the greatest mark is the same, or the absent one
 kept-greatest : (t u : Table) (owner : ℕ) → u.keys ≡ t.keys → ((key : ℕ) → entry_at u owner key ≡ entry_at t owner key) → greatest_mark u owner ≡ greatest_mark t owner

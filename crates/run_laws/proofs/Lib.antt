@@ -1,3 +1,8 @@
+pub mod Fresh
+pub mod States
+pub mod StateFolds
+pub mod StateFigures
+pub mod Spreads
 pub mod Modes
 pub mod Moments
 pub mod Healing

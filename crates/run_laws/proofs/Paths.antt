@@ -1,6 +1,6 @@
 -- A path of exchanges makes fresh what its last holder has.
 -- Serves `exchanges_make_fresh`, `paths_make_fresh`, `uncut_exchanges_hand_on`, `Rings` and `SmallRings`.
-use Rattle.run_laws.proofs.Common.{◌≡◌, ℕ, ◌+◌, ◌<◌, ◌≤◌, false, Some, inl, inr, refl, sym, ◌∙◌, subst, arith, Bool, true, if◌then◌else◌, slice_get, cases_eq, Exchange, Record, digest_kind, Settings, IsLawfulScenario, applied, table_of_node, DeltaView, digest_size, last_fate, sent_until, sent-uncut, HasAllOf, fresh_from, has_all, hands_on, round_list_of, IsSomeAnd}
+use Rattle.run_laws.proofs.Common.{◌≡◌, ℕ, ◌+◌, ◌<◌, ◌≤◌, false, Some, inl, inr, refl, sym, ◌∙◌, subst, arith, Bool, true, if◌then◌else◌, slice_get, cases_eq, Exchange, Record, digest_kind, Settings, IsLawfulScenario, applied, table_of_node, DeltaView, digest_size, last_fate, sent_until, sent-uncut, round_list_of, IsSomeAnd}
 use Rattle.bench_types.specs.declared.exchanges.Fate.TheVariants as fate
 use Rattle.simulation.specs.Rounds.{rules_of}
 use Rattle.simulation.specs.Soundness.{writes_by, tables_within}
@@ -8,6 +8,8 @@ use Rattle.run_laws.specs.Healing.{Moment, IsFreshAt, ExchangesMakeFresh, SendsO
 use Rattle.run_laws.specs.Paths.{next_moment, SendsCopyAt, HandsOn, back, forth, UncutExchangesHandOn, IsReached, own, stays, handed, PathsMakeFresh}
 use Rattle.run_laws.proofs.Moments.{comes_back, comes_forth, delta, folded, here, next_tables, not_after, placed, planned, record_at, sound, us}
 use Rattle.run_laws.proofs.Healing.{copies_stay}
+use Rattle.run_laws.proofs.Fresh.{HasAllOf, fresh_from, has_all}
+use Rattle.run_laws.proofs.Spreads.{hands_on}
 
 -- what a record tells of the messages that were lost, and of both deltas
 abbrev recorded_of : (a b c : Bool) (d1 d2 : ℕ) (to_p to_q : DeltaView) → Record

@@ -1,7 +1,7 @@
 -- Copies that are states of their owners, and tables that hold as much as others: what an exchange that cuts nothing makes
 -- of them.
--- Serves `Spreads`, `StateFolds` and `run_laws`.
-use Rattle.model.proofs.Common.{◌≡◌, ◌≢◌, ℕ, ◌<◌, ◌≤◌, List, Some, None, ◌⊎◌, inl, inr, refl, sym, ap, subst, arith, cases_lt, Entry, Item, Mark, DigestKind, Scuttle, Precise, Rules, absent, mark_of, mark_held, IsUpTo, digest_kind, absent-first, before-up_to, cases_before, up_to-itself, up_to-then}
+-- Serves `Best`, `Floors`, `Spreads` and `StateFolds`.
+use Rattle.run_laws.proofs.Common.{◌≡◌, ◌≢◌, ℕ, ◌<◌, ◌≤◌, List, Some, None, ◌⊎◌, inl, inr, refl, sym, ap, subst, arith, cases_lt, Entry, Item, Mark, DigestKind, Scuttle, Precise, Rules, absent, mark_of, mark_held, IsUpTo, digest_kind, absent-first, before-up_to, cases_before, up_to-itself, up_to-then}
 use Rattle.std.specs.Prelude.{Contains}
 use Rattle.model.specs.Table.{Table, entry_at, mark_at, greatest_mark, generation_held, IsProper}
 use Rattle.model.specs.Candidates.{IsScuttleMode, known_mark, candidates}

@@ -1,6 +1,6 @@
 -- Copies that are states through the exchanges of a list that cut nothing, beside those of another mode and budget.
--- Serves `Spreads`, `StateFigures` and `run_laws`.
-use Rattle.model.proofs.Common.{◌≡◌, ◌≢◌, ℕ, ◌<◌, List, [], ◌∷◌, fold, All, Some, None, inl, inr, refl, sym, ap, ◌∙◌, subst, arith, cases_eq, All-head, All-tail, Contains-append_left, Contains-append_right, Entry, Mark, Exchange, Fate, Record, Rules, IsPlanned, mark_of, mark_held, digest_kind, up_to-both}
+-- Serves most of the crate.
+use Rattle.run_laws.proofs.Common.{◌≡◌, ◌≢◌, ℕ, ◌<◌, List, [], ◌∷◌, fold, All, Some, None, inl, inr, refl, sym, ap, ◌∙◌, subst, arith, cases_eq, All-head, All-tail, Contains-append_left, Contains-append_right, Entry, Mark, Exchange, Fate, Record, Rules, IsPlanned, mark_of, mark_held, digest_kind, up_to-both}
 use Rattle.std.specs.Prelude.{Contains}
 use Rattle.bench_types.specs.declared.exchanges.Fate.TheVariants as fate
 use Rattle.model.specs.Table.{Table, applied, entry_at, mark_at, greatest_mark, generation_held, IsProper}
@@ -14,7 +14,7 @@ use Rattle.model.specs.Folds.{Folded, exchange_in}
 use Rattle.model.specs.States.{MissesNone}
 use Rattle.model.proofs.FoldLaws.{step_copies, step_keeps_own, initiator_is, responder_is, other_is}
 use Rattle.model.proofs.Received.{received-either, received-proper}
-use Rattle.model.proofs.States.{HoldsAsMuchOf, as_much-then, as_much-either, own-misses, own-as_much, to-as_much, from-as_much, after-misses}
+use Rattle.run_laws.proofs.States.{HoldsAsMuchOf, as_much-then, as_much-either, own-misses, own-as_much, to-as_much, from-as_much, after-misses}
 use Rattle.model.proofs.TableLaws.{same_table}
 
 -- an exchange cut nothing, and none of these did

@@ -1,6 +1,6 @@
 -- A copy that has all of its owner's own part: what one exchange makes of it, and what leaves it.
--- Serves `Spreads` and `run_laws`.
-use Rattle.model.proofs.Common.{◌≡◌, ℕ, ◌<◌, ◌≤◌, List, Some, None, ◌⊎◌, inl, inr, refl, sym, ap, ◌∙◌, subst, arith, Entry, Mark, mark_of, mark_held, IsBefore, IsUpTo, before-up_to, not_both, up_to-itself}
+-- Serves `Healing`, `Paths`, `Rings` and `Spreads`.
+use Rattle.run_laws.proofs.Common.{◌≡◌, ℕ, ◌<◌, ◌≤◌, List, Some, None, ◌⊎◌, inl, inr, refl, sym, ap, ◌∙◌, subst, arith, Entry, Mark, mark_of, mark_held, IsBefore, IsUpTo, before-up_to, not_both, up_to-itself}
 use Rattle.std.specs.Prelude.{Contains}
 use Rattle.model.specs.Table.{Table, entry_at, mark_at, greatest_mark, generation_held, IsProper}
 use Rattle.model.specs.Tables.{table_of_node}

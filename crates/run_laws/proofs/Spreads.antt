@@ -1,6 +1,6 @@
 -- A copy that has all of its owner's own part hands it on by a delta of which nothing of that owner is cut.
--- Serves `run_laws`.
-use Rattle.model.proofs.Common.{◌≡◌, ◌≢◌, ℕ, ◌<◌, ◌≤◌, List, Some, refl, sym, ◌∙◌, subst, arith, Exchange, Rules, IsPlanned, mark_of, mark_held, IsUpTo, up_to-itself}
+-- Serves `Paths`.
+use Rattle.run_laws.proofs.Common.{◌≡◌, ◌≢◌, ℕ, ◌<◌, ◌≤◌, List, Some, refl, sym, ◌∙◌, subst, arith, Exchange, Rules, IsPlanned, mark_of, mark_held, IsUpTo, up_to-itself}
 use Rattle.model.specs.Table.{Table, applied, entry_at, mark_at, generation_held}
 use Rattle.model.specs.Tables.{table_of_node}
 use Rattle.model.specs.Candidates.{IsScuttleMode}
@@ -10,9 +10,9 @@ use Rattle.model.specs.Deltas.{delta_between}
 use Rattle.model.specs.Folds.{Folded, exchange_in}
 use Rattle.model.specs.Spreads.{SendsCopy}
 use Rattle.model.proofs.FoldLaws.{step_copies, step_keeps_own}
-use Rattle.model.proofs.Fresh.{HasAllOf, caught_up, no_newer, own_generation}
-use Rattle.model.proofs.StateFolds.{proper_at, same_nodes, same_keys}
-use Rattle.model.proofs.States.{reaches}
+use Rattle.run_laws.proofs.Fresh.{HasAllOf, caught_up, no_newer, own_generation}
+use Rattle.run_laws.proofs.StateFolds.{proper_at, same_nodes, same_keys}
+use Rattle.run_laws.proofs.States.{reaches}
 
 module _ (rules : Rules) (nodes keys : ℕ) (s : Folded) (e : Exchange) (planned : IsPlanned nodes e) (writes : WritesBy) (copies : AreCopiesOf writes nodes keys s.tables) (gapless : IsScuttleMode rules.mode → HaveNoGap s.tables) where
   abbrev at : ℕ → Table

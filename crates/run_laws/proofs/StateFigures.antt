@@ -1,6 +1,6 @@
 -- Where copies hold no less, no more of them are stale, and none for longer.
--- Serves `run_laws`.
-use Rattle.model.proofs.Common.{◌≡◌, ℕ, zero, suc, ◌+◌, ◌-◌, ◌<◌, ◌≤◌, Bool, true, false, ◌&&◌, cond, eqb, if◌then◌else◌, List, [], ◌∷◌, length, Option, Some, None, All, AllPairs, option_map, inl, inr, refl, sym, ap, ◌∙◌, subst, arith, cases_lt, and_parts, and_from, same_Some, All-tail, Mark, mark_of, mark_held, is_before, IsBefore, IsUpTo, sum_below, most_below, before-true, before-yes, up_to-before, sum_below-le}
+-- Serves `Best`.
+use Rattle.run_laws.proofs.Common.{◌≡◌, ℕ, zero, suc, ◌+◌, ◌-◌, ◌<◌, ◌≤◌, Bool, true, false, ◌&&◌, cond, eqb, if◌then◌else◌, List, [], ◌∷◌, length, Option, Some, None, All, AllPairs, option_map, inl, inr, refl, sym, ap, ◌∙◌, subst, arith, cases_lt, and_parts, and_from, same_Some, All-tail, Mark, mark_of, mark_held, is_before, IsBefore, IsUpTo, sum_below, most_below, before-true, before-yes, up_to-before, sum_below-le}
 use Rattle.model.specs.Table.{Table, entry_at, mark_at}
 use Rattle.model.specs.Tables.{table_of_node}
 use Rattle.model.specs.Copies.{WritesBy}
@@ -8,7 +8,7 @@ use Rattle.model.specs.declared.writes.Write.{Write}
 use Rattle.model.specs.Figures.{writes_of_owner, generation_at, staleness_of, staleness_at, stale_count, rounds_behind, figures_of}
 use Rattle.model.specs.Writes.{first_above}
 use Rattle.model.proofs.BeginLaws.{copy-up_to}
-use Rattle.model.proofs.StateFolds.{AreBeside}
+use Rattle.run_laws.proofs.StateFolds.{AreBeside}
 
 -- no write is born before an earlier one
 abbrev pub NoneIsOlder : List Write → Type 0

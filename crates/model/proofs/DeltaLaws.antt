@@ -1,6 +1,6 @@
 -- Laws of the sending orders, and of what a budget lets through in them.
--- Serves the functions of `laws`, `ExchangeLaws`, `Received`, `StateDeltas`, `States`, `delta_plans`, `simulation`
--- and `version_tables`.
+-- Serves the functions of `laws`, `ExchangeLaws`, `Received`, `StateDeltas`, `delta_plans`, `run_laws` and
+-- `version_tables`.
 use Rattle.model.proofs.Common.{◌≡◌, ℕ, ◌<◌, ◌≤◌, Bool, not, ◌&&◌, eqb, List, length, get_or, inl, inr, sym, ap, ◌∙◌, arith, count_by, Equal, IsTotalOrder, cases_lt, get_or_default, All-filter, IsPermutation-refl, Budget, amount_of, Item, Mode, mark_of, is_before, digest_kind}
 use Rattle.std.specs.Prelude.{Contains}
 use Rattle.model.specs.Table.{Table, items_of, IsProper}

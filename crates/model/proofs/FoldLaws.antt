@@ -1,6 +1,6 @@
 -- Laws of the exchanges of a list, for the crates above: what holds of the tables of all nodes before any of the
 -- exchanges, and after the last.
--- Serves `lists_keep_tables_proper`, `Spreads`, `StateFolds` and the crates above.
+-- Serves `lists_keep_tables_proper` and the crates above.
 use Rattle.model.proofs.Common.{◌≡◌, ◌≢◌, ℕ, ◌+◌, ◌<◌, ◌≤◌, List, [], ◌∷◌, ◌++◌, length, set, take, drop, fold, All, inl, inr, refl, sym, ap, ◌∙◌, subst, arith, cases_eq, get_or-set_same, get_or-set_other, length-set, length-append, take-take, take-append-drop, fold-append, All-head, All-tail, All-take, All-drop, Exchange, Rules, IsPlanned}
 use Rattle.model.specs.Table.{Table, empty_table, entry_at, IsProper}
 use Rattle.model.specs.Candidates.{IsScuttleMode}

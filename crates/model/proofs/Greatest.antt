@@ -1,5 +1,6 @@
 -- The greatest mark of an owner, by look-ups.
--- Serves most of the crate, `node_table`, `reconcile`, `simulation` and `version_tables`.
+-- Serves `BeginLaws`, `MarkLaws`, `Proper`, `Received`, `StateDeltas`, `node_table`, `reconcile`, `run_laws` and
+-- `version_tables`.
 use Rattle.model.proofs.Common.{◌≡◌, ℕ, zero, suc, ◌<◌, None, ◌⊎◌, inl, inr, refl, sym, ap, ◌∙◌, subst, arith, Less, Equal, Greater, nat_cmp, ordering_then, ranked, cases_lt, Mark, absent, mark_held, IsUpTo, later, up_to-itself, up_to-then, up_to-both, absent-first, first-later, second-later, later-up_to, cases_later}
 use Rattle.model.specs.Table.{Place, place_cmp, Table, entry_at, mark_at, greatest_below, greatest_mark}
 

@@ -1,5 +1,5 @@
 -- Laws of the list of a table's items, and of lists in which no two items share a place.
--- Serves `Lacking`, `Members`, `Proper`, `Received`, `StateDeltas`, `delta_plans`, `reconcile` and `simulation`.
+-- Serves `Lacking`, `Members`, `Proper`, `Received`, `StateDeltas`, `delta_plans`, `reconcile` and `run_laws`.
 use Rattle.model.proofs.Common.{◌≡◌, ℕ, zero, suc, ◌<◌, true, false, cond, List, [], ◌∷◌, length, map, get_or, Some, None, All, refl, sym, ap, ◌∙◌, subst, arith, T, Less, Equal, Greater, is_eq, eq_by_cmp, tied_itself, AllPairs, is_sorted, entries, entries_sorted, get-entries, below_all, both_ways, All-head, All-tail, Entry, Item, first, second, less, same_Some}
 use Rattle.std.specs.List.{Contains}
 use Rattle.std.specs.FinMap.{find}

@@ -8,7 +8,6 @@ pub mod ExchangeLaws
 pub mod Figures
 pub mod Fitting
 pub mod FoldLaws
-pub mod Fresh
 pub mod Greatest
 pub mod InLists
 pub mod Items
@@ -30,10 +29,6 @@ pub mod Received
 pub mod Rising
 pub mod Sending
 pub mod Sent
-pub mod Spreads
 pub mod StateDeltas
-pub mod StateFigures
-pub mod StateFolds
-pub mod States
 pub mod Tables
 pub mod Common

@@ -1,5 +1,5 @@
 -- Lists in which no two items share a place: two with the same items have them in another order.
--- Serves `Lacking`, `Received`, `StateDeltas`, `delta_plans`, `reconcile` and `simulation`.
+-- Serves `Lacking`, `Received`, `StateDeltas`, `delta_plans`, `reconcile` and `run_laws`.
 use Rattle.model.proofs.Common.{◌≡◌, zero, suc, ◌-◌, ◌<◌, Bool, true, false, cond, not, List, [], ◌∷◌, ◌++◌, length, map, get_or, inl, inr, refl, sym, ap, ◌∙◌, subst, arith, filter, IsPermutation, AllPairs, is_eq, tied_itself, cases_lt, both_ways, not-true, get_or-map, length-map, get_or_append_left, get_or-append_right, length-append, All-contains, All-filter, All-contains_itself, Contains-get_or, filter_passes, AllPairs-filter, IsPermutation-refl, IsPermutation-sym, IsPermutation-trans, IsPermutation-cons, IsPermutation-filter_both, Item}
 use Rattle.std.specs.Prelude.{Contains}
 use Rattle.model.specs.inner.Items.{place_of}

@@ -1,5 +1,5 @@
 -- The tables that start are proper, and what changes a table keeps it so.
--- Serves `BeginLaws`, `Received`, `fixtures`, `node_table`, `simulation` and `version_tables`.
+-- Serves `BeginLaws`, `Received` and the crates above.
 use Rattle.model.proofs.Common.{◌≡◌, ◌≢◌, ◌==◌, ℕ, ◌+◌, ◌<◌, ◌≤◌, List, [], ◌∷◌, Some, None, All, ◌⊎◌, inl, inr, refl, sym, ap, ◌∙◌, subst, arith, insert, retain_keys, empty, cases_eq, All-head, All-tail, same_Some, Entry, Item, Mark, LEAST_KEYS, MOST_NODES, MOST_KEYS, mark_of, cases_later}
 use Rattle.model.specs.Table.{Held, Table, empty_table, entry_at, greatest_mark, generation_held, taken, applied, own_write, with_own_write, without_others, without_all, IsInPlace, IsProper}
 use Rattle.model.specs.calls.Table.{IsItemInPlace, MayReceive}

@@ -1,5 +1,5 @@
 -- What one delta makes of the table that receives it.
--- Serves `ExchangeLaws`, `StateFolds`, `States` and `version_tables`.
+-- Serves `ExchangeLaws`, `run_laws` and `version_tables`.
 use Rattle.model.proofs.Common.{◌≡◌, ◌≢◌, ℕ, zero, suc, ◌<◌, ◌≤◌, max, not, ◌&&◌, eqb, List, [], ◌∷◌, Some, None, All, ◌⊎◌, inl, inr, if◌then◌else◌, refl, sym, ap, ◌∙◌, subst, arith, Option, cases_lt, cases_eq, eq-eqb, ne_eqb, All-contains, All-weaker, Entry, Item, Mark, Mode, Rules, absent, mark_of, mark_held, is_before, IsBefore, IsUpTo, later, digest_kind, before-yes, cases_before, cases_later, first-later, second-later, later-first, up_to-itself, up_to-then, up_to-both, absent-first, not_both}
 use Rattle.std.specs.Prelude.{Contains}
 use Rattle.model.specs.Table.{Table, applied, entry_at, mark_at, greatest_mark, generation_held, items_of, IsProper}

@@ -1,5 +1,5 @@
 -- What is sent stood among the candidates.
--- Serves `Owns`, `Received`, `reconcile` and `simulation`.
+-- Serves `Owns`, `Received`, `reconcile` and `run_laws`.
 use Rattle.model.proofs.Common.{◌≡◌, ◌≢◌, ℕ, zero, suc, ◌+◌, true, false, cond, not, ◌&&◌, eqb, List, [], ◌∷◌, All, Some, None, refl, sym, ◌∙◌, subst, count_by, filter_map, range_with_len, cons_option, Ordering, eq-eqb, All-nil, All-cons, All-head, All-tail, Budget, amount_of, Item, Mark, mark_of, is_before, Mode}
 use Rattle.model.specs.Table.{Table, items_of, IsProper}
 use Rattle.model.specs.calls.Table.{IsItemInPlace}

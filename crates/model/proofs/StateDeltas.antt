@@ -1,6 +1,6 @@
 -- Deltas that cut nothing: each has as many entries as there are candidates, and to a copy that is a state of its owner
 -- these are the same in every mode.
--- Serves `delta_plans` and `simulation`.
+-- Serves `delta_plans` and `run_laws`.
 use Rattle.model.proofs.Common.{◌≡◌, ℕ, suc, ◌<◌, Bool, true, false, cond, not, ◌&&◌, eqb, List, [], ◌∷◌, length, get_or, Some, None, refl, sym, ap, ◌∙◌, subst, inl, inr, arith, filter, IsTotalOrder, is_eq, Ordering, and_parts, eqb-true, get_or_default, AllPairs-filter, length_permutation, same_Some, Entry, Item, Mark, Budget, DigestKind, Scuttle, Precise, Mode, mark_of, mark_held, is_before, IsBefore, IsUpTo, digest_kind, before-true, before-yes, cases_before, not_both}
 use Rattle.std.specs.Prelude.{Contains}
 use Rattle.model.specs.Table.{Table, entry_at, mark_at, greatest_mark, generation_held, items_of, IsProper}

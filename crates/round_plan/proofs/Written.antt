@@ -1,5 +1,5 @@
 -- All writes of an owner, over all its generations: their marks rise, and those of its generation are the last ones.
--- Serves `runs` and `simulation`.
+-- Serves `run_laws` and `runs`.
 use Rattle.round_plan.proofs.Common.{◌≡◌, ◌==◌, ℕ, zero, suc, ◌+◌, ◌-◌, ◌<◌, ◌≤◌, Bool, true, false, ◌||◌, ◌&&◌, cond, if◌then◌else◌, List, [], ◌∷◌, ◌++◌, filter, length, get_or, All, AllPairs, Contains, refl, sym, ap, ◌∙◌, subst, inl, inr, arith, length-append, nat_lt, get_or-append, cases_lt, cases_eq, lt-ltb, eq-eqb, ne_eqb, nat_tests, get_or-append_right, get_or_default, All-nil, All-tail, All-append, All-weaker, All-filter, filter-append, Contains-append_left, Contains-append_right, Entry, Mark, next_version, mark_of, is_before, Settings}
 use Rattle.round_plan.specs.Generations.{generation_upto}
 use Rattle.round_plan.specs.Outages.{forgets_now}

@@ -1,87 +1,56 @@
 -- The names of other libraries that these proofs cite, passed on from one place. Declares nothing.
 -- Serves most of the crate.
-pub use Rattle.std.proofs.Common.{All, AllPairs, Bool, IfOk, List, None, Option, Some, [], add-one, ap, append_assoc, arith, cond, drop, eqb, false, fold, get_or, if◌then◌else◌, inl, inr, length, length-append, map, not, option_map, refl, rules, set, subst, suc, sym, take, true, zero, ℕ, ◌%◌, ◌&&◌, ◌*◌, ◌++◌, ◌+◌, ◌-◌, ◌/◌, ◌<◌, ◌^◌, ◌∙◌, ◌∷◌, ◌≡◌, ◌≢◌, ◌≤◌, ◌⊎◌}
+pub use Rattle.std.proofs.Common.{All, IfOk, List, Option, Some, [], add-one, ap, append_assoc, arith, false, get_or, if◌then◌else◌, inl, inr, length, length-append, map, refl, rules, set, subst, suc, sym, take, true, zero, ℕ, ◌++◌, ◌+◌, ◌-◌, ◌<◌, ◌^◌, ◌∙◌, ◌∷◌, ◌≡◌, ◌≢◌, ◌≤◌}
 pub use Rattle.std.proofs.Math.ListN.{get_or-append}
-pub use Rattle.std.proofs.Math.Nat.{add-mod_right, add-mul-mod_self_left, mod-add-div, mod-eq_of_lt, mod-lt, mul-le-mul_right}
 pub use Rattle.std.proofs.Math.Seq.{take-length}
-pub use Rattle.std.proofs.lemmas.Bool.{and_parts, both_ways, cases_eq, cases_lt, eqb-true, le-ltb, lt-ltb, ne_eqb}
-pub use Rattle.std.proofs.lemmas.List.{append-nil, ext_get_or, get_or-append_right, get_or-map, get_or_past, length-map, length-set, length-take, length-take-le, map-append, map-set, take-append-drop, take_all, take_more}
-pub use Rattle.std.proofs.lemmas.List.Elements.{All-append, All-cons, All-contains, All-head, All-map, All-nil, All-push, All-tail, All-take, All-weaker, Contains-append_cases}
-pub use Rattle.std.proofs.lemmas.List.FromFn.{get_or-map-range_with_len, get_or-range_with_len, length-map-range_with_len, length-range_with_len, map-range_with_len_more}
-pub use Rattle.std.proofs.lemmas.List.Kept.{AllPairs-filter}
-pub use Rattle.std.proofs.lemmas.List.Sums.{fold-append, fold_more, sum_by-append, sum_by-cons, sum_by-le}
-pub use Rattle.std.proofs.lemmas.Option.{get_or_from_slice_get, same_Some, slice_get-get_or, slice_get_within}
+pub use Rattle.std.proofs.lemmas.Bool.{both_ways, cases_eq, cases_lt}
+pub use Rattle.std.proofs.lemmas.List.{append-nil, ext_get_or, get_or-append_right, get_or-map, get_or_past, length-map, length-set, length-take-le, map-append, map-set, take_more}
+pub use Rattle.std.proofs.lemmas.List.Elements.{All-append, All-nil, All-push, All-weaker}
+pub use Rattle.std.proofs.lemmas.List.FromFn.{get_or-map-range_with_len, length-map-range_with_len, map-range_with_len_more}
+pub use Rattle.std.proofs.lemmas.List.Sums.{fold-append}
 pub use Rattle.std.proofs.lemmas.Result.{on_ok_weaker}
-pub use Rattle.std.specs.List.{filter, range_with_len, sum_by}
-pub use Rattle.std.specs.Prelude.{Contains, IfSome, IsSomeAnd, is_none, nat_lt, slice_get}
-pub use Rattle.std.specs.declared.cmp.Ordering.TheVariants.{Less}
-pub use Rattle.bench_types.specs.Budget.{largest_share, share_of}
+pub use Rattle.std.specs.List.{range_with_len}
+pub use Rattle.std.specs.Prelude.{Contains, IfSome, is_none}
 pub use Rattle.bench_types.specs.calls.Budget.{IsLawfulBudget}
 pub use Rattle.bench_types.specs.declared.exchanges.Budget.TheVariants.{Bytes, Entries}
-pub use Rattle.bench_types.specs.declared.limits.TheConstants.{ENTRY_SIZES}
 pub use Rattle.bench_types.specs.declared.rows.Figures.{Figures}
-pub use Rattle.model.proofs.Common.{AreNextAfter, Budget, Entry, Exchange, Fate, IsBefore, IsNextAfter, IsPlanned, IsUpTo, Item, LEAST_KEYS, MOST_KEYS, MOST_NODES, Mark, Mode, Record, Rules, absent, absent-first, amount_of, before-no, before-true, before-up_to, digest_kind, is_before, mark_held, mark_of, most_below, next_version, not_both, sum_below, up_to-itself, up_to-then}
-pub use Rattle.model.proofs.BeginLaws.{IsBegun, begun_copies, begun_forget, begun_no_gap, begun_restart, begun_same, begun_then, begun_writes, copy-up_to, counted_write, counted_writes, empty_copies, empty_no_gap, generation-written, written_rises}
-pub use Rattle.model.proofs.DeltaLaws.{cut-none, sent-uncut}
+pub use Rattle.model.proofs.Common.{AreNextAfter, Budget, Entry, Exchange, IsNextAfter, IsPlanned, LEAST_KEYS, MOST_KEYS, MOST_NODES, Mark, Record, Rules, next_version}
+pub use Rattle.model.proofs.BeginLaws.{IsBegun, begun_copies, begun_forget, begun_no_gap, begun_restart, begun_same, begun_then, begun_writes, counted_write, counted_writes, empty_copies, empty_no_gap, generation-written, written_rises}
 pub use Rattle.model.proofs.ExchangeLaws.{marks_stay, marks_then}
-pub use Rattle.model.proofs.FoldLaws.{before_copies, before_keeps_own, before_no_gap, before_rises, fold_counts_records, fold_counts_tables, fold_keeps_own, fold_proper, initiator_is, responder_is, step_proper, step_tables}
-pub use Rattle.model.proofs.Fresh.{HasAllOf, all_stays, fresh_from, has_all, not_behind, of_generation}
-pub use Rattle.model.proofs.Greatest.{greatest_mark-none, greatest_mark-same, mark_at-up_to_greatest, place_less}
-pub use Rattle.model.proofs.Items.{apart-items_of}
+pub use Rattle.model.proofs.FoldLaws.{before_copies, before_keeps_own, before_no_gap, before_rises, fold_counts_records, fold_counts_tables, fold_keeps_own, fold_proper}
 pub use Rattle.model.proofs.MarkLaws.{greatest_mark-empty_table, greatest_mark-without_all, greatest_mark-without_others_own}
-pub use Rattle.model.proofs.Members.{AllPairs-map}
 pub use Rattle.model.proofs.OwnParts.{born-later, own_part-empty, own_part-written}
 pub use Rattle.model.proofs.Owners.{length-lists_in, list_read, written_more}
 pub use Rattle.model.proofs.ProperLaws.{proper-empty_table, proper-with_own_write, proper-without_all, proper-without_others}
-pub use Rattle.model.proofs.Sent.{candidates-in_place}
-pub use Rattle.model.proofs.Spreads.{hands_on}
-pub use Rattle.model.proofs.StateDeltas.{lengths-alike}
-pub use Rattle.model.proofs.StateFigures.{NoneIsOlder, greatest-le, stale-le}
-pub use Rattle.model.proofs.StateFolds.{AreBeside, CutNothing, CutsNothing, MissNone, brought, fold_beside, fold_states, keeps_records, misses-own, next_recorded, own_beside, same_held, step_beside}
-pub use Rattle.model.proofs.States.{HoldsAsMuchOf, as_much-from}
-pub use Rattle.model.proofs.TableLaws.{entry_at-empty_table, entry_at-own_write_other, entry_at-without_all, entry_at-without_others_other, entry_at-without_others_own}
+pub use Rattle.model.proofs.TableLaws.{entry_at-empty_table, entry_at-without_all, entry_at-without_others_own}
 pub use Rattle.model.proofs.Tables.{cluster_of, same_tables, still_table_of, table_of_node-made, table_of_node-set_other, table_of_node-set_same}
-pub use Rattle.model.specs.Candidates.{candidates, known_mark}
-pub use Rattle.model.specs.Clusters.{AreCopiesOf, NoMarksFall}
-pub use Rattle.model.specs.Copies.{IsLastOf, WritesBy}
-pub use Rattle.model.specs.Deltas.{DeltaView, delta_between, item_share}
-pub use Rattle.model.specs.Digests.{digest_size}
-pub use Rattle.model.specs.ExchangeLaws.{LosesNothing, NoMarkFalls}
-pub use Rattle.model.specs.Exchanged.{exchanged, fate_of, initiator_after, last_fate, responder_after, sent_until}
-pub use Rattle.model.specs.Figures.{figures_of, generation_at, is_left_over, leftover_at, rounds_behind, stale_count, staleness_at, staleness_of, writes_of_owner}
-pub use Rattle.model.specs.Folds.{Folded, exchange_in, fold_of, tables_before}
-pub use Rattle.model.specs.Fresh.{HasOwnPart, IsFresh}
+pub use Rattle.model.specs.Clusters.{NoMarksFall}
+pub use Rattle.model.specs.Copies.{IsLastOf}
+pub use Rattle.model.specs.ExchangeLaws.{NoMarkFalls}
+pub use Rattle.model.specs.Figures.{figures_of}
+pub use Rattle.model.specs.Folds.{Folded, fold_of, tables_before}
 pub use Rattle.model.specs.RoundLists.{RoundListView}
-pub use Rattle.model.specs.States.{HoldAsMuch, MissesNone}
-pub use Rattle.model.specs.Table.{IsProper, Table, applied, empty_table, entry_at, greatest_mark, greatest_version, items_of, mark_at, place_cmp, with_own_write, with_own_writes, without_all, without_others}
+pub use Rattle.model.specs.Table.{IsProper, Table, empty_table, entry_at, greatest_mark, greatest_version, with_own_write, with_own_writes, without_all, without_others}
 pub use Rattle.model.specs.Tables.{AreProper, AreTablesInOrder, HoldsOfEach, table_of_node}
-pub use Rattle.model.specs.Writes.{first_above, write_of_entry}
-pub use Rattle.model.specs.calls.Clusters.{own_mark}
-pub use Rattle.model.specs.calls.DeltaLaws.{AreWithin}
+pub use Rattle.model.specs.Writes.{write_of_entry}
 pub use Rattle.model.specs.calls.Numbers.{write_from, write_numbered}
 pub use Rattle.model.specs.calls.OwnParts.{OwnPartIsLastWrites}
 pub use Rattle.model.specs.calls.OwnerListView.{ListBecomes, OwnerListView, all_writes, begun_generation, entries_of, list_of_owner, lists_in, next_entry, no_writes, with_write, written}
 pub use Rattle.model.specs.calls.RoundLists.{IsRoundPlan}
-pub use Rattle.model.specs.calls.Table.{IsItemInPlace}
 pub use Rattle.model.specs.calls.Tables.{IsCluster}
 pub use Rattle.model.specs.calls.Writes.{AreBornBy}
 pub use Rattle.model.specs.declared.writes.Write.{Write}
-pub use Rattle.model.specs.inner.Items.{no_item, place_of}
 pub use Rattle.model.specs.inner.Owns.{KeepOwnParts, KeepsOwn}
 pub use Rattle.model.specs.inner.Writes.{next_write}
-pub use Rattle.round_plan.proofs.Generations.{generation_upto-next, generation_upto-rises, generation_upto-same, generation_upto_le, restarts-forgets}
-pub use Rattle.round_plan.proofs.Growth.{born-own_writes, count_before-grown, count_upto-grown, keys-own_writes, length-writes_before, next-own_writes, next-writes_upto, writes_before-grown, writes_upto-grown, written_upto-grown}
+pub use Rattle.round_plan.proofs.Generations.{generation_upto-next, generation_upto-same, generation_upto_le, restarts-forgets}
+pub use Rattle.round_plan.proofs.Growth.{born-own_writes, count_before-grown, count_upto-grown, keys-own_writes, length-writes_before, next-own_writes, writes_before-grown, writes_upto-grown, written_upto-grown}
 pub use Rattle.round_plan.proofs.Planned.{planned_list}
-pub use Rattle.round_plan.proofs.Written.{born-writes_upto, is_of, writes_upto-filtered, written-writes_upto}
 pub use Rattle.round_plan.specs.Generations.{generation_upto}
-pub use Rattle.round_plan.specs.Outages.{forgets_now, is_up, restarts_now}
-pub use Rattle.round_plan.specs.Peer.{peer_by, peer_of, ring_peer}
-pub use Rattle.round_plan.specs.Plan.{begins, exchange_of, round_list_of}
-pub use Rattle.round_plan.specs.Words.{word_of}
-pub use Rattle.round_plan.specs.Writes.{count_before, count_upto, number_by, numbered_write, own_write_at, own_writes, writes_in, writes_upto, written_upto}
+pub use Rattle.round_plan.specs.Outages.{forgets_now, restarts_now}
+pub use Rattle.round_plan.specs.Plan.{round_list_of}
+pub use Rattle.round_plan.specs.Writes.{count_before, count_upto, own_writes, writes_upto, written_upto}
 pub use Rattle.round_plan.specs.calls.Words.{RunWordsView, run_words_of}
 pub use Rattle.round_plan.specs.calls.Writes.{born_in, writes_before}
 pub use Rattle.round_plan.specs.declared.owners.OwnWrite.{OwnWrite}
 pub use Rattle.round_tables.specs.Histories.{AddsWrite, AreWrittenBy, BirthsRise, HistoriesView, MayWrite, StandsAmong, StandsBeside, StaysBesideLists, own_list}
-pub use Rattle.scenario.specs.Settings.{IsBudgetOf, IsLawfulScenario, Settings, with_mode}
-pub use Rattle.scenario.specs.declared.choices.Peers.TheVariants.{Ring}
+pub use Rattle.scenario.specs.Settings.{IsBudgetOf, IsLawfulScenario, Settings}

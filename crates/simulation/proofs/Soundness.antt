@@ -1,5 +1,5 @@
 -- What holds of the tables along every run.
--- Serves most of the crate.
+-- Serves `every_run_is_sound`, `Playing`, `Stepping` and `run_laws`.
 use Rattle.simulation.proofs.Common.{◌≡◌, ℕ, zero, suc, ◌+◌, ◌-◌, ◌<◌, ◌≤◌, true, false, if◌then◌else◌, List, ◌++◌, length, All, inl, inr, refl, sym, ap, ◌∙◌, subst, arith, take-length, cases_lt, both_ways, get_or_past, length-map-range_with_len, Entry, Mark, Exchange, AreNextAfter, Table, empty_table, entry_at, greatest_version, with_own_writes, without_others, without_all, IsProper, entry_at-empty_table, greatest_mark-empty_table, greatest_mark-without_all, greatest_mark-without_others_own, generation_upto, forgets_now, restarts_now, round_list_of, count_upto, count_before, own_writes, written_upto, generation_upto-same, generation_upto-next, restarts-forgets, count_before-grown, count_upto-grown, keys-own_writes, next-own_writes, written_upto-grown, planned_list, Settings, IsPlanned, NoMarksFall, IsLastOf, table_of_node, AreTablesInOrder, AreProper, fold_of, tables_before, NoMarkFalls, marks_stay, marks_then, IsBegun, begun_same, begun_forget, begun_restart, begun_then, begun_writes, counted_writes, generation-written, written_rises, empty_copies, empty_no_gap, begun_copies, begun_no_gap, table_of_node-made, before_copies, before_no_gap, before_rises, before_keeps_own}
 use Rattle.simulation.specs.Rounds.{opening_tables, restarted, written_table, after_restart, begun, rules_of, round_of, tables_after}
 use Rattle.simulation.specs.Soundness.{writes_by, AreSound, OnlyRestartsLowerMarks, tables_within, IsSoundRun}

@@ -1,5 +1,5 @@
 -- All writes of an owner up to a round: when they were born, and by which numbers they stand among those of the run.
--- Serves `Best` and `Standing`.
+-- Serves `Standing` and `run_laws`.
 use Rattle.simulation.proofs.Common.{◌≡◌, ℕ, zero, suc, ◌+◌, ◌-◌, ◌<◌, ◌≤◌, All, List, [], ◌∷◌, ◌++◌, length, get_or, Some, inl, inr, refl, sym, ap, ◌∙◌, arith, append_assoc, length-append, add-one, get_or-append, cases_eq, cases_lt, append-nil, get_or-append_right, All-nil, All-append, All-weaker, Entry, write_from, write_numbered, count_before, own_writes, written_upto, born-own_writes, written_upto-grown, Settings, BirthsRise}
 use Rattle.simulation.specs.calls.Simulation.{MayWriteAll}
 use Rattle.simulation.specs.inner.Steps.{MayWriteEach}

@@ -3,10 +3,5 @@ pub mod Soundness
 pub mod Lists
 pub mod Rows
 pub mod Outcomes
-pub mod Healing
-pub mod Paths
-pub mod Floors
-pub mod CatchingUp
-pub mod Formats
 pub mod calls
 pub mod inner

@@ -2,4 +2,3 @@ pub mod Outcomes
 pub mod RoundView
 pub mod Simulation
 pub mod Standing
-pub mod SmallRings

@@ -1,5 +1,0 @@
-use Rattle.simulation.proofs.Ample.{ample_cuts}
-use Rattle.simulation.proofs.laws.ample_budgets_cut_nothing.Goals as goal
-
-pub returns : goal.returns
-returns c s lawful = ample_cuts s lawful

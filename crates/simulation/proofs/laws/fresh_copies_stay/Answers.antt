@@ -1,5 +1,0 @@
-use Rattle.simulation.proofs.Healing.{copies_stay}
-use Rattle.simulation.proofs.laws.fresh_copies_stay.Goals as goal
-
-pub returns : goal.returns
-returns c s lawful = copies_stay s lawful

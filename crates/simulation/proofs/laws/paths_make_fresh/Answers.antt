@@ -1,5 +1,0 @@
-use Rattle.simulation.proofs.Paths.{paths_fresh}
-use Rattle.simulation.proofs.laws.paths_make_fresh.Goals as goal
-
-pub returns : goal.returns
-returns c s lawful = paths_fresh s lawful

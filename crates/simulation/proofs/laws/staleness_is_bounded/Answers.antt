@@ -1,5 +1,0 @@
-use Rattle.simulation.proofs.Bounds.{staleness_bounded}
-use Rattle.simulation.proofs.laws.staleness_is_bounded.Goals as goal
-
-pub returns : goal.returns
-returns c s lawful = staleness_bounded s lawful

@@ -1,5 +1,0 @@
-use Rattle.simulation.proofs.CatchingUp.{paths_catch_up}
-use Rattle.simulation.proofs.laws.uncut_paths_catch_up.Goals as goal
-
-pub returns : goal.returns
-returns c s lawful = paths_catch_up s lawful

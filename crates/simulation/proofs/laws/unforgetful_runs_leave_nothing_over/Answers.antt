@@ -1,5 +1,0 @@
-use Rattle.simulation.proofs.Formats.{leaves_nothing_over}
-use Rattle.simulation.proofs.laws.unforgetful_runs_leave_nothing_over.Goals as goal
-
-pub returns : goal.returns
-returns c s lawful = leaves_nothing_over s lawful

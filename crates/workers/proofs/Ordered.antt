@@ -1,7 +1,7 @@
 -- What a whole seat's records and tables come to.
 -- Serves `begin` and `end`.
 use Rattle.workers.proofs.Common.{◌≡◌, ℕ, ◌<◌, List, [], length, map, sym, ap, ◌∙◌, subst, arith, same_lists, get_or_from_slice_get, Record, Table, fold_of, fold_counts_records, record_kept, RoundListView, SeatView, Has, BoardPlan, exchanged_at, AreLeft, HasMadeAll, IsMadeOf}
-use Rattle.workers.specs.Carrying.{MayCarryOut}
+use Rattle.list_order.specs.Carrying.{MayCarryOut}
 use Rattle.workers.specs.inner.Gathering.{HoldsRecords}
 use Rattle.workers.specs.inner.Joined.{IsEndOf}
 use Rattle.workers.specs.inner.Workshops.{IsWorkshop}

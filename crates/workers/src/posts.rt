@@ -3,16 +3,14 @@
 ghost use Rattle.std.specs.Prelude.{◌≡◌, ◌<◌, map, IfOk, IfErr, IsOkUnless};
 ghost use Rattle.bench_types.specs.declared.faults.Fault.TheVariants.{NoThread, OutOfMemory};
 ghost use Rattle.model.specs.Runs.{AreWorkers, IsFaultOfWorkers};
-ghost use Rattle.workers.specs.Carrying.{MayCarryOut, IsBatchDone};
+ghost use Rattle.list_order.specs.Carrying.{MayCarryOut, IsBatchDone};
 
-use crate::gates::Gate;
-use crate::in_order::exchange_all;
 use crate::shifts::{end, hand_out, open, take_all};
 use crate::tasks::{Shift, Task};
 use crate::workers::Workshop;
-use crate::works::{Batch, Done, Work};
 use bench_types::Fault;
 use crew::{Yard, alone};
+use list_order::{Batch, Done, Gate, Work, exchange_all};
 use model::{Exchanging, MemoryTable};
 use std::alloc::Global;
 use std::marker::Model;

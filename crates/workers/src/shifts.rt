@@ -13,16 +13,15 @@ ghost use Rattle.workers.specs.inner.Starts.{HasBegun, HasHandedOut, HasOpened, 
 ghost use Rattle.workers.specs.inner.Works.{AreSeveral, MayShareOut};
 ghost use Rattle.workers.specs.inner.Joined.{HasTakenIn, HasTakenOneIn, HasSeenAll, IsEndOf};
 
-use crate::deques::Tasks;
-use crate::gates::Gate;
 use crate::gathering::{Gathered, places, write_all};
 use crate::tasks::{Back, Shift, Task};
 use crate::workers::{Returned, Workshop};
-use crate::works::Batch;
 use bench_types::{Fault, Record};
 use board::Board;
 use crew::Trays;
 use dependencies::Deps;
+use deques::Tasks;
+use list_order::{Batch, Gate};
 use model::{Exchanging, MemoryTable};
 use std::alloc::Global;
 use std::snapshot::Snapshot;

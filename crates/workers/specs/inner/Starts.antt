@@ -7,13 +7,13 @@ use Rattle.board.specs.Boards.{seat_view, IsMadeOf}
 use Rattle.board.specs.declared.boards.Board.{Board}
 use Rattle.crew.specs.Named.{tray_count}
 use Rattle.workers.specs.inner.Gathering.{HasGathered}
-use Rattle.workers.specs.inner.Pushes.{AreDealt, pushed}
+use Rattle.deques.specs.Pushes.{AreDealt, pushed}
 use Rattle.workers.specs.inner.Shifts.{IsShift}
 use Rattle.workers.specs.inner.Works.{AreSeveral}
 use Rattle.workers.specs.declared.gathering.Gathered.{Gathered}
 use Rattle.workers.specs.declared.shifts.Start.{Start}
 use Rattle.workers.specs.declared.tasks.Shift.{Shift}
-use Rattle.workers.specs.declared.works.Batch.{Batch}
+use Rattle.list_order.specs.declared.works.Batch.{Batch}
 
 -- the first seat of a board, and deques of several workers
 pub record MayStart {T : Type 0} (table : T → Table) (board : Board T) (start : Start T) : Type 0 where

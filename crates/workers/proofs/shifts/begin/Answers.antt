@@ -1,5 +1,5 @@
 use Rattle.workers.proofs.Common.{length, map, sym, ap, subst, ◌∙◌, BoardPlan, SeatView, IsCluster, first_ready_of, plan_of, seat_view}
-use Rattle.workers.specs.inner.Pushes.{AreDealt, pushed}
+use Rattle.deques.specs.Pushes.{AreDealt, pushed}
 use Rattle.workers.specs.inner.Works.{AreSeveral}
 use Rattle.workers.proofs.Ordered.{holds_none}
 use Rattle.workers.proofs.shifts.begin.Goals as goal

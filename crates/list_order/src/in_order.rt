@@ -12,7 +12,8 @@ use bench_types::{Exchange, Fault, Record};
 use model::{Exchanging, MemoryTable};
 use std::alloc::Global;
 
-/// Carries out the exchanges of the list in its order, and gives their records in that order.
+/// Carries out the exchanges of the list in its order, each between two calls of the gate, and gives their records in
+/// that order. An error is lack of memory (`OutOfMemory`), after which some of them may be carried out.
 pub fn exchange_all<T: MemoryTable, X: Exchanging<T>, G: Gate>(
     alloc: Global,
     work: Work<X, G>,

@@ -16,7 +16,7 @@ pub use Rattle.board.proofs.Claimed.{now_held}
 pub use Rattle.board.proofs.Meeting.{may_be_exchanged}
 pub use Rattle.board.proofs.Returning.{may_be_put_back}
 pub use Rattle.board.proofs.Sums.{only-other, total-append}
-pub use Rattle.board.specs.Boards.{AreLeft, HasMadeAll, IsHoldOf, IsMadeOf, IsSeatOf, MayPutBack, plan_of, seat_view}
+pub use Rattle.board.specs.Boards.{AreLeft, HasMadeAll, IsHoldOf, IsSeatOf, MayPutBack, plan_of, seat_view}
 pub use Rattle.board.specs.Laws.{IsCarriedOut}
 pub use Rattle.board.specs.Plan.{BoardPlan, exchanged_at, initiator_of, responder_of, table_at}
 pub use Rattle.board.specs.SeatView.{ALL_PARTS, SeatView, joined}
@@ -31,7 +31,6 @@ pub use Rattle.model.proofs.Common.{Exchange, IsPlanned, Record, Rules}
 pub use Rattle.model.proofs.FoldLaws.{before_keeps_each, before_tables, fold_counts_records}
 pub use Rattle.model.specs.Exchanged.{Exchanged, exchanged}
 pub use Rattle.model.specs.Folds.{fold_of}
-pub use Rattle.model.specs.RoundLists.{RoundListView}
 pub use Rattle.model.specs.Table.{Table}
 pub use Rattle.model.specs.Tables.{table_of_node}
 pub use Rattle.model.specs.calls.Exchanging.{IsKeptByExchanges, MakesOf, MayBeExchanged}

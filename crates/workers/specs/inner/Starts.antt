@@ -30,6 +30,13 @@ pub record HasBegun {T X G : Type 0} (table : T → Table) (batch : Batch X G) (
   pub dealt : AreDealt (first_ready_of batch.list.now.exchanges) (map pushed start.tasks.items)
       (length (first_ready_of batch.list.now.exchanges))
 
+-- a board is shared, with what the batch has for all and a tray for each worker
+pub record IsShared {T X G : Type 0} (table : T → Table) (fits : X → Table → Type 0) (batch : Batch X G) (made : Board T) (workers : ℕ) (shift : Shift T X G) : Type 0 where
+  pub of_shift : IsShift table fits shift
+  pub board : shift.shop.board ≡ made
+  pub shared : shift.shop.shared ≡ batch.shared
+  pub trays : tray_count shift.trays ≡ workers
+
 -- and all share it, with a tray for each worker
 pub record HasOpened {T X G : Type 0} (table : T → Table) (fits : X → Table → Type 0) (batch : Batch X G) (workers : ℕ) (tables : List T) (shift : Shift T X G) (start : Start T) : Type 0 where
   pub of_shift : IsShift table fits shift

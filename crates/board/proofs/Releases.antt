@@ -1,5 +1,5 @@
 -- The successors of an exchange are those whose predecessor it is, each once.
--- Serves `Calls`, `Finishing`, `Parts` and `workers`.
+-- Serves `Calls`, `Finishing` and `Parts`.
 use Rattle.board.proofs.Common.{◌≡◌, ℕ, zero, suc, ◌+◌, ◌-◌, ◌<◌, ◌≤◌, ◌⊎◌, Bool, true, false, cond, if◌then◌else◌, List, ◌++◌, length, Option, None, Some, inl, inr, sym, ap, ◌∙◌, subst, arith, find, range_with_len, cases_Bool, cases_eq, cases_lt, eq-eqb, ne_eqb, or_left, or_right, false≢true, none-some, same_Some, Exchange, exchange_at, takes_part, share_node, last_before, first_from, unless_same, as_list, predecessors, last_before-is, last_before-reaches, part_cases, initiator_part, responder_part}
 use Rattle.board.specs.Weights.{only, times}
 use Rattle.board.specs.inner.Plays.{successor_list}

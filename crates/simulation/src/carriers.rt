@@ -2,7 +2,7 @@
 
 ghost use Rattle.std.specs.Prelude.{◌≡◌, map, IfOk, IfErr};
 ghost use Rattle.model.specs.Runs.{IsFaultOfWorkers};
-ghost use Rattle.workers.specs.Carrying.{AreExchanged, MayCarryOut};
+ghost use Rattle.list_order.specs.Carrying.{AreExchanged, MayCarryOut};
 
 use bench_types::{Fault, Rules};
 use model::{Exchanging, MemoryTable, RoundList};

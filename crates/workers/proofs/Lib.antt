@@ -1,9 +1,5 @@
-pub mod Moves
 pub mod Holds
-pub mod Pairs
-pub mod Turns
 pub mod Gathered
 pub mod Joining
 pub mod Ordered
-pub mod Dealing
 pub mod Common

@@ -1,12 +1,9 @@
-pub mod Turns
 pub mod Stamps
 pub mod Gathering
 pub mod Joined
 pub mod Starts
 pub mod Returns
 pub mod AtWork
-pub mod Deques
-pub mod Pushes
 pub mod Workshops
 pub mod Shifts
 pub mod Works

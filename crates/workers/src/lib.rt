@@ -6,8 +6,6 @@
 //! - A worker keeps its records to itself until it ends. Nothing is shared but the board, the deques, the trays and
 //!   what is only read. So an exchange takes no lock, and a record is copied once at the end, to its place in list
 //!   order.
-//! - A type that outlives a list can't name its length, so the rule of a deque asks nothing of the indices in it, and a
-//!   worker compares each that it takes with the length.
 //! - What a thread is given goes through a lock, which tells its type's invariant alone. So a task ties its seat to the
 //!   board by the `Arc` that both lie in (`IsTask`), and what comes back goes through a tray with that board as its
 //!   label.
@@ -16,20 +14,13 @@
 //!   too: `acceptance` compares texts.
 #![tactic(auto)]
 
-mod deques;
-mod gates;
 mod gathering;
-mod in_order;
-mod lent;
 mod posts;
-mod push_logs;
 mod runs;
 mod shifts;
 mod tasks;
 mod workers;
-mod works;
 
-pub use gates::{FreeGate, Gate};
+pub use list_order::{Batch, Done, FreeGate, Gate, Work};
 pub use posts::Posts;
 pub use runs::run_list_with;
-pub use works::{Batch, Done, Work};

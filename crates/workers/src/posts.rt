@@ -1,24 +1,25 @@
 //! Threads of workers that carry out one list after another.
 
-ghost use Rattle.std.specs.Prelude.{◌≡◌, ◌<◌, map, IfOk, IfErr, IsOkUnless};
+ghost use Rattle.std.specs.Prelude.{◌≡◌, ◌<◌, map, vec_len, IfOk, IfErr, IsOkUnless};
+ghost use Rattle.std.specs.Arc.{arc_value};
 ghost use Rattle.bench_types.specs.declared.faults.Fault.TheVariants.{NoThread, OutOfMemory};
-ghost use Rattle.crew.specs.Named.{post_count};
 ghost use Rattle.model.specs.Runs.{AreWorkers, IsFaultOfWorkers};
-ghost use Rattle.workers.specs.Carrying.{MayCarryOut, IsBatchDone};
+ghost use Rattle.list_order.specs.Carrying.{MayCarryOut, IsBatchDone};
+ghost use Rattle.crew.specs.Named.{post_count, tray_count};
+ghost use Rattle.workers.specs.inner.Joined.{HasClosed};
+ghost use Rattle.workers.specs.inner.Shifts.{IsShift};
+ghost use Rattle.workers.specs.inner.Starts.{MayStart};
 
-use crate::gates::Gate;
-use crate::in_order::exchange_all;
-use crate::shifts::{end, hand_out, open, take_all};
+use crate::shifts::{Start, close, hand_out, open};
 use crate::tasks::{Shift, Task};
-use crate::workers::Workshop;
-use crate::works::{Batch, Done, Work};
 use bench_types::Fault;
-use crew::{Yard, alone};
+use crew::Yard;
+use list_order::{Batch, Done, Gate, Work, exchange_all};
 use model::{Exchanging, MemoryTable};
 use std::alloc::Global;
 use std::marker::Model;
 use std::num::NonZeroUsize;
-use std::sync::Wait;
+use std::sync::{Arc, Wait};
 use std::thread;
 use std::thread::{Scope, Threads, available_parallelism};
 
@@ -111,6 +112,27 @@ impl<T: MemoryTable, X: Exchanging<T> + Drop, G: Gate + Drop> Posts<T, X, G> {
             return self.carry_out_alone(batch, tables, meanwhile);
         }
         let (shift, start) = open(self.alloc, self.workers, batch, tables)?;
+        self.share_out(rt, shift, start, meanwhile)
+    }
+
+    // The list by all workers, which are at their posts.
+    fn share_out<R: Wait, F: FnOnce() -> M + Drop, M: Drop>(
+        &self,
+        rt: &R,
+        shift: Arc<Shift<T, X, G>>,
+        start: Start<T>,
+        meanwhile: F,
+    ) -> Result<Done<T, X, M>, Fault>
+        requires shift { IsShift T.table X.fits (arc_value shift) }
+        requires start { MayStart T.table (arc_value shift).shop.board start }
+        requires one_each { vec_len start.tasks ≡ self.now }
+        requires trays { tray_count (arc_value shift).trays ≡ self.now }
+        requires meanwhile { F.pre meanwhile }
+        ensures closed { IfOk result (λ done.
+            HasClosed T.table (arc_value shift) done.tables.items done.records.items done.shared) }
+        ensures made { IfOk result (λ done. F.post meanwhile done.made) }
+        ensures only { IsOkUnless result OutOfMemory }
+    {
         let (gathered, tasks) = hand_out(self.alloc, &shift, start)?;
         let own = self.give_all(rt, tasks);
         let made = meanwhile();
@@ -118,13 +140,7 @@ impl<T: MemoryTable, X: Exchanging<T> + Drop, G: Gate + Drop> Posts<T, X, G> {
             task.carry_out(rt);
         }
         self.yard.wait(rt);
-        let gathered = take_all(rt, &shift, gathered, self.workers as usize);
-        let Shift { shop, trays: _ } = alone(rt, shift);
-        let Workshop { board, shared, .. } = shop;
-        let mut gathered = gathered?;
-        // A whole seat, so it learns that all exchanges are put back.
-        board.look(&mut gathered.seat);
-        let (tables, records) = end(board, gathered);
+        let (tables, records, shared) = close(rt, shift, gathered, self.workers as usize)?;
         Ok(Done {
             tables,
             records,
@@ -199,43 +215,25 @@ impl<
         ensures done { IfOk result (IsBatchDone T.table batch.entry tables.items (F.post meanwhile)) }
         ensures fault { IfErr result (IsFaultOfWorkers self) }
     {
-        if self.workers == 1 {
-            return self.carry_out(rt, batch, tables, meanwhile);
-        }
-        self.carry_out_in_scope(rt, batch, tables, meanwhile)
-    }
-
-    fn carry_out_in_scope<R: Threads + Wait + Sync, F: FnOnce() -> M + Drop, M: Drop>(
-        &self,
-        rt: &R,
-        batch: Batch<X, G>,
-        tables: Vec<T>,
-        meanwhile: F,
-    ) -> Result<Done<T, X, M>, Fault>
-        requires several { 1 < self.now }
-        requires tables { MayCarryOut (X.fits batch.shared) batch.rules.now batch.list.now.nodes
-            (map T.table tables.items) }
-        requires meanwhile { F.pre meanwhile }
-        ensures done { IfOk result (IsBatchDone T.table batch.entry tables.items (F.post meanwhile)) }
-        ensures fault { IfErr result (IsFaultOfWorkers self.now) }
-    {
-        thread::scope(
-            thread::scope_env(),
+        let posts = &self;
+        let answer = posts.with_threads(
             rt,
-            move |scope|
-                requires several { 1 < self.now }
-                requires tables { MayCarryOut (X.fits batch.shared) batch.rules.now batch.list.now.nodes
-                    (map T.table tables.items) }
-                requires meanwhile { F.pre meanwhile }
-                ensures done { IfOk result (IsBatchDone T.table batch.entry tables.items (F.post meanwhile)) }
-                ensures fault { IfErr result (IsFaultOfWorkers self.entry.now) }
+            (batch, tables, meanwhile),
+            move |lent|
+                requires tables { MayCarryOut (X.fits lent.0.shared) lent.0.rules.now lent.0.list.now.nodes
+                    (map T.table lent.1.items) }
+                requires meanwhile { F.pre lent.2 }
+                ensures done { IfOk result (IsBatchDone T.table lent.entry.0 lent.entry.1.items (F.post lent.entry.2)) }
+                ensures only { IsOkUnless result OutOfMemory }
             {
-                self.start(scope, rt)?;
-                let done = self.carry_out(rt, batch, tables, meanwhile);
-                self.yard.send_home(rt, self.threads as usize);
-                done
+                let (batch, tables, meanwhile) = lent;
+                posts.carry_out(rt, batch, tables, meanwhile)
             },
-        )
+        );
+        match answer {
+            Ok(done) => done,
+            Err(_) => Err(Fault::NoThread),
+        }
     }
 
     /// Starts the threads, if there are several workers, calls `body` with what is lent and sends them home. Where one
@@ -282,7 +280,7 @@ impl<
         }
     }
 
-    // Starts a thread for each worker. Where one can't be started, those that were go home.
+    // Starts the threads. Where one can't be started, those that were go home.
     fn start<'e, R: Threads + Wait + Sync>(
         &'e self,
         scope: &Scope<'_, &'e ()>,

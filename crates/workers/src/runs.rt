@@ -2,13 +2,11 @@
 
 ghost use Rattle.std.specs.Prelude.{map, IfOk, IfErr};
 ghost use Rattle.model.specs.Runs.{AreWorkers, IsFaultOfWorkers};
-ghost use Rattle.workers.specs.Carrying.{MayCarryOut, AreExchanged};
+ghost use Rattle.list_order.specs.Carrying.{MayCarryOut, AreExchanged};
 
-use crate::gates::Gate;
-use crate::lent::Lent;
 use crate::posts::Posts;
-use crate::works::{Batch, Work};
 use bench_types::{Fault, Record};
+use list_order::{Batch, Gate, Lent, Work};
 use model::{Exchanging, MemoryTable};
 use std::alloc::Global;
 use std::sync::Wait;

@@ -4,11 +4,11 @@ ghost use Rattle.std.specs.Prelude.{◌≡◌};
 ghost use Rattle.std.specs.Arc.{arc_value};
 ghost use Rattle.workers.specs.inner.Returns.{IsReturned};
 
-use crate::deques::Tasks;
-use crate::gates::Gate;
 use crate::workers::{Returned, Workshop};
 use board::{Board, Seat};
 use crew::{Label, Trays};
+use deques::Tasks;
+use list_order::Gate;
 use model::{Exchanging, MemoryTable};
 use std::marker::Model;
 use std::snapshot::Snapshot;

@@ -4,12 +4,12 @@ ghost use Rattle.std.specs.Prelude.{◌≡◌, ◌<◌, length, MatchResult, OnO
 ghost use Rattle.bench_types.specs.declared.faults.Fault.TheVariants.{OutOfMemory};
 ghost use Rattle.board.specs.Boards.{exchanges_of, plan_of, seat_view, IsSeatOf};
 
-use crate::deques::Tasks;
-use crate::gates::Gate;
 use crate::gathering::Stamped;
 use bench_types::{Fault, Rules};
 use board::{Board, Claim, Freed, Hold, Seat};
 use crossbeam_utils::Backoff;
+use deques::Tasks;
+use list_order::Gate;
 use model::{Exchanging, MemoryTable};
 use std::alloc::Global;
 use std::sync::Wait;

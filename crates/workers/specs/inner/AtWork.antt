@@ -1,9 +1,10 @@
 -- What a worker does, exchange by exchange. Source: this project.
-use Rattle.std.specs.Prelude.{◌≡◌}
+use Rattle.std.specs.Prelude.{◌≡◌, ℕ, List, ◌++◌}
 use Rattle.model.specs.Table.{Table}
+use Rattle.board.specs.SeatView.{SeatView}
 use Rattle.board.specs.Boards.{seat_view, IsSeatOf}
 use Rattle.board.specs.declared.boards.Board.{Board}
-use Rattle.workers.specs.inner.Pushes.{PushesFreed, pushed}
+use Rattle.deques.specs.Pushes.{pushed}
 use Rattle.workers.specs.inner.Returns.{HasRecords}
 use Rattle.workers.specs.declared.workers.Worker.{Worker}
 
@@ -17,6 +18,12 @@ pub record StaysAtWork {T : Type 0} (table : T → Table) (board : Board T) (old
   pub of_board : IsSeatOf table new.seat board
   pub parts : (seat_view new.seat).parts ≡ (seat_view old.seat).parts
   pub is_halted : (seat_view new.seat).is_halted ≡ (seat_view old.seat).is_halted
+
+-- what a seat's exchanges have made ready meanwhile was pushed
+pub record PushesFreed (old : SeatView) (pushes : List ℕ) (new : SeatView) (pushes' : List ℕ) : Type 0 where
+  pub ready : List ℕ
+  pub freed : new.freed ≡ old.freed ++ ready
+  pub pushed : pushes' ≡ pushes ++ ready
 
 -- it has the records of all that it has put back, and has pushed what that made ready meanwhile
 pub record HasWorked {T : Type 0} (table : T → Table) (board : Board T) (old new : Worker T) : Type 0 where

@@ -6,10 +6,11 @@ use Rattle.model.specs.Table.{Table}
 use Rattle.model.specs.Folds.{fold_of}
 use Rattle.board.specs.SeatView.{IsWhole}
 use Rattle.board.specs.Plan.{BoardPlan}
-use Rattle.board.specs.Boards.{exchanges_of, seat_view}
+use Rattle.board.specs.Boards.{exchanges_of, plan_of, seat_view}
 use Rattle.board.specs.declared.boards.Board.{Board}
 use Rattle.workers.specs.inner.Gathering.{HasGathered}
 use Rattle.workers.specs.declared.gathering.Gathered.{Gathered}
+use Rattle.workers.specs.declared.tasks.Shift.{Shift}
 
 -- the seats of so many workers were joined to another, and their records are in their places
 pub record HasTakenIn {T : Type 0} (table : T → Table) (board : Board T) (workers : ℕ) (old new : Gathered T) : Type 0 where
@@ -33,3 +34,8 @@ pub record HasSeenAll {T : Type 0} (table : T → Table) (board : Board T) (gath
 -- the tables and the records of list order
 abbrev pub IsEndOf : {T : Type 0} → (T → Table) → BoardPlan → List T → List Record → Type 0
 IsEndOf table plan new records = fold_of plan.rules plan.tables plan.list.exchanges ≡ record { tables = map table new; records = records }
+
+-- and what the workers shared
+pub record HasClosed {T X G : Type 0} (table : T → Table) (shift : Shift T X G) (new : List T) (records : List Record) (left : X) : Type 0 where
+  pub ended : IsEndOf table (plan_of table shift.shop.board) new records
+  pub shared : left ≡ shift.shop.shared

@@ -7,13 +7,13 @@ use Rattle.board.specs.Boards.{seat_view, IsMadeOf}
 use Rattle.board.specs.declared.boards.Board.{Board}
 use Rattle.crew.specs.Named.{tray_count}
 use Rattle.workers.specs.inner.Gathering.{HasGathered}
-use Rattle.workers.specs.inner.Pushes.{AreDealt, pushed}
+use Rattle.deques.specs.Pushes.{AreDealt, pushed}
 use Rattle.workers.specs.inner.Shifts.{IsShift}
 use Rattle.workers.specs.inner.Works.{AreSeveral}
 use Rattle.workers.specs.declared.gathering.Gathered.{Gathered}
 use Rattle.workers.specs.declared.shifts.Start.{Start}
 use Rattle.workers.specs.declared.tasks.Shift.{Shift}
-use Rattle.workers.specs.declared.works.Batch.{Batch}
+use Rattle.list_order.specs.declared.works.Batch.{Batch}
 
 -- the first seat of a board, and deques of several workers
 pub record MayStart {T : Type 0} (table : T → Table) (board : Board T) (start : Start T) : Type 0 where
@@ -29,6 +29,13 @@ pub record HasBegun {T X G : Type 0} (table : T → Table) (batch : Batch X G) (
   pub one_each : vec_len start.tasks ≡ workers
   pub dealt : AreDealt (first_ready_of batch.list.now.exchanges) (map pushed start.tasks.items)
       (length (first_ready_of batch.list.now.exchanges))
+
+-- a board is shared, with what the batch has for all and a tray for each worker
+pub record IsShared {T X G : Type 0} (table : T → Table) (fits : X → Table → Type 0) (batch : Batch X G) (made : Board T) (workers : ℕ) (shift : Shift T X G) : Type 0 where
+  pub of_shift : IsShift table fits shift
+  pub board : shift.shop.board ≡ made
+  pub shared : shift.shop.shared ≡ batch.shared
+  pub trays : tray_count shift.trays ≡ workers
 
 -- and all share it, with a tray for each worker
 pub record HasOpened {T X G : Type 0} (table : T → Table) (fits : X → Table → Type 0) (batch : Batch X G) (workers : ℕ) (tables : List T) (shift : Shift T X G) (start : Start T) : Type 0 where

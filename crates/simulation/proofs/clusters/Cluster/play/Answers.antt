@@ -1,5 +1,5 @@
 use Rattle.simulation.proofs.Common.{rules, ◌≡◌, ℕ, List, map, subst, sym, ap, ◌∙◌, IfOk, IsLawfulBudget, Rules, AreWrittenBy, IsCluster, lists_in, figures_of, HistoriesView, RoundListView, IsRoundPlan, Settings, Table}
-use Rattle.workers.specs.Carrying.{AreExchanged}
+use Rattle.list_order.specs.Carrying.{AreExchanged}
 use Rattle.simulation.specs.inner.InMemory.{HasBegun}
 use Rattle.simulation.specs.inner.Plans.{IsDrawnAfter}
 use Rattle.simulation.proofs.Playing.{IsLeft, lawful_budget, is_left, each_begun, nodes_cluster, standing_cluster, one_list_each, one_record_each, round_is, played_is}

@@ -1,6 +1,6 @@
 use Rattle.workers.proofs.Common.{◌≡◌, ℕ, List, [], ◌∷◌, ◌++◌, map, All, sym, ap, ◌∙◌, subst, append_assoc, map-append, All-push, SeatView, BoardPlan, Freed, as_list, plan_of, seat_view, IsHoldOf, now_held}
 use Rattle.workers.specs.declared.gathering.Stamped.{Stamped}
-use Rattle.workers.specs.inner.Pushes.{pushed}
+use Rattle.deques.specs.Pushes.{pushed}
 use Rattle.workers.specs.inner.Returns.{HasDone, IsRecordOf, AreRecordsOf}
 use Rattle.workers.proofs.workers.Workshop.try_one.Goals as goal
 

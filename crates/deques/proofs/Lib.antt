@@ -1,0 +1,3 @@
+pub mod Moves
+pub mod Dealing
+pub mod Common

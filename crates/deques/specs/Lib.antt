@@ -1,0 +1,2 @@
+pub mod Pushes
+pub mod inner

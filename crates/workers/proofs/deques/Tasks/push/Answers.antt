@@ -1,5 +1,0 @@
-use Rattle.workers.proofs.Moves.{pushes}
-use Rattle.workers.proofs.deques.Tasks.push.Goals as goal
-
-pub push_as-requires-clause-pushes : goal.push_as-requires-clause-pushes
-push_as-requires-clause-pushes c = pushes _ _ _

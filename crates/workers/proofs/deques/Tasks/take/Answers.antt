@@ -1,5 +1,0 @@
-use Rattle.workers.proofs.Moves.{takes}
-use Rattle.workers.proofs.deques.Tasks.take.Goals as goal
-
-pub pop_as-requires-clause-fifo : goal.pop_as-requires-clause-fifo
-pop_as-requires-clause-fifo c = λ _. takes _ _ 1

@@ -1,22 +1,7 @@
 -- What these proofs cite of other libraries and of this crate's definitions, passed on from one place.
--- Serves the functions of `counts`, `grids`, `lags`, `merges` and `owners`, `Behind`, `ByOwner` and `Counted`.
-pub use Rattle.std.proofs.Common.{Bool, Fits, List, ap, arith, cond, drop, false, get_or, if◌then◌else◌, inl, inr, length, map, max, min, nat_le, nat_lt, refl, replicate, rules, set, slice_index, subst, suc, sym, take, true, w32, zero, ℕ, ◌&&◌, ◌*◌, ◌++◌, ◌+◌, ◌-◌, ◌<◌, ◌==◌, ◌∙◌, ◌≡◌, ◌≢◌, ◌≤◌, ◌⊎◌}
-pub use Rattle.std.proofs.Math.Nat.{mul-le-mul_right}
-pub use Rattle.std.proofs.Math.Seq.{take-add, take-nil}
-pub use Rattle.std.proofs.lemmas.Bool.{cases_lt, le-ltb, lt-ltb, ltb-false, ltb-true}
-pub use Rattle.std.proofs.lemmas.Bool.Decides.{nat_tests}
-pub use Rattle.std.proofs.lemmas.List.{get_or-drop, get_or-map, get_or-replicate, get_or-set_other, get_or-set_same, get_or-take, length-append, length-drop, length-map, length-replicate, length-set, length-take-le, map-append, map-set, places, take-map, with_items_is}
-pub use Rattle.std.proofs.lemmas.Result.{IfOk-weaker}
-pub use Rattle.std.specs.List.{drop-map}
-pub use borrow.Author.Count.{below_more}
-pub use borrow.Rule.Slice.PartMut.{post_of, put_mid}
-pub use Rattle.bench_types.proofs.Sums.{sum_below-most, sum_below-same, sum_below-turned}
-pub use Rattle.bench_types.specs.Sums.{sum_below}
-pub use Rattle.bench_types.specs.declared.limits.TheConstants.{MOST_KEYS, MOST_NODES}
-pub use Rattle.planes.specs.Elementwise.{AreChanged, AreChangedUpto}
+-- Serves the functions of `counts`, `grids`, `lags`, `merges` and `owners`, `ByOwner`, `Counted` and `version_lags`.
+pub use Rattle.planes.proofs.Common.{AreChangedUpto, AreCountedUpto, ArePlanesChanged, ArePlanesChangedUpto, Bool, Cells, Fits, HasEach, HasNoneAbove, IfOk-weaker, IsGrid, IsLeastOf, IsRaised, List, MOST_KEYS, MOST_NODES, ap, arith, below_more, cases_lt, cell, cond, count_above, count_passing, drop, false, get_or, get_or-map, get_or-set_other, get_or-set_same, if◌then◌else◌, inl, inr, le-ltb, length, length-drop, length-map, length-set, length-take-le, lt-ltb, ltb-false, ltb-true, map, map-set, max, min, mul-le-mul_right, nat_le, nat_lt, nat_tests, number_ahead, number_raised, number_taken, numbers_taken, put_mid, refl, rules, set, slice_index, subst, sum_below, sum_below-most, sum_below-same, sym, take, take-add, total_above, total_of, true, w32, with_items_is, ℕ, ◌&&◌, ◌*◌, ◌+◌, ◌-◌, ◌<◌, ◌==◌, ◌∙◌, ◌≡◌, ◌≢◌, ◌≤◌}
 pub use Rattle.grids.specs.Lags.{IsLeastBehind}
-pub use Rattle.planes.specs.Planes.{ArePlanesChanged, ArePlanesChangedUpto, Cells, HasEach, HasNoneAbove, IsGrid, IsLeastAbove, IsNextAbove, IsRaised, cell, count_above, number_ahead, number_raised, number_taken, numbers_taken, total_above, total_of}
-pub use Rattle.planes.specs.Loops.{AnswersAs, AreCountedUpto, IsLeastOf, IsMade, count_passing}
 pub use Rattle.grids.specs.inner.Loops.{AreRaisedUpto, MakesAs}
 pub use Rattle.grids.specs.inner.Owners.{HasRaisedOwner}
 pub use Rattle.grids.specs.inner.Masks.{HasNoOtherMark}

@@ -1,4 +1,3 @@
 pub mod Counted
-pub mod Behind
 pub mod ByOwner
 pub mod Common

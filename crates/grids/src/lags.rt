@@ -36,10 +36,9 @@ pub fn count_behind<N: Number>(least: &mut [N], grid: Grid<N>, last: &[N]) -> u3
         least,
         |at, number| -> (N, bool)
             requires { (at < length cells.now) × (at < length last.now) }
-            ensures number { N.number result.0 ≡ min (N.number number)
-                (slice_index (map N.number cells.entry.now) at) }
-            ensures is_behind { result.1 ≡ nat_lt (slice_index (map N.number cells.entry.now) at)
-                (slice_index (map N.number last.entry.now) at) }
+            ensures { (N.number result.0 ≡ min (N.number number) (slice_index (map N.number cells.entry.now) at))
+                × (result.1 ≡ nat_lt (slice_index (map N.number cells.entry.now) at)
+                (slice_index (map N.number last.entry.now) at)) }
         {
             let now = cells[at];
             (number.min_with(now), last[at].is_above(now))

@@ -63,9 +63,8 @@ module _ (writes : List Entry) (history : IsHistory writes) (m n : ℕ) (d e : E
 
 -- there is a write at each place below the count
 pub write_from-some : (es : List Entry) (place : ℕ) → place < length es → (e : Entry) × (write_from es place ≡ Some e)
-write_from-some [] place lt = absurd (omega (arith, lt))
-write_from-some (e ∷ es) zero lt = (e, refl)
-write_from-some (e ∷ es) (suc place) lt = write_from-some es place (omega (arith, lt))
+write_from-some es place lt =
+    let d : Entry = record { key = 0; generation = 0; version = 0; value = 0; born = 0 } in (get_or es place d, write_from-here es place d lt)
 
 pub numbered-some : (writes : List Entry) (number : ℕ) → 0 < number → number ≤ length writes → (e : Entry) × (write_numbered writes number ≡ Some e)
 numbered-some writes zero some le = absurd (omega (arith, some))
@@ -80,8 +79,7 @@ numbered-none writes (suc place) le none =
 
 -- a write has a number from 1 up to the count
 pub numbered-within : (writes : List Entry) (number : ℕ) (e : Entry) → write_numbered writes number ≡ Some e → (0 < number) × (number ≤ length writes)
-numbered-within writes zero e is = absurd (cc)
-numbered-within writes (suc place) e is = let at = write_from-at writes place e e is in (omega arith, omega (arith, at.0))
+numbered-within writes number e is = let at = numbered-placed writes number e is in (omega (arith, at.is), omega (arith, at.is, at.within))
 
 -- marks compare as numbers
 pub numbers-compare : (writes : List Entry) (history : IsHistory writes) (m n : ℕ) (d e : Entry) → write_numbered writes m ≡ Some d → write_numbered writes n ≡ Some e → is_before (mark_of d) (mark_of e) ≡ nat_lt m n

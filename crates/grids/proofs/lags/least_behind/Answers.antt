@@ -1,8 +1,20 @@
-use Rattle.grids.proofs.Common.{rules, nat_lt, slice_index, map, if◌then◌else◌, cell, IfOk-weaker}
+use Rattle.grids.proofs.Common.{ℕ, cond, rules, nat_lt, slice_index, map, if◌then◌else◌, inl, inr, arith, nat_tests, cases_lt, cell, Cells, IfOk-weaker, IsLeastBehind, IsLeastOf}
 use Rattle.planes.proofs.Elementwise.{number-at}
 use Rattle.planes.proofs.Behind.{each-turned}
-use Rattle.grids.proofs.Behind.{least_is-behind}
 use Rattle.grids.proofs.lags.least_behind.Goals as goal
+
+-- of those behind the last ones
+least_is-behind : (most : ℕ) (cells last : Cells) (keys owner least : ℕ) → IsLeastOf most (λ k. cond (nat_lt (cells owner k) (last owner k)) (cells owner k) most) keys least → IsLeastBehind most cells last keys owner least
+least_is-behind most cells last keys owner least is = record {
+  no_less = λ k lt behind. let at = is.no_less k lt in grind (arith, nat_tests);
+  is = elim is.is [
+    | inl all ↦ inl all
+    | inr (k, lt, here) ↦ elim (cases_lt (cells owner k) (last owner k)) [
+      | inl behind ↦ inr (k, lt, behind, grind (arith, nat_tests))
+      | inr not_behind ↦ inl (grind (arith, nat_tests))
+    ]
+  ];
+}
 
 pub returns-clause-least : goal.returns-clause-least
 returns-clause-least g c =

@@ -108,10 +108,11 @@ def trials_of(names):
     return [it for name, it in names.items() if name.startswith("try_") and it.__module__ == names["__name__"]]
 
 
-def try_each(names):
-    """Makes the trials of the program that a script has, which takes no words, each in a room of its own."""
+def try_each(names, needs_program=True):
+    """Makes the trials that a script has, which takes no words, each in a room of its own."""
     arguments.take_none(names["__doc__"])
-    need_program()
+    if needs_program:
+        need_program()
     for trial in trials_of(names):
         with Room() as room:
             trial(room)

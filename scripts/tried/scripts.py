@@ -20,23 +20,16 @@ MARKED = {
 WRONG_MARKS = ("A<!--clone--> b.", "A b<!--/clone-->.", "A<!--clone:other--> b<!--/clone-->.")
 
 
-def python_scripts():
-    files = [it for it in sorted(SCRIPTS.iterdir()) if it.is_file() and not it.suffix]
-    return [it for it in files if it.read_text().startswith("#!/usr/bin/env python3\n")]
-
-
 def try_words(room):
-    holds("there are scripts", True, len(python_scripts()) > 15)
-    for script in python_scripts():
-        holds(f"{script.name} --help", (0, Text(script.name), ""), run(room, script, "--help"))
-        holds(f"{script.name} --walk", (2, "", Text(f"{script.name}: ", lines=1)),
-              run(room, script, "--walk", "about", "there"))
-
-
-def try_imports(_):
-    """To import a script does nothing: it has a function for all that it does."""
-    for script in python_scripts():
-        holds(f"{script.name} is imported", True, callable(imported(script).main))
+    """Each script has help and refuses other words, and to import it does nothing."""
+    files = [it for it in sorted(SCRIPTS.iterdir()) if it.is_file() and not it.suffix]
+    scripts = [it for it in files if it.read_text().startswith("#!/usr/bin/env python3\n")]
+    holds("there are scripts", True, len(scripts) > 15)
+    for script in scripts:
+        name = script.name
+        holds(f"{name} --help", (0, Text(name), ""), run(room, script, "--help"))
+        holds(f"{name} --walk", (2, "", Text(f"{name}: ", lines=1)), run(room, script, "--walk", "about", "there"))
+        holds(f"{name} is imported", str(script), imported(script).__file__)
 
 
 def try_parts(room):

@@ -85,3 +85,12 @@ def the_program():
 
 def needs_newer(program):
     return starts(program, **OLDER)[0] is None
+
+
+def ends(main):
+    """Calls what a script does, which has status 2 where something is missing, and a line that says so."""
+    try:
+        main()
+    except Missing as why:
+        print(f"{Path(sys.argv[0]).name}: {why}", file=sys.stderr)
+        sys.exit(2)

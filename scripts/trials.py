@@ -88,13 +88,16 @@ def all_hold(name, trials):
     holds(f"{name}, at {place}", wanted, found)
 
 
+def stop(why):
+    """Ends the process where what is to be tried isn't there."""
+    print(f"{Path(sys.argv[0]).name}: {why}", file=sys.stderr)
+    sys.exit(NO_PROGRAM)
+
+
 def need_program(*others):
-    """Ends the process where one of the programs isn't there to be tried."""
     for program in (PROGRAM, *others):
         if not os.access(program, os.X_OK):
-            name = Path(sys.argv[0]).name
-            print(f"{name}: no program at {program}. ./gossip_bench --help builds it.", file=sys.stderr)
-            sys.exit(NO_PROGRAM)
+            stop(f"no program at {program}. ./gossip_bench --help builds it.")
 
 
 def end():

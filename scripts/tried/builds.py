@@ -88,7 +88,7 @@ def try_toolchains(room):
     """What the scripts use of rt is in that of the toolchain at hand, if one is; where it isn't, that is told."""
     toy = Toy(room / "toolchains")
     rt = toy.kit / "bin/rt"
-    rt.write_text(rt.read_text().replace("def handles_of(", "def handles("))
+    rt.write_text(rt.read_text().replace("handles_of = ", "handles = "))
     why = f"gossip_bench: {rt} is of another toolchain than the scripts were written for: it lacks handles_of\n"
     holds("another toolchain", (1, why, []), toy.build())
     if not shutil.which("rt"):

@@ -1,6 +1,6 @@
 """Trials of what all scripts share: their words, that they can be imported, the parts of scripts/gate, and of pages."""
 from installed import Missing
-from pages import PAGES, in_package, without_marks
+from pages import without_marks
 from parts import Part, Parts, outcome_of
 from toolchain import imported
 from tried.calls import run, written
@@ -51,7 +51,3 @@ def try_marks(_):
             holds(text, "a refusal", without_marks(text, "docs/model.md"))
         except Missing as why:
             holds(text, True, "docs/model.md has " in str(why))
-    for page in PAGES:
-        text = (TOP / page).read_text()
-        other = text.replace("`scripts/", "`scripts/another/")
-        holds(f"{page} with other sentences", in_package(text, page), in_package(other, page))

@@ -121,22 +121,19 @@ def study_of(words):
     return Study(cluster.told(words, advise.USUAL, advise.CALL, {"packet": "target"}))
 
 
-def clusters(seed, count, largest):
-    """So many clusters, drawn by a seed, each by its words. Those that are refused are drawn again."""
+def asked_all(seed, count, largest, room):
+    """Asks for so many clusters, drawn by a seed, and says what comes of it. Those that are refused are drawn again."""
     draw, at = random.Random(seed), 0
     while at < count:
         words = [f"{name}={it}" for name, it in drawn(draw, at, largest).items()]
-        with contextlib.suppress(advise.Refused):
+        try:
             it = study_of(words)
-            at += 1
-            yield " ".join(words), it
-
-
-def asked_all(seed, count, largest, room, say):
-    for at, (words, it) in enumerate(clusters(seed, count, largest)):
-        say(f"{at + 1}. {words}")
+        except advise.Refused:
+            continue
+        at += 1
+        print(f"{at}. {' '.join(words)}", flush=True)
         found = asked(it, room / str(at))
-        say("\n".join(f"   {line}" for line in (found.said, *found.bounds, found.target) if line))
+        print(*(f"   {line}" for line in (found.said, *found.bounds, found.target) if line), sep="\n", flush=True)
         yield found
 
 

@@ -1,9 +1,8 @@
 """Completion of the words of the program and its tools, for bash, zsh and fish, from the program's help and from what
 the tools declare."""
-import re
 from dataclasses import dataclass, field
 
-from installed import PROGRAM, TEXTS
+from installed import PROGRAM, text_with
 from gossip_tools import scenario, sweep
 
 # The fields that a sweep takes, with the words that a scenario has for some of them.
@@ -63,19 +62,10 @@ def filled(shell, table, plain, value):
               for name, values in words.named.items() if values]
     rows = [(f'"{key}"*' if " " in key else f'"{key} "*') + f") {plain(it)}{' folders=yes' * it.is_folder} ;;"
             for key, it in table.items()]
-    files, folders = (patterns(table, which) for which in (lambda it: it.before_file, lambda it: it.before_folder))
-    return put(shell, {
-        "files": [files], "folders": [folders],
-        "lists": [" | ".join(key for key, it in table.items() if it.has_lists)], "values": values, "plain": rows,
-        "commands": [" ".join(commands(table))]})
-
-
-def put(shell, parts):
-    """The text of a shell with these lines in place of marks, each indented as the mark is."""
-    text = (TEXTS / f"completion.{shell}").read_text().replace("@made@", MADE)
-    for name, lines in parts.items():
-        text = re.sub(rf"( *)@{name}@", lambda mark: "\n".join(mark[1] + it for it in lines), text)
-    return text
+    return text_with(f"completion.{shell}", {
+        "made": MADE, "commands": " ".join(commands(table)), "values": "\n".join(values), "plain": "\n".join(rows),
+        "files": patterns(table, lambda it: it.before_file), "folders": patterns(table, lambda it: it.before_folder),
+        "lists": " | ".join(key for key, it in table.items() if it.has_lists)})
 
 
 def for_bash(table):
@@ -110,7 +100,7 @@ def for_fish(table):
     lines = [f"complete -c {it} -f" for it in commands(table)]
     for key, words in table.items():
         lines += lines_for_fish(key, words, any(other.startswith(f"{key} ") for other in table))
-    return put("fish", {"lines": lines})
+    return text_with("completion.fish", {"made": MADE, "lines": "\n".join(lines)})
 
 
 def commands(table):

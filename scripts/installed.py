@@ -85,3 +85,17 @@ def the_program():
 
 def needs_newer(program):
     return starts(program, **OLDER)[0] is None
+
+
+def text_with(name, told):
+    """A text of scripts/texts with what is told in place of its marks, each line of that indented as the mark is."""
+    return re.sub(r"( *)@(\w+)@", lambda mark: re.sub("(?m)^", mark[1], told[mark[2]]), (TEXTS / name).read_text())
+
+
+def ends(main):
+    """Calls what a script does, which has status 2 where something is missing, and a line that says so."""
+    try:
+        main()
+    except Missing as why:
+        print(f"{Path(sys.argv[0]).name}: {why}", file=sys.stderr)
+        sys.exit(2)

@@ -1,8 +1,8 @@
 """The pages of a package: those of this repository, with the names that commands and files have in a package, and
 without what is for a clone alone."""
+import posixpath
 import re
 import tomllib
-from pathlib import PurePosixPath
 
 from installed import TEXTS, Missing
 
@@ -36,13 +36,9 @@ def target_in_package(target, page):
     path, mark, place = target.partition("#")
     if not path or "://" in path:
         return target
-    parts = []
-    for it in (PurePosixPath(page).parent / path).parts:
-        parts = parts[:-1] if it == ".." else [*parts, it]
-    there = "/".join(parts)
-    up = "../" * (len(PurePosixPath(page).parts) - 1)
+    there = posixpath.normpath(posixpath.join(posixpath.dirname(page), path))
     if there.startswith("tools/gossip_tools/"):
-        return f"{up}{MODULES}/{PurePosixPath(there).name}"
+        return f"{'../' * page.count('/')}{MODULES}/{posixpath.basename(there)}"
     return target if there in PAGES or there.startswith("examples/") or there.endswith(".svg") else None
 
 

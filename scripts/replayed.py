@@ -40,10 +40,10 @@ class Run:
     """A scenario, and what it comes to: the rows of its report, its exchanges, and what each node holds of each owner,
     by rounds."""
 
-    def __init__(self, **fields):
+    def __init__(self, load=(), restart=(), partition=(), **fields):
         self.fields = {"rounds": 0, "rotation": "none", "choice": "cycle", "loss_ppm": 0, "writes": 0} | fields
         self.nodes, self.format = fields["nodes"], fields["format"]
-        self.load, self.restart, self.partition = [], [], []
+        self.load, self.restart, self.partition = [*load], [*restart], [*partition]
 
     @property
     def rounds(self):
@@ -83,8 +83,8 @@ class Run:
     def restarted(self, round):
         return {it["node"] for it in self.restart if it["round"] == round}
 
-    def forgot(self, round):
-        return {it["node"] for it in self.restart if it["round"] == round and it.get("forget")}
+    def forgot(self, *rounds):
+        return {it["node"] for it in self.restart if it["round"] in rounds and it.get("forget")}
 
     def has_down(self, round):
         return any(it["round"] <= round < it["round"] + it["down"] for it in self.restart)

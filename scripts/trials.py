@@ -88,13 +88,16 @@ def all_hold(name, trials):
     holds(f"{name}, at {place}", wanted, found)
 
 
+def stop(why):
+    """Ends the process where what is to be tried isn't there."""
+    print(f"{Path(sys.argv[0]).name}: {why}", file=sys.stderr)
+    sys.exit(NO_PROGRAM)
+
+
 def need_program(*others):
-    """Ends the process where one of the programs isn't there to be tried."""
     for program in (PROGRAM, *others):
         if not os.access(program, os.X_OK):
-            name = Path(sys.argv[0]).name
-            print(f"{name}: no program at {program}. ./gossip_bench --help builds it.", file=sys.stderr)
-            sys.exit(NO_PROGRAM)
+            stop(f"no program at {program}. ./gossip_bench --help builds it.")
 
 
 def end():
@@ -108,10 +111,11 @@ def trials_of(names):
     return [it for name, it in names.items() if name.startswith("try_") and it.__module__ == names["__name__"]]
 
 
-def try_each(names):
-    """Makes the trials of the program that a script has, which takes no words, each in a room of its own."""
+def try_each(names, needs_program=True):
+    """Makes the trials that a script has, which takes no words, each in a room of its own."""
     arguments.take_none(names["__doc__"])
-    need_program()
+    if needs_program:
+        need_program()
     for trial in trials_of(names):
         with Room() as room:
             trial(room)

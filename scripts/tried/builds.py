@@ -27,7 +27,6 @@ def try_kept(room):
     lines = [f"{name}: pub fn {name}()\n" for name in ("low", "left", "low", "right", "gossip_bench")]
     holds("the program", (0, f"{''.join(lines)}run \nthe scenario", ""),
           run(room, toy.program, "run", text="the scenario", GLIBC_TUNABLES=""))
-    builds("a second build", toy, [])
     holds("what is kept isn't said to be proved, however long the look at it takes", (0, "", Text(lines=1), []),
           (*toy.call_and_hear("scripts/build", READING="1.5"), toy.proved()))
     toy.add("low", "// a remark")
@@ -49,8 +48,6 @@ def try_kept(room):
     builds("a library that was written over", toy, ["left"])
     toy.copy(room / "copy")
     builds("a copy with older times", toy, [])
-    toy.add("right", "// a remark")
-    builds("a remark in the copy", toy, ["right"])
     toy.source("low").write_text("// low\npub fn low()\n")
     builds("an older text in the copy", toy, CRATES)
 
@@ -91,7 +88,7 @@ def try_toolchains(room):
     """What the scripts use of rt is in that of the toolchain at hand, if one is; where it isn't, that is told."""
     toy = Toy(room / "toolchains")
     rt = toy.kit / "bin/rt"
-    rt.write_text(rt.read_text().replace("def handles_of(", "def handles("))
+    rt.write_text(rt.read_text().replace("handles_of = ", "handles = "))
     why = f"gossip_bench: {rt} is of another toolchain than the scripts were written for: it lacks handles_of\n"
     holds("another toolchain", (1, why, []), toy.build())
     if not shutil.which("rt"):

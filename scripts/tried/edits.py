@@ -1,5 +1,6 @@
 """Trials of scripts/try_edits over a small crate, with what the prover said of such ones."""
 import shutil
+import tomllib
 import types
 from pathlib import Path
 
@@ -9,31 +10,14 @@ from trials import TOP, holds, text_of
 
 NEEDED = "rt"  # which reads the crate, and applies its edits
 SOURCE, ANSWERS = text_of("toy_lib.txt"), text_of("toy_answers.txt")
-AT = "./proofs/quad/Answers.antt:5:43: error: `returns`: "
-LOST = f"{AT}record `Rattle.toy.proofs.quad.Lts.After-double` has no field `double-twice` (nearest: .double-second)"
-# (a long message goes on below, and what its middle says with it)
-LONG = (f"{AT}record `Rattle.toy.proofs.quad.Lts.After-double` (nearest: .double-second)\n"
-        "  has no field `double-twice`\n  the fields that can be named here are `before`, `double-second`")
-FALSE = f"{AT}`omega`: the goal does not follow from what it read, where no record has what it asks"
-BARE, CALLS = "fn toy::quad: not proved", "it calls `toy::double`, which is not proved"
-STANDS = "it stands on `Rattle.toy.proofs.quad.Answers.returns`, which antt refuses"
-SEARCHED = "fn toy::quad: no proof: expected answers in ./proofs/quad/Answers.antt; `search` did not prove `returns`"
-NOTED = ("note: src/lib.rt:33:1: it is not proved that what the function ensures holds when it returns (`returns`)")
-OTHER = NOTED.replace("33", "26")
-# What a check said of `quad`, and whether that is a cause of its own.
-SAID = {
-    (LOST, BARE): False, (LONG, BARE): False, (BARE,): False, (f"fn toy::quad: no proof: {CALLS}",): False,
-    (f"{BARE}; {CALLS}",): False, (LOST, f"{BARE}; {STANDS}"): False, (OTHER, BARE): False,
-    (FALSE, BARE): True, (SEARCHED,): True, (NOTED, BARE): True, (f"{BARE}; {STANDS}; {CALLS}",): True,
-    (FALSE, f"{BARE}; {CALLS}"): True, (LOST, FALSE, BARE): True,
-}
+SAID = tomllib.loads(text_of("edits.toml"))
 EDIT = "file: src/lib.rt\nold:     twice + twice\nnew:     {}\n"
 
 
-def toy(room, name, said=()):
+def toy(room, name, said=""):
     """The script, a crate, and what was read in the checks of it, each of which says the next of these texts."""
     script, rt, read = imported(TOP / "scripts/try_edits"), imported(Path(shutil.which("rt")).resolve()), []
-    folder, left = room / name, iter(said)
+    folder, left = room / name, iter(said.split(", "))
     for file, text in (("src/lib.rt", SOURCE), ("proofs/quad/Answers.antt", ANSWERS),
                        ("edits/010_more.edit", EDIT.format("twice + twice + 1")),
                        ("edits/020_double.edit", "file: src/lib.rt\nold:     x + x\nnew:     x\n")):
@@ -43,24 +27,26 @@ def toy(room, name, said=()):
     def checked(_, texts, flags, __):
         # (by contracts it can't be read)
         if "--allow-holes" in flags:
-            return ran((), 2)
+            return ran("", 2)
         read.append(texts)
-        lines = next(left)
-        return ran(lines, int(lines != ("logic=proved",)))
+        names = next(left)
+        return ran(names, int(names != "proved"))
 
     rt.checked = checked
     made = types.SimpleNamespace(name="toy", folder=str(folder), is_program=False)
     return script, script.Crate(rt, load_reader(rt), made, ("edits",), room / f"{name} kept"), read
 
 
-def ran(lines, status=1):
-    return types.SimpleNamespace(stdout="\n".join([*lines, *["logic=not-proved"] * (status == 1)]), returncode=status)
+def ran(names, status=1):
+    lines = [SAID[it] for it in names.split()] + ["logic=not-proved"] * (status == 1)
+    return types.SimpleNamespace(stdout="\n".join(lines), returncode=status)
 
 
 def try_causes(room):
     """A function that isn't proved is one thing, and that its contract refuses its body another."""
     script, crate, _ = toy(room, "causes")
-    holds("causes", SAID, {said: crate.functions[-1].is_refused(script.Told(ran(said))) for said in SAID})
+    causes = SAID["causes"]
+    holds("causes", causes, {it: crate.functions[-1].is_refused(script.Told(ran(it))) for it in causes})
 
 
 def try_names(room):
@@ -87,25 +73,16 @@ def try_lost_names(room):
     less = kept + ANSWERS[ANSWERS.index("helper :"):]
     script, crate, _ = toy(room, "answers")
     holds("answers", [less, less, kept, ANSWERS], [script.without(ANSWERS, lines) for lines in ([5], [4], [5, 7], [])])
-    gone = (LOST, BARE)
-    cases = {
-        "a cause": ([(LOST, FALSE, BARE)], "refused"), "a cause without": ([gone, (SEARCHED,)], "refused"),
-        "proved without": ([gone, ("logic=proved",)], "NOT REFUSED: all is still proved with this edit and without the "
-                                                      "answers that name what it took away"),
-        "lost": ([gone, gone], "BAD EDIT: it takes away what proofs name, which says nothing of a contract: "
-                               f"{LOST[:200]}"),
-        "none": ([("logic=proved",)], "NOT REFUSED: all is still proved with this edit"),
-    }
-    for name, (said, wanted) in cases.items():
-        _, crate, read = toy(room, name, said)
-        holds(f"alone: {name}", wanted, crate.try_alone(crate.edits[0]))
-        holds(f"answers: {name}", [None, less][:len(said)], [it.get("proofs/quad/Answers.antt") for it in read])
+    for at, (said, wanted) in enumerate(SAID["alone"].items()):
+        _, crate, read = toy(room, f"alone {at}", said)
+        holds(f"alone: {said}", wanted.replace("@lost@", SAID["lost"][:200]), crate.try_alone(crate.edits[0]))
+        holds(f"answers: {said}", [None, less][:len(read)], [it.get("proofs/quad/Answers.antt") for it in read])
+        holds(f"checks: {said}", said.count(",") + 1, len(read))
 
 
 def try_groups(room):
     """Of a check of two edits each has its own verdict; a lost name leaves it open."""
-    of_double = (OTHER, "fn toy::double: no proof: expected answers")
-    for name, said, wanted in (("both", (FALSE, BARE, *of_double), [True, True]),
-                               ("one", (LOST, BARE, *of_double), [None, True])):
-        _, crate, _ = toy(room, f"group of {name}", [said])
-        holds(f"together: {name}", wanted, [*crate.refused(crate.edits, crate.check(crate.edits)).values()])
+    for at, (said, wanted) in enumerate(SAID["together"].items()):
+        _, crate, _ = toy(room, f"together {at}", said)
+        found = crate.refused(crate.edits, crate.check(crate.edits)).values()
+        holds(f"together: {said}", wanted, " ".join("refused" if it else "unknown" for it in found))

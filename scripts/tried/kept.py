@@ -99,16 +99,12 @@ def try_folders_of_before(room):
     """A folder of earlier versions, which has no check sums, is gone on with, and told."""
     folder, told = room / "kept", "budget,mode,round,took\n1,precise-newest,never,never\n"
     (folder / "program").unlink()
-    before = times_of(folder)
-    holds("only its program is unknown", (0, "1 runs in kept\n", NO_PROGRAM, before),
-          (*run(room, "gossip_sweep", *SWEEP, text=APART), times_of(folder)))
-    gives(room, told, "gossip_read level 1 0 kept")
-    for it in folder.glob("*.sum"):
-        it.unlink()
-    before = times_of(folder)
-    holds("it is gone on with", (0, "1 runs in kept\n", OF_BEFORE, before),
-          (*run(room, "gossip_sweep", *SWEEP, text=APART), times_of(folder)))
-    holds("it is read, and told", (0, told, f"gossip_read: {NO_SUM}"), run(room, "gossip_read level 1 0 kept"))
+    for said, read in ((NO_PROGRAM, ""), (OF_BEFORE, f"gossip_read: {NO_SUM}")):
+        before = times_of(folder)
+        holds(f"it is gone on with: {said}", (0, "1 runs in kept\n", said, before),
+              (*run(room, "gossip_sweep", *SWEEP, text=APART), times_of(folder)))
+        holds(f"it is read, and told: {read}", (0, told, read), run(room, "gossip_read level 1 0 kept"))
+        (folder / f"{NAME}.sum").unlink(missing_ok=True)
     holds("runs that are new have theirs",
           ((0, "2 runs in kept\n", OF_BEFORE), ["budget-2.mode-precise-newest.sum"], False),
           (run(room, "gossip_sweep", *MORE, text=APART), [it.name for it in folder.glob("*.sum")],

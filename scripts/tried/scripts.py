@@ -1,6 +1,6 @@
 """Trials of what all scripts share: their words, that they can be imported, the parts of scripts/gate, and of pages."""
 from installed import Missing
-from pages import PAGES, in_package, without_marks
+from pages import without_marks
 from parts import Part, Parts, outcome_of
 from toolchain import imported
 from tried.calls import run, written
@@ -20,23 +20,16 @@ MARKED = {
 WRONG_MARKS = ("A<!--clone--> b.", "A b<!--/clone-->.", "A<!--clone:other--> b<!--/clone-->.")
 
 
-def python_scripts():
-    files = [it for it in sorted(SCRIPTS.iterdir()) if it.is_file() and not it.suffix]
-    return [it for it in files if it.read_text().startswith("#!/usr/bin/env python3\n")]
-
-
 def try_words(room):
-    holds("there are scripts", True, len(python_scripts()) > 15)
-    for script in python_scripts():
-        holds(f"{script.name} --help", (0, Text(script.name), ""), run(room, script, "--help"))
-        holds(f"{script.name} --walk", (2, "", Text(f"{script.name}: ", lines=1)),
-              run(room, script, "--walk", "about", "there"))
-
-
-def try_imports(_):
-    """To import a script does nothing: it has a function for all that it does."""
-    for script in python_scripts():
-        holds(f"{script.name} is imported", True, callable(imported(script).main))
+    """Each script has help and refuses other words, and to import it does nothing."""
+    files = [it for it in sorted(SCRIPTS.iterdir()) if it.is_file() and not it.suffix]
+    scripts = [it for it in files if it.read_text().startswith("#!/usr/bin/env python3\n")]
+    holds("there are scripts", True, len(scripts) > 15)
+    for script in scripts:
+        name = script.name
+        holds(f"{name} --help", (0, Text(name), ""), run(room, script, "--help"))
+        holds(f"{name} --walk", (2, "", Text(f"{name}: ", lines=1)), run(room, script, "--walk", "about", "there"))
+        holds(f"{name} is imported", str(script), imported(script).__file__)
 
 
 def try_parts(room):
@@ -58,7 +51,3 @@ def try_marks(_):
             holds(text, "a refusal", without_marks(text, "docs/model.md"))
         except Missing as why:
             holds(text, True, "docs/model.md has " in str(why))
-    for page in PAGES:
-        text = (TOP / page).read_text()
-        other = text.replace("`scripts/", "`scripts/another/")
-        holds(f"{page} with other sentences", in_package(text, page), in_package(other, page))

@@ -28,7 +28,6 @@ def try_building(room):
     holds("no toolchain and no program", (3, "", Text("", "rt of the Rattle toolchain", lines=1)),
           Toy(room / "unbuilt").call("gossip_bench", "run", with_rt=False))
     toy = built(room / "built")
-    starts("a second call", toy, "check", with_rt=False)
     toy.source("low").touch()
     starts("a source with another time", toy, "check", with_rt=False)
     toy.add("low", "pub fn more()")

@@ -53,9 +53,9 @@ class Toy:
             note.unlink()
         return names
 
-    def call_and_hear(self, name, *words, with_rt=True, **how):
-        how = {"room": self.top, "text": "", "PATH": self.path if with_rt else str(self.bare), **how}
-        return run(how.pop("room"), self.top / name, *words, **how)
+    def call_and_hear(self, name, *words, with_rt=True, room=None, **how):
+        how = {"text": "", "PATH": self.path if with_rt else str(self.bare), **how}
+        return run(room or self.top, self.top / name, *words, **how)
 
     def call(self, name, *words, **how):
         """The same without lines of progress."""

@@ -5,31 +5,8 @@ from fractions import Fraction
 from gossip_tools import rules, scenario
 from gossip_tools.commands import Refused, refuse_if
 from gossip_tools.scenario import limited
-from gossip_tools.words import Tool, Word, values_of
+from gossip_tools.words import TEXTS, values_of
 
-TEXTS = {"mode": scenario.MODES, "count": ("bytes", "entries"), "shared": ("yes", "no"), "forget": ("yes", "no")}
-ENTRY = Word("entry", "the bytes of a mean entry: key, version and value", ())
-LOSS = Word("loss", "how many messages of a hundred are lost, 0 where it isn't given", ())
-TOOL = Tool(
-    ("gossip_scenario nodes=N keys=N writes=N entry=BYTES packet=BYTES [NAME=VALUE ..] > mine.toml",),
-    ("Prints a scenario from the numbers of a cluster, with what it leaves out in front.",
-     (Word("nodes", "from 2 to 4096; of a larger cluster take a tenth of the nodes and of the packet", ()),
-      Word("keys", "the things that a node tells of itself, from 1 to 64", ()),
-      Word("writes", "how many of them change in an interval, from 0 to 8", ()),
-      ENTRY,
-      Word("packet", """the bytes of a packet, less what else is in it, such as headers: what a delta may take, and
-           where digest and delta share a packet, both together. `delta` is another name of it""", ()),
-      Word("digest", """the bytes that the digest has for each node (in a precise mode for each key), where it shares
-           the packet with the delta: what names the node, its generation and its version, as sent; 0 where it
-           doesn't""", ()),
-      LOSS,
-      Word("count", """`entries`, a scenario of format 1 for entries of about one size, or `bytes`, one of format 2.
-           Where it isn't given entries, and bytes where a delta has room for fewer than fifty""", TEXTS["count"]),
-      Word("fanout", """how many peers a node calls in an interval, 1 where it isn't given. Each call is a round of its
-           own then, so divide `greatest` by it; only the first round of an interval has writes""", ()),
-      Word("mode", "the sending order, `scuttle-depth` where it isn't given", TEXTS["mode"]),
-      Word("rounds", "how many, 60 for each call of an interval where it isn't given", ()),
-      Word("seed", "1 where it isn't given", ()))))
 DECIMALS = ("entry", "loss", "interval", "hours", "target")
 BYTES = ("entry", "packet", "digest")
 USUAL = {"digest": "0", "loss": "0", "fanout": "1", "rounds": None, "seed": "1", "mode": scenario.USUAL_MODE,

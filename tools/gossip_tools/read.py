@@ -6,21 +6,7 @@ import tomllib
 
 from gossip_tools import files, scenario
 from gossip_tools.commands import Refused, folder_of, number, refuse_if, shown
-from gossip_tools.words import Tool, Word
 
-TOOL = Tool(
-    tuple(f"gossip_read {it} [FOLDER] [--seeds] [--partial]"
-          for it in ("window FROM TO", "level FROM LEVEL", "leftover FROM LEVEL")),
-    ("""Prints a line for each run of the folder that gossip_sweep filled, `runs` where none is named (-o FOLDER names
-     one too). With --seeds the runs that differ in their seed alone have one line, and each column goes from its least
-     to its most over the seeds. Where a run has no whole report, it says which and ends with status 2; with --partial
-     it says so and goes on with the others.""",
-     (Word("window", """what was cut in the rounds FROM to TO, in per cent of all that was lacking, and the least and
-           the most of `greatest` and of `stale` there, and of `leftover` in format 2"""),
-      Word("level", """the first round from FROM on in which `greatest` is at most LEVEL, and how many rounds it took,
-           FROM among them; or `never`"""),
-      Word("leftover", "the same of `leftover`, which format 2 alone has"))),
-    ("-o FOLDER", "--seeds", "--partial"))
 OF_FORMAT_1 = ["round", "exchanges", "unreached", "lost", "entries", "cut", "stale", "greatest"]
 COLUMNS = {1: OF_FORMAT_1, 2: [*OF_FORMAT_1, "leftover"]}  # by the format
 

@@ -28,7 +28,7 @@ class Sentence(string.Formatter):
 def speaker(part):
     """Says the sentences that a part of said.toml has, by their names: of something, as `it`, and of further values.
     The lines of a sentence are one."""
-    def say(name, it=None, **values):
+    def say(name, it=None, /, **values):
         text = re.sub(r"\s*\n\s*", " ", table_of("said.toml")[part][name])
         return Sentence().format(text, it=it, **values)
 

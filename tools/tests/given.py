@@ -1,4 +1,7 @@
 """What tests are given: clusters by their words, and figures for which nothing was run."""
+import pathlib
+import tomllib
+
 from gossip_tools import advise, choice, cluster, study
 from gossip_tools.commands import Refused
 from gossip_tools.read import NotWhole
@@ -67,3 +70,11 @@ def table(function, outcomes):
         self.assertEqual(outcomes, found)
 
     return test
+
+
+def cases_of(name):
+    """The cases of a table, by name. One that has `each` stands for several, which have in common what else it has."""
+    tables = tomllib.loads(pathlib.Path(__file__).with_name(name).read_text("utf-8"))
+    for case, it in tables.items():
+        for at, one in enumerate(it.pop("each", [{}]), 1):
+            yield f"{case} {at}", it | one

@@ -1,58 +1,12 @@
-"""From figures to a decision and its words, by hand: the cases of decided.toml, and what those can't say."""
+"""From figures to a decision and its words: what the cases of decided.toml can't say, by hand."""
 import pathlib
 import unittest
 
 from gossip_tools import advise, answer, choice, measures
-from gossip_tools.scenario import MODES
-from given import (
-    BREADTH, DEPTH, NEWEST, OLDEST, ROOMY, SOME, Figures, bound, cases_of, decided, of, of_depth, table,
-)
-
-# What is given in a case, beside the figures of each mode by its last word; the other names are of what comes of it.
-GIVEN = {"cluster", "all", "rising", "stage", "against", "bounds", "floor", *(it.partition("-")[2] for it in MODES)}
-# The lines of which a case has some.
-PARTS = {"lines": lambda it: answer.in_words(it, None), "first": answer.first_words, "left": answer.left_out,
-         "warns": answer.warnings}
-
-
-def decision_of(case):
-    it = of(case["cluster"])
-    modes = {"all": it.fits} | {mode.partition("-")[2]: [mode] for mode in MODES}
-    figures = {(int(budget), mode): seeds for word in modes for mode in modes[word]
-               for budget, seeds in case.get(word, {}).items()}
-    rising = [(budget, mode) for word, budgets in case.get("rising", {}).items() for mode in modes[word]
-              for budget in budgets]
-    found = choice.Decision(it, Figures(figures, rising), case.get("stage", "many"), case.get("against", ()))
-    found.floor = case.get("floor")
-    if "bounds" in case:
-        bound(found, {int(budget): seeds for budget, seeds in case["bounds"].items()})
-    return found
-
-
-def value_of(decision, name):
-    """What a decision has, or answers, by that name; else what answer.py says of it."""
-    found = getattr(decision, name) if hasattr(decision, name) else getattr(answer, name)(decision)
-    found = found() if callable(found) else found
-    return list(found) if isinstance(found, dict) else found
-
-
-def told(decision, name, wanted):
-    if name in PARTS:
-        return [it for it in wanted if it in PARTS[name](decision)]
-    if name == "none":
-        return [it for it in wanted if not any(it in line for line in answer.in_words(decision, None))]
-    if name == "nothing":
-        return [it for it in wanted if not value_of(decision, it)]
-    return value_of(decision, name)
+from given import BREADTH, DEPTH, NEWEST, OLDEST, ROOMY, SOME, Figures, bound, decided, of, of_depth, table
 
 
 class Decided(unittest.TestCase):
-    def test_cases(self):
-        for name, case in cases_of("decided.toml"):
-            decision, wanted = decision_of(case), {it: case[it] for it in case.keys() - GIVEN}
-            with self.subTest(name):
-                self.assertEqual(wanted, {it: told(decision, it, wanted[it]) for it in wanted})
-
     def test_what_further_seeds_may_choose(self):
         """Six seeds of the 1000 entries that fit: precise-oldest is better under one, so it may be under 15 of 20;
         precise-newest under none, and scuttle-breadth is worse under three. Where scuttle-depth isn't level those that

@@ -2,7 +2,7 @@
 import unittest
 
 import given
-from gossip_tools import advise, choice, rules, target
+from gossip_tools import advise, rules, target
 from given import BREADTH, DEPTH, NEWEST, OLDEST, of, table
 
 # What a budget is divided into: so many rounds the worst staleness then has, rounded up.
@@ -180,22 +180,3 @@ class Told(unittest.TestCase):
                           "stale copies have caught up"), ages.told(100, DEPTH)[1])
         self.assertTrue(target.Met(search, is_met, ages).of_mode_in_words(DEPTH).endswith("half of them by more than 8 "
                                                                                           "rounds"))
-
-    def test_a_packet(self):
-        """399 entries fit, of which 100 are taken, which the 200 aren't better than: 9 to 10 rounds under the seeds
-        that bound, and with 200 entries, twice nodes * writes, 8 to 9; with 100 one of the two has more than 9."""
-        bounds = {100: [9, 10], 200: [8, 9]}
-        cases = {10: f"met: {RUNS} (1 h) the worst staleness is within 10 s, or 10 rounds",
-                 9: f"met with all that fits alone, 200 entries (2 times nodes * writes): {RUNS} (1 h) the worst "
-                    "staleness is within 9 s, or 9 rounds",
-                 8: "not met: the worst staleness is above 8 s, or 8 rounds in 2 of 2 runs of 3600 rounds (1 h). "
-                    "Without packet= the smallest that keeps to it is looked for"}
-        for seconds, said in cases.items():
-            words = f"nodes=100 keys=4 writes=1 entry=40 packet=15960 target={seconds}"
-            decision = given.bound(given.decided(words, {100: [9, 9]}, {200: [9, 9]}), bounds)
-            found = decision.bound.found
-            decision.bound_of_most = choice.Bound(decision.study, "many-bound", found, (200, DEPTH))
-            self.assertEqual(("target", said), target.judged(decision))
-        # (all that fits doesn't count where it isn't level)
-        found.rising, decision.study.target = [200], 9
-        self.assertTrue(target.judged(decision)[1].startswith("not met: the worst staleness is above "))

@@ -12,8 +12,8 @@ import sys
 # Of each tool the module and the function that carries it out.
 TOOLS = {
     "gossip_advise": ("advise", "main"), "gossip_apart": ("sections", "apart"), "gossip_live": ("live", "main"),
-    "gossip_read": ("read", "main"), "gossip_restarts": ("sections", "restarts"), "gossip_scenario": ("cluster", "main"),
-    "gossip_sweep": ("sweep", "main"),
+    "gossip_read": ("read", "main"), "gossip_restarts": ("sections", "restarts"),
+    "gossip_scenario": ("cluster", "main"), "gossip_sweep": ("sweep", "main"),
 }
 
 

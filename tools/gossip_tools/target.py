@@ -9,7 +9,7 @@ target isn't taken for what is usual.
 import math
 
 from gossip_tools import answer, choice, cluster, rules, study
-from gossip_tools.measures import briefly, in_rounds, lasting, rows, sentences, span
+from gossip_tools.measures import briefly, in_rounds, lasting, rows, span
 from gossip_tools.texts import speaker
 
 # Budgets aren't halved any further where the next smaller one that was run is an entry or less than a hundredth below.

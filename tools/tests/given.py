@@ -2,7 +2,7 @@
 import pathlib
 import tomllib
 
-from gossip_tools import advise, choice, cluster, study
+from gossip_tools import advise, answer, choice, cluster, study
 from gossip_tools.commands import Refused
 from gossip_tools.read import NotWhole
 
@@ -72,9 +72,20 @@ def table(function, outcomes):
     return test
 
 
+def table_of(name):
+    return tomllib.loads(pathlib.Path(__file__).with_name(name).read_text("utf-8"))
+
+
 def cases_of(name):
     """The cases of a table, by name. One that has `each` stands for several, which have in common what else it has."""
-    tables = tomllib.loads(pathlib.Path(__file__).with_name(name).read_text("utf-8"))
-    for case, it in tables.items():
+    for case, it in table_of(name).items():
         for at, one in enumerate(it.pop("each", [{}]), 1):
             yield f"{case} {at}", it | one
+
+
+def value_of(it, name, *arguments):
+    """What something has, or answers, by this name; else what answer.py says of it."""
+    if not hasattr(it, name):
+        return getattr(answer, name)(it)
+    found = getattr(it, name)
+    return found(*arguments) if callable(found) else found

@@ -2,8 +2,8 @@
 import pathlib
 import unittest
 
-from gossip_tools import advise, answer, choice, measures
-from given import BREADTH, DEPTH, NEWEST, OLDEST, ROOMY, SOME, Figures, bound, decided, of, of_depth, table
+from gossip_tools import advise, answer, choice
+from given import BREADTH, DEPTH, NEWEST, OLDEST, ROOMY, SOME, Figures, bound, decided, of, of_depth
 
 
 class Decided(unittest.TestCase):
@@ -99,21 +99,3 @@ class Bounded(unittest.TestCase):
         few = decided("nodes=400 keys=4 writes=2 entry=40 packet=40000", {800: [9, 9], 1000: [9, 9]}, stage="few")
         self.assertEqual("none keeps a level of at most 50 rounds in runs of 1200 rounds (20 min)",
                          bound(few, {800: [9, 9]}).no_level())
-
-
-class Words(unittest.TestCase):
-    # Three calls in 300 s are 100 s apart. What latency adds isn't known, but how to see it is.
-    test_latency = table(lambda more: answer.of_calls(of(f"{ROOMY} {more}"))[0], {
-        "interval=1000000": "Latency: right where an exchange takes much less than the interval of 1000000 s; else the "
-                            "cluster is slower, by how much `gossip_live latency=.. beside=5` shows.",
-        "interval=300 fanout=3": "Latency: right where an exchange takes much less than the 100 s between two of the 3 "
-                                 "calls of an interval, which come one after another here; else, and where a node "
-                                 "makes them all at once, the cluster is slower than these figures, by how much "
-                                 "`gossip_live latency=.. beside=5` shows."})
-
-    test_spans = table(lambda *figure: measures.in_rounds(figure), {
-        (7, 7): "7 rounds", (1, 1): "1 round", (3, 1): "1 to 3 rounds", (0, 1): "0 to 1 round"})
-
-    # 8 rounds of half a second are 4 seconds, 30 to 45 rounds of a minute as many minutes.
-    test_times = table(measures.in_time, {
-        ((8, 8), 0.5): "4 s", ((7, 8), 0.5): "3.5 to 4.0 s", ((30, 45), 60): "30 to 45 min", ((5, 6), 1): "5 to 6 s"})

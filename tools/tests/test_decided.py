@@ -4,7 +4,7 @@ import unittest
 
 from gossip_tools import answer, choice, healing, page, target
 from gossip_tools.scenario import MODES
-from given import Figures, cases_of, of
+from given import Figures, cases_of, of, value_of
 
 # What is given in a case, beside the figures of each mode by its last word; the other names are of what comes of it.
 GIVEN = {"cluster", "all", "rising", "stage", "against", "bounds", "bounds_of_most", "most_rises", "floor", "heals",
@@ -73,10 +73,7 @@ class Case:
         """What the decision has, or answers, by this name; else what is said of it."""
         if name == "judged":
             return target.judged(self.decision)[1]
-        found = getattr(self.decision, name, None)
-        if not hasattr(self.decision, name):
-            found = getattr(answer, name)(self.decision)
-        found = found() if callable(found) else found
+        found = value_of(self.decision, name)
         return list(found) if isinstance(found, dict) else found
 
     def told(self, name, wanted):

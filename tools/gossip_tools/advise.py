@@ -9,9 +9,11 @@ from gossip_tools import answer, choice, cluster, files, page, rules, running, s
 from gossip_tools.healing import Healing
 from gossip_tools.commands import Refused, folder_of, refuse_if, the_program, workers
 from gossip_tools.progress import Progress, in_words
+from gossip_tools.texts import speaker
 
 USUAL = {"digest": "0", "shared": "yes", "fanout": "1", "loss": "0", "interval": "1", "restarts": None, "forget": "no",
          "split": str(study.USUAL_SPLIT), "mode": None, "count": None, "hours": None, "target": None}
+say = speaker("advise")
 CALL = "gossip_advise nodes=1000 keys=4 writes=1 entry=40 packet=64000 digest=20 loss=1"
 
 
@@ -24,21 +26,17 @@ def numbers_of(words, file):
         except (tomllib.TOMLDecodeError, UnicodeDecodeError):
             raise Refused(f"{file} can't be read: name a new folder by -o.") from None
     if not words:
-        refuse_if(kept is None, f"nodes= is missing, and {file.parent} has no answer to be read again; {CALL} is a "
-                  "whole call.")
+        refuse_if(kept is None, say("no_numbers", folder=file.parent, call=CALL))
         words = [f"{name}={value}" for name, value in kept.items() if name != "program"]
     told = cluster.told(words, USUAL, CALL, {"packet": "target"})
     cluster.check_limits(told)
     cluster.check_fanout(told["fanout"])
-    refuse_if(not told["writes"], "writes would be 0, and then nothing has to be sent: count what changes in each "
-              "interval alone, a heartbeat for one as keys=1 and writes=1.")
-    refuse_if(told["loss"] == 100, "with loss=100 no message ever arrives, and no budget is enough: give the loss that "
-              "your network has, as loss=1.")
+    refuse_if(not told["writes"], say("no_writes"))
+    refuse_if(told["loss"] == 100, say("all_is_lost"))
     refuse_if(not told["interval"], "an interval has seconds.")
     refuse_if(told["target"] == 0, "target is in seconds, and above 0.")
     refuse_if(told["split"] > 100000, "split is a number of intervals up to 100000.")
-    refuse_if(told["restarts"] and told["restarts"] > told["nodes"], f"of {told['nodes']} nodes no {told['restarts']} "
-              "can restart at once: restarts is the size of a group.")
+    refuse_if(told["restarts"] and told["restarts"] > told["nodes"], say("too_many_restarts", **told))
     return told, kept
 
 
@@ -110,8 +108,7 @@ class Stages:
     def shorter(self, stage):
         it = self.study
         is_shorter = stage == "split" and it.split < it.told["split"]
-        said = f" (a split of {it.split} stands for {it.told['split']}, as each key is written anew in it)"
-        return said if is_shorter else ""
+        return say("shorter_split", it) if is_shorter else ""
 
     def choose(self, stage, pairs, dropped):
         """What these runs choose. What can't be chosen after the first seeds isn't run under the others."""
@@ -184,8 +181,7 @@ def look(folder):
     try:
         str(folder).encode()
     except UnicodeEncodeError:
-        raise Refused(f"the folder's name {ascii(str(folder))} isn't UTF-8, or not as this locale reads it, and an "
-                      "answer names it: name another one by -o.") from None
+        raise Refused(say("not_utf8", name=ascii(str(folder)))) from None
     refuse_if(folder.exists() and not folder.is_dir(), f"{folder} isn't a folder: name another one.")
     if folder.exists() and not (folder / "cluster.toml").exists() and {it.name for it in folder.iterdir()} - {"lock"}:
         raise Refused(f"{folder} isn't empty and has no answer: name a new folder by -o.")

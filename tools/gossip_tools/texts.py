@@ -25,11 +25,14 @@ class Sentence(string.Formatter):
         return (found() if callable(found) else found), first
 
 
+def sentence(part, name):
+    """A sentence of a part of said.toml, in one line."""
+    return re.sub(r"\s*\n\s*", " ", table_of("said.toml")[part][name])
+
+
 def speaker(part):
-    """Says the sentences that a part of said.toml has, by their names: of something, as `it`, and of further values.
-    The lines of a sentence are one."""
+    """Says the sentences of a part, by their names: of something, as `it`, and of further values."""
     def say(name, it=None, /, **values):
-        text = re.sub(r"\s*\n\s*", " ", table_of("said.toml")[part][name])
-        return Sentence().format(text, it=it, **values)
+        return Sentence().format(sentence(part, name), it=it, **values)
 
     return say

@@ -1,14 +1,14 @@
-"""The cases of decided.toml: from figures to a decision, its words and its page."""
+"""From figures to a decision, its words and its page: the cases of decided.toml, and what those can't say."""
 import pathlib
 import unittest
 
-from gossip_tools import answer, choice, healing, page, target
+from gossip_tools import advise, answer, choice, healing, page, target
 from gossip_tools.scenario import MODES
-from given import Figures, cases_of, of, value_of
+from given import BREADTH, DEPTH, NEWEST, OLDEST, ROOMY, Figures, bound, cases_of, decided, of, value_of
 
 # What is given in a case, beside the figures of each mode by its last word; the other names are of what comes of it.
-GIVEN = {"cluster", "all", "rising", "stage", "against", "bounds", "bounds_of_most", "most_rises", "floor", "heals",
-         "gone", "with_reserve", *(it.partition("-")[2] for it in MODES)}
+GIVEN = {"cluster", "all", "rising", "stage", "against", "bounds", "bounds_rise", "bounds_of_most", "most_rises",
+         "floor", "heals", "gone", "with_reserve", *(it.partition("-")[2] for it in MODES)}
 
 
 class Taken:
@@ -36,7 +36,8 @@ class Case:
         taken, most = (found.budget, found.mode), (found.most, found.mode)
         bounds = {(int(budget), found.mode): seeds for budget, seeds in given.get("bounds", {}).items()}
         if bounds:
-            found.bound = choice.Bound(it, f"{found.stage}-bound", Figures(bounds), taken)
+            of_taken = Figures(bounds, [taken] if "bounds_rise" in given else ())
+            found.bound = choice.Bound(it, f"{found.stage}-bound", of_taken, taken)
         if "bounds_of_most" in given:
             of_most = Figures({most: given["bounds_of_most"]}, [most] if "most_rises" in given else ())
             found.bound_of_most = choice.Bound(it, f"{found.stage}-bound", of_most, most)
@@ -44,8 +45,12 @@ class Case:
         stages = {stage: Taken(seeds, given.get("gone"), runs) for stage, seeds in given.get("heals", {}).items()}
         self.healing = healing.Healing(it, found.mode, stages) if stages else None
 
+    def missing(self, was_enough=False):
+        call = advise.call_with_enough(self.decision, pathlib.Path("my advice"))
+        return answer.not_run(self.decision, call, was_enough)
+
     def lines(self):
-        return answer.in_words(self.decision, self.healing)
+        return answer.in_words(self.decision, self.healing, self.missing())
 
     def first(self):
         return answer.first_words(self.decision)
@@ -70,10 +75,11 @@ class Case:
         return page.table(self.decision)
 
     def value(self, name):
-        """What the decision has, or answers, by this name; else what is said of it."""
-        if name == "judged":
-            return target.judged(self.decision)[1]
-        found = value_of(self.decision, name)
+        """What the decision or its bound has, or answers, by this name; else what is said of it."""
+        values = {"judged": lambda: target.judged(self.decision)[1], "missing": self.missing,
+                  "missing_later": lambda: self.missing(was_enough=True)}
+        bounds = not hasattr(self.decision, name) and hasattr(self.decision.bound, name)
+        found = values[name]() if name in values else value_of(self.decision.bound if bounds else self.decision, name)
         return list(found) if isinstance(found, dict) else found
 
     def told(self, name, wanted):
@@ -81,7 +87,8 @@ class Case:
             return [it for it in wanted if not any(it in line for line in self.lines())]
         if name == "nothing":
             return [it for it in wanted if not self.value(it)]
-        return [it for it in wanted if it in getattr(self, name)()] if hasattr(self, name) else self.value(name)
+        said = getattr(self, name, None) if name != "missing" else None
+        return [it for it in wanted if it in said()] if said else self.value(name)
 
 
 class Decided(unittest.TestCase):
@@ -90,3 +97,52 @@ class Decided(unittest.TestCase):
             case, wanted = Case(given), {it: given[it] for it in given.keys() - GIVEN}
             with self.subTest(name):
                 self.assertEqual(wanted, {it: case.told(it, wanted[it]) for it in wanted})
+
+    def test_what_further_seeds_may_choose(self):
+        """Six seeds of the 1000 entries that fit: precise-oldest is better under one, so it may be under 15 of 20;
+        precise-newest under none, and scuttle-breadth is worse under three. Where scuttle-depth isn't level those that
+        are may be chosen, be they worse than it, and what may yet be the best of the others."""
+        usual = {(1000, DEPTH), (600, DEPTH)}
+        worst = {(1000, DEPTH): [8] * 6, (600, DEPTH): [9] * 6, (1000, OLDEST): [7, 8, 8, 8, 8, 8],
+                 (1000, NEWEST): [8] * 5 + [9], (1000, BREADTH): [7, 7, 7, 9, 9, 9]}
+        lags = worst | {(1000, NEWEST): [9] * 6, (1000, BREADTH): [10] * 6}
+        for figures, rising, wanted in (
+                (worst, (), usual | {(1000, OLDEST)}), (worst, worst, set(worst)),
+                (lags, set(lags) - {(1000, NEWEST)}, set(lags) - {(1000, BREADTH)})):
+            self.assertEqual(wanted, decided(ROOMY, {}, figures, rising).may_be_chosen())
+
+
+class Bounded(unittest.TestCase):
+    """What bounds a decision, and what is decided where that isn't level."""
+
+    def bounded(self, *level):
+        """What is decided where the runs that bound are level in these stages, and from which of them it was."""
+        made, chose = [], {1000: [9, 9], 600: [9, 9]}
+
+        class Made:
+            @staticmethod
+            def is_level(decision):
+                rising = () if decision.stage in level else [decision.budget]
+                return bound(decision, {decision.budget: [8, 11]}, rising).bound.is_level()
+
+            @staticmethod
+            def decide_in_time(stages, pairs, decision):
+                made.append(stages[0])
+                return decided(ROOMY, chose, stage=stages[0])
+
+        first = decided(ROOMY, chose)
+        return advise.bounded_decision(first.study, Made, first), made
+
+    def test_later_stages(self):
+        """A bound that isn't level has the longer runs choose; after the longest there is none: 1800 rounds behind 400
+        show a level of up to 400."""
+        for level, later in ((("many",), []), (("longer",), ["longer"]), (("longest",), ["longer", "longest"])):
+            found, made = self.bounded(*level)
+            self.assertEqual((True, 600, later, level[0]), (found.suffices, found.budget, made, found.stage))
+            self.assertIn(" of 21 runs of 1800 rounds (30 min) no copy is older than 11 rounds, 11 s: the most of ",
+                          answer.in_words(found, None)[2])
+        found, made = self.bounded()
+        why = "none keeps a level of at most 400 rounds in runs of 1800 rounds (30 min)"
+        self.assertEqual((False, 1000, f"no budget that fits is enough: {why}"),
+                         (found.suffices, found.budget, found.headline()))
+        self.assertIn(f"  worst staleness     not known: {why}", answer.in_words(found, None))

@@ -1,4 +1,4 @@
-"""The smallest packet for a target, with figures that are given: the cases of searched.toml, and what those can't say."""
+"""The smallest packet for a target, by figures that are given: the cases of searched.toml, and what those can't say."""
 import unittest
 
 import given

@@ -4,6 +4,7 @@ import tomllib
 
 from gossip_tools import advise, answer, choice, cluster, study
 from gossip_tools.commands import Refused
+from gossip_tools.live_plan import Plan
 from gossip_tools.read import NotWhole
 
 DEPTH, BREADTH, OLDEST, NEWEST = "scuttle-depth", "scuttle-breadth", "precise-oldest", "precise-newest"
@@ -53,6 +54,14 @@ def bound(decision, depth, rising=()):
     figures, pair = Figures(of_depth(depth), rising), (decision.budget, decision.mode)
     decision.bound = choice.Bound(decision.study, f"{decision.stage}-bound", figures, pair)
     return decision
+
+
+def plan(**fields):
+    """What is to happen in a live cluster of four nodes."""
+    usual = {"format": 1, "nodes": 4, "keys": 2, "rounds": 9, "mode": "scuttle-breadth", "budget": 9, "peers": "ring",
+             "rotation": "none", "choice": "cycle", "loss_ppm": 0, "writes": 1, "partition": [], "restart": [],
+             "load": [], "interval": 1, "latency": (0, 0), "fanout": 1}
+    return Plan(**{**usual, **fields})
 
 
 def outcome(function, *words):

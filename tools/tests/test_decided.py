@@ -11,6 +11,19 @@ GIVEN = {"cluster", "all", "rising", "stage", "against", "bounds", "bounds_rise"
          "floor", "heals", "gone", "with_reserve", *(it.partition("-")[2] for it in MODES)}
 
 
+# What is said of a case, of which it has parts.
+PARTS = {
+    "lines": lambda case: answer.in_words(case.decision, case.healing, case.missing()),
+    "first": lambda case: answer.first_words(case.decision),
+    "left": lambda case: answer.left_out(case.decision),
+    "warns": lambda case: answer.warnings(case.decision),
+    "last": lambda case: answer.last_of_first_words(case.decision, pathlib.Path("mine")),
+    "cards": lambda case: page.cards(case.decision, case.healing, case.judged()),
+    "below": lambda case: page.below_the_cards(case.decision, case.healing),
+    "table": lambda case: page.table(case.decision),
+}
+
+
 class Taken:
     """Runs of which it is given how many rounds it took until something had healed, or was gone."""
 
@@ -49,46 +62,25 @@ class Case:
         call = advise.call_with_enough(self.decision, pathlib.Path("my advice"))
         return answer.not_run(self.decision, call, was_enough)
 
-    def lines(self):
-        return answer.in_words(self.decision, self.healing, self.missing())
-
-    def first(self):
-        return answer.first_words(self.decision)
-
-    def left(self):
-        return answer.left_out(self.decision)
-
-    def warns(self):
-        return answer.warnings(self.decision)
-
-    def last(self):
-        return answer.last_of_first_words(self.decision, pathlib.Path("mine"))
-
-    def cards(self):
-        judged = [target.judged(self.decision)] if self.decision.study.target else []
-        return page.cards(self.decision, self.healing, judged)
-
-    def below(self):
-        return page.below_the_cards(self.decision, self.healing)
-
-    def table(self):
-        return page.table(self.decision)
+    def judged(self):
+        return [target.judged(self.decision)] if self.decision.study.target else []
 
     def value(self, name):
         """What the decision or its bound has, or answers, by this name; else what is said of it."""
-        values = {"judged": lambda: target.judged(self.decision)[1], "missing": self.missing,
-                  "missing_later": lambda: self.missing(was_enough=True)}
+        if name.startswith("missing"):
+            return self.missing(was_enough=name == "missing_later")
+        if name == "judged":
+            return self.judged()[0][1]
         bounds = not hasattr(self.decision, name) and hasattr(self.decision.bound, name)
-        found = values[name]() if name in values else value_of(self.decision.bound if bounds else self.decision, name)
+        found = value_of(self.decision.bound if bounds else self.decision, name)
         return list(found) if isinstance(found, dict) else found
 
     def told(self, name, wanted):
         if name == "none":
-            return [it for it in wanted if not any(it in line for line in self.lines())]
+            return [it for it in wanted if not any(it in line for line in PARTS["lines"](self))]
         if name == "nothing":
             return [it for it in wanted if not self.value(it)]
-        said = getattr(self, name, None) if name != "missing" else None
-        return [it for it in wanted if it in said()] if said else self.value(name)
+        return [it for it in wanted if it in PARTS[name](self)] if name in PARTS else self.value(name)
 
 
 class Decided(unittest.TestCase):

@@ -1,10 +1,11 @@
 """The tables of tables.toml: what functions of the tools make of their arguments, by hand."""
 import unittest
 
-from gossip_tools import cluster, measures, progress, rules, scenario
-from given import of, outcome, table_of, value_of
+from gossip_tools import cluster, live, measures, progress, rules, scenario
+from given import of, outcome, plan, table_of, value_of
 
-MODULES = {"cluster": cluster, "measures": measures, "progress": progress, "rules": rules, "scenario": scenario}
+MODULES = {"cluster": cluster, "live": live, "measures": measures, "progress": progress, "rules": rules,
+           "scenario": scenario}
 
 
 def plain(value):
@@ -20,6 +21,8 @@ def found(name, first, *others):
     module, _, function = name.partition(".")
     if module == "of":
         return plain(outcome(lambda: value_of(of(first), function, *others)))
+    if module == "plan":
+        return plain(value_of(plan(**first), function, *others))
     return plain(outcome(getattr(MODULES[module], function), first, *others))
 
 

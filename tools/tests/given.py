@@ -5,12 +5,9 @@ import tomllib
 from gossip_tools import advise, answer, choice, cluster, study
 from gossip_tools.commands import Refused
 from gossip_tools.live_plan import Plan
-from gossip_tools.read import NotWhole
 
 DEPTH, BREADTH, OLDEST, NEWEST = "scuttle-depth", "scuttle-breadth", "precise-oldest", "precise-newest"
-SOME = "nodes=300 keys=4 writes=2 entry=40"
-ROOMY = f"{SOME} packet=40000"
-TENTH = "nodes=10000 keys=4 writes=1 entry=40 packet=640000 digest=20"
+ROOMY = "nodes=300 keys=4 writes=2 entry=40 packet=40000"
 
 
 def of(words):
@@ -40,13 +37,9 @@ def of_depth(figures):
     return {(budget, DEPTH): worst for budget, worst in figures.items()}
 
 
-def decided(words, depth, others=(), rising=(), stage="many"):
-    """What is decided for a cluster by its figures in scuttle-depth, by budget, and by others: with a mode, or without,
-    and then in all that fit."""
-    it, figures = of(words), {}
-    for key, worst in dict(others).items():
-        figures |= {key: worst} if isinstance(key, tuple) else {(key, mode): worst for mode in it.fits}
-    return choice.Decision(it, Figures(figures | of_depth(depth), rising), stage)
+def decided(words, depth, stage="many"):
+    """What is decided for a cluster by its figures in scuttle-depth, by budget."""
+    return choice.Decision(of(words), Figures(of_depth(depth)), stage)
 
 
 def bound(decision, depth, rising=()):
@@ -68,7 +61,7 @@ def outcome(function, *words):
     """What a call answers, or with which words it refuses."""
     try:
         return function(*words)
-    except (Refused, NotWhole) as why:
+    except Refused as why:
         return str(why)
 
 
@@ -98,3 +91,14 @@ def value_of(it, name, *arguments):
         return getattr(answer, name)(it)
     found = getattr(it, name)
     return found(*arguments) if callable(found) else found
+
+
+def plain(value):
+    """A value as a table has it."""
+    if value is None:
+        return "none"
+    if isinstance(value, dict):
+        return {name: plain(it) for name, it in value.items()}
+    if isinstance(value, (set, frozenset)):
+        return sorted(map(plain, value))
+    return list(map(plain, value)) if isinstance(value, (list, tuple, range)) else value

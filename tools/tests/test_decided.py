@@ -4,7 +4,7 @@ import unittest
 
 from gossip_tools import advise, answer, choice, healing, page, target
 from gossip_tools.scenario import MODES
-from given import BREADTH, DEPTH, NEWEST, OLDEST, ROOMY, Figures, bound, cases_of, decided, of, value_of
+from given import ROOMY, Figures, bound, cases_of, decided, of, plain, value_of
 
 # What is given in a case, beside the figures of each mode by its last word; the other names are of what comes of it.
 GIVEN = {"cluster", "all", "rising", "stage", "against", "bounds", "bounds_rise", "bounds_of_most", "most_rises",
@@ -73,13 +73,13 @@ class Case:
             return self.judged()[0][1]
         bounds = not hasattr(self.decision, name) and hasattr(self.decision.bound, name)
         found = value_of(self.decision.bound if bounds else self.decision, name)
-        return list(found) if isinstance(found, dict) else found
+        return list(found) if isinstance(found, dict) else plain(found)
 
     def told(self, name, wanted):
         if name == "none":
             return [it for it in wanted if not any(it in line for line in PARTS["lines"](self))]
         if name == "nothing":
-            return [it for it in wanted if not self.value(it)]
+            return [it for it in wanted if self.value(it) in ("", "none", [])]
         return [it for it in wanted if it in PARTS[name](self)] if name in PARTS else self.value(name)
 
 
@@ -89,19 +89,6 @@ class Decided(unittest.TestCase):
             case, wanted = Case(given), {it: given[it] for it in given.keys() - GIVEN}
             with self.subTest(name):
                 self.assertEqual(wanted, {it: case.told(it, wanted[it]) for it in wanted})
-
-    def test_what_further_seeds_may_choose(self):
-        """Six seeds of the 1000 entries that fit: precise-oldest is better under one, so it may be under 15 of 20;
-        precise-newest under none, and scuttle-breadth is worse under three. Where scuttle-depth isn't level those that
-        are may be chosen, be they worse than it, and what may yet be the best of the others."""
-        usual = {(1000, DEPTH), (600, DEPTH)}
-        worst = {(1000, DEPTH): [8] * 6, (600, DEPTH): [9] * 6, (1000, OLDEST): [7, 8, 8, 8, 8, 8],
-                 (1000, NEWEST): [8] * 5 + [9], (1000, BREADTH): [7, 7, 7, 9, 9, 9]}
-        lags = worst | {(1000, NEWEST): [9] * 6, (1000, BREADTH): [10] * 6}
-        for figures, rising, wanted in (
-                (worst, (), usual | {(1000, OLDEST)}), (worst, worst, set(worst)),
-                (lags, set(lags) - {(1000, NEWEST)}, set(lags) - {(1000, BREADTH)})):
-            self.assertEqual(wanted, decided(ROOMY, {}, figures, rising).may_be_chosen())
 
 
 class Bounded(unittest.TestCase):

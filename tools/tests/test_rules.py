@@ -3,17 +3,10 @@ import pathlib
 import unittest
 
 from gossip_tools import rules
-from given import BREADTH, DEPTH, OLDEST, table
+from given import table
 
 # What docs/study.md has of five seeds, in "The mode, or the seed's accident?", as the most of `greatest`.
-DEPTH_AT_50, OLDEST_AT_50 = [20, 18, 19, 18, 21], [35, 59, 43, 47, 50]
-DEPTH_AT_100, OLDEST_AT_100 = [8, 7, 7, 7, 8], [9, 7, 8, 8, 9]
-DEPTH_AT_200 = [7, 6, 7, 7, 6]
-
-
-def alike(less, more, seeds):
-    """Two figures of so many seeds, of which the one has less under the first ones, then more, then the same."""
-    return [1] * less + [3] * more + [2] * (seeds - less - more), [2] * seeds
+DEPTH_AT_50, DEPTH_AT_100, DEPTH_AT_200 = [20, 18, 19, 18, 21], [8, 7, 7, 7, 8], [7, 6, 7, 7, 6]
 
 
 class Better(unittest.TestCase):
@@ -30,41 +23,6 @@ class Better(unittest.TestCase):
 
     def test_in_most(self):
         self.assertEqual("in 20 of 21", rules.IN_MOST)
-
-    # "Better where at least 15 of 20 seeds say so and not more than 2 the other way": of six seeds these parts are 4.5
-    # and 0.6, so five and none.
-    OF_SEEDS = {(15, 2, 20): True, (14, 2, 20): False, (14, 0, 20): False, (15, 3, 20): False, (17, 3, 20): False,
-                (20, 0, 20): True, (0, 0, 20): False, (5, 0, 6): True, (4, 0, 6): False, (5, 1, 6): False}
-    test_is_better = table(lambda *it: rules.is_better(*alike(*it)), OF_SEEDS)
-    test_are_close = table(lambda *it: rules.are_close(*alike(*it)), {it: not found for it, found in OF_SEEDS.items()})
-
-    # 14 of 20 are still to come: with one of six that says so they may be 15, with none 14. Three that say the other
-    # way are too many, whatever comes.
-    test_what_six_seeds_settle = table(lambda *it: rules.may_get_better(*alike(*it)), {
-        (1, 0, 6): True, (0, 0, 6): False, (1, 2, 6): True, (3, 3, 6): False, (0, 2, 6): False, (15, 2, 20): True,
-        (14, 2, 20): False})
-
-    def test_five_seeds(self):
-        """With 50 and with 100 depth has less than the other under four of five seeds or all, which is three quarters.
-        By docs/study.md it has 7, 6, 7, 7 and 6 with 200: less under three of five than with 100."""
-        self.assertTrue(rules.is_better(DEPTH_AT_50, OLDEST_AT_50))
-        self.assertTrue(rules.is_better(DEPTH_AT_100, OLDEST_AT_100))
-        self.assertTrue(rules.are_close(DEPTH_AT_100, DEPTH_AT_200))
-
-
-class NoneIsLevel(unittest.TestCase):
-    """Up to round 200 `greatest` is at most 200, and 180 is nine tenths of that."""
-
-    def test_ahead_and_contenders(self):
-        """One that may yet get as high as it likes isn't ahead, be it below the others under each seed or not; nor is
-        one that has as much as another under one of two."""
-        for figures, ahead, contenders in (
-                ({DEPTH: [150, 170], BREADTH: [171, 196], OLDEST: [200, 200]}, DEPTH, {DEPTH}),
-                ({DEPTH: [150, 170], BREADTH: [150, 196], OLDEST: [200, 200]}, None, {DEPTH, BREADTH}),
-                ({DEPTH: [190, 195], BREADTH: [200, 200], OLDEST: [200, 200]}, None, {DEPTH, BREADTH, OLDEST}),
-                ({DEPTH: [190, 195], BREADTH: [200, 200]}, None, {DEPTH, BREADTH}),
-                ({DEPTH: [150, 170]}, None, {DEPTH})):
-            self.assertEqual((ahead, contenders), (rules.ahead(figures, 200), set(rules.contenders(figures, 200))))
 
 
 class Enough(unittest.TestCase):

@@ -72,8 +72,6 @@ class Healing(unittest.TestCase):
     test_what_is_told_of_it = table(lambda more: advise.Stages(of(f"{ROOMY} {more}"), None, None).shorter("split"), {
         "split=600": " (a split of 100 stands for 600, as each key is written anew in it)", "": ""})
 
-    # Beside several groups one alone, where nodes forget as they do there. 150 of 300 nodes are the one group.
-
     def test_one_group_alone(self):
         it = of(f"{ROOMY} restarts=5 forget=yes")
         self.assertEqual([("split",), ("forgotten", "forgotten-one")],

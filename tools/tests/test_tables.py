@@ -2,19 +2,15 @@
 import unittest
 
 from gossip_tools import cluster, live, measures, progress, rules, scenario
-from given import of, outcome, plan, table_of, value_of
+from given import of, outcome, plain, plan, table_of, value_of
 
 MODULES = {"cluster": cluster, "live": live, "measures": measures, "progress": progress, "rules": rules,
            "scenario": scenario}
 
 
-def plain(value):
-    """A value as a table has it."""
-    if isinstance(value, dict):
-        return {name: plain(it) for name, it in value.items()}
-    if isinstance(value, (set, frozenset)):
-        return sorted(map(plain, value))
-    return list(map(plain, value)) if isinstance(value, (list, tuple, range)) else value
+def alike(less, more, seeds):
+    """Two figures of so many seeds, of which the one has less under the first ones, then more, then the same."""
+    return [1] * less + [3] * more + [2] * (seeds - less - more), [2] * seeds
 
 
 def found(name, first, *others):
@@ -23,6 +19,8 @@ def found(name, first, *others):
         return plain(outcome(lambda: value_of(of(first), function, *others)))
     if module == "plan":
         return plain(value_of(plan(**first), function, *others))
+    if module == "alike":
+        return getattr(rules, function)(*alike(*first))
     return plain(outcome(getattr(MODULES[module], function), first, *others))
 
 

@@ -80,6 +80,8 @@ class Case:
             return [it for it in wanted if not any(it in line for line in PARTS["lines"](self))]
         if name == "nothing":
             return [it for it in wanted if self.value(it) in ("", "none", [])]
+        if name.endswith("_lacks"):
+            return [it for it in wanted if it not in PARTS[name.removesuffix("_lacks")](self)]
         return [it for it in wanted if it in PARTS[name](self)] if name in PARTS else self.value(name)
 
 

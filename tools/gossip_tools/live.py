@@ -9,11 +9,13 @@ from gossip_tools import cluster, live_worker, read, running, scenario, sweep
 from gossip_tools.commands import Refused, number, refuse_if, shown, the_program
 from gossip_tools.live_figures import Figures
 from gossip_tools.live_plan import LARGEST, Plan
+from gossip_tools.texts import speaker
 from gossip_tools.words import values_of
 
 USUAL = {"interval": "1", "latency": "0", "fanout": "1", "beside": None, "window": "10"}
 MOST = {"interval": 3600, "latency": 100, "fanout": 4095, "beside": 100, "window": 100000}
 LEAST_INTERVAL = 0.01
+say = speaker("live")
 # The columns of the bench that a live cluster lacks, behind that of the round.
 LACKING = ("exchanges", "unreached", "lost")
 WORTHLESS = 4  # the status
@@ -42,16 +44,15 @@ def plan_of(text, asked):
     top["budget"] = top.pop("budget_bytes", top.get("budget"))
     del top["seed"]
     plan = Plan(**top, **{name: asked[name] for name in ("interval", "latency", "fanout")})
-    refuse_if(plan.fanout >= plan.nodes, f"a node has {plan.nodes - 1} others to call, and fanout is {plan.fanout}.")
-    refuse_if((largest := plan.largest_message()) > LARGEST, f"a digest and a delta may take {largest} bytes, and a "
-              f"datagram takes {LARGEST}: take fewer nodes or keys, a smaller budget, or a scuttle mode.")
+    refuse_if(plan.fanout >= plan.nodes, say("too_few_others", plan, others=plan.nodes - 1))
+    refuse_if(plan.largest_message() > LARGEST, say("too_large", plan, largest=LARGEST))
     return plan
 
 
 def stretched(top, fanout):
     """The text of a scenario in which each interval is as many rounds as a node has calls. Writes are in the first."""
-    refuse_if((loads := len(top.get("load", [])) + top["rounds"]) > scenario.MOST_SECTIONS, "beside the bench a fanout "
-              f"needs {loads} loads, and a scenario takes {scenario.MOST_SECTIONS}: take fewer rounds.")
+    loads, most = len(top.get("load", [])) + top["rounds"], scenario.MOST_SECTIONS
+    refuse_if(loads > most, say("too_many_loads", loads=loads, most=most))
 
     def stretch(fields):
         """What begins does so in the first round of an interval, and what ends in the last."""
@@ -83,8 +84,8 @@ def reports(runs, program, fanout):
     for name, text in runs.items():
         top = read.settings(text)
         answer = subprocess.run([program, "run"], input=text.encode(), capture_output=True)
-        refuse_if(answer.returncode, f"{name}: the program ended with status {answer.returncode}: "
-                  f"{answer.stderr.decode(errors='replace').strip()}", 1)
+        refuse_if(answer.returncode, say("bench_failed", label=name, status=answer.returncode,
+                                         told=answer.stderr.decode(errors="replace").strip()), 1)
         try:
             rows = read.rows_of(answer.stdout, top["format"], top["rounds"])
         except read.NotWhole as lacks:

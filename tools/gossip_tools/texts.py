@@ -1,4 +1,4 @@
-"""The texts beside the modules: words.toml, said.toml with what answers and pages say, page.css and page.html."""
+"""The texts beside the modules: words.toml, said.toml with what is said, page.css, page.html and picture.gnuplot."""
 import functools
 import pathlib
 import re

@@ -57,7 +57,7 @@ def tools():
 
 
 def beside(program):
-    modules = {it.relative_to(TOOLS).as_posix(): it for it in sorted(TOOLS.glob("gossip_tools/*.py"))}
+    modules = {it.relative_to(TOOLS).as_posix(): it for it in sorted(TOOLS.glob("gossip_tools/*.*"))}
     return {PROGRAM: program, **commands(), **modules}
 
 

@@ -7,7 +7,7 @@ import signal
 import statistics
 from concurrent.futures import ThreadPoolExecutor
 
-from tried.calls import fails, is_running, program_that, refuses, run, started, stopped, waits_for
+from tried.calls import fails, is_running, program_that, refuse, refuses, run, started, stopped, waits_for
 from trials import PROGRAM, Text, holds
 from gossip_tools import live
 from gossip_tools.live_figures import Figures
@@ -105,9 +105,8 @@ def children(pid):
 
 
 def try_words(room):
-    for word, why in (("seed=1", "isn't one of interval"), ("latency=0.2,0.1", "the least first"),
-                      ("interval=0", "at least 0.01"), ("fanout=16", "15 others"), ("beside=0", "from 1 to 100")):
-        refuses(room, why, "gossip_live", word, text=CLUSTER)
+    refuse(room, "gossip_live")
+    refuses(room, "15 others", "gossip_live", "fanout=16", text=CLUSTER)
     large = CLUSTER.replace("nodes = 16", "nodes = 4000")
     # (19 bytes, 4000 numbers of 12, 16 entries of 24)
     refuses(room, "may take 72019 bytes", "gossip_live", text=large.replace("budget = 16", "budget = 1000"))

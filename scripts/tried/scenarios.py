@@ -1,45 +1,19 @@
 """Trials of gossip_scenario."""
+import tomllib
+
 from tried.calls import refuse, run
-from trials import PROGRAM, holds
+from trials import PROGRAM, holds, text_of
 
-BUT_NODES = "keys=4 writes=1 entry=40"
-CLUSTER = f"nodes=1000 {BUT_NODES}"
-SHARED = f"{CLUSTER} packet=64000 digest=20"
+SHARED = "nodes=1000 keys=4 writes=1 entry=40 packet=64000 digest=20"
 MEAN = "nodes=1000 keys=4 writes=1 entry=40.5 packet=60750"
-IN_BYTES = {
-    "format": "2", "nodes": "1000", "keys": "4", "rounds": "60", "seed": "1", "mode": '"scuttle-depth"',
-    "budget_bytes": "785250", "peers": '"random"', "rotation": '"random"', "choice": '"random"', "loss_ppm": "0",
-    "writes": "1",
-}
-IN_ENTRIES = {name: it for name, it in IN_BYTES.items() if name != "budget_bytes"} | {
-    "format": "1", "budget": "1100", "choice": '"cycle"'}
-# The fields of the scenario that comes of these numbers: 60000 / 40 * 523.5, and 60750 / 40.5 = 1500 as well; a digest
-# leaves 44000 / 40 = 1100 entries, * 523.5 = 575850; a precise one has a number for each key, 1000 * 4 * 5 = 20000.
-FIELDS = {
-    f"{CLUSTER} packet=60000 count=bytes": IN_BYTES, f"{MEAN} count=bytes": IN_BYTES,
-    f"{MEAN} count=entries": IN_ENTRIES | {"budget": "1500"},
-    f"{SHARED} count=bytes": IN_BYTES | {"budget_bytes": "575850"},
-    f"{SHARED} loss=0.5 rounds=9 seed=7 mode=scuttle-breadth": IN_ENTRIES | {
-        "rounds": "9", "seed": "7", "mode": '"scuttle-breadth"', "loss_ppm": "5000"},
-    f"{CLUSTER} packet=64000 digest=5 mode=precise-oldest": IN_ENTRIES | {"mode": '"precise-oldest"'},
-}
-# What is counted: bytes where a delta has room for fewer than fifty entries, 49.975, and the 49 that a digest leaves.
-COUNTED = {"packet=2000": "budget", "packet=1999": "budget_bytes", "packet=21999 digest=20": "budget_bytes",
-           "packet=22000 digest=20": "budget"}
-
-
-def fields(room, words):
-    status, out, err = run(room, "gossip_scenario", *words.split())
-    holds(f"gossip_scenario {words}", (0, ""), (status, err))
-    return dict(it.split(" = ") for it in out.splitlines() if not it.startswith("#"))
 
 
 def try_fields(room):
-    for words, wanted in FIELDS.items():
-        holds(words, wanted, fields(room, words))
-    for words, count in COUNTED.items():
-        holds(f"what is counted with {words}", {count}, {"budget", "budget_bytes"} & fields(
-            room, f"{CLUSTER} {words}").keys())
+    tables = tomllib.loads(text_of("scenarios.toml"))
+    for case in tables["cases"]:
+        words = case.pop("words")
+        status, out, err = run(room, "gossip_scenario", *words.split())
+        holds(f"gossip_scenario {words}", (0, tables["usual"] | case, ""), (status, tomllib.loads(out), err))
 
 
 def try_what_is_printed(room):

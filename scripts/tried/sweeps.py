@@ -136,6 +136,7 @@ def try_missing(room):
         "it is cut short after 1 of 2": (HEADER + first + second[:-1]).encode(),
         "it is cut short after 0 of 2": (HEADER + first[:-1]).encode(),
         "it goes on after its 2 rounds": (whole + "3,2,0,0,4,2,0,0\n").encode(),
+        "it goes on after its 2 rounds ": (whole + "3,2").encode(),
         "its line of round 1": (HEADER + second + first).encode(),
         "its line of round 2": (HEADER + first + second.replace("0", "none", 1)).encode(),
         "its line of round 1 ": (HEADER + first + second).encode().replace(b",2,", b"\0\0\0", 1),

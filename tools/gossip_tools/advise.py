@@ -9,60 +9,11 @@ from gossip_tools import answer, choice, cluster, files, page, rules, running, s
 from gossip_tools.healing import Healing
 from gossip_tools.commands import Refused, folder_of, refuse_if, the_program, workers
 from gossip_tools.progress import Progress, in_words
-from gossip_tools.words import THE_PROGRAM, Tool, Word
+from gossip_tools.texts import speaker
 
-TOOL = Tool(
-    ("gossip_advise [-o FOLDER] nodes=N keys=N writes=N entry=BYTES packet=BYTES [NAME=VALUE ..]",
-     "gossip_advise [-o FOLDER] target=SECONDS nodes=N keys=N writes=N entry=BYTES [NAME=VALUE ..]",
-     "gossip_advise -o FOLDER"),
-    ("""Says which mode and which budget to take for a cluster, how stale its copies get, and how long it takes to heal.
-     It runs the modes with what fits and with nodes * writes, on all cores: 20 seeds choose, seed by seed, and 20
-     others bound what they chose, each in a run of an hour where the cluster isn't large. First comes what is chosen,
-     then what bounds it and what heals, then smaller budgets, and runs of up to 800 intervals where staleness may still
-     rise. Last comes a budget that cuts nothing, for the floor: no mode and no budget does better than that. Where no
-     budget that fits is enough, it says so, and what would be. With a target and no packet it looks for the smallest
-     packet that keeps to it. The folder, `advice` where none is named, gets the scenarios, the reports, `answer.txt`
-     and the page `report.html`; both have the first answer until the last one comes. It can be stopped, which loses the
-     runs under way: the same call goes on. Without numbers it takes those that the folder has. Restarts and a split may
-     be asked for in one call, so that what comes before them is run once.""",
-     (Word("nodes", "how many nodes there are", ()),
-      Word("keys", "the things that each node tells of itself", ()),
-      Word("writes", "how many of these change in an interval", ()),
-      cluster.ENTRY,
-      Word("packet", """the bytes of a packet, less what else is in it, such as headers. Digest and delta share it, if
-           not told otherwise by `shared`. The 64 KB of a UDP datagram are at most 65507 bytes. `delta` is another name
-           of it""", ()),
-      Word("digest", """the bytes that a digest has for each node (in a precise mode for each key): what names the node,
-           its generation and its version, as sent: about 20 for an IPv4 address, port, generation and version in
-           binary, 60 and more with host names or UUIDs. Where it isn't given it is 0, and digests are free""", ()),
-      Word("shared", """`yes`, where it isn't given: digest and delta share the packet; `no`, the digest has one of its
-           own""", cluster.TEXTS["shared"]),
-      Word("fanout", """how many others a node calls in an interval, 1 where it isn't given. Each call is a round of its
-           own""", ()),
-      cluster.LOSS,
-      Word("interval", "its seconds, 1 where it isn't given", ()),
-      Word("hours", """how long the runs are that bound how old a copy gets: those of `hours=24` say what is exceeded in
-           one day of 21. Where it isn't given, an hour of seconds, or less where that is too much work; the answer
-           tells it""", ()),
-      Word("target", """the seconds that the worst copy may be behind. Without a packet the smallest budget and packet
-           that keep to it under all seeds are looked for, in each mode; with one it is told whether that does. Beside
-           it stand the share of copies that are stale and how old a typical one is""", ()),
-      Word("restarts", """how many nodes restart at once, the size of a group, for the time to wait between groups: such
-           a group restarts in each of ten intervals, in fewer where that were more than half of the nodes, and is down
-           for one; and one group alone. Where it isn't given, one node restarts, and with 0 none""", ()),
-      Word("forget", "`yes`, a node that restarts loses its own state too, as in Cassandra", cluster.TEXTS["forget"]),
-      Word("split", "the longest split, in intervals, 30 where it isn't given; with 0 there is none", ()),
-      Word("mode", "the one that your program has; where it isn't given, each that has room is run",
-           cluster.TEXTS["mode"]),
-      Word("count", """`bytes` or `entries`; where it isn't given entries, and bytes where a delta has room for fewer
-           than fifty""", cluster.TEXTS["count"])),
-     (THE_PROGRAM,
-      Word("JOBS", "how many runs go at once, where it isn't one for each core, as in `JOBS=2 gossip_advise ..`"),
-      Word("HOSTS", "the machines, as for gossip_sweep")),
-     "The page has pictures where gnuplot is there."),
-    ("-o FOLDER",))
 USUAL = {"digest": "0", "shared": "yes", "fanout": "1", "loss": "0", "interval": "1", "restarts": None, "forget": "no",
          "split": str(study.USUAL_SPLIT), "mode": None, "count": None, "hours": None, "target": None}
+say = speaker("advise")
 CALL = "gossip_advise nodes=1000 keys=4 writes=1 entry=40 packet=64000 digest=20 loss=1"
 
 
@@ -75,21 +26,17 @@ def numbers_of(words, file):
         except (tomllib.TOMLDecodeError, UnicodeDecodeError):
             raise Refused(f"{file} can't be read: name a new folder by -o.") from None
     if not words:
-        refuse_if(kept is None, f"nodes= is missing, and {file.parent} has no answer to be read again; {CALL} is a "
-                  "whole call.")
+        refuse_if(kept is None, say("no_numbers", folder=file.parent, call=CALL))
         words = [f"{name}={value}" for name, value in kept.items() if name != "program"]
     told = cluster.told(words, USUAL, CALL, {"packet": "target"})
     cluster.check_limits(told)
     cluster.check_fanout(told["fanout"])
-    refuse_if(not told["writes"], "writes would be 0, and then nothing has to be sent: count what changes in each "
-              "interval alone, a heartbeat for one as keys=1 and writes=1.")
-    refuse_if(told["loss"] == 100, "with loss=100 no message ever arrives, and no budget is enough: give the loss that "
-              "your network has, as loss=1.")
+    refuse_if(not told["writes"], say("no_writes"))
+    refuse_if(told["loss"] == 100, say("all_is_lost"))
     refuse_if(not told["interval"], "an interval has seconds.")
     refuse_if(told["target"] == 0, "target is in seconds, and above 0.")
     refuse_if(told["split"] > 100000, "split is a number of intervals up to 100000.")
-    refuse_if(told["restarts"] and told["restarts"] > told["nodes"], f"of {told['nodes']} nodes no {told['restarts']} "
-              "can restart at once: restarts is the size of a group.")
+    refuse_if(told["restarts"] and told["restarts"] > told["nodes"], say("too_many_restarts", **told))
     return told, kept
 
 
@@ -161,8 +108,7 @@ class Stages:
     def shorter(self, stage):
         it = self.study
         is_shorter = stage == "split" and it.split < it.told["split"]
-        said = f" (a split of {it.split} stands for {it.told['split']}, as each key is written anew in it)"
-        return said if is_shorter else ""
+        return say("shorter_split", it) if is_shorter else ""
 
     def choose(self, stage, pairs, dropped):
         """What these runs choose. What can't be chosen after the first seeds isn't run under the others."""
@@ -235,8 +181,7 @@ def look(folder):
     try:
         str(folder).encode()
     except UnicodeEncodeError:
-        raise Refused(f"the folder's name {ascii(str(folder))} isn't UTF-8, or not as this locale reads it, and an "
-                      "answer names it: name another one by -o.") from None
+        raise Refused(say("not_utf8", name=ascii(str(folder)))) from None
     refuse_if(folder.exists() and not folder.is_dir(), f"{folder} isn't a folder: name another one.")
     if folder.exists() and not (folder / "cluster.toml").exists() and {it.name for it in folder.iterdir()} - {"lock"}:
         raise Refused(f"{folder} isn't empty and has no answer: name a new folder by -o.")

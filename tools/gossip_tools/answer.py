@@ -1,17 +1,13 @@
 """What is said of a decision, in the first answer, in the last one and on the page."""
 from gossip_tools import cluster, healing, rules, scenario
 from gossip_tools.measures import lasting, rows, sentences, span
+from gossip_tools.texts import speaker
 
 FLOOR = "the floor"
 WHAT_HEALS = "A split, a restart and a rolling restart"
-# The bytes of a number in a sum that shows what a digest that wasn't told would take, and where they come from.
-SUPPOSED = 20
-TYPICAL = (f"What names a node, its generation and its version, as sent, takes about {SUPPOSED} bytes for an IPv4 "
-           "address, port, generation and version in binary, and 60 and more with host names or UUIDs.")
-BY_LATENCY = "by how much `gossip_live latency=.. beside=5` shows"  # to see what latency adds
-GENERATIONS = "Generations: a node that restarts keeps its own state here; forget=yes lets it lose that too."
-GROUPS = ("Groups: one node restarts at a time here. For a rolling restart in groups give their size, as restarts=50; "
-          "forget=yes, where a node loses its own state too.")
+SUPPOSED = 20  # the bytes of a number in a sum that shows what a digest that wasn't told would take
+say = speaker("answer")
+TYPICAL = say("typical")
 
 
 def ended(said):
@@ -24,31 +20,24 @@ def first_words(decision, call=""):
     since = f"{it.intervals(decision.stage)} {it.unit}{f' of {it.fanout} rounds' if it.fanout > 1 else ''}"
     if decision.suffices:
         return sentences(
-            f"First answer, from {since}: {decision.takes()}.",
-            ended(decision.tells_all()),
-            f"Worst staleness {decision.staleness()}, which bounds nothing: runs of other seeds come next.",
+            say("first", decision, since=since), ended(decision.tells_all()), say("first_staleness", decision),
             ended(decision.reserve()), ended(decision.why_not_knee()),
-            to_knee and f"That is below {it.knee_name}. {to_knee}. {else_helps(decision)}",
+            to_knee and say("below_the_knee", decision, else_helps=else_helps(decision)),
             decision.forgetful(), *limits(decision), *(of_calls(it) if it.fanout > 1 else []))
     longer = " and then ".join(str(it.rounds(stage)) for stage in it.later_stages(decision.stage))
-    see = (f"{WHAT_HEALS} are run only if it does. To see them with a budget that is enough:", f"  {call}")
     return sentences(
-        f"First answer, from {since}: no budget that fits is seen to be enough, as {decision.no_level()}.",
-        decision.most_that_fits(), decision.forgetful(), to_knee and f"{to_knee}. {else_helps(decision)}",
-        *limits(decision), longer and f"Whether it levels off later is seen from {longer} rounds, and no more.",
-        *(see if call and it.asks_for_healing else []))
+        say("first_without", decision, since=since), decision.most_that_fits(), decision.forgetful(),
+        to_knee and f"{to_knee}. {else_helps(decision)}", *limits(decision),
+        longer and say("seen_later", longer=longer),
+        *([say("run_if_enough", what=WHAT_HEALS), f"  {call}"] if call and it.asks_for_healing else []))
 
 
 def last_of_first_words(decision, folder):
     """What to know where one stops at the first answer, a budget being enough."""
     it = decision.study
     return sentences(
-        it.leaves() and rules.DOWN_FOR_LONGER,
-        it.heals() and decision.reserve() and
-        f"All these times are for packet={decision.packet()}. The last answer has those of a program that fills a "
-        "larger one anyway, in the line `with the reserve`.",
-        "Now comes the last answer, with smaller budgets and the floor. Until then "
-        f"{folder / 'answer.txt'} and {folder / 'report.html'} have this first answer.")
+        it.leaves() and rules.DOWN_FOR_LONGER, it.heals() and decision.reserve() and say("for_packet", decision),
+        say("until_then", answer=folder / "answer.txt", page=folder / "report.html"))
 
 
 def not_run(decision, call, was_enough=False):
@@ -58,30 +47,20 @@ def not_run(decision, call, was_enough=False):
     if decision.suffices or not it.heals():
         return []
     if not was_enough and not it.asks_for_healing:
-        return sentences(call and f"Nor was a split or a restart run: give packet={it.packet(decision.mode)} and "
-                         "another folder to see them.")
-    why = (f"{WHAT_HEALS} were run for the first answer, with a budget that isn't enough after more rounds."
-           if was_enough else f"{WHAT_HEALS} were not run, as no budget that fits is enough.")
+        return sentences(call and say("nor_run", packet=it.packet(decision.mode)))
+    why = say("was_run" if was_enough else "not_run", what=WHAT_HEALS)
     return [f"{why} To see them with a budget that is:", f"  {call}"] if call else [why]
 
 
 def warnings(decision):
     it, to_knee = decision.study, decision.to_knee()
-    helps = f"A larger packet, {way_out(decision)}" if to_knee else "Less loss or fewer writes"
+    helps = say("larger_packet", way_out=way_out(decision)) if to_knee else "Less loss or fewer writes"
     return sentences(
-        not decision.suffices and f"`greatest` isn't level in any mode that was run. {helps} would help.",
-        decision.suffices and to_knee and
-        f"The budget is below {it.knee_name}, the knee above which a larger one hardly helps, so copies lag more than "
-        f"they have to. {to_knee}. {else_helps(decision)}",
-        decision.forgetful(), *decision.against, *limits(decision),
-        it.in_bytes and
-        "With room for so few entries a large one holds up smaller ones behind it: give the delta room for one mean "
-        "entry more than the sum says.",
-        it.parts > 1 and
-        f"A tenth was run, {it.nodes} nodes with a tenth of the packet, in scuttle-depth alone, and "
-        f"{rules.TENTH_MORE[1]} rounds are added to how old a copy gets, as docs/study.md has measured.",
-        it.parts > 1 and not rules.tenth_holds(decision.of_knee()) and
-        f"This budget is {decision.times()}, where a tenth wasn't seen to hold.",
+        not decision.suffices and say("not_level", helps=helps),
+        decision.suffices and to_knee and say("lags", decision, else_helps=else_helps(decision)),
+        decision.forgetful(), *decision.against, *limits(decision), it.in_bytes and say("few_entries"),
+        it.parts > 1 and say("tenth", decision, more=rules.TENTH_MORE[1]),
+        it.parts > 1 and not rules.tenth_holds(decision.of_knee()) and say("beyond_tenth", decision),
         *(healing.to_mind(it) if decision.heals() else []))
 
 
@@ -92,11 +71,11 @@ def way_out(decision):
     enough = -(-rules.knee(it.all_nodes, it.keys, it.writes) // decision.whole_budget())
     product = it.knee_name.partition(" / ")[0]
     calls = f"fanout={enough}, as {product} / {enough} entries fit" if enough <= cluster.MOST_CALLS else "fanout="
-    return f"{own}more calls in an interval ({calls}), a shorter interval, a shorter entry or fewer writes"
+    return own + say("way_out", calls=calls)
 
 
 def else_helps(decision):
-    return f"Where the packet can't grow, {way_out(decision)} would help."
+    return say("else_helps", way_out=way_out(decision))
 
 
 def limits(decision):
@@ -109,52 +88,33 @@ def limits(decision):
     in_one = f", and packet={packet} fits in one" if decision.suffices and packet <= rules.DATAGRAM < given else ""
     no_room = [mode for mode in scenario.MODES if it.rooms[mode] < 1]
     return sentences(
-        not size and
-        f"You gave no digest, so it is free here. With digest={SUPPOSED} its {numbers} numbers would take "
-        f"{numbers * SUPPOSED} bytes. {TYPICAL}",
-        size and not fits and
-        f"The digest has {numbers} numbers of {size} bytes, which fit no packet of {given}: it would have to go in "
-        "several.",
-        largest > rules.DATAGRAM and
-        f"The 64 KB of a UDP datagram are at most {rules.DATAGRAM} bytes: packet={largest} takes several of them, or "
-        f"TCP{in_one}.",
-        no_room and it.parts == 1 and not it.told["mode"] and
-        f"{' and '.join(no_room)} have no room: their digest alone takes the packet.")
+        not size and say("no_digest", numbers=numbers, bytes=numbers * SUPPOSED, typical=TYPICAL),
+        size and not fits and say("several_packets", numbers=numbers, size=size, given=given),
+        largest > rules.DATAGRAM and say("datagrams", datagram=rules.DATAGRAM, largest=largest, in_one=in_one),
+        no_room and it.parts == 1 and not it.told["mode"] and say("no_room", modes=" and ".join(no_room)))
 
 
 def of_calls(it):
     """Which way the numbers err by how many others a node calls in an interval."""
     if it.fanout == 1:
-        return ["Latency: right where an exchange takes much less than the interval of "
-                f"{cluster.plain(it.seconds)} s; else the cluster is slower, {BY_LATENCY}.",
-                "More than one peer in an interval: such a cluster is faster. fanout=3 looks at three."]
-    seconds = cluster.plain(float(f"{float(it.seconds):.2g}"))
-    return [f"Latency: right where an exchange takes much less than the {seconds} s between two of the {it.fanout} "
-            "calls of an interval, which come one after another here; else, and where a node makes them all at once, "
-            f"the cluster is slower than these figures, {BY_LATENCY}."]
+        return [say("latency", seconds=cluster.plain(it.seconds)), say("more_peers")]
+    return [say("latency_of_calls", it, seconds=cluster.plain(float(f"{float(it.seconds):.2g}")))]
 
 
 def left_out(decision):
     it, entry = decision.study, decision.study.told["entry"]
-    waits, holds_in = "a heartbeat may come later than any limit.", "nothing bounds that yet"
-    if decision.bound:
-        holds_in = f"{decision.bound.holds_in()} no copy is older, and in longer ones some may be"
+    waits = say("any_wait")
     if decision.suffices:
-        waits = ("one that needs a heartbeat in time has to wait longer than "
-                 f"{lasting(it, [decision.most_rounds()])}; {holds_in}.")
+        holds_in = say("bound", decision.bound) if decision.bound else say("no_bound")
+        waits = say("wait", wait=lasting(it, [decision.most_rounds()]), holds_in=holds_in)
+    numbers, bytes_of_all = it.digest_numbers(decision.mode), it.digest_bytes(decision.mode)
     return sentences(
-        *of_calls(it), f"Failure detectors: {waits}",
-        "Nodes that join and leave: one that joins is like one that restarts.",
-        it.in_bytes and
-        f"Your sizes: those of the bench are spread evenly up to {1023 / 523.5 * float(entry):.0f} bytes, for your "
-        "mean entry. If your largest is larger, give half of it as entry.",
-        not it.in_bytes and f"Sizes: all entries count alike, as {cluster.plain(entry)} bytes.",
-        it.shares and "The digest is taken off each message, though the last of an exchange has none.",
-        it.told["digest"] and not it.shares and
-        f"A digest of up to {it.digest_numbers(decision.mode)} numbers, {it.digest_bytes(decision.mode)} bytes, comes "
-        "on top of the delta.",
+        *of_calls(it), waits, say("join"), it.in_bytes and say("sizes_in_bytes", largest=1023 / 523.5 * float(entry)),
+        not it.in_bytes and say("sizes", entry=cluster.plain(entry)), it.shares and say("shared"),
+        it.told["digest"] and not it.shares and say("on_top", numbers=numbers, bytes=bytes_of_all),
         not decision.suffices and ended(decision.tells_all()),
-        not it.tells_all() and decision.heals() and it.leaves() and (GENERATIONS if it.told["restarts"] else GROUPS))
+        not it.tells_all() and decision.heals() and it.leaves() and say(
+            "generations" if it.told["restarts"] else "groups"))
 
 
 def heads(decision):
@@ -175,7 +135,7 @@ def in_words(decision, heals, missing=(), more=()):
     it, in_mode = decision.study, ""
     lines = sentences(f"Take {decision.takes()}.", ended(decision.tells_all()))
     if not decision.suffices:
-        lines = [f"No budget that fits is enough: {decision.no_level()}. {decision.most_that_fits()}"]
+        lines = [say("none_is_enough", decision)]
         in_mode = f", in {decision.mode}"
     lines += ["", *of_staleness(decision, more), *rows(
         ("more than that" if decision.more_is_worse() else "a reserve", decision.reserve()),

@@ -3,6 +3,9 @@ import math
 
 from gossip_tools import rules
 from gossip_tools.measures import briefly, in_rounds, lasting, sentences, span
+from gossip_tools.texts import speaker
+
+say = speaker("choice")
 
 
 def listed(names):
@@ -35,15 +38,12 @@ class Bound:
         return f"{rules.IN_MOST} {self.runs()}"
 
     def rests_on(self):
-        first, last = self.window
-        return (f"the most of `greatest` in rounds {first} to {last} under {len(self.worst)} seeds, others than those "
-                f"that chose, which had {span(self.worst)}")
+        return say("rests_on", self, seeds=len(self.worst), had=span(self.worst))
 
     def added(self):
         if not self.is_level():
-            return f"In {self.runs()} `greatest` isn't level with that, so runs of more rounds choose."
-        oldest = lasting(self.study, [max(self.worst)])
-        return f"I{self.holds_in()[1:]} no copy is older than {oldest}{self.study.nodes_run}."
+            return say("rises", self)
+        return say("added", self, holds_in=self.holds_in()[1:], oldest=lasting(self.study, [max(self.worst)]))
 
 
 class Decision:
@@ -178,7 +178,7 @@ class Decision:
             why = ["nodes * keys, above which nothing changes", *(name for name in why if name != "nodes * keys")]
         elif entries == it.fits_of_all[self.mode]:
             why = ["what fits", *why]
-        return f"room for {entries} entries in a delta, {self.bytes()} bytes ({'; '.join(why)})"
+        return say("room", self, why="; ".join(why))
 
     def all_that_fits(self):
         it, entries = self.study, self.study.whole(self.most)
@@ -194,31 +194,26 @@ class Decision:
     def takes(self):
         it = self.study
         if not self.is_too_small():
-            return f"{self.mode} with {self.room()}; {'with the digest ' if it.shares else ''}packet={self.packet()}"
+            return say("takes", self, digest="with the digest " if it.shares else "")
         at_knee = briefly(it, self.worst_with(it.knee, self.mode))
-        return (f"{self.mode}, but packet={self.given()} is too small: with {self.room()}, the worst copy was "
-                f"{lasting(it, self.worst)}, behind, and with packet={it.packet(self.mode)} {at_knee}{it.nodes_run}")
+        return say("too_small", self, worst=lasting(it, self.worst), packet=it.packet(self.mode), at_knee=at_knee)
 
     def most_that_fits(self):
         """The largest budget where none is enough, and which mode is ahead with that, or why none is."""
         it, last, runs_on = self.study, self.window[1], self.contenders()
-        why = "in each `greatest` is about the number of the round, which it can't exceed."
-        if any(rules.has_left_the_diagonal(figure, last) for figure in self.figures.values()):
-            why = f"of {listed(list(runs_on))} none is ahead under nearly all seeds."
+        has_left = any(rules.has_left_the_diagonal(figure, last) for figure in self.figures.values())
+        why = say("none_is_ahead", modes=listed(list(runs_on))) if has_left else say("on_the_diagonal")
         mode = f" No mode can be preferred with that: {why}"
         if self.ahead or self.against and len(runs_on) == 1:
-            mode = (f" Of the modes {self.mode} is ahead with that, though it isn't level yet: its `greatest` was at "
-                    f"most {briefly(it, self.figures[self.mode])} up to round {last}, and the others' higher under "
-                    "nearly all seeds.")
+            mode = say("is_ahead", self, most=briefly(it, self.figures[self.mode]), last=last)
         return f"The most that fits: {self.room()}.{mode if len(it.fits) > 1 else ''}"
 
     def why_dropped(self):
         kept = self.contenders()
         best = min(kept, key=lambda mode: max(kept[mode]))
         lost = [f"{mode} with {in_rounds(figure)}" for mode, figure in self.figures.items() if mode not in kept]
-        return [*self.against, *sentences(
-            lost and f"Up to round {self.window[1]} these modes were behind {best} with "
-            f"{in_rounds(self.figures[best])}, under nearly all seeds, and weren't run on: {', '.join(lost)}.")]
+        why = say("dropped", self, best=best, had=in_rounds(self.figures[best]), lost=", ".join(lost))
+        return [*self.against, *sentences(lost and why)]
 
     def no_level(self):
         """That no budget that fits has a level that the longest runs can show, of those that choose or bound."""
@@ -240,8 +235,7 @@ class Decision:
         if self.bound is None:
             return f"{lasting(it, self.worst)} so far{it.nodes_run}"
         if it.parts > 1:
-            return (f"{self.at_most()}: {self.bound.holds_in()} of {it.nodes} nodes no copy is older than "
-                    f"{in_rounds([max(self.bound.worst)])}")
+            return say("of_a_tenth", self, oldest=in_rounds([max(self.bound.worst)]))
         return f"{self.bound.holds_in()} no copy is older than {lasting(it, [self.most_rounds()])}"
 
     def above_floor(self):
@@ -250,10 +244,10 @@ class Decision:
         if self.floor is None:
             return ""
         if not self.floor:
-            return f"none to tell: the largest budget that a scenario takes, {it.ample()} entries, still cuts some"
+            return say("no_floor", ample=it.ample())
         own = self.bounded()[:len(self.floor)]
         had = "that" if self.floor == own else span(own)
-        chosen = f"; the chosen one had {had} under the same {len(own)} seeds" if self.suffices else ""
+        chosen = say("above_floor", had=had, seeds=len(own)) if self.suffices else ""
         return f"{rules.FLOOR.format(lasting(it, self.floor))}{chosen}{it.nodes_run}"
 
     def to_knee(self):
@@ -265,8 +259,8 @@ class Decision:
             brings = f", and {briefly(it, self.worst_with(it.knee, self.mode))} in the runs that chose"
         elif (it.knee, self.mode) in self.found.rows:
             brings = ", where `greatest` isn't level either"
-        return (f"packet={it.packet(self.mode)} has room for {it.knee_name} = {it.whole(it.knee)} entries"
-                f"{' and the digest' if it.shares else ''}{brings}")
+        return say("to_knee", self, packet=it.packet(self.mode), entries=it.whole(it.knee),
+                   digest=" and the digest" if it.shares else "", brings=brings)
 
     def tells_all(self):
         """What to reckon with where a node tells all its keys as it starts; empty where no groups forget."""
@@ -278,41 +272,38 @@ class Decision:
         more = ", more than yours" if it.told["packet"] is not None and needed > it.told["packet"] else ""
         if entries <= self.whole_budget():
             more = "; this budget has room for them"
-        return ("In Cassandra a node tells all its keys as it starts, here as many as it writes. For that reckon with "
-                f"{name} = {entries} entries, packet={needed}{more}")
+        return say("all_keys", name=name, entries=entries, packet=needed, more=more)
 
     def forgetful(self):
         """What counts where nodes forget and the budget is short; empty where that isn't so."""
         it = self.study
         is_short = it.forgets and it.leaves() and self.budget < it.knee
-        return f"Nodes forget here, and the budget is below {it.knee_name}: {rules.FORGETFUL}." if is_short else ""
+        return say("forgetful", self, rule=rules.FORGETFUL) if is_short else ""
 
     def reserve(self):
         """What more than the budget brings; empty where no more fits."""
         if not self.suffices or self.budget == self.most:
             return ""
-        figure, how = self.figures[self.mode], "no better"
-        so = f"So packet={self.packet()} is enough, and what is above that is a reserve"
-        if self.more_is_worse():
-            how, so = "worse", "More is worse here, so let a delta carry no more than the budget"
-        return (f"With {self.all_that_fits()} it is {briefly(self.study, figure)} in the runs that chose, where the "
-                f"budget has {span(self.worst)}: {how} ({by_seeds(figure, self.worst)}). {so}")
+        figure = self.figures[self.mode]
+        how, so = ("worse", say("is_worse")) if self.more_is_worse() else ("no better", say("is_reserve", self))
+        return say("with_all", self, had=briefly(self.study, figure), has=span(self.worst), how=how, so=so,
+                   seeds=by_seeds(figure, self.worst))
 
     def why_not_knee(self):
         """Why more than nodes * writes is taken; empty where it isn't."""
         it = self.study
         if not self.suffices or self.budget <= it.knee:
             return ""
-        at_knee = f"With {it.knee_name} = {it.whole(it.knee)} entries"
+        at_knee = say("at_knee", self, entries=it.whole(it.knee))
         if not self.knee_suffices():
             return f"{at_knee} `greatest` isn't level"
         worst, figure = self.worst_with(it.knee, self.mode), self.figures[self.mode]
-        said = f"{at_knee} it is {briefly(it, worst)} in the runs that chose, "
+        said = {"at_knee": at_knee, "had": briefly(it, worst)}
         if rules.is_better(self.worst, worst):
-            return f"{said}where the budget has {span(self.worst)}: worse ({by_seeds(worst, self.worst)})"
+            return say("knee_is_worse", **said, has=span(self.worst), seeds=by_seeds(worst, self.worst))
         if rules.is_better(figure, worst):
-            return f"{said}worse than {self.all_that_fits()} ({by_seeds(worst, figure)})"
-        return f"{said}and something else that was run is better than that"
+            return say("worse_than_all", self, **said, seeds=by_seeds(worst, figure))
+        return say("something_is_better", **said)
 
     def too_close(self):
         """Which figures are too close to call. Those that aren't level say nothing."""
@@ -324,10 +315,9 @@ class Decision:
         close += [("as few as ", smaller, self.mode)] if (smaller := self.smaller()) else []
         for few, budget, mode in close:
             worst = self.worst_with(budget, mode)
-            said.append(f"{mode} with {few}{it.whole(budget)} entries, {briefly(it, worst)} against "
-                        f"{span(self.worst)}: {by_seeds(worst, self.worst)}")
-            if few and self.budget >= it.knee:
-                said[-1] += f"; still not taken, as staleness rises steeply below {it.knee_name}"
+            more = say("still_not_taken", self) if few and self.budget >= it.knee else ""
+            said.append(say("close", mode=mode, few=few, entries=it.whole(budget), had=briefly(it, worst),
+                            has=span(self.worst), seeds=by_seeds(worst, self.worst), more=more))
         others = "other mode and smaller budget" if len(self.figures) > 1 else "smaller budget"
         below = [self.worst_with(budget, self.mode) for budget in self.of_mode() if budget < self.budget]
         than = "" if all(rules.is_better(self.worst, worst) for worst in below) else " than this one or another one"

@@ -5,36 +5,15 @@ from fractions import Fraction
 from gossip_tools import rules, scenario
 from gossip_tools.commands import Refused, refuse_if
 from gossip_tools.scenario import limited
-from gossip_tools.words import Tool, Word, values_of
+from gossip_tools.texts import speaker
+from gossip_tools.words import TEXTS, values_of
 
-TEXTS = {"mode": scenario.MODES, "count": ("bytes", "entries"), "shared": ("yes", "no"), "forget": ("yes", "no")}
-ENTRY = Word("entry", "the bytes of a mean entry: key, version and value", ())
-LOSS = Word("loss", "how many messages of a hundred are lost, 0 where it isn't given", ())
-TOOL = Tool(
-    ("gossip_scenario nodes=N keys=N writes=N entry=BYTES packet=BYTES [NAME=VALUE ..] > mine.toml",),
-    ("Prints a scenario from the numbers of a cluster, with what it leaves out in front.",
-     (Word("nodes", "from 2 to 4096; of a larger cluster take a tenth of the nodes and of the packet", ()),
-      Word("keys", "the things that a node tells of itself, from 1 to 64", ()),
-      Word("writes", "how many of them change in an interval, from 0 to 8", ()),
-      ENTRY,
-      Word("packet", """the bytes of a packet, less what else is in it, such as headers: what a delta may take, and
-           where digest and delta share a packet, both together. `delta` is another name of it""", ()),
-      Word("digest", """the bytes that the digest has for each node (in a precise mode for each key), where it shares
-           the packet with the delta: what names the node, its generation and its version, as sent; 0 where it
-           doesn't""", ()),
-      LOSS,
-      Word("count", """`entries`, a scenario of format 1 for entries of about one size, or `bytes`, one of format 2.
-           Where it isn't given entries, and bytes where a delta has room for fewer than fifty""", TEXTS["count"]),
-      Word("fanout", """how many peers a node calls in an interval, 1 where it isn't given. Each call is a round of its
-           own then, so divide `greatest` by it; only the first round of an interval has writes""", ()),
-      Word("mode", "the sending order, `scuttle-depth` where it isn't given", TEXTS["mode"]),
-      Word("rounds", "how many, 60 for each call of an interval where it isn't given", ()),
-      Word("seed", "1 where it isn't given", ()))))
 DECIMALS = ("entry", "loss", "interval", "hours", "target")
 BYTES = ("entry", "packet", "digest")
 USUAL = {"digest": "0", "loss": "0", "fanout": "1", "rounds": None, "seed": "1", "mode": scenario.USUAL_MODE,
          "count": None}
 USUAL_ROUNDS = 60
+say = speaker("cluster")
 MOST_CALLS = 16  # others that a node calls in an interval
 # What is asked of the wrong tool, or in another way.
 ELSEWHERE = {name: f" {said}" for said, names in {
@@ -61,8 +40,7 @@ def instead(name, text):
     if name == "writes" and decimal and Fraction(text).denominator > 1:
         whole = int(Fraction(text))
         part = (Fraction(text) - whole).limit_denominator(20)
-        return (f"take writes={whole} and give {part.numerator} of {part.denominator} rounds writes = {whole + 1} by "
-                f"[[load]], or take writes={whole + 1}, which is on the safe side")
+        return say("part_of_writes", whole=whole, part=part, more=whole + 1)
     if name in BYTES and unit:
         thousands, kibi = (int(unit[1]) * it**(1 if unit[2] in "kK" else 2) for it in (1000, 1024))
         return f"write {name}={thousands}, or {name}={kibi} where K is 1024"
@@ -120,8 +98,7 @@ def check_limits(it):
     refuse_if(not it["entry"], "an entry has bytes.")
     for name in ("keys", "writes"):
         least, most = scenario.LIMITS[name]
-        refuse_if(it[name] > most, f"{name} would be {it[name]}, and a scenario takes {least} to {most}: take those "
-                  "that are written together as one key, with a larger entry.")
+        refuse_if(it[name] > most, say("over_the_limit", label=name, number=it[name], least=least, most=most))
         limited(name, it[name])
 
 
@@ -133,8 +110,8 @@ def check_size(it):
     why = f"nodes would be {it['nodes']}, and a scenario takes 2 to 4096"
     if it["nodes"] <= scenario.LIMITS["nodes"][1]:
         why = f"nodes * nodes * keys is above {scenario.MOST_TRIPLES}, the most that a scenario takes"
-    refuse_if(is_too_large(it["nodes"], it["keys"]), f"{why}: take nodes={it['nodes'] // 10} and "
-              f"packet={it['packet'] // 10}, a tenth of each, in scuttle-depth.")
+    refuse_if(is_too_large(it["nodes"], it["keys"]),
+              say("too_large", why=why, nodes=it["nodes"] // 10, packet=it["packet"] // 10))
     limited("nodes", it["nodes"])
 
 
@@ -150,28 +127,20 @@ def counts_bytes(it, room):
 def without_writes(rounds, fanout):
     """The sections that leave the writes to the first of the rounds that an interval has."""
     firsts = range(2, rounds + 1, fanout) if fanout > 1 else ()
-    refuse_if(len(firsts) > scenario.MOST_SECTIONS, f"{rounds} rounds have {len(firsts)} intervals of {fanout} calls, "
-              f"and a scenario takes {scenario.MOST_SECTIONS}: take fewer rounds.")
+    refuse_if(len(firsts) > scenario.MOST_SECTIONS, say(
+        "loads", rounds=rounds, intervals=len(firsts), fanout=fanout, most=scenario.MOST_SECTIONS))
     return "".join(scenario.load(it, min(it + fanout - 2, rounds), 0) for it in firsts)
 
 
 def remarks(it, room, in_bytes, loads):
-    entry, fanout = plain(it["entry"]), int(it["fanout"])
-    yield f"{room} bytes for a delta are {float(room / it['entry']):.6g} entries of {entry} bytes."
-    if it["digest"]:
-        yield f"{it['packet'] - room} more are for a digest of {it['mode']}; for another mode, ask for it."
-        yield "The last message of an exchange has no digest; the room for one is lost there."
-    if in_bytes:
-        yield "Entries of format 2 have 24 to 1023 bytes, all as often, 523.5 on average. So the packet is scaled:"
-        yield f"budget_bytes = {room} / {entry} * 523.5. That your sizes may be spread otherwise is left out."
-        yield "Which key is written is left to chance; keys in turn give entries of nearly one size."
-    else:
-        yield "All entries count alike: that sizes differ is left out."
-    if loads:
-        yield f"An interval is {fanout} rounds, one for each call. `greatest` is in rounds: divide it by {fanout}."
-    left = ["latency"] + ["more than one peer a round"] * (fanout == 1) + ["generations"] * (not in_bytes)
-    yield f"Left out: {', '.join(left)}, failure detectors, nodes that join or leave."
-    yield "Not asked for: restarts (gossip_restarts), partitions (gossip_apart), rounds with other writes."
+    """What stands in front of a scenario, line by line."""
+    left = ["latency"] + ["more than one peer a round"] * (it["fanout"] == 1) + ["generations"] * (not in_bytes)
+    values = {"room": room, "entries": float(room / it["entry"]), "entry": plain(it["entry"]), "mode": it["mode"],
+              "digest": it["packet"] - room, "fanout": it["fanout"], "left": ", ".join(left)}
+    return [say(line, **values) for line in (
+        "room", *(("digest", "last_message") if it["digest"] else ()),
+        *(("sizes", "scaled", "by_chance") if in_bytes else ("alike",)), *(("calls",) if loads else ()),
+        "left_out", "not_asked")]
 
 
 def main(words):
@@ -184,9 +153,8 @@ def main(words):
     seed, loads = limited("seed", it["seed"]), without_writes(rounds, fanout)
     taken = it["digest"] * scenario.digest_numbers(it["nodes"], it["keys"], it["mode"])
     room = it["packet"] - taken
-    refuse_if(it["packet"] < it["entry"], f"the packet has {it['packet']} bytes, fewer than the {plain(it['entry'])} "
-              "of an entry: give a larger packet, or a shorter entry.")
-    refuse_if(room < it["entry"], f"the digest takes {taken} of the {it['packet']} bytes, which leaves no entry.")
+    refuse_if(it["packet"] < it["entry"], say("packet_is_too_small", packet=it["packet"], entry=plain(it["entry"])))
+    refuse_if(room < it["entry"], say("digest_is_too_large", taken=taken, packet=it["packet"]))
     in_bytes = counts_bytes(it, room / it["entry"])
     fields = scenario.top(it["nodes"], it["keys"], rounds, it["writes"], it["loss"] * 10000, room / it["entry"],
                           in_bytes, it["mode"], seed)

@@ -10,6 +10,9 @@ import os
 
 from gossip_tools import files, read
 from gossip_tools.commands import refuse_if
+from gossip_tools.texts import speaker
+
+say = speaker("folders")
 
 
 def fields_of(name):
@@ -42,18 +45,15 @@ class Folder:
         refuse_if(not self.path.is_dir(), f"{self.path} isn't a folder: name another one.")
         names, wanted = {it.name for it in self.path.iterdir()}, {fields_of(name) for name in self.runs}
         if "scenario" in names:
-            refuse_if((self.path / "scenario").read_bytes() != self.scenario.encode(),
-                      f"{self.path} has runs of another scenario: name a new folder by -o.")
+            refuse_if((self.path / "scenario").read_bytes() != self.scenario.encode(), say("another_scenario", self))
         else:
-            refuse_if({it for it in names if not it.startswith(".scenario.")} - {"lock"},
-                      f"{self.path} isn't empty and has no runs: name a new folder by -o.")
+            refuse_if({it for it in names if not it.startswith(".scenario.")} - {"lock"}, say("no_runs", self))
         for name, dot, ending in (it.rpartition(".") for it in sorted(names)):
             refuse_if(dot and ending in ("toml", "csv", "sum") and "-" in name and fields_of(name) not in wanted,
-                      f"{self.path} has runs of the fields {', '.join(fields_of(name))}: take these, in this order, or "
-                      "a new folder.")
+                      say("other_fields", self, fields=", ".join(fields_of(name))))
         is_known = "program" in names and self.has_reports()
         refuse_if(is_known and (self.path / "program").read_bytes() != self.program.encode(),
-                  f"{self.path} has reports of another program: name a new folder by -o.")
+                  say("another_program", self))
 
     def has_reports(self):
         return any(self.path.glob("*.csv"))
@@ -63,8 +63,7 @@ class Folder:
         if not self.has_reports() or (self.path / "program").exists():
             return []
         without = sum(map(read.is_without_sum, self.path.glob("*.csv")))
-        return [f"{self.path} lacks the file program, which says what made its reports: they are taken as made by this "
-                "program.", *([read.told_without_sum(without, self.path)] if without else [])]
+        return [say("no_program", self), *([read.told_without_sum(without, self.path)] if without else [])]
 
     def fill(self):
         """Fixes the scenario and those of the runs, and drops what ended sweeps have left half-written."""

@@ -3,6 +3,7 @@ import textwrap
 
 from gossip_tools import rules
 from gossip_tools.measures import briefly, lasting, rows, sentences, span
+from gossip_tools.texts import speaker
 
 # What heals, by its stage, and the words for that.
 HEALED = {"split": "a split", "restart": "a restart", "forgotten": "a forgotten state"}
@@ -10,6 +11,7 @@ ENDS = {"split": "healed", "restart": "healed", "forgotten": "gone from all copi
 LAST_ROUNDS = {"split": "the last round of the split", "restart": "the last round with a node down"}
 ROLLING = "a rolling restart"
 IN_A_ROW = 98
+say = speaker("healing")
 
 
 def latest(times):
@@ -61,8 +63,7 @@ class Healing:
     def what(self, stage):
         it = self.study
         if stage == "split":
-            for_all = f", which stand for {it.told['split']}, as each key is written anew in them"
-            return f"of half of the nodes for {it.split} {it.unit}{for_all if it.split < it.told['split'] else ''}"
+            return say("split_for_all" if it.split < it.told["split"] else "split", it)
         (each, groups), alone = it.restarting(), ""
         nodes = f"{each} node{'s' if each != 1 else ''}" if it.restarts else "one node"
         if groups > 1:
@@ -95,11 +96,10 @@ class Healing:
     def wait(self, budget):
         it, rounds = self.study, self.waited(budget)
         if rounds is None:
-            return "no wait is known, as not all of this is over in the rounds that were run: take a larger budget"
+            return say("no_wait")
         gone = " and its forgotten state was gone" if it.forgets else ""
         who = f"a group of {it.group()} nodes" if it.told["restarts"] and it.group() > 1 else "a node"
-        return (f"wait {lasting(it, [rounds])}, after {who} is up again: {rules.IN_MOST} cases a restart was "
-                f"healed{gone} by then")
+        return say("wait", rounds=lasting(it, [rounds]), who=who, in_most=rules.IN_MOST, gone=gone)
 
     def with_reserve(self, decision):
         """How soon all that fits would heal; empty where that isn't more, or wasn't run."""
@@ -111,23 +111,14 @@ class Healing:
             taken = self.taken(stage, decision.most)
             after = "not over in time" if None in taken else f"{ENDS[stage]} after {briefly(self.study, taken)}"
             said.append(f"{HEALED[stage]} is {after}")
-        return (f"if your program fills the packet anyway, {'; '.join(said)}, under {len(taken)} of the "
-                f"seeds{self.study.nodes_run}")
+        return say("with_reserve", self.study, said="; ".join(said), seeds=len(taken))
 
 
 def to_mind(it):
     """What was run of a split and of restarts, where that isn't what was asked for, and what no run has."""
-    one, (_, groups) = it.unit[:-1], it.restarting()
-    run = f"is one such group, down for one {one}"
-    if groups > 1:
-        run = (f"are {groups} such groups, one in each {one}, each down for one, and one alone. The times count from "
-               f"when the last one is up again, and the longer one is told. While nodes restart in each {one}, "
-               "`greatest` is the number of the round and bounds nothing")
+    groups = it.restarting()[1]
+    run = say("groups" if groups > 1 else "one_group", one=it.unit[:-1], groups=groups)
     return sentences(
-        it.split < it.told["split"] and
-        f"A split of {it.split} {it.unit} was run in place of {it.told['split']}: each key was written anew "
-        "meanwhile, so a longer one leaves no more to catch up with.",
-        it.restarts and
-        f"{it.group()} is the size of a group that restarts at once{fewer(it, it.told['restarts'])}. What was run "
-        f"{run}.",
+        it.split < it.told["split"] and say("shorter_split", it),
+        it.restarts and say("size_of_group", it, fewer=fewer(it, it.told["restarts"]), run=run),
         it.leaves() and rules.DOWN_FOR_LONGER)

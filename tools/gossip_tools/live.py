@@ -9,34 +9,13 @@ from gossip_tools import cluster, live_worker, read, running, scenario, sweep
 from gossip_tools.commands import Refused, number, refuse_if, shown, the_program
 from gossip_tools.live_figures import Figures
 from gossip_tools.live_plan import LARGEST, Plan
-from gossip_tools.words import THE_PROGRAM, Tool, Word, values_of
+from gossip_tools.texts import speaker
+from gossip_tools.words import values_of
 
-TOOL = Tool(
-    ("gossip_live [NAME=VALUE ..] < SCENARIO",),
-    ("""Runs a scenario as a live cluster on this machine: each node has a UDP socket on 127.0.0.1, a clock of its own
-     that isn't in step with the others, and knows of others only what datagrams told it. Prints a row at the end of
-     each interval, or beside the bench one for each window of them.""",
-     (Word("interval", "the seconds of an interval, which is a round of the scenario; 1 where it isn't given", ()),
-      Word("latency", """how long a datagram is under way, in intervals, as latency=0.1, or between two bounds, as
-           latency=0.05,0.2; 0 where it isn't given, which leaves what this machine takes""", ()),
-      Word("fanout", "how many peers a node calls in an interval, all at once; 1 where it isn't given", ()),
-      Word("beside", """runs the bench too, under so many seeds, as beside=5, and prints what both have, with the least
-           and the most of the seeds. It imitates a fanout by so many rounds in an interval, the first of them with
-           writes""", ()),
-      Word("window", "of how many intervals each row beside the bench has the mean, 10 where it isn't given", ())),
-     """The columns are those of the bench that a live cluster has: round, which is the number of the interval, entries,
-     cut, stale, greatest, and in format 2 leftover. An age is in intervals begun. What is random is drawn anew in each
-     run, so `seed` has no effect, and figures differ from run to run. A node that is down for N rounds is down for N of
-     its intervals. The bench writes a round's entries at its beginning, a node when its own interval begins.""",
-     """A message is one datagram, so of at most 65507 bytes. What may be larger is refused. An entry takes 24 bytes, in
-     format 2 `value mod 1000` more, as in the bench; a number of the digest takes 12.""",
-     """At the end standard error has how late the timers of the nodes went off. Where more than one in 20 was late by
-     more than a tenth of an interval, or this machine lost more than one datagram in 1000, the figures are worthless,
-     as it says, and the status is 4: take fewer nodes, or a longer interval.""",
-     (THE_PROGRAM, Word("JOBS", "in how many processes the nodes are, where they aren't as many as there are cores"))))
 USUAL = {"interval": "1", "latency": "0", "fanout": "1", "beside": None, "window": "10"}
 MOST = {"interval": 3600, "latency": 100, "fanout": 4095, "beside": 100, "window": 100000}
 LEAST_INTERVAL = 0.01
+say = speaker("live")
 # The columns of the bench that a live cluster lacks, behind that of the round.
 LACKING = ("exchanges", "unreached", "lost")
 WORTHLESS = 4  # the status
@@ -65,16 +44,15 @@ def plan_of(text, asked):
     top["budget"] = top.pop("budget_bytes", top.get("budget"))
     del top["seed"]
     plan = Plan(**top, **{name: asked[name] for name in ("interval", "latency", "fanout")})
-    refuse_if(plan.fanout >= plan.nodes, f"a node has {plan.nodes - 1} others to call, and fanout is {plan.fanout}.")
-    refuse_if((largest := plan.largest_message()) > LARGEST, f"a digest and a delta may take {largest} bytes, and a "
-              f"datagram takes {LARGEST}: take fewer nodes or keys, a smaller budget, or a scuttle mode.")
+    refuse_if(plan.fanout >= plan.nodes, say("too_few_others", plan, others=plan.nodes - 1))
+    refuse_if(plan.largest_message() > LARGEST, say("too_large", plan, largest=LARGEST))
     return plan
 
 
 def stretched(top, fanout):
     """The text of a scenario in which each interval is as many rounds as a node has calls. Writes are in the first."""
-    refuse_if((loads := len(top.get("load", [])) + top["rounds"]) > scenario.MOST_SECTIONS, "beside the bench a fanout "
-              f"needs {loads} loads, and a scenario takes {scenario.MOST_SECTIONS}: take fewer rounds.")
+    loads, most = len(top.get("load", [])) + top["rounds"], scenario.MOST_SECTIONS
+    refuse_if(loads > most, say("too_many_loads", loads=loads, most=most))
 
     def stretch(fields):
         """What begins does so in the first round of an interval, and what ends in the last."""
@@ -106,8 +84,8 @@ def reports(runs, program, fanout):
     for name, text in runs.items():
         top = read.settings(text)
         answer = subprocess.run([program, "run"], input=text.encode(), capture_output=True)
-        refuse_if(answer.returncode, f"{name}: the program ended with status {answer.returncode}: "
-                  f"{answer.stderr.decode(errors='replace').strip()}", 1)
+        refuse_if(answer.returncode, say("bench_failed", label=name, status=answer.returncode,
+                                         told=answer.stderr.decode(errors="replace").strip()), 1)
         try:
             rows = read.rows_of(answer.stdout, top["format"], top["rounds"])
         except read.NotWhole as lacks:

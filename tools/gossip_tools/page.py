@@ -6,49 +6,12 @@ import re
 from gossip_tools import answer, cluster, files, plots, read, rules
 from gossip_tools.healing import ENDS, HEALED, ROLLING
 from gossip_tools.measures import in_rounds, lasting, sentences, span
+from gossip_tools.texts import speaker, text_of
 
 # (on paper the page is light, whatever the screen is; pictures, which are drawn on white, are turned dark, and their
 # colours stay what they are)
-STYLE = """
-:root { color-scheme: light; --page: #fff; --text: #222; --soft: #444; --line: #ccc; --code: #f4f4f4; --mark: #dbe9f6;
-    --first: #00407a; --none: #a33c00; --warn: #c60; }
-@media screen and (prefers-color-scheme: dark) {
-    :root { color-scheme: dark; --page: #161616; --text: #e4e4e4; --soft: #b8b8b8; --line: #4a4a4a; --code: #242424;
-        --mark: #1d3a57; --first: #00508f; --none: #a33c00; --warn: #f08a24; }
-    figure img { filter: invert(.91) hue-rotate(180deg); }
-}
-body { font: 16px/1.45 sans-serif; color: var(--text); background: var(--page); max-width: 1080px; margin: 0 auto;
-    padding: 0 16px 32px; }
-h1 { font-size: 1.5em; line-height: 1.2; } h2 { font-size: 1.2em; margin: 1.6em 0 .4em; break-after: avoid; }
-.cards { display: grid; gap: 10px; grid-auto-flow: dense;
-    grid-template-columns: repeat(auto-fit, minmax(max(120px, (100% - 50px) / var(--columns)), 1fr)); }
-.cards .broad { grid-column: span 2; }
-.cards div { border: 1px solid var(--line); break-inside: avoid; border-radius: 6px; padding: 8px 10px; }
-.cards b { display: block; font-size: 1.25em; }
-.cards .first { background: var(--first); color: #fff; border-color: var(--first); }
-.cards .none { background: var(--none); color: #fff; border-color: var(--none); }
-.pictures { display: grid; grid-template-columns: repeat(auto-fit, minmax(min(100%, 440px), 1fr)); gap: 16px; }
-figure { margin: 0; break-inside: avoid; } figure img { width: 100%; max-width: 600px; display: block; }
-figcaption { font-size: .9em; color: var(--soft); } .wide { overflow-x: auto; }
-.mind { border-left: 4px solid var(--warn); } ul { padding-left: 28px; }
-table { border-collapse: collapse; font-size: .9em; }
-td, th { border: 1px solid var(--line); padding: 3px 8px; text-align: right; }
-td.chosen { background: var(--mark); font-weight: bold; }
-pre { font-size: .8em; white-space: pre-wrap; overflow-wrap: anywhere; background: var(--code); padding: 8px; }
-@media print {
-    body { font-size: 10pt; max-width: none; padding: 0; }
-    .pictures { grid-template-columns: 1fr 1fr; gap: 8px 16px; }
-    .pictures:has(figure:nth-child(3)) { grid-template-columns: repeat(3, 1fr); }
-    figure img { max-width: 6.4cm; } figcaption { font-size: .8em; }
-    details, td br { display: none; }
-    .wide { overflow-x: visible; } td small { margin-left: .6em; }
-    .before-table { break-inside: avoid; break-after: avoid; }
-    tr { break-inside: avoid; } tbody tr:nth-child(-n+3), tr:last-child { break-before: avoid; }
-    thead { display: table-header-group; }
-}
-"""
-
-
+STYLE = "\n" + text_of("page.css")
+say = speaker("page")
 MOST_COLUMNS = 5  # of cards beside each other
 
 
@@ -116,33 +79,20 @@ def paragraphs(lines):
 
 
 def captions(decision):
-    it, (first, last), (each, _) = decision.study, decision.window, decision.study.restarting()
-    above = "What is higher than the picture is in the table. "
+    it, each = decision.study, decision.study.restarting()[0]
     same = plots.lie_on_each_other(decision)
-    same = f"All modes have the same figures from {it.whole(same)} entries on. " if same else ""
-    most = " Of each interval the round with the most is shown." if it.fanout > 1 else ""
-    band = "The line has the seed in the middle, bars go from the least to the most of the seeds"
-    return {
-        "worst": f"The knee: worst staleness in rounds {first} to {last} of the runs that chose. Bars go from the "
-                 f"least to the most of the seeds, points are the seed in the middle. {above}{same}",
-        "cut": "The share of lacking entries that the budget cut, in the same rounds.",
-        "greatest": "The age of the oldest write that some copy lacks, round by round, under seed 1. Each mode has the "
-                    f"budget that it would take, as the key says. Wide curves lie below narrow ones.{most}",
-        "stale": f"The share of copies that are behind their owner, in the same runs.{most}",
-        "split": f"After a split of half of the nodes for {it.split} {it.unit}, whose last round is 0, in "
-                 f"{decision.mode}. {band}.",
-        "restart": f"After {each if it.restarts else 'one'} node{'s' if each > 1 else ''} restarted"
-                   f"{f' in each of some {it.unit}' if it.restarts else ''}, the last in round 0. A restarted "
-                   "node lacks the writes of round 1, so `greatest` is the number of the round until it has caught up. "
-                   f"{band}.",
-        "forgotten": "What others still hold of forgotten states: at 1 all other nodes still hold one node's whole old "
-                     f"state. {band}.",
+    values = {
+        "same": say("same", entries=it.whole(same)) if same else "", "most": say("most") if it.fanout > 1 else "",
+        "nodes": f"{each if it.restarts else 'one'} node{'s' if each > 1 else ''}",
+        "each": f" in each of some {it.unit}" if it.restarts else "", "band": say("band"),
     }
+    return {name: say(name, decision, **values) for name in (
+        "worst", "cut", "greatest", "stale", "split", "restart", "forgotten")}
 
 
 def pictures(folder, decision, healing):
     if not plots.is_there():
-        return "<p class='mind'>gnuplot isn't there, so there are no pictures. With it the same call draws them.</p>"
+        return say("no_pictures")
     room = folder / "pictures"
     room.mkdir(exist_ok=True)
     text, said = "", captions(decision)
@@ -199,26 +149,15 @@ def make(folder, decision, healing, made, check_sum, missing=(), more=(), head="
     it = decision.study
     tenth = f", of which {it.nodes} were run; budgets are those of all" if it.parts > 1 else ""
     title = f"{head}{int(it.told['nodes'])} nodes: {decision.headline()}"
-    text = f"""<!DOCTYPE html>
-<html lang="en"><head><meta charset="utf-8"><meta name="viewport" content="width=device-width, initial-scale=1">
-<title>{told(title)}</title><style>{STYLE}</style></head><body>
-<h1>{told(title)}</h1>
-<p>{it.told['nodes']} nodes{tenth}. Keys of each: {it.keys}; writes in an interval of
-{cluster.plain(it.told['interval'])} s: {it.writes}; calls in an interval, each of which is a round: {it.fanout};
-messages lost: {cluster.plain(it.told['loss'])} %. Mode and budget were chosen by {len(rules.CHOOSING)} seeds, and what
-they bring is bounded by others, {rules.IN_MOST} runs.</p>
-{cards(decision, healing, more)}
-{below_the_cards(decision, healing)}{paragraphs(missing)}
-{listed("Mind", answer.warnings(decision), "mind")}
-{pictures(folder, decision, healing)}
-<h2>Worst staleness and share cut</h2>
-{table(decision)}
-{listed("Too close to call", decision.too_close())}
-{listed("Left out for this cluster", answer.left_out(decision))}
-<h2>To make it again</h2>
-{made_of(folder, it, made, check_sum)}
-</body></html>
-"""
+    text = text_of("page.html").format(
+        title=told(title), style=STYLE, it=it, nodes=it.told["nodes"], tenth=tenth,
+        interval=cluster.plain(it.told["interval"]), lost=cluster.plain(it.told["loss"]), choosing=len(rules.CHOOSING),
+        in_most=rules.IN_MOST, cards=cards(decision, healing, more),
+        below_the_cards=below_the_cards(decision, healing), missing=paragraphs(missing),
+        mind=listed("Mind", answer.warnings(decision), "mind"), pictures=pictures(folder, decision, healing),
+        table=table(decision), too_close=listed("Too close to call", decision.too_close()),
+        left_out=listed("Left out for this cluster", answer.left_out(decision)),
+        made_of=made_of(folder, it, made, check_sum))
     files.put(folder / "report.html", text)
     missing = "" if plots.is_there() else " without pictures, as gnuplot isn't there"
     return f"The page is {folder / 'report.html'}{missing}."

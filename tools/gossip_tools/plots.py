@@ -8,6 +8,7 @@ import statistics
 import subprocess
 
 from gossip_tools import files, read, rules, scenario
+from gossip_tools.texts import text_of
 
 # Colours that the colour-blind tell apart; widths and points also tell them apart in black and white.
 COLOURS = dict(zip(scenario.MODES, (("#e69f00", 5), ("#00407a", 7), ("#009e73", 9), ("#cc79a7", 13))))
@@ -16,15 +17,7 @@ WIDTHS = (9, 6, 3.5, 1.5)
 STYLES = {mode: (COLOURS[mode][0], width, COLOURS[mode][1])
           for mode, width in zip(reversed(rules.CHEAPEST_FIRST), WIDTHS)}
 BUDGETS = (("#e69f00", 8, 5), ("#56b4e9", 5.5, 9), ("#009e73", 3.5, 13), ("#00407a", 1.5, 7))
-HEAD = """set terminal svg size 480, 380 dynamic font "sans-serif,14" background "white"
-set output "{name}.svg"
-set key outside bottom center horizontal maxcols 2 width -2 samplen 2 font ",12" title " "
-set grid ytics linecolor "#dddddd"
-set border 3
-set tics nomirror
-set xlabel "{x}" offset 0, 0.4
-set ylabel "{y}"
-"""
+HEAD = text_of("picture.gnuplot")
 LINE = 'nohead linewidth 1.5 linecolor "#555555" dashtype'
 LEAST_SHOWN = 20
 # A budget has bars at so many rounds at most, the next one's so far beside them, of the way to the next round.

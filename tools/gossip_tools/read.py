@@ -6,22 +6,10 @@ import tomllib
 
 from gossip_tools import files, scenario
 from gossip_tools.commands import Refused, folder_of, number, refuse_if, shown
-from gossip_tools.words import Tool, Word
+from gossip_tools.texts import speaker
 
-TOOL = Tool(
-    tuple(f"gossip_read {it} [FOLDER] [--seeds] [--partial]"
-          for it in ("window FROM TO", "level FROM LEVEL", "leftover FROM LEVEL")),
-    ("""Prints a line for each run of the folder that gossip_sweep filled, `runs` where none is named (-o FOLDER names
-     one too). With --seeds the runs that differ in their seed alone have one line, and each column goes from its least
-     to its most over the seeds. Where a run has no whole report, it says which and ends with status 2; with --partial
-     it says so and goes on with the others.""",
-     (Word("window", """what was cut in the rounds FROM to TO, in per cent of all that was lacking, and the least and
-           the most of `greatest` and of `stale` there, and of `leftover` in format 2"""),
-      Word("level", """the first round from FROM on in which `greatest` is at most LEVEL, and how many rounds it took,
-           FROM among them; or `never`"""),
-      Word("leftover", "the same of `leftover`, which format 2 alone has"))),
-    ("-o FOLDER", "--seeds", "--partial"))
 OF_FORMAT_1 = ["round", "exchanges", "unreached", "lost", "entries", "cut", "stale", "greatest"]
+say = speaker("read")
 COLUMNS = {1: OF_FORMAT_1, 2: [*OF_FORMAT_1, "leftover"]}  # by the format
 
 
@@ -191,10 +179,8 @@ def figures(runs, folder, what, first, second):
     found, last = {}, second if what == "window" else first
     for values in sorted(runs.rows, key=place):
         rows = runs.rows[values]
-        refuse_if(not 1 <= first <= last <= len(rows),
-                  f"the rounds {first} to {last} aren't in all runs: one has {len(rows)}.")
-        refuse_if(what == "leftover" and what not in rows[0],
-                  f"the runs in {folder} are of format 1, which has no column leftover.")
+        refuse_if(not 1 <= first <= last <= len(rows), say("no_rounds", first=first, last=last, rounds=len(rows)))
+        refuse_if(what == "leftover" and what not in rows[0], say("no_leftover", folder=folder))
         found[values] = window(rows, first, last) if what == "window" else \
             level("greatest" if what == "level" else what, rows, first, second)
     return found
@@ -206,8 +192,7 @@ def main(words):
     is_named = "-o" in words
     folder, words = folder_of(words, "runs")
     for word in words:
-        refuse_if(re.match("-[^0-9]", word),
-                  f"'{shown(word)}' is no option: there are -o FOLDER, --seeds and --partial.")
+        refuse_if(re.match("-[^0-9]", word), say("no_option", word=shown(word)))
     if len(words) == 4 and not is_named:
         folder, words = pathlib.Path(words[3]), words[:3]
     if len(words) != 3 or words[0] not in ("window", "level", "leftover"):
@@ -216,8 +201,7 @@ def main(words):
     second = number(words[2], "TO", 1) if what == "window" else number(words[2], "LEVEL")
     runs = Runs(folder)
     refuse_if(seeds and "seed" not in runs.fields, f"the runs in {folder} have no field seed of their own.")
-    refuse_if(runs.missing and not (partial and runs.rows),
-              f"{runs.what_is_missing()} The same sweep makes them; --partial goes on without them.")
+    refuse_if(runs.missing and not (partial and runs.rows), say("missing", runs))
     if runs.missing:
         print(f"gossip_read: {runs.what_is_missing()}", file=sys.stderr)
     if runs.without_sum:

@@ -6,6 +6,7 @@ seed, and its band goes from the least to the most. An interval has as many roun
 import math
 
 from gossip_tools.scenario import MODES, USUAL_MODE, digest_numbers
+from gossip_tools.texts import sentence
 
 # The seeds by which a mode and a budget are chosen, and the others that bound what these then bring: those that chose
 # would bound it by the luckiest choice. More of them bound what heals, where that is little work. The first ones show
@@ -177,15 +178,8 @@ def counts_bytes(room):
     return room < FEW_ENTRIES
 
 
-# When a split and a restart count as healed. What they heal from ends with a last round, the one that counts as 0.
-HEALED = ("the oldest write that some copy lacked was for the first time no older than usual: at most one round older "
-          "than the oldest in rounds {} to {} of the run, when all was well. After a split, rounds count once the "
-          "first writes that it held up would be older than that. Later the oldest may be older again for some rounds. "
-          "Healed copies are as stale as usual, not equal.")
-# What counts where nodes forget and a budget is below `nodes * writes`.
-FORGETFUL = ("old state goes sooner in `scuttle-breadth`, but a restart heals later there than old state goes in "
-             "`scuttle-depth`, and copies are staler. Take `scuttle-breadth` only where old state does more harm than "
-             "that, or better a larger budget")
+# When a split and a restart count as healed, and what counts where nodes forget below `nodes * writes`.
+HEALED, FORGETFUL = (sentence("rules", it) for it in ("healed", "forgetful"))
 DATAGRAM = 65507  # bytes at most of a packet that is one datagram of UDP
 # What a restart takes where nodes are down for longer than the one round of the test.
 DOWN_FOR_LONGER = "Nodes that are down for longer may take some rounds more, which no time above has."

@@ -9,12 +9,11 @@ import io
 import os
 import sys
 
-# Of each tool the module, with the function that carries it out and what is said of it.
+# Of each tool the module and the function that carries it out.
 TOOLS = {
-    "gossip_advise": ("advise", "main", "TOOL"), "gossip_apart": ("sections", "apart", "APART"),
-    "gossip_live": ("live", "main", "TOOL"), "gossip_read": ("read", "main", "TOOL"),
-    "gossip_restarts": ("sections", "restarts", "RESTARTS"), "gossip_scenario": ("cluster", "main", "TOOL"),
-    "gossip_sweep": ("sweep", "main", "TOOL"),
+    "gossip_advise": ("advise", "main"), "gossip_apart": ("sections", "apart"), "gossip_live": ("live", "main"),
+    "gossip_read": ("read", "main"), "gossip_restarts": ("sections", "restarts"),
+    "gossip_scenario": ("cluster", "main"), "gossip_sweep": ("sweep", "main"),
 }
 
 
@@ -58,8 +57,10 @@ def end_at_signals():
 
 
 def tool_of(name):
-    module, *names = TOOLS[name]
-    return [getattr(importlib.import_module(f"gossip_tools.{module}"), it) for it in names]
+    """What carries a tool out, and what it declares of its words."""
+    module, main = TOOLS[name]
+    words = importlib.import_module("gossip_tools.words")
+    return getattr(importlib.import_module(f"gossip_tools.{module}"), main), words.tool(name)
 
 
 def name_of(path):

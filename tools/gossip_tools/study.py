@@ -22,6 +22,7 @@ from fractions import Fraction
 
 from gossip_tools import cluster, read, rules, scenario
 from gossip_tools.commands import Refused, refuse_if
+from gossip_tools.texts import speaker
 
 # What is to be healed begins once the tables have filled and `greatest` is level: after so many intervals, of which the
 # last ones tell the level, and later with a budget below the knee.
@@ -38,6 +39,7 @@ FILLED = {stage: max(50, first - 1) for stage, (first, _) in rules.WINDOWS.items
 HOUR, SHORTER = 3600, (2400, 1800, 1200, 900, 600, 400, 300, 200, 100)
 BOUND_WORK, MOST_WORK = 2.1e10, 3.6e12
 LITTLE_WORK = 2e9  # of many intervals
+say = speaker("study")
 
 
 class Study:
@@ -47,13 +49,11 @@ class Study:
         self.told = told
         self.usual = told["mode"] or scenario.USUAL_MODE
         self.parts = 10 if cluster.is_too_large(told["nodes"], told["keys"]) else 1
-        refuse_if(self.parts > 1 and self.usual != scenario.USUAL_MODE, f"{told['nodes']} nodes are more than a "
-                  f"scenario takes, and a tenth of them says little but in {scenario.USUAL_MODE}: leave out "
-                  f"mode={self.usual}.")
+        refuse_if(self.parts > 1 and self.usual != scenario.USUAL_MODE, say(
+            "one_mode", nodes=told["nodes"], usual=scenario.USUAL_MODE, mode=self.usual))
         self.all_nodes, self.keys, self.writes = int(told["nodes"]), int(told["keys"]), int(told["writes"])
         self.nodes = self.all_nodes // self.parts
-        refuse_if(cluster.is_too_large(self.nodes, self.keys), "a tenth of these nodes is still too large for a "
-                  f"scenario, which takes 4096 nodes and {scenario.MOST_TRIPLES} of nodes * nodes * keys.")
+        refuse_if(cluster.is_too_large(self.nodes, self.keys), say("tenth_is_too_large", most=scenario.MOST_TRIPLES))
         scenario.limited("nodes", self.nodes)
         self.fanout, self.seconds = int(told["fanout"]), told["interval"] / told["fanout"]
         # (what intervals are called, and how many nodes were run, where that is a tenth)
@@ -78,8 +78,7 @@ class Study:
         self.largest, (_, last) = self.whole(max(map(self.most, self.fits))), self.window("many")
         self.least_rounds = max(0, int(self.fanout * rules.least_staleness(
             self.largest, self.all_nodes, self.keys, self.writes, self.fanout)))
-        refuse_if(self.least_rounds > last, f"no budget that fits keeps the worst staleness below {last} rounds: "
-                  f"{self.why_at_least()}.")
+        refuse_if(self.least_rounds > last, say("none_is_level", self, last=last))
         self.target = None if told["target"] is None else self.target_of(told["target"])
         # (the most that a scenario takes: in rounds, and in sections where each interval has one)
         self.most_intervals = min(scenario.LIMITS["rounds"][1] // self.fanout,
@@ -101,27 +100,24 @@ class Study:
     def target_of(self, seconds):
         """The rounds of a target, which the longest runs have to be able to show."""
         rounds, most = int(seconds / self.seconds), rules.highest_level(self.window("longest"))
-        refuse_if(not 1 <= rounds <= most, f"target={cluster.plain(seconds)} would be {rounds} rounds of "
-                  f"{cluster.plain(self.seconds)} s, and has to be from 1 to {most} of them.")
+        refuse_if(not 1 <= rounds <= most, say("target", target=cluster.plain(seconds), rounds=rounds, most=most,
+                                               length=cluster.plain(self.seconds)))
         return rounds
 
     def why_none_fits(self):
-        told, whole = self.told, self.knee_of_all
+        told = self.told
         lacks = f"no room for {LEAST} entries of {cluster.plain(told['entry'])} bytes"
         enough = f"takes packet={self.packet(self.usual)}"
         if not self.shares:
-            return f"{told['packet']} bytes have {lacks}: room for {self.knee_name} = {whole} of them {enough}."
+            return say("none_fits", self, lacks=lacks, enough=enough)
         digest, alone = self.digest_bytes(self.usual), int(told["packet"] / told["entry"])
         too_large = f", and the digest still fits no packet of {told['packet']}" if digest > told["packet"] else ""
-        return (f"the digest takes {digest} of the {told['packet']} bytes, which leaves {lacks}: with shared=no the "
-                f"delta has room for {alone}, {alone / whole:.2g} times {self.knee_name}{too_large}; room for the "
-                f"digest and {self.knee_name} = {whole} entries {enough}.")
+        return say("none_fits_with_digest", self, digest=digest, lacks=lacks, alone=alone,
+                   part=alone / self.knee_of_all, too_large=too_large, enough=enough)
 
     def why_at_least(self):
         """The sum in words, and how large a packet would have to be."""
-        return (f"each node has {(self.all_nodes - 1) * self.keys} copies to renew and gets about two deltas of "
-                f"{self.largest} entries in a round, so it is at least {self.least_rounds} rounds; room for "
-                f"{self.knee_name} = {self.knee_of_all} entries takes packet={self.packet(self.usual)}")
+        return say("at_least", self, copies=(self.all_nodes - 1) * self.keys, packet=self.packet(self.usual))
 
     def steady_stages(self):
         """The stages that can show a budget to be level, each longer than the one before."""
@@ -211,8 +207,8 @@ class Study:
         asked = int(-(-hours * 3600 // (self.fanout * self.seconds)))
         most = min(self.most_intervals - max(FILLED.values()), int(MOST_WORK / self.work_of(1)))
         longest = cluster.plain(Fraction(int(100 * most * self.fanout * self.seconds / 3600), 100))
-        refuse_if(not 1 <= asked <= most, f"hours={cluster.plain(hours)} would be {asked} intervals under each seed, "
-                  f"and from 1 to {most} are run: hours={longest} is the most.")
+        refuse_if(not 1 <= asked <= most, say("hours", hours=cluster.plain(hours), asked=asked, most=most,
+                                              longest=longest))
         return asked
 
     def bounded(self, stage):

@@ -10,22 +10,9 @@ import sys
 from gossip_tools import files, folders, running, scenario
 from gossip_tools.commands import Refused, fault_of, folder_of, refuse_if, shown, the_program, workers
 from gossip_tools.progress import Progress
-from gossip_tools.words import THE_PROGRAM, Tool, Word
+from gossip_tools.words import tool
 
-TOOL = Tool(
-    ("gossip_sweep [-o FOLDER] FIELD=VALUE,VALUE.. .. < SCENARIO",),
-    ("""Runs the scenario with each choice of values, in all four modes where `mode` isn't among the fields. The folder,
-     `runs` where none is named, gets the scenario and the report of each run, as budget-600.mode-precise-oldest.csv. A
-     report that is there as it was made, by the check sums in the .sum beside it, its own and its scenario's, isn't
-     made again, so a sweep that was ended goes on where it was. A folder takes runs of one scenario and of the same
-     fields in the same order, so that gossip_read can read them, by one program, and one sweep at a time.""",
-     (THE_PROGRAM,
-      Word("JOBS", "how many runs go at once, where it isn't one for each core"),
-      Word("HOSTS", """the machines, as in HOSTS=:,alpha,8/beta, where `:` is this one: by GNU parallel over ssh. Each
-           has the program under the same path, and perl, and gets no file. One without GNU parallel of its own makes
-           one run at a time, unless its cores are told, as 8 of beta. Nothing is run where the program doesn't start on
-           one of them"""))),
-    ("-o FOLDER",))
+TOOL = tool("gossip_sweep")
 # Faults of files that are there again where the same command is given: something else has to be done first.
 LASTING = {errno.EACCES, errno.EPERM, errno.EROFS, errno.EISDIR, errno.ENOTDIR, errno.ENOENT, errno.ELOOP,
            errno.ENAMETOOLONG}
@@ -59,9 +46,9 @@ def spread(text, choices, name=""):
     return runs
 
 
-def given_scenario(tool="gossip_sweep"):
+def given_scenario(name="gossip_sweep"):
     if sys.stdin.isatty():
-        print(f"{tool}: the scenario is read from here, as none comes by < SCENARIO.", file=sys.stderr)
+        print(f"{name}: the scenario is read from here, as none comes by < SCENARIO.", file=sys.stderr)
     with files.named("standard input"):
         return scenario.read(sys.stdin.buffer)
 

@@ -9,12 +9,14 @@ target isn't taken for what is usual.
 import math
 
 from gossip_tools import answer, choice, cluster, rules, study
-from gossip_tools.measures import briefly, in_rounds, lasting, rows, sentences, span
+from gossip_tools.measures import briefly, in_rounds, lasting, rows, span
+from gossip_tools.texts import speaker
 
 # Budgets aren't halved any further where the next smaller one that was run is an entry or less than a hundredth below.
 FINE = 100
 # By which part a budget is raised that doesn't keep to the target under all seeds, for each so many that don't.
 RAISED, OF_SEEDS = 20, 5
+say = speaker("target")
 
 
 def in_time(it):
@@ -26,22 +28,21 @@ def above_target(it, worst):
 
 
 def met(it, bound):
-    return f"met: {bound.holds_in()} the worst staleness is within {in_time(it)}"
+    return say("met", bound=bound, within=in_time(it))
 
 
 def judged(decision):
     """Whether what was decided for a packet keeps to the target, as a name and words."""
     it, most = decision.study, decision.bound_of_most
     if not decision.suffices:
-        said = f"not met: no budget that fits is enough, where the worst staleness is to be within {in_time(it)}"
+        said = say("none_is_enough", within=in_time(it))
     elif it.keeps_to_target(decision.bounded()):
         said = met(it, decision.bound)
     elif most and most.is_level() and it.keeps_to_target(most.worst):
-        said = f"met with all that fits alone, {decision.all_that_fits()}: {met(it, most).removeprefix('met: ')}"
+        said = say("with_all", decision, how=met(it, most).removeprefix("met: "))
     else:
-        above = above_target(it, decision.bounded())
-        said = (f"not met: the worst staleness is above {in_time(it)} in {above} of {len(decision.bounded())} "
-                f"{decision.bound.runs()}. Without packet= the smallest that keeps to it is looked for")
+        above, seeds = above_target(it, decision.bounded()), len(decision.bounded())
+        said = say("not_met", decision, within=in_time(it), above=above, seeds=seeds)
     return "target", said
 
 
@@ -72,12 +73,8 @@ class Ages:
 
     def told(self, budget, mode):
         """Both, as names and words."""
-        first, last = self.window
-        why = "half of the stale copies lack only writes that are no older"
-        if self.typical(budget, mode) is None:
-            why = "so long after the last write fewer than half of the stale copies have caught up"
-        return [("stale copies", f"{span(self.shares(budget, mode))} %: so many of all copies lack some write, on "
-                                 f"average over rounds {first} to {last}"),
+        why = say("not_yet" if self.typical(budget, mode) is None else "no_older")
+        return [("stale copies", say("stale", self, share=span(self.shares(budget, mode)))),
                 ("a typical one", f"{self.at_most(budget, mode)}: {why}")]
 
 
@@ -184,9 +181,8 @@ class Met(choice.Decision):
         self.figures = {mode: self.worst_with(*search.run_of(mode)) for mode in search.modes or [self.mode]}
         self.read()
         it, entries = self.study, self.whole_budget()
-        self.against = sentences(
-            not it.in_bytes and not it.told["count"] and rules.counts_bytes(entries) and
-            f"{entries} entries are few, and a large one holds up smaller ones behind it: count=bytes counts that.")
+        are_few = not it.in_bytes and not it.told["count"] and rules.counts_bytes(entries)
+        self.against = [say("counts_bytes", entries=entries)] if are_few else []
 
     def run_of(self, mode):
         return (self.budget, mode) if mode == self.mode else self.search.run_of(mode)
@@ -209,40 +205,34 @@ class Met(choice.Decision):
         it, below = self.study, self.search.below[self.mode]
         if bounded := [at for at in self.search.bounded if at < self.budget]:
             worst = self.search.bounded[max(bounded)].worst
-            return (f"{it.whole(max(bounded))} entries: the next smaller budget that was run so long has more under "
-                    f"{above_target(it, worst)} of {len(worst)} seeds, up to {briefly(it, [max(worst)])}")
+            return say("smaller_bound", entries=it.whole(max(bounded)), above=above_target(it, worst),
+                       seeds=len(worst), most=briefly(it, [max(worst)]))
         if (below, self.mode) in self.found.rows:
             level = "" if self.is_enough(below, self.mode) else ", not level"
-            return (f"{it.whole(below)} entries: the next smaller budget that was run has "
-                    f"{briefly(it, self.worst_with(below, self.mode))}{level}")
-        return f"not known: below {it.knee_name} a tenth of the nodes says too little" if it.parts > 1 else ""
+            had = briefly(it, self.worst_with(below, self.mode))
+            return say("smaller", entries=it.whole(below), had=had, level=level)
+        return say("smaller_tenth", self) if it.parts > 1 else ""
 
     def more(self):
         """Whether the target is met, what the next smaller budget has, and ages, as names and words."""
         it = self.study
-        said = f"not met: the largest budget that was run has more than {in_time(it)}"
+        said = met(it, self.bound) if self.is_met else say("largest", within=in_time(it))
         smaller = [("a smaller one", self.smaller_one())] if self.is_met and self.smaller_one() else []
-        return [("target", met(it, self.bound) if self.is_met else said), *smaller,
-                *self.ages.told(*self.run_of(self.mode))]
+        return [("target", said), *smaller, *self.ages.told(*self.run_of(self.mode))]
 
     def of_mode_in_words(self, mode):
         """What a mode needs, and what it then has."""
         budget, pair = self.search.least[mode], self.search.run_of(mode)
         most = "" if self.ages.typical(*pair) is None else "at most "
-        return (f"{self.study.whole(budget)} entries, packet={self.search.packet(mode)}: worst staleness "
-                f"{in_rounds(self.figures[mode])}; {span(self.ages.shares(*pair))} % of the copies are stale, half of "
-                f"them by {most}{self.ages.at_most(*pair)}")
+        return say("of_mode", entries=self.study.whole(budget), packet=self.search.packet(mode), most=most,
+                   worst=in_rounds(self.figures[mode]), share=span(self.ages.shares(*pair)),
+                   age=self.ages.at_most(*pair))
 
     def in_words(self, call):
-        it = self.study
-        lines = [f"No budget keeps the worst staleness within {in_time(it)}. The best that can be had, with "
-                 f"{self.room()}: {self.staleness()}. A shorter interval, more calls in it or less loss would help."]
-        if self.is_met:
-            lines = [f"To keep the worst staleness within {in_time(it)}, each mode takes about this, by halving over "
-                     f"budgets under {len(rules.FIRST)} seeds:",
-                     *rows(*((mode, self.of_mode_in_words(mode)) for mode in self.figures)), "",
-                     f"Take {self.takes()}."]
-        lines += ["", *answer.of_staleness(self, self.more())]
-        if self.is_met:
-            lines += ["", "What heals, and what else speaks for a mode, is told with that packet:", f"  {call}"]
-        return lines + answer.heads(self)
+        staleness = ["", *answer.of_staleness(self, self.more())]
+        within = in_time(self.study)
+        if not self.is_met:
+            return [say("best", self, within=within), *staleness, *answer.heads(self)]
+        modes = rows(*((mode, self.of_mode_in_words(mode)) for mode in self.figures))
+        return [say("each_mode", within=within, seeds=len(rules.FIRST)), *modes, "", f"Take {self.takes()}.",
+                *staleness, "", say("see_more"), f"  {call}", *answer.heads(self)]

@@ -1,11 +1,16 @@
-"""The words of a tool, declared once: its calls are read by them, and its help, its page for man and the completion of
-its words are made of them."""
+"""The words of a tool, which words.toml declares once: its calls are read by them, and its help, its page for man and
+the completion of its words are made of them."""
+import functools
 import textwrap
 from typing import NamedTuple
 
 from gossip_tools.commands import Refused, shown
+from gossip_tools.scenario import MODES
+from gossip_tools.texts import table_of
 
 WIDTH = 120
+# What words take that are no numbers.
+TEXTS = {"mode": MODES, "count": ("bytes", "entries"), "shared": ("yes", "no"), "forget": ("yes", "no")}
 
 
 class Word(NamedTuple):
@@ -36,6 +41,19 @@ class Tool(NamedTuple):
         return "\n\n".join(blocks)
 
 
+@functools.cache
+def tool(name):
+    declared = table_of("words.toml")
+    it, shared = declared[name], declared["shared"]
+
+    def word(name, text):
+        plain = name.removesuffix("=")
+        return Word(plain, text or shared[name], None if plain == name else TEXTS.get(plain, ()))
+
+    parts = [part.get("text") or [word(*pair) for pair in part.items()] for part in it["parts"]]
+    return Tool(it["calls"], parts, it.get("options", ()))
+
+
 def filled(text, first="", behind=""):
     return textwrap.fill(" ".join(text.split()), WIDTH, initial_indent=first, subsequent_indent=behind,
                          break_long_words=False, break_on_hyphens=False)
@@ -54,7 +72,3 @@ def values_of(words, names, more=lambda word, name: "", aliases=()):
                           f"{more(word, name)}")
         values[name] = text
     return values
-
-
-# The variables that several tools go by.
-THE_PROGRAM = Word("GOSSIP_BENCH", "the program, where it isn't the one beside this tool or the one that is built")

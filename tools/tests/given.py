@@ -1,12 +1,13 @@
 """What tests are given: clusters by their words, and figures for which nothing was run."""
-from gossip_tools import advise, choice, cluster, study
+import pathlib
+import tomllib
+
+from gossip_tools import advise, answer, choice, cluster, study
 from gossip_tools.commands import Refused
-from gossip_tools.read import NotWhole
+from gossip_tools.live_plan import Plan
 
 DEPTH, BREADTH, OLDEST, NEWEST = "scuttle-depth", "scuttle-breadth", "precise-oldest", "precise-newest"
-SOME = "nodes=300 keys=4 writes=2 entry=40"
-ROOMY = f"{SOME} packet=40000"
-TENTH = "nodes=10000 keys=4 writes=1 entry=40 packet=640000 digest=20"
+ROOMY = "nodes=300 keys=4 writes=2 entry=40 packet=40000"
 
 
 def of(words):
@@ -36,13 +37,9 @@ def of_depth(figures):
     return {(budget, DEPTH): worst for budget, worst in figures.items()}
 
 
-def decided(words, depth, others=(), rising=(), stage="many"):
-    """What is decided for a cluster by its figures in scuttle-depth, by budget, and by others: with a mode, or without,
-    and then in all that fit."""
-    it, figures = of(words), {}
-    for key, worst in dict(others).items():
-        figures |= {key: worst} if isinstance(key, tuple) else {(key, mode): worst for mode in it.fits}
-    return choice.Decision(it, Figures(figures | of_depth(depth), rising), stage)
+def decided(words, depth, stage="many"):
+    """What is decided for a cluster by its figures in scuttle-depth, by budget."""
+    return choice.Decision(of(words), Figures(of_depth(depth)), stage)
 
 
 def bound(decision, depth, rising=()):
@@ -52,11 +49,19 @@ def bound(decision, depth, rising=()):
     return decision
 
 
+def plan(**fields):
+    """What is to happen in a live cluster of four nodes."""
+    usual = {"format": 1, "nodes": 4, "keys": 2, "rounds": 9, "mode": "scuttle-breadth", "budget": 9, "peers": "ring",
+             "rotation": "none", "choice": "cycle", "loss_ppm": 0, "writes": 1, "partition": [], "restart": [],
+             "load": [], "interval": 1, "latency": (0, 0), "fanout": 1}
+    return Plan(**{**usual, **fields})
+
+
 def outcome(function, *words):
     """What a call answers, or with which words it refuses."""
     try:
         return function(*words)
-    except (Refused, NotWhole) as why:
+    except Refused as why:
         return str(why)
 
 
@@ -67,3 +72,33 @@ def table(function, outcomes):
         self.assertEqual(outcomes, found)
 
     return test
+
+
+def table_of(name):
+    return tomllib.loads(pathlib.Path(__file__).with_name(name).read_text("utf-8"))
+
+
+def cases_of(name):
+    """The cases of a table, by name. One that has `each` stands for several, which have in common what else it has."""
+    for case, it in table_of(name).items():
+        for at, one in enumerate(it.pop("each", [{}]), 1):
+            yield f"{case} {at}", it | one
+
+
+def value_of(it, name, *arguments):
+    """What something has, or answers, by this name; else what answer.py says of it."""
+    if not hasattr(it, name):
+        return getattr(answer, name)(it)
+    found = getattr(it, name)
+    return found(*arguments) if callable(found) else found
+
+
+def plain(value):
+    """A value as a table has it."""
+    if value is None:
+        return "none"
+    if isinstance(value, dict):
+        return {name: plain(it) for name, it in value.items()}
+    if isinstance(value, (set, frozenset)):
+        return sorted(map(plain, value))
+    return list(map(plain, value)) if isinstance(value, (list, tuple, range)) else value

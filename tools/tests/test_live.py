@@ -4,18 +4,10 @@ import random
 import unittest
 from types import SimpleNamespace
 
-from gossip_tools import live, live_figures, live_node, scenario
+from gossip_tools import live, live_figures, live_node
 from gossip_tools.live_node import Entry, Kind, Message, Node
-from gossip_tools.live_plan import Plan
 from gossip_tools.scenario import MODES
-from given import DEPTH, OLDEST, outcome, table
-
-
-def plan(**fields):
-    usual = {"format": 1, "nodes": 4, "keys": 2, "rounds": 9, "mode": "scuttle-breadth", "budget": 9, "peers": "ring",
-             "rotation": "none", "choice": "cycle", "loss_ppm": 0, "writes": 1, "partition": [], "restart": [],
-             "load": [], "interval": 1, "latency": (0, 0), "fanout": 1}
-    return Plan(**{**usual, **fields})
+from given import outcome, plan, table
 
 
 def mark(generation, version):
@@ -140,33 +132,7 @@ def gaps(nodes):
 
 
 class Plans(unittest.TestCase):
-    # Of four nodes node 2 calls 3, 0, 1, 3 .., and with a fanout of 2 first 3 and 0, then 1 and 3; or all others.
-    test_peers = table(lambda fanout, round: plan(fanout=fanout).peers_of(2, round), {
-        (1, 1): [3], (1, 2): [0], (1, 3): [1], (1, 4): [3], (2, 1): [3, 0], (2, 2): [1, 3]})
     test_random_peers = table(lambda fanout: sorted(plan(peers="random", fanout=fanout).peers_of(2, 1)), {3: [0, 1, 3]})
-
-    # Two nodes are separated where one alone is listed.
-    test_separated = table(plan(partition=[{"from": 2, "to": 3, "apart": [0, 1]}]).are_separated, {
-        (1, 2, 1): False, (1, 2, 2): True, (1, 2, 3): True, (1, 2, 4): False, (0, 1, 2): False, (2, 3, 2): False})
-
-    # The last listed load counts.
-    test_writes = table(plan(load=[{"from": 2, "to": 4, "writes": 3}, {"from": 4, "to": 5, "writes": 0}]).writes_in, {
-        1: 1, 2: 3, 3: 3, 4: 0, 5: 0, 6: 1})
-
-    # 19 bytes, 12 for each number of the digest, and the delta: no more than what can be lacking.
-    test_largest_message = table(lambda form, budget, mode: plan(
-        format=form, budget=budget, mode=mode).largest_message(), {
-            (1, 5, DEPTH): 19 + 4 * 12 + 5 * 24, (1, 7, DEPTH): 19 + 4 * 12 + 6 * 24,
-            (1, 5, OLDEST): 19 + 8 * 12 + 5 * 24, (2, 5000, DEPTH): 19 + 4 * 12 + 5000,
-            (2, 9999, DEPTH): 19 + 4 * 12 + 6 * 1023})
-
-    def test_too_large(self):
-        """2000 nodes have a digest of 24000 bytes and may lack 1999 entries of 24 bytes."""
-        text, less = (scenario.written(scenario.top(2000, 1, 1, 1, 0, budget, False)) for budget in (2000, 1700))
-        asked = live.told([])
-        self.assertIn("may take 71995 bytes, and a datagram takes 65507", outcome(live.plan_of, text, asked))
-        self.assertEqual(1700, live.plan_of(less, asked).budget)
-        self.assertIn("1999 others", outcome(live.plan_of, text, {**asked, "fanout": 2000}))
 
 
 def is_worthless(timers, late, sent, received):
@@ -206,19 +172,3 @@ class Figures(unittest.TestCase):
                                               [(1, 9, 9), (2, 10, 1), (3, 11, 4)]))
         self.assertEqual([2, 3, "7", "5 to 10", "2.5", "2.0 to 2.5", 4, "2 to 4"],
                          live.side_by_side(["stale", "greatest"], live_rows, [one, other]))
-
-
-class Words(unittest.TestCase):
-    def test_told(self):
-        found = live.told(["interval=0.5", "latency=0.05,0.2", "fanout=3"])
-        self.assertEqual((0.5, (0.05, 0.2), 3), (found["interval"], found["latency"], found["fanout"]))
-        self.assertEqual((1, (0, 0), 1, None), tuple(live.told([])[it] for it in ("interval", "latency", "fanout",
-                                                                                 "beside")))
-
-    def test_refused(self):
-        cases = {"latency": "isn't one of", "latency=": "latency is a number", "latency=0.2,0.1": "the least first",
-                 "latency=1,2,3": "the least first", "interval=0": "at least 0.01", "interval=1s": "is a number",
-                 "fanout=0": "1 to 4095", "fanout=1.5": "whole number", "beside=101": "1 to 100", "seed=1": "isn't one",
-                 "fanout=1 fanout=2": "comes twice"}
-        for words, why in cases.items():
-            self.assertIn(why, outcome(live.told, words.split()))

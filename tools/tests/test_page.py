@@ -3,8 +3,8 @@ import re
 import types
 import unittest
 
-import given
-from gossip_tools import answer, page, plots
+from gossip_tools import page, plots
+from given import decided
 
 # By the guidelines for accessible pages, WCAG 2: at least this contrast between a text and what is behind it.
 CONTRAST = 4.5
@@ -55,59 +55,19 @@ class Themes(unittest.TestCase):
         self.assertNotIn("color", printed)
 
 
-def decided(rising=(), entry=40):
-    """100 nodes that write one of 4 keys, of whose 100 entries 50 are looked at too."""
-    words = f"nodes=100 keys=4 writes=1 entry={entry} packet=4001 mode=scuttle-depth"
-    return given.decided(words, {100: [7, 8], 50: [19, 21]}, rising=rising)
-
-
 class Cards(unittest.TestCase):
     def test_rows_are_full(self):
         """However many cards there are, they fill rows of at most five, and those with the longest texts are broad
         where some have to be."""
+        decision = decided("nodes=100 keys=4 writes=1 entry=40 packet=4000 mode=scuttle-depth", {100: [7, 8]})
         for more in range(12):
-            said = page.cards(decided(), None, [(f"name {at}", "few: words" + " more" * at) for at in range(more)])
+            said = page.cards(decision, None, [(f"name {at}", "few: words" + " more" * at) for at in range(more)])
             columns = int(re.search(r"--columns: (\d+)", said)[1])
             cards = [(classes, len(re.sub("<.*?>", "", text)))
                      for classes, text in re.findall('<div class="([a-z ]*)">(.*?)</div>', said)]
             broad, narrow = ([it for classes, it in cards if ("broad" in classes) == which] for which in (True, False))
             self.assertEqual((4 + more, 0, True), (len(cards), (len(cards) + len(broad)) % columns, columns <= 5))
             self.assertGreaterEqual(min(broad, default=1000), max(narrow))
-
-    def test_a_missed_target(self):
-        """It is a card of the kind of a refusal, and one that is met isn't."""
-        cases = {"not met: the worst": '<div class="none">target<b>not met</b>the worst</div>',
-                 "met: the worst": '<div class="">target<b>met</b>the worst</div>'}
-        for said, card in cases.items():
-            self.assertIn(card, page.cards(decided(), None, [("target", said)]))
-
-    def test_mean_entries(self):
-        """100 entries of 40.001 bytes are 4000.1 bytes, which a packet of 4000 has no room for."""
-        decision = decided(entry="40.001")
-        self.assertIn("<b>100 entries</b>4001 bytes, nodes * writes; packet=4001</div>", page.cards(decision, None, []))
-        self.assertIn("room for 100 entries in a delta, 4001 bytes (", decision.room())
-        self.assertIn("all entries count alike, as 40.001 bytes.", " ".join(answer.left_out(decision)))
-
-    def test_floor(self):
-        """It is a card behind the worst staleness; where there is none to tell, a sentence below the cards alone."""
-        decision, best = decided(), "no mode and no budget does better than 7 rounds, 7 s, with these peers and losses"
-        card = f'<div class="">the floor<b>7 rounds</b>{best}; the chosen one had 7 to 8 under the same 2 seeds</div>'
-        none = "The floor: none to tell: the largest budget that a scenario takes, 400 entries, still cuts some"
-        for floor, wanted in ((None, (False, False)), ([], (False, True)), ([7, 7], (True, False))):
-            decision.floor = floor
-            self.assertEqual(wanted, (card in page.cards(decision, None, []),
-                                      none in page.below_the_cards(decision, None)))
-
-    def test_what_bounds_it(self):
-        """The time, and in which part of how long runs it holds: 3600 of 100 nodes with 4 keys."""
-        runs = "in 20 of 21 runs of 3600 rounds (1 h)"
-        self.assertIn(f'<div class="">worst staleness<b>at most 9 rounds</b>9 s; {runs}</div>',
-                      page.cards(given.bound(decided(), {100: [8, 9]}), None, []))
-
-    def test_not_level_is_told_where_it_stands(self):
-        for rising, wanted in (((), False), ([50], True)):
-            text = page.table(decided(rising))
-            self.assertEqual([wanted] * 2, [" not level" in text, " Not level: this budget isn't enough." in text])
 
 
 class Healed:

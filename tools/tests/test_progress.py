@@ -2,7 +2,6 @@
 import unittest
 
 from gossip_tools.progress import Progress, in_words
-from given import table
 
 
 class Ends(unittest.TestCase):
@@ -14,7 +13,7 @@ class Ends(unittest.TestCase):
     def test_work_that_is_left(self):
         """60 rounds took 10 seconds of a processor, so the other 240 take 40. The run had half of one, in 20 seconds,
         so two at once have one."""
-        self.assertIsNone(self.progress.left())
+        self.assertEqual("no end known yet", in_words(self.progress.left()))
         self.progress.done("a", 10.0, 20.0)
         self.assertAlmostEqual(40.0, self.progress.left())
 
@@ -41,6 +40,3 @@ class Ends(unittest.TestCase):
         progress.since -= 10
         progress.done("a")
         self.assertAlmostEqual(40.0, progress.left(), 0)
-
-    test_what_is_left = table(in_words, {
-        None: "no end known yet", 42.4: "some 42 s left", 150: "some 2 min left", 7200: "some 2 h left"})

@@ -3,7 +3,7 @@
 use std::alloc::{AllocError, Global};
 use std::sync::atomic::{AtomicU64, Ordering};
 use std::sync::{Condvar, Mutex, Wait};
-use std::{mem, thread};
+use std::{hint, mem};
 
 // What lies at a thread's post.
 #[derive(Drop)]
@@ -58,13 +58,13 @@ impl<D: Drop> Post<D> {
     }
 }
 
-// Looks for a number, so many times, between which other threads may have the processor.
+// Looks for a number, so many times, unless it comes.
 fn look_for(place: &AtomicU64, wanted: u64, looks: u64) {
     for _ in 0..looks {
         if place.load(Ordering::SeqCst) == wanted {
             return;
         }
-        thread::yield_now();
+        hint::spin_loop();
     }
 }
 
@@ -97,8 +97,8 @@ impl<D: Drop> Yard<D> {
         })
     }
 
-    /// From now on, who waits looks so many times, and gives way to other threads each time, before it sleeps. It is for
-    /// threads that have a processor each: at first there is none of that.
+    /// From now on, who waits looks so many times before it sleeps. It is for threads that have a processor each: at
+    /// first there is none of that.
     pub fn look_before_sleep(&self, looks: u64) {
         self.looks.store(looks, Ordering::SeqCst);
     }

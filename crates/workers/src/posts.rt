@@ -23,8 +23,8 @@ use std::sync::{Arc, Wait};
 use std::thread;
 use std::thread::{Scope, Threads, available_parallelism};
 
-// So many looks take about half a millisecond, as long as what comes between two lists.
-const LOOKS: u64 = 1000;
+// So many looks take some 20 to 100 microseconds, about as long as it takes to wake a thread.
+const LOOKS: u64 = 2000;
 
 /// Where workers are given lists to carry out. Each has a thread of its own, but that the caller's thread may be one.
 #[derive(Drop)]
@@ -272,7 +272,7 @@ impl<
         )
     }
 
-    // Where there is a processor for each worker, the next list comes sooner than a thread that slept is awake.
+    // Where there is a processor for each worker, a small list comes sooner than a thread that slept is awake.
     fn look_before_sleep<R: Threads>(&self, rt: &R) {
         let processors = available_parallelism(rt).unwrap_or(NonZeroUsize::MIN);
         if self.workers as usize <= processors.get() {

@@ -8,11 +8,11 @@ overflow_add-count g c =
       arith,
       c.loop-i.invariant,
       sum_below-most (λ i. part_weight g.N.Number.number (λ _. 1) c.args.self.now (c.args.owner + i)) (suc c.loop-i.i) MOST_KEYS
-          (λ i _. part-few c.requires.turns (c.args.owner + i)),
+          (λ i _. part-few c.requires.counts.are (c.args.owner + i)),
       c.widen-count.ensures,
       c.number_at.ensures,
       c.count_parts.ensures.each (c.args.owner + c.loop-i.i) (omega arith) (omega (arith, c.loop-i-test.true)),
-      c.requires.turns.offer.grid.few_nodes,
+      c.requires.counts.are.offer.grid.few_nodes,
       c.requires.within,
       c.loop-i-test.true,
     )

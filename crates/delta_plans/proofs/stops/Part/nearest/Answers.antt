@@ -11,5 +11,5 @@ loop-key-preserved g c first near answers =
 pub returns : goal.returns
 returns g c first near answers some =
     let number = g.N.Number.number in
-    next-found first (cells_in number c.args.self.now.offer.now) c.loop-key.key c.args.self.now.offer.now.keys c.args.self.now.owner near (number c.args.self.now.far) (number c.loop-key.next) (omega (arith, c.loop-key-test.false, c.loop-key.auto.key-end))
+    next-found first (cells_in number c.args.self.now.offer.now) c.loop-key.key c.args.self.now.offer.now.grid.size.keys c.args.self.now.owner near (number c.args.self.now.far) (number c.loop-key.next) (omega (arith, c.loop-key-test.false, c.loop-key.auto.key-end))
     (c.loop-key.invariant first near answers) some

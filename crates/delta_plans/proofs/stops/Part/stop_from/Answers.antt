@@ -5,7 +5,7 @@ use Rattle.delta_plans.proofs.stops.Part.stop_from.Goals as goal
 pub next-next-requires-clause-some : goal.next-next-requires-clause-some
 next-next-requires-clause-some g c =
     let part = c.args.self.now in
-    some-next (weights_in part.offer.now part.owner) (cells_in g.N.Number.number part.offer.now) part.offer.now.keys part.owner part.first (g.N.Number.number c.args.near) (g.N.Number.number part.far) (omega (arith, c.requires.beyond))
+    some-next (weights_in part.offer.now part.owner) (cells_in g.N.Number.number part.offer.now) part.offer.now.grid.size.keys part.owner part.first (g.N.Number.number c.args.near) (g.N.Number.number part.far) (omega (arith, c.requires.beyond))
 
 pub loop-weight-init : goal.loop-weight-init
 loop-weight-init g c = stop-first c.next-next.ensures c.weight_of_number-weight.ensures.weight c.requires.beyond
@@ -25,7 +25,7 @@ loop-weight-smaller g c =
     let number = g.N.Number.number in
     omega (
       arith,
-      past-rest (λ _. 1) (cells_in number part.offer.now) part.offer.now.keys part.owner part.first (number c.loop-weight.mark) (number part.far) (number c.loop-weight.next) (number c.mark_past-mark.result)
+      past-rest (λ _. 1) (cells_in number part.offer.now) part.offer.now.grid.size.keys part.owner part.first (number c.loop-weight.mark) (number part.far) (number c.loop-weight.next) (number c.mark_past-mark.result)
           c.loop-weight.invariant.next c.mark_past-mark.ensures (c.requires.part.is_offer.differ part.owner c.requires.part.in_nodes),
     )
 
@@ -35,6 +35,6 @@ overflow_add-sent g c =
     omega (
       arith,
       c.loop-weight.invariant.count,
-      few-from (cells_in g.N.Number.number part.offer.now) part.offer.now.keys part.owner part.first (g.N.Number.number c.args.near) (g.N.Number.number c.loop-weight.mark),
+      few-from (cells_in g.N.Number.number part.offer.now) part.offer.now.grid.size.keys part.owner part.first (g.N.Number.number c.args.near) (g.N.Number.number c.loop-weight.mark),
       c.requires.part.is_offer.grid.few_keys,
     )

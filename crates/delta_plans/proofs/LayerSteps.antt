@@ -114,13 +114,9 @@ module _ {N : Type 0} {number : N → ℕ} {most : ℕ} {offer : Offer N} (is : 
           | inr upto ↦ omega (arith, upto)
           | inl over ↦
               let farther = has.so_far.farther owner lt in
-              absurd (omega (
-                arith,
-                weight_of-split (λ _. 1) cells offer.grid.size.keys owner (low owner) (near owner) (far owner) farther.0 farther.2,
-                sum_below-each_none offer.grid.size.nodes _ none owner lt,
-                (has.shape.near_is owner lt).count,
-                (has.shape.far_is owner lt).full key in_keys over,
-              ))
+              let split = weight_of-split (λ _. 1) cells offer.grid.size.keys owner (low owner) (near owner) (far owner) farther.0 farther.2 in
+              let empty = sum_below-each_none offer.grid.size.nodes _ none owner lt in
+              absurd (omega (arith, split, empty, (has.shape.near_is owner lt).count, (has.shape.far_is owner lt).full key in_keys over))
         ]
 
         all : count_in number offer near far ≡ 0 → weight_in number offer low far ≡ weight_in number offer low (high_in number offer)

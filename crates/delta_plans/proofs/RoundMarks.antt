@@ -72,11 +72,10 @@ module _ {N : Type 0} {number : N → ℕ} {most : ℕ} (rounds : Rounds N) (is 
 
   all-made : (owner : ℕ) → owner < offer.grid.size.nodes → HasNoneAbove (cells_in number offer) offer.grid.size.keys owner (end last owner)
   all-made owner in_nodes key in_keys =
-      omega (
-        arith,
-        none-later (lists owner) last (cell (map number rounds.ends.numbers.now) offer.grid.size.nodes owner last) (cells_in number offer owner key)
-            (is.are_ends_of.are_ends.parts owner last in_nodes (omega arith)) (is.are_ends_of.made owner) (is.too_large.is_offer.written owner key in_nodes in_keys),
-      )
+      let stop = cell (map number rounds.ends.numbers.now) offer.grid.size.nodes owner last in
+      let parts = is.are_ends_of.are_ends.parts owner last in_nodes (omega arith) in
+      let written = is.too_large.is_offer.written owner key in_nodes in_keys in
+      omega (arith, none-later (lists owner) last stop (cells_in number offer owner key) parts (is.are_ends_of.made owner) written)
 
   none-made : (owner : ℕ) → owner < offer.grid.size.nodes → end 0 owner ≡ low owner
   none-made owner in_nodes = omega (arith, is.are_ends_of.are_ends.none owner in_nodes)

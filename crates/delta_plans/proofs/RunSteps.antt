@@ -158,14 +158,9 @@ module _ {N : Type 0} {number : N → ℕ} {most : ℕ} {offer : Offer N} (is : 
       → get_or (map number found) r 0 ≤ MOST_KEYS
   counts-few found known r lt =
       let in_nodes : r < offer.grid.size.nodes = omega (arith, lt, length-map found number, known.size) in
-      omega (
-        arith,
-        known.each r in_nodes,
-        is.grid.few_keys,
-        count-covered cells offer.grid.size.keys r (low r) (high r)
-            (is.covered r in_nodes),
-        count_between-most cells offer.grid.size.keys r (low r) (high r),
-      )
+      let some = count-covered cells offer.grid.size.keys r (low r) (high r) (is.covered r in_nodes) in
+      let most = count_between-most cells offer.grid.size.keys r (low r) (high r) in
+      omega (arith, known.each r in_nodes, is.grid.few_keys, some, most)
 
 -- what a step over the owners' runs writes
 pub next-runs : {N : Type 0} (number : N → ℕ) (offer : Offer N) (near counts old new : List N) (step : Step N) (size owners : ℕ) → old ≡ near

@@ -91,13 +91,10 @@ module _ {N : Type 0} {number : N → ℕ} {most : ℕ} {turns : Turns N} (are :
     -- not all owners have their turns
     pub turns-end : offer.grid.size.nodes ≤ reached.turn → ⊥
     turns-end all =
-        omega (
-          arith,
-          so_far.left,
-          are.level.beyond,
-          through-same (weights_in offer) (cells_in number offer) offer.grid.size.nodes offer.grid.size.keys low (high_in number offer) far (marks number mark) turns.first
-              (λ r lt. so_far.passed r lt (omega (arith, all, rotated-below r lt))),
-        )
+        let all_pass = λ (r : ℕ) (lt : r < offer.grid.size.nodes). so_far.passed r lt (omega (arith, all, rotated-below r lt)) in
+        let size = offer.grid.size in
+        let same = through-same (weights_in offer) (cells_in number offer) size.nodes size.keys low (high_in number offer) far (marks number mark) in
+        omega (arith, so_far.left, are.level.beyond, same turns.first all_pass)
       where
         rotated-below : (r : ℕ) → r < offer.grid.size.nodes → rotated offer.grid.size.nodes turns.rotation r < offer.grid.size.nodes
         rotated-below r lt = elim (rotated-is offer.grid.size.nodes turns.rotation r are.rotation lt) [
@@ -219,11 +216,11 @@ module _ {N : Type 0} {number : N → ℕ} {most : ℕ} {turns : Turns N} {owner
   -- a part without numbers weighs nothing
   pub part-none : 0 ≡ part_weight number (λ _. 1) turns owner → 0 ≡ part_weight number (weights_in turns.offer.now owner) turns owner
   part-none none =
-      omega (
-        arith,
-        weight_of-most (weights_in turns.offer.now owner) MOST_ENTRY_SIZE (cells_in number turns.offer.now) turns.offer.now.grid.size.keys owner first-mark last-mark (λ n. share-most turns.offer.now.budget (write_numbered (all_writes turns.offer.now.lists.now owner) n)),
-        ap (λ n. n * MOST_ENTRY_SIZE) none,
-      )
+      let offer = turns.offer.now in
+      let sizes = λ (n : ℕ). share-most offer.budget (write_numbered (all_writes offer.lists.now owner) n) in
+      let cells = cells_in number offer in
+      let most = weight_of-most (weights_in offer owner) MOST_ENTRY_SIZE cells offer.grid.size.keys owner first-mark last-mark sizes in
+      omega (arith, most, ap (λ n. n * MOST_ENTRY_SIZE) none)
 
 -- owners in a row have their turns one after another
 pub turns-in_row : {N : Type 0} (turns : Turns N) (turn owner size : ℕ) → turns.rotation < turns.offer.now.grid.size.nodes
@@ -231,15 +228,10 @@ pub turns-in_row : {N : Type 0} (turns : Turns N) (turn owner size : ℕ) → tu
     → owner + size ≤ turns.offer.now.grid.size.nodes → turn + size ≤ turns.offer.now.grid.size.nodes → (i : ℕ) → i < size
     → rotated turns.offer.now.grid.size.nodes turns.rotation (owner + i) ≡ turn + i
 turns-in_row turns turn owner size in_rotation its in_nodes in_turns i lt =
-    grind (
-      arith,
-      its,
-      in_nodes,
-      in_turns,
-      rotated-is turns.offer.now.grid.size.nodes turns.rotation owner in_rotation
-          (omega (arith, in_nodes, lt)),
-      rotated-is turns.offer.now.grid.size.nodes turns.rotation (owner + i) in_rotation (omega (arith, in_nodes, lt)),
-    )
+    let nodes = turns.offer.now.grid.size.nodes in
+    let first = rotated-is nodes turns.rotation owner in_rotation (omega (arith, in_nodes, lt)) in
+    let here = rotated-is nodes turns.rotation (owner + i) in_rotation (omega (arith, in_nodes, lt)) in
+    grind (arith, its, in_nodes, in_turns, first, here)
 
 -- what is reached, in other words
 pub turns-same : {N : Type 0} {number : N → ℕ} {turns : Turns N} {mark : List N} {reached other : Reached} → HasReached number turns mark reached

@@ -12,7 +12,7 @@ use bench_types::{Budget, Entry};
 use owner_writes::{Kept, OwnerWrites};
 use planes::{Grid, Number};
 
-/// The candidates are the cells of each owner above `low`, so many in all. None is above `high`.
+/// The candidates are the cells of each owner above `low`, `found` in all. None is above `high`.
 #[derive(Drop)]
 pub struct Offer<'a, N: Number> {
     pub grid: Grid<'a, N>,

@@ -23,14 +23,10 @@ pub overflow_add-result : goal.overflow_add-result
 overflow_add-result g c =
     let number = g.N.Number.number in
     let offer = c.args.self.now.offer.now in
-    omega (
-      arith,
-      c.stop_from-stop.ensures.count,
-      few-from (cells_in number offer) offer.grid.size.keys c.owner_of_turn-owner.result c.args.self.now.first (number c.number_at-near.result)
-          (number c.stop_from-stop.result.mark),
-      c.requires.counts.are.offer.grid.few_keys,
-      turns-few c.requires.counts.are c.loop-turn.invariant.reached,
-    )
+    let few = few-from (cells_in number offer) offer.grid.size.keys c.owner_of_turn-owner.result c.args.self.now.first
+    (number c.number_at-near.result) (number c.stop_from-stop.result.mark) in
+    let sent = turns-few c.requires.counts.are c.loop-turn.invariant.reached in
+    omega (arith, c.stop_from-stop.ensures.count, few, c.requires.counts.are.offer.grid.few_keys, sent)
 
 pub returns-then-left-weight : goal.returns-then-left-weight
 returns-then-left-weight g c =

@@ -1,20 +1,20 @@
 -- The names of other libraries that these proofs cite, passed on from one place. Declares nothing.
 -- Serves most of the crate.
-pub use Rattle.std.proofs.Common.{Bool, Fits, List, None, Option, Some, Vec, [], ap, arith, cond, drop, eqb, false, get_or, if◌then◌else◌, inl, inr, is_some, leb, length, ltb, map, max, min, nat_lt, not, refl, rules, set, slice_index, subst, suc, sym, take, true, w32, zero, ℕ, ◌*◌, ◌++◌, ◌+◌, ◌-◌, ◌<◌, ◌∙◌, ◌∷◌, ◌≡◌, ◌≢◌, ◌≤◌, ◌⊎◌}
+pub use Rattle.std.proofs.Common.{Bool, Fits, List, None, Option, Some, Vec, [], ap, arith, cond, drop, eqb, false, get_or, if◌then◌else◌, inl, inr, leb, length, ltb, map, max, min, nat_lt, not, refl, rules, set, slice_index, subst, suc, sym, take, true, w32, zero, ℕ, ◌*◌, ◌++◌, ◌+◌, ◌-◌, ◌<◌, ◌∙◌, ◌∷◌, ◌≡◌, ◌≢◌, ◌≤◌, ◌⊎◌}
 pub use Rattle.std.proofs.Math.Nat.{mul-le-mul_left, mul-le-mul_right}
 pub use Rattle.std.proofs.Math.Path.{transport}
-pub use Rattle.std.proofs.lemmas.Bool.{and_parts, both_ways, cases_eq, cases_lt, eqb-true, false≢true, le-leb, le-ltb, leb-false, leb-true, lt-leb, lt-ltb, ltb-false, ltb-true}
+pub use Rattle.std.proofs.lemmas.Bool.{and_parts, both_ways, cases_eq, cases_lt, eqb-true, le-leb, le-ltb, lt-leb, lt-ltb, ltb-false, ltb-true}
 pub use Rattle.std.proofs.lemmas.Bool.Decides.{nat_tests}
-pub use Rattle.std.proofs.lemmas.List.{get_or-set_other, get_or-set_same, get_or_default, get_or_past, length-append, length-drop, length-map, length-set, length-take-le, map-set, with_items_is}
+pub use Rattle.std.proofs.lemmas.List.{get_or-set_other, get_or-set_same, get_or_default, length-append, length-drop, length-map, length-set, length-take-le, map-set, with_items_is}
 pub use Rattle.std.proofs.lemmas.List.Elements.{Contains-get_or}
 pub use Rattle.std.proofs.lemmas.List.Kept.{AllPairs-filter}
-pub use Rattle.std.proofs.lemmas.List.Sorted.{length_permutation, sum_by-IsPermutation}
-pub use Rattle.std.proofs.lemmas.List.Sums.{length-filter, sum_by-append, sum_by-cons}
+pub use Rattle.std.proofs.lemmas.List.Sorted.{length_permutation}
+pub use Rattle.std.proofs.lemmas.List.Sums.{length-filter, sum_by-cons}
 pub use Rattle.std.proofs.lemmas.Option.{same_Some}
 pub use Rattle.std.specs.Cmp.{IsTotalOrder, tied_itself}
 pub use Rattle.std.specs.List.{sum_by}
 pub use Rattle.std.specs.Ordering.{is_eq, is_lt, nat_cmp, ordering_reverse, ordering_then}
-pub use Rattle.std.specs.Prelude.{Contains, IfSome, IsPermutation, IsTrue, count_by, filter, nat_le, ◌&&◌, ◌↔◌}
+pub use Rattle.std.specs.Prelude.{Contains, IfSome, IsPermutation, count_by, filter, ◌&&◌}
 pub use Rattle.std.specs.Vec.{with_items}
 pub use Rattle.std.specs.declared.alloc.Global.{Global}
 pub use Rattle.std.specs.declared.cmp.Ordering.{Ordering}
@@ -24,12 +24,12 @@ pub use Rattle.bench_types.proofs.Sums.{fold_below-join, sum_below-most, sum_bel
 pub use Rattle.bench_types.specs.Budget.{largest_share}
 pub use Rattle.bench_types.specs.declared.exchanges.Budget.TheVariants.{Bytes, Entries}
 pub use Rattle.bench_types.specs.declared.limits.TheConstants.{MOST_ENTRY_SIZE}
-pub use Rattle.model.proofs.Common.{Budget, DigestKind, Entry, Item, MOST_KEYS, MOST_NODES, Mode, PreciseNewest, PreciseOldest, ScuttleBreadth, ScuttleDepth, amount_of, both_equal, digest_kind, is_before, mark_of, nat_cmp-equal, nat_cmp-greater, nat_cmp-less, sum_below, sum_below-le}
+pub use Rattle.model.proofs.Common.{Budget, DigestKind, Entry, Item, MOST_KEYS, MOST_NODES, Mode, PreciseNewest, PreciseOldest, ScuttleBreadth, ScuttleDepth, amount_of, digest_kind, is_before, mark_of, nat_cmp-equal, nat_cmp-greater, nat_cmp-less, sum_below, sum_below-le}
 pub use Rattle.model.proofs.Apart.{rotated-injective, rotated-is}
 pub use Rattle.model.proofs.DeltaLaws.{sending_order-strict, sending_order-total}
 pub use Rattle.model.proofs.Items.{Contains-items_of, IsApart, apart-items_of, entry_at-items_of, items_at-apart}
 pub use Rattle.model.proofs.Levels.{level_cmp, order-levels, version_cmp}
-pub use Rattle.model.proofs.Members.{AllPairs-append, Contains-filter, Contains-kept, same_members}
+pub use Rattle.model.proofs.Members.{Contains-filter, Contains-kept, same_members}
 pub use Rattle.model.proofs.Places.{Contains-first_places, first_places-Contains}
 pub use Rattle.model.proofs.StateDeltas.{sent_apart}
 pub use Rattle.model.proofs.TableLaws.{items_at-none, tied-stands_at}
@@ -44,13 +44,13 @@ pub use Rattle.model.specs.inner.Applied.{items_at, stands_at}
 pub use Rattle.owner_writes.proofs.Numbers.{number-of_version, numbered-some, versions-rise, write_from-at}
 pub use Rattle.owner_writes.specs.Numbered.{AreMadeBy, IsHistory, IsRoundMark, start_before, start_of}
 pub use Rattle.planes.proofs.Counts.{count_le, number_next, one_le, sum_next, sum_whole}
-pub use Rattle.planes.proofs.Elementwise.{changed_all, changed_none, number-at, written_next}
+pub use Rattle.planes.proofs.Elementwise.{changed_all, changed_none, made-as, number-at, written_next}
 pub use Rattle.planes.proofs.Places.{each-next, part-here, part-written}
 pub use Rattle.planes.specs.Elementwise.{AreChanged, AreChangedUpto}
 pub use Rattle.planes.specs.Planes.{Cells, HasEach, HasNoneAbove, IsLeastAbove, IsNextAbove, cell, count_above, count_between, total_of}
 pub use Rattle.delta_plans.specs.Firsts.{by_first, comes_first, item_number}
 pub use Rattle.delta_plans.specs.Grids.{number_here, number_there, sum_over}
-pub use Rattle.delta_plans.specs.LevelMarks.{AreLayers, AreLevelMarks, AreRounds, AreRuns, HasShape, IsLayerMark, IsRunMark, NumbersDiffer, PartByRounds, first_sent, lets_through}
+pub use Rattle.delta_plans.specs.LevelMarks.{AreLevelMarks, AreRounds, AreRuns, HasShape, IsLayerMark, IsRunMark, NumbersDiffer, first_sent, lets_through}
 pub use Rattle.delta_plans.specs.Marked.{AreMarked, IsLevelOf, KeepsLow}
 pub use Rattle.delta_plans.specs.OfferInMemory.{AreCounted, IsLeftOf, IsOffer, cells_in, count_in, high_in, low_in, marks, owner_count_in, weight_in, weights_in}
 pub use Rattle.delta_plans.specs.Offers.{AreSent, Offers, is_lacked, offered_sum, rank_above, told_by, told_number}
@@ -67,7 +67,8 @@ pub use Rattle.delta_plans.specs.declared.marked.First.TheVariants.{Newest, Olde
 pub use Rattle.delta_plans.specs.declared.offers.Level.{Level}
 pub use Rattle.delta_plans.specs.declared.offers.Offer.{Offer}
 pub use Rattle.delta_plans.specs.declared.offers.Step.{Step}
-pub use Rattle.delta_plans.specs.declared.rounds.Found.{Found}
+pub use Rattle.delta_plans.specs.declared.rounds.Fit.{Fit}
 pub use Rattle.delta_plans.specs.declared.rounds.Rounds.{Rounds}
 pub use Rattle.delta_plans.specs.declared.sharing.Reached.{Reached}
+pub use Rattle.delta_plans.specs.declared.sharing.Several.{Several}
 pub use Rattle.delta_plans.specs.declared.sharing.Turns.{Turns}

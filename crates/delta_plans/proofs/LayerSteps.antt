@@ -42,19 +42,19 @@ module _ (most : ℕ) (cells : Cells) (keys owner mark least y : ℕ) (below : (
 -- each owner's next number is counted
 pub layer-counted : {N : Type 0} (number : N → ℕ) (most : ℕ) (offer : Offer N) → IsOffer number most offer
     → (near : ℕ → ℕ) (items old new : List N) (count : ℕ) → old ≡ items
-    → HasEach offer.nodes (λ r n. IsNextAbove most (cells_in number offer) offer.keys r (near r) n) (map number items)
+    → HasEach offer.grid.size.nodes (λ r n. IsNextAbove most (cells_in number offer) offer.grid.size.keys r (near r) n) (map number items)
     → AreChanged (λ r x y. y ≡ cond (ltb x most) x (near r)) (map number old) (map number new)
     → count ≡ sum_below (length old) (λ r. cond (ltb (get_or (map number old) r 0) most) 1 0)
     → count ≡ count_in number offer near (λ r. get_or (map number new) r 0)
 layer-counted number most offer is near items old new count value found settled counted =
     counted
     ∙ ap (λ n. sum_below n (λ r. cond (ltb (get_or (map number old) r 0) most) 1 0)) (sym (length-map old number) ∙ of_old.size)
-    ∙ sum_below-same offer.nodes _ _ (λ r lt.
-    next-counted most (cells_in number offer) offer.keys r (near r) (get_or (map number old) r 0) (get_or (map number new) r 0)
+    ∙ sum_below-same offer.grid.size.nodes _ _ (λ r lt.
+    next-counted most (cells_in number offer) offer.grid.size.keys r (near r) (get_or (map number old) r 0) (get_or (map number new) r 0)
     (λ key in_keys. is.below r key lt in_keys) (of_old.each r lt) (settled.each r (omega (arith, lt, of_old.size))) (is.differ r lt))
   where
-    of_old : HasEach offer.nodes (λ r n. IsNextAbove most (cells_in number offer) offer.keys r (near r) n) (map number old)
-    of_old = subst (λ xs. HasEach offer.nodes (λ r n. IsNextAbove most (cells_in number offer) offer.keys r (near r) n) (map number xs)) (sym value) found
+    of_old : HasEach offer.grid.size.nodes (λ r n. IsNextAbove most (cells_in number offer) offer.grid.size.keys r (near r) n) (map number old)
+    of_old = subst (λ xs. HasEach offer.grid.size.nodes (λ r n. IsNextAbove most (cells_in number offer) offer.grid.size.keys r (near r) n) (map number xs)) (sym value) found
 
 module _ {N : Type 0} {number : N → ℕ} {most : ℕ} {offer : Offer N} (is : IsOffer number most offer) where
   abbrev cells : Cells
@@ -65,21 +65,21 @@ module _ {N : Type 0} {number : N → ℕ} {most : ℕ} {offer : Offer N} (is : 
 
   -- marks of so many layers
   abbrev AreMarks : ℕ → (ℕ → ℕ) → Type 0
-  AreMarks layers mark = (owner : ℕ) → owner < offer.nodes → IsLayerMark cells offer.keys owner (low owner) layers (mark owner)
+  AreMarks layers mark = (owner : ℕ) → owner < offer.grid.size.nodes → IsLayerMark cells offer.grid.size.keys owner (low owner) layers (mark owner)
 
   none-marks : AreMarks 0 low
   none-marks owner lt =
-      let none = weight_of-none (λ _. 1) cells offer.keys owner (low owner) (low owner) (omega arith) in
+      let none = weight_of-none (λ _. 1) cells offer.grid.size.keys owner (low owner) (low owner) (omega arith) in
       record { above = omega arith; count = omega (arith, none); full = λ key in_keys over. none }
 
   one-more : {layers : ℕ} {near far : ℕ → ℕ} → AreMarks layers near
-      → ((owner : ℕ) → owner < offer.nodes → IsNextMark cells offer.keys owner (near owner) (far owner))
+      → ((owner : ℕ) → owner < offer.grid.size.nodes → IsNextMark cells offer.grid.size.keys owner (near owner) (far owner))
       → AreMarks (layers + 1) far
   one-more {layers} {near} {far} before next owner lt = elim (next owner lt) [
     | inl none ↦
-        subst (IsLayerMark cells offer.keys owner (low owner) (layers + 1)) (sym none.1)
-        (layer-stays cells offer.keys owner (low owner) layers (near owner) (before owner lt) none.0)
-    | inr some ↦ layer-next cells offer.keys owner (low owner) layers (near owner) (before owner lt) (far owner) (is.differ owner lt) some
+        subst (IsLayerMark cells offer.grid.size.keys owner (low owner) (layers + 1)) (sym none.1)
+        (layer-stays cells offer.grid.size.keys owner (low owner) layers (near owner) (before owner lt) none.0)
+    | inr some ↦ layer-next cells offer.grid.size.keys owner (low owner) layers (near owner) (before owner lt) (far owner) (is.differ owner lt) some
   ]
 
   -- the first layer
@@ -109,23 +109,19 @@ module _ {N : Type 0} {number : N → ℕ} {most : ℕ} {offer : Offer N} (is : 
     ]
       where
         -- a number beyond both would be of the next layer
-        ends : count_in number offer near far ≡ 0 → (owner : ℕ) → owner < offer.nodes → HasNoneAbove cells offer.keys owner (far owner)
+        ends : count_in number offer near far ≡ 0 → (owner : ℕ) → owner < offer.grid.size.nodes → HasNoneAbove cells offer.grid.size.keys owner (far owner)
         ends none owner lt key in_keys = elim (cases_lt (far owner) (cells owner key)) [
           | inr upto ↦ omega (arith, upto)
           | inl over ↦
               let farther = has.so_far.farther owner lt in
-              absurd (omega (
-                arith,
-                weight_of-split (λ _. 1) cells offer.keys owner (low owner) (near owner) (far owner) farther.0 farther.2,
-                sum_below-each_none offer.nodes _ none owner lt,
-                (has.shape.near_is owner lt).count,
-                (has.shape.far_is owner lt).full key in_keys over,
-              ))
+              let split = weight_of-split (λ _. 1) cells offer.grid.size.keys owner (low owner) (near owner) (far owner) farther.0 farther.2 in
+              let empty = sum_below-each_none offer.grid.size.nodes _ none owner lt in
+              absurd (omega (arith, split, empty, (has.shape.near_is owner lt).count, (has.shape.far_is owner lt).full key in_keys over))
         ]
 
         all : count_in number offer near far ≡ 0 → weight_in number offer low far ≡ weight_in number offer low (high_in number offer)
-        all none = sum_below-same offer.nodes _ _ (λ owner lt.
-            weight_of-all (weights_in offer owner) cells offer.keys owner (low owner) (far owner) (high_in number offer owner) (is.covered owner lt)
+        all none = sum_below-same offer.grid.size.nodes _ _ (λ owner lt.
+            weight_of-all (weights_in offer owner) cells offer.grid.size.keys owner (low owner) (far owner) (high_in number offer owner) (is.covered owner lt)
             (ends none owner lt))
 
     -- one layer more

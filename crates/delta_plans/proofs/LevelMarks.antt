@@ -66,21 +66,15 @@ module _ {mode : Mode} {from to : Table} {lists : ℕ → List Entry} {cells : C
       here : IsRoundMark (lists c.owner) (low c.owner) last (mark c.owner)
       here = is c.owner (candidate-place given c in_c).owner_below
 
+      upto : item_number cells c ≤ mark c.owner → c.entry.born ≤ last
+      upto = here.upto (item_number cells c) c.entry number.0 number.1
+
+      above : mark c.owner < item_number cells c → last < c.entry.born
+      above = here.above (item_number cells c) c.entry number.0 number.1
+
       tells : (f : First) → lets_through f (mark c.owner) (item_number cells c) ≡ comes_first f c.entry.born (by_first f (last + 1) last)
-      tells Oldest = grind (
-        arith,
-        nat_tests,
-        here.upto (item_number cells c) c.entry number.0 number.1,
-        here.above
-            (item_number cells c) c.entry number.0 number.1,
-      )
-      tells Newest = grind (
-        arith,
-        nat_tests,
-        here.upto (item_number cells c) c.entry number.0 number.1,
-        here.above
-            (item_number cells c) c.entry number.0 number.1,
-      )
+      tells Oldest = grind (arith, nat_tests, upto, above)
+      tells Newest = grind (arith, nat_tests, upto, above)
 
   -- near and far marks of each mode's levels, by a candidate of the level
   pub level-marks : (m : Mode) (near far : ℕ → ℕ) → HasShape m lists cells from.nodes from.keys low near far

@@ -1,6 +1,6 @@
 -- Levels of an offer, gone over as long as they fit.
 -- Serves `breadth`, `depth`, `LayerSteps` and `RunSteps`.
-use Rattle.delta_plans.proofs.Common.{◌≡◌, ℕ, ◌+◌, ◌*◌, ◌≤◌, inl, inr, List, length, Option, Some, None, Vec, Global, sym, ap, ◌∙◌, subst, transport, arith, cases_lt, sum_below-same, sum_below-plus, sum_below-le, amount_of, MOST_NODES, MOST_KEYS, Offer, Level, Step, Oldest, cells_in, low_in, high_in, marks, weights_in, weight_in, count_in, AreCounted, IsLeftOf, IsOffer, one_each, weight_between, IsLevel, IsLevelSoFar, IsStep}
+use Rattle.delta_plans.proofs.Common.{◌≡◌, ℕ, ◌+◌, ◌*◌, ◌<◌, ◌≤◌, inl, inr, List, length, Option, Some, None, Vec, Global, sym, ap, ◌∙◌, subst, transport, arith, cases_lt, sum_below-same, sum_below-plus, sum_below-le, amount_of, MOST_NODES, MOST_KEYS, Offer, Level, Step, Oldest, cells_in, low_in, high_in, marks, weights_in, weight_in, count_in, AreCounted, IsLeftOf, IsOffer, one_each, weight_between, IsLevel, IsLevelSoFar, IsStep}
 use Rattle.delta_plans.proofs.OfferWeights.{offer-few, offer-weighs_none, offer-counts_none}
 use Rattle.delta_plans.proofs.WeightLaws.{weight_of-split, weight_of-upto}
 
@@ -31,29 +31,23 @@ module _ {N : Type 0} {number : N → ℕ} {most : ℕ} {offer : Offer N} (is : 
     far = marks number level.far.items
 
     -- what lies between the marks is added to what lies before them
-    split : (weights : ℕ → ℕ → ℕ) → weight_between weights (cells_in number offer) offer.nodes offer.keys low far
-        ≡ weight_between weights (cells_in number offer) offer.nodes offer.keys low near
-        + weight_between weights (cells_in number offer) offer.nodes offer.keys near far
+    split : (weights : ℕ → ℕ → ℕ) → weight_between weights (cells_in number offer) offer.grid.size.nodes offer.grid.size.keys low far
+        ≡ weight_between weights (cells_in number offer) offer.grid.size.nodes offer.grid.size.keys low near
+        + weight_between weights (cells_in number offer) offer.grid.size.nodes offer.grid.size.keys near far
     split weights =
-        sum_below-same offer.nodes _ _ (λ owner lt.
-        weight_of-split (weights owner) (cells_in number offer) offer.keys owner (low owner) (near owner) (far owner)
+        sum_below-same offer.grid.size.nodes _ _ (λ owner lt.
+        weight_of-split (weights owner) (cells_in number offer) offer.grid.size.keys owner (low owner) (near owner) (far owner)
         (so_far.farther owner lt).0 (so_far.farther owner lt).2)
-        ∙ sum_below-plus offer.nodes _ _
+        ∙ sum_below-plus offer.grid.size.nodes _ _
 
     pub level-upto : level.whole + more ≤ count_in number offer low (high_in number offer)
     level-upto =
-        omega (
-          arith,
-          so_far.whole,
-          so_far.added,
-          split one_each,
-          sum_below-le offer.nodes _ _ (λ owner lt.
-              weight_of-upto (λ _. 1) (cells_in number offer) offer.keys owner (low owner) (far owner) (high_in number offer owner)
-              (is.covered owner lt)),
-        )
+        let upto = λ (owner : ℕ) (lt : owner < offer.grid.size.nodes).
+        weight_of-upto (λ _. 1) (cells_in number offer) offer.grid.size.keys owner (low owner) (far owner) (high_in number offer owner) (is.covered owner lt) in
+        omega (arith, so_far.whole, so_far.added, split one_each, sum_below-le offer.grid.size.nodes _ _ upto)
 
     pub level-few : level.whole + more ≤ MOST_NODES * MOST_KEYS
-    level-few = omega (arith, level-upto, offer-few number most offer is low (high_in number offer))
+    level-few = omega (arith, level-upto, offer-few is low (high_in number offer))
 
     -- whether what lies between the marks fits is asked for these lists
     module _ {near_now far_now : List N} (same_near : near_now ≡ level.near.items) (same_far : far_now ≡ level.far.items) where

@@ -1,6 +1,6 @@
 -- Marks of all that is offered, or of a level that was shared out.
 -- Serves `planned` and `version_tables`.
-use Rattle.delta_plans.proofs.Common.{◌≡◌, ℕ, ◌-◌, ◌<◌, ◌≤◌, true, List, length, get_or, map, inl, inr, refl, sym, ap, ◌∙◌, subst, arith, nat_tests, lt-ltb, le-leb, length-map, Mode, amount_of, Cells, HasNoneAbove, sum_below-le, First, Oldest, Newest, Offer, Level, by_first, first_sent, lets_through, KeepsLow, AreMarked, IsLevelOf, cells_in, low_in, high_in, marks, weights_in, weight_in, count_in, IsOffer, count_on, AreShared, weight_between, weight_through, count_all_between, one_each}
+use Rattle.delta_plans.proofs.Common.{◌≡◌, ℕ, ◌-◌, ◌<◌, ◌≤◌, true, List, length, inl, inr, refl, sym, ap, ◌∙◌, subst, arith, nat_tests, lt-ltb, le-leb, Mode, amount_of, Cells, HasNoneAbove, sum_below-le, First, Oldest, Newest, Offer, Level, by_first, first_sent, lets_through, KeepsLow, AreMarked, IsLevelOf, cells_in, low_in, high_in, marks, weights_in, weight_in, count_in, IsOffer, count_on, AreShared, weight_between, weight_through, count_all_between, one_each}
 
 -- fewer are between nearer marks
 count-le : (cells : Cells) (nodes keys : ℕ) (low low' high high' : ℕ → ℕ) → ((owner : ℕ) → owner < nodes → low' owner ≤ low owner)
@@ -19,62 +19,62 @@ module _ {N : Type 0} (number : N → ℕ) (most : ℕ) (offer : Offer N) (is : 
   high = high_in number offer
 
   -- marks above the low ones let through no more than all
-  above-tells : (first : First) (mark : ℕ → ℕ) → ((r : ℕ) → r < offer.nodes → low r ≤ mark r)
-      → (count_on first number offer mark ≤ count_in number offer low high) × KeepsLow first offer.nodes low mark
-  above-tells Oldest mark above = (count-le (cells_in number offer) offer.nodes offer.keys low low mark high (λ owner in_nodes. omega arith) is.covered, tt)
-  above-tells Newest mark above = (count-le (cells_in number offer) offer.nodes offer.keys mark low high high above is.covered, above)
+  above-tells : (first : First) (mark : ℕ → ℕ) → ((r : ℕ) → r < offer.grid.size.nodes → low r ≤ mark r)
+      → (count_on first number offer mark ≤ count_in number offer low high) × KeepsLow first offer.grid.size.nodes low mark
+  above-tells Oldest mark above = (count-le (cells_in number offer) offer.grid.size.nodes offer.grid.size.keys low low mark high (λ owner in_nodes. omega arith) is.covered, tt)
+  above-tells Newest mark above = (count-le (cells_in number offer) offer.grid.size.nodes offer.grid.size.keys mark low high high above is.covered, above)
 
   -- the marks that let all through: the high ones, or from the newest on the low ones
-  abbrev whole_marks : First → List ℕ
-  whole_marks first = by_first first (map number offer.high.now) (map number offer.low.now)
+  abbrev whole_marks : First → List N
+  whole_marks first = by_first first offer.high.now offer.low.now
 
   abbrev whole : First → ℕ → ℕ
-  whole first r = get_or (whole_marks first) r 0
+  whole first = marks number (whole_marks first)
 
-  whole-tells : (first : First) → (length (whole_marks first) ≡ offer.nodes) × KeepsLow first offer.nodes low (whole first)
-      × ((weights : ℕ → ℕ → ℕ) → weight_through first weights (cells_in number offer) offer.nodes offer.keys low high (whole first)
-      ≡ weight_between weights (cells_in number offer) offer.nodes offer.keys low high)
-      × ((owner key : ℕ) → owner < offer.nodes → key < offer.keys → low owner < cells_in number offer owner key
+  whole-tells : (first : First) → (length (whole_marks first) ≡ offer.grid.size.nodes) × KeepsLow first offer.grid.size.nodes low (whole first)
+      × ((weights : ℕ → ℕ → ℕ) → weight_through first weights (cells_in number offer) offer.grid.size.nodes offer.grid.size.keys low high (whole first)
+      ≡ weight_between weights (cells_in number offer) offer.grid.size.nodes offer.grid.size.keys low high)
+      × ((owner key : ℕ) → owner < offer.grid.size.nodes → key < offer.grid.size.keys → low owner < cells_in number offer owner key
       → lets_through first (whole first owner) (cells_in number offer owner key) ≡ true)
   whole-tells Oldest = (
-    length-map offer.high.now number ∙ is.high,
+    is.high,
     tt,
     (λ weights. refl),
     (λ owner key in_nodes in_keys lt. le-leb (cells_in number offer owner key) (high owner) (is.covered owner in_nodes key in_keys)),
   )
   whole-tells Newest = (
-    length-map offer.low.now number ∙ is.low,
+    is.low,
     (λ r below. omega arith),
     (λ weights. refl),
     (λ owner key in_nodes in_keys lt. lt-ltb (low owner) (cells_in number offer owner key) lt),
   )
 
-  pub whole-size : (first : First) (xs : List N) → map number xs ≡ whole_marks first → length xs ≡ offer.nodes
-  whole-size first xs same = sym (length-map xs number) ∙ ap length same ∙ (whole-tells first).0
+  pub whole-size : (first : First) (xs : List N) → xs ≡ whole_marks first → length xs ≡ offer.grid.size.nodes
+  whole-size first xs same = ap length same ∙ (whole-tells first).0
 
-  module _ (rotation found : ℕ) (all : found ≡ count_in number offer low high) where
+  module _ (rotation : ℕ) where
     -- all where it fits
     module _ (fits : weight_in number offer low high ≤ amount_of offer.budget) where
-      pub whole-marked : (mode : Mode) (xs : List N) → map number xs ≡ whole_marks (first_sent mode)
-          → AreMarked mode rotation number offer (marks number xs) found 0
-      whole-marked mode xs same = subst (λ ys. AreMarked mode rotation number offer (λ r. get_or ys r 0) found 0) (sym same) (record {
+      pub whole-marked : (mode : Mode) (xs : List N) → xs ≡ whole_marks (first_sent mode)
+          → AreMarked mode rotation number offer (marks number xs) offer.found 0
+      whole-marked mode xs same = subst (λ ys. AreMarked mode rotation number offer (marks number ys) offer.found 0) (sym same) (record {
         above = (whole-tells (first_sent mode)).1;
-        count = all ∙ sym ((whole-tells (first_sent mode)).2 one_each);
-        left = omega (arith, all);
+        count = is.found ∙ sym ((whole-tells (first_sent mode)).2 one_each);
+        left = omega (arith, is.found);
         how = inl (record { all = (whole-tells (first_sent mode)).3; within = omega (arith, fits, (whole-tells (first_sent mode)).2 (weights_in offer)) });
       })
 
     -- and a level that was shared out
     module _ (mode : Mode) {level : Level N} (is_level : IsLevelOf mode number offer level) (xs : List N) {sent : ℕ}
         (shared : AreShared (first_sent mode) rotation number offer (marks number level.near.items) (marks number level.far.items) (marks number xs) sent) where
-      pub sent-found : sent ≤ found
-      sent-found = omega (arith, all, shared.count, (above-tells (first_sent mode) (marks number xs) shared.above).0)
+      pub sent-found : sent ≤ offer.found
+      sent-found = omega (arith, is.found, shared.count, (above-tells (first_sent mode) (marks number xs) shared.above).0)
 
-      pub share-marked : AreMarked mode rotation number offer (marks number xs) sent (found - sent)
+      pub share-marked : AreMarked mode rotation number offer (marks number xs) sent (offer.found - sent)
       share-marked = record {
         above = (above-tells (first_sent mode) (marks number xs) shared.above).1;
         count = shared.count;
-        left = omega (arith, all, sent-found);
+        left = omega (arith, is.found, sent-found);
         how = inr (record {
           near = marks number level.near.items;
           far = marks number level.far.items;

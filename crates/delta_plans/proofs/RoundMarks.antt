@@ -1,7 +1,7 @@
 -- What marks at the ends of rounds let through.
 -- Serves `Rounds::count`, `Rounds::few_rounds`, `Rounds::left_of_few`, `Rounds::level`, `Rounds::look` and
 -- `version_tables`.
-use Rattle.delta_plans.proofs.Common.{◌≡◌, ℕ, ◌+◌, ◌-◌, ◌*◌, ◌<◌, ◌≤◌, ◌↔◌, IfSome, IsTrue, is_some, false, false≢true, MOST_ENTRY_SIZE, Option, max, map, ltb, List, length, Some, None, inl, inr, refl, sym, ap, ◌∙◌, subst, transport, arith, nat_tests, nat_lt, length-map, cases_lt, Entry, amount_of, all_writes, Cells, cell, total_of, HasNoneAbove, sum_below-same, sum_below-plus, AreMadeBy, IsRoundMark, numbered-some, First, Oldest, Newest, Offer, Level, Found, Rounds, cells_in, low_in, high_in, marks, weights_in, count_in, IsLeftOf, IsOffer, count_on, weight_on, AreFarther, end_mark, round_mark, mark_of_rounds, AreFewAndEnough, AreRaised, AreRoundMarks, HasRounds, IsFound, IsLevelOfRounds, AreRounds, IsOn, weight_through, count_all_between, one_each}
+use Rattle.delta_plans.proofs.Common.{◌≡◌, ℕ, ◌+◌, ◌-◌, ◌*◌, ◌<◌, ◌≤◌, IfSome, MOST_ENTRY_SIZE, max, map, ltb, List, length, Some, None, inl, inr, refl, sym, ap, ◌∙◌, subst, transport, arith, nat_tests, nat_lt, length-map, cases_lt, Entry, amount_of, all_writes, Cells, cell, total_of, HasNoneAbove, sum_below-same, sum_below-plus, AreMadeBy, IsRoundMark, numbered-some, First, Oldest, Newest, Offer, Level, Fit, Rounds, cells_in, low_in, high_in, marks, weights_in, count_in, count_on, weight_on, AreFarther, end_mark, round_mark, mark_of_rounds, AreFewAndEnough, AreRaised, AreRoundMarks, HasRounds, IsFound, IsLevelOfRounds, AreRounds, IsOn, weight_through, count_all_between, one_each}
 use Rattle.delta_plans.proofs.Sums.{where_true, sum_below-none}
 use Rattle.delta_plans.proofs.OfferWeights.{offer-most}
 use Rattle.delta_plans.proofs.TurnSteps.{through-same}
@@ -12,7 +12,7 @@ module _ (cells : Cells) (nodes keys : ℕ) (high : ℕ → ℕ) (covered : (own
   above mark = total_of nodes keys (λ r k. nat_lt (mark r) (cells r k))
 
   -- how many are above marks
-  count-above : (mark : ℕ → ℕ) → above mark ≡ count_all_between cells nodes keys mark high
+  pub count-above : (mark : ℕ → ℕ) → above mark ≡ count_all_between cells nodes keys mark high
   count-above mark = sum_below-same nodes _ _ (λ owner in_nodes. sum_below-same keys _ _ (λ key in_keys. let le = covered owner in_nodes key in_keys in grind (arith, nat_tests)))
 
   -- and so how many are up to them
@@ -40,11 +40,6 @@ none-later writes rounds mark number is made le = elim (cases_lt mark number) [
   | inr upto ↦ omega (arith, upto)
 ]
 
--- how many marks let through from the newest on
-pub count-newest : {N : Type 0} (number : N → ℕ) (most : ℕ) (offer : Offer N) → IsOffer number most offer → (mark : ℕ → ℕ)
-    → total_of offer.nodes offer.keys (λ r k. nat_lt (mark r) (cells_in number offer r k)) ≡ count_in number offer mark (high_in number offer)
-count-newest number most offer is mark = count-above (cells_in number offer) offer.nodes offer.keys (high_in number offer) is.covered mark
-
 module _ {N : Type 0} {number : N → ℕ} {most : ℕ} (rounds : Rounds N) (is : HasRounds number most rounds) where
   abbrev offer : Offer N
   offer = rounds.offer.now
@@ -62,57 +57,58 @@ module _ {N : Type 0} {number : N → ℕ} {most : ℕ} (rounds : Rounds N) (is 
   last = rounds.ends.rounds
 
   abbrev end : ℕ → ℕ → ℕ
-  end round owner = end_mark (map number rounds.ends.numbers.now) offer.nodes low round owner
+  end round owner = end_mark (map number rounds.ends.numbers.now) offer.grid.size.nodes low round owner
 
   -- the marks of so many rounds, from either end
   abbrev mark : First → ℕ → ℕ → ℕ
-  mark first count = round_mark first last (map number rounds.ends.numbers.now) offer.nodes low count
+  mark first count = round_mark first last (map number rounds.ends.numbers.now) offer.grid.size.nodes low count
 
   abbrev through : First → (ℕ → ℕ → ℕ) → (ℕ → ℕ) → ℕ
-  through first weights mark = weight_through first weights (cells_in number offer) offer.nodes offer.keys low high mark
+  through first weights mark = weight_through first weights (cells_in number offer) offer.grid.size.nodes offer.grid.size.keys low high mark
 
-  pub count-oldest : (mark : ℕ → ℕ) → ((owner : ℕ) → owner < offer.nodes → low owner ≤ mark owner)
-      → count_in number offer low high ≡ count_in number offer low mark + total_of offer.nodes offer.keys (λ r k. nat_lt (mark r) (cells_in number offer r k))
-  count-oldest mark raised = count-upto (cells_in number offer) offer.nodes offer.keys high is.too_large.is_offer.covered low mark raised
+  pub count-oldest : (mark : ℕ → ℕ) → ((owner : ℕ) → owner < offer.grid.size.nodes → low owner ≤ mark owner)
+      → count_in number offer low high ≡ count_in number offer low mark + total_of offer.grid.size.nodes offer.grid.size.keys (λ r k. nat_lt (mark r) (cells_in number offer r k))
+  count-oldest mark raised = count-upto (cells_in number offer) offer.grid.size.nodes offer.grid.size.keys high is.too_large.is_offer.covered low mark raised
 
-  all-made : (owner : ℕ) → owner < offer.nodes → HasNoneAbove (cells_in number offer) offer.keys owner (end last owner)
+  all-made : (owner : ℕ) → owner < offer.grid.size.nodes → HasNoneAbove (cells_in number offer) offer.grid.size.keys owner (end last owner)
   all-made owner in_nodes key in_keys =
-      omega (
-        arith,
-        none-later (lists owner) last (cell (map number rounds.ends.numbers.now) offer.nodes owner last) (cells_in number offer owner key)
-            (is.are_ends_of.are_ends.parts owner last in_nodes (omega arith)) (is.are_ends_of.made owner) (is.too_large.is_offer.written owner key in_nodes in_keys),
-      )
+      let stop = cell (map number rounds.ends.numbers.now) offer.grid.size.nodes owner last in
+      let parts = is.are_ends_of.are_ends.parts owner last in_nodes (omega arith) in
+      let written = is.too_large.is_offer.written owner key in_nodes in_keys in
+      omega (arith, none-later (lists owner) last stop (cells_in number offer owner key) parts (is.are_ends_of.made owner) written)
 
-  none-made : (owner : ℕ) → owner < offer.nodes → end 0 owner ≡ low owner
+  none-made : (owner : ℕ) → owner < offer.grid.size.nodes → end 0 owner ≡ low owner
   none-made owner in_nodes = omega (arith, is.are_ends_of.are_ends.none owner in_nodes)
 
   -- no round lets nothing through
   no_rounds : (first : First) (weights : ℕ → ℕ → ℕ) → through first weights (mark first 0) ≡ 0
   no_rounds Oldest weights =
-      sum_below-none offer.nodes _ (λ owner in_nodes. weight_of-none (weights owner) (cells_in number offer) offer.keys owner (low owner) (end 0 owner) (omega (arith, none-made owner in_nodes)))
-  no_rounds Newest weights = sum_below-none offer.nodes _ (λ owner in_nodes. sum_below-none offer.keys _ (λ key in_keys.
+      sum_below-none offer.grid.size.nodes _ (λ owner in_nodes. weight_of-none (weights owner) (cells_in number offer) offer.grid.size.keys owner (low owner) (end 0 owner) (omega (arith, none-made owner in_nodes)))
+  no_rounds Newest weights = sum_below-none offer.grid.size.nodes _ (λ owner in_nodes. sum_below-none offer.grid.size.keys _ (λ key in_keys.
       let le = subst (λ round. cells_in number offer owner key ≤ end round owner) {x = last} {y = last - 0} (omega arith) (all-made owner in_nodes key in_keys) in
       grind (arith, nat_tests)))
 
   -- all rounds let all through
   all_rounds : (first : First) (weights : ℕ → ℕ → ℕ) → through first weights (mark first last) ≡ through Oldest weights high
-  all_rounds Oldest weights = sum_below-same offer.nodes _ _ (λ owner in_nodes.
-      weight_of-all (weights owner) (cells_in number offer) offer.keys owner (low owner) (end last owner) (high owner) (is.too_large.is_offer.covered owner in_nodes) (all-made owner in_nodes))
+  all_rounds Oldest weights = sum_below-same offer.grid.size.nodes _ _ (λ owner in_nodes.
+      weight_of-all (weights owner) (cells_in number offer) offer.grid.size.keys owner (low owner) (end last owner) (high owner) (is.too_large.is_offer.covered owner in_nodes) (all-made owner in_nodes))
   all_rounds Newest weights =
-      through-same weights (cells_in number offer) offer.nodes offer.keys low high low (mark Newest last) Newest
+      through-same weights (cells_in number offer) offer.grid.size.nodes offer.grid.size.keys low high low (mark Newest last) Newest
       (λ owner in_nodes. ap (λ round. end round owner) {x = last - last} {y = 0} (omega arith) ∙ none-made owner in_nodes)
 
   -- the search begins with none, which fit, and all, which don't
-  pub begun : {room : ℕ} → room ≡ amount_of offer.budget → AreFewAndEnough number rounds 0 last 0 (Some room)
+  pub begun : {room : ℕ} → room ≡ amount_of offer.budget → AreFewAndEnough number rounds 0 last (record { count = 0; left = Some room })
   begun all = record {
     below = elim (cases_lt 0 last) [
       | inl some ↦ some
       | inr none ↦ absurd (omega (arith, too_many, no_rounds rounds.first (weights_in offer), ap (λ count. weight_on rounds.first number offer (mark rounds.first count)) {x = last} {y = 0} (omega (arith, none))))
     ];
     bound = omega arith;
-    counted = sym (no_rounds rounds.first one_each);
-    within = omega (arith, no_rounds rounds.first (weights_in offer));
-    known = omega (arith, no_rounds rounds.first (weights_in offer), all);
+    fits = record {
+      count = sym (no_rounds rounds.first one_each);
+      within = omega (arith, no_rounds rounds.first (weights_in offer));
+      known = omega (arith, no_rounds rounds.first (weights_in offer), all);
+    };
     beyond = too_many;
   }
     where
@@ -126,40 +122,40 @@ module _ {N : Type 0} {number : N → ℕ} {most : ℕ} (rounds : Rounds N) (is 
 
   module _ (count : ℕ) (items : List N) (are : AreRoundMarks number rounds count items) where
     -- such marks aren't below the low ones
-    pub rounds-raised : AreRaised number offer items
-    rounds-raised = record { size = sym (length-map items number) ∙ are.size; above = λ r lt. omega (arith, are.each r lt) }
+    pub rounds-raised : AreRaised number most rounds items
+    rounds-raised = record { has_rounds = is; size = sym (length-map items number) ∙ are.size; above = λ r lt. omega (arith, are.each r lt) }
 
     pub let_through : (weights : ℕ → ℕ → ℕ) → through rounds.first weights (marks number items) ≡ through rounds.first weights (mark_of_rounds number rounds count)
-    let_through weights = through-same weights (cells_in number offer) offer.nodes offer.keys low high (mark_of_rounds number rounds count) (marks number items) rounds.first are.each
+    let_through weights = through-same weights (cells_in number offer) offer.grid.size.nodes offer.grid.size.keys low high (mark_of_rounds number rounds count) (marks number items) rounds.first are.each
 
-    module _ {few enough whole : ℕ} {left : Option ℕ} (so_far : AreFewAndEnough number rounds few enough whole left) {found : Found} (look : IsFound number rounds items found) where
+    module _ {few enough : ℕ} {fit : Fit} (so_far : AreFewAndEnough number rounds few enough fit) where
       -- one more look finds more rounds that fit
-      pub further : count < enough → IsTrue found.fits → AreFewAndEnough number rounds count enough found.count found.left
-      further lt fits = record {
+      pub further : {found : Fit} → IsFound number rounds (marks number items) (Some found) → count < enough → AreFewAndEnough number rounds count enough found
+      further {found} look lt = record {
         below = lt;
         bound = so_far.bound;
-        counted = look.count ∙ let_through one_each;
-        within = omega (arith, look.fits.0 fits, let_through (weights_in offer));
-        known = subst (λ weight. IfSome found.left (λ rest. weight + rest ≡ amount_of offer.budget)) (let_through (weights_in offer)) look.left;
+        fits = record {
+          count = look.count ∙ let_through one_each;
+          within = omega (arith, look.within, let_through (weights_in offer));
+          known = subst (λ weight. IfSome found.left (λ rest. weight + rest ≡ amount_of offer.budget)) (let_through (weights_in offer)) look.known;
+        };
         beyond = so_far.beyond;
       }
 
       -- or that fewer are enough
-      pub nearer : few < count → count ≤ enough → found.fits ≡ false → AreFewAndEnough number rounds few count whole left
-      nearer lt le no_fit = record {
+      pub nearer : IsFound number rounds (marks number items) None → few < count → count ≤ enough → AreFewAndEnough number rounds few count fit
+      nearer no_fit lt le = record {
         below = lt;
         bound = omega (arith, so_far.bound, le);
-        counted = so_far.counted;
-        within = so_far.within;
-        known = so_far.known;
+        fits = so_far.fits;
         beyond = elim (cases_lt (amount_of offer.budget) (weight_on rounds.first number offer (marks number items))) [
           | inl above ↦ omega (arith, above, let_through (weights_in offer))
-          | inr upto ↦ absurd (false≢true (sym no_fit ∙ look.fits.1 (omega (arith, upto))))
+          | inr upto ↦ absurd (no_fit (omega (arith, upto)))
         ];
       }
 
   -- one round more lets through more
-  farther : (first : First) (few enough owner : ℕ) → enough ≡ few + 1 → enough ≤ last → owner < offer.nodes → AreFarther first (low owner) (mark first few owner) (mark first enough owner)
+  farther : (first : First) (few enough owner : ℕ) → enough ≡ few + 1 → enough ≤ last → owner < offer.grid.size.nodes → AreFarther first (low owner) (mark first few owner) (mark first enough owner)
   farther first few enough owner is_next le in_nodes = (omega arith, omega arith, on first)
     where
       rises : (round next : ℕ) → round < last → next ≡ round + 1 → end round owner ≤ end next owner
@@ -170,28 +166,29 @@ module _ {N : Type 0} {number : N → ℕ} {most : ℕ} (rounds : Rounds N) (is 
       on Newest = rises (last - enough) (last - few) (omega (arith, is_next, le)) (omega (arith, is_next, le))
 
   -- the level that a few rounds and one more are
-  pub rounds-level : {enough : ℕ} {level : Level N} {left : Option ℕ} → AreFewAndEnough number rounds (enough - 1) enough level.whole left → AreRoundMarks number rounds (enough - 1) level.near.items → AreRoundMarks number rounds enough level.far.items
+  pub rounds-level : {enough : ℕ} {level : Level N} {fit : Fit} → AreFewAndEnough number rounds (enough - 1) enough fit → level.whole ≡ fit.count
+      → AreRoundMarks number rounds (enough - 1) level.near.items → AreRoundMarks number rounds enough level.far.items
       → weight_on rounds.first number offer (marks number level.near.items) + level.left ≡ amount_of offer.budget → IsLevelOfRounds number rounds level
-  rounds-level {enough} {level} found near far left = record {
+  rounds-level {enough} {level} found whole near far left = record {
     is_level = record {
       near = (rounds-raised (enough - 1) level.near.items near).size;
       far = (rounds-raised enough level.far.items far).size;
       farther = λ owner in_nodes.
           transport (λ i. AreFarther rounds.first (low owner) (sym (near.each owner in_nodes) i) (sym (far.each owner in_nodes) i)) (farther rounds.first (enough - 1) enough owner (omega (arith, found.below)) found.bound in_nodes);
-      whole = found.counted ∙ sym (let_through (enough - 1) level.near.items near one_each);
+      whole = whole ∙ found.fits.count ∙ sym (let_through (enough - 1) level.near.items near one_each);
       left = left;
       beyond = omega (arith, found.beyond, let_through enough level.far.items far (weights_in offer));
     };
     of_rounds = by_ends rounds.first near.each far.each;
   }
     where
-      parts : (round same : ℕ) (marked : ℕ → ℕ) → same ≡ round → round ≤ last → ((owner : ℕ) → owner < offer.nodes → marked owner ≡ end round owner) → (owner : ℕ) → owner < offer.nodes → IsRoundMark (lists owner) (low owner) same (marked owner)
+      parts : (round same : ℕ) (marked : ℕ → ℕ) → same ≡ round → round ≤ last → ((owner : ℕ) → owner < offer.grid.size.nodes → marked owner ≡ end round owner) → (owner : ℕ) → owner < offer.grid.size.nodes → IsRoundMark (lists owner) (low owner) same (marked owner)
       parts round same marked is_round le are_ends owner in_nodes =
           transport (λ i. IsRoundMark (lists owner) (low owner) (sym is_round i) (sym (are_ends owner in_nodes) i))
-          (raised-mark (lists owner) (low owner) round (cell (map number rounds.ends.numbers.now) offer.nodes owner round) (is.are_ends_of.are_ends.parts owner round in_nodes le))
+          (raised-mark (lists owner) (low owner) round (cell (map number rounds.ends.numbers.now) offer.grid.size.nodes owner round) (is.are_ends_of.are_ends.parts owner round in_nodes le))
 
-      by_ends : (f : First) → ((owner : ℕ) → owner < offer.nodes → marks number level.near.items owner ≡ mark f (enough - 1) owner) → ((owner : ℕ) → owner < offer.nodes → marks number level.far.items owner ≡ mark f enough owner)
-          → AreRounds f lists offer.nodes low (marks number level.near.items) (marks number level.far.items)
+      by_ends : (f : First) → ((owner : ℕ) → owner < offer.grid.size.nodes → marks number level.near.items owner ≡ mark f (enough - 1) owner) → ((owner : ℕ) → owner < offer.grid.size.nodes → marks number level.far.items owner ≡ mark f enough owner)
+          → AreRounds f lists offer.grid.size.nodes low (marks number level.near.items) (marks number level.far.items)
       by_ends Oldest nears fars = record {
         round = enough - 1;
         early_is = parts (enough - 1) (enough - 1) (marks number level.near.items) refl (omega (arith, found.below, found.bound)) nears;
@@ -202,8 +199,3 @@ module _ {N : Type 0} {number : N → ℕ} {most : ℕ} (rounds : Rounds N) (is 
         early_is = parts (last - enough) (last - enough) (marks number level.far.items) refl (omega arith) fars;
         late_is = parts (last - (enough - 1)) (last - enough + 1) (marks number level.near.items) (omega (arith, found.below, found.bound)) (omega arith) nears;
       }
-
--- what is left tells whether that fits
-pub left-tells : (amount weight : ℕ) (left : Option ℕ) → IsLeftOf amount weight left → (IsTrue (is_some left) ↔ (weight ≤ amount)) × IfSome left (λ rest. weight + rest ≡ amount)
-left-tells amount weight None no_fit = (((λ is. absurd (false≢true is)), (λ fits. absurd (no_fit fits))), tt)
-left-tells amount weight (Some rest) fits = (((λ _. fits.0), (λ _. refl)), omega (arith, fits.0, fits.1))

@@ -65,25 +65,25 @@ module _ {N : Type 0} {number : N → ℕ} {most : ℕ} {offer : Offer N} (is : 
   high = high_in number offer
 
   abbrev weigh : ℕ → ℕ → ℕ
-  weigh owner = weight_of (weights_in offer owner) cells offer.keys owner (low owner)
+  weigh owner = weight_of (weights_in offer owner) cells offer.grid.size.keys owner (low owner)
 
   module _ {near : ℕ → ℕ} {size : ℕ} {step : Step N} (longer : AreMarksFrom number offer (size + 1) near) (runs : AreNextRuns number offer near size step) where
     run-next : AreMarksFrom number offer size (marks number step.marks.items)
     run-next owner lt =
-        run-from cells offer.keys owner (low owner) (high owner) (is.covered owner lt) size (near owner) (marks number step.marks.items owner)
+        run-from cells offer.grid.size.keys owner (low owner) (high owner) (is.covered owner lt) size (near owner) (marks number step.marks.items owner)
         (longer owner lt) (runs.marked owner lt)
 
     run-step : 0 < size → IsStep number offer near step
     run-step some = record {
       count = runs.count;
       rises = λ owner lt.
-          run-rises cells offer.keys owner (low owner) (high owner) (is.covered owner lt) size (near owner) (marks number step.marks.items owner)
+          run-rises cells offer.grid.size.keys owner (low owner) (high owner) (is.covered owner lt) size (near owner) (marks number step.marks.items owner)
           (longer owner lt) (runs.marked owner lt) some;
       more =
           runs.more
-          ∙ sym (sum_below-scaled offer.nodes size (λ owner. where_true (eqb (owner_count_in number offer owner) size) 1))
-          ∙ sym (sum_below-same offer.nodes _ _ (λ owner lt.
-          run-count cells offer.keys owner (low owner) (high owner) (is.covered owner lt) size (near owner) (marks number step.marks.items owner)
+          ∙ sym (sum_below-scaled offer.grid.size.nodes size (λ owner. where_true (eqb (owner_count_in number offer owner) size) 1))
+          ∙ sym (sum_below-same offer.grid.size.nodes _ _ (λ owner lt.
+          run-count cells offer.grid.size.keys owner (low owner) (high owner) (is.covered owner lt) size (near owner) (marks number step.marks.items owner)
           (longer owner lt) (runs.marked owner lt)));
     }
 
@@ -92,22 +92,22 @@ module _ {N : Type 0} {number : N → ℕ} {most : ℕ} {offer : Offer N} (is : 
       → amount_of offer.budget < weight_in number offer low high → 0 < size
   runs-some {size} {near} longer within cut = elim (cases_lt 0 size) [
     | inl some ↦ some
-    | inr none ↦ absurd (omega (arith, cut, within, sum_below-same offer.nodes _ _ (all (omega (arith, none)))))
+    | inr none ↦ absurd (omega (arith, cut, within, sum_below-same offer.grid.size.nodes _ _ (all (omega (arith, none)))))
   ]
     where
-      all : size ≡ 0 → (owner : ℕ) → owner < offer.nodes → weigh owner (near owner) ≡ weigh owner (high owner)
+      all : size ≡ 0 → (owner : ℕ) → owner < offer.grid.size.nodes → weigh owner (near owner) ≡ weigh owner (high owner)
       all none owner lt = elim (cases_lt 0 (owner_count_in number offer owner)) [
         | inl some ↦ let here = longer owner lt in ap (weigh owner) {x = near owner} {y = high owner} (grind (arith, nat_tests))
         | inr empty ↦
             (let here = longer owner lt in ap (weigh owner) {x = near owner} {y = low owner} (grind (arith, nat_tests)))
-            ∙ weight_of-none (weights_in offer owner) cells offer.keys owner (low owner) (low owner) (omega arith)
-            ∙ sym (weight-empty cells offer.keys owner (low owner) (high owner) (is.covered owner lt) (weights_in offer owner) (omega (arith, empty)))
+            ∙ weight_of-none (weights_in offer owner) cells offer.grid.size.keys owner (low owner) (low owner) (omega arith)
+            ∙ sym (weight-empty cells offer.grid.size.keys owner (low owner) (high owner) (is.covered owner lt) (weights_in offer owner) (omega (arith, empty)))
       ]
 
   module _ (beyond : amount_of offer.budget < weight_in number offer low high) where
     -- the longest runs are next
     pub runs-first : {size : ℕ} {near : Vec N Global} {step : Step N} {level : Level N}
-        → ((owner : ℕ) → owner < offer.nodes → owner_count_in number offer owner ≤ size) → size ≤ MOST_KEYS
+        → ((owner : ℕ) → owner < offer.grid.size.nodes → owner_count_in number offer owner ≤ size) → size ≤ MOST_KEYS
         → level ≡ record { near = near; far = step.marks; whole = 0; left = amount_of offer.budget }
         → near.items ≡ offer.low.now → AreNextRuns number offer (marks number near.items) size step → HasRuns number offer level size step.more
     runs-first {size} {near} {step} longest short made start runs =
@@ -141,36 +141,31 @@ module _ {N : Type 0} {number : N → ℕ} {most : ℕ} {offer : Offer N} (is : 
           })
 
       -- the level at which they end
-      pub runs-of_level : AreRuns cells offer.nodes offer.keys low (marks number level.near.items) (marks number level.far.items)
+      pub runs-of_level : AreRuns cells offer.grid.size.nodes offer.grid.size.keys low (marks number level.near.items) (marks number level.far.items)
       runs-of_level = record {
         size = size - 1;
         near_is = run-marks (size + 1) (size - 1 + 1) (marks number level.near.items) (omega (arith, has.some)) has.longer;
         far_is = run-marks size (size - 1) (marks number level.far.items) (omega (arith, has.some)) has.next;
       }
         where
-          run-marks : (from less : ℕ) (mark : ℕ → ℕ) → from ≡ less + 1 → AreMarksFrom number offer from mark → (owner : ℕ) → owner < offer.nodes
-              → IsRunMark cells offer.keys owner (low owner) less (mark owner)
-          run-marks from less mark one marked owner lt = run-mark cells offer.keys owner (low owner) (high owner) (is.covered owner lt) from less
+          run-marks : (from less : ℕ) (mark : ℕ → ℕ) → from ≡ less + 1 → AreMarksFrom number offer from mark → (owner : ℕ) → owner < offer.grid.size.nodes
+              → IsRunMark cells offer.grid.size.keys owner (low owner) less (mark owner)
+          run-marks from less mark one marked owner lt = run-mark cells offer.grid.size.keys owner (low owner) (high owner) (is.covered owner lt) from less
               (mark owner) one (marked owner lt)
 
   -- no owner has more than so many
-  pub counts-few : (found : List N) → HasEach offer.nodes (λ r n. n ≡ owner_count_in number offer r) (map number found) → (r : ℕ) → r < length found
+  pub counts-few : (found : List N) → HasEach offer.grid.size.nodes (λ r n. n ≡ owner_count_in number offer r) (map number found) → (r : ℕ) → r < length found
       → get_or (map number found) r 0 ≤ MOST_KEYS
   counts-few found known r lt =
-      let in_nodes : r < offer.nodes = omega (arith, lt, length-map found number, known.size) in
-      omega (
-        arith,
-        known.each r in_nodes,
-        is.grid.few_keys,
-        count-covered cells offer.keys r (low r) (high r)
-            (is.covered r in_nodes),
-        count_between-most cells offer.keys r (low r) (high r),
-      )
+      let in_nodes : r < offer.grid.size.nodes = omega (arith, lt, length-map found number, known.size) in
+      let some = count-covered cells offer.grid.size.keys r (low r) (high r) (is.covered r in_nodes) in
+      let most = count_between-most cells offer.grid.size.keys r (low r) (high r) in
+      omega (arith, known.each r in_nodes, is.grid.few_keys, some, most)
 
 -- what a step over the owners' runs writes
 pub next-runs : {N : Type 0} (number : N → ℕ) (offer : Offer N) (near counts old new : List N) (step : Step N) (size owners : ℕ) → old ≡ near
-    → length near ≡ offer.nodes → step.marks.items ≡ new → step.more ≡ owners * size
-    → HasEach offer.nodes (λ r n. n ≡ owner_count_in number offer r) (map number counts)
+    → length near ≡ offer.grid.size.nodes → step.marks.items ≡ new → step.more ≡ owners * size
+    → HasEach offer.grid.size.nodes (λ r n. n ≡ owner_count_in number offer r) (map number counts)
     → AreChanged (λ r x y. y ≡ cond (eqb (get_or (map number counts) r 0) size) (get_or (map number offer.high.now) r 0) x) (map number old) (map number new)
     → owners ≡ sum_below (length old) (λ r. cond (eqb (get_or (map number counts) r 0) size) 1 0)
     → AreNextRuns number offer (marks number near) size step
@@ -184,8 +179,8 @@ next-runs number offer near counts old new step size owners same_old length_near
       more
       ∙ ap (λ n. n * size)
       (counted ∙ ap (λ n. sum_below n (λ r. cond (eqb (get_or (map number counts) r 0) size) 1 0)) length_old
-      ∙ sum_below-same offer.nodes _ _ (λ r lt. ap (λ n. where_true (eqb n size) 1) (known.each r lt)));
+      ∙ sum_below-same offer.grid.size.nodes _ _ (λ r lt. ap (λ n. where_true (eqb n size) 1) (known.each r lt)));
 }
   where
-    length_old : length old ≡ offer.nodes
+    length_old : length old ≡ offer.grid.size.nodes
     length_old = ap length same_old ∙ length_near

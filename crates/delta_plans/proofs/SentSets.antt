@@ -82,11 +82,10 @@ module _ {X : Type 0} (order : X → X → Ordering) (total : IsTotalOrder order
   place_set : (c : X) → Contains cs c → before_count order cs c < places → is_in c ≡ true
   place_set c at_c lt = elim (is_in c) as (λ b. is_in c ≡ b → b ≡ true) [
     | true ↦ λ e. refl
-    | false ↦ λ e. absurd (omega (
-      arith,
-      lt,
-      sum_by-le (λ d. one (fits order cs size budget d)) (λ d. one (is_lt (order d c))) cs (λ d at_d. let behind = behind_in d c at_d at_c in grind (arith, nat_tests, fits-is d at_d)),
-    ))
+    | false ↦ λ e.
+        let le = sum_by-le (λ d. one (fits order cs size budget d)) (λ d. one (is_lt (order d c))) cs
+        (λ d at_d. let behind = behind_in d c at_d at_c in grind (arith, nat_tests, fits-is d at_d)) in
+        absurd (omega (arith, lt, le))
   ] refl
 
   pub sent-in_set : (c : X) → Contains (sent order cs size budget) c → Contains cs c × (is_in c ≡ true)

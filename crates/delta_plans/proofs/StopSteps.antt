@@ -1,6 +1,6 @@
 -- An owner's numbers gone over one after another.
 -- Serves `Part::nearest`, `Part::stop_from`, `Turns::share_into` and `TurnSteps`.
-use Rattle.delta_plans.proofs.Common.{◌≡◌, ℕ, zero, suc, ◌+◌, ◌-◌, ◌<◌, ◌≤◌, ◌⊎◌, inl, inr, refl, sym, ap, ◌∙◌, subst, arith, nat_tests, cases_lt, Cells, First, Oldest, Newest, by_first, NumbersDiffer, HasBetween, HasNext, IsBeyond, IsNext, IsOn, IsPast, IsStopFrom, nearer_beyond, weight_of, weight_from}
+use Rattle.delta_plans.proofs.Common.{◌≡◌, ℕ, zero, suc, ◌+◌, ◌-◌, ◌<◌, ◌≤◌, ◌⊎◌, inl, inr, sym, ap, ◌∙◌, subst, arith, nat_tests, cases_lt, Cells, First, Oldest, Newest, by_first, NumbersDiffer, HasBetween, HasNext, IsBeyond, IsNext, IsOn, IsPast, nearer_beyond, weight_of, weight_from}
 use Rattle.delta_plans.proofs.Sums.{sum_below-one}
 use Rattle.delta_plans.proofs.WeightLaws.{part-cases, weight_of-none, weight_of-split, count_between-most}
 
@@ -110,24 +110,11 @@ module _ {first : First} {weight : ℕ → ℕ} {cells : Cells} {keys owner near
         count = ap (λ n. n + 1) so_far.count ∙ sym (past-next (λ _. 1) cells keys owner first mark far number past so_far.next is differ near so_far.on);
       }
 
-    pub stop-found : left < taken → IsStopFrom first weight cells keys owner near far room mark sent
-    stop-found over = record {
-      number = number;
-      next = so_far.next;
-      on = so_far.on;
-      within = omega (arith, so_far.rest);
-      beyond = omega (arith, so_far.rest, so_far.takes, over);
-      count = so_far.count;
-    }
-
 -- the nearest of the numbers gone over, or the far mark where none is beyond the near one
 pub record IsNextSoFar (first : First) (cells : Cells) (keys owner near far next : ℕ) : Type 0 where
   pub to_far : IsOn first next far
   pub nearest : (k : ℕ) → k < keys → IsBeyond first near (cells owner k) → IsOn first next (cells owner k)
   pub held : (next ≡ far) ⊎ ((k : ℕ) × (k < keys) × (cells owner k ≡ next) × IsBeyond first near next)
-
-pub next-first : (first : First) (cells : Cells) (owner near far : ℕ) → IsNextSoFar first cells 0 owner near far far
-next-first first cells owner near far = record { to_far = on-start first far; nearest = λ k lt _. absurd (omega (arith, lt)); held = inl refl }
 
 -- what the nearer of two numbers is
 nearer-tells : (first : First) (near next number nearer : ℕ) → nearer ≡ nearer_beyond first near next number

@@ -15,7 +15,7 @@ use Rattle.delta_plans.specs.Sharing.{AreShared}
 -- the marks of a level of what is offered
 abbrev pub HasShapeIn : {N : Type 0} → Mode → (N → ℕ) → Offer N → (ℕ → ℕ) → (ℕ → ℕ) → Type 0
 HasShapeIn mode number offer near far =
-    HasShape mode (all_writes offer.lists.now) (cells_in number offer) offer.nodes offer.keys
+    HasShape mode (all_writes offer.lists.now) (cells_in number offer) offer.grid.size.nodes offer.grid.size.keys
     (low_in number offer) near far
 
 -- a level as a mode has it
@@ -25,7 +25,7 @@ pub record IsLevelOf {N : Type 0} (mode : Mode) (number : N → ℕ) (offer : Of
 
 -- marks that let all through, which fits
 pub record LetAll {N : Type 0} (first : First) (number : N → ℕ) (offer : Offer N) (mark : ℕ → ℕ) : Type 0 where
-  pub all : (owner key : ℕ) → owner < offer.nodes → key < offer.keys
+  pub all : (owner key : ℕ) → owner < offer.grid.size.nodes → key < offer.grid.size.keys
       → low_in number offer owner < cells_in number offer owner key
       → lets_through first (mark owner) (cells_in number offer owner key) ≡ true
   pub within : weight_on first number offer mark ≤ amount_of offer.budget
@@ -46,7 +46,7 @@ KeepsLow Newest nodes low mark = (r : ℕ) → r < nodes → low r ≤ mark r
 -- marks of what is sent, so many numbers, and so many are cut
 pub record AreMarked {N : Type 0} (mode : Mode) (rotation : ℕ) (number : N → ℕ) (offer : Offer N) (mark : ℕ → ℕ)
     (sent cut : ℕ) : Type 0 where
-  pub above : KeepsLow (first_sent mode) offer.nodes (low_in number offer) mark
+  pub above : KeepsLow (first_sent mode) offer.grid.size.nodes (low_in number offer) mark
   pub count : sent ≡ count_on (first_sent mode) number offer mark
   pub left : sent + cut ≡ count_in number offer (low_in number offer) (high_in number offer)
   pub how : LetAll (first_sent mode) number offer mark ⊎ ShareLevel mode rotation number offer mark sent

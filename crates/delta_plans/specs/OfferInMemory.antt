@@ -2,7 +2,8 @@
 use Rattle.std.specs.Prelude.{◌≡◌, ℕ, ◌-◌, ◌<◌, ◌≤◌, List, Option, SomeIff, length, map, slice_index}
 use Rattle.bench_types.specs.Budget.{amount_of}
 use Rattle.model.specs.calls.OwnerListView.{all_writes}
-use Rattle.planes.specs.Planes.{Cells, cell, count_above, IsGrid, HasNoneAbove}
+use Rattle.planes.specs.Grids.{IsGridOf}
+use Rattle.planes.specs.Planes.{Cells, cell, count_above, HasNoneAbove}
 use Rattle.delta_plans.specs.declared.offers.Offer.{Offer}
 use Rattle.delta_plans.specs.LevelMarks.{NumbersDiffer}
 use Rattle.delta_plans.specs.Weights.{number_shares, weight_between, count_all_between}
@@ -19,7 +20,7 @@ abbrev pub high_in : {N : Type 0} → (N → ℕ) → Offer N → ℕ → ℕ
 high_in number offer = marks number offer.high.now
 
 abbrev pub cells_in : {N : Type 0} → (N → ℕ) → Offer N → Cells
-cells_in number offer = cell (map number offer.cells.now) offer.nodes
+cells_in number offer = cell (map number offer.grid.cells.now) offer.grid.size.nodes
 
 -- what each owner's numbers take of the budget
 abbrev pub weights_in : {N : Type 0} → Offer N → ℕ → ℕ → ℕ
@@ -27,32 +28,32 @@ weights_in offer = number_shares offer.budget (all_writes offer.lists.now)
 
 -- what the numbers above marks and up to others take of it, and how many these are
 abbrev pub weight_in : {N : Type 0} → (N → ℕ) → Offer N → (ℕ → ℕ) → (ℕ → ℕ) → ℕ
-weight_in number offer = weight_between (weights_in offer) (cells_in number offer) offer.nodes offer.keys
+weight_in number offer =
+    weight_between (weights_in offer) (cells_in number offer) offer.grid.size.nodes offer.grid.size.keys
 
 abbrev pub count_in : {N : Type 0} → (N → ℕ) → Offer N → (ℕ → ℕ) → (ℕ → ℕ) → ℕ
-count_in number offer = count_all_between (cells_in number offer) offer.nodes offer.keys
+count_in number offer = count_all_between (cells_in number offer) offer.grid.size.nodes offer.grid.size.keys
 
 -- how many of an owner's numbers are above its mark
 abbrev pub owner_count_in : {N : Type 0} → (N → ℕ) → Offer N → ℕ → ℕ
 owner_count_in number offer owner =
-    count_above (cells_in number offer) offer.keys owner (low_in number offer owner)
+    count_above (cells_in number offer) offer.grid.size.keys owner (low_in number offer owner)
 
 -- each cell has the number of a write, or 0; those of an owner differ, and none is above its high mark
 pub record IsOffer {N : Type 0} (number : N → ℕ) (most : ℕ) (offer : Offer N) : Type 0 where
-  pub grid : IsGrid offer.nodes offer.keys (length offer.cells.now)
-  pub low : length offer.low.now ≡ offer.nodes
-  pub high : length offer.high.now ≡ offer.nodes
-  pub lists : length offer.lists.now ≡ offer.nodes
-  pub written : (owner key : ℕ) → owner < offer.nodes → key < offer.keys
+  pub grid : IsGridOf offer.grid
+  pub low : length offer.low.now ≡ offer.grid.size.nodes
+  pub high : length offer.high.now ≡ offer.grid.size.nodes
+  pub lists : length offer.lists.now ≡ offer.grid.size.nodes
+  pub written : (owner key : ℕ) → owner < offer.grid.size.nodes → key < offer.grid.size.keys
       → cells_in number offer owner key ≤ length (all_writes offer.lists.now owner)
-  pub below : (owner key : ℕ) → owner < offer.nodes → key < offer.keys → cells_in number offer owner key < most
-  pub differ : (owner : ℕ) → owner < offer.nodes → NumbersDiffer (cells_in number offer) offer.keys owner
-  pub covered : (owner : ℕ) → owner < offer.nodes
-      → HasNoneAbove (cells_in number offer) offer.keys owner (high_in number offer owner)
-
--- so many numbers are offered
-abbrev pub IsCountOffered : {N : Type 0} → (N → ℕ) → Offer N → ℕ → Type 0
-IsCountOffered number offer found = found ≡ count_in number offer (low_in number offer) (high_in number offer)
+  pub below : (owner key : ℕ) → owner < offer.grid.size.nodes → key < offer.grid.size.keys
+      → cells_in number offer owner key < most
+  pub differ : (owner : ℕ) → owner < offer.grid.size.nodes
+      → NumbersDiffer (cells_in number offer) offer.grid.size.keys owner
+  pub covered : (owner : ℕ) → owner < offer.grid.size.nodes
+      → HasNoneAbove (cells_in number offer) offer.grid.size.keys owner (high_in number offer owner)
+  pub found : offer.found ≡ count_in number offer (low_in number offer) (high_in number offer)
 
 -- what is left of so much room after what weighs so much, nothing where that doesn't fit
 abbrev pub IsLeftOf : ℕ → ℕ → Option ℕ → Type 0
@@ -67,17 +68,17 @@ pub record IsTooLarge {N : Type 0} (number : N → ℕ) (most : ℕ) (offer : Of
 -- an owner of an offer, and one of its keys
 pub record HasOwner {N : Type 0} (number : N → ℕ) (most : ℕ) (offer : Offer N) (owner : ℕ) : Type 0 where
   pub is_offer : IsOffer number most offer
-  pub in_nodes : owner < offer.nodes
+  pub in_nodes : owner < offer.grid.size.nodes
 
 pub record HasPlace {N : Type 0} (number : N → ℕ) (most : ℕ) (offer : Offer N) (owner key : ℕ) : Type 0 where
   pub has_owner : HasOwner number most offer owner
-  pub in_keys : key < offer.keys
+  pub in_keys : key < offer.grid.size.keys
 
 -- a low and a high mark for each owner of an offer, and how many numbers lie between them
 pub record HasMarks {N : Type 0} (number : N → ℕ) (most : ℕ) (offer : Offer N) (low high : List N) : Type 0 where
   pub is_offer : IsOffer number most offer
-  pub each_low : length low ≡ offer.nodes
-  pub each_high : length high ≡ offer.nodes
+  pub each_low : length low ≡ offer.grid.size.nodes
+  pub each_high : length high ≡ offer.grid.size.nodes
 
 pub record AreCounted {N : Type 0} (number : N → ℕ) (most : ℕ) (offer : Offer N) (count : ℕ)
     (low high : List N) : Type 0 where

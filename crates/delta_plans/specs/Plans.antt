@@ -22,28 +22,28 @@ IsNextMark cells keys owner mark next =
 
 -- marks of one level more, of which none is lower than before, and so many numbers more
 pub record IsStep {N : Type 0} (number : N → ℕ) (offer : Offer N) (near : ℕ → ℕ) (step : Step N) : Type 0 where
-  pub count : length step.marks.items ≡ offer.nodes
-  pub rises : (owner : ℕ) → owner < offer.nodes → near owner ≤ marks number step.marks.items owner
+  pub count : length step.marks.items ≡ offer.grid.size.nodes
+  pub rises : (owner : ℕ) → owner < offer.grid.size.nodes → near owner ≤ marks number step.marks.items owner
   pub more : step.more ≡ count_in number offer near (marks number step.marks.items)
 
 -- one number more of each owner that has one
 pub record IsNextLayer {N : Type 0} (number : N → ℕ) (offer : Offer N) (near : ℕ → ℕ)
     (step : Step N) : Type 0 where
   pub is_step : IsStep number offer near step
-  pub next : (owner : ℕ) → owner < offer.nodes
-      → IsNextMark (cells_in number offer) offer.keys owner (near owner)
+  pub next : (owner : ℕ) → owner < offer.grid.size.nodes
+      → IsNextMark (cells_in number offer) offer.grid.size.keys owner (near owner)
       (marks number step.marks.items owner)
 
 -- what marks let through takes so much of the budget, and is so many numbers
 abbrev pub weight_on : {N : Type 0} → First → (N → ℕ) → Offer N → (ℕ → ℕ) → ℕ
 weight_on first number offer mark =
-    weight_through first (weights_in offer) (cells_in number offer) offer.nodes offer.keys (low_in number offer)
-    (high_in number offer) mark
+    weight_through first (weights_in offer) (cells_in number offer) offer.grid.size.nodes offer.grid.size.keys
+    (low_in number offer) (high_in number offer) mark
 
 abbrev pub count_on : {N : Type 0} → First → (N → ℕ) → Offer N → (ℕ → ℕ) → ℕ
 count_on first number offer mark =
-    weight_through first one_each (cells_in number offer) offer.nodes offer.keys (low_in number offer)
-    (high_in number offer) mark
+    weight_through first one_each (cells_in number offer) offer.grid.size.nodes offer.grid.size.keys
+    (low_in number offer) (high_in number offer) mark
 
 -- far marks, which let through all that near marks do; none is below the low one
 abbrev pub AreFarther : First → ℕ → ℕ → ℕ → Type 0
@@ -51,9 +51,9 @@ AreFarther first low near far = (low ≤ near) × (low ≤ far) × IsOn first ne
 
 -- near marks, which let through so many and leave so much, and far marks, the first that let through more than fits
 pub record IsLevel {N : Type 0} (first : First) (number : N → ℕ) (offer : Offer N) (level : Level N) : Type 0 where
-  pub near : length level.near.items ≡ offer.nodes
-  pub far : length level.far.items ≡ offer.nodes
-  pub farther : (owner : ℕ) → owner < offer.nodes
+  pub near : length level.near.items ≡ offer.grid.size.nodes
+  pub far : length level.far.items ≡ offer.grid.size.nodes
+  pub farther : (owner : ℕ) → owner < offer.grid.size.nodes
       → AreFarther first (low_in number offer owner) (marks number level.near.items owner)
       (marks number level.far.items owner)
   pub whole : level.whole ≡ count_on first number offer (marks number level.near.items)
@@ -63,9 +63,9 @@ pub record IsLevel {N : Type 0} (first : First) (number : N → ℕ) (offer : Of
 -- levels as far as they were gone over, the oldest first: near marks, up to which all fit, and far marks, with so many
 -- numbers more
 pub record IsLevelSoFar {N : Type 0} (number : N → ℕ) (offer : Offer N) (level : Level N) (more : ℕ) : Type 0 where
-  pub near : length level.near.items ≡ offer.nodes
-  pub far : length level.far.items ≡ offer.nodes
-  pub farther : (owner : ℕ) → owner < offer.nodes
+  pub near : length level.near.items ≡ offer.grid.size.nodes
+  pub far : length level.far.items ≡ offer.grid.size.nodes
+  pub farther : (owner : ℕ) → owner < offer.grid.size.nodes
       → AreFarther Oldest (low_in number offer owner) (marks number level.near.items owner)
       (marks number level.far.items owner)
   pub whole : level.whole ≡ count_in number offer (low_in number offer) (marks number level.near.items)
@@ -76,13 +76,13 @@ pub record IsLevelSoFar {N : Type 0} (number : N → ℕ) (offer : Offer N) (lev
 -- layers as far as they were gone over
 pub record HasLayers {N : Type 0} (number : N → ℕ) (offer : Offer N) (level : Level N) (more : ℕ) : Type 0 where
   pub so_far : IsLevelSoFar number offer level more
-  pub shape : AreLayers (cells_in number offer) offer.nodes offer.keys (low_in number offer)
+  pub shape : AreLayers (cells_in number offer) offer.grid.size.nodes offer.grid.size.keys (low_in number offer)
       (marks number level.near.items) (marks number level.far.items)
 
 -- each owner's mark goes all the way where it has so many numbers, and else not at all
 abbrev pub AreMarksFrom : {N : Type 0} → (N → ℕ) → Offer N → ℕ → (ℕ → ℕ) → Type 0
 AreMarksFrom number offer size mark =
-    (owner : ℕ) → owner < offer.nodes
+    (owner : ℕ) → owner < offer.grid.size.nodes
     → mark owner ≡ (if nat_le size (owner_count_in number offer owner) then high_in number offer owner
     else low_in number offer owner)
 
@@ -90,18 +90,18 @@ AreMarksFrom number offer size mark =
 pub record AreRunsFrom {N : Type 0} (number : N → ℕ) (most : ℕ) (offer : Offer N) (counts near : List N)
     (size : ℕ) : Type 0 where
   pub is_offer : IsOffer number most offer
-  pub counts_are : HasEach offer.nodes (λ r n. n ≡ owner_count_in number offer r) (map number counts)
-  pub each_near : length near ≡ offer.nodes
+  pub counts_are : HasEach offer.grid.size.nodes (λ r n. n ≡ owner_count_in number offer r) (map number counts)
+  pub each_near : length near ≡ offer.grid.size.nodes
   pub few : size ≤ MOST_KEYS
 
 -- all numbers of the owners that have so many are added
 pub record AreNextRuns {N : Type 0} (number : N → ℕ) (offer : Offer N) (near : ℕ → ℕ) (size : ℕ)
     (step : Step N) : Type 0 where
-  pub count : length step.marks.items ≡ offer.nodes
-  pub marked : (owner : ℕ) → owner < offer.nodes
+  pub count : length step.marks.items ≡ offer.grid.size.nodes
+  pub marked : (owner : ℕ) → owner < offer.grid.size.nodes
       → marks number step.marks.items owner ≡ (if nat_eq (owner_count_in number offer owner) size
       then high_in number offer owner else near owner)
-  pub more : step.more ≡ sum_below offer.nodes
+  pub more : step.more ≡ sum_below offer.grid.size.nodes
       (λ owner. if nat_eq (owner_count_in number offer owner) size then 1 else 0) * size
 
 -- runs as far as they were gone over: the longer ones fit, and those of this size are next

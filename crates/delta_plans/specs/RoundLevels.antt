@@ -1,5 +1,5 @@
 -- Levels of rounds, as marks. Source: this project.
-use Rattle.std.specs.Prelude.{◌≡◌, ℕ, ◌+◌, ◌-◌, ◌*◌, ◌<◌, ◌≤◌, ◌↔◌, max, length, map, IfSome, IsTrue, List, Option}
+use Rattle.std.specs.Prelude.{◌≡◌, ℕ, ◌+◌, ◌-◌, ◌*◌, ◌<◌, ◌≤◌, max, length, map, IfSome, List, Option, Some, None}
 use Rattle.delta_plans.specs.declared.marked.First.{First}
 use Rattle.delta_plans.specs.declared.marked.First.TheVariants.{Oldest, Newest}
 use Rattle.bench_types.specs.Budget.{amount_of}
@@ -8,17 +8,18 @@ use Rattle.planes.specs.Planes.{cell, HasEach}
 use Rattle.planes.specs.declared.ends.Ends.{Ends}
 use Rattle.delta_plans.specs.declared.offers.Level.{Level}
 use Rattle.delta_plans.specs.declared.offers.Offer.{Offer}
-use Rattle.delta_plans.specs.declared.rounds.Found.{Found}
+use Rattle.delta_plans.specs.declared.rounds.Fit.{Fit}
 use Rattle.delta_plans.specs.declared.rounds.Rounds.{Rounds}
 use Rattle.owner_writes.specs.Numbered.{AreMadeBy, AreEnds}
-use Rattle.delta_plans.specs.OfferInMemory.{low_in, marks, IsCountOffered, IsTooLarge}
+use Rattle.delta_plans.specs.OfferInMemory.{low_in, marks, IsTooLarge}
 use Rattle.delta_plans.specs.Plans.{weight_on, count_on, IsLevel}
 use Rattle.delta_plans.specs.LevelMarks.{AreRounds}
 
 -- where the rounds end in which all that is offered was written
 pub record AreEndsOf {N : Type 0} (number : N → ℕ) (offer : Offer N) (ends : Ends N) : Type 0 where
-  pub size : length ends.numbers.now ≡ (ends.rounds + 1) * offer.nodes
-  pub are_ends : AreEnds (all_writes offer.lists.now) offer.nodes ends.rounds (cell (map number ends.numbers.now) offer.nodes)
+  pub size : length ends.numbers.now ≡ (ends.rounds + 1) * offer.grid.size.nodes
+  pub are_ends : AreEnds (all_writes offer.lists.now) offer.grid.size.nodes ends.rounds
+      (cell (map number ends.numbers.now) offer.grid.size.nodes)
   pub made : (owner : ℕ) → AreMadeBy ends.rounds (all_writes offer.lists.now owner)
 
 -- the round that so many rounds from the oldest on end with, or before which so many from the newest on begin
@@ -33,55 +34,54 @@ end_mark ends nodes low round owner = max (low owner) (cell ends nodes owner rou
 abbrev pub round_mark : First → ℕ → List ℕ → ℕ → (ℕ → ℕ) → ℕ → ℕ → ℕ
 round_mark first rounds ends nodes low count owner = end_mark ends nodes low (round_at first rounds count) owner
 
--- an offer that is too large, where its rounds end, and how many numbers it has
-pub record IsAsked {N : Type 0} (number : N → ℕ) (most : ℕ) (offer : Offer N) (ends : Ends N)
-    (found : ℕ) : Type 0 where
+-- an offer that is too large, and where its rounds end
+pub record IsAsked {N : Type 0} (number : N → ℕ) (most : ℕ) (offer : Offer N) (ends : Ends N) : Type 0 where
   pub too_large : IsTooLarge number most offer
   pub are_ends_of : AreEndsOf number offer ends
-  pub counted : IsCountOffered number offer found
 
 abbrev pub HasRounds : {N : Type 0} → (N → ℕ) → ℕ → Rounds N → Type 0
-HasRounds number most rounds = IsAsked number most rounds.offer.now rounds.ends rounds.found
+HasRounds number most rounds = IsAsked number most rounds.offer.now rounds.ends
 
 -- marks for each owner of it, of which none is below the low one
-pub record AreRaised {N : Type 0} (number : N → ℕ) (offer : Offer N) (mark : List N) : Type 0 where
-  pub size : length mark ≡ offer.nodes
-  pub above : (r : ℕ) → r < offer.nodes → low_in number offer r ≤ marks number mark r
+pub record AreRaised {N : Type 0} (number : N → ℕ) (most : ℕ) (rounds : Rounds N) (mark : List N) : Type 0 where
+  pub has_rounds : HasRounds number most rounds
+  pub size : length mark ≡ rounds.offer.now.grid.size.nodes
+  pub above : (r : ℕ) → r < rounds.offer.now.grid.size.nodes
+      → low_in number rounds.offer.now r ≤ marks number mark r
 
--- what such marks let through
-pub record IsFound {N : Type 0} (number : N → ℕ) (rounds : Rounds N) (mark : List N) (found : Found) : Type 0 where
-  pub count : found.count ≡ count_on rounds.first number rounds.offer.now (marks number mark)
-  pub fits : IsTrue found.fits
-      ↔ (weight_on rounds.first number rounds.offer.now (marks number mark) ≤ amount_of rounds.offer.now.budget)
-  pub left : IfSome found.left (λ left. weight_on rounds.first number rounds.offer.now (marks number mark) + left
-      ≡ amount_of rounds.offer.now.budget)
+-- what marks let through fits, is so many numbers, and leaves so much if that is known
+pub record IsFit {N : Type 0} (number : N → ℕ) (rounds : Rounds N) (mark : ℕ → ℕ) (fit : Fit) : Type 0 where
+  pub count : fit.count ≡ count_on rounds.first number rounds.offer.now mark
+  pub within : weight_on rounds.first number rounds.offer.now mark ≤ amount_of rounds.offer.now.budget
+  pub known : IfSome fit.left
+      (λ left. weight_on rounds.first number rounds.offer.now mark + left ≡ amount_of rounds.offer.now.budget)
+
+-- so it is found, or that it doesn't fit
+abbrev pub IsFound : {N : Type 0} → (N → ℕ) → Rounds N → (ℕ → ℕ) → Option Fit → Type 0
+IsFound number rounds mark (Some fit) = IsFit number rounds mark fit
+IsFound number rounds mark None =
+    weight_on rounds.first number rounds.offer.now mark ≤ amount_of rounds.offer.now.budget → ⊥
 
 -- the marks of so many rounds of it
 abbrev pub mark_of_rounds : {N : Type 0} → (N → ℕ) → Rounds N → ℕ → ℕ → ℕ
 mark_of_rounds number rounds =
-    round_mark rounds.first rounds.ends.rounds (map number rounds.ends.numbers.now) rounds.offer.now.nodes
+    round_mark rounds.first rounds.ends.rounds (map number rounds.ends.numbers.now) rounds.offer.now.grid.size.nodes
     (low_in number rounds.offer.now)
 
 abbrev pub AreRoundMarks : {N : Type 0} → (N → ℕ) → Rounds N → ℕ → List N → Type 0
 AreRoundMarks number rounds count mark =
-    HasEach rounds.offer.now.nodes (λ r n. n ≡ mark_of_rounds number rounds count r) (map number mark)
+    HasEach rounds.offer.now.grid.size.nodes (λ r n. n ≡ mark_of_rounds number rounds count r) (map number mark)
 
--- a few rounds fit, which have so many numbers and leave so much if that is known, and enough rounds don't
-pub record AreFewAndEnough {N : Type 0} (number : N → ℕ) (rounds : Rounds N)
-    (few enough whole : ℕ) (left : Option ℕ) : Type 0 where
+-- a few rounds fit, and enough rounds don't
+pub record AreFewAndEnough {N : Type 0} (number : N → ℕ) (rounds : Rounds N) (few enough : ℕ) (fit : Fit) : Type 0 where
   pub below : few < enough
   pub bound : enough ≤ rounds.ends.rounds
-  pub counted : whole ≡ count_on rounds.first number rounds.offer.now (mark_of_rounds number rounds few)
-  pub within : weight_on rounds.first number rounds.offer.now (mark_of_rounds number rounds few)
-      ≤ amount_of rounds.offer.now.budget
-  pub known : IfSome left (λ rest.
-      weight_on rounds.first number rounds.offer.now (mark_of_rounds number rounds few) + rest
-      ≡ amount_of rounds.offer.now.budget)
+  pub fits : IsFit number rounds (mark_of_rounds number rounds few) fit
   pub beyond : amount_of rounds.offer.now.budget
       < weight_on rounds.first number rounds.offer.now (mark_of_rounds number rounds enough)
 
 -- the level that they end at
 pub record IsLevelOfRounds {N : Type 0} (number : N → ℕ) (rounds : Rounds N) (level : Level N) : Type 0 where
   pub is_level : IsLevel rounds.first number rounds.offer.now level
-  pub of_rounds : AreRounds rounds.first (all_writes rounds.offer.now.lists.now) rounds.offer.now.nodes
+  pub of_rounds : AreRounds rounds.first (all_writes rounds.offer.now.lists.now) rounds.offer.now.grid.size.nodes
       (low_in number rounds.offer.now) (marks number level.near.items) (marks number level.far.items)

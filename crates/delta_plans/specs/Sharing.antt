@@ -28,8 +28,9 @@ pub record StopAt (first : First) (rotation nodes keys : ℕ) (cells : Cells) (l
 -- marks that share out a level: they stop at a number that doesn't fit any more
 pub record AreShared {N : Type 0} (first : First) (rotation : ℕ) (number : N → ℕ) (offer : Offer N)
     (near far mark : ℕ → ℕ) (sent : ℕ) : Type 0 where
-  pub stop : StopAt first rotation offer.nodes offer.keys (cells_in number offer) (low_in number offer) near far mark
-  pub above : (r : ℕ) → r < offer.nodes → low_in number offer r ≤ mark r
+  pub stop : StopAt first rotation offer.grid.size.nodes offer.grid.size.keys (cells_in number offer)
+      (low_in number offer) near far mark
+  pub above : (r : ℕ) → r < offer.grid.size.nodes → low_in number offer r ≤ mark r
   pub count : sent ≡ count_on first number offer mark
   pub within : weight_on first number offer mark ≤ amount_of offer.budget
   pub beyond : amount_of offer.budget

@@ -57,8 +57,9 @@ IsPart number most part = HasOwner number most part.offer.now part.owner
 abbrev pub IsNearest : {N : Type 0} → (N → ℕ) → Part N → (N → N → N → Type 0) → N → Type 0
 IsNearest number part answers found =
     (first : First) (near : ℕ) → AnswersNearer number answers first near
-    → HasNext first (cells_in number part.offer.now) part.offer.now.keys part.owner near (number part.far)
-    → IsNext first (cells_in number part.offer.now) part.offer.now.keys part.owner near (number part.far) (number found)
+    → HasNext first (cells_in number part.offer.now) part.offer.now.grid.size.keys part.owner near (number part.far)
+    → IsNext first (cells_in number part.offer.now) part.offer.now.grid.size.keys part.owner near (number part.far)
+    (number found)
 
 -- the nearest mark that is past a number
 abbrev pub IsPast : First → ℕ → ℕ → Type 0

@@ -5,10 +5,10 @@ use Rattle.bench_types.specs.Sums.{sum_below}
 use Rattle.bench_types.specs.declared.exchanges.Budget.TheVariants.{Entries}
 use Rattle.planes.specs.Planes.{HasEach}
 use Rattle.model.specs.Order.{rotated}
-use Rattle.delta_plans.specs.declared.sharing.Passed.{Passed}
 use Rattle.delta_plans.specs.declared.sharing.Reached.{Reached}
+use Rattle.delta_plans.specs.declared.sharing.Several.{Several}
 use Rattle.delta_plans.specs.declared.sharing.Turns.{Turns}
-use Rattle.delta_plans.specs.OfferInMemory.{cells_in, marks, weights_in, IsOffer}
+use Rattle.delta_plans.specs.OfferInMemory.{cells_in, marks, IsOffer}
 use Rattle.delta_plans.specs.Plans.{weight_on, count_on, IsLevel}
 use Rattle.delta_plans.specs.Sharing.{AreShared}
 use Rattle.delta_plans.specs.Weights.{weight_from}
@@ -16,18 +16,18 @@ use Rattle.delta_plans.specs.Weights.{weight_from}
 -- a level that doesn't fit, of an offer, that is shared out in turn from a rotation on
 pub record AreTurns {N : Type 0} (number : N → ℕ) (most : ℕ) (turns : Turns N) : Type 0 where
   pub offer : IsOffer number most turns.offer.now
-  pub rotation : turns.rotation < turns.offer.now.nodes
+  pub rotation : turns.rotation < turns.offer.now.grid.size.nodes
   pub level : IsLevel turns.first number turns.offer.now turns.level.now
 
 -- and one of the owners
 pub record HasTurn {N : Type 0} (number : N → ℕ) (most : ℕ) (turns : Turns N) (owner : ℕ) : Type 0 where
   pub are : AreTurns number most turns
-  pub in_nodes : owner < turns.offer.now.nodes
+  pub in_nodes : owner < turns.offer.now.grid.size.nodes
 
 -- what an owner's part of it weighs
 abbrev pub part_weight : {N : Type 0} → (N → ℕ) → (ℕ → ℕ) → Turns N → ℕ → ℕ
 part_weight number weight turns owner =
-    weight_from turns.first weight (cells_in number turns.offer.now) turns.offer.now.keys owner
+    weight_from turns.first weight (cells_in number turns.offer.now) turns.offer.now.grid.size.keys owner
     (marks number turns.level.now.near.items owner) (marks number turns.level.now.far.items owner)
 
 -- how many numbers the parts of so many owners have, from one on
@@ -37,7 +37,13 @@ parts_count number turns owner size = sum_below size (λ i. part_weight number (
 -- how many numbers each owner's part has, or the most where that isn't known
 abbrev pub AreKnownFor : {N : Type 0} → (N → ℕ) → ℕ → Turns N → List N → Type 0
 AreKnownFor number most turns counts =
-    HasEach turns.offer.now.nodes (λ r n. (n ≡ most) ⊎ (n ≡ part_weight number (λ _. 1) turns r)) (map number counts)
+    HasEach turns.offer.now.grid.size.nodes (λ r n. (n ≡ most) ⊎ (n ≡ part_weight number (λ _. 1) turns r))
+    (map number counts)
+
+-- so it is of turns
+pub record HasCounts {N : Type 0} (number : N → ℕ) (most : ℕ) (turns : Turns N) (counts : List N) : Type 0 where
+  pub are : AreTurns number most turns
+  pub known : AreKnownFor number most turns counts
 
 -- so it is, and an owner's part has so many
 pub record KnowsPart {N : Type 0} (number : N → ℕ) (most : ℕ) (turns : Turns N) (known : List N)
@@ -52,18 +58,18 @@ pub record IsOwnerOfTurn (nodes rotation place owner : ℕ) : Type 0 where
 
 -- marks that share it out
 pub record AreSharedBy {N : Type 0} (number : N → ℕ) (turns : Turns N) (mark : List N) (sent : ℕ) : Type 0 where
-  pub size : length mark ≡ turns.offer.now.nodes
+  pub size : length mark ≡ turns.offer.now.grid.size.nodes
   pub shared : AreShared turns.first turns.rotation number turns.offer.now (marks number turns.level.now.near.items)
       (marks number turns.level.now.far.items) (marks number mark) sent
 
 -- owners whose turn has come have the far mark, and the others the near one
 pub record HasReached {N : Type 0} (number : N → ℕ) (turns : Turns N) (mark : List N) (reached : Reached) : Type 0 where
-  pub size : length mark ≡ turns.offer.now.nodes
-  pub passed : (r : ℕ) → r < turns.offer.now.nodes
-      → rotated turns.offer.now.nodes turns.rotation r < reached.turn
+  pub size : length mark ≡ turns.offer.now.grid.size.nodes
+  pub passed : (r : ℕ) → r < turns.offer.now.grid.size.nodes
+      → rotated turns.offer.now.grid.size.nodes turns.rotation r < reached.turn
       → marks number mark r ≡ marks number turns.level.now.far.items r
-  pub waiting : (r : ℕ) → r < turns.offer.now.nodes
-      → reached.turn ≤ rotated turns.offer.now.nodes turns.rotation r
+  pub waiting : (r : ℕ) → r < turns.offer.now.grid.size.nodes
+      → reached.turn ≤ rotated turns.offer.now.grid.size.nodes turns.rotation r
       → marks number mark r ≡ marks number turns.level.now.near.items r
   pub left : weight_on turns.first number turns.offer.now (marks number mark) + reached.left
       ≡ amount_of turns.offer.now.budget
@@ -79,22 +85,13 @@ reached_after number turns reached owner size = record {
 
 -- so many owners, from one on, are next, one after another; entries are counted, and the parts of all fit
 pub record HaveTurns {N : Type 0} (number : N → ℕ) (most : ℕ) (turns : Turns N) (reached : Reached)
-    (owner size count : ℕ) : Type 0 where
+    (several : Several) : Type 0 where
   pub are : AreTurns number most turns
   pub entries : ℕ
   pub counted : turns.offer.now.budget ≡ Entries entries
-  pub in_nodes : owner + size ≤ turns.offer.now.nodes
-  pub in_turns : reached.turn + size ≤ turns.offer.now.nodes
-  pub next : (i : ℕ) → i < size → rotated turns.offer.now.nodes turns.rotation (owner + i) ≡ reached.turn + i
-  pub sum : count ≡ parts_count number turns owner size
-  pub fits : count ≤ reached.left
-
--- they have it up to an owner whose part doesn't fit
-pub record ArePassedBy {N : Type 0} (number : N → ℕ) (turns : Turns N) (mark : List N) (passed : Passed) : Type 0 where
-  pub owner : passed.owner < turns.offer.now.nodes
-  pub reached : HasReached number turns mark (record {
-    turn = rotated turns.offer.now.nodes turns.rotation passed.owner;
-    left = passed.left;
-    sent = passed.sent;
-  })
-  pub beyond : passed.left < part_weight number (weights_in turns.offer.now passed.owner) turns passed.owner
+  pub in_nodes : several.owner + several.size ≤ turns.offer.now.grid.size.nodes
+  pub in_turns : reached.turn + several.size ≤ turns.offer.now.grid.size.nodes
+  pub next : (i : ℕ) → i < several.size
+      → rotated turns.offer.now.grid.size.nodes turns.rotation (several.owner + i) ≡ reached.turn + i
+  pub sum : several.count ≡ parts_count number turns several.owner several.size
+  pub fits : several.count ≤ reached.left

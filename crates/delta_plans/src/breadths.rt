@@ -8,7 +8,7 @@ ghost use Rattle.delta_plans.specs.Plans.{IsNextLayer};
 
 use crate::offers::{Level, Offer, Step, one_if, pick};
 use bench_types::Fault;
-use planes::{Grid, Number, Size, least_above};
+use planes::{Number, least_above};
 use std::alloc::Global;
 
 // One number more of each owner that has one. The marks of the others stay.
@@ -16,14 +16,7 @@ fn one_more<N: Number>(alloc: Global, offer: &Offer<N>, near: &[N]) -> Result<St
     requires { HasMarks N.number N.most offer.now near.now offer.now.high.now }
     ensures { IfGranted result (IsNextLayer N.number offer.now (marks N.number near.now)) }
 {
-    let grid = Grid {
-        cells: offer.cells,
-        size: Size {
-            nodes: offer.nodes,
-            keys: offer.keys,
-        },
-    };
-    let mut marks = least_above(alloc, grid, near)?;
+    let mut marks = least_above(alloc, offer.grid, near)?;
     let all: &mut [N] = &mut marks;
     let mut more = 0;
     for r in 0..all.len() {

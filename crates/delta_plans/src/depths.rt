@@ -10,7 +10,7 @@ ghost use Rattle.delta_plans.specs.Plans.{AreNextRuns, AreRunsFrom};
 
 use crate::offers::{Level, Offer, Step, one_if, pick};
 use bench_types::Fault;
-use planes::{Grid, Number, Size, counts_above};
+use planes::{Number, counts_above};
 use std::alloc::Global;
 
 fn greatest_of<N: Number>(numbers: &[N]) -> u32
@@ -56,14 +56,7 @@ pub(crate) fn depth<N: Number>(alloc: Global, offer: &Offer<N>) -> Result<Level<
     requires offer { IsTooLarge N.number N.most offer.now }
     ensures { IfGranted result (IsLevelOf ScuttleDepth N.number offer.now) }
 {
-    let grid = Grid {
-        cells: offer.cells,
-        size: Size {
-            nodes: offer.nodes,
-            keys: offer.keys,
-        },
-    };
-    let counts = counts_above(alloc, grid, offer.low)?;
+    let counts = counts_above(alloc, offer.grid, offer.low)?;
     let mut size = greatest_of(&counts);
     let near = Vec::from_slice(alloc, offer.low)?;
     let first = next_runs(alloc, offer, &counts, &near, size)?;

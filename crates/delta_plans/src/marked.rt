@@ -1,19 +1,18 @@
 //! What is sent of an offer, as one mark for each owner.
 
-ghost use Rattle.std.specs.Prelude.{◌≡◌, ◌<◌, length, map, IfOk, IsOkUnless};
+ghost use Rattle.std.specs.Prelude.{◌≡◌, ◌<◌, length, IfOk, IsOkUnless};
 ghost use Rattle.bench_types.specs.declared.faults.Fault.TheVariants.{OutOfMemory};
-ghost use Rattle.delta_plans.specs.Firsts.{by_first};
 ghost use Rattle.delta_plans.specs.Granted.{IfGranted};
 ghost use Rattle.delta_plans.specs.LevelMarks.{first_sent};
 ghost use Rattle.delta_plans.specs.Marked.{AreMarked, IsLevelOf};
-ghost use Rattle.delta_plans.specs.OfferInMemory.{marks, IsCountOffered, IsOffer};
+ghost use Rattle.delta_plans.specs.OfferInMemory.{marks, IsOffer};
 ghost use Rattle.delta_plans.specs.RoundLevels.{AreEndsOf, IsAsked};
 
 use crate::breadths::breadth;
 use crate::depths::depth;
 use crate::offers::{Level, Offer};
 use crate::rounds::Rounds;
-use crate::sharing::Turns;
+use crate::sharing::{Turns, by_first};
 use bench_types::{Fault, Mode};
 use model::DeltaCounts;
 use planes::{Ends, Number};
@@ -45,36 +44,33 @@ pub struct Marked<N: Number> {
     pub counts: DeltaCounts,
 }
 
-/// All where it fits, else whole levels and a share of the first one that doesn't fit with them. How many numbers are
-/// offered is given.
+/// All where it fits, else whole levels and a share of the first one that doesn't fit with them.
 pub fn planned<N: Number>(
     alloc: Global,
     offer: &Offer<N>,
-    found: u32,
     mode: Mode,
     rotation: usize,
     ends: Ends<N>,
 ) -> Result<Marked<N>, Fault>
     requires offer { IsOffer N.number N.most offer.now }
-    requires found { IsCountOffered N.number offer.now found }
-    requires rotation { rotation < offer.now.nodes }
+    requires rotation { rotation < offer.now.grid.size.nodes }
     requires ends { AreEndsOf N.number offer.now ends }
-    ensures size { IfOk result (λ m. length m.mark.items ≡ offer.now.nodes) }
+    ensures size { IfOk result (λ m. length m.mark.items ≡ offer.now.grid.size.nodes) }
     ensures marked { IfOk result
         (λ m. AreMarked mode rotation N.number offer.now (marks N.number m.mark.items) m.counts.sent
         m.counts.cut) }
     ensures only { IsOkUnless result OutOfMemory }
 {
     let first = First::of(mode);
-    if offer.fits(found, offer.low, offer.high) {
-        let mark = whole_mark(alloc, offer, first)?;
+    if offer.fits() {
+        let mark = Vec::from_slice(alloc, by_first(first, offer.high, offer.low))?;
         let counts = DeltaCounts {
-            sent: found,
+            sent: offer.found,
             cut: 0,
         };
         return Ok(Marked { mark, counts });
     }
-    let level = level_of(alloc, offer, mode, ends, found)?;
+    let level = level_of(alloc, offer, mode, ends)?;
     let turns = Turns {
         offer,
         level: &level,
@@ -82,10 +78,9 @@ pub fn planned<N: Number>(
         rotation,
     };
     let share = turns.share(alloc)?;
-    let cut = found - share.sent;
     let counts = DeltaCounts {
         sent: share.sent,
-        cut,
+        cut: offer.found - share.sent,
     };
     Ok(Marked {
         mark: share.mark,
@@ -93,24 +88,13 @@ pub fn planned<N: Number>(
     })
 }
 
-fn whole_mark<N: Number>(alloc: Global, offer: &Offer<N>, first: First) -> Result<Vec<N>, Fault>
-    ensures { IfGranted result (λ v. map N.number v.items
-        ≡ by_first first (map N.number offer.now.high.now) (map N.number offer.now.low.now)) }
-{
-    match first {
-        First::Oldest => Ok(Vec::from_slice(alloc, offer.high)?),
-        First::Newest => Ok(Vec::from_slice(alloc, offer.low)?),
-    }
-}
-
 fn level_of<N: Number>(
     alloc: Global,
     offer: &Offer<N>,
     mode: Mode,
     ends: Ends<N>,
-    found: u32,
 ) -> Result<Level<N>, Fault>
-    requires { IsAsked N.number N.most offer.now ends found }
+    requires { IsAsked N.number N.most offer.now ends }
     ensures { IfGranted result (IsLevelOf mode N.number offer.now) }
 {
     match mode {
@@ -118,13 +102,7 @@ fn level_of<N: Number>(
         Mode::ScuttleDepth => depth(alloc, offer),
         Mode::PreciseOldest | Mode::PreciseNewest => {
             let first = First::of(mode);
-            let rounds = Rounds {
-                offer,
-                ends,
-                found,
-                first,
-            };
-            rounds.level(alloc)
+            Rounds { offer, ends, first }.level(alloc)
         }
     }
 }

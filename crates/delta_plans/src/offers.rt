@@ -4,24 +4,23 @@ ghost use Rattle.std.specs.Prelude.{◌≡◌, ◌+◌, ◌^◌, ◌*◌, ◌<�
 ghost use Rattle.bench_types.specs.declared.limits.TheConstants.{MOST_ENTRY_SIZE, MOST_KEYS, MOST_NODES};
 ghost use Rattle.bench_types.specs.Budget.{amount_of, largest_share, share_of};
 ghost use Rattle.owner_writes.specs.Kept.{entry_kept};
-ghost use Rattle.delta_plans.specs.OfferInMemory.{cells_in, marks, weight_in, weights_in, AreCounted, HasMarks, HasOwner, HasPlace, IsLeftOf};
+ghost use Rattle.delta_plans.specs.OfferInMemory.{cells_in, high_in, low_in, marks, weight_in, weights_in, AreCounted, HasMarks, HasOwner, HasPlace, IsLeftOf, IsOffer};
 ghost use Rattle.delta_plans.specs.Weights.{weight_of};
 
 use bench_types::limits::MOST_ENTRY_SIZE;
 use bench_types::{Budget, Entry};
 use owner_writes::{Kept, OwnerWrites};
-use planes::Number;
+use planes::{Grid, Number};
 
-/// The candidates are the cells of each owner above `low`, of which none is above `high`.
+/// The candidates are the cells of each owner above `low`, `found` in all. None is above `high`.
 #[derive(Drop)]
 pub struct Offer<'a, N: Number> {
-    pub cells: &'a [N],
-    pub nodes: usize,
-    pub keys: usize,
+    pub grid: Grid<'a, N>,
     pub low: &'a [N],
     pub high: &'a [N],
     pub lists: &'a [OwnerWrites],
     pub budget: Budget,
+    pub found: u32,
 }
 
 /// Near marks let through whole levels, `whole` numbers in all, after which so much of the budget is left, and far marks
@@ -112,7 +111,7 @@ impl<'a, N: Number> Offer<'a, N> {
         requires { HasPlace N.number N.most self.now owner key }
         ensures { N.number result ≡ cells_in N.number self.now owner key }
     {
-        number_at(self.cells, key * self.nodes + owner)
+        number_at(self.grid.cells, key * self.grid.size.nodes + owner)
     }
 
     /// What an owner's numbers above one mark and up to another take of it.
@@ -120,12 +119,12 @@ impl<'a, N: Number> Offer<'a, N> {
     pub(crate) fn weight_of(&self, owner: usize, low: N, high: N) -> u32
         requires { HasOwner N.number N.most self.now owner }
         ensures weight { result ≡ weight_of (weights_in self.now owner)
-            (cells_in N.number self.now) self.now.keys owner
+            (cells_in N.number self.now) self.now.grid.size.keys owner
             (N.number low) (N.number high) }
-        ensures limit { result ≤ self.now.keys * largest_share self.now.budget }
+        ensures limit { result ≤ self.now.grid.size.keys * largest_share self.now.budget }
     {
         let mut weight = 0;
-        for key in 0..self.keys {
+        for key in 0..self.grid.size.keys {
             let cell = self.cell_of(owner, key);
             if cell.is_above(low) && cell.is_upto(high) {
                 weight += self.weight_of_number(owner, cell);
@@ -142,7 +141,7 @@ impl<'a, N: Number> Offer<'a, N> {
             (marks N.number high.now)) result }
     {
         let mut left = room;
-        for owner in 0..self.nodes {
+        for owner in 0..self.grid.size.nodes {
             let from = number_at(low, owner);
             let to = number_at(high, owner);
             if to.is_above(from) {
@@ -189,18 +188,13 @@ impl<'a, N: Number> Offer<'a, N> {
         }
     }
 
-    /// Whether they fit.
-    pub(crate) fn fits(&self, count: u32, low: &[N], high: &[N]) -> bool
-        requires { AreCounted N.number N.most self.now count low.now high.now }
-        ensures { IsTrue result
-            ↔ (weight_in N.number self.now (marks N.number low.now) (marks N.number high.now)
+    /// Whether all that is offered fits.
+    pub(crate) fn fits(&self) -> bool
+        requires { IsOffer N.number N.most self.now }
+        ensures { IsTrue result ↔ (weight_in N.number self.now (low_in N.number self.now) (high_in N.number self.now)
             ≤ amount_of self.now.budget) }
     {
-        match self.budget {
-            Budget::Entries(amount) => count <= amount,
-            Budget::Bytes(amount) => {
-                count * MOST_ENTRY_SIZE <= amount || self.bytes_left_of(amount, low, high).is_some()
-            }
-        }
+        let (room, found) = (self.budget.amount(), self.found);
+        self.surely_fit(found) || self.left_of(room, found, self.low, self.high).is_some()
     }
 }

@@ -1,8 +1,7 @@
 //! Rounds: all that was written in a round, the oldest or the newest first, as long as they fit.
 
-ghost use Rattle.std.specs.Prelude.{◌≡◌, ◌+◌, ◌-◌, ◌≤◌, length, map, max, slice_index};
+ghost use Rattle.std.specs.Prelude.{◌≡◌, ◌+◌, ◌-◌, ◌<◌, ◌≤◌, length, map, max, slice_index};
 ghost use Rattle.delta_plans.specs.Granted.{IfGranted};
-ghost use Rattle.planes.specs.Elementwise.{AreChanged};
 ghost use Rattle.bench_types.specs.Budget.{amount_of};
 ghost use Rattle.delta_plans.specs.OfferInMemory.{marks, IsLeftOf};
 ghost use Rattle.delta_plans.specs.Plans.{count_on, weight_on};
@@ -11,31 +10,28 @@ ghost use Rattle.delta_plans.specs.RoundLevels.{AreFewAndEnough, AreRaised, AreR
 use crate::marked::First;
 use crate::offers::{Level, Offer};
 use bench_types::Fault;
-use planes::{Ends, Grid, Number, Size};
+use planes::{Ends, Number};
 use std::alloc::Global;
 
-// So many rounds don't fit, and one less do, which have so many numbers, and leave so much if they were weighed.
+// So many numbers fit, and leave so much if they were weighed.
+#[derive(Clone, Copy)]
+struct Fit {
+    count: u32,
+    left: Option<u32>,
+}
+
+// So many rounds don't fit, and one less do.
 #[derive(Clone, Copy)]
 struct Few {
     enough: u32,
-    whole: u32,
-    left: Option<u32>,
+    fit: Fit,
 }
 
-// What marks let through: how many numbers, whether these fit, and what they leave if they were weighed.
-#[derive(Clone, Copy)]
-struct Found {
-    count: u32,
-    fits: bool,
-    left: Option<u32>,
-}
-
-/// Rounds of what is offered: where they end, how many numbers are offered, and from which end on rounds are sent.
+/// Rounds of what is offered: where they end, and from which end on rounds are sent.
 #[derive(Drop)]
 pub(crate) struct Rounds<'a, 'b, N: Number> {
     pub(crate) offer: &'a Offer<'b, N>,
     pub(crate) ends: Ends<'b, N>,
-    pub(crate) found: u32,
     pub(crate) first: First,
 }
 
@@ -52,21 +48,21 @@ impl<'a, 'b, N: Number> Rounds<'a, 'b, N> {
         Ok(Level {
             near,
             far,
-            whole: few.whole,
+            whole: few.fit.count,
             left,
         })
     }
 
     fn left_of_few(&self, few: Few, near: &[N]) -> u32
         requires rounds { HasRounds N.number N.most self.now }
-        requires few { AreFewAndEnough N.number self.now (few.enough - 1) few.enough few.whole few.left }
+        requires few { AreFewAndEnough N.number self.now (few.enough - 1) few.enough few.fit }
         requires near { AreRoundMarks N.number self.now (few.enough - 1) near.now }
         ensures { weight_on self.now.first N.number self.now.offer.now (marks N.number near.now) + result
             ≡ amount_of self.now.offer.now.budget }
     {
-        match few.left {
+        match few.fit.left {
             Some(left) => left,
-            None => match self.weighed(few.whole, near) {
+            None => match self.weighed(few.fit.count, near) {
                 Some(left) => left,
                 None => unreachable!(),
             },
@@ -78,80 +74,59 @@ impl<'a, 'b, N: Number> Rounds<'a, 'b, N> {
     fn few_rounds(&self, alloc: Global) -> Result<Few, Fault>
         requires { HasRounds N.number N.most self.now }
         ensures { IfGranted result
-            (λ few. AreFewAndEnough N.number self.now (few.enough - 1) few.enough few.whole few.left) }
+            (λ few. AreFewAndEnough N.number self.now (few.enough - 1) few.enough few.fit) }
     {
         let mut few = 0;
         let mut enough = self.ends.rounds;
-        let mut whole = 0;
-        let mut left = Some(self.offer.budget.amount());
+        let mut fit = Fit {
+            count: 0,
+            left: Some(self.offer.budget.amount()),
+        };
         let mut step = 1;
         while few + 1 < enough {
             let by = ((enough - few) / 2).min(step);
             let mark = self.mark_after(alloc, few + by)?;
-            let found_there = self.look(&mark);
-            if found_there.fits {
-                few += by;
-                whole = found_there.count;
-                left = found_there.left;
-                step = by * 2;
-            } else {
-                enough = few + by;
+            match self.look(&mark) {
+                Some(found) => {
+                    few += by;
+                    fit = found;
+                    step = by * 2;
+                }
+                None => enough = few + by,
             }
         }
-        Ok(Few {
-            enough,
-            whole,
-            left,
-        })
+        Ok(Few { enough, fit })
     }
 
-    // What surely fits by its count isn't weighed.
-    fn look(&self, mark: &[N]) -> Found
-        requires rounds { HasRounds N.number N.most self.now }
-        requires mark { AreRaised N.number self.now.offer.now mark.now }
-        ensures { IsFound N.number self.now mark.now result }
+    // What marks let through, if it fits. What surely fits by its count isn't weighed.
+    fn look(&self, mark: &[N]) -> Option<Fit>
+        requires { AreRaised N.number N.most self.now mark.now }
+        ensures { IsFound N.number self.now (marks N.number mark.now) result }
     {
         let count = self.count(mark);
         if self.offer.surely_fit(count) {
-            return Found {
-                count,
-                fits: true,
-                left: None,
-            };
+            return Some(Fit { count, left: None });
         }
-        let left = self.weighed(count, mark);
-        Found {
-            count,
-            fits: left.is_some(),
-            left,
-        }
+        let left = Some(self.weighed(count, mark)?);
+        Some(Fit { count, left })
     }
 
     // How many numbers marks let through.
     fn count(&self, mark: &[N]) -> u32
-        requires rounds { HasRounds N.number N.most self.now }
-        requires mark { AreRaised N.number self.now.offer.now mark.now }
+        requires { AreRaised N.number N.most self.now mark.now }
         ensures { result ≡ count_on self.now.first N.number self.now.offer.now (marks N.number mark.now) }
     {
         let offer = self.offer;
-        let grid = Grid {
-            cells: offer.cells,
-            size: Size {
-                nodes: offer.nodes,
-                keys: offer.keys,
-            },
-        };
-        let above = planes::total_above(grid, mark, offer.high);
+        let above = planes::total_above(offer.grid, mark, offer.high);
         match self.first {
-            First::Oldest => self.found - above,
+            First::Oldest => offer.found - above,
             First::Newest => above,
         }
     }
 
     // What so many leave, if they fit.
     fn weighed(&self, count: u32, mark: &[N]) -> Option<u32>
-        requires rounds { HasRounds N.number N.most self.now }
-        requires mark { AreRaised N.number self.now.offer.now mark.now }
+        requires mark { AreRaised N.number N.most self.now mark.now }
         requires count { count ≡ count_on self.now.first N.number self.now.offer.now (marks N.number mark.now) }
         ensures { IsLeftOf (amount_of self.now.offer.now.budget)
             (weight_on self.now.first N.number self.now.offer.now (marks N.number mark.now)) result }
@@ -173,19 +148,15 @@ impl<'a, 'b, N: Number> Rounds<'a, 'b, N> {
             First::Oldest => count,
             First::Newest => self.ends.rounds - count,
         };
-        let row = self.ends.row(self.offer.nodes, round);
+        let row = self.ends.row(self.offer.grid.size.nodes, round);
         let mut mark = Vec::from_slice(alloc, self.offer.low)?;
-        raise(&mut mark, row);
+        planes::change(
+            &mut mark,
+            |r, number| -> N
+                requires { r < length row.now }
+                ensures { N.number result ≡ max (N.number number) (slice_index (map N.number row.entry.now) r) }
+            { number.max_with(row[r]) },
+        );
         Ok(mark)
-    }
-}
-
-fn raise<N: Number>(numbers: &mut [N], bounds: &[N])
-    requires { length bounds.now ≡ length numbers.old }
-    ensures { AreChanged (λ r x y. y ≡ max x (slice_index (map N.number bounds.now) r))
-        (map N.number numbers.old) (map N.number numbers.new) }
-{
-    for r in 0..numbers.len() {
-        numbers[r] = numbers[r].max_with(bounds[r]);
     }
 }

@@ -5,22 +5,14 @@ ghost use Rattle.std.specs.Prelude.{◌≡◌, ℕ, ◌+◌, ◌-◌, ◌<◌, �
 ghost use Rattle.delta_plans.specs.Granted.{IfGranted};
 ghost use Rattle.delta_plans.specs.Firsts.{by_first};
 ghost use Rattle.delta_plans.specs.OfferInMemory.{marks, weights_in};
-ghost use Rattle.delta_plans.specs.Turns.{part_weight, parts_count, AreKnownFor, ArePassedBy, AreSharedBy, AreTurns, HasReached, HasTurn, HaveTurns, IsOwnerOfTurn, KnowsPart};
+ghost use Rattle.delta_plans.specs.Turns.{part_weight, parts_count, AreKnownFor, AreSharedBy, AreTurns, HasCounts, HasReached, HasTurn, HaveTurns, IsOwnerOfTurn, KnowsPart};
 
 use crate::marked::First;
 use crate::offers::{Level, Offer, Share, number_at};
 use crate::stops::Part;
 use bench_types::{Budget, Fault};
-use planes::{Grid, Number, Size, all_of, count_some_between};
+use planes::{Number, all_of, count_some_between};
 use std::alloc::Global;
-
-// An owner whose part doesn't fit, what is left for it, and how many numbers were let through before.
-#[derive(Clone, Copy)]
-struct Passed {
-    owner: usize,
-    left: u32,
-    sent: u32,
-}
 
 // How many owners had their turn, what is left then, and how many numbers were let through.
 #[derive(Clone, Copy)]
@@ -28,6 +20,14 @@ struct Reached {
     turn: usize,
     left: u32,
     sent: u32,
+}
+
+// So many owners from one on, and how many numbers their parts have.
+#[derive(Clone, Copy)]
+struct Several {
+    owner: usize,
+    size: usize,
+    count: u32,
 }
 
 /// The parts of so many owners are counted at a time.
@@ -56,7 +56,7 @@ fn owner_of_turn(turn: usize, nodes: usize, rotation: usize) -> usize
 }
 
 // Of two lists of marks the first where the oldest goes first, else the second.
-fn by_first<'a, N: Number>(first: First, oldest: &'a [N], newest: &'a [N]) -> &'a [N]
+pub(crate) fn by_first<'a, N: Number>(first: First, oldest: &'a [N], newest: &'a [N]) -> &'a [N]
     ensures { result.now ≡ by_first first oldest.now newest.now }
 {
     match first {
@@ -89,9 +89,8 @@ impl<'a, 'b, N: Number> Turns<'a, 'b, N> {
     // needs it.
     #[inline(never)]
     fn count_parts(&self, counts: &mut [N], owner: usize, size: usize)
-        requires turns { AreTurns N.number N.most self.now }
-        requires within { owner + size ≤ self.now.offer.now.nodes }
-        requires counts { AreKnownFor N.number N.most self.now counts.old }
+        requires counts { HasCounts N.number N.most self.now counts.old }
+        requires within { owner + size ≤ self.now.offer.now.grid.size.nodes }
         ensures each { (r : ℕ) → owner ≤ r → r < owner + size
             → marks N.number counts.new r ≡ part_weight N.number (λ _. 1) self.now r }
         ensures counts { AreKnownFor N.number N.most self.now counts.new }
@@ -102,14 +101,7 @@ impl<'a, 'b, N: Number> Turns<'a, 'b, N> {
         let far = &self.level.far;
         let low = by_first(self.first, near, far);
         let high = by_first(self.first, far, near);
-        let grid = Grid {
-            cells: offer.cells,
-            size: Size {
-                nodes: offer.nodes,
-                keys: offer.keys,
-            },
-        };
-        count_some_between(some, grid, owner, low, high);
+        count_some_between(some, offer.grid, owner, low, high);
     }
 
     // How many numbers an owner's part has. Where that isn't known, parts are counted from this owner on.
@@ -122,16 +114,15 @@ impl<'a, 'b, N: Number> Turns<'a, 'b, N> {
         if N::greatest().is_above(known) {
             return known.widen();
         }
-        let size = MANY.min(self.offer.nodes - owner);
+        let size = MANY.min(self.offer.grid.size.nodes - owner);
         self.count_parts(counts, owner, size);
         number_at(counts, owner).widen()
     }
 
     // How many numbers the parts of some owners have, from an owner on.
     fn count_of_parts(&self, counts: &mut [N], owner: usize, size: usize) -> u32
-        requires turns { AreTurns N.number N.most self.now }
-        requires within { owner + size ≤ self.now.offer.now.nodes }
-        requires counts { AreKnownFor N.number N.most self.now counts.old }
+        requires counts { HasCounts N.number N.most self.now counts.old }
+        requires within { owner + size ≤ self.now.offer.now.grid.size.nodes }
         ensures count { result ≡ parts_count N.number self.now owner size }
         ensures counts { AreKnownFor N.number N.most self.now counts.new }
     {
@@ -144,19 +135,13 @@ impl<'a, 'b, N: Number> Turns<'a, 'b, N> {
     }
 
     // Gives some owners, from an owner on, the far mark.
-    fn pass_some(
-        &self,
-        mark: &mut [N],
-        reached: Reached,
-        owner: usize,
-        size: usize,
-        count: u32,
-    ) -> Reached
-        requires turns { HaveTurns N.number N.most self.now reached owner size count }
+    fn pass_some(&self, mark: &mut [N], reached: Reached, several: Several) -> Reached
+        requires turns { HaveTurns N.number N.most self.now reached several }
         requires reached { HasReached N.number self.now mark.old reached }
         ensures reached { HasReached N.number self.now mark.new result }
-        ensures turn { result.turn ≡ reached.turn + size }
+        ensures turn { result.turn ≡ reached.turn + several.size }
     {
+        let Several { owner, size, count } = several;
         let all: &[N] = &self.level.far;
         for i in 0..size {
             let far = number_at(all, owner + i);
@@ -172,15 +157,14 @@ impl<'a, 'b, N: Number> Turns<'a, 'b, N> {
     // Gives the owners in turn the far mark, many at a time, as long as entries are counted and the parts of all of
     // these fit.
     fn pass_many(&self, counts: &mut [N], mark: &mut [N], start: Reached) -> Reached
-        requires turns { AreTurns N.number N.most self.now }
-        requires counts { AreKnownFor N.number N.most self.now counts.old }
+        requires counts { HasCounts N.number N.most self.now counts.old }
         requires start { HasReached N.number self.now mark.old start }
         ensures reached { HasReached N.number self.now mark.new result }
         ensures counts { AreKnownFor N.number N.most self.now counts.new }
     {
         let mut reached = start;
         if let Budget::Entries(_) = self.offer.budget {
-            let nodes = self.offer.nodes;
+            let nodes = self.offer.grid.size.nodes;
             while reached.turn < nodes {
                 let owner = owner_of_turn(reached.turn, nodes, self.rotation);
                 let size = MANY.min(nodes - owner.max(reached.turn));
@@ -188,20 +172,20 @@ impl<'a, 'b, N: Number> Turns<'a, 'b, N> {
                 if reached.left < count {
                     return reached;
                 }
-                reached = self.pass_some(mark, reached, owner, size, count);
+                reached = self.pass_some(mark, reached, Several { owner, size, count });
             }
         }
         reached
     }
 
-    // Gives the owners in turn the far mark as long as their parts fit. Answers whose part doesn't.
-    fn pass_turns(&self, counts: &mut [N], mark: &mut [N]) -> Passed
-        requires turns { AreTurns N.number N.most self.now }
-        requires counts { AreKnownFor N.number N.most self.now counts.old }
+    // Gives the owners in turn the far mark as long as their parts fit, and the first whose part doesn't the mark where
+    // that stops. Answers how many numbers these marks let through.
+    fn share_into(&self, counts: &mut [N], mark: &mut [N]) -> u32
+        requires counts { HasCounts N.number N.most self.now counts.old }
         requires mark { mark.old ≡ self.now.level.now.near.items }
-        ensures { ArePassedBy N.number self.now mark.new result }
+        ensures { AreSharedBy N.number self.now mark.new result }
     {
-        let nodes = self.offer.nodes;
+        let nodes = self.offer.grid.size.nodes;
         let start = Reached {
             turn: 0,
             left: self.level.left,
@@ -214,10 +198,19 @@ impl<'a, 'b, N: Number> Turns<'a, 'b, N> {
             let owner = owner_of_turn(turn, nodes, self.rotation);
             let count = self.count_of_part(counts, owner);
             let weight = self.weight_of_part(owner, count);
-            if left < weight {
-                return Passed { owner, left, sent };
-            }
             let far = number_at(&self.level.far, owner);
+            if left < weight {
+                let near = number_at(&self.level.near, owner);
+                let part = Part {
+                    offer: self.offer,
+                    first: self.first,
+                    owner,
+                    far,
+                };
+                let stop = part.stop_from(near, left);
+                mark[owner] = stop.mark;
+                return sent + stop.sent;
+            }
             mark[owner] = far;
             left -= weight;
             sent += count;
@@ -225,34 +218,12 @@ impl<'a, 'b, N: Number> Turns<'a, 'b, N> {
         unreachable!()
     }
 
-    // Puts the marks that stop at the first number that doesn't fit. Answers how many numbers they let through.
-    fn share_into(&self, counts: &mut [N], mark: &mut [N]) -> u32
-        requires turns { AreTurns N.number N.most self.now }
-        requires counts { AreKnownFor N.number N.most self.now counts.old }
-        requires mark { mark.old ≡ self.now.level.now.near.items }
-        ensures { AreSharedBy N.number self.now mark.new result }
-    {
-        let passed = self.pass_turns(counts, mark);
-        let owner = passed.owner;
-        let near = number_at(&self.level.near, owner);
-        let far = number_at(&self.level.far, owner);
-        let part = Part {
-            offer: self.offer,
-            first: self.first,
-            owner,
-            far,
-        };
-        let stop = part.stop_from(near, passed.left);
-        mark[owner] = stop.mark;
-        passed.sent + stop.sent
-    }
-
     /// What of the levels and of the one that doesn't fit is sent.
     pub(crate) fn share(&self, alloc: Global) -> Result<Share<N>, Fault>
         requires turns { AreTurns N.number N.most self.now }
         ensures { IfGranted result (λ s. AreSharedBy N.number self.now s.mark.items s.sent) }
     {
-        let mut counts = all_of(alloc, self.offer.nodes, N::greatest())?;
+        let mut counts = all_of(alloc, self.offer.grid.size.nodes, N::greatest())?;
         let mut mark = Vec::from_slice(alloc, &self.level.near)?;
         let sent = self.share_into(&mut counts, &mut mark);
         Ok(Share { mark, sent })

@@ -33,7 +33,7 @@ impl<'a, 'b, N: Number> Part<'a, 'b, N> {
         ensures { IsNearest N.number self.now (F.post nearer) result }
     {
         let mut next = self.far;
-        for key in 0..self.offer.keys {
+        for key in 0..self.offer.grid.size.keys {
             next = nearer(next, self.offer.cell_of(self.owner, key));
         }
         next
@@ -42,9 +42,9 @@ impl<'a, 'b, N: Number> Part<'a, 'b, N> {
     // Of those between a near mark and the far one the least, or from the newest on the greatest.
     fn next(&self, near: N) -> N
         requires part { IsPart N.number N.most self.now }
-        requires some { HasNext self.now.first (cells_in N.number self.now.offer.now) self.now.offer.now.keys
+        requires some { HasNext self.now.first (cells_in N.number self.now.offer.now) self.now.offer.now.grid.size.keys
             self.now.owner (N.number near) (N.number self.now.far) }
-        ensures { IsNext self.now.first (cells_in N.number self.now.offer.now) self.now.offer.now.keys
+        ensures { IsNext self.now.first (cells_in N.number self.now.offer.now) self.now.offer.now.grid.size.keys
             self.now.owner (N.number near) (N.number self.now.far) (N.number result) }
     {
         match self.first {
@@ -61,10 +61,10 @@ impl<'a, 'b, N: Number> Part<'a, 'b, N> {
     pub(crate) fn stop_from(&self, near: N, room: u32) -> Stop<N>
         requires part { IsPart N.number N.most self.now }
         requires beyond { room < weight_from self.now.first (weights_in self.now.offer.now self.now.owner)
-            (cells_in N.number self.now.offer.now) self.now.offer.now.keys self.now.owner
+            (cells_in N.number self.now.offer.now) self.now.offer.now.grid.size.keys self.now.owner
             (N.number near) (N.number self.now.far) }
         ensures { IsStopFrom self.now.first (weights_in self.now.offer.now self.now.owner)
-            (cells_in N.number self.now.offer.now) self.now.offer.now.keys self.now.owner
+            (cells_in N.number self.now.offer.now) self.now.offer.now.grid.size.keys self.now.owner
             (N.number near) (N.number self.now.far) room (N.number result.mark) result.sent }
     {
         let mut mark = near;

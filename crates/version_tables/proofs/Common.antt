@@ -25,7 +25,7 @@ pub use Rattle.delta_plans.proofs.Candidates.{IsOffered, candidate-number, candi
 pub use Rattle.delta_plans.proofs.DeltaMarks.{are-sent, count-cut, count-sent, lets, shared-sent, whole-sent}
 pub use Rattle.delta_plans.proofs.Grids.{items_sum}
 pub use Rattle.delta_plans.proofs.MarkedLaws.{whole-marked, whole-size}
-pub use Rattle.delta_plans.proofs.RoundMarks.{count-newest}
+pub use Rattle.delta_plans.proofs.RoundMarks.{count-above}
 pub use Rattle.delta_plans.proofs.Starts.{all_writes-here}
 pub use Rattle.delta_plans.proofs.Sums.{sum_below-each_none, sum_below-none}
 pub use Rattle.delta_plans.proofs.WeightLaws.{count_between-most, part, part-cases, weight_between-most, weight_of-none, weight_of-split}

@@ -1,6 +1,6 @@
 -- From an offer's marks to the marks of a delta between two tables.
 -- Serves `marks_sent` and `Merged`.
-use Rattle.version_tables.proofs.Common.{◌≡◌, ℕ, ◌<◌, ◌≤◌, List, length, get_or, map, inl, inr, refl, sym, ap, ◌∙◌, subst, arith, nat_lt, ◌&&◌, cases_eq, length-map, nat_tests, Entry, First, Oldest, Newest, Rules, DigestKind, Scuttle, Precise, digest_kind, first_sent, Table, candidates, delta_between, write_numbered, all_writes, Cells, cell, HasEach, HasNoneAbove, Offer, HasSet, by_first, AreMarked, KeepsLow, IsOffer, IsHistory, Offers, offered_by, told_by, told_number, lets_through, NumbersDiffer, IsOffered, candidate-place, candidate-number, lets, count-sent, count-cut, are-sent, shared-sent, whole-sent, numbered-some, VersionTableView, HistoriesView, table_in, is_taken_at, AreLaidBoth, AreMarksOf, AreLow, AreOffered, is_taken}
+use Rattle.version_tables.proofs.Common.{◌≡◌, ℕ, ◌<◌, ◌≤◌, List, length, get_or, map, inl, inr, refl, sym, ap, ◌∙◌, subst, arith, nat_lt, ◌&&◌, total_above, cases_eq, length-map, nat_tests, Entry, First, Oldest, Newest, Rules, DigestKind, Scuttle, Precise, digest_kind, first_sent, Table, candidates, delta_between, write_numbered, all_writes, Cells, cell, HasEach, HasNoneAbove, Offer, HasSet, by_first, AreMarked, KeepsLow, IsOffer, IsHistory, Offers, offered_by, told_by, told_number, lets_through, NumbersDiffer, IsOffered, candidate-place, candidate-number, lets, count-above, count-sent, count-cut, are-sent, shared-sent, whole-sent, numbered-some, VersionTableView, HistoriesView, table_in, is_taken_at, AreLaidBoth, AreMarksOf, AreLow, AreOffered, is_taken}
 use Rattle.version_tables.proofs.Fitting.{turned, first-numbers}
 use Rattle.version_tables.proofs.Told.{told-offers, offered-is, offered-upto}
 
@@ -19,14 +19,15 @@ by_first-size Oldest xs ys n one other = one
 by_first-size Newest xs ys n one other = other
 
 module _ {N : Type 0} (number : N → ℕ) {written : ℕ → List Entry} {most : ℕ} {h : HistoriesView} {from to : VersionTableView} (two : AreLaidBoth written most h from to) (rules : Rules)
-    (given : Offer N) (nodes : given.nodes ≡ from.nodes) (keys : given.keys ≡ from.keys) (lists_are : given.lists.now ≡ h.lists) (budget : given.budget ≡ rules.budget) (high_is : map number given.high.now ≡ from.greatest) (low_is : AreLow (digest_kind rules.mode) h from to (map number given.low.now))
-    (offered : AreOffered (digest_kind rules.mode) from to (map number given.low.now) (map number given.cells.now)) where
+    (given : Offer N) (nodes : given.grid.size.nodes ≡ from.nodes) (keys : given.grid.size.keys ≡ from.keys) (lists_are : given.lists.now ≡ h.lists) (budget : given.budget ≡ rules.budget) (high_is : map number given.high.now ≡ from.greatest) (low_is : AreLow (digest_kind rules.mode) h from to (map number given.low.now))
+    (offered : AreOffered (digest_kind rules.mode) from to (map number given.low.now) (map number given.grid.cells.now))
+    (found : given.found ≡ total_above from.nodes from.keys (map number given.grid.cells.now) (map number given.low.now)) where
   -- the offer, of the sender's owners and keys and the lists so far
   abbrev offer : Offer N
-  offer = record given { nodes = from.nodes; keys = from.keys; lists = record given.lists { now = h.lists }; budget = rules.budget }
+  offer = record given { grid = record given.grid { size = record { nodes = from.nodes; keys = from.keys } }; lists = record given.lists { now = h.lists }; budget = rules.budget }
 
   same : given ≡ offer
-  same = λ i. record given { nodes = nodes i; keys = keys i; lists = record given.lists { now = lists_are i }; budget = budget i }
+  same = λ i. record given { grid = record given.grid { size = record { nodes = nodes i; keys = keys i } }; lists = record given.lists { now = lists_are i }; budget = budget i }
 
   abbrev kind : DigestKind
   kind = digest_kind rules.mode
@@ -56,7 +57,7 @@ module _ {N : Type 0} (number : N → ℕ) {written : ℕ → List Entry} {most 
   high r = get_or (map number given.high.now) r 0
 
   abbrev cells : Cells
-  cells = cell (map number given.cells.now) from.nodes
+  cells = cell (map number given.grid.cells.now) from.nodes
 
   sender-high : (owner key : ℕ) → owner < from.nodes → key < from.keys → sender owner key ≤ high owner
   sender-high owner key in_nodes in_keys = omega (arith, (two.first.most owner in_nodes).upto key in_keys, ap (λ xs. get_or xs owner 0) high_is)
@@ -65,7 +66,7 @@ module _ {N : Type 0} (number : N → ℕ) {written : ℕ → List Entry} {most 
   cells-upto owner key in_nodes in_keys = omega (arith, offered.each owner key in_nodes in_keys, offered-upto kind sender receiver low owner key)
 
   offers : Offers rules.mode F T lists cells low
-  offers = told-offers two rules.mode (map number given.low.now) (map number given.cells.now) low_is offered
+  offers = told-offers two rules.mode (map number given.low.now) (map number given.grid.cells.now) low_is offered
 
   covered : (owner : ℕ) → owner < from.nodes → HasNoneAbove cells from.keys owner (high owner)
   covered owner in_nodes key in_keys = omega (arith, cells-upto owner key in_nodes in_keys, sender-high owner key in_nodes in_keys)
@@ -83,7 +84,7 @@ module _ {N : Type 0} (number : N → ℕ) {written : ℕ → List Entry} {most 
   pub offer-is : IsOffer number most given
   offer-is = subst (IsOffer number most) (sym same) (record {
     grid = record {
-      whole = sym (length-map given.cells.now number) ∙ offered.size;
+      whole = sym (length-map given.grid.cells.now number) ∙ offered.size;
       few_nodes = two.first.proper.nodes_limit;
       few_keys = two.first.proper.keys_limit;
     };
@@ -94,6 +95,7 @@ module _ {N : Type 0} (number : N → ℕ) {written : ℕ → List Entry} {most 
     below = λ owner key in_nodes in_keys. omega (arith, cells-upto owner key in_nodes in_keys, (first-numbers two).written owner key in_nodes in_keys, (two.known.so_far owner).few);
     differ = differ;
     covered = covered;
+    found = found ∙ count-above cells from.nodes from.keys high covered low;
   })
 
   -- what marks let through of the offer is the delta

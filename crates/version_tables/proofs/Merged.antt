@@ -1,6 +1,6 @@
 -- Tables that take all that the other has above their own greatest numbers exchange as the model's do.
 -- Serves `exchange`.
-use Rattle.version_tables.proofs.Common.{◌≡◌, ℕ, zero, suc, ◌+◌, ◌-◌, ◌<◌, ◌≤◌, false, max, List, get_or, length, map, inl, inr, refl, sym, ap, ◌∙◌, arith, Option, Some, None, mul-le-mul_right, cases_lt, map-id, nat_tests, Entry, Budget, Entries, Bytes, Scuttle, Exchange, First, Oldest, Newest, Record, Rules, amount_of, largest_share, digest_kind, first_sent, sum_below-le, DeltaView, digest_size, last_fate, sent_until, MakesOf, write_numbered, all_writes, applied, Cells, cell, count_between, most_ahead, total_above, BothCounts, Offer, NumbersDiffer, by_first, IsOffer, low_in, share_or_none, number_shares, count_all_between, weight_between, sum_below-none, whole-size, whole-marked, count-newest, part, part-cases, weight_of-none, weight_of-split, weight_between-most, count_between-most, IsVersionTable, VersionTableView, HistoriesView, table_in, delta_of_views, AreLaidBoth, AreMarksOf, bases_in, AreLow, AreOffered, BothStayMerged, HaveMerged, IsMerged, MayMerge, MayTakeAll, IsTaken}
+use Rattle.version_tables.proofs.Common.{◌≡◌, ℕ, zero, suc, ◌+◌, ◌-◌, ◌<◌, ◌≤◌, false, max, List, get_or, length, map, inl, inr, refl, sym, ap, ◌∙◌, arith, Option, Some, None, mul-le-mul_right, cases_lt, map-id, nat_tests, Entry, Budget, Entries, Bytes, Scuttle, Exchange, First, Oldest, Newest, Record, Rules, amount_of, largest_share, digest_kind, first_sent, sum_below-le, DeltaView, digest_size, last_fate, sent_until, MakesOf, write_numbered, all_writes, applied, Cells, cell, count_between, most_ahead, total_above, BothCounts, Offer, NumbersDiffer, by_first, IsOffer, share_or_none, number_shares, count_all_between, weight_between, sum_below-none, whole-size, whole-marked, part, part-cases, weight_of-none, weight_of-split, weight_between-most, count_between-most, IsVersionTable, VersionTableView, HistoriesView, table_in, delta_of_views, AreLaidBoth, AreMarksOf, bases_in, AreLow, AreOffered, BothStayMerged, HaveMerged, IsMerged, MayMerge, MayTakeAll, IsTaken}
 use Rattle.version_tables.proofs.Delivered.{offer-is, delta-marks}
 use Rattle.version_tables.proofs.Fitting.{turned}
 use Rattle.version_tables.proofs.TakenViews.{becomes_applied, becomes_one}
@@ -43,13 +43,12 @@ module _ (rules : Rules) (rotation : ℕ) {written : ℕ → List Entry} {most :
 
   abbrev all : Offer ℕ
   all = record {
-    cells = record { ref_ptr = (0, 0); now = from.cells };
-    nodes = from.nodes;
-    keys = from.keys;
+    grid = record { cells = record { ref_ptr = (0, 0); now = from.cells }; size = record { nodes = from.nodes; keys = from.keys } };
     low = record { ref_ptr = (0, 0); now = to.greatest };
     high = record { ref_ptr = (0, 0); now = from.greatest };
     lists = record { ref_ptr = (0, 0); now = h.lists };
     budget = rules.budget;
+    found = total_above from.nodes from.keys from.cells to.greatest;
   }
 
   abbrev low : ℕ → ℕ
@@ -76,7 +75,7 @@ module _ (rules : Rules) (rotation : ℕ) {written : ℕ → List Entry} {most :
   cells-are = simp (scuttle, map-id) (record { size = two.first.cell_count; each = λ _ _ _ _. refl })
 
   is-offer : IsOffer id most all
-  is-offer = offer-is id two rules all refl refl refl refl (map-id from.greatest) low-is cells-are
+  is-offer = offer-is id two rules all refl refl refl refl (map-id from.greatest) low-is cells-are (simp map-id)
 
   -- so many, which are no more than the greatest numbers are apart
   abbrev count : ℕ
@@ -86,7 +85,7 @@ module _ (rules : Rules) (rotation : ℕ) {written : ℕ → List Entry} {most :
   count-few = sum_below-le from.nodes _ _ (λ r lt. omega (arith, few-upto cells r from.keys (high r - low r) (low r) (high r) (omega arith) (simp map-id at (is-offer.differ r lt)), count_between-most cells from.keys r (low r) (high r)))
 
   same-total : total_above from.nodes from.keys from.cells to.greatest ≡ count
-  same-total = simp map-id at (count-newest id most all is-offer (low_in id all))
+  same-total = simp map-id at is-offer.found
 
   -- so all of it fits
   within : weight_between (number_shares rules.budget (all_writes h.lists)) cells from.nodes from.keys low high ≤ amount_of rules.budget
@@ -101,8 +100,8 @@ module _ (rules : Rules) (rotation : ℕ) {written : ℕ → List Entry} {most :
   marks-of =
       let whole = by_first (first_sent rules.mode) from.greatest to.greatest in
       whole-marks (first_sent rules.mode) to.greatest from.greatest (λ xs ys. AreMarksOf rules rotation written from to xs ys (total_above from.nodes from.keys from.cells to.greatest) 0)
-      (simp map-id at (delta-marks id two rules all refl refl refl refl (map-id from.greatest) low-is cells-are rotation in_nodes (map id whole) (total_above from.nodes from.keys from.cells to.greatest) 0
-      (whole-marked id most all is-offer rotation (total_above from.nodes from.keys from.cells to.greatest) (simp map-id same-total) (simp map-id within) rules.mode whole (simp map-id))
+      (simp map-id at (delta-marks id two rules all refl refl refl refl (map-id from.greatest) low-is cells-are (simp map-id) rotation in_nodes (map id whole) (total_above from.nodes from.keys from.cells to.greatest) 0
+      (whole-marked id most all is-offer rotation (simp map-id within) rules.mode whole refl)
       (whole-size id most all is-offer (first_sent rules.mode) (map id whole) (simp map-id))))
 
   -- what it then has was taken

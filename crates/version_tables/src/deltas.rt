@@ -13,11 +13,11 @@ ghost use Rattle.version_tables.specs.inner.Offered.{AreAhead, AreMarksBy, AreTo
 
 use crate::histories::Histories;
 use crate::tables::{VersionTable, Written};
-use bench_types::{DigestKind, Fault, Rules};
+use bench_types::{DigestKind, Exchange, Fault, Rules};
 use delta_plans::{First, Marked, Offer, Owners, planned, told};
 use grids::Masked;
 use model::DeltaCounts;
-use planes::Number;
+use planes::{Grid, Number};
 use std::alloc::Global;
 
 /// Of each owner what is above the low mark and up to the high one is sent, where it is above the receiver's.
@@ -36,25 +36,33 @@ struct Offered<'a, N: Number> {
     found: u32,
 }
 
+/// What an exchange goes by: all writes so far, the rules of the run and its own plan.
+#[derive(Drop)]
+pub(crate) struct Course<'a, N: Number, H: Written> {
+    pub(crate) histories: &'a Histories<N, H>,
+    pub(crate) rules: &'a Rules,
+    pub(crate) plan: &'a Exchange,
+}
+
 // What the sender sends the receiver.
 pub(crate) fn delta<N: Number, H: Written>(
     alloc: Global,
     sender: &VersionTable<N, H>,
     receiver: &VersionTable<N, H>,
-    histories: &Histories<N, H>,
-    rules: &Rules,
-    rotation: u32,
+    course: &Course<N, H>,
 ) -> Result<DeltaMarks<N>, Fault>
-    requires may { MaySend rules.now rotation H.lists histories.now sender.now receiver.now }
-    ensures delta { IfOk result (λ d. AreMarksOf rules.now rotation H.lists sender.now receiver.now
-        (map N.number d.low.items) (map N.number d.high.items) d.counts.sent d.counts.cut) }
+    requires may { MaySend course.now.rules.now course.now.plan.now.rotation H.lists course.now.histories.now
+        sender.now receiver.now }
+    ensures delta { IfOk result (λ d. AreMarksOf course.now.rules.now course.now.plan.now.rotation H.lists
+        sender.now receiver.now (map N.number d.low.items) (map N.number d.high.items) d.counts.sent d.counts.cut) }
     ensures only { IsOkUnless result OutOfMemory }
 {
+    let rules = course.rules;
     let kind = rules.mode.digest_kind();
-    let low = told_to(alloc, receiver, histories, kind)?;
+    let low = told_to(alloc, receiver, course.histories, kind)?;
     let ahead = ahead_of(alloc, sender, receiver, kind, &low)?;
     let offered = either(sender, receiver, kind, &low, &ahead);
-    let marked = marks_sent(alloc, sender, receiver, offered, histories, rules, rotation)?;
+    let marked = marks_sent(alloc, sender, receiver, offered, course)?;
     let marks = marks_of(alloc, First::of(rules.mode), low, sender.greatest(), marked)?;
     Ok(marks)
 }
@@ -64,41 +72,33 @@ fn marks_sent<N: Number, H: Written>(
     sender: &VersionTable<N, H>,
     receiver: &VersionTable<N, H>,
     offered: Offered<N>,
-    histories: &Histories<N, H>,
-    rules: &Rules,
-    rotation: u32,
+    course: &Course<N, H>,
 ) -> Result<Marked<N>, Fault>
-    requires may { MaySend rules.now rotation H.lists histories.now sender.now receiver.now }
-    requires low { AreTold N.number N.most H.lists (digest_kind rules.now.mode) receiver.now
-        histories.now offered.low.now }
-    requires offered { IsOffered N.number
-        (digest_kind rules.now.mode) sender.now receiver.now offered }
-    ensures marks { IfOk result (λ m. AreMarksOf rules.now rotation H.lists sender.now receiver.now
-        (by_first (first_sent rules.now.mode) (map N.number offered.entry.low.now)
-        (map N.number m.mark.items))
-        (by_first (first_sent rules.now.mode) (map N.number m.mark.items) sender.now.greatest)
-        m.counts.sent
-        m.counts.cut) }
+    requires may { MaySend course.now.rules.now course.now.plan.now.rotation H.lists course.now.histories.now
+        sender.now receiver.now }
+    requires low { AreTold N.number N.most H.lists (digest_kind course.now.rules.now.mode) receiver.now
+        course.now.histories.now offered.low.now }
+    requires offered { IsOffered N.number (digest_kind course.now.rules.now.mode) sender.now receiver.now offered }
+    ensures marks { IfOk result (λ m. AreMarksOf course.now.rules.now course.now.plan.now.rotation H.lists
+        sender.now receiver.now (by_first (first_sent course.now.rules.now.mode) (map N.number offered.entry.low.now)
+        (map N.number m.mark.items)) (by_first (first_sent course.now.rules.now.mode) (map N.number m.mark.items)
+        sender.now.greatest) m.counts.sent m.counts.cut) }
     ensures only { IsOkUnless result OutOfMemory }
 {
+    let histories = course.histories;
+    let rules = course.rules;
+    let cells = offered.cells;
     let size = sender.size();
     let offer = Offer {
-        cells: offered.cells,
-        nodes: size.nodes,
-        keys: size.keys,
+        grid: Grid { cells, size },
         low: offered.low,
         high: sender.greatest(),
         lists: histories.lists(),
         budget: rules.budget,
+        found: offered.found,
     };
-    let marked = planned(
-        alloc,
-        &offer,
-        offered.found,
-        rules.mode,
-        rotation as usize,
-        histories.ends(),
-    )?;
+    let rotation = course.plan.rotation as usize;
+    let marked = planned(alloc, &offer, rules.mode, rotation, histories.ends())?;
     Ok(marked)
 }
 

@@ -8,13 +8,12 @@ ghost use Rattle.version_tables.specs.inner.Deltas.{HasCome};
 ghost use Rattle.version_tables.specs.inner.Histories.{IsReadyExchange};
 ghost use Rattle.version_tables.specs.inner.Taken.{BothStay, HaveTakenBoth, MayTakeBoth};
 
-use crate::deltas::delta;
+use crate::deltas::{Course, delta};
 use crate::digests::digest_size;
-use crate::histories::Histories;
 use crate::merging::{may_merge, merge};
 use crate::tables::{VersionTable, Written};
 use crate::taking::{Arrival, take_unless};
-use bench_types::{Exchange, Fault, Record, Rules};
+use bench_types::{Fault, Record};
 use delta_plans::Owners;
 use model::{DeltaCounts, sent_back, sent_before_an_answer, sent_both};
 use planes::Number;
@@ -24,34 +23,32 @@ use std::alloc::Global;
 /// before either table changes.
 pub(crate) fn exchange<N: Number, H: Written>(
     alloc: Global,
-    histories: &Histories<N, H>,
+    course: &Course<N, H>,
     initiator: &mut VersionTable<N, H>,
     responder: &mut VersionTable<N, H>,
-    plan: &Exchange,
-    rules: &Rules,
 ) -> Result<Record, Fault>
-    requires { IsReadyExchange H.lists N.most rules.now plan.now histories.now
-        (table_in H.lists initiator.old)
-        (table_in H.lists responder.old) }
+    requires { IsReadyExchange H.lists N.most course.now.rules.now course.now.plan.now course.now.histories.now
+        (table_in H.lists initiator.old) (table_in H.lists responder.old) }
     ensures ok { IfOk result
-        (MakesOf (table_in H.lists) rules.now plan.now initiator.old responder.old initiator.new
-        responder.new) }
-    ensures stay { OnErr result
-        (BothStay initiator.old responder.old initiator.new responder.new) }
+        (MakesOf (table_in H.lists) course.now.rules.now course.now.plan.now initiator.old responder.old
+        initiator.new responder.new) }
+    ensures stay { OnErr result (BothStay initiator.old responder.old initiator.new responder.new) }
     ensures only { IsOkUnless result OutOfMemory }
 {
+    let plan = course.plan;
+    let rules = course.rules;
     let digest1 = digest_size(initiator, rules.mode);
     if plan.lost1 {
         return Ok(sent_before_an_answer(digest1));
     }
-    if !plan.lost2 && !plan.lost3 && may_merge(initiator, responder, histories, rules) {
+    if !plan.lost2 && !plan.lost3 && may_merge(initiator, responder, course.histories, rules) {
         let digest2 = digest_size(responder, rules.mode);
         let came = merge(initiator, responder);
         let back = all_sent(came.first);
         let forth = all_sent(came.second);
         return Ok(sent_both(digest1, digest2, back, forth, false));
     }
-    exchange_deltas(alloc, histories, initiator, responder, digest1, plan, rules)
+    exchange_deltas(alloc, course, initiator, responder, digest1)
 }
 
 fn all_sent(count: u32) -> DeltaCounts
@@ -66,31 +63,29 @@ fn all_sent(count: u32) -> DeltaCounts
 // The exchange from the second message on. The first one came.
 fn exchange_deltas<N: Number, H: Written>(
     alloc: Global,
-    histories: &Histories<N, H>,
+    course: &Course<N, H>,
     initiator: &mut VersionTable<N, H>,
     responder: &mut VersionTable<N, H>,
     digest1: u32,
-    plan: &Exchange,
-    rules: &Rules,
 ) -> Result<Record, Fault>
-    requires { HasCome H.lists N.most rules.now plan.now histories.now digest1 initiator.old
-        responder.old }
+    requires { HasCome H.lists N.most course.now.rules.now course.now.plan.now course.now.histories.now digest1
+        initiator.old responder.old }
     ensures ok { IfOk result
-        (MakesOf (table_in H.lists) rules.now plan.now initiator.old responder.old
+        (MakesOf (table_in H.lists) course.now.rules.now course.now.plan.now initiator.old responder.old
         initiator.new responder.new) }
-    ensures stay { OnErr result
-        (BothStay initiator.old responder.old initiator.new responder.new) }
+    ensures stay { OnErr result (BothStay initiator.old responder.old initiator.new responder.new) }
     ensures only { IsOkUnless result OutOfMemory }
 {
-    let back = delta(alloc, responder, initiator, histories, rules, plan.rotation)?;
-    let digest2 = digest_size(responder, rules.mode);
+    let plan = course.plan;
+    let back = delta(alloc, responder, initiator, course)?;
+    let digest2 = digest_size(responder, course.rules.mode);
     if plan.lost2 {
         return Ok(sent_back(digest1, digest2, back.counts));
     }
-    let forth = delta(alloc, initiator, responder, histories, rules, plan.rotation)?;
+    let forth = delta(alloc, initiator, responder, course)?;
     let owners = Owners {
-        lists: histories.lists(),
-        bases: histories.bases(),
+        lists: course.histories.lists(),
+        bases: course.histories.bases(),
     };
     let came = Arrivals {
         back: Arrival {
@@ -130,8 +125,7 @@ fn take_both<N: Number, H: Written>(
     requires may { MayTakeBoth N.number H.lists owners initiator.old responder.old came.back came.forth }
     ensures ok { OnOk result (HaveTakenBoth N.number owners.entry initiator.old responder.old
         came.entry.back came.entry.forth initiator.new responder.new) }
-    ensures stay { OnErr result
-        (BothStay initiator.old responder.old initiator.new responder.new) }
+    ensures stay { OnErr result (BothStay initiator.old responder.old initiator.new responder.new) }
     ensures only { IsOkUnless result OutOfMemory }
 {
     let Arrivals { back, forth } = came;

@@ -1,5 +1,6 @@
 //! Tables of versions as tables of which exchanges are made. They read the histories of all owners.
 
+use crate::deltas::Course;
 use crate::exchanges::exchange;
 use crate::histories::Histories;
 use crate::tables::{VersionTable, Written};
@@ -31,6 +32,11 @@ impl<N: Number + Send + Sync, H: Written + Send + Sync> Exchanging<VersionTable<
         plan: &Exchange,
         rules: &Rules,
     ) -> Result<Record, Fault> {
-        exchange(alloc, self, initiator, responder, plan, rules)
+        let course = Course {
+            histories: self,
+            rules,
+            plan,
+        };
+        exchange(alloc, &course, initiator, responder)
     }
 }

@@ -20,13 +20,8 @@ loop-left-smaller g c =
     let is = c.requires.offer.is_offer in
     let has = c.loop-left.invariant.has in
     let fits = level-told is has.so_far c.deref-in-loop-left.ensures.value c.deref-in-loop-left-2.ensures.value c.in-Some.is c.left_of.ensures in
-    omega (
-      arith,
-      layers-more is has fits c.requires.offer.beyond,
-      level-upto is has.so_far,
-      ap
-          (λ (level : Level g.row.N.Denot). level.whole) c.next-level.ensures,
-    )
+    let next = ap (λ (level : Level g.row.N.Denot). level.whole) c.next-level.ensures in
+    omega (arith, layers-more is has fits c.requires.offer.beyond, level-upto is has.so_far, next)
 
 pub loop-left-preserved : goal.loop-left-preserved
 loop-left-preserved g c =

@@ -29,14 +29,14 @@ returns g c =
     let whole = sym (with_items_is c.in_ok-marks.marks new (c.loop-r.auto.all ∙ c.deref_mut-all.ensures.len)) in
     let all = counted_all _ _ number old new c.loop-r.r c.loop-r.more c.loop-r.invariant (omega (arith, c.loop-r-test.false)) (omega (arith, c.loop-r.auto.r-end)) in
     let next =
-    each-next offer.nodes (λ r n. IsNextAbove most cells offer.keys r (near r) n) (λ r n. IsNextMark cells offer.keys r (near r) n) _ (map number old) (map number new)
-    (subst (λ xs. HasEach offer.nodes (λ r n. IsNextAbove most cells offer.keys r (near r) n) (map number xs)) (sym c.deref_mut-all.ensures.value) c.in_ok-marks.ensures.least)
+    each-next offer.grid.size.nodes (λ r n. IsNextAbove most cells offer.grid.size.keys r (near r) n) (λ r n. IsNextMark cells offer.grid.size.keys r (near r) n) _ (map number old) (map number new)
+    (subst (λ xs. HasEach offer.grid.size.nodes (λ r n. IsNextAbove most cells offer.grid.size.keys r (near r) n) (map number xs)) (sym c.deref_mut-all.ensures.value) c.in_ok-marks.ensures.least)
     all.0
-    (λ r x y lt is now. next-mark most cells offer.keys r (near r) x y (λ key in_keys. c.requires.is_offer.below r key lt in_keys) is now)
+    (λ r x y lt is now. next-mark most cells offer.grid.size.keys r (near r) x y (λ key in_keys. c.requires.is_offer.below r key lt in_keys) is now)
     in
     let same = λ (owner : ℕ). ap (λ xs. marks number xs owner) whole in
-    let nexts : (owner : ℕ) → owner < offer.nodes → IsNextMark cells offer.keys owner (near owner) (marks number (with_items c.in_ok-marks.marks new).items owner) =
-    λ owner lt. subst (IsNextMark cells offer.keys owner (near owner)) (same owner) (next.each owner lt) in (
+    let nexts : (owner : ℕ) → owner < offer.grid.size.nodes → IsNextMark cells offer.grid.size.keys owner (near owner) (marks number (with_items c.in_ok-marks.marks new).items owner) =
+    λ owner lt. subst (IsNextMark cells offer.grid.size.keys owner (near owner)) (same owner) (next.each owner lt) in (
       record {
         is_step = record {
           count = sym (ap length whole) ∙ sym (length-map new number) ∙ next.size;

@@ -20,18 +20,10 @@ loop-r-preserved g c =
 
 pub overflow_mul-more : goal.overflow_mul-more
 overflow_mul-more g c =
+    let found = count_le c.loop-r.r (λ r. eqb (get_or (map g.N.Number.number c.args.counts.now) r 0) c.args.size) in
+    let same = ap length c.deref_mut-all.ensures.value ∙ ap length c.in_ok-marks.ensures.items ∙ c.requires.each_near in
     let few : c.loop-r.owners ≤ MOST_NODES =
-    omega (
-      arith,
-      c.loop-r.invariant.counted,
-      count_le c.loop-r.r (λ r. eqb (get_or (map g.N.Number.number c.args.counts.now) r 0) c.args.size),
-      c.loop-r.auto.r-end,
-      ap length c.deref_mut-all.ensures.value,
-      ap length c.in_ok-marks.ensures.items,
-      c.requires.each_near,
-      c.requires.is_offer.grid.few_nodes,
-    )
-    in
+    omega (arith, c.loop-r.invariant.counted, found, c.loop-r.auto.r-end, same, c.requires.is_offer.grid.few_nodes) in
     omega (arith, mul-le-mul_right {m = c.loop-r.owners} {n = MOST_NODES} c.args.size few, mul-le-mul_left MOST_NODES c.requires.few)
 
 pub returns : goal.returns

@@ -1,26 +1,26 @@
-use Rattle.delta_plans.proofs.Common.{map, ap, ◌∙◌, subst, by_first, marks, AreShared}
-use Rattle.delta_plans.proofs.MarkedLaws.{whole-marked, sent-found, share-marked}
+use Rattle.delta_plans.proofs.Common.{ap, ◌∙◌, by_first}
+use Rattle.delta_plans.proofs.MarkedLaws.{whole-marked, whole-size, sent-found, share-marked}
 use Rattle.delta_plans.proofs.marked.planned.Goals as goal
+
+pub returns-then-fits-clause-size : goal.returns-then-fits-clause-size
+returns-then-fits-clause-size g c =
+    let offer = c.args.offer.now in
+    let same = c.in_ok-mark.ensures.items ∙ c.by_first.ensures in
+    whole-size g.N.Number.number g.N.Number.most offer c.requires.offer c.of-first.result c.in_ok-mark.mark.items same
 
 pub returns-then-fits-clause-marked : goal.returns-then-fits-clause-marked
 returns-then-fits-clause-marked g c =
-    let number = g.N.Number.number in
     let offer = c.args.offer.now in
-    whole-marked number g.N.Number.most offer c.requires.offer c.args.rotation c.args.found c.requires.found (c.fits.ensures.0 c.if-fits.true) c.args.mode c.in_ok-mark.mark.items
-    (c.in_ok-mark.ensures.0 ∙ ap (λ first. by_first first (map number offer.high.now) (map number offer.low.now)) c.of-first.ensures)
+    let fits = c.fits.ensures.0 c.if-fits.true in
+    let same = c.in_ok-mark.ensures.items ∙ c.by_first.ensures ∙ ap (λ first. by_first first offer.high.now offer.low.now) c.of-first.ensures in
+    whole-marked g.N.Number.number g.N.Number.most offer c.requires.offer c.args.rotation fits c.args.mode c.in_ok-mark.mark.items same
 
-pub overflow_sub-cut : goal.overflow_sub-cut
-overflow_sub-cut g c =
-    let number = g.N.Number.number in
-    let share = c.in_ok-share.share in
-    let level = c.in_ok-level.level in
-    sent-found number g.N.Number.most c.args.offer.now c.requires.offer c.args.rotation c.args.found c.requires.found c.args.mode c.in_ok-level.ensures.0 share.mark.items
-    (subst (λ first. AreShared first c.args.rotation number c.args.offer.now (marks number level.near.items) (marks number level.far.items) (marks number share.mark.items) share.sent) c.of-first.ensures c.in_ok-share.ensures.0.shared)
+pub overflow_sub-counts : goal.overflow_sub-counts
+overflow_sub-counts g c =
+    sent-found g.N.Number.number g.N.Number.most c.args.offer.now c.requires.offer c.args.rotation c.args.mode c.in_ok-level.ensures.0
+    c.in_ok-share.share.mark.items (rw c.of-first.ensures at c.in_ok-share.ensures.0.shared)
 
 pub returns-clause-marked : goal.returns-clause-marked
 returns-clause-marked g c =
-    let number = g.N.Number.number in
-    let share = c.in_ok-share.share in
-    let level = c.in_ok-level.level in
-    share-marked number g.N.Number.most c.args.offer.now c.requires.offer c.args.rotation c.args.found c.requires.found c.args.mode c.in_ok-level.ensures.0 share.mark.items
-    (subst (λ first. AreShared first c.args.rotation number c.args.offer.now (marks number level.near.items) (marks number level.far.items) (marks number share.mark.items) share.sent) c.of-first.ensures c.in_ok-share.ensures.0.shared)
+    share-marked g.N.Number.number g.N.Number.most c.args.offer.now c.requires.offer c.args.rotation c.args.mode c.in_ok-level.ensures.0
+    c.in_ok-share.share.mark.items (rw c.of-first.ensures at c.in_ok-share.ensures.0.shared)

@@ -1,19 +1,15 @@
-use Rattle.delta_plans.proofs.Common.{ap, arith, rules, amount_of, marks}
-use Rattle.delta_plans.proofs.OfferWeights.{offer-entries, offer-most, offer-few}
+use Rattle.delta_plans.proofs.Common.{arith, high_in, low_in}
+use Rattle.delta_plans.proofs.OfferWeights.{offer-few, offer-most}
 use Rattle.delta_plans.proofs.offers.Offer.fits.Goals as goal
 
-pub overflow_mul-count : goal.overflow_mul-count
-overflow_mul-count g c =
-    omega (arith, c.requires.counted, offer-few g.N.Number.number g.N.Number.most c.args.self.now c.requires.has_marks.is_offer (marks g.N.Number.number c.args.low.now) (marks g.N.Number.number c.args.high.now))
+pub surely_fit-requires : goal.surely_fit-requires
+surely_fit-requires g c =
+    let few = offer-few c.requires (low_in g.N.Number.number c.args.self.now) (high_in g.N.Number.number c.args.self.now) in
+    omega (arith, c.requires.found, few)
 
-pub returns-in-Entries : goal.returns-in-Entries
-returns-in-Entries g c =
-    let alike = offer-entries g.N.Number.number g.N.Number.most c.args.self.now c.requires.has_marks.is_offer (marks g.N.Number.number c.args.low.now) (marks g.N.Number.number c.args.high.now) c.in-Entries.amount c.in-Entries.is in
-    let amount = ap amount_of c.in-Entries.is in
-    grind (arith, rules, alike, amount, c.requires.counted)
-
-pub returns-then-count-amount : goal.returns-then-count-amount
-returns-then-count-amount g c =
-    let most = offer-most g.N.Number.number c.args.self.now (marks g.N.Number.number c.args.low.now) (marks g.N.Number.number c.args.high.now) in
-    let amount = ap amount_of c.in-Bytes.is in
-    grind (arith, rules, most, amount, c.requires.counted, c.if-count-amount.true)
+pub returns-then-surely_fit : goal.returns-then-surely_fit
+returns-then-surely_fit g c =
+    let number = g.N.Number.number in
+    let offer = c.args.self.now in
+    let most = offer-most number offer (low_in number offer) (high_in number offer) in
+    ((λ _. omega (arith, c.surely_fit.ensures c.if-surely_fit.true, c.requires.found, most)), (λ _. c.if-surely_fit.true))

@@ -1,19 +1,26 @@
-use Rattle.delta_plans.proofs.Common.{◌≡◌, ◌-◌, sym, ◌∙◌, subst, arith, marks, count_on}
-use Rattle.delta_plans.proofs.RoundMarks.{count-newest, count-oldest}
+use Rattle.delta_plans.proofs.Common.{◌≡◌, ◌-◌, sym, ◌∙◌, subst, arith, cells_in, high_in, marks, count_on}
+use Rattle.delta_plans.proofs.RoundMarks.{count-above, count-oldest}
 use Rattle.delta_plans.proofs.rounds.Rounds.count.Goals as goal
 
 pub overflow_sub-result : goal.overflow_sub-result
 overflow_sub-result g c =
-    omega (arith, c.requires.rounds.counted, c.total_above-above.ensures, count-oldest c.args.self.now c.requires.rounds (marks g.N.Number.number c.args.mark.now) c.requires.mark.above)
+    let is = c.requires.has_rounds in
+    let upto = count-oldest c.args.self.now is (marks g.N.Number.number c.args.mark.now) c.requires.above in
+    omega (arith, is.too_large.is_offer.found, c.total_above-above.ensures, upto)
 
 pub returns-in-Oldest : goal.returns-in-Oldest
 returns-in-Oldest g c =
+    let is = c.requires.has_rounds in
+    let offer = c.args.self.now.offer.now in
     let mark = marks g.N.Number.number c.args.mark.now in
-    subst (λ first. c.args.self.now.found - c.total_above-above.result ≡ count_on first g.N.Number.number c.args.self.now.offer.now mark) (sym c.in-Oldest.is)
-    (omega (arith, c.requires.rounds.counted, c.total_above-above.ensures, count-oldest c.args.self.now c.requires.rounds mark c.requires.mark.above))
+    subst (λ first. offer.found - c.total_above-above.result ≡ count_on first g.N.Number.number offer mark) (sym c.in-Oldest.is)
+    (omega (arith, is.too_large.is_offer.found, c.total_above-above.ensures, count-oldest c.args.self.now is mark c.requires.above))
 
 pub returns-in-Newest : goal.returns-in-Newest
 returns-in-Newest g c =
-    let mark = marks g.N.Number.number c.args.mark.now in
-    subst (λ first. c.total_above-above.result ≡ count_on first g.N.Number.number c.args.self.now.offer.now mark) (sym c.in-Newest.is)
-    (c.total_above-above.ensures ∙ count-newest g.N.Number.number g.N.Number.most c.args.self.now.offer.now c.requires.rounds.too_large.is_offer mark)
+    let number = g.N.Number.number in
+    let offer = c.args.self.now.offer.now in
+    let mark = marks number c.args.mark.now in
+    let covered = c.requires.has_rounds.too_large.is_offer.covered in
+    subst (λ first. c.total_above-above.result ≡ count_on first number offer mark) (sym c.in-Newest.is) (c.total_above-above.ensures
+    ∙ count-above (cells_in number offer) offer.grid.size.nodes offer.grid.size.keys (high_in number offer) covered mark)

@@ -3,7 +3,7 @@ use Rattle.delta_plans.proofs.rounds.Rounds.few_rounds.Given as goal
 
 abbrev pub invariant-loop-few : goal.invariant-loop-few
 invariant-loop-few g l = record {
-  found : AreFewAndEnough g.N.Number.number l.self l.few l.enough l.whole l.left;
+  found : AreFewAndEnough g.N.Number.number l.self l.few l.enough l.fit;
   step : 0 < l.step;
 }
 

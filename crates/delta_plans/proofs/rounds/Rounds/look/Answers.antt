@@ -1,18 +1,29 @@
-use Rattle.delta_plans.proofs.Common.{refl, ap, ◌*◌, arith, MOST_ENTRY_SIZE, marks}
+use Rattle.delta_plans.proofs.Common.{refl, sym, ap, ◌*◌, subst, arith, MOST_ENTRY_SIZE, marks, IsFound}
 use Rattle.delta_plans.proofs.RoundMarks.{on-most}
 use Rattle.delta_plans.proofs.TurnSteps.{count_on-few}
 use Rattle.delta_plans.proofs.rounds.Rounds.look.Goals as goal
 
 pub surely_fit-requires : goal.surely_fit-requires
 surely_fit-requires g c =
-    omega (arith, c.count-count.ensures, count_on-few c.args.self.now.first g.N.Number.number g.N.Number.most c.args.self.now.offer.now c.requires.rounds.too_large.is_offer (marks g.N.Number.number c.args.mark.now))
+    let few = count_on-few c.args.self.now.first c.requires.has_rounds.too_large.is_offer (marks g.N.Number.number c.args.mark.now) in
+    omega (arith, c.count-count.ensures, few)
 
 pub returns-then-surely_fit : goal.returns-then-surely_fit
-returns-then-surely_fit g c = record {
+returns-then-surely_fit g c =
+    let most = on-most c.args.self.now c.requires.has_rounds c.args.self.now.first (marks g.N.Number.number c.args.mark.now) in
+    record {
+      count = c.count-count.ensures;
+      within = omega (arith, c.if-surely_fit.ensures refl, ap (λ n. n * MOST_ENTRY_SIZE) c.count-count.ensures, most);
+      known = tt;
+    }
+
+pub returns-in_err-weighed : goal.returns-in_err-weighed
+returns-in_err-weighed g c =
+    subst (IsFound g.N.Number.number c.args.self.now (marks g.N.Number.number c.args.mark.now)) (sym c.from_residual.ensures) c.in_err-weighed.ensures
+
+pub returns : goal.returns
+returns g c = record {
   count = c.count-count.ensures;
-  fits = (
-    (λ _. omega (arith, c.if-surely_fit.ensures refl, ap (λ n. n * MOST_ENTRY_SIZE) c.count-count.ensures, on-most c.args.self.now c.requires.rounds c.args.self.now.first (marks g.N.Number.number c.args.mark.now))),
-    (λ _. refl),
-  );
-  left = tt;
+  within = c.in_ok-weighed.ensures.0;
+  known = omega (arith, c.in_ok-weighed.ensures.0, c.in_ok-weighed.ensures.1);
 }

@@ -1,6 +1,13 @@
-use Rattle.delta_plans.proofs.Common.{◌≡◌, length, map, max, get_or, ap, sym, subst, ◌∙◌, arith, with_items, length-map, with_items_is, HasEach, marks, round_at, end_mark}
+use Rattle.delta_plans.proofs.Common.{◌≡◌, length, map, max, get_or, ap, sym, subst, ◌∙◌, arith, with_items, length-map, with_items_is, made-as, HasEach, marks, round_at, end_mark}
 use Rattle.delta_plans.proofs.rounds.Rounds.mark_after.Goals as goal
 use Rattle.delta_plans.proofs.rounds.Rounds.mark_after.Goals.{in-Oldest, in-Newest}
+
+pub change-requires : goal.change-requires
+change-requires g c = record {
+  to = λ r n lt is.
+      let start = c.deref_mut.ensures.value ∙ c.in_ok-mark.ensures.items in
+      omega (arith, lt, ap length start, c.requires.rounds.too_large.is_offer.low, c.row-row.ensures.size, length-map c.row-row.result.now g.N.Number.number);
+}
 
 pub returns : goal.returns
 returns g c =
@@ -15,13 +22,15 @@ returns g c =
       | in-Oldest w ↦ w.round-is ∙ (λ i. round_at (sym w.in-Oldest.is i) c.args.self.now.ends.rounds c.args.count)
     ]
     in
-    let whole = with_items_is c.in_ok-mark.mark c.raise.new.numbers (c.raise.auto.numbers ∙ c.deref_mut.ensures.len) in (
-      subst (λ at. HasEach offer.nodes (λ r n. n ≡ end_mark ends offer.nodes low at r) (map number (with_items c.in_ok-mark.mark c.raise.new.numbers).items)) round
-          (subst (λ xs. HasEach offer.nodes (λ r n. n ≡ end_mark ends offer.nodes low c.match-self.round r) (map number xs)) (sym whole)
+    let whole = with_items_is c.in_ok-mark.mark c.change.new.numbers (c.change.auto.numbers ∙ c.deref_mut.ensures.len) in (
+      subst (λ at. HasEach offer.grid.size.nodes (λ r n. n ≡ end_mark ends offer.grid.size.nodes low at r) (map number (with_items c.in_ok-mark.mark c.change.new.numbers).items)) round
+          (subst (λ xs. HasEach offer.grid.size.nodes (λ r n. n ≡ end_mark ends offer.grid.size.nodes low c.match-self.round r) (map number xs)) (sym whole)
           (record {
-            size = c.raise.ensures.size ∙ length-map c.deref_mut.result.now number ∙ ap length start ∙ c.requires.rounds.too_large.is_offer.low;
+            size = c.change.ensures.size ∙ length-map c.deref_mut.result.now number ∙ ap length start ∙ c.requires.rounds.too_large.is_offer.low;
             each = λ r lt.
-                c.raise.ensures.each r (omega (arith, lt, length-map c.deref_mut.result.now number, ap length start, c.requires.rounds.too_large.is_offer.low))
+                made-as number _ r _ _ (λ x. max x (get_or (map number c.row-row.result.now) r 0))
+                (c.change.ensures.each r (omega (arith, lt, length-map c.deref_mut.result.now number, ap length start, c.requires.rounds.too_large.is_offer.low)))
+                (λ n m call. call)
                 ∙ (λ i. max (get_or (map number (start i)) r 0) (c.row-row.ensures.each r lt i));
           })),
       tt,

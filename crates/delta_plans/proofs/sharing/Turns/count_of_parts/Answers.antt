@@ -1,18 +1,13 @@
-use Rattle.delta_plans.proofs.Common.{suc, ◌+◌, arith, sum_below-most, MOST_KEYS, part_weight}
+use Rattle.delta_plans.proofs.Common.{suc, ◌+◌, ◌∙◌, arith, sum_below-most, MOST_KEYS, part_weight}
 use Rattle.delta_plans.proofs.TurnSteps.{part-few}
 use Rattle.delta_plans.proofs.sharing.Turns.count_of_parts.Goals as goal
 
 pub overflow_add-count : goal.overflow_add-count
 overflow_add-count g c =
-    omega (
-      arith,
-      c.loop-i.invariant,
-      sum_below-most (λ i. part_weight g.N.Number.number (λ _. 1) c.args.self.now (c.args.owner + i)) (suc c.loop-i.i) MOST_KEYS
-          (λ i _. part-few c.requires.turns (c.args.owner + i)),
-      c.widen-count.ensures,
-      c.number_at.ensures,
-      c.count_parts.ensures.each (c.args.owner + c.loop-i.i) (omega arith) (omega (arith, c.loop-i-test.true)),
-      c.requires.turns.offer.grid.few_nodes,
-      c.requires.within,
-      c.loop-i-test.true,
-    )
+    let turns = c.args.self.now in
+    let owner = c.args.owner in
+    let are = c.requires.counts.are in
+    let most = sum_below-most (λ i. part_weight g.N.Number.number (λ _. 1) turns (owner + i)) (suc c.loop-i.i) MOST_KEYS (λ i _. part-few are (owner + i)) in
+    let here = c.count_parts.ensures.each (owner + c.loop-i.i) (omega arith) (omega (arith, c.loop-i-test.true)) in
+    let count = c.widen-count.ensures ∙ c.number_at.ensures ∙ here in
+    omega (arith, c.loop-i.invariant, most, count, are.offer.grid.few_nodes, c.requires.within, c.loop-i-test.true)

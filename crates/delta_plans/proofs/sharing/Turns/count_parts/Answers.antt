@@ -21,11 +21,11 @@ returns g c =
     let old = c.args.counts.now in
     let new = c.count_some_between.new.counts in
     let size = owner + c.args.size - owner in
-    let within : owner + size ≤ length old = omega (arith, c.requires.within, c.requires.counts.size, length-map old number) in
+    let within : owner + size ≤ length old = omega (arith, c.requires.within, c.requires.counts.known.size, length-map old number) in
     let sized : length new ≡ size = c.count_some_between.auto.counts ∙ length-take-le size (drop owner old) (omega (arith, within, length-drop owner old)) in
     let parts =
-    counted number (cells_in number offer) offer.keys (length (take size (drop owner old))) owner turns.first turns.level.now.near.items turns.level.now.far.items (map number new)
-    (transport (λ i. HasEach (length (take size (drop owner old))) (λ r n. n ≡ count_between (cells_in number offer) offer.keys (owner + r)
+    counted number (cells_in number offer) offer.grid.size.keys (length (take size (drop owner old))) owner turns.first turns.level.now.near.items turns.level.now.far.items (map number new)
+    (transport (λ i. HasEach (length (take size (drop owner old))) (λ r n. n ≡ count_between (cells_in number offer) offer.grid.size.keys (owner + r)
     (marks number ((c.by_first-low.ensures ∙ (λ j. by_first turns.first (c.deref.ensures.value j) (c.deref-2.ensures.value j))) i) (owner + r))
     (marks number ((c.by_first-high.ensures ∙ (λ j. by_first turns.first (c.deref-3.ensures.value j) (c.deref-4.ensures.value j))) i) (owner + r)))
     (map number new)) c.count_some_between.ensures)
@@ -38,5 +38,5 @@ returns g c =
           let inside : r - owner < size = omega (arith, from, upto) in
           subst (λ j. get_or (map number (put_mid owner size old new)) j 0 ≡ part_weight number (λ _. 1) turns j) {x = owner + (r - owner)} {y = r} (omega (arith, from))
           (part-here number owner size old new within sized (r - owner) inside ∙ here (r - owner) inside);
-      counts = part-written number owner size old new within sized offer.nodes _ c.requires.counts (λ r lt. inr (here r lt));
+      counts = part-written number owner size old new within sized offer.grid.size.nodes _ c.requires.counts.known (λ r lt. inr (here r lt));
     }

@@ -8,15 +8,15 @@ pass_some-reached-requires-clause-turns g c =
     let owner = c.owner_of_turn-owner.result in
     let size = c.min-size.result in
     let turn = c.loop-reached.reached.turn in
-    let in_nodes : owner + size ≤ turns.offer.now.nodes = omega (arith, c.min-size.ensures, c.max.ensures, c.owner_of_turn-owner.ensures.below) in
-    let in_turns : turn + size ≤ turns.offer.now.nodes = omega (arith, c.min-size.ensures, c.max.ensures, c.loop-reached-test.true) in
+    let in_nodes : owner + size ≤ turns.offer.now.grid.size.nodes = omega (arith, c.min-size.ensures, c.max.ensures, c.owner_of_turn-owner.ensures.below) in
+    let in_turns : turn + size ≤ turns.offer.now.grid.size.nodes = omega (arith, c.min-size.ensures, c.max.ensures, c.loop-reached-test.true) in
     record {
-      are = c.requires.turns;
+      are = c.requires.counts.are;
       entries = c.in-Entries.field-0;
       counted = c.in-Entries.is;
       in_nodes = in_nodes;
       in_turns = in_turns;
-      next = turns-in_row turns turn owner size c.requires.turns.rotation c.owner_of_turn-owner.ensures.turn in_nodes in_turns;
+      next = turns-in_row turns turn owner size c.requires.counts.are.rotation c.owner_of_turn-owner.ensures.turn in_nodes in_turns;
       sum = c.count_of_parts-count.ensures.count;
       fits = c.if-reached-count.false;
     }

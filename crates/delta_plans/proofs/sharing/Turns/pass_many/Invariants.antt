@@ -8,4 +8,4 @@ invariant-loop-reached g l = record {
 }
 
 abbrev pub decreases-loop-reached : goal.decreases-loop-reached
-decreases-loop-reached g l = l.self.offer.now.nodes - l.reached.turn
+decreases-loop-reached g l = l.self.offer.now.grid.size.nodes - l.reached.turn

@@ -5,11 +5,16 @@ use Rattle.delta_plans.proofs.stops.Part.nearest.Goals as goal
 pub loop-key-preserved : goal.loop-key-preserved
 loop-key-preserved g c first near answers =
     let number = g.N.Number.number in
-    next-nearer first (cells_in number c.args.self.now.offer.now) c.loop-key.key c.args.self.now.owner near (number c.args.self.now.far) (number c.loop-key.next) (number c.nearer-next.result) (c.loop-key.invariant first near answers)
-    (answers c.loop-key.next c.cell_of.result c.nearer-next.result c.nearer-next.ensures ∙ ap (nearer_beyond first near (number c.loop-key.next)) c.cell_of.ensures)
+    let part = c.args.self.now in
+    let next = number c.loop-key.next in
+    let nearer = answers c.loop-key.next c.cell_of.result c.nearer-next.result c.nearer-next.ensures in
+    next-nearer first (cells_in number part.offer.now) c.loop-key.key part.owner near (number part.far) next (number c.nearer-next.result)
+    (c.loop-key.invariant first near answers) (nearer ∙ ap (nearer_beyond first near next) c.cell_of.ensures)
 
 pub returns : goal.returns
 returns g c first near answers some =
     let number = g.N.Number.number in
-    next-found first (cells_in number c.args.self.now.offer.now) c.loop-key.key c.args.self.now.offer.now.keys c.args.self.now.owner near (number c.args.self.now.far) (number c.loop-key.next) (omega (arith, c.loop-key-test.false, c.loop-key.auto.key-end))
-    (c.loop-key.invariant first near answers) some
+    let part = c.args.self.now in
+    let offer = part.offer.now in
+    next-found first (cells_in number offer) c.loop-key.key offer.grid.size.keys part.owner near (number part.far) (number c.loop-key.next)
+    (omega (arith, c.loop-key-test.false, c.loop-key.auto.key-end)) (c.loop-key.invariant first near answers) some

@@ -4,8 +4,11 @@ use Rattle.delta_plans.proofs.stops.Part.stop_from.Goals as goal
 
 pub next-next-requires-clause-some : goal.next-next-requires-clause-some
 next-next-requires-clause-some g c =
+    let number = g.N.Number.number in
     let part = c.args.self.now in
-    some-next (weights_in part.offer.now part.owner) (cells_in g.N.Number.number part.offer.now) part.offer.now.keys part.owner part.first (g.N.Number.number c.args.near) (g.N.Number.number part.far) (omega (arith, c.requires.beyond))
+    let offer = part.offer.now in
+    some-next (weights_in offer part.owner) (cells_in number offer) offer.grid.size.keys part.owner part.first (number c.args.near)
+    (number part.far) (omega (arith, c.requires.beyond))
 
 pub loop-weight-init : goal.loop-weight-init
 loop-weight-init g c = stop-first c.next-next.ensures c.weight_of_number-weight.ensures.weight c.requires.beyond
@@ -22,19 +25,17 @@ loop-weight-preserved g c =
 pub loop-weight-smaller : goal.loop-weight-smaller
 loop-weight-smaller g c =
     let part = c.args.self.now in
+    let offer = part.offer.now in
     let number = g.N.Number.number in
-    omega (
-      arith,
-      past-rest (λ _. 1) (cells_in number part.offer.now) part.offer.now.keys part.owner part.first (number c.loop-weight.mark) (number part.far) (number c.loop-weight.next) (number c.mark_past-mark.result)
-          c.loop-weight.invariant.next c.mark_past-mark.ensures (c.requires.part.is_offer.differ part.owner c.requires.part.in_nodes),
-    )
+    let differ = c.requires.part.is_offer.differ part.owner c.requires.part.in_nodes in
+    let rest = past-rest (λ _. 1) (cells_in number offer) offer.grid.size.keys part.owner part.first (number c.loop-weight.mark) (number part.far)
+    (number c.loop-weight.next) (number c.mark_past-mark.result) c.loop-weight.invariant.next c.mark_past-mark.ensures differ in
+    omega (arith, rest)
 
 pub overflow_add-sent : goal.overflow_add-sent
 overflow_add-sent g c =
+    let number = g.N.Number.number in
     let part = c.args.self.now in
-    omega (
-      arith,
-      c.loop-weight.invariant.count,
-      few-from (cells_in g.N.Number.number part.offer.now) part.offer.now.keys part.owner part.first (g.N.Number.number c.args.near) (g.N.Number.number c.loop-weight.mark),
-      c.requires.part.is_offer.grid.few_keys,
-    )
+    let offer = part.offer.now in
+    let few = few-from (cells_in number offer) offer.grid.size.keys part.owner part.first (number c.args.near) (number c.loop-weight.mark) in
+    omega (arith, c.loop-weight.invariant.count, few, c.requires.part.is_offer.grid.few_keys)

@@ -1,5 +1,5 @@
 use Rattle.delta_plans.proofs.Common.{AreKnownFor, HasReached}
-use Rattle.delta_plans.proofs.sharing.Turns.pass_turns.Given as goal
+use Rattle.delta_plans.proofs.sharing.Turns.share_into.Given as goal
 
 abbrev pub invariant-loop-turn : goal.invariant-loop-turn
 invariant-loop-turn g l = record {

@@ -1,5 +1,5 @@
 -- The names of other libraries that these proofs cite, passed on from one place. Declares nothing.
--- Serves most of the crate.
+-- Serves most of the crate and `version_tables`.
 pub use Rattle.std.proofs.Common.{Bool, Fits, List, None, Option, Some, Vec, [], ap, arith, cond, drop, eqb, false, get_or, if◌then◌else◌, inl, inr, leb, length, ltb, map, max, min, nat_lt, not, refl, rules, set, slice_index, subst, suc, sym, take, true, w32, zero, ℕ, ◌*◌, ◌++◌, ◌+◌, ◌-◌, ◌<◌, ◌∙◌, ◌∷◌, ◌≡◌, ◌≢◌, ◌≤◌, ◌⊎◌}
 pub use Rattle.std.proofs.Math.Nat.{mul-le-mul_left, mul-le-mul_right}
 pub use Rattle.std.proofs.Math.Path.{transport}

@@ -1,5 +1,6 @@
 -- What these proofs cite of other libraries and of this crate's definitions, passed on from one place.
--- Serves `OwnerWrites::begin_generation`, `OwnerWrites::numbered`, `OwnerWrites::write`, `Keeping` and `Numbers`.
+-- Serves `OwnerWrites::begin_generation`, `OwnerWrites::numbered`, `OwnerWrites::write`, `Keeping`, `Numbers` and
+-- `version_lags`.
 pub use Rattle.std.proofs.lemmas.List.{append-nil, append_assoc, drop-append-le, drop_all, get_or-append_right, get_or-map, get_or_append_left, get_or_push, length-drop, length-map, map-append, take-append-drop, take-append-le, take_all}
 pub use Rattle.std.proofs.lemmas.List.Elements.{All-append}
 pub use Rattle.std.specs.Prelude.{MatchOption, nat_lt}

@@ -1,7 +1,7 @@
 -- Sums that a loop counts.
--- Serves the functions of `grids`, `owners` and `planes`, `Elementwise`, `FewOwners`, `delta_plans`, `grids` and
--- `version_lags`.
-use Rattle.planes.proofs.Common.{◌≡◌, ℕ, zero, suc, ◌+◌, ◌<◌, ◌≤◌, ◌==◌, ◌↔◌, Bool, true, false, cond, refl, sym, ap, ◌∙◌, arith, IsTrue, eq-eqb, eqb-true, below_more, sum_below, sum_below-most, count_passing}
+-- Serves the functions of `grids`, `owners` and `planes`, `Elementwise`, `delta_plans`, `grids`, `version_lags` and
+-- `version_tables`.
+use Rattle.planes.proofs.Common.{◌≡◌, ℕ, suc, Fits, w32, ◌+◌, ◌-◌, ◌<◌, ◌≤◌, ◌==◌, ◌↔◌, Bool, true, false, cond, nat_lt, refl, ap, ◌∙◌, arith, IsTrue, le-ltb, eq-eqb, eqb-true, fold_below-join, sums, sum_below, sum_below-most, count_passing, MOST_KEYS, Cells, count_above, HasNoneAbove, IsGrid}
 
 pub one_le : (b : Bool) → cond b 1 0 ≤ 1
 one_le true = omega arith
@@ -29,23 +29,35 @@ count_next test bound to before passed now {more} is next plus one =
     omega (arith, plus, sum_next (λ r. cond (test r) 1 0) bound (before + passed) more is one, ap (λ n. count_passing n test) next)
 
 -- none is counted just where none passes
-none_before : (test : ℕ → Bool) (n : ℕ) → count_passing n test ≡ 0 → (r : ℕ) → r < n → test r ≡ false
-none_before test zero is r lt = absurd (omega (arith, lt))
-none_before test (suc n) is r lt =
-    let earlier : count_passing n test ≡ 0 = omega (arith, is) in
-    let last : 0 + cond (test n) 1 0 ≡ 0 = omega (arith, is) in
-    below_more (λ k. test k ≡ false) n (none_before test n earlier) (fails (test n) last) r (omega (arith, lt))
+pub none-passes : (test : ℕ → Bool) (n size count : ℕ) → count ≡ count_passing n test → size ≡ n → IsTrue (count == 0) ↔ ((r : ℕ) → r < size → test r ≡ false)
+none-passes test n size count is whole = (
+  λ none r lt.
+      let rest = fold_below-join sums (λ k. cond (test k) 1 0) (suc r) (n - suc r) in
+      let all = ap {B = ℕ} (λ m. count_passing m test) {x = suc r + (n - suc r)} {y = n} (omega (arith, lt, whole)) in
+      fails (test r) (omega (arith, is, eqb-true count 0 none, rest, all)),
+  λ none.
+      let each = λ (r : ℕ) (lt : r < n). ap {B = ℕ} (λ b. cond b 1 0) (none r (omega (arith, lt, whole))) in
+      eq-eqb count 0 (omega (arith, is, sum_below-most (λ r. cond (test r) 1 0) n 0 (λ r lt. omega (arith, each r lt)))),
+)
   where
     fails : (b : Bool) → 0 + cond b 1 0 ≡ 0 → b ≡ false
     fails true one = absurd (omega (arith, one))
     fails false one = refl
 
-count_none : (test : ℕ → Bool) (n : ℕ) → ((r : ℕ) → r < n → test r ≡ false) → count_passing n test ≡ 0
-count_none test zero none = refl
-count_none test (suc n) none = omega (arith, count_none test n (λ r lt. none r (omega (arith, lt))), ap {B = ℕ} (λ b. cond b 1 0) (none n (omega arith)))
+-- the numbers of one owner more are counted
+pub owner_counted : (cells : Cells) (keys : ℕ) (low : ℕ → ℕ) (owner total count mark : ℕ) → total ≡ sum_below owner (λ r. count_above cells keys r (low r)) → count ≡ count_above cells keys owner mark → mark ≡ low owner
+    → total + count ≡ sum_below (owner + 1) (λ r. count_above cells keys r (low r))
+owner_counted cells keys low owner total count mark is now same =
+    sum_next (λ r. count_above cells keys r (low r)) owner total count is (now ∙ ap (count_above cells keys owner) same)
 
-pub none-passes : (test : ℕ → Bool) (n size count : ℕ) → count ≡ count_passing n test → size ≡ n → IsTrue (count == 0) ↔ ((r : ℕ) → r < size → test r ≡ false)
-none-passes test n size count is whole = (
-  λ none r lt. none_before test n (sym is ∙ eqb-true count 0 none) r (omega (arith, lt, whole)),
-  λ none. eq-eqb count 0 (is ∙ count_none test n (λ r lt. none r (omega (arith, lt, whole)))),
-)
+-- or there are none
+pub owner_passed : (cells : Cells) (keys : ℕ) (low : ℕ → ℕ) (owner total high : ℕ) → total ≡ sum_below owner (λ r. count_above cells keys r (low r)) → HasNoneAbove cells keys owner high → high ≤ low owner
+    → total ≡ sum_below (owner + 1) (λ r. count_above cells keys r (low r))
+owner_passed cells keys low owner total high is covered le =
+    let none = sum_below-most (λ k. cond (nat_lt (low owner) (cells owner k)) 1 0) keys 0 (λ k lt. omega (arith, ap {B = ℕ} (λ b. cond b 1 0) (le-ltb (low owner) (cells owner k) (omega (arith, covered k lt, le))))) in
+    let one_more = sum_next (λ r. count_above cells keys r (low r)) owner total 0 is (omega (arith, none)) in
+    omega (arith, one_more)
+
+pub owners-fit : (cells : Cells) (nodes keys size : ℕ) (low : ℕ → ℕ) (owner total : ℕ) → IsGrid nodes keys size → owner < nodes → total ≡ sum_below (owner + 1) (λ r. count_above cells keys r (low r)) → Fits w32 total
+owners-fit cells nodes keys size low owner total grid lt is =
+    omega (arith, is, lt, grid.few_nodes, sum_below-most (λ r. count_above cells keys r (low r)) (owner + 1) MOST_KEYS (λ r _. omega (arith, grid.few_keys, count_le keys (λ k. nat_lt (low r) (cells r k)))))

@@ -1,5 +1,5 @@
 -- What loops over planes make of what a closure answers. Source: this project.
-use Rattle.std.specs.Prelude.{◌≡◌, ◌⊎◌, ℕ, ◌+◌, ◌<◌, ◌≤◌, ◌&&◌, nat_le, nat_lt, Bool, List, length, map, slice_index, if◌then◌else◌}
+use Rattle.std.specs.Prelude.{◌≡◌, ◌⊎◌, ℕ, ◌+◌, ◌<◌, ◌≤◌, nat_le, nat_lt, Bool, List, length, map, slice_index, if◌then◌else◌}
 use Rattle.bench_types.specs.Sums.{sum_below}
 use Rattle.planes.specs.Elementwise.{AreChangedUpto}
 
@@ -42,7 +42,7 @@ AnswersAs {N} number answers bound test =
 abbrev pub one_between : {N : Type 0} → (N → ℕ) → List N → List N → List N → ℕ → ℕ
 one_between number plane low high r =
     if nat_lt (slice_index (map number low) r) (slice_index (map number plane) r)
-    && nat_le (slice_index (map number plane) r) (slice_index (map number high) r) then 1 else 0
+    then (if nat_le (slice_index (map number plane) r) (slice_index (map number high) r) then 1 else 0) else 0
 
 -- a number of a plane and two marks for each count
 pub record MayCountPlane {N : Type 0} (counts plane low high : List N) : Type 0 where

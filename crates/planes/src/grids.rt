@@ -4,9 +4,9 @@
 ghost use Rattle.std.specs.Prelude.{◌≡◌, ℕ, ◌+◌, ◌*◌, ◌<◌, ◌≤◌, ◌&&◌, ◌↔◌, Bool, length, map, nat_le, nat_lt, slice_index, IfOk, IsOkUnless, IsTrue, if◌then◌else◌};
 ghost use Rattle.bench_types.specs.declared.faults.Fault.TheVariants.{OutOfMemory};
 ghost use Rattle.planes.specs.Grids.{cells_in, HasMarkOfEach, HasTwoMarksOfEach, IsGridOf, IsMarked};
-ghost use Rattle.bench_types.specs.declared.limits.TheConstants.{MOST_NODES};
+ghost use Rattle.bench_types.specs.declared.limits.TheConstants.{MOST_KEYS, MOST_NODES};
 ghost use Rattle.planes.specs.Planes.{cell, count_above, count_between, total_above, total_of, HasEach, HasNoneUpto, IsGrid, IsNextAbove};
-ghost use Rattle.planes.specs.Loops.{one_between, AnswersAs, HasRoomToCount, IsLeastOf, MayCountPlane};
+ghost use Rattle.planes.specs.Loops.{count_passing, one_between, AnswersAs, HasRoomToCount, IsLeastOf, MayCountPlane};
 ghost use Rattle.planes.specs.Elementwise.{AreChanged};
 
 use crate::numbers::Number;
@@ -86,8 +86,8 @@ pub fn count_some_between<N: Number>(
         (map N.number counts.new) }
 {
     let Grid { cells, size } = grid;
-    planes::change(counts, |_, _| N::zero());
     let count = counts.len();
+    planes::change(counts, |_, _| N::zero());
     let lows = &low[first..first + count];
     let highs = &high[first..first + count];
     let mut key = 0;
@@ -222,13 +222,12 @@ pub fn total_above<N: Number>(grid: Grid<N>, low: &[N], high: &[N]) -> u32
     total(grid, |r, number| number.is_above(low[r]))
 }
 
-/// How many numbers are not 0.
-pub fn total_held<N: Number>(grid: Grid<N>) -> u32
-    requires grid { IsGridOf grid }
-    ensures { result ≡ total_of grid.entry.size.nodes grid.entry.size.keys
-        (λ r k. nat_lt 0 (cells_in N.number grid.entry r k)) }
+/// How many numbers of a plane, or of planes one after another, are not 0.
+pub fn count_held<N: Number>(plane: &[N]) -> u32
+    requires room { length plane.now ≤ MOST_NODES * MOST_KEYS }
+    ensures { result ≡ count_passing (length plane.now) (λ r. nat_lt 0 (slice_index (map N.number plane.now) r)) }
 {
-    planes::how_many(grid.cells, |_, number| number.is_above(N::zero()))
+    planes::how_many(plane, |_, number| number.is_above(N::zero()))
 }
 
 /// How many numbers are not 0 and up to their owners' marks.
@@ -252,7 +251,8 @@ pub fn none_upto<N: Number>(plane: &[N], high: &[N]) -> bool
     requires room { length plane.now ≤ MOST_NODES }
     ensures { IsTrue result ↔ HasNoneUpto (map N.number plane.now) (map N.number high.now) }
 {
-    let nodes = plane.len();
-    let size = Size { nodes, keys: 1 };
-    total_upto(Grid { cells: plane, size }, high) == 0
+    planes::how_many(
+        plane,
+        |r, number| planes::is_between(number, N::zero(), high[r]),
+    ) == 0
 }

@@ -21,8 +21,8 @@ mod sizes;
 
 pub use ends::Ends;
 pub use grids::{
-    all_of, count_some_between, counts_above, least_above, least_of, none_upto, plane_of,
-    total_above, total_held, total_upto, zeros,
+    all_of, count_held, count_some_between, counts_above, least_above, least_of, none_upto,
+    plane_of, total_above, total_upto, zeros,
 };
 pub use numbers::{Number, Short};
 pub use owners::are_few;

@@ -1,9 +1,9 @@
 -- The names of other libraries that these proofs cite, passed on from one place. Declares nothing.
--- Serves most of the crate.
+-- Serves most of the crate and `version_tables`.
+pub use Rattle.grids.proofs.Common.{ArePlanesChanged, HasEach, IsGrid, IsLeastBehind, cases_lt, cell, le-ltb, lt-ltb, ltb-false, ltb-true, mul-le-mul_right, nat_le, nat_lt, total_of}
+pub use Rattle.owner_writes.proofs.Common.{MatchOption, entry_kept, write_numbered}
 unfoldable pub use Rattle.model.specs.Figures.{figures_of}
 pub use Rattle.std.proofs.Common.{Bool, List, None, Option, Some, [], ap, arith, below_more, cond, eqb, false, get_or, if◌then◌else◌, inl, inr, length, length-append, ltb, map, max, min, option_map, refl, reverse, rules, slice_index, subst, suc, sym, zero, ℕ, ◌&&◌, ◌*◌, ◌+◌, ◌-◌, ◌<◌, ◌∙◌, ◌≡◌, ◌≤◌, ◌⊎◌}
-pub use Rattle.std.proofs.Math.Nat.{mul-le-mul_right}
-pub use Rattle.std.proofs.lemmas.Bool.{and_parts, both_ways, cases_eq, cases_lt, eq-eqb, eqb-true, le-leb, le-ltb, leb-true, lt-leb, lt-ltb, ltb-false, ltb-true, ne_eqb}
 pub use Rattle.std.proofs.lemmas.List.{get_or-append_right, get_or-map, get_or-reverse, get_or_append_left, get_or_default, length-map, length-reverse, with_items_is}
 pub use Rattle.std.proofs.lemmas.List.Folds.{find_at}
 pub use Rattle.std.proofs.lemmas.List.Sums.{fails_before_first, passes_at_first}
@@ -11,10 +11,9 @@ pub use Rattle.std.proofs.lemmas.Option.{same_Some, slice_get-get_or, slice_get_
 pub use Rattle.std.proofs.lemmas.Result.{IfOk-at_ok}
 pub use Rattle.std.specs.Borrow.{Bor}
 pub use Rattle.std.specs.List.{position_or_len}
-pub use Rattle.std.specs.Prelude.{MatchOption, nat_le, nat_lt}
 pub use Rattle.bench_types.proofs.Sums.{most_below-same, sum_below-most, sum_below-same}
 pub use Rattle.bench_types.specs.declared.rows.Figures.{Figures}
-pub use Rattle.model.proofs.Common.{Entry, MOST_KEYS, MOST_NODES, absent, before-yes, is_before, mark_held, mark_of, most_below, sum_below}
+pub use Rattle.model.proofs.Common.{Entry, MOST_KEYS, MOST_NODES, absent, and_parts, before-yes, both_ways, cases_eq, eq-eqb, eqb-true, is_before, le-leb, leb-true, lt-leb, mark_held, mark_of, most_below, ne_eqb, sum_below}
 pub use Rattle.model.proofs.Figures.{most_by_owner}
 pub use Rattle.model.proofs.Owners.{list_read}
 pub use Rattle.model.proofs.Picked.{find_passes}
@@ -22,18 +21,14 @@ pub use Rattle.model.specs.Figures.{generation_at, is_left_over, leftover_at, ro
 pub use Rattle.model.specs.Table.{IsProper, Table, entry_at}
 pub use Rattle.model.specs.Tables.{table_of_node}
 pub use Rattle.model.specs.Writes.{write_of_entry}
-pub use Rattle.model.specs.calls.Numbers.{write_numbered}
 pub use Rattle.model.specs.calls.OwnerListView.{AreWrites, OwnerListView, entries_of, list_of_owner, lists_in, no_writes, written}
 pub use Rattle.model.specs.calls.Writes.{is_write_of, last_write}
 pub use Rattle.model.specs.declared.writes.Write.{Write}
 pub use Rattle.owner_writes.proofs.Numbers.{numbered-placed, numbered-some, numbered-within, numbers-compare, write_from-here}
-pub use Rattle.owner_writes.specs.Kept.{entry_kept}
 pub use Rattle.owner_writes.specs.Numbered.{IsRoundMark}
 pub use Rattle.owner_writes.specs.declared.writes.Kept.{Kept}
-pub use Rattle.planes.proofs.Counts.{count_le, sum_next}
+pub use Rattle.planes.proofs.Counts.{count_le, none-passes, sum_next}
 pub use Rattle.planes.proofs.Elementwise.{number-at}
-pub use Rattle.grids.specs.Lags.{IsLeastBehind}
-pub use Rattle.planes.specs.Planes.{ArePlanesChanged, HasEach, IsGrid, cell, total_of}
 pub use Rattle.round_tables.specs.Histories.{BirthsRise, HistoriesView, StandsBeside}
 pub use Rattle.version_lags.specs.Missed.{HasNoneMissed, IsFirstMissed, IsLastNumber, IsMissed, IsNumberAt, NonePassUpto, base_of, number_staleness}
 pub use Rattle.version_lags.specs.Pieces.{AreGrids, AreNumbersOf, AreRoundNumbers, CountsPiece, IsTotal, MayBeCounted, MayWalk, StandTogether, WalksFrom, cells_in, histories_of, is_left, is_stale, last_cells, least_below, most_lag, numbers_in, table_at, total_below}

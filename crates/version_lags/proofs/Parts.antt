@@ -11,8 +11,8 @@ grids-of number numbers tables together are =
     record {
       grid = record {
         whole = sym last ∙ are.lasts.size;
-        few_nodes = omega (arith, together.few_nodes, together.one_list_each);
-        few_keys = together.few_keys;
+        few_nodes = together.limits.few_nodes;
+        few_keys = together.limits.few_keys;
       };
       count = sym (length-map numbers.cells.now (λ x. map number x.now)) ∙ are.count;
       based = sym (length-map numbers.bases.now number) ∙ are.based.size;

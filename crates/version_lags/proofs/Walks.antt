@@ -23,7 +23,7 @@ pub walks-from : {N : Type 0} (number : N → ℕ) (most : ℕ) (lags : Lags N) 
 walks-from number most lags may firsts behind owner first list among is list_is = subst (WalksFrom number most lags owner (number first)) (sym list_is) (record {
   among = among;
   grid = may.grid;
-  round_limit = may.are.may.round_limit;
+  round_limit = may.are.may.together.limits.few_rounds;
   writes = may.are.may.together.writes owner;
   few = may.are.few owner;
   born = may.are.may.written.born owner;

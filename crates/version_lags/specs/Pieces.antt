@@ -12,7 +12,7 @@ use Rattle.model.specs.calls.OwnerListView.{OwnerListView, all_writes, entries_o
 use Rattle.model.specs.calls.Numbers.{write_numbered}
 use Rattle.bench_types.specs.Sums.{sum_below, most_below}
 use Rattle.planes.specs.Planes.{cell, total_of, Cells, HasEach, HasEachPlace, IsGrid}
-use Rattle.round_tables.specs.Histories.{HistoriesView, BirthsRise, AreWrittenBy, StandsAmong}
+use Rattle.round_tables.specs.Histories.{HistoriesView, BirthsRise, AreWrittenBy, KeepLimits, StandsAmong}
 use Rattle.model.specs.Figures.{rounds_behind}
 use Rattle.version_lags.specs.declared.lags.Lags.{Lags}
 use Rattle.version_lags.specs.declared.lags.Numbers.{Numbers}
@@ -25,15 +25,13 @@ use Rattle.version_lags.specs.Missed.{base_of, number_staleness, IsLastNumber, I
 pub record StandTogether (tables : List Table) (h : HistoriesView) : Type 0 where
   pub cluster : IsCluster (length tables) tables
   pub one_list_each : length h.lists ≡ length tables
-  pub few_nodes : length tables ≤ MOST_NODES
-  pub few_keys : h.keys ≤ MOST_KEYS
+  pub limits : KeepLimits h
   pub writes : (owner : ℕ) → AreWrites (list_of_owner h.lists owner)
   pub standing : HoldsOfEach (StandsAmong h) tables
 
 -- what the figures of a round are counted from
 pub record MayBeCounted (tables : List Table) (h : HistoriesView) : Type 0 where
   pub together : StandTogether tables h
-  pub round_limit : h.rounds ≤ MOST_ROUNDS
   pub written : AreWrittenBy h.rounds h.lists
 
 -- the numbers of tables, as code has them

@@ -1,6 +1,6 @@
 //! How far the copies lag behind their owners, told by numbers of writes: the figures of a round.
 
-ghost use Rattle.std.specs.Prelude.{◌≡◌, ℕ, ◌+◌, ◌-◌, ◌*◌, ◌/◌, ◌^◌, ◌<◌, ◌≤◌, List, map, length, slice_index, IfOk, IsFalse, IsOkUnless};
+ghost use Rattle.std.specs.Prelude.{◌≡◌, ℕ, ◌+◌, ◌-◌, ◌*◌, ◌/◌, ◌^◌, ◌<◌, ◌≤◌, List, map, length, IfOk, IsOkUnless};
 ghost use Rattle.bench_types.specs.declared.faults.Fault.TheVariants.{OutOfMemory};
 ghost use Rattle.model.specs.Table.{Table};
 ghost use Rattle.model.specs.calls.OwnerListView.{list_of_owner, lists_in};
@@ -39,18 +39,6 @@ struct Piece<N: Number> {
     leftover: u64,
     // Of each owner's key the least number that one of them holds, or the last one where none is below it.
     least: Vec<N>,
-}
-
-fn has_forgotten<N: Number>(bases: &[N]) -> bool
-    ensures { IsFalse result → (r : ℕ) → r < length bases.now
-        → slice_index (map N.number bases.now) r ≡ 0 }
-{
-    for base in bases {
-        if base.is_above(N::zero()) {
-            return true;
-        }
-    }
-    false
 }
 
 // The numbers of all tables, whether a node has forgotten, and how many tables a thread gets.
@@ -99,7 +87,7 @@ impl<'a, N: Number + Send + Sync> Numbers<'a, N> {
         alloc: Global,
         from: usize,
     ) -> Result<Piece<N>, Fault>
-        requires { MayCount N.number self.now from (length self.now.numbers.lists.now) }
+        requires may { MayCount N.number self.now from (length self.now.numbers.lists.now) }
         ensures { Counts N.number self.now.numbers from (length self.now.numbers.lists.now) result }
     {
         let nodes = self.numbers.lists.len();
@@ -228,7 +216,7 @@ fn counted<N: Number + Send + Sync>(
     ensures { Counts N.number numbers.now 0 (length numbers.now.lists.now) result }
 {
     let size = tables_of_a_thread(numbers, hands);
-    let forgot = has_forgotten(numbers.bases);
+    let forgot = planes::count_held(numbers.bases) > 0;
     let numbers = Numbers {
         numbers: *numbers,
         forgot,

@@ -1,25 +1,15 @@
 -- The names that these proofs cite of other libraries and of this crate's definitions, passed on from one place.
 -- Declares nothing.
 -- Serves most of the crate.
-pub use Rattle.std.proofs.Common.{Bool, List, None, Option, Some, Vec, [], ap, arith, cond, eqb, false, get_or, if◌then◌else◌, inl, inr, length, length-append, ltb, map, max, min, nat_le, nat_lt, refl, rules, set, slice_index, subst, suc, sym, true, zero, ℕ, ◌&&◌, ◌*◌, ◌++◌, ◌+◌, ◌-◌, ◌<◌, ◌==◌, ◌∙◌, ◌∷◌, ◌≡◌, ◌≢◌, ◌≤◌, ◌⊎◌}
-pub use Rattle.std.proofs.Math.Nat.{mul-le-mul_right}
-pub use Rattle.std.proofs.Math.Path.{transport}
-pub use Rattle.std.proofs.lemmas.Bool.{both_ways, cases_eq, cases_lt, eq-eqb, eqb-true, le-ltb, lt-ltb, ne_eqb}
-pub use Rattle.std.proofs.lemmas.Bool.Decides.{nat_tests}
+pub use Rattle.version_lags.proofs.Common.{Bool, Bor, IsLastNumber, IsNumberAt, List, None, Option, Some, [], ap, arith, base_of, both_ways, cases_eq, cases_lt, cond, eq-eqb, eqb, eqb-true, false, get_or, if◌then◌else◌, inl, inr, le-ltb, length, length-append, lt-ltb, ltb, map, max, min, mul-le-mul_right, nat_le, nat_lt, ne_eqb, number-at, refl, rules, slice_index, subst, suc, sum_below-most, sum_below-same, sym, table_of_node, write_numbered, zero, ℕ, ◌&&◌, ◌*◌, ◌+◌, ◌-◌, ◌<◌, ◌∙◌, ◌≡◌, ◌≤◌, ◌⊎◌}
+pub use Rattle.delta_plans.proofs.Common.{AreChanged, AreMarked, Bytes, DeltaView, Entries, HasSet, IsOffer, KeepsLow, NumbersDiffer, Vec, by_first, candidates, count_all_between, delta_between, first_sent, known_mark, largest_share, lets_through, low_in, marks, nat_tests, number_here, number_shares, number_there, share_or_none, transport, weight_between, with_items}
 pub use Rattle.std.proofs.lemmas.List.{append-nil, append_assoc, get_or-append-add, get_or-append_right, get_or-map, get_or-set_other, get_or-set_same, get_or_append_left, get_or_at, get_or_default, get_or_past, get_or_push, length-map, length-set, map-append, map-id, map-set, set-get_or, with_items_is}
 pub use Rattle.std.proofs.lemmas.List.FromFn.{get_or-map-range_with_len, length-map-range_with_len, sum_by-map-range_with_len_more}
 pub use Rattle.std.proofs.lemmas.Nat.{same_from_place}
 pub use Rattle.std.proofs.lemmas.Option.{none-some, same_Some}
 pub use Rattle.std.proofs.lemmas.Result.{IfOk-weaker, on_ok_weaker}
-pub use Rattle.std.specs.Borrow.{Bor}
 pub use Rattle.std.specs.FinMap.{entries, len-entries}
-pub use Rattle.std.specs.List.{range_with_len}
-pub use Rattle.std.specs.Option.{option_or}
 pub use Rattle.std.specs.Prelude.{Contains, count_by, ◌||◌}
-pub use Rattle.std.specs.Vec.{with_items}
-pub use Rattle.bench_types.proofs.Sums.{sum_below-most, sum_below-same}
-pub use Rattle.bench_types.specs.Budget.{largest_share}
-pub use Rattle.bench_types.specs.declared.exchanges.Budget.TheVariants.{Bytes, Entries}
 pub use Rattle.bench_types.specs.declared.limits.TheConstants.{MOST_ROUNDS}
 pub use Rattle.delta_plans.proofs.Candidates.{IsOffered, candidate-number, candidate-place}
 pub use Rattle.delta_plans.proofs.DeltaMarks.{are-sent, count-cut, count-sent, lets, shared-sent, whole-sent}
@@ -27,21 +17,14 @@ pub use Rattle.delta_plans.proofs.Grids.{items_sum}
 pub use Rattle.delta_plans.proofs.MarkedLaws.{whole-marked, whole-size}
 pub use Rattle.delta_plans.proofs.RoundMarks.{count-above}
 pub use Rattle.delta_plans.proofs.Starts.{all_writes-here}
-pub use Rattle.delta_plans.proofs.Sums.{sum_below-each_none, sum_below-none}
+pub use Rattle.delta_plans.proofs.Sums.{sum_below-none}
 pub use Rattle.delta_plans.proofs.WeightLaws.{count_between-most, part, part-cases, weight_between-most, weight_of-none, weight_of-split}
-pub use Rattle.delta_plans.specs.Firsts.{by_first}
-pub use Rattle.delta_plans.specs.Grids.{number_here, number_there}
-pub use Rattle.delta_plans.specs.LevelMarks.{NumbersDiffer, first_sent, lets_through}
-pub use Rattle.delta_plans.specs.Marked.{AreMarked, KeepsLow}
-pub use Rattle.delta_plans.specs.OfferInMemory.{IsOffer, low_in, marks}
 pub use Rattle.delta_plans.specs.Offers.{HasCells, Offers, is_lacked, offered_by, told_by, told_number}
-pub use Rattle.delta_plans.specs.SentSets.{HasSet}
-pub use Rattle.delta_plans.specs.Weights.{count_all_between, number_shares, share_or_none, weight_between}
 pub use Rattle.delta_plans.specs.declared.marked.First.{First}
 pub use Rattle.delta_plans.specs.declared.marked.First.TheVariants.{Newest, Oldest}
 pub use Rattle.delta_plans.specs.declared.offers.Offer.{Offer}
 pub use Rattle.delta_plans.specs.declared.told_marks.Owners.{Owners}
-pub use Rattle.model.proofs.Common.{Budget, DigestKind, Entry, Exchange, Fate, IsBefore, IsUpTo, Item, LEAST_KEYS, MOST_KEYS, MOST_NODES, Mark, Mode, Precise, Record, Rules, Scuttle, absent-first, amount_of, digest_kind, is_before, mark_held, mark_of, not_both, sum_below, sum_below-le, up_to-before}
+pub use Rattle.model.proofs.Common.{Budget, DigestKind, Entry, Exchange, Fate, IsBefore, IsUpTo, Item, LEAST_KEYS, MOST_KEYS, MOST_NODES, Mark, Mode, Precise, Record, Rules, Scuttle, absent-first, amount_of, digest_kind, is_before, mark_held, mark_of, not_both, range_with_len, set, sum_below, sum_below-le, true, up_to-before, ◌++◌, ◌==◌, ◌∷◌, ◌≢◌}
 pub use Rattle.model.proofs.DeltaLaws.{sent-candidate}
 pub use Rattle.model.proofs.Fitting.{sum_by-ones}
 pub use Rattle.model.proofs.Greatest.{greatest_mark-from, greatest_mark-none, greatest_mark-unique, mark_at-up_to_greatest}
@@ -50,33 +33,28 @@ pub use Rattle.model.proofs.Lacking.{candidates-lacked}
 pub use Rattle.model.proofs.ProperLaws.{proper-empty_table, proper-with_own_write, proper-without_all, proper-without_others}
 pub use Rattle.model.proofs.Received.{kept, received-proper, sent-held, sent-up_to}
 pub use Rattle.model.proofs.TableLaws.{KeepsFrame, entry_at-applied_from, entry_at-empty_table, entry_at-own_write, entry_at-own_write_other, entry_at-without_all, entry_at-without_others_other, entry_at-without_others_own, frame-applied, same_table}
-pub use Rattle.model.specs.Candidates.{candidates, known_mark}
-pub use Rattle.model.specs.Deltas.{DeltaView, delta_between}
 pub use Rattle.model.specs.Digests.{digest_size}
 pub use Rattle.model.specs.Exchanged.{Exchanged, initiator_after, last_fate, responder_after, sent_until}
 pub use Rattle.model.specs.Figures.{figures_of}
 pub use Rattle.model.specs.Table.{IsProper, Table, applied, empty_table, entry_at, generation_held, greatest_mark, greatest_version, item_of, items_of, mark_at, with_own_write, without_all, without_others}
-pub use Rattle.model.specs.Tables.{table_of_node}
 pub use Rattle.model.specs.calls.DeltaLaws.{Lacks}
 pub use Rattle.model.specs.calls.Exchanging.{MakesOf}
-pub use Rattle.model.specs.calls.Numbers.{write_from, write_numbered}
 pub use Rattle.model.specs.calls.OwnerListView.{AreWrites, ListBecomes, OwnerListView, all_writes, begun_generation, entries_of, list_of_owner, lists_in, next_entry, no_writes, with_write}
 pub use Rattle.model.specs.calls.Tables.{IsCluster}
 pub use Rattle.model.specs.declared.records.DeltaCounts.{DeltaCounts}
 pub use Rattle.model.specs.inner.Held.{entry_in}
 pub use Rattle.owner_writes.proofs.Keeping.{writes_begun, writes_more}
-pub use Rattle.owner_writes.proofs.Numbers.{IsPlaced, numbered-none, numbered-placed, numbered-some, numbered-within, numbers-before, numbers-compare, numbers-up_to, write_from-at, write_from-some}
+pub use Rattle.owner_writes.proofs.Numbers.{IsPlaced, numbered-none, numbered-placed, numbered-some, numbered-within, numbers-before, numbers-compare, numbers-up_to, write_from-here}
 pub use Rattle.owner_writes.specs.Numbered.{AreEnds, AreMadeBy, IsHistory, IsNumberedHistory, IsRoundMark, start_before, start_of}
 pub use Rattle.grids.proofs.ByOwner.{owner-next, owner_changed, owners-all, owners-next, owners_changed}
-pub use Rattle.planes.proofs.Elementwise.{number-at, written_next}
-pub use Rattle.planes.proofs.Places.{plane-within, planes-written}
-pub use Rattle.planes.specs.Elementwise.{AreChanged, AreChangedUpto}
-pub use Rattle.planes.specs.Planes.{ArePlanesChanged, ArePlanesChangedUpto, Cells, HasEach, HasEachPlace, HasNoneAbove, IsRaised, cell, count_between, most_ahead, numbers_taken, total_above, total_of}
+pub use Rattle.planes.proofs.Counts.{none-passes}
+pub use Rattle.planes.proofs.Elementwise.{made-as}
+pub use Rattle.planes.proofs.Places.{plane-within, planes-written, total-places}
+pub use Rattle.planes.specs.Planes.{ArePlanesChanged, ArePlanesChangedUpto, Cells, HasEach, HasEachPlace, HasNoneAbove, IsGrid, IsRaised, cell, count_between, most_ahead, numbers_taken, total_above}
 pub use Rattle.grids.specs.declared.merges.BothCounts.{BothCounts}
 pub use Rattle.round_tables.specs.Histories.{AreWrittenBy, HistoriesView, HistoryBecomes, KeepLimits, round_ended}
-pub use Rattle.version_lags.specs.Missed.{IsLastNumber, IsNumberAt, base_of}
 pub use Rattle.version_lags.specs.Pieces.{AreNumbersAt, AreNumbersOf, AreRoundNumbers, MayBeCounted, StandTogether, numbers_at, numbers_in}
-pub use Rattle.version_tables.specs.Laid.{AreNumbers, IsFirst, IsGreatest, IsVersionTable, entries_below, entry_list, table_of_cells}
+pub use Rattle.version_tables.specs.Laid.{AreNumbers, IsFirst, IsGreatest, IsVersionTable, entries_below, table_of_cells, with_entry}
 pub use Rattle.version_tables.specs.Views.{IsKept, VersionTableView, table_in}
 pub use Rattle.version_tables.specs.Writes.{HasOwnWrite, IsNextWrite}
 pub use Rattle.version_tables.specs.inner.Beside.{AreAtRoundEnd, AreCellsOf, AreCellsUpto, tables_of_views, view_at}

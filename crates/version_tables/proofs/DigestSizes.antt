@@ -1,6 +1,6 @@
 -- How many owners and entries a table of versions holds.
 -- Serves `digest_size`.
-use Rattle.version_tables.proofs.Common.{◌≡◌, ℕ, zero, suc, ◌+◌, ◌*◌, ◌<◌, ◌≤◌, Bool, cond, nat_lt, List, length, map, map-id, Some, inl, inr, refl, sym, ap, ◌∙◌, arith, count_by, slice_index, entries, len-entries, range_with_len, cases_lt, lt-ltb, le-ltb, length-map, sum_by-map-range_with_len_more, Entry, Item, Mark, Scuttle, Precise, IsUpTo, mark_held, Table, entry_at, items_of, item_of, mark_at, greatest_mark, greatest_version, greatest_mark-none, mark_at-up_to_greatest, write_numbered, cell, total_of, sum_below, sum_below-same, digest_size, sum_by-ones, number_here, number_there, items_sum, numbered-some, VersionTableView, table_in, IsKept}
+use Rattle.version_tables.proofs.Common.{◌≡◌, ℕ, zero, suc, ◌+◌, ◌*◌, ◌<◌, ◌≤◌, Bool, cond, nat_lt, List, length, map, map-id, Some, inl, inr, refl, sym, ap, ◌∙◌, arith, count_by, slice_index, entries, len-entries, range_with_len, cases_lt, lt-ltb, le-ltb, length-map, sum_by-map-range_with_len_more, Entry, Item, Mark, Scuttle, Precise, IsUpTo, mark_held, Table, entry_at, items_of, item_of, mark_at, greatest_mark, greatest_version, greatest_mark-none, mark_at-up_to_greatest, write_numbered, cell, sum_below, sum_below-same, total-places, digest_size, sum_by-ones, number_here, number_there, items_sum, numbered-some, VersionTableView, table_in, IsKept}
 use Rattle.version_tables.proofs.Laid.{has_cells}
 
 count-range : (p : ℕ → Bool) (n : ℕ) → count_by p (map (λ i. i) (range_with_len 0 n)) ≡ sum_below n (λ i. cond (p i) 1 0)
@@ -28,9 +28,11 @@ module _ (written : ℕ → List Entry) (v : VersionTableView) (kept : IsKept wr
       counted (suc place) le = ap (number_here (λ _. 1) owner) (numbered-some (written owner) (suc place) (omega arith) le).1 ∙ sym (rw (lt-ltb 0 (suc place) (omega arith)))
 
   -- entries held
-  pub held-size : total_of v.nodes v.keys (λ r k. nat_lt 0 (cell v.cells v.nodes r k)) ≡ digest_size Precise t
+  pub held-size : sum_below (length v.cells) (λ i. cond (nat_lt 0 (slice_index v.cells i)) 1 0) ≡ digest_size Precise t
   held-size =
-      sym (sum_below-same v.nodes _ _ (λ owner in_nodes. sum_below-same v.keys _ _ (λ key in_keys. one_here owner key in_nodes in_keys)))
+      ap (λ n. sum_below n (λ i. cond (nat_lt 0 (slice_index v.cells i)) 1 0)) kept.cell_count
+      ∙ total-places v.nodes v.keys (λ i. nat_lt 0 (slice_index v.cells i))
+      ∙ sym (sum_below-same v.nodes _ _ (λ owner in_nodes. sum_below-same v.keys _ _ (λ key in_keys. one_here owner key in_nodes in_keys)))
       ∙ sym (items_sum t kept.proper (λ _. 1))
       ∙ sum_by-ones (λ (_ : Item). 1) (λ _. refl) (items_of t)
       ∙ length-map (entries t.held) item_of
@@ -59,12 +61,9 @@ module _ (written : ℕ → List Entry) (v : VersionTableView) (kept : IsKept wr
     ]
   ]
 
-  pub owners-size : total_of v.nodes 1 (λ r k. nat_lt 0 (cell v.greatest v.nodes r k)) ≡ digest_size Scuttle t
+  pub owners-size : sum_below (length v.greatest) (λ r. cond (nat_lt 0 (slice_index v.greatest r)) 1 0) ≡ digest_size Scuttle t
   owners-size =
-      sum_below-same v.nodes _ (λ r. cond (nat_lt 0 (greatest_version t r)) 1 0) (λ r lt. omega (
-        arith,
-        ap {B = ℕ} (λ i. cond (nat_lt 0 (slice_index v.greatest i)) 1 0) {x = 0 * v.nodes + r} {y = r} (omega arith),
-        ap {B = ℕ} (λ b. cond b 1 0) (owner_here r lt),
-      ))
+      ap (λ n. sum_below n (λ r. cond (nat_lt 0 (slice_index v.greatest r)) 1 0)) kept.greatest_count
+      ∙ sum_below-same v.nodes _ (λ r. cond (nat_lt 0 (greatest_version t r)) 1 0) (λ r lt. ap (λ b. cond b 1 0) (owner_here r lt))
       ∙ sym (count-range (λ r. nat_lt 0 (greatest_version t r)) v.nodes)
       ∙ ap (count_by (λ r. nat_lt 0 (greatest_version t r))) (map-id (range_with_len 0 v.nodes))

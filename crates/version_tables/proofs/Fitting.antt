@@ -1,15 +1,7 @@
 -- Tables beside the histories: the numbers that they hold are of writes made so far.
 -- Serves most of the crate.
-use Rattle.version_tables.proofs.Common.{◌≡◌, ℕ, zero, suc, ◌<◌, ◌≤◌, List, [], ◌∷◌, length, Some, inl, inr, sym, ap, ◌∙◌, arith, Contains, cases_lt, Entry, Exchange, Rules, mark_held, entry_at, generation_held, write_from, write_numbered, all_writes, Cells, cell, HasCells, numbered-some, VersionTableView, HistoriesView, table_in, IsKept, AreLaidBoth, IsBeginning, IsReadyExchange, AreNumbers}
+use Rattle.version_tables.proofs.Common.{◌≡◌, ℕ, suc, ◌<◌, ◌≤◌, List, length, Some, inl, inr, sym, ap, ◌∙◌, arith, Contains, cases_lt, Entry, Exchange, Rules, mark_held, entry_at, generation_held, write_from-here, write_numbered, all_writes, Cells, cell, HasCells, numbered-some, VersionTableView, HistoriesView, table_in, IsKept, AreLaidBoth, IsBeginning, IsReadyExchange, AreNumbers}
 use Rattle.version_tables.proofs.Laid.{has_cells}
-
--- what is contained has a place
-write_from-contains : (writes : List Entry) (e : Entry) → Contains writes e → (place : ℕ) × (place < length writes) × (write_from writes place ≡ Some e)
-write_from-contains [] e (k, lt, is) = absurd (omega (arith, lt))
-write_from-contains (x ∷ xs) e (zero, lt, is) = (0, omega arith, ap Some is)
-write_from-contains (x ∷ xs) e (suc k, lt, is) =
-    let rest = write_from-contains xs e (k, omega (arith, lt), is) in
-    (suc rest.0, omega (arith, rest.1), rest.2)
 
 module _ (written : ℕ → List Entry) (v : VersionTableView) (kept : IsKept written v) where
   abbrev cells : Cells
@@ -23,10 +15,12 @@ module _ (written : ℕ → List Entry) (v : VersionTableView) (kept : IsKept wr
     | inl some ↦
         let there = numbered-some (written owner) (cells owner key) some (kept.numbers.written owner key in_nodes in_keys) in
         let held : entry_at (table_in written v) owner key ≡ Some there.0 = has_cells written v.node v.nodes v.keys v.generation cells kept.numbers owner key in_nodes in_keys ∙ there.1 in
-        let at = write_from-contains so_far there.0 (holds key there.0 held) in
-        elim (cases_lt (suc at.0) (cells owner key)) [
-          | inl before ↦ absurd (kept.first owner key in_nodes in_keys (suc at.0) before (sym (begins (suc at.0) (omega (arith, at.1))) ∙ at.2 ∙ sym there.1))
-          | inr not_before ↦ omega (arith, not_before, at.1)
+        let (place, lt, at) = holds key there.0 held in
+        elim (cases_lt (suc place) (cells owner key)) [
+          | inl before ↦
+              let same = sym (begins (suc place) (omega (arith, lt))) ∙ write_from-here so_far place there.0 lt ∙ ap Some at ∙ sym there.1 in
+              absurd (kept.first owner key in_nodes in_keys (suc place) before same)
+          | inr not_before ↦ omega (arith, not_before, lt)
         ]
   ]
 

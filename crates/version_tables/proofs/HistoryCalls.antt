@@ -1,19 +1,9 @@
 -- What the calls of the histories make of all that is kept of the owners' writes.
 -- Serves `Histories::begin_generation`, `Histories::end_round`, `Histories::lasts`, `Histories::new` and
 -- `Histories::write`.
-use Rattle.version_tables.proofs.Common.{◌≡◌, ◌≢◌, ℕ, zero, suc, ◌+◌, ◌*◌, ◌<◌, ◌≤◌, ◌==◌, cond, List, [], ◌∷◌, ◌++◌, length, get_or, set, map, Some, inl, inr, refl, sym, ap, ◌∙◌, subst, transport, arith, length-append, cases_lt, cases_eq, eq-eqb, ne_eqb, get_or-set_same, get_or-set_other, get_or_append_left, get_or_push, length-set, get_or-append-add, get_or_default, length-map, map-append, map-set, append_assoc, append-nil, same_Some, number-at, Entry, LEAST_KEYS, MOST_KEYS, MOST_NODES, MOST_ROUNDS, write_from, write_numbered, OwnerListView, all_writes, entries_of, list_of_owner, no_writes, next_entry, with_write, begun_generation, AreWrites, ListBecomes, writes_more, writes_begun, HasEach, HasEachPlace, ArePlanesChanged, cell, AreMadeBy, IsHistory, IsNumberedHistory, IsRoundMark, IsLastNumber, write_from-some, numbered-within, write_from-at, HistoriesView, round_ended, AreHistories, AreNoWrites, IsCounted, IsWrittenSoFar, IsWriteUnder}
+use Rattle.version_tables.proofs.Common.{◌≡◌, ◌≢◌, ℕ, zero, suc, ◌+◌, ◌*◌, ◌<◌, ◌≤◌, ◌==◌, cond, List, [], ◌∷◌, ◌++◌, length, get_or, set, map, Some, inl, inr, refl, sym, ap, ◌∙◌, subst, transport, arith, length-append, cases_lt, cases_eq, eq-eqb, ne_eqb, get_or-set_same, get_or-set_other, get_or_append_left, get_or_push, length-set, get_or-append-add, get_or_default, length-map, map-append, map-set, append_assoc, append-nil, same_Some, number-at, Entry, LEAST_KEYS, MOST_KEYS, MOST_NODES, MOST_ROUNDS, write_numbered, OwnerListView, all_writes, entries_of, list_of_owner, no_writes, next_entry, with_write, begun_generation, AreWrites, ListBecomes, writes_more, writes_begun, HasEach, HasEachPlace, ArePlanesChanged, cell, AreMadeBy, IsHistory, IsNumberedHistory, IsRoundMark, IsLastNumber, numbered-within, write_from-here, HistoriesView, round_ended, AreHistories, AreNoWrites, IsCounted, IsWrittenSoFar, IsWriteUnder}
 use Rattle.version_tables.proofs.Generations.{current-at, earlier-at}
 use Rattle.version_tables.proofs.OwnCalls.{other-place, place-within}
-
--- a write behind others has the number after theirs, and they keep their own
-from-before : (w : List Entry) (e : Entry) (place : ℕ) → place < length w → write_from (w ++ e ∷ []) place ≡ write_from w place
-from-before [] e place lt = absurd (omega (arith, lt))
-from-before (x ∷ xs) e zero lt = refl
-from-before (x ∷ xs) e (suc place) lt = from-before xs e place (omega (arith, lt))
-
-from-last : (w : List Entry) (e : Entry) → write_from (w ++ e ∷ []) (length w) ≡ Some e
-from-last [] e = refl
-from-last (x ∷ xs) e = from-last xs e
 
 -- one more write, in the round that comes next
 module _ (all : List Entry) (most rounds : ℕ) (v : OwnerListView) (key value : ℕ) (are : AreWrites v) (so_far : IsWrittenSoFar all most rounds (entries_of v)) where
@@ -38,15 +28,22 @@ module _ (all : List Entry) (most rounds : ℕ) (v : OwnerListView) (key value :
   longer : length more ≡ length w + 1
   longer = omega (arith, ap (λ (es : List Entry). length es) whole, length-append w (e ∷ []))
 
+  -- it has the number after theirs, and they keep their own
   numbered-before : (number : ℕ) → number ≤ length w → write_numbered more number ≡ write_numbered w number
   numbered-before zero le = refl
-  numbered-before (suc place) le = ap (λ es. write_from es place) whole ∙ from-before w e place (omega (arith, le))
+  numbered-before (suc place) le =
+      write_from-here more place e (omega (arith, le, longer))
+      ∙ ap Some (ap (λ es. get_or es place e) whole ∙ get_or_append_left w (e ∷ []) e place (omega (arith, le)))
+      ∙ sym (write_from-here w place e (omega (arith, le)))
 
   back : (number : ℕ) (d : Entry) → number ≤ length w → write_numbered more number ≡ Some d → write_numbered w number ≡ Some d
   back number d le is = sym (numbered-before number le) ∙ is
 
   numbered-last : write_numbered more (length w + 1) ≡ Some e
-  numbered-last = ap (write_numbered more) {x = length w + 1} {y = suc (length w)} (omega arith) ∙ ap (λ es. write_from es (length w)) whole ∙ from-last w e
+  numbered-last =
+      ap (write_numbered more) {x = length w + 1} {y = suc (length w)} (omega arith)
+      ∙ write_from-here more (length w) e (omega (arith, longer))
+      ∙ ap Some (ap (λ es. get_or es (length w) e) whole ∙ get_or_push w e e (length w) refl)
 
   -- what holds of each write before, and of the one more
   each : (P : ℕ → Entry → Type 0) → ((number : ℕ) (d : Entry) → number ≤ length w → write_numbered w number ≡ Some d → P number d) → P (length w + 1) e → (number : ℕ) (d : Entry) → write_numbered more number ≡ Some d → P number d
@@ -69,9 +66,8 @@ module _ (all : List Entry) (most rounds : ℕ) (v : OwnerListView) (key value :
     born = λ i j d le lt. elim (cases_lt j (length w)) [
       | inl before ↦ omega (arith, front i d (omega (arith, le, before)), front j d before, so_far.history.born i j d le before)
       | inr not_before ↦
-          let there = write_from-some more i (omega (arith, le, lt)) in
           let last = ap (λ es. (get_or es j d).born) whole ∙ ap (λ (x : Entry). x.born) (get_or_push w e d j (omega (arith, not_before, lt, longer))) in
-          omega (arith, made-more.last (suc i) there.0 there.1, ap (λ (x : Entry). x.born) (write_from-at more i there.0 d there.1).1, last)
+          omega (arith, made-more.last (suc i) (get_or more i d) (write_from-here more i d (omega (arith, le, lt))), last)
     ];
   }
     where

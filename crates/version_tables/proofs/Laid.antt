@@ -1,45 +1,30 @@
 -- What a table that lies in cells holds.
 -- Serves most of the crate.
-use Rattle.version_tables.proofs.Common.{◌≡◌, ℕ, zero, suc, ◌<◌, ◌≤◌, Bool, true, false, cond, eqb, ltb, List, [], ◌∷◌, ◌++◌, length, map, Vec, Option, Some, None, option_or, ◌⊎◌, inl, inr, refl, sym, ap, ◌∙◌, subst, arith, range_with_len, with_items, cases_lt, cases_eq, eq-eqb, ne_eqb, lt-ltb, le-ltb, get_or_past, with_items_is, get_or-map-range_with_len, length-map-range_with_len, Entry, Table, entry_at, IsProper, same_table, entry_in, get-held_by_lists, HasCells, write_numbered, Cells, entry_list, entries_below, table_of_cells, AreNumbers}
-
--- an entry in one of two rows
-entry_in-append : (xs ys : List Entry) (key : ℕ) → entry_in (xs ++ ys) key ≡ option_or (entry_in xs key) (entry_in ys key)
-entry_in-append [] ys key = refl
-entry_in-append (x ∷ xs) ys key = elim (eqb x.key key) as (λ b. cond b (Some x) (entry_in (xs ++ ys) key) ≡ option_or (cond b (Some x) (entry_in xs key)) (entry_in ys key)) [
-  | true ↦ refl
-  | false ↦ entry_in-append xs ys key
-]
+use Rattle.version_tables.proofs.Common.{◌≡◌, ◌≢◌, ℕ, zero, suc, ◌<◌, ◌≤◌, cond, nat_tests, eqb, ltb, List, [], length, map, Vec, Option, Some, None, ◌⊎◌, inl, inr, refl, sym, ap, ◌∙◌, subst, arith, range_with_len, with_items, cases_lt, cases_eq, eq-eqb, ne_eqb, lt-ltb, le-ltb, get_or_past, with_items_is, get_or-map-range_with_len, length-map-range_with_len, Entry, Table, entry_at, IsProper, same_table, entry_in, get-held_by_lists, HasCells, write_numbered, Cells, with_entry, entries_below, table_of_cells, AreNumbers}
 
 module _ (writes : List Entry) (numbers : ℕ → ℕ) (keys : ℕ) (keyed : (key : ℕ) (e : Entry) → key < keys → write_numbered writes (numbers key) ≡ Some e → e.key ≡ key) where
   abbrev held : ℕ → Option Entry
   held key = write_numbered writes (numbers key)
 
-  one : (bound key : ℕ) → bound < keys → entry_in (entry_list (held bound)) key ≡ cond (eqb bound key) (held bound) None
-  one bound key lt = elim (held bound) as (λ o. held bound ≡ o → entry_in (entry_list o) key ≡ cond (eqb bound key) o None) [
-    | None ↦ λ _. sym (same (eqb bound key) None)
-    | Some e ↦ λ is. ap (λ k. cond (eqb k key) (Some e) None) (keyed bound e lt is)
-  ] refl
-    where
-      same : (b : Bool) (o : Option Entry) → cond b o o ≡ o
-      same true o = refl
-      same false o = refl
+  -- one key more is another one
+  other_key : (bound key : ℕ) → bound ≢ key → cond (ltb key bound) (held key) None ≡ cond (ltb key (suc bound)) (held key) None
+  other_key bound key other = grind (arith, nat_tests)
 
   row : (bound key : ℕ) → bound ≤ keys → entry_in (entries_below writes numbers bound) key ≡ cond (ltb key bound) (held key) None
   row zero key le = rw (le-ltb key 0 (omega arith))
   row (suc bound) key le =
-      entry_in-append (entries_below writes numbers bound) (entry_list (held bound)) key
-      ∙ (λ i. option_or (row bound key (omega (arith, le)) i) (one bound key (omega (arith, le)) i))
-      ∙ elim (cases_lt key bound) [
-        | inl before ↦ rw (lt-ltb key bound before, ne_eqb bound key (λ e. omega (arith, e, before)), lt-ltb key (suc bound) (omega (arith, before))) (first (held key))
-        | inr not_before ↦ elim (cases_eq bound key) [
-          | inl same ↦ rw (le-ltb key bound (omega (arith, not_before)), eq-eqb bound key same, lt-ltb key (suc bound) (omega (arith, same))) (ap held same)
-          | inr other ↦ rw (le-ltb key bound (omega (arith, not_before)), ne_eqb bound key other, le-ltb key (suc bound) (omega (arith, not_before, other)))
+      let es = entries_below writes numbers bound in
+      let before = row bound key (omega (arith, le)) in
+      elim (held bound) as (λ o. held bound ≡ o → entry_in (with_entry o es) key ≡ cond (ltb key (suc bound)) (held key) None) [
+        | None ↦ λ none. before ∙ elim (cases_eq bound key) [
+          | inl same ↦ rw (le-ltb key bound (omega (arith, same)), lt-ltb key (suc bound) (omega (arith, same))) (sym none ∙ ap held same)
+          | inr other ↦ other_key bound key other
         ]
-      ]
-    where
-      first : (o : Option Entry) → option_or o None ≡ o
-      first None = refl
-      first (Some e) = refl
+        | Some e ↦ λ is. ap (λ k. cond (eqb k key) (Some e) (entry_in es key)) (keyed bound e (omega (arith, le)) is) ∙ elim (cases_eq bound key) [
+          | inl same ↦ rw (eq-eqb bound key same, lt-ltb key (suc bound) (omega (arith, same))) (sym is ∙ ap held same)
+          | inr other ↦ rw (ne_eqb bound key other) (before ∙ other_key bound key other)
+        ]
+      ] refl
 
 module _ (lists : ℕ → List Entry) (node nodes keys generation : ℕ) (cells : Cells) (are : AreNumbers lists nodes keys cells) where
   abbrev t : Table

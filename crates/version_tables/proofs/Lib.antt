@@ -7,7 +7,6 @@ pub mod Generations
 pub mod OwnCalls
 pub mod NextWrites
 pub mod Standing
-pub mod Clearing
 pub mod TakenByOwner
 pub mod TakenViews
 pub mod ExchangedViews

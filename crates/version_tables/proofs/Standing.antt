@@ -17,12 +17,10 @@ module _ (written : ℕ → List Entry) (views : List VersionTableView) where
       together = record {
         cluster = subst (λ m. IsCluster m tables) (sym same) end.cluster;
         one_list_each = end.one_list_each ∙ sym same;
-        few_nodes = omega (arith, limits.few_nodes, end.one_list_each, same);
-        few_keys = limits.few_keys;
+        limits = limits;
         writes = writes;
         standing = end.standing;
       };
-      round_limit = limits.few_rounds;
       written = end.written_by;
     }
 

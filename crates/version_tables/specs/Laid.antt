@@ -1,6 +1,6 @@
 -- How a table of versions lies in memory: a plane for each key, with a cell for each owner, which has the number of the
 -- write that is held, 0 for none. What the owners write is told by their lists. Source: this project.
-use Rattle.std.specs.Prelude.{◌≡◌, ◌≢◌, ℕ, zero, suc, ◌*◌, ◌<◌, ◌≤◌, List, [], ◌∷◌, ◌++◌, ◌⊎◌, length, map, slice_index, Option, Some, None}
+use Rattle.std.specs.Prelude.{◌≡◌, ◌≢◌, ℕ, zero, suc, ◌*◌, ◌<◌, ◌≤◌, List, [], ◌∷◌, ◌⊎◌, length, map, slice_index, Option, Some, None}
 use Rattle.std.specs.List.{range_with_len}
 use Rattle.bench_types.specs.declared.entries.Entry.{Entry}
 use Rattle.model.specs.Table.{Table, IsProper}
@@ -8,14 +8,15 @@ use Rattle.model.specs.calls.Held.{held_by_lists}
 use Rattle.model.specs.calls.Numbers.{write_numbered}
 use Rattle.planes.specs.Planes.{Cells, cell}
 
-abbrev pub entry_list : Option Entry → List Entry
-entry_list None = []
-entry_list (Some e) = e ∷ []
+-- one more entry, if it is held
+abbrev pub with_entry : Option Entry → List Entry → List Entry
+with_entry None es = es
+with_entry (Some e) es = e ∷ es
 
 -- the entries of an owner's keys below a bound
 abbrev pub entries_below : List Entry → (ℕ → ℕ) → ℕ → List Entry
 entries_below writes numbers zero = []
-entries_below writes numbers (suc key) = entries_below writes numbers key ++ entry_list (write_numbered writes (numbers key))
+entries_below writes numbers (suc key) = with_entry (write_numbered writes (numbers key)) (entries_below writes numbers key)
 
 -- the table that lies in cells
 abbrev pub table_of_cells : (ℕ → List Entry) → ℕ → ℕ → ℕ → ℕ → Cells → Table

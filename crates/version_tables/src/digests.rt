@@ -7,7 +7,7 @@ ghost use Rattle.version_tables.specs.Views.{table_in, IsKept};
 
 use crate::tables::{VersionTable, Written};
 use bench_types::{DigestKind, Mode};
-use planes::{Grid, Number, Size};
+use planes::Number;
 
 /// Of how many owners something is held, or how many entries are.
 pub(crate) fn digest_size<N: Number, H: Written>(table: &VersionTable<N, H>, mode: Mode) -> u32
@@ -15,13 +15,7 @@ pub(crate) fn digest_size<N: Number, H: Written>(table: &VersionTable<N, H>, mod
     ensures kept { IsKept H.lists table.now }
 {
     match mode.digest_kind() {
-        DigestKind::Scuttle => {
-            let nodes = table.size().nodes;
-            planes::total_held(Grid {
-                cells: table.greatest(),
-                size: Size { nodes, keys: 1 },
-            })
-        }
-        DigestKind::Precise => planes::total_held(table.grid()),
+        DigestKind::Scuttle => planes::count_held(table.greatest()),
+        DigestKind::Precise => planes::count_held(table.cells()),
     }
 }

@@ -15,7 +15,7 @@ use crate::tables::{VersionTable, Written};
 use bench_types::limits::MOST_ENTRY_SIZE;
 use bench_types::{Budget, DigestKind, Rules};
 use grids::{BothCounts, BothMarks};
-use planes::{Grid, Number, Size};
+use planes::{Number, Size};
 
 fn surely_fit(budget: Budget, count: u32) -> bool
     requires { count ≤ MOST_NODES * MOST_KEYS }
@@ -82,12 +82,7 @@ fn are_current<N: Number, H: Written>(
     ensures { IsTrue result ↔ (AreCurrent (bases_in histories.now.lists) initiator.now
         × AreCurrent (bases_in histories.now.lists) responder.now) }
 {
-    let nodes = initiator.size().nodes;
-    let bases = Grid {
-        cells: histories.bases(),
-        size: Size { nodes, keys: 1 },
-    };
-    if planes::total_held(bases) == 0 {
+    if planes::count_held(histories.bases()) == 0 {
         return true;
     }
     is_current(initiator, histories) && is_current(responder, histories)

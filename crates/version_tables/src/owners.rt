@@ -10,9 +10,7 @@ use planes::Number;
 pub(crate) fn clear<N: Number>(numbers: &mut [N])
     ensures { AreChanged (λ r x y. y ≡ 0) (map N.number numbers.old) (map N.number numbers.new) }
 {
-    for r in 0..numbers.len() {
-        numbers[r] = N::zero();
-    }
+    planes::change(numbers, |_, _| N::zero());
 }
 
 pub(crate) fn keep_one<N: Number>(numbers: &mut [N], owner: usize)

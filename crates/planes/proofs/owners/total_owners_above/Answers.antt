@@ -1,6 +1,6 @@
 use Rattle.planes.proofs.Common.{sym, slice_index, ◌∙◌, arith, map, ltb-false, cell}
 use Rattle.planes.proofs.Elementwise.{number-at}
-use Rattle.planes.proofs.FewOwners.{owner_counted, owner_passed, owners-fit}
+use Rattle.planes.proofs.Counts.{owner_counted, owner_passed, owners-fit}
 use Rattle.planes.proofs.owners.total_owners_above.Goals as goal
 use Rattle.planes.proofs.owners.total_owners_above.Goals.{then-is_above, else-is_above}
 

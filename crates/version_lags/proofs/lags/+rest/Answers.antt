@@ -19,6 +19,6 @@ returns g t c =
     let changed = subst (λ xs. ArePlanesChanged (λ r k x y. y ≡ min x (cells_in numbers (map number xs) r k)) nodes numbers.keys (map number piece.least.items) (map number new)) c.deref.ensures.value moved in (
       subst (λ xs. CountsPiece number numbers from nodes (piece.stale + others.stale) (piece.leftover + others.leftover) (map number xs))
           (sym (with_items_is piece.least new (c.lower_all.auto.least ∙ c.deref_mut.ensures.len)))
-          (counts-joined number numbers c.requires.grids from mid nodes piece.stale piece.leftover others.stale others.leftover (map number piece.least.items) (map number new) (map number others.least.items) one two changed),
+          (counts-joined number numbers c.requires.may.grids from mid nodes piece.stale piece.leftover others.stale others.leftover (map number piece.least.items) (map number new) (map number others.least.items) one two changed),
       tt,
     )

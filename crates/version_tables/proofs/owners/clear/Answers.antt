@@ -1,7 +1,8 @@
-use Rattle.version_tables.proofs.Common.{arith, map, length-map, written_next}
+use Rattle.version_tables.proofs.Common.{rules, made-as}
 use Rattle.version_tables.proofs.owners.clear.Goals as goal
 
-pub loop-r-preserved : goal.loop-r-preserved
-loop-r-preserved g c =
-    written_next _ (map g.N.Number.number c.args.numbers.now) g.N.Number.number c.loop-r.numbers c.loop-r.r c.zero.result c.loop-r.invariant
-    (omega (arith, c.loop-r-test.true, length-map c.args.numbers.now g.N.Number.number)) c.zero.ensures
+pub returns : goal.returns
+returns g c = record {
+  size = c.change.ensures.size;
+  each = λ r lt. made-as g.N.Number.number _ r _ _ (λ n. 0) (c.change.ensures.each r lt) (λ n m made. search rules);
+}

@@ -1,12 +1,14 @@
-use Rattle.version_tables.proofs.Common.{◌≡◌, subst, arith, map, ap, length-map, nat_tests, all_writes, number-at, owners-next, owners-all, IsNumberedHistory, all_writes-here, drop_starts, number_kept}
-use Rattle.version_tables.proofs.Clearing.{planes-stay}
+use Rattle.version_tables.proofs.Common.{◌≡◌, refl, subst, arith, map, ap, length-map, nat_tests, all_writes, number-at, owners-next, owners-all, IsNumberedHistory, all_writes-here, drop_starts, number_kept}
 use Rattle.version_tables.proofs.taking.drop_older.Given as given
 use Rattle.version_tables.proofs.taking.drop_older.Goals as goal
 
 pub returns-then-none_upto : goal.returns-then-none_upto
-returns-then-none_upto g c =
-    planes-stay _ c.args.size.nodes c.args.size.keys (map g.N.Number.number c.args.cells.now)
-    (λ r k x lt. let none = c.none_upto.ensures.0 c.if-none_upto.true r (omega (arith, lt, c.requires.before_count, length-map c.args.before.now g.N.Number.number)) in grind (arith, nat_tests))
+returns-then-none_upto g c = record {
+  size = refl;
+  each = λ r k lt _.
+      let none = c.none_upto.ensures.0 c.if-none_upto.true r (omega (arith, lt, c.requires.before_count, length-map c.args.before.now g.N.Number.number)) in
+      grind (arith, nat_tests);
+}
 
 -- what an owner's numbers are dropped up to
 starts : (g : given.Over) (c : goal.After-cells-1 g) → c.drop_from-start.result

@@ -1,4 +1,4 @@
-use Rattle.version_tables.proofs.Common.{length, map, slice_index, ap, refl, subst, sym, ◌∙◌, with_items, length-map, with_items_is, all_writes, VersionTableView, bases_in, AreOwners, drop_start, number_kept, IsTaken, StaysOne}
+use Rattle.version_tables.proofs.Common.{◌≡◌, ℕ, List, length, map, slice_index, ap, refl, subst, sym, ◌∙◌, with_items, length-map, with_items_is, all_writes, VersionTableView, bases_in, AreOwners, drop_start, number_kept, IsTaken, StaysOne, Entry, IsGrid, IsVersionTable}
 use Rattle.version_tables.proofs.Laid.{seen}
 use Rattle.version_tables.proofs.taking.take_unless.Given as given
 use Rattle.version_tables.proofs.taking.take_unless.Goals as goal
@@ -40,6 +40,11 @@ pub returns : goal.returns
 returns g c =
     rw (c.if-arrival.false, ← c.table.view_is) (record { taken = taken g c; rest = refl })
 
+-- its numbers are a grid
+is_grid : {written : ℕ → List Entry} {node nodes keys generation : ℕ} {cells greatest : List ℕ}
+    → IsVersionTable written node nodes keys generation cells greatest → (size : ℕ) → size ≡ length cells → IsGrid nodes keys size
+is_grid kept size is = record { whole = is ∙ kept.cell_count; few_nodes = kept.proper.nodes_limit; few_keys = kept.proper.keys_limit }
+
 pub take-requires : goal.take-requires
 take-requires g c = record {
   may =
@@ -48,11 +53,7 @@ take-requires g c = record {
       let nodes = sym (ap (λ (v : VersionTableView). v.nodes) c.table.view_is) in
       record {
         beside = record {
-          shape = record {
-            whole = ap length c.deref_mut.ensures.value ∙ sym (length-map inside.cells.items number) ∙ c.table.invariant.cell_count;
-            few_nodes = c.table.invariant.proper.nodes_limit;
-            few_keys = c.table.invariant.proper.keys_limit;
-          };
+          shape = is_grid c.table.invariant _ (ap length c.deref_mut.ensures.value ∙ sym (length-map inside.cells.items number));
           count = sym (length-map c.args.cells.now number) ∙ c.requires.may.cells ∙ sym (ap (λ (v : VersionTableView). length v.cells) c.table.view_is) ∙ length-map inside.cells.items number ∙ sym (ap length c.deref_mut.ensures.value);
         };
         greatest_count = ap length c.deref_mut-2.ensures.value ∙ sym (length-map inside.greatest.items number) ∙ c.table.invariant.greatest_count;
@@ -69,11 +70,7 @@ drop_older-requires g c =
     let cells = with_items_is inside.cells c.take.new.cells (c.take.auto.cells ∙ c.deref_mut.ensures.len) in
     let greatest = with_items_is inside.greatest c.take.new.greatest (c.take.auto.greatest ∙ c.deref_mut-2.ensures.len) in
     record {
-      grid = record {
-        whole = ap length (c.deref_mut-3.ensures.value ∙ cells) ∙ c.take.auto.cells ∙ ap length c.deref_mut.ensures.value ∙ sym (length-map inside.cells.items number) ∙ c.table.invariant.cell_count;
-        few_nodes = c.table.invariant.proper.nodes_limit;
-        few_keys = c.table.invariant.proper.keys_limit;
-      };
+      grid = is_grid c.table.invariant _ (ap length (c.deref_mut-3.ensures.value ∙ cells) ∙ c.take.auto.cells ∙ ap length c.deref_mut.ensures.value ∙ sym (length-map inside.cells.items number));
       before_count = sym (length-map c.args.before.now number) ∙ ap length c.requires.before ∙ sym (ap (λ (v : VersionTableView). length v.greatest) c.table.view_is) ∙ c.table.invariant.greatest_count;
       greatest_count = ap length (c.deref-3.ensures.value ∙ greatest) ∙ sym (length-map c.take.new.greatest number) ∙ c.take.ensures.greatest.size;
       known = subst (λ nodes. AreOwners number nodes c.args.owners) (sym (ap (λ (v : VersionTableView). v.nodes) c.table.view_is)) c.requires.may.known;

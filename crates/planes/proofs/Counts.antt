@@ -29,7 +29,8 @@ count_next test bound to before passed now {more} is next plus one =
     omega (arith, plus, sum_next (λ r. cond (test r) 1 0) bound (before + passed) more is one, ap (λ n. count_passing n test) next)
 
 -- none is counted just where none passes
-pub none-passes : (test : ℕ → Bool) (n size count : ℕ) → count ≡ count_passing n test → size ≡ n → IsTrue (count == 0) ↔ ((r : ℕ) → r < size → test r ≡ false)
+pub none-passes : (test : ℕ → Bool) (n size count : ℕ) → count ≡ count_passing n test → size ≡ n
+    → IsTrue (count == 0) ↔ ((r : ℕ) → r < size → test r ≡ false)
 none-passes test n size count is whole = (
   λ none r lt.
       let rest = fold_below-join sums (λ k. cond (test k) 1 0) (suc r) (n - suc r) in

@@ -16,7 +16,8 @@ module _ {N : Type 0} (number : N → ℕ) (cells low high : List N) (nodes firs
   part start xs = take (start + size - start) (drop start xs)
 
   -- so it is told by the parts of a plane and of the marks
-  told : (key start r : ℕ) → r < size → start ≡ key * nodes + first → one_between number (part start cells) (part first low) (part first high) r ≡ is_counted r key
+  told : (key start r : ℕ) → r < size → start ≡ key * nodes + first
+      → one_between number (part start cells) (part first low) (part first high) r ≡ is_counted r key
   told key start r lt is =
       let from = window-at number first size (first + size - first) low (omega arith) r lt in
       let to = window-at number first size (first + size - first) high (omega arith) r lt in
@@ -26,7 +27,8 @@ module _ {N : Type 0} (number : N → ℕ) (cells low high : List N) (nodes firs
       λ i. if nat_lt (from i) (here i) then (if nat_le (here i) (to i) then 1 else 0) else 0
 
   -- so many more can be counted
-  has_room : (most more key : ℕ) (counts : List N) → HasEach size (λ r n. n ≡ sum_below key (is_counted r)) (map number counts) → key + more ≤ most → HasRoomToCount number most more counts
+  has_room : (most more key : ℕ) (counts : List N) → HasEach size (λ r n. n ≡ sum_below key (is_counted r)) (map number counts)
+      → key + more ≤ most → HasRoomToCount number most more counts
   has_room most more key counts before le r lt =
       let few = sum_below-most (is_counted r) key 1 (λ k _. grind (arith, nat_tests)) in
       omega (arith, before.each r (omega (arith, lt, before.size, length-map counts number)), few, le)
@@ -37,7 +39,8 @@ loop-key-init g c = record {
   each = record {
     size = c.change.ensures.size ∙ length-map c.args.counts.now g.N.Number.number;
     each = λ r lt.
-        made-as g.N.Number.number _ r _ _ (λ n. 0) (c.change.ensures.each r (omega (arith, lt, length-map c.args.counts.now g.N.Number.number))) (λ n m made. search rules);
+        made-as g.N.Number.number _ r _ _ (λ n. 0)
+        (c.change.ensures.each r (omega (arith, lt, length-map c.args.counts.now g.N.Number.number))) (λ n m made. search rules);
   };
 }
 
@@ -75,7 +78,8 @@ loop-key-preserved g c =
       upto = omega (arith, c.loop-key-test.true);
       each = each-next size _ _ _ (map number c.loop-key.counts) (map number c.count_two.new.counts) c.loop-key.invariant.each c.count_two.ensures
           (λ r x y lt before made.
-          number_next (f r) (key + 1) _ y (number_next (f r) key x _ before refl (at key start r lt refl)) made (at (key + 1) (start + nodes) r lt (omega (arith, one_more key nodes)))
+          number_next (f r) (key + 1) _ y (number_next (f r) key x _ before refl (at key start r lt refl)) made
+          (at (key + 1) (start + nodes) r lt (omega (arith, one_more key nodes)))
           ∙ ap (λ n. sum_below n (f r)) {x = key + 1 + 1} {y = key + 2} (omega arith));
     }
 
@@ -88,10 +92,12 @@ returns-then-key-size g c =
     let f = is_counted number c.args.grid.cells.now c.args.low.now c.args.high.now nodes c.args.first size in
     each-next size _ _ _ (map number c.loop-key.counts) (map number c.count_one.new.counts) c.loop-key.invariant.each c.count_one.ensures
     (λ r x y lt before made.
-    number_next (f r) key x y before made (told number c.args.grid.cells.now c.args.low.now c.args.high.now nodes c.args.first size key (key * nodes + c.args.first) r lt refl)
+    number_next (f r) key x y before made
+    (told number c.args.grid.cells.now c.args.low.now c.args.high.now nodes c.args.first size key (key * nodes + c.args.first) r lt refl)
     ∙ ap (λ n. sum_below n (f r)) {x = key + 1} {y = c.args.grid.size.keys} (omega (arith, c.if-key-size.true, c.loop-key-test.false)))
 
 pub returns-else-key-size : goal.returns-else-key-size
 returns-else-key-size g c =
     let f = is_counted g.N.Number.number c.args.grid.cells.now c.args.low.now c.args.high.now c.args.grid.size.nodes c.args.first (length c.args.counts.now) in
-    each-whole (λ k r n. n ≡ sum_below k (f r)) _ c.loop-key.key c.args.grid.size.keys _ c.if-key-size.false c.loop-key.invariant.upto c.loop-key.invariant.each
+    each-whole (λ k r n. n ≡ sum_below k (f r)) _ c.loop-key.key c.args.grid.size.keys _ c.if-key-size.false
+    c.loop-key.invariant.upto c.loop-key.invariant.each

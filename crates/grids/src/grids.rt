@@ -202,9 +202,11 @@ fn take_plane<N: Number>(plane: &mut [N], greatest: &mut [N], sent: Sent<N>, key
     let Sent { grid, low, high } = sent;
     let numbers = plane_of(grid.cells, grid.size.nodes, key);
     for r in 0..plane.len() {
-        let number = numbers[r];
-        let is_sent = planes::is_between(number, low[r], high[r]);
-        let kept = planes::raised_to(plane[r], number, is_sent);
+        let kept = plane[r].max_with(planes::pick(
+            planes::is_between(numbers[r], low[r], high[r]),
+            numbers[r],
+            N::zero(),
+        ));
         plane[r] = kept;
         greatest[r] = greatest[r].max_with(kept);
     }

@@ -1,11 +1,12 @@
-"""Trials of gossip_sweep: what it refuses, what it makes, and that it loses nothing, whatever happens to it."""
+"""Trials of gossip_sweep and gossip_read: what they refuse and make, and that nothing is lost, whatever happens."""
 import os
 import resource
+import shutil
 import signal
 import time
 
 from tried.calls import (
-    COMPARED, HEADER, LACKING, SMALL, fails, gives, is_running, program_that, refuse, refuses, run, started, stopped,
+    COMPARED, HEADER, LACKING, fails, gives, is_running, program_that, refuse, refuses, run, started, stopped,
     takes_signal, waits_for, written,
 )
 from trials import PROGRAM, TOP, Text, holds
@@ -112,49 +113,38 @@ def try_what_is_kept(room):
           "1,precise-newest,50.00,0,1,0,2\n65535,precise-newest,0.00,0,0,0,0\n", "gossip_read window 1 2")
 
 
-def try_forgetting(room):
-    """A node forgets in round 2 and is down in it, and its next write comes to the other one in round 3."""
-    forgets = (SMALL / "a_node_forgets.toml").read_text()
-    gives(room, "1 runs in forgets\n", "gossip_sweep -o forgets mode=scuttle-breadth", text=forgets)
-    gives(room, "mode,percent_cut,greatest_least,greatest_most,stale_least,stale_most,leftover_least,leftover_most\n"
-          "scuttle-breadth,0.00,0,2,0,1,0,1\n", "gossip_read window 2 3 forgets")
-    for first, level, wanted in (("1", "0", "1,1"), ("2", "0", "3,2"), ("2", "1", "2,1")):
-        gives(room, f"mode,round,took\nscuttle-breadth,{wanted}\n", "gossip_read leftover", first, level, "forgets")
-
-
 def try_missing(room):
-    """A report that isn't whole never counts: neither where runs are read, nor where a sweep goes on."""
-    sweep = ("-o", "missing", "budget=1,2", "mode=scuttle-depth,precise-newest")
-    gives(room, "4 runs in missing\n", "gossip_sweep", *sweep)
+    """A report that is missing is named, and so are all of them; what is there is read where that is asked for."""
+    gives(room, "4 runs in missing\n", "gossip_sweep -o missing budget=1,2 mode=scuttle-depth,precise-newest")
     name = "budget-1.mode-precise-newest"
-    report = room / "missing" / f"{name}.csv"
-    whole, (_, first, second) = report.read_text(), report.read_text().splitlines(keepends=True)
-    damaged = {
-        "it is empty": b"",
-        "its header is another": ("mode," + HEADER + first + second).encode(),
-        "its header is another ": (HEADER.replace("\n", ",leftover\n") + first + second).encode(),
-        "it is cut short after 1 of 2": (HEADER + first + second[:-1]).encode(),
-        "it is cut short after 0 of 2": (HEADER + first[:-1]).encode(),
-        "it goes on after its 2 rounds": (whole + "3,2,0,0,4,2,0,0\n").encode(),
-        "it goes on after its 2 rounds ": (whole + "3,2").encode(),
-        "its line of round 1": (HEADER + second + first).encode(),
-        "its line of round 2": (HEADER + first + second.replace("0", "none", 1)).encode(),
-        "its line of round 1 ": (HEADER + first + second).encode().replace(b",2,", b"\0\0\0", 1),
-        "it has other bytes": (HEADER + first + second).encode() + b"\xff",
-    }
-    for why, text in damaged.items():
-        report.write_bytes(text)
-        refuses(room, f"1 of 4 runs are missing: {name} ({why.strip()}", "gossip_read level 1 0 missing")
-        holds(f"made again: {why}", (0, "4 runs in missing\n", Text("", why.strip(), name), whole),
-              (*run(room, "gossip_sweep", *sweep), report.read_text()))
-    report.unlink()
-    refuses(room, f"{name} (it isn't there)", "gossip_read level 1 0 missing")
+    (room / "missing" / f"{name}.csv").unlink()
+    refuses(room, f"1 of 4 runs are missing: {name} (it isn't there)", "gossip_read level 1 0 missing")
     # (with room for two each way, two exchanges of a round bring the three writes)
     rows = "budget,mode,round,took\n1,scuttle-depth,2,2\n2,scuttle-depth,1,1\n2,precise-newest,1,1\n"
     holds("what is there is read", (0, rows, Text("", name)), run(room, "gossip_read level 1 0 missing --partial"))
     for it in (room / "missing").glob("*.csv"):
         it.unlink()
     refuses(room, "4 of 4 runs are missing", "gossip_read level 1 0 missing --partial")
+
+
+def try_reading(room):
+    """What gossip_read refuses, and a folder whose scenarios differ in other fields than the runs' or are none."""
+    room = room / "reading"
+    room.mkdir()
+    gives(room, "4 runs in read\n", "gossip_sweep -o read budget=1")
+    refuse(room, "gossip_read")
+    gives(room, "budget,mode,round,took\n1,scuttle-breadth,2,2\n1,scuttle-depth,2,2\n1,precise-oldest,2,2\n"
+          "1,precise-newest,2,2\n", "gossip_read level 1 0 -o read")
+    other = room / "read" / "seed-1.mode-scuttle-depth.toml"
+    shutil.copy(room / "read" / "budget-1.mode-scuttle-depth.toml", other)
+    refuses(room, "differ", "gossip_read window 1 2 read")
+    other = other.rename(room / "read" / "budget-2.mode-scuttle-depth.toml")
+    for text, why in ((other.read_bytes().replace(b"format = 1", b"format = 2"), "two formats"),
+                      (b"budget = ", "TOML 1.0"), (b"budget = 1", "isn't the scenario of a run"),
+                      (b"# \xe9\n", "isn't UTF-8"),
+                      (b"#" * 1048577, f"{other.relative_to(room)} is longer than 1048576 bytes")):
+        other.write_bytes(text)
+        refuses(room, why, "gossip_read window 1 2 read")
 
 
 def try_sweeps_at_once(room):

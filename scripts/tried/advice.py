@@ -1,34 +1,18 @@
 """Trials of gossip_advise."""
 import csv
 import hashlib
-import html.parser
+import html
 import operator
 import pathlib
+import re
 import shlex
 import shutil
 import signal
 import tomllib
+from collections import Counter
 
 from tried.calls import program_that, refuse, refuses, run, started, stopped, tells, waits_for
 from trials import PROGRAM, Text, holds
-
-
-class Tags(html.parser.HTMLParser):
-    """The tags of a page that are open, and what its pictures, links and styles name."""
-
-    def __init__(self, text):
-        super().__init__()
-        self.open, self.named = [], []
-        self.feed(text)
-
-    def handle_starttag(self, tag, attributes):
-        self.named += [it for name, it in attributes if name in ("src", "href")]
-        if tag not in ("meta", "img", "br"):
-            self.open.append(tag)
-
-    def handle_endtag(self, tag):
-        if self.open[-1:] == [tag]:
-            self.open.pop()
 
 
 # The seeds that choose, the first of them, and those that bound how old a copy gets and what heals.
@@ -51,7 +35,7 @@ def budgets_of(folder):
 
 
 def held(one, other):
-    return [sum(map(are_so, one, other)) for are_so in (operator.lt, operator.gt)]
+    return sum(map(operator.lt, one, other)), sum(map(operator.gt, one, other))
 
 
 def is_better(one, other):
@@ -98,10 +82,12 @@ def advised(room, *words, **how):
 
 
 def page_of(folder, *parts):
-    """The page, which is whole and tells these."""
+    """The page, which is whole, as each tag is closed as often as it is opened, and tells these."""
     page = (folder / "report.html").read_text()
     tells(f"the page in {folder.name}", page, *parts)
-    holds(f"the page in {folder.name} is whole", [], Tags(page).open)
+    opened, closed = (Counter(re.findall(rf"<{slash}(\w+)", page)) for slash in ("", "/"))
+    unlike = {it for it in opened | closed if opened[it] != closed[it]}
+    holds(f"the page in {folder.name} is whole", set(), unlike - {"meta", "img", "br"})
     return page
 
 
@@ -131,12 +117,11 @@ def try_advice(room):
           (told, counted[0].strip().startswith("Healed after N rounds: "), kept.count("\n".join(counted))))
     stages = [f"gossip_sweep -o {it} budget" for it in ("many", "many-bound", "split", "forgotten", "restart")]
     page = page_of(advice, hashlib.sha256(pathlib.Path(PROGRAM).read_bytes()).hexdigest(), *stages[:4],
-                   "@media screen and (prefers-color-scheme: dark)", "<thead>", "</thead><tbody>",
-                   "the oldest write that some copy lacked was for the first time no older than usual: at most one",
-                   "a rolling restart<b>wait ")
+                   "</thead><tbody>", "a rolling restart<b>wait ", "the oldest write that some copy lacked was for the "
+                   "first time no older than usual: at most one")
     # (a restart is told of nodes that forget)
     holds("a restart has no scenario of its own", False, stages[4] in page)
-    others = [it for it in Tags(page).named if not it.startswith("data:image/svg+xml;base64,")]
+    others = re.findall(r'(?:src|href)="(?!data:image/svg\+xml;base64,)(.*?)"', page)
     holds("the page needs no other", (7 if shutil.which("gnuplot") else 0, []), (page.count("<img "), others))
     before, none = times_of(advice), room / "nothing"
     none.mkdir()
@@ -217,16 +202,11 @@ def try_target(room):
     holds("all 20 seeds keep to the target, and of the smaller ones not all", (fewest, True, True),
           (bounds[0], max(figures[least]) <= 8, all(max(figures[it]) > 8 for it in smaller)))
     line = next((it for it in out.splitlines() if it.startswith("Take ")), "")
-    holds("the smallest packet", (True, True),
-          (line.startswith(f"Take scuttle-depth with room for {least} entries in a delta, {least * 40} bytes "),
-           line.endswith(f"packet={least * 40 + 240}.")))
+    take = f"Take scuttle-depth with room for {least} entries in a delta, {least * 40} bytes "
+    holds("the smallest packet", Text(take, f"packet={least * 40 + 240}."), line)
     tells("the target and the floor", out, "\n  the floor           no mode and no budget does better than ",
           "  target              met: in 20 of 21 runs of 144 rounds (72 s) the worst staleness is within 4 s, or 8 "
           "rounds\n", f"  a smaller one       {smaller[-1] if smaller else below} entries: the next smaller budget ")
-    if smaller:
-        seeds = figures[smaller[-1]]
-        tells("by how many a smaller one misses it", out,
-              f" under {sum(it > 8 for it in seeds)} of 20 seeds, up to {max(seeds)} rounds\n")
     of_least = f"budget-{least}"
     shares = [100 * sum(it[100:200]) / 100 / 3312 for it in column(many, of_least, "stale", FIRST)]
     half = [next(at for at in range(1, 9) if 2 * it[199 + at] <= it[199])
@@ -248,9 +228,8 @@ def try_target(room):
                             f"packet={least * 40 + 240}", f"target={target}", "split=0", "restarts=0")
         tells(f"a packet for target={target}", out, f"\nThe target is {verdict}", f"\n  target              {verdict}")
     _, _, out = advised(room, "-o", "never", "target=1", *words)
-    holds("a target that no budget meets", True, out.startswith(
-        "No budget keeps the worst staleness within 1 s, or 2 rounds. The best that can be had, with room for 144 "
-        "entries"))
+    holds("a target that no budget meets", Text("No budget keeps the worst staleness within 1 s, or 2 rounds. The best "
+                                                "that can be had, with room for 144 entries"), out)
     page_of(room / "never", "<h1>24 nodes: no budget keeps")
 
 
@@ -269,9 +248,6 @@ def try_calls(room):
     printed = run(room, "gossip_scenario", *words[:-1], "rounds=600")[1]
     holds("the rounds without writes are those of gossip_scenario", printed.partition("[[load]]")[2],
           scenario.partition("[[load]]")[2])
-    healed_after = [it for it in out.splitlines() if "healed after" in it and "N rounds" not in it]
-    holds("each figure in rounds, intervals and seconds", [],
-          [it for it in healed_after if " intervals, " not in it or " s" not in it])
 
 
 def try_hopeless_advice(room):
@@ -286,13 +262,10 @@ def try_hopeless_advice(room):
         "a round, so it is at least 95 rounds; room for nodes * writes = 24 entries takes packet=960.",
         "First answer, from 200 rounds: no budget that fits is seen to be enough, as none has a level of at most 100 "
         "rounds within 200."], first.splitlines()[:2])
-    tells("it says how far is looked", first,
-          "\nWhether it levels off later is seen from 400 and then 800 rounds, and no more.")
     no_level = "none has a level of at most 400 rounds within 800"
-    holds("none is enough", (True, True), (
-        max(worst(room / "no hope" / "longest", 2, 401, 800)) > 400, said.startswith(
-            f"No budget that fits is enough: {no_level}. The most that fits: room for 2 entries in a delta, 80 bytes")))
-    tells("none is enough", said, f"  worst staleness     not known: {no_level}; by a sum at least 95",
+    holds("none is enough", True, max(worst(room / "no hope" / "longest", 2, 401, 800)) > 400)
+    tells("none is enough", said, f"No budget that fits is enough: {no_level}. The most that fits: room for 2 entries "
+          "in a delta, 80 bytes", f"  worst staleness     not known: {no_level}; by a sum at least 95",
           "  enough              packet=960 has room for nodes * writes = 24 entries, and ")
     holds("nothing is run that heals, or bounds", ["longer", "longest", "many"],
           sorted(it.name for it in (room / "no hope").iterdir() if (it / "scenario").exists()))
@@ -318,12 +291,11 @@ def try_longer_runs(room):
           (max(short) > 100, max(long + bound) <= 200, is_better(at_knee, long)))
     tells("the first answer says how far is looked", first,
           "\nWhether it levels off later is seen from 400 and then 800 rounds, and no more.\n")
-    holds("the longer runs name mode, budget and what is enough", True, said.startswith(
-        "Take scuttle-depth, but packet=200 is too small: with room for 5 entries in a delta, 200 bytes (what fits; "
-        f"0.21 times nodes * writes), the worst copy was {spanned(long)} rounds, {spanned(long)} s, behind, and with "
-        f"packet=960 {spanned(at_knee)} rounds.\n"))
-    tells("and what bounds it and heals", said, "\n  worst staleness     in 20 of 21 runs of 360 rounds (360 s) no "
-          f"copy is older than {max(bound)} rounds, {max(bound)} s: ", " in rounds 201 to 560 under 20 seeds, others ",
+    tells("what the longer runs say", said, "Take scuttle-depth, but packet=200 is too small: with room for 5 entries "
+          "in a delta, 200 bytes (what fits; 0.21 times nodes * writes), the worst copy was "
+          f"{spanned(long)} rounds, {spanned(long)} s, behind, and with packet=960 {spanned(at_knee)} rounds.\n",
+          "\n  worst staleness     in 20 of 21 runs of 360 rounds (360 s) no copy is older than "
+          f"{max(bound)} rounds, {max(bound)} s: ", " in rounds 201 to 560 under 20 seeds, others ",
           "\n  a rolling restart   ")
     tells("and how many calls are enough, which are 24 / 5", said.partition("Mind:")[2],
           "(fanout=5, as nodes * writes / 5 entries fit)")
@@ -355,19 +327,6 @@ def try_advice_below_the_knee(room):
               f"\n  a rolling restart   wait {waits} rounds, {waits} s, after a group of 2 nodes is up again: in 20 of "
               "21 cases a restart was healed and its forgotten state was gone by then\n")
     holds("half of the nodes restart, or a group", (10, 2), (groups[2], one[2]))
-
-
-def try_restarts_of_half(room):
-    """Of 20 nodes 10 restart at once and forget: one such group is all that may restart, as more would leave nothing
-    old to lack, which was told as healed after a round. What is told is no less than its reports have."""
-    cluster = ("nodes=20 keys=4 writes=1 entry=40 packet=800 count=entries restarts=10 forget=yes split=0 "
-               "mode=scuttle-depth hours=0.1")
-    _, said, _ = advised(room, "-o", "half", *cluster.split())
-    restart, gone, count = healed(room / "half" / "forgotten", f"budget_bytes-{20 * 1047 // 2}")
-    what = "of 10 nodes, each down for one round, and then without its own state"
-    holds("restarts of half", (10, False, True), (count, (room / "half" / "forgotten-one").exists(), min(gone) > 1))
-    tells("restarts of half", said, took("a restart", what, "healed", restart),
-          took("a forgotten state", what, "gone from all copies", gone))
 
 
 def try_stopping_advice(room):

@@ -1,11 +1,13 @@
-"""How scripts take their words: by argparse, with the script's text as its help, and a line for what is refused."""
+"""What all scripts share: where the repository is, and how they take their words, by argparse, with the script's text
+as its help, and a line for what is refused."""
 import argparse
 import sys
 from pathlib import Path
 
 sys.dont_write_bytecode = True
-
-
+TOP = Path(__file__).resolve().parent.parent
+# (where the tools have their Python package)
+sys.path.insert(0, str(TOP / "tools"))
 # What all scripts of trials say of themselves.
 OF_TRIALS = """
 Each trial that fails has a line, and the last line is 'N passed, M failed'. Status: 0 where all hold, 1 where one

@@ -5,16 +5,13 @@ import subprocess
 import sys
 from pathlib import Path
 
-sys.dont_write_bytecode = True
-TOP = Path(__file__).resolve().parent.parent
-TOOLS = TOP / "tools"
-# Texts in other languages, which scripts fill.
-TEXTS = TOP / "scripts" / "texts"
-# (where the tools have their Python package)
-sys.path.insert(0, str(TOOLS))
+from arguments import TOP
 from gossip_tools import starting
 from gossip_tools.words import Tool
 
+TOOLS = TOP / "tools"
+# Texts in other languages, which scripts fill.
+TEXTS = TOP / "scripts" / "texts"
 PROGRAM, REPLAY = "gossip_bench", "gossip_replay"
 # The loader hides AVX2 by this, and a program that needs it doesn't start.
 OLDER = {"GLIBC_TUNABLES": "glibc.cpu.hwcaps=-AVX2"}

@@ -2,6 +2,7 @@
 import os
 import re
 import subprocess
+import sys
 import threading
 import time
 from collections import namedtuple
@@ -74,4 +75,4 @@ class Parts:
     def close(self):
         passed, failed = (sum(getattr(it, name) for it in self.outcomes) for name in ("passed", "failed"))
         print("==", *self.outcomes, f"{passed} passed, {failed} failed", sep="\n", flush=True)
-        return 1 if failed else 0
+        sys.exit(1 if failed else 0)

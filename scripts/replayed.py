@@ -18,10 +18,10 @@ def holds(kind, name, is_so):
 
 
 def end():
-    """Prints how many trials of each kind have passed, and the last line, and answers the status."""
+    """Prints how many trials of each kind have passed, and the last line, and ends the process."""
     kinds = Counter(it.partition(":")[0] for it in trials.passed)
     print(", ".join(f"{kind} {number}" for kind, number in kinds.items()))
-    return trials.end()
+    trials.end()
 
 
 def reaching(exchange):

@@ -9,11 +9,8 @@ import tempfile
 from pathlib import Path
 
 import arguments
+from arguments import TOP
 
-sys.dont_write_bytecode = True
-TOP = Path(__file__).resolve().parent.parent
-# (where the tools have their Python package)
-sys.path.insert(0, str(TOP / "tools"))
 PROGRAM = os.path.abspath(os.environ.get("GOSSIP_BENCH", TOP / "crates/gossip_bench/out/gossip_bench"))
 NO_PROGRAM = 3
 MOST_LETTERS = 2000  # of an outcome that are shown
@@ -101,9 +98,9 @@ def need_program(*others):
 
 
 def end():
-    """Prints the last line, 'N passed, M failed', and answers the status: 0 where nothing failed."""
+    """Prints the last line, 'N passed, M failed', and ends the process, with status 0 where nothing failed."""
     print(f"{len(passed)} passed, {len(failed)} failed", flush=True)
-    return 1 if failed else 0
+    sys.exit(1 if failed else 0)
 
 
 def trials_of(names):
@@ -119,4 +116,4 @@ def try_each(names, needs_program=True):
     for trial in trials_of(names):
         with Room() as room:
             trial(room)
-    return end()
+    end()

@@ -1,7 +1,7 @@
 """Trials of what all scripts share: their words, that they can be imported, the parts of scripts/gate, and of pages."""
 from installed import Missing
 from pages import without_marks
-from parts import Part, Parts, outcome_of
+from parts import Parts, outcome_of
 from toolchain import imported
 from tried.calls import run, written
 from trials import TOP, Text, holds
@@ -38,7 +38,7 @@ def try_parts(room):
     written(room / "three", "#!/bin/sh\necho 1 passed, 1 failed\necho 3 passed, 0 failed\n")
     written(room / "none", "#!/bin/sh\necho 3 passed\nkill -9 $$\n")
     parts, said = Parts(room), []
-    holds("what they say", [True, False], [parts.run(Part(it, (f"./{it}",)), said.append) for it in ("three", "none")])
+    holds("what they say", [True, False], [parts.run(it, f"./{it}", say=said.append) for it in ("three", "none")])
     holds("all of it", ["== three", "1 passed, 1 failed", "3 passed, 0 failed", "== none", "3 passed"], said)
     holds("what they came to", [(3, 0), (0, 1)], [(it.passed, it.failed) for it in parts.outcomes])
 

@@ -152,19 +152,16 @@ def try_clusters(room):
 
 
 def try_beside(room):
-    """Beside the live cluster stand the means of the bench, and the most of `greatest`, under its seeds."""
+    """Beside the live cluster stand the means of the bench under its seeds."""
     text = CLUSTER.replace("rounds = 30", "rounds = 8")
     status, out, _ = run(room, "gossip_live interval=0.1 beside=3 window=5", text=text)
-    header, *rows = csv.reader(out.splitlines())
-    holds("windows", (True, [["1", "5"], ["6", "8"]]), (status in (0, WORTHLESS), [it[:2] for it in rows]))
     reports = [run(room, PROGRAM, "run", text=text.replace("seed = 1", f"seed = {seed}"))[1] for seed in (1, 2, 3)]
-    reports = [list(csv.DictReader(it.splitlines())) for it in reports]
-    for row, (first, last) in zip(rows, ((1, 5), (6, 8))):
-        for name, places in (("entries", 0), ("cut", 0), ("stale", 0), ("greatest", 1)):
-            means = [statistics.fmean(int(it[name]) for it in report[first - 1:last]) for report in reports]
-            least, most = (f"{it(means):.{places}f}" for it in (min, max))
-            holds(f"{name} of the bench in {first} to {last}", least if least == most else f"{least} to {most}",
-                  row[header.index(f"bench_{name}")])
+    entries, wanted = [[int(it["entries"]) for it in csv.DictReader(text.splitlines())] for text in reports], []
+    for first, last in ((1, 5), (6, 8)):
+        means = [statistics.fmean(it[first - 1:last]) for it in entries]
+        wanted.append([str(first), str(last), f"{min(means):.0f} to {max(means):.0f}"])
+    found = [[it["from"], it["to"], it["bench_entries"]] for it in csv.DictReader(out.splitlines())]
+    holds("windows, with the entries of the bench", (True, wanted), (status in (0, WORTHLESS), found))
 
 
 def try_slow_machines(room):
@@ -174,17 +171,12 @@ def try_slow_machines(room):
           run(room, "gossip_live interval=0.01 fanout=39", text=text))
 
 
-def wait_for_a_row(process):
-    header, _ = process.stdout.readline(), process.stdout.readline()
-    return header
-
-
 def try_stopping(room):
     """A cluster that is stopped leaves no process, and says so in a sentence."""
     text = CLUSTER.replace("rounds = 30", "rounds = 1000").replace("nodes = 16", "nodes = 40")
     for ends in (signal.SIGINT, signal.SIGTERM, signal.SIGHUP, signal.SIGKILL):
         with started(room, "gossip_live interval=0.2", text=text) as process:
-            header = wait_for_a_row(process)
+            header, _ = process.stdout.readline(), process.stdout.readline()
             processes = children(process.pid)
             status, _, err = stopped(process, ends)
         if ends != signal.SIGKILL:
@@ -192,7 +184,7 @@ def try_stopping(room):
                   (status, header, len(processes), err, [it for it in processes if is_running(it)]))
     holds("what a cluster that was killed leaves", True, waits_for(lambda: not any(map(is_running, processes))))
     with started(room, "gossip_live interval=0.2", text=text) as process:
-        wait_for_a_row(process)
+        process.stdout.readline()
         os.kill(children(process.pid)[0], signal.SIGKILL)
         _, err = process.communicate(timeout=60)
     holds("a process with nodes that was killed", (1, True),

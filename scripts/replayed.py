@@ -10,7 +10,6 @@ from trials import TOP, Room
 from gossip_tools import scenario
 
 REPLAY = os.environ.get("REPLAY", TOP / "tools" / "replay.py")
-LARGEST = 1023  # bytes of an entry
 
 
 def holds(kind, name, is_so):
@@ -54,7 +53,7 @@ class Run:
         return (self.nodes - 1) * self.fields["keys"]
 
     def set_budget(self, entries):
-        self.fields |= {"budget": entries} if self.format == 1 else {"budget_bytes": LARGEST * entries}
+        self.fields |= {"budget": entries} if self.format == 1 else {"budget_bytes": scenario.LARGEST * entries}
 
     def text(self):
         arrays = (scenario.sections(it, getattr(self, it)) for it in ("load", "restart", "partition"))

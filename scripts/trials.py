@@ -8,11 +8,9 @@ import sys
 import tempfile
 from pathlib import Path
 
-import arguments
-from arguments import TOP
+from arguments import TOP, take_none
 
 PROGRAM = os.path.abspath(os.environ.get("GOSSIP_BENCH", TOP / "crates/gossip_bench/out/gossip_bench"))
-NO_PROGRAM = 3
 MOST_LETTERS = 2000  # of an outcome that are shown
 passed, failed = [], []
 
@@ -86,9 +84,9 @@ def all_hold(name, trials):
 
 
 def stop(why):
-    """Ends the process where what is to be tried isn't there."""
+    """Ends the process with status 3, as what is to be tried isn't there."""
     print(f"{Path(sys.argv[0]).name}: {why}", file=sys.stderr)
-    sys.exit(NO_PROGRAM)
+    sys.exit(3)
 
 
 def need_program(*others):
@@ -110,7 +108,7 @@ def trials_of(names):
 
 def try_each(names, needs_program=True):
     """Makes the trials that a script has, which takes no words, each in a room of its own."""
-    arguments.take_none(names["__doc__"])
+    take_none(names["__doc__"])
     if needs_program:
         need_program()
     for trial in trials_of(names):

@@ -2,7 +2,6 @@
 import csv
 import hashlib
 import html
-import operator
 import pathlib
 import re
 import shlex
@@ -13,6 +12,8 @@ from collections import Counter
 
 from tried.calls import program_that, refuse, refuses, run, started, stopped, tells, waits_for
 from trials import PROGRAM, Text, holds
+from gossip_tools.measures import span
+from gossip_tools.rules import is_better, seed_by_seed
 
 
 # The seeds that choose, the first of them, and those that bound how old a copy gets and what heals.
@@ -32,16 +33,6 @@ def worst(folder, budget, first, last, seeds=CHOOSE, mode="scuttle-depth"):
 
 def budgets_of(folder):
     return sorted({int(it.name.split(".")[0].partition("-")[2]) for it in folder.glob("budget-*.csv")})
-
-
-def held(one, other):
-    return sum(map(operator.lt, one, other)), sum(map(operator.gt, one, other))
-
-
-def is_better(one, other):
-    """"At least 15 of 20 seeds say so and not more than 2 the other way", and of six as large a part."""
-    less, more = held(one, other)
-    return less >= 0.75 * len(one) and more <= 0.1 * len(one)
 
 
 def healed(folder, budget):
@@ -64,15 +55,11 @@ def healed(folder, budget):
     return after, gone, len(restarts)
 
 
-def spanned(figure):
-    return f"{min(figure)} to {max(figure)}" if min(figure) < max(figure) else f"{max(figure)}"
-
-
 def took(name, what, ends, seeds):
     """A line on what heals, by what each seed took, a round being a second: one in 21 of 63 is above the third."""
     most = sorted(seeds)[-3]
     return (f"\n  {name:<19} {what}: {ends} after at most {most} round{'s' if most > 1 else ''}, {most} s, in 20 of 21 "
-            f"cases ({spanned(seeds)} under 62 seeds)\n")
+            f"cases ({span(seeds)} under 62 seeds)\n")
 
 
 def advised(room, *words, **how):
@@ -152,9 +139,9 @@ def try_reserve(room):
     others = [worst(many, 48, 101, 200, FIRST, it) for it in ("scuttle-breadth", "precise-oldest", "precise-newest")]
     taken = min(budget for budget, it in figures.items()
                 if not any(is_better(other, it) for other in (*figures.values(), *others)))
-    less, more = held(figures[48], figures[taken])
-    reserve = (f"With 48 entries (2 times nodes * writes) it is {spanned(figures[48])} rounds in the runs that chose, "
-               f"where the budget has {spanned(figures[taken])}: no better (less under {less} of 20 seeds, more under "
+    less, more, _ = seed_by_seed(figures[48], figures[taken])
+    reserve = (f"With 48 entries (2 times nodes * writes) it is {span(figures[48])} rounds in the runs that chose, "
+               f"where the budget has {span(figures[taken])}: no better (less under {less} of 20 seeds, more under "
                f"{more}). So packet={40 * taken} is enough, and what is above that is a reserve")
     for name, told in (("first", first), ("last", said)):
         tells(f"the {name} answer", told, reserve,
@@ -163,16 +150,16 @@ def try_reserve(room):
     older = f"n 20 of 21 runs of 360 rounds (360 s) no copy is older than {max(figure)} rounds, {max(figure)} s"
     tells("what bounds it, at first", first, f"\nI{older}.\n")
     tells("what bounds it", said, f"\n  worst staleness     i{older}: the most of `greatest` in rounds 101 to 460 "
-          f"under 20 seeds, others than those that chose, which had {spanned(figure)}\n")
+          f"under 20 seeds, others than those that chose, which had {span(figure)}\n")
     holds("the seeds that choose aren't those that bound", [set(CHOOSE), set(BOUND)], [
         {int(it.name.split(".")[1].partition("-")[2]) for it in folder.glob("*.csv")} for folder in (many, bound)])
     # (24 * 6 entries never cut)
     holds("the floor is of runs that cut nothing", {0},
           {it for rows in column(bound, "budget-144", "cut", BOUND[:4]) for it in rows})
     best = worst(bound, 144, 101, 460, BOUND[:4])
-    tells("the floor", said, f"\n  the floor           no mode and no budget does better than {spanned(best)} rounds, "
-          f"{spanned(best)} s, with these peers and losses; the chosen one had "
-          f"{'that' if best == figure[:4] else spanned(figure[:4])} under the same 4 seeds\n")
+    tells("the floor", said, f"\n  the floor           no mode and no budget does better than {span(best)} rounds, "
+          f"{span(best)} s, with these peers and losses; the chosen one had "
+          f"{'that' if best == figure[:4] else span(figure[:4])} under the same 4 seeds\n")
     holds("nothing that heals is run where none is asked for", ({"many", "many-bound"}, False),
           ({it.parent.name for it in (room / "reserve").glob("*/scenario")}, "a split" in out or "a restart" in out))
     # (the name that a packet had before)
@@ -211,7 +198,7 @@ def try_target(room):
     shares = [100 * sum(it[100:200]) / 100 / 3312 for it in column(many, of_least, "stale", FIRST)]
     half = [next(at for at in range(1, 9) if 2 * it[199 + at] <= it[199])
             for it in column(stop, of_least, "stale", FIRST)]
-    stale, typical = (spanned([round(it) for it in figure]) for figure in (shares, half))
+    stale, typical = (span([round(it) for it in figure]) for figure in (shares, half))
     tells("how many copies are stale, and how old a typical one is", out, f"  stale copies        {stale} %: ",
           f"  a typical one       {typical} round")
     holds("no write in the 8 rounds after 200", True,
@@ -234,20 +221,16 @@ def try_target(room):
 
 
 def try_calls(room):
-    """Three calls in an interval: a third of 12 entries is enough, an interval has three rounds, and only the first of
-    them writes. The first 200 intervals are the rounds up to 600. 180 s are 300 intervals, behind the first 100."""
+    """Three calls in an interval: a third of 12 entries is enough, and an interval has three rounds. 180 s are 300
+    intervals, behind the first 100."""
     words = "nodes=12 keys=2 writes=1 entry=40 packet=160 count=entries fanout=3 interval=0.6".split()
     _, _, out = advised(room, "-o", "calls", *words, "hours=0.05", "mode=scuttle-depth")
     figure = worst(room / "calls" / "many", 4, 301, 600)
     bound = worst(room / "calls" / "many-bound", 4, 301, 1200, BOUND)
     holds("three calls", "First answer, from 200 intervals of 3 rounds: scuttle-depth with room for 4 entries in a "
           "delta, 160 bytes (what fits; nodes * writes / 3); packet=160.", out.partition("\n")[0])
-    tells("three calls", out, f"\nWorst staleness {spanned(figure)} rounds, ", "\nIn 20 of 21 runs of 900 rounds (300 "
+    tells("three calls", out, f"\nWorst staleness {span(figure)} rounds, ", "\nIn 20 of 21 runs of 900 rounds (300 "
           f"intervals, 180 s) no copy is older than {max(bound)} rounds, ")
-    scenario = (room / "calls" / "many" / "scenario").read_text()
-    printed = run(room, "gossip_scenario", *words[:-1], "rounds=600")[1]
-    holds("the rounds without writes are those of gossip_scenario", printed.partition("[[load]]")[2],
-          scenario.partition("[[load]]")[2])
 
 
 def try_hopeless_advice(room):
@@ -293,7 +276,7 @@ def try_longer_runs(room):
           "\nWhether it levels off later is seen from 400 and then 800 rounds, and no more.\n")
     tells("what the longer runs say", said, "Take scuttle-depth, but packet=200 is too small: with room for 5 entries "
           "in a delta, 200 bytes (what fits; 0.21 times nodes * writes), the worst copy was "
-          f"{spanned(long)} rounds, {spanned(long)} s, behind, and with packet=960 {spanned(at_knee)} rounds.\n",
+          f"{span(long)} rounds, {span(long)} s, behind, and with packet=960 {span(at_knee)} rounds.\n",
           "\n  worst staleness     in 20 of 21 runs of 360 rounds (360 s) no copy is older than "
           f"{max(bound)} rounds, {max(bound)} s: ", " in rounds 201 to 560 under 20 seeds, others ",
           "\n  a rolling restart   ")

@@ -6,9 +6,7 @@ from pathlib import Path
 
 sys.dont_write_bytecode = True
 TOP = Path(__file__).resolve().parent.parent
-# (where the tools have their Python package)
 sys.path.insert(0, str(TOP / "tools"))
-# What all scripts of trials say of themselves.
 OF_TRIALS = """
 Each trial that fails has a line, and the last line is 'N passed, M failed'. Status: 0 where all hold, 1 where one
 doesn't, 2 for other words, 3 where what is to be tried isn't there. Where the program or replay.py is tried, it is the

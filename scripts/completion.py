@@ -5,7 +5,6 @@ from dataclasses import dataclass, field
 from installed import PROGRAM, text_with
 from gossip_tools import scenario, sweep
 
-# The fields that a sweep takes, with the words that a scenario has for some of them.
 FIELDS = {"format": [*map(str, scenario.FORMATS)], **dict.fromkeys(scenario.LIMITS, ()), **scenario.WORDS}
 # What fish asks of the word that it completes.
 NAMED = 'string match -q "{}=*" -- (commandline -ct)'

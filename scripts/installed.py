@@ -10,7 +10,6 @@ from gossip_tools import starting
 from gossip_tools.words import Tool
 
 TOOLS = TOP / "tools"
-# Texts in other languages, which scripts fill.
 TEXTS = TOP / "scripts" / "texts"
 PROGRAM, REPLAY = "gossip_bench", "gossip_replay"
 # The loader hides AVX2 by this, and a program that needs it doesn't start.

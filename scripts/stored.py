@@ -1,7 +1,7 @@
 """The texts that crates/acceptance stores of its cases."""
-from trials import TOP
+from trials import CRATES
 
-CRATE = TOP / "crates" / "acceptance"
+CRATE = CRATES / "acceptance"
 DATA = CRATE / "data"
 MODES = (DATA / "modes.txt").read_text().split()
 

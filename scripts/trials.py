@@ -10,7 +10,8 @@ from pathlib import Path
 
 from arguments import TOP, take_none
 
-PROGRAM = os.path.abspath(os.environ.get("GOSSIP_BENCH", TOP / "crates/gossip_bench/out/gossip_bench"))
+CRATES = TOP / "crates"
+PROGRAM = os.path.abspath(os.environ.get("GOSSIP_BENCH", CRATES / "gossip_bench/out/gossip_bench"))
 MOST_LETTERS = 2000  # of an outcome that are shown
 passed, failed = [], []
 

@@ -130,8 +130,7 @@ def try_advice(room):
 
 def try_reserve(room):
     """Room for 60 entries, where 24 nodes write one of 6 keys: 24 are taken, if no budget from there on is better, nor
-    another mode, seed by seed. Choice, bound and floor are made here once more from the reports. 360 rounds, of a
-    second each, are a tenth of an hour."""
+    another mode, seed by seed. Choice, bound and floor are made here once more from the reports."""
     words = "nodes=24 keys=6 writes=1 entry=40 packet=2400 count=entries split=0 restarts=0 hours=0.1".split()
     first, said, out = advised(room, "-o", "reserve", *words)
     many, bound = room / "reserve" / "many", room / "reserve" / "many-bound"
@@ -172,10 +171,9 @@ def try_reserve(room):
 
 
 def try_target(room):
-    """The smallest budget of 24 nodes with 6 keys that keeps the worst staleness within 4 s, or 8 rounds of
-    half a second, under all 20 seeds that bound it: counted once more from the reports. A delta of n entries of 40
-    bytes and a digest of 24 numbers of 10 bytes take n * 40 + 240 bytes. 24 * 23 * 6 are 3312 copies. 144 rounds are
-    72 s."""
+    """The smallest budget of 24 nodes with 6 keys that keeps the worst staleness within 4 s, or 8 rounds of half a
+    second, under all 20 seeds that bound it: counted once more from the reports. A delta of n entries and a digest take
+    n * 40 + 24 * 10 bytes. 24 * 23 * 6 are 3312 copies."""
     words = "nodes=24 keys=6 writes=1 entry=40 digest=10 interval=0.5 count=entries loss=1 hours=0.02".split()
     _, _, out = advised(room, "-o", "target", "target=4", *words, "mode=scuttle-depth")
     many, stop, bound = (room / "target" / it for it in ("many", "many-stop", "many-bound"))
@@ -234,9 +232,8 @@ def try_calls(room):
 
 
 def try_hopeless_advice(room):
-    """Two entries for 24 nodes that write one of 20 keys each: some write of the first rounds is missing for more than
-    400 rounds. By a sum it is 23 * 20 / (2 * 2) - 20 at least. So it ends after 800 rounds, without what heals, and
-    names the 24 * 40 bytes and the call for that."""
+    """Two entries for 24 nodes that write one of 20 keys each: some write is missing for more than 400 rounds, by a sum
+    23 * 20 / (2 * 2) - 20 at least. So it ends after 800, and names the 24 * 40 bytes and the call for what heals."""
     words = ("nodes=24 keys=20 writes=1 entry=40 packet={} digest=10 shared=no restarts=4 mode=scuttle-depth "
              "count=entries hours=0.1")
     first, said, _ = advised(room, *words.format(80).split(), "-o", "no hope")

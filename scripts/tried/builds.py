@@ -134,10 +134,6 @@ def try_kept(room):
     builds("a program that was written over", toy, ["gossip_bench"])
     (toy.top / "crates/left/out/proved/left.rlib/statements").write_text("pub fn others()\n")
     builds("a library that was written over", toy, ["left"])
-    toy.copy(room / "copy")
-    builds("a copy with older times", toy, [])
-    toy.source("low").write_text("// low\npub fn low()\n")
-    builds("an older text in the copy", toy, CRATES)
 
 
 def try_changes_under_way(room):
@@ -252,7 +248,6 @@ def try_full_disks(room):
               toy.build(before=small_files(most))[:2])
     holds("no room for a build", (3, "", Text(BUILDING, why, lines=3)),
           toy.call("gossip_bench", "run", before=small_files(20)))
-    # (its seconds were being noted)
     (toy.top / "crates/low/out/seconds").write_text("")
     starts("with room", toy, "run", builds=True)
     kept = {it: it.read_bytes() for it in (toy.program.with_name(name) for name in ("seen", "built_from"))}
@@ -282,8 +277,6 @@ def try_words(room):
         builds(f"{word} once more", toy, [], word)
         builds(f"{word} without the word", toy, [])
         holds(f"the program after {word}", f"# for {kind}", toy.program.read_text().splitlines()[1])
-    holds("--help", (0, Text("build [portable | native]: proves and builds"), ""),
-          toy.call("scripts/build", "--help", with_rt=False))
     for words in (("walk",), ("portable", "native"), ("--portable",)):
         holds(f"build {' '.join(words)}", (2, "", Text("build: ", lines=1)), toy.call("scripts/build", *words))
     holds("words that are refused prove nothing", [], toy.proved())

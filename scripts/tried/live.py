@@ -38,47 +38,38 @@ def columns(entry):
     return entry.owner, entry.key, entry.mark >> 32, entry.mark % 2**32, entry.value, entry.born
 
 
-class Follower:
-    """Nodes that do what a trace says, without a network: what they send and hold, as replay.py tells it, and the rows
-    of the report, as gossip_live counts them."""
+def exchanged(row, nodes, under_way):
+    """Carries out an exchange of a trace, and answers its lines of the file --sent."""
+    nodes[int(row["initiator"])].begin(int(row["responder"]))
+    for message, direction in enumerate(("forth", "back", "forth"), 1):
+        (receiver, datagram), is_lost = under_way.pop(), row["fate"] == f"lost{message}"
+        came, arrived = decoded(datagram), "no" if is_lost else "yes"
+        yield from ([row["round"], row["index"], direction, came.sender, receiver, arrived, *columns(it)]
+                    for it in came.delta)
+        if is_lost:
+            return
+        nodes[receiver].receive(datagram)
 
-    def __init__(self, plan):
-        self.plan, self.sent, self.tables, self.rows, self.put = plan, [], [], [], []
-        self.nodes = [Node(it, plan, lambda *what: self.put.append(what)) for it in range(plan.nodes)]
-        self.figures = Figures(plan)
 
-    def follow(self, trace):
-        for round in range(1, self.plan.rounds + 1):
-            writes = []
-            for node in self.nodes:
-                if restarts := self.plan.restarts_in(node.number, round):
-                    node.restart(any(it.get("forget") for it in restarts))
-                if not self.plan.is_down(node.number, round):
-                    writes += [node.write(round) for _ in range(self.plan.writes_in(round))]
-            for row in trace:
-                if int(row["round"]) == round:
-                    self.exchange(row)
-            self.tables += [[round, node.number, *columns(it)] for node in self.nodes
-                            for part in node.table.values() for it in part.values()]
-            entries, cut = sum(it.entries for it in self.nodes), sum(it.cut for it in self.nodes)
-            generations = {it.number: it.generation for it in self.nodes}
-            marks = {it.number: marks_of(it, self.plan) for it in self.nodes}
-            told = Told(entries, cut, timers=0, late=0, lag=0, writes=writes, generations=generations, marks=marks)
-            self.rows.append(self.figures.row(round, [told]))
-
-    def exchange(self, row):
-        self.nodes[int(row["initiator"])].begin(int(row["responder"]))
-        for message in (1, 2, 3):
-            is_lost = row["fate"] == f"lost{message}"
-            (receiver, datagram), = self.put
-            self.put.clear()
-            came, direction = decoded(datagram), "back" if message == 2 else "forth"
-            arrived = "no" if is_lost else "yes"
-            self.sent += [[int(row["round"]), int(row["index"]), direction, came.sender, receiver, arrived,
-                           *columns(it)] for it in came.delta]
-            if is_lost:
-                return
-            self.nodes[receiver].receive(datagram)
+def followed(plan, trace):
+    """What nodes send and hold that follow a trace, as replay.py tells it, and the report, as gossip_live counts it."""
+    sent, tables, rows, under_way, figures = [], [], [], [], Figures(plan)
+    nodes = [Node(it, plan, lambda *what: under_way.append(what)) for it in range(plan.nodes)]
+    for round in range(1, plan.rounds + 1):
+        writes = []
+        for node in nodes:
+            if restarts := plan.restarts_in(node.number, round):
+                node.restart(any(it.get("forget") for it in restarts))
+            if not plan.is_down(node.number, round):
+                writes += [node.write(round) for _ in range(plan.writes_in(round))]
+        sent += [it for row in trace if int(row["round"]) == round for it in exchanged(row, nodes, under_way)]
+        tables += [[round, node.number, *columns(it)] for node in nodes for part in node.table.values()
+                   for it in part.values()]
+        told = Told(sum(it.entries for it in nodes), sum(it.cut for it in nodes), timers=0, late=0, lag=0,
+                    writes=writes, generations={it.number: it.generation for it in nodes},
+                    marks={it.number: marks_of(it, plan) for it in nodes})
+        rows.append(figures.row(round, [told]))
+    return sent, sorted(tables), rows
 
 
 def try_following_traces(room):
@@ -88,14 +79,14 @@ def try_following_traces(room):
         text, name = mishaps(mode, form), f"{mode} in format {form}"
         words = "run --trace trace --sent sent --tables tables".split()
         status, out, _ = run(room, "replay.py", *words, text=text)
-        follower = Follower(live.plan_of(text, live.told([])))
-        follower.follow(list(csv.DictReader((room / "trace").read_text().splitlines())))
-        for file, found in (("sent", follower.sent), ("tables", sorted(follower.tables))):
+        trace = list(csv.DictReader((room / "trace").read_text().splitlines()))
+        sent, tables, figures = followed(live.plan_of(text, live.told([])), trace)
+        for file, found in (("sent", sent), ("tables", tables)):
             _, *rows = csv.reader((room / file).read_text().splitlines())
             holds(f"{file} of {name}", (0, rows), (status, [[str(it) for it in row] for row in found]))
             holds(f"there is much in {file} of {name}", True, len(rows) > 1000)
         report = list(csv.DictReader(out.splitlines()))
-        found = [{name: str(row[name]) for name in report[0] if name in row} for row in follower.rows]
+        found = [{name: str(row[name]) for name in report[0] if name in row} for row in figures]
         wanted = [{name: row[name] for name in it} for row, it in zip(report, found)]
         holds(f"the report of {name}", (24, wanted), (len(report), found))
 
@@ -192,16 +183,6 @@ def try_stopping(room):
 
 
 def try_faults(room):
-    with open("/dev/full", "w") as full:
-        fails(room, "No space left on device", 1, "gossip_live interval=0.1", text=CLUSTER, out=full)
-    with started(room, "gossip_live interval=0.1", text=CLUSTER) as process:
-        process.stdout.readline()
-        process.stdout.close()
-        holds("a reader that has ended", (1, "gossip_live: nobody reads the output any more.\n"),
-              (process.wait(timeout=60), process.stderr.read()))
-    with open(os.devnull, "w") as nowhere:
-        for closed, why in ((0, "standard input: it is closed"), (1, "the output: it is closed")):
-            fails(room, why, 1, "gossip_live interval=0.1", text=CLUSTER, out=nowhere, before=lambda: os.close(closed))
     half = program_that(room, "half", "echo half")
     fails(room, "printed no whole report", 1, "gossip_live beside=1", text=CLUSTER, GOSSIP_BENCH=half)
     faulty = program_that(room, "faulty", "echo fault 1: out of memory >&2; exit 1")

@@ -9,7 +9,6 @@ from toolchain import imported
 from tried.calls import run, written
 from trials import TOP, Text, holds, text_of
 
-# The last line and the status of a part, and how many of its trials have passed and failed.
 ENDINGS = {
     ("3 passed, 0 failed", 0): (3, 0), ("3 passed, 2 failed", 1): (3, 2), ("3 passed, 0 failed", 3): (3, 1),
     ("3 passed, 0 failed", -9): (3, 1), ("", 0): (1, 0), ("", 1): (0, 1), ("no program", 3): (0, 1),

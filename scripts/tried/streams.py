@@ -16,7 +16,6 @@ INPUT, OUTPUT, ERROR = range(3)
 TEXTS = (str(SMALL / "two_nodes.report.csv"), str(SMALL / "two_nodes.trace.csv"))
 LARGE = "nodes=300 keys=4 writes=1 entry=40 packet=60000"
 CLUSTER = ("nodes=8", "keys=1", "writes=1", "entry=40", "packet=4000", "split=0", "restarts=0")
-# Calls that print something.
 CALLS = {
     "gossip_sweep": ("budget=1",), "gossip_read": ("window", "1", "2", "runs"), "gossip_scenario": CLUSTER[:5],
     "gossip_advise": ("-o", "advice", *CLUSTER), "gossip_restarts": ("3", "1", "1", "1", "0"),

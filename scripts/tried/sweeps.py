@@ -12,10 +12,10 @@ from tried.calls import (
     takes_signal, waits_for, written,
 )
 from trials import PROGRAM, TOP, Text, holds, text_of
+from gossip_tools.scenario import MODES
 
 LONG = "x" * 5000
 WRONG_HOSTS = ("x/alpha", "/", "é", "-oProxyCommand=true", "a b", "8/", "0/alpha", "8/-o", "me@", "me@-o", "alpha\n")
-# Words, a text, and the fault that the program has in a run of them.
 FAULTS = (
     ("budget=1,0", COMPARED, "fault 6: field budget"), ("mode=breadth", COMPARED, "fault 6: field mode"),
     ("format=2", COMPARED, "fault 4: missing field budget_bytes"),
@@ -63,12 +63,10 @@ def try_long_scenarios(room):
 
 def try_runs(room):
     gives(room, "4 runs in runs\n", "gossip_sweep budget=1")
-    rows = {
-        "scuttle-breadth": "1,2,0,0,4,6,2,1\n2,2,0,0,4,2,0,0\n", "scuttle-depth": "1,2,0,0,4,6,2,1\n2,2,0,0,4,2,0,0\n",
-        "precise-oldest": "1,2,0,0,4,6,2,1\n2,2,0,0,4,2,0,0\n", "precise-newest": "1,2,0,0,4,6,2,1\n2,2,0,0,2,0,0,0\n",
-    }
-    for mode, wanted in rows.items():
-        holds(f"{mode} in runs", HEADER + wanted, (room / "runs" / f"budget-1.mode-{mode}.csv").read_text())
+    for mode in MODES:
+        last = "2,2,0,0,2,0,0,0\n" if mode == "precise-newest" else "2,2,0,0,4,2,0,0\n"
+        holds(f"{mode} in runs", f"{HEADER}1,2,0,0,4,6,2,1\n{last}",
+              (room / "runs" / f"budget-1.mode-{mode}.csv").read_text())
     # (the ring of four in bytes, worked out in docs/model.md)
     ring = (TOP / "examples" / "ring_of_four.toml").read_text()
     ring = ring.replace("format = 1", "format = 2").replace("budget = 1", "budget_bytes = 5000")
@@ -108,11 +106,6 @@ def try_what_is_kept(room):
           "1,precise-newest,50.00,9,9,9,9\n65535,precise-newest,0.00,0,0,0,0\n", "gossip_read window 2 2")
     gives(room, "budget,mode,round,took\n1,scuttle-breadth,2,2\n1,scuttle-depth,2,2\n1,precise-oldest,2,2\n"
           "1,precise-newest,never,never\n65535,precise-newest,1,1\n", "gossip_read level 1 0")
-    kept.unlink()
-    gives(room, "2 runs in runs\n", "gossip_sweep budget=1,65535 mode=precise-newest")
-    gives(room, "budget,mode,percent_cut,greatest_least,greatest_most,stale_least,stale_most\n"
-          "1,scuttle-breadth,50.00,0,1,0,2\n1,scuttle-depth,50.00,0,1,0,2\n1,precise-oldest,50.00,0,1,0,2\n"
-          "1,precise-newest,50.00,0,1,0,2\n65535,precise-newest,0.00,0,0,0,0\n", "gossip_read window 1 2")
 
 
 def try_missing(room):
@@ -189,7 +182,6 @@ def try_stopping(room):
         # (parts that are left go with the next sweep)
         parts = [] if ends == signal.SIGKILL else list(room.glob("stopped/.*.part"))
         holds(f"what {ends.name} leaves", ([], []), (parts, list(room.glob("stopped/*.csv"))))
-    # (it waits for its scenario)
     reader, writer = os.pipe()
     with started(room, "gossip_sweep", *sweep, given=reader) as process:
         waits_for(lambda: takes_signal(process.pid, signal.SIGTERM))

@@ -48,7 +48,6 @@ def installs(room, folder, *said, **variables):
 
 def try_install(room):
     (room / "bin").mkdir()
-    # (a folder that isn't there is made)
     there, made = str(room / "bin"), str(room / "a new" / "bin")
     installs(room, there, f"{there}/gossip_bench\n", PATH=f"{there}:{os.environ['PATH']}")
     for folder in (there, made):

@@ -1,6 +1,5 @@
 """Trials of what a sweep keeps beside its reports: the check sums of each and of its scenario, and of the program."""
 import hashlib
-import shutil
 
 from tried.calls import COMPARED, gives, program_that, refuses, run
 from trials import PROGRAM, Text, holds
@@ -63,28 +62,21 @@ def try_reports_of_other_runs(room):
     """A report that another run made, or that was made of another scenario, never counts, whatever stands beside it."""
     gives(room, "2 runs in kept\n", "gossip_sweep", *MORE, text=APART)
     folder, other = room / "kept", "budget-2.mode-precise-newest"
-    scenario = folder / f"{NAME}.toml"
     before = {it.name: it.read_bytes() for it in folder.glob("budget-*")}
-
-    def copied():
-        for ending in ("csv", "sum"):
-            shutil.copy(folder / f"{other}.{ending}", folder / f"{NAME}.{ending}")
-
-    def renamed():
-        copied()
-        beside = folder / f"{NAME}.sum"
-        beside.write_text(beside.read_text().replace(other, NAME))
-
-    def edited():
-        scenario.write_text(scenario.read_text().replace("seed = 0", "seed = 1"))
-
-    for change in (copied, renamed, edited):
-        change()
+    report, its_sum = (before[f"{other}.{ending}"] for ending in ("csv", "sum"))
+    changes = {
+        "copied": {"csv": report, "sum": its_sum},
+        "renamed": {"csv": report, "sum": its_sum.replace(other.encode(), NAME.encode())},
+        "edited": {"toml": before[f"{NAME}.toml"].replace(b"seed = 0", b"seed = 1")},
+    }
+    for change, texts in changes.items():
+        for ending, text in texts.items():
+            (folder / f"{NAME}.{ending}").write_bytes(text)
         why = f"{NAME} (its scenario's check sum isn't that of {NAME}.sum)"
         refuses(room, f"1 of 2 runs are missing: {why}. The same sweep makes", "gossip_read level 1 0 kept")
         why = Text(f"gossip_sweep: {NAME} is run again, as ", lines=1)
         outcome = run(room, "gossip_sweep", *MORE, text=APART)
-        holds(f"what was {change.__name__} is made again", ((0, "2 runs in kept\n", why), before),
+        holds(f"what was {change} is made again", ((0, "2 runs in kept\n", why), before),
               (outcome, {it.name: it.read_bytes() for it in folder.glob("budget-*")}))
     # (what was run is what the sweep has of the scenario, whatever the file has meanwhile)
     change = program_that(room, "change", f'echo "#" >>"changed/{NAME}.toml"\nexec "{PROGRAM}" run')

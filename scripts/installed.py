@@ -5,7 +5,7 @@ import subprocess
 import sys
 from pathlib import Path
 
-from arguments import TOP
+from shared import TOP
 from gossip_tools import starting
 from gossip_tools.words import Tool
 

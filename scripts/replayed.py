@@ -5,22 +5,22 @@ import os
 import sys
 from collections import Counter, defaultdict
 
-import trials
-from trials import TOP, Room
+import shared
+from shared import TOP, Room
 from gossip_tools import scenario
 
 REPLAY = os.environ.get("REPLAY", TOP / "tools" / "replay.py")
 
 
 def holds(kind, name, is_so):
-    trials.holds(f"{kind}: {name}", True, is_so)
+    shared.holds(f"{kind}: {name}", True, is_so)
 
 
 def end():
     """Prints how many trials of each kind have passed, and the last line, and ends the process."""
-    kinds = Counter(it.partition(":")[0] for it in trials.passed)
+    kinds = Counter(it.partition(":")[0] for it in shared.passed)
     print(", ".join(f"{kind} {number}" for kind, number in kinds.items()))
-    trials.end()
+    shared.end()
 
 
 def reaching(exchange):
@@ -62,7 +62,7 @@ class Run:
     def replay(self):
         with Room() as room:
             words = ["run", "--trace", room / "trace", "--tables", room / "tables"]
-            status, out, err = trials.ran(sys.executable, REPLAY, *words, given=self.text())
+            status, out, err = shared.ran(sys.executable, REPLAY, *words, given=self.text())
             if status:
                 sys.exit(err)
             texts = out, (room / "trace").read_text(), (room / "tables").read_text()

@@ -11,7 +11,7 @@ import tomllib
 from collections import Counter
 
 from tried.calls import program_that, refuse, refuses, run, started, stopped, tells, waits_for
-from trials import PROGRAM, Text, holds
+from shared import PROGRAM, Text, holds
 from gossip_tools.measures import span
 from gossip_tools.rules import is_better, seed_by_seed
 

@@ -8,11 +8,11 @@ import sys
 
 from toolchain import NEWER, has_newer
 from tried.calls import run, started, stopped, waits_for, written
-from trials import TOP, Text, holds, small_files
+from shared import TOP, Text, holds, small_files
 
 # The crates, with those that each stands on, and what is needed of scripts.
 CRATES = {"low": "", "left": "low", "right": "low", "gossip_bench": "left right"}
-COPIED = ("gossip_bench", "scripts/build", "scripts/toolchain.py", "scripts/arguments.py")
+COPIED = ("gossip_bench", "scripts/build", "scripts/toolchain.py", "scripts/shared.py")
 COMMANDS = ("sh", "env", "python3", "find", "cksum", "sort", "cat", "dirname", "readlink", "mv", "rm", "sleep")
 LONG_AGO = 1_000_000_000
 # What is said of a proof that takes long, as each may on a busy machine.

@@ -6,7 +6,7 @@ import subprocess
 import tempfile
 import time
 
-from trials import PROGRAM, TOP, Text, holds, text_of
+from shared import PROGRAM, TOP, Text, holds, text_of
 
 GUIDE = TOP / "examples" / "guide"
 TOOLS = TOP / "tools"

@@ -6,7 +6,7 @@ from pathlib import Path
 
 from toolchain import imported, load_reader
 from tried.calls import tells
-from trials import TOP, holds, text_of
+from shared import TOP, holds, text_of
 
 NEEDED = "rt"  # which reads the crate, and applies its edits
 SOURCE, ANSWERS = text_of("toy_lib.txt"), text_of("toy_answers.txt")

@@ -2,7 +2,7 @@
 import hashlib
 
 from tried.calls import COMPARED, gives, program_that, refuses, run
-from trials import PROGRAM, Text, holds
+from shared import PROGRAM, Text, holds
 
 # Two nodes that are apart throughout: each lacks the three keys of the other, since round 1.
 APART = COMPARED.replace("rounds = 2", "rounds = 12") + "[[partition]]\nfrom = 1\nto = 12\napart = [0]\n"

@@ -8,7 +8,7 @@ import statistics
 from concurrent.futures import ThreadPoolExecutor
 
 from tried.calls import fails, is_running, program_that, refuse, refuses, run, started, stopped, waits_for
-from trials import PROGRAM, Text, holds
+from shared import PROGRAM, Text, holds
 from gossip_tools import live
 from gossip_tools.live_figures import Figures
 from gossip_tools.live_node import Node, decoded

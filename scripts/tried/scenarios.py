@@ -2,7 +2,7 @@
 import tomllib
 
 from tried.calls import gives, refuse, run
-from trials import PROGRAM, holds, text_of
+from shared import PROGRAM, holds, text_of
 
 SHARED = "nodes=1000 keys=4 writes=1 entry=40 packet=64000 digest=20"
 MEAN = "nodes=1000 keys=4 writes=1 entry=40.5 packet=60750"

@@ -7,7 +7,7 @@ from pages import without_marks
 from parts import Parts, outcome_of
 from toolchain import imported
 from tried.calls import run, written
-from trials import TOP, Text, holds, text_of
+from shared import TOP, Text, holds, text_of
 
 ENDINGS = {
     ("3 passed, 0 failed", 0): (3, 0), ("3 passed, 2 failed", 1): (3, 2), ("3 passed, 0 failed", 3): (3, 1),

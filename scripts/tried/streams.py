@@ -10,7 +10,7 @@ import installed
 from tried.calls import (
     GUIDE, SMALL, TOOLS, fails, gives, program_that, run, started, stopped, waits_for, written,
 )
-from trials import PROGRAM, Text, holds, small_files
+from shared import PROGRAM, Text, holds, small_files
 
 INPUT, OUTPUT, ERROR = range(3)
 TEXTS = (str(SMALL / "two_nodes.report.csv"), str(SMALL / "two_nodes.trace.csv"))

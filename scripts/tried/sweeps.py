@@ -11,7 +11,7 @@ from tried.calls import (
     COMPARED, HEADER, LACKING, fails, gives, is_running, program_that, refuse, refuses, run, started, stopped,
     takes_signal, waits_for, written,
 )
-from trials import PROGRAM, TOP, Text, holds, text_of
+from shared import PROGRAM, TOP, Text, holds, text_of
 from gossip_tools.scenario import MODES
 
 LONG = "x" * 5000

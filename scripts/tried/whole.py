@@ -7,7 +7,7 @@ import unittest
 import installed
 from gossip_tools import VERSION
 from tried.calls import COMPARED, GUIDE, LACKING, SMALL, TOOLS, gives, refuses, run, written
-from trials import PROGRAM, TOP, Text, holds, passed, ran
+from shared import PROGRAM, TOP, Text, holds, passed, ran
 
 INSTALL = TOP / "scripts" / "install"
 # What may be said of the program that is installed.

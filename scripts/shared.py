@@ -1,4 +1,6 @@
-"""What the scripts of trials share: the program that is tried, how a command is run, the tally and its last line."""
+"""What scripts share: where the repository is, how their words are taken, the program that is tried, how a command is
+run, the texts that crates/acceptance stores, the tally of trials and its last line."""
+import argparse
 import os
 import re
 import resource
@@ -8,12 +10,56 @@ import sys
 import tempfile
 from pathlib import Path
 
-from arguments import TOP, take_none
-
+sys.dont_write_bytecode = True
+TOP = Path(__file__).resolve().parent.parent
+sys.path.insert(0, str(TOP / "tools"))
 CRATES = TOP / "crates"
+STORED = CRATES / "acceptance" / "data"
 PROGRAM = os.path.abspath(os.environ.get("GOSSIP_BENCH", CRATES / "gossip_bench/out/gossip_bench"))
 MOST_LETTERS = 2000  # of an outcome that are shown
+OF_TRIALS = """
+Each trial that fails has a line, and the last line is 'N passed, M failed'. Status: 0 where all hold, 1 where one
+doesn't, 2 for other words, 3 where what is to be tried isn't there. Where the program or replay.py is tried, it is the
+one that GOSSIP_BENCH or REPLAY names, if they are set.
+"""
 passed, failed = [], []
+
+
+class Parser(argparse.ArgumentParser):
+    """What takes the words of the script that has this text. What it refuses ends the script with status 2."""
+
+    def __init__(self, text, more=""):
+        super().__init__(prog=Path(sys.argv[0]).name, allow_abbrev=False)
+        self.text = text + more
+
+    def format_help(self):
+        return self.text.lstrip()
+
+    def error(self, message):
+        self.exit(2, f"{self.prog}: {message}. {self.prog} --help says which words there are.\n")
+
+
+def take_none(text):
+    Parser(text, OF_TRIALS).parse_args()
+
+
+def take_names(text, known):
+    """The names that were told, of those that are known; all of them where none was."""
+    parser = Parser(text, OF_TRIALS)
+    parser.add_argument("names", nargs="*")
+    names = parser.parse_args().names
+    if unknown := [it for it in names if it not in known]:
+        parser.error(f"{', '.join(unknown)}: the names are {', '.join(known)}")
+    return names or known
+
+
+def take_numbers(text, count, seed):
+    """How many are drawn at random, and from which seed; these where none was told."""
+    parser = Parser(text, OF_TRIALS)
+    parser.add_argument("count", nargs="?", type=int, default=count)
+    parser.add_argument("seed", nargs="?", type=int, default=seed)
+    told = parser.parse_args()
+    return told.count, told.seed
 
 
 class Room(tempfile.TemporaryDirectory):
@@ -60,6 +106,23 @@ def text_of(name):
     """A text that trials go by, in which @x60@ stands for 60 times x."""
     text = (TOP / "scripts" / "texts" / name).read_text()
     return re.sub(r"@(.)(\d+)@", lambda mark: mark[1] * int(mark[2]), text)
+
+
+def comparison_of(case):
+    """The comparison of a case, or None: its report under each mode, if any is stored beside that under its own."""
+    report = (STORED / f"{case}.report.csv").read_bytes()
+    files = {mode: STORED / f"{case}.{mode}.csv" for mode in stored_modes()}
+    if not any(file.exists() for file in files.values()):
+        return None
+    lines = [b"mode," + report.splitlines(keepends=True)[0]]
+    for mode, file in files.items():
+        rows = (file.read_bytes() if file.exists() else report).splitlines(keepends=True)[1:]
+        lines += (mode.encode() + b"," + row for row in rows)
+    return b"".join(lines)
+
+
+def stored_modes():
+    return (STORED / "modes.txt").read_text().split()
 
 
 def crates():

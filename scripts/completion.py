@@ -45,10 +45,6 @@ def words_of_tool(tool):
                  before["FILE"], before["FOLDER"], "[FOLDER]" in tool.calls[0], has_lists=is_sweep)
 
 
-def all_words(told, tools):
-    return {**dict(words_of_program(told)), **{name: words_of_tool(it) for name, it in tools.items()}}
-
-
 def patterns(table, which):
     """The pattern for what stands before a file, or a folder, of each tool."""
     pairs = dict.fromkeys(f'"{key.partition(" ")[0]} {option}"' for key, it in table.items() for option in which(it))

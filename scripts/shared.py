@@ -111,7 +111,7 @@ def text_of(name):
 def comparison_of(case):
     """The comparison of a case, or None: its report under each mode, if any is stored beside that under its own."""
     report = (STORED / f"{case}.report.csv").read_bytes()
-    files = {mode: STORED / f"{case}.{mode}.csv" for mode in stored_modes()}
+    files = {mode: STORED / f"{case}.{mode}.csv" for mode in (STORED / "modes.txt").read_text().split()}
     if not any(file.exists() for file in files.values()):
         return None
     lines = [b"mode," + report.splitlines(keepends=True)[0]]
@@ -119,10 +119,6 @@ def comparison_of(case):
         rows = (file.read_bytes() if file.exists() else report).splitlines(keepends=True)[1:]
         lines += (mode.encode() + b"," + row for row in rows)
     return b"".join(lines)
-
-
-def stored_modes():
-    return (STORED / "modes.txt").read_text().split()
 
 
 def crates():

@@ -10,7 +10,7 @@ import signal
 import tomllib
 from collections import Counter
 
-from tried.calls import program_that, refuse, refuses, run, started, stopped, tells, waits_for
+from tried.calls import program_that, refuse, refuses, run, started, stopped, tells, times_of, waits_for
 from shared import PROGRAM, Text, holds
 from gossip_tools.measures import span
 from gossip_tools.rules import is_better, seed_by_seed
@@ -52,7 +52,7 @@ def healed(folder, budget):
     if "leftover" in next(folder.glob("*.csv")).read_text():
         gone = [next(at for at in range(ends + 1, len(rows) + 1) if not rows[at - 1]) - ends
                 for rows in column(folder, budget, "leftover", HEAL)]
-    return after, gone, len(restarts)
+    return after, gone
 
 
 def took(name, what, ends, seeds):
@@ -76,10 +76,6 @@ def page_of(folder, *parts):
     unlike = {it for it in opened | closed if opened[it] != closed[it]}
     holds(f"the page in {folder.name} is whole", set(), unlike - {"meta", "img", "br"})
     return page
-
-
-def times_of(folder):
-    return {it: it.stat().st_mtime_ns for it in folder.glob("*/*.csv")}
 
 
 def try_advice(room):
@@ -110,13 +106,13 @@ def try_advice(room):
     holds("a restart has no scenario of its own", False, stages[4] in page)
     others = re.findall(r'(?:src|href)="(?!data:image/svg\+xml;base64,)(.*?)"', page)
     holds("the page needs no other", (7 if shutil.which("gnuplot") else 0, []), (page.count("<img "), others))
-    before, none = times_of(advice), room / "nothing"
+    before, none = times_of(advice, "*/*.csv"), room / "nothing"
     none.mkdir()
     for it in ("python3", "env"):
         (none / it).symlink_to(shutil.which(it))
     holds("it is read again, without gnuplot", said.replace("html.", "html without pictures, as gnuplot isn't there."),
           advised(room, "-o", "advice", PATH=str(none))[1])
-    holds("no run was made again", before, times_of(advice))
+    holds("no run was made again", before, times_of(advice, "*/*.csv"))
     holds("a page without pictures", 0, page_of(advice, "gnuplot isn't there").count("<img "))
     refuses(room, "the answer for another loss", "gossip_advise", *cluster[:5], "loss=2", *cluster[6:])
     other = program_that(room, "other", f'exec "{PROGRAM}" run')
@@ -150,8 +146,6 @@ def try_reserve(room):
     tells("what bounds it, at first", first, f"\nI{older}.\n")
     tells("what bounds it", said, f"\n  worst staleness     i{older}: the most of `greatest` in rounds 101 to 460 "
           f"under 20 seeds, others than those that chose, which had {span(figure)}\n")
-    holds("the seeds that choose aren't those that bound", [set(CHOOSE), set(BOUND)], [
-        {int(it.name.split(".")[1].partition("-")[2]) for it in folder.glob("*.csv")} for folder in (many, bound)])
     # (24 * 6 entries never cut)
     holds("the floor is of runs that cut nothing", {0},
           {it for rows in column(bound, "budget-144", "cut", BOUND[:4]) for it in rows})
@@ -199,14 +193,12 @@ def try_target(room):
     stale, typical = (span([round(it) for it in figure]) for figure in (shares, half))
     tells("how many copies are stale, and how old a typical one is", out, f"  stale copies        {stale} %: ",
           f"  a typical one       {typical} round")
-    holds("no write in the 8 rounds after 200", True,
-          (stop / "scenario").read_text().endswith("\n[[load]]\nfrom = 201\nto = 208\nwrites = 0\n"))
     page = page_of(room / "target", f"<h1>24 nodes: scuttle-depth with {least} entries keeps the worst staleness "
                    "within 4 s</h1>")
     holds("the page has it once", 1, page.count("target<b>met</b>"))
-    before = times_of(room / "target")
+    before = times_of(room / "target", "*/*.csv")
     holds("it is read again", out, advised(room, "-o", "target")[2])
-    holds("and no run made again", before, times_of(room / "target"))
+    holds("and no run made again", before, times_of(room / "target", "*/*.csv"))
     for target, verdict in (("4", "met: in 20 of 21 runs of 144 rounds (72 s) the worst staleness is within 4 s"),
                             ("1", "not met: the worst staleness is above 1 s")):
         _, _, out = advised(room, "-o", f"judged {target}", *words, "mode=scuttle-depth",
@@ -277,23 +269,16 @@ def try_longer_runs(room):
           "\n  worst staleness     in 20 of 21 runs of 360 rounds (360 s) no copy is older than "
           f"{max(bound)} rounds, {max(bound)} s: ", " in rounds 201 to 560 under 20 seeds, others ",
           "\n  a rolling restart   ")
-    tells("and how many calls are enough, which are 24 / 5", said.partition("Mind:")[2],
-          "(fanout=5, as nodes * writes / 5 entries fit)")
     page_of(room / "longer", "In rounds 201 to 400, by budget", "<h1>24 nodes: scuttle-depth with 5 entries, which are "
             "too few</h1>", '<div class="first">enough<b>960 bytes</b>')
 
 
 def try_advice_below_the_knee(room):
-    """Room for 10 entries, where 20 nodes write one key each: both answers name the 20 * 40 bytes, and what counts
-    where nodes forget. What heals is counted once more from the reports: of a restart the longer time under each seed,
-    of five groups of two, which are half of the nodes, or of one group alone. 10 mean entries are 5235 bytes."""
+    """Room for 10 entries, where 20 nodes write one key each. What heals is counted once more from the reports: of a
+    restart the longer time under each seed, of five groups of two or of one alone. 10 mean entries are 5235 bytes."""
     cluster = "nodes=20 keys=1 writes=1 entry=40 packet=400 count=entries restarts=2 forget=yes hours=0.1"
     first, said, _ = advised(room, "-o", "below", *cluster.split())
-    enough = "packet=800 has room for nodes * writes = 20 entries, and "
-    forget = "Nodes forget here, and the budget is below nodes * writes: old state"
-    tells("below the knee, at first", first, f"\nThat is below nodes * writes. {enough}", f"\n{forget}")
-    tells("below the knee", said.partition("Mind:")[2], enough, forget)
-    split, _, _ = healed(room / "below" / "split", "budget-10")
+    split, _ = healed(room / "below" / "split", "budget-10")
     groups, one = (healed(room / "below" / it, "budget_bytes-5235") for it in ("forgotten", "forgotten-one"))
     restart, gone = ([max(it) for it in zip(groups[at], one[at])] for at in (0, 1))
     what = ("of 2 nodes in each of 5 rounds, each down for one round, and then without its own state, and of such a "
@@ -306,7 +291,6 @@ def try_advice_below_the_knee(room):
               took("a forgotten state", what, "gone from all copies", gone),
               f"\n  a rolling restart   wait {waits} rounds, {waits} s, after a group of 2 nodes is up again: in 20 of "
               "21 cases a restart was healed and its forgotten state was gone by then\n")
-    holds("half of the nodes restart, or a group", (10, 2), (groups[2], one[2]))
 
 
 def try_stopping_advice(room):

@@ -71,6 +71,10 @@ def refuse(room, script):
             refuses(room, why, *shlex.split(call))
 
 
+def times_of(folder, pattern):
+    return {it: it.stat().st_mtime_ns for it in folder.glob(pattern)}
+
+
 def written(file, text):
     file.parent.mkdir(exist_ok=True)
     file.write_text(text)

@@ -1,7 +1,7 @@
 """Trials of what a sweep keeps beside its reports: the check sums of each and of its scenario, and of the program."""
 import hashlib
 
-from tried.calls import COMPARED, gives, program_that, refuses, run
+from tried.calls import COMPARED, gives, program_that, refuses, run, times_of
 from shared import PROGRAM, Text, holds
 
 # Two nodes that are apart throughout: each lacks the three keys of the other, since round 1.
@@ -14,10 +14,6 @@ NO_PROGRAM = ("gossip_sweep: kept lacks the file program, which says what made i
               "by this program.\n")
 NO_SUM = "in kept 1 report has no check sum and is taken as it is.\n"
 OF_BEFORE = f"{NO_PROGRAM}gossip_sweep: {NO_SUM}"
-
-
-def times_of(folder):
-    return {it.name: it.stat().st_mtime_ns for it in folder.iterdir() if it.name != "lock"}
 
 
 def try_damaged_reports(room):
@@ -104,9 +100,9 @@ def try_folders_of_before(room):
     folder, told = room / "kept", "budget,mode,round,took\n1,precise-newest,never,never\n"
     (folder / "program").unlink()
     for said, read in ((NO_PROGRAM, ""), (OF_BEFORE, f"gossip_read: {NO_SUM}")):
-        before = times_of(folder)
+        before = times_of(folder, "budget-*")
         holds(f"it is gone on with: {said}", (0, "1 runs in kept\n", said, before),
-              (*run(room, "gossip_sweep", *SWEEP, text=APART), times_of(folder)))
+              (*run(room, "gossip_sweep", *SWEEP, text=APART), times_of(folder, "budget-*")))
         holds(f"it is read, and told: {read}", (0, told, read), run(room, "gossip_read level 1 0 kept"))
         (folder / f"{NAME}.sum").unlink(missing_ok=True)
     holds("runs that are new have theirs",

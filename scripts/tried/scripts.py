@@ -18,7 +18,6 @@ MARKED = {
     "A<!--clone--> b<!--/clone--> C.": "A C.", "A.<!--clone-->\n- b\n<!--/clone-->": "A.", "A (`b`).": "A (`b`).",
     "\n## What is proved\nA (`b` of `c`) d (e).\n## F\nG (`h`).": "\n## What is proved\nA d (e).\n## F\nG (`h`).",
 }
-WRONG_MARKS = ("A<!--clone--> b.", "A b<!--/clone-->.", "A<!--clone:other--> b<!--/clone-->.")
 
 
 def try_words(room):
@@ -46,7 +45,7 @@ def try_parts(room):
 def try_marks(_):
     """What a page has between marks is no part of it in a package, or is said otherwise there, whatever it is."""
     holds("marks", MARKED, {it: without_marks(it, "docs/model.md") for it in MARKED})
-    for text in WRONG_MARKS:
+    for text in ("A<!--clone--> b.", "A b<!--/clone-->.", "A<!--clone:other--> b<!--/clone-->."):
         try:
             holds(text, "a refusal", without_marks(text, "docs/model.md"))
         except Missing as why:

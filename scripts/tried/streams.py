@@ -113,7 +113,8 @@ def try_full_disks(room):
     gives(room, "1 runs in full\n", "gossip_sweep -o full mode=scuttle-depth")
     with open("/dev/full", "w") as full:
         for call in (f"gossip_scenario {LARGE}", "gossip_restarts 3 1 1 1 0", "gossip_apart 1 2 3 4",
-                     "gossip_read window 1 2 full", "gossip_sweep --help"):
+                     "gossip_read window 1 2 full", "gossip_sweep --help", "replay.py run --trace trace.csv",
+                     "replay.py compare", "replay.py check", "replay.py --help", "replay.py --version"):
             fails(room, "No space left on device", 1, call, out=full)
         fails(room, "No space left on device", 2, "check_trace.py", *TEXTS, out=full)
     fails(room, "File too large", 1, "gossip_sweep -o fuller seed=1", before=small_files(100))

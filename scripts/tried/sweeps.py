@@ -16,11 +16,6 @@ from gossip_tools.scenario import MODES
 
 LONG = "x" * 5000
 WRONG_HOSTS = ("x/alpha", "/", "é", "-oProxyCommand=true", "a b", "8/", "0/alpha", "8/-o", "me@", "me@-o", "alpha\n")
-FAULTS = (
-    ("budget=1,0", COMPARED, "fault 6: field budget"), ("mode=breadth", COMPARED, "fault 6: field mode"),
-    ("format=2", COMPARED, "fault 4: missing field budget_bytes"),
-    ("mode=scuttle-depth", "mode = ''\n", "fault 4: missing field format"),
-)
 
 
 def try_words_of_sweeps(room):
@@ -29,8 +24,10 @@ def try_words_of_sweeps(room):
             text="seed = 2\n" + COMPARED)
     refuses(room, "the scenario is empty", "gossip_sweep seed=1", text="")
     fails(room, f"answer to mode-{'x' * 55}.., so nothing was run.", 1, "gossip_sweep", f"mode={LONG}")
-    for words, text, fault in FAULTS:
-        holds(f"sweep of {words}", (1, "", Text(fault)), run(room, "gossip_sweep", words, text=text))
+    for words, text, fault in (("budget=1,0", COMPARED, "6: field budget"), ("mode=breadth", COMPARED, "6: field mode"),
+                               ("format=2", COMPARED, "4: missing field budget_bytes"),
+                               ("mode=scuttle-depth", "mode = ''\n", "4: missing field format")):
+        holds(f"sweep of {words}", (1, "", Text(f"fault {fault}")), run(room, "gossip_sweep", words, text=text))
     holds("no runs are left", False, (room / "runs").exists())
 
 
@@ -230,9 +227,8 @@ def try_lasting_faults(room):
               "runs stand in taken.\n"), run(room, "gossip_sweep", *sweep))
         (room / "taken" / name).rmdir()
         kept.rename(room / "taken" / name)
-    name = "x" * 5000
     holds("a name that is too long", (1, "", f"gossip_sweep: {'x' * 60}..: File name too long.\n"),
-          run(room, "gossip_sweep -o", name, "budget=1"))
+          run(room, "gossip_sweep -o", LONG, "budget=1"))
 
 
 def try_several_machines(room):

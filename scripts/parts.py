@@ -9,7 +9,6 @@ from collections import namedtuple
 from concurrent.futures import ThreadPoolExecutor
 
 LAST_LINE = re.compile(r"(\d+) passed, (\d+) failed")
-OF_A_CALLER = ("HOSTS", "JOBS", "REPLAY")
 
 
 class Outcome(namedtuple("Outcome", "name passed failed took used")):
@@ -39,7 +38,7 @@ class Parts:
         """Makes a part, passes on what it says line by line, and says whether nothing failed. One that tries a program
         tries this one, whatever the caller's names of programs and hosts are."""
         say(f"== {name}")
-        rest = {it: value for it, value in os.environ.items() if it not in OF_A_CALLER}
+        rest = {it: value for it, value in os.environ.items() if it not in ("HOSTS", "JOBS", "REPLAY")}
         environment = {**rest, "GOSSIP_BENCH": str(program)} if program else None
         began, last = time.monotonic(), ""
         with subprocess.Popen(command, cwd=self.folder, env=environment, text=True, errors="replace",

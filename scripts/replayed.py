@@ -36,8 +36,7 @@ def drawn_words(chance):
 
 
 class Run:
-    """A scenario, and what it comes to: the rows of its report, its exchanges, and what each node holds of each owner,
-    by rounds."""
+    """A scenario, and by rounds the rows of its report, its exchanges, and what each node holds of each owner."""
 
     def __init__(self, load=(), restart=(), partition=(), **fields):
         self.fields = {"rounds": 0, "rotation": "none", "choice": "cycle", "loss_ppm": 0, "writes": 0} | fields

@@ -83,7 +83,6 @@ def try_advice(room):
     cluster = "nodes=8 keys=1 writes=1 entry=40 packet=4000 loss=1 interval=0.5 forget=yes hours=0.05".split()
     advice = room / "advice"
     first, said, _ = advised(room, *cluster)
-    # (what heals is in the first answer, and as it is in the last)
     for name in ("a split", "a restart", "a forgotten state", "a rolling restart"):
         lines, last = ([it for it in part.splitlines() if it.startswith(f"  {name} ")] for part in (first, said))
         holds(f"{name} is told at once", (1, lines), (len(lines), last))
@@ -196,9 +195,7 @@ def try_target(room):
     page = page_of(room / "target", f"<h1>24 nodes: scuttle-depth with {least} entries keeps the worst staleness "
                    "within 4 s</h1>")
     holds("the page has it once", 1, page.count("target<b>met</b>"))
-    before = times_of(room / "target", "*/*.csv")
     holds("it is read again", out, advised(room, "-o", "target")[2])
-    holds("and no run made again", before, times_of(room / "target", "*/*.csv"))
     for target, verdict in (("4", "met: in 20 of 21 runs of 144 rounds (72 s) the worst staleness is within 4 s"),
                             ("1", "not met: the worst staleness is above 1 s")):
         _, _, out = advised(room, "-o", f"judged {target}", *words, "mode=scuttle-depth",

@@ -283,8 +283,7 @@ def try_words(room):
 
 
 def try_stopping(room):
-    """A build that is stopped leaves nothing, and one that is killed nothing that the next one keeps. Two at once build
-    once."""
+    """A build that is stopped leaves nothing, one that is killed nothing that the next one keeps. Two build once."""
     toy = Toy(room / "stopping")
 
     def begun():

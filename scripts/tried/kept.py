@@ -17,8 +17,7 @@ OF_BEFORE = f"{NO_PROGRAM}gossip_sweep: {NO_SUM}"
 
 
 def try_damaged_reports(room):
-    """A report that isn't what was written never counts, though each of its rows may be one: neither where runs are
-    read, nor where a sweep goes on."""
+    """A report that isn't what was written never counts, neither where runs are read, nor where a sweep goes on."""
     gives(room, "1 runs in kept\n", "gossip_sweep", *SWEEP, text=APART)
     scenario, report, beside = (room / "kept" / f"{NAME}.{ending}" for ending in ("toml", "csv", "sum"))
     whole = report.read_bytes()

@@ -73,8 +73,7 @@ def followed(plan, trace):
 
 
 def try_following_traces(room):
-    """A live node sends and holds what replay.py does, entry by entry, where both meet the same and lose the same, and
-    the figures are those of the report."""
+    """A live node sends, holds and counts what replay.py does, where both meet the same and lose the same."""
     for mode, form in itertools.product(MODES, FORMATS):
         text, name = mishaps(mode, form), f"{mode} in format {form}"
         words = "run --trace trace --sent sent --tables tables".split()
@@ -106,8 +105,7 @@ def try_words(room):
 
 
 def agreed(room, text):
-    """The report of a cluster whose writes stop, its rows and its status. A busy machine is given more intervals until
-    the copies agree, as long as a minute in all."""
+    """What comes of a cluster whose writes stop. A busy machine is given more intervals, up to a minute in all."""
     for rounds in (30, 120, 400):
         status, out, err = run(room, "gossip_live interval=0.1",
                                text=text.replace("rounds = 30", f"rounds = {rounds}") + WRITES_STOP)
@@ -135,8 +133,7 @@ def try_clusters(room):
         holds(f"copies agree: {name}", [0] * len(last), last)
         holds(f"it says how fast it was: {name}", (True, Text("gossip_live: ", " timers were late")),
               (status in (0, WORTHLESS), err))
-        # (wide bounds while nodes write: 16 writes make 240 entries to be sent in a round, and what a restarted node
-        # lacks may be as old as the first one)
+        # (wide bounds while nodes write: 16 writes are 240 entries; a restarted node may lack the first one)
         oldest = 15 if RESTARTED in text else 8
         wrong = [it for it in rows[5:15] if not (60 <= it[1] <= 480 and 0 < it[3] <= 960 and 1 <= it[4] <= oldest)]
         holds(f"figures of {name}", [], wrong if status != WORTHLESS else [])

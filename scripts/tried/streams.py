@@ -22,7 +22,6 @@ CALLS = {
     "gossip_apart": ("1", "2", "3", "4"), "replay.py": ("run", "--trace", "trace.csv", "--tables", "tables.csv"),
     "check_trace.py": TEXTS,
 }
-READS_INPUT = {"gossip_sweep", "replay.py"}
 # All that are called as programs, with a module of Python's own that they load.
 LOADED = {**dict.fromkeys(installed.commands().values(), "fractions"), TOOLS / "replay.py": "tomllib",
           GUIDE / "check_trace.py": "csv"}
@@ -42,7 +41,7 @@ def try_closed_streams(room):
         kept, name = files_of(room), pathlib.Path(script).name
         for closed in SUBSETS:
             status, out, err = run(room, script, *words, before=lambda: [*map(os.close, closed)])
-            fails = OUTPUT in closed or INPUT in closed and script in READS_INPUT
+            fails = OUTPUT in closed or INPUT in closed and script in ("gossip_sweep", "replay.py")
             says_why = re.search(rf"^{name}: .*it is closed\.\n\Z", err, re.MULTILINE) and "Traceback" not in err
             holds(f"{name} {words} with {closed} closed",
                   (fails, "" if fails else printed, fails and ERROR not in closed), (bool(status), out, bool(says_why)))
@@ -75,8 +74,7 @@ def try_full_errors(room):
 
 
 def try_readers_that_are_gone(room):
-    """A tool whose output nobody reads any more says so, and ends with status 1; check_trace.py with 2, as 1 says that
-    two texts differ."""
+    """A tool whose output nobody reads any more says so, with status 1, or 2 where 1 says that two texts differ."""
     for script, words in (CALLS | {"gossip_live": ("interval=0.05",)}).items():
         reader, writer = os.pipe()
         os.close(reader)

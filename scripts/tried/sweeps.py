@@ -232,8 +232,7 @@ def try_lasting_faults(room):
 
 
 def try_several_machines(room):
-    """Runs on another machine, for which a script stands in that gets the words of ssh. It shares this disk. Where ssh
-    is ended, what it has started there isn't."""
+    """Runs on a machine with this disk, for which a script stands in, as ssh. What it starts goes on without it."""
     room, there = room / "machines", room / "machines" / "there"
     there.mkdir(parents=True)
     written(there / "ssh", text_of("ssh"))

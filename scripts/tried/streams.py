@@ -7,9 +7,7 @@ import re
 import signal
 
 import installed
-from tried.calls import (
-    GUIDE, SMALL, TOOLS, fails, gives, program_that, run, started, stopped, waits_for, written,
-)
+from tried.calls import GUIDE, SMALL, TOOLS, fails, gives, program_that, run, started, stopped, waits_for, written
 from shared import PROGRAM, Text, holds, small_files
 
 INPUT, OUTPUT, ERROR = range(3)

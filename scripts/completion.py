@@ -5,7 +5,6 @@ from dataclasses import dataclass, field
 from installed import PROGRAM, text_with
 from gossip_tools import scenario, sweep
 
-# The fields that a sweep takes, with the words that a scenario has for some of them.
 FIELDS = {"format": [*map(str, scenario.FORMATS)], **dict.fromkeys(scenario.LIMITS, ()), **scenario.WORDS}
 # What fish asks of the word that it completes.
 NAMED = 'string match -q "{}=*" -- (commandline -ct)'
@@ -44,10 +43,6 @@ def words_of_tool(tool):
     is_sweep = tool is sweep.TOOL
     return Words([*plain, *(option for option, _, _ in options), "--help", "--version"], FIELDS if is_sweep else named,
                  before["FILE"], before["FOLDER"], "[FOLDER]" in tool.calls[0], has_lists=is_sweep)
-
-
-def all_words(told, tools):
-    return {**dict(words_of_program(told)), **{name: words_of_tool(it) for name, it in tools.items()}}
 
 
 def patterns(table, which):

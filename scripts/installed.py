@@ -5,19 +5,13 @@ import subprocess
 import sys
 from pathlib import Path
 
-sys.dont_write_bytecode = True
-TOP = Path(__file__).resolve().parent.parent
-TOOLS = TOP / "tools"
-# Texts in other languages, which scripts fill.
-TEXTS = TOP / "scripts" / "texts"
-# (where the tools have their Python package)
-sys.path.insert(0, str(TOOLS))
+from shared import TOP
 from gossip_tools import starting
 from gossip_tools.words import Tool
 
+TOOLS = TOP / "tools"
+TEXTS = TOP / "scripts" / "texts"
 PROGRAM, REPLAY = "gossip_bench", "gossip_replay"
-# The loader hides AVX2 by this, and a program that needs it doesn't start.
-OLDER = {"GLIBC_TUNABLES": "glibc.cpu.hwcaps=-AVX2"}
 
 
 class Missing(Exception):
@@ -84,7 +78,8 @@ def the_program():
 
 
 def needs_newer(program):
-    return starts(program, **OLDER)[0] is None
+    """Whether it doesn't start where the loader hides AVX2."""
+    return starts(program, GLIBC_TUNABLES="glibc.cpu.hwcaps=-AVX2")[0] is None
 
 
 def text_with(name, told):

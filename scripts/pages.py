@@ -9,8 +9,6 @@ from installed import TEXTS, Missing
 # The pages of docs/ that show commands with their outputs, which scripts/check_guide runs.
 WITH_OUTPUTS = ("guide.md", "by_hand.md", "study.md", "testing.md")
 PAGES = ("README.md", *(f"docs/{page}" for page in WITH_OUTPUTS), "docs/model.md", "docs/formats.md")
-# Where the Python package of the tools stands, from the folder of README.md.
-MODULES = "../../../lib/gossip_bench/gossip_tools"
 # What stands between these marks is for a clone. Where the first one has a name, a package says something else there.
 MARKED = re.compile(r"<!--clone(?::(\w+))?-->(.*?)<!--/clone-->", re.DOTALL)
 INSTEAD = tomllib.loads((TEXTS / "pages.toml").read_text())
@@ -38,7 +36,7 @@ def target_in_package(target, page):
         return target
     there = posixpath.normpath(posixpath.join(posixpath.dirname(page), path))
     if there.startswith("tools/gossip_tools/"):
-        return f"{'../' * page.count('/')}{MODULES}/{posixpath.basename(there)}"
+        return f"{'../' * (3 + page.count('/'))}lib/gossip_bench/gossip_tools/{posixpath.basename(there)}"
     return target if there in PAGES or there.startswith("examples/") or there.endswith(".svg") else None
 
 

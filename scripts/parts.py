@@ -2,22 +2,13 @@
 import os
 import re
 import subprocess
+import sys
 import threading
 import time
 from collections import namedtuple
 from concurrent.futures import ThreadPoolExecutor
 
 LAST_LINE = re.compile(r"(\d+) passed, (\d+) failed")
-OF_A_CALLER = ("HOSTS", "JOBS", "REPLAY")
-
-
-def with_program(program):
-    """The environment of a part that tries this program, whatever the caller's names of programs and hosts are."""
-    rest = {name: value for name, value in os.environ.items() if name not in OF_A_CALLER}
-    return {**rest, "GOSSIP_BENCH": str(program)}
-
-
-Part = namedtuple("Part", "name command environment", defaults=(None,))
 
 
 class Outcome(namedtuple("Outcome", "name passed failed took used")):
@@ -33,7 +24,7 @@ def outcome_of(name, last, status, took, used):
     """What came of a part by its last line and status. One that says nothing is one trial, and one that ends in another
     way than by its last line has failed."""
     counts = LAST_LINE.fullmatch(last)
-    passed, failed = (int(counts[1]), int(counts[2])) if counts else (0, 0)
+    passed, failed = map(int, counts.groups()) if counts else (0, 0)
     failed += bool(status and not failed)
     passed += not counts and not status
     return Outcome(name, passed, failed, took, used)
@@ -43,35 +34,37 @@ class Parts:
     def __init__(self, folder):
         self.folder, self.outcomes, self.printing = folder, [], threading.Lock()
 
-    def run(self, part, say=lambda line: print(line, flush=True)):
-        """Makes a part, passes on what it says line by line, and says whether nothing failed."""
-        say(f"== {part.name}")
+    def run(self, name, *command, program=None, say=lambda line: print(line, flush=True)):
+        """Makes a part, passes on what it says line by line, and says whether nothing failed. One that tries a program
+        tries this one, whatever the caller's names of programs and hosts are."""
+        say(f"== {name}")
+        rest = {it: value for it, value in os.environ.items() if it not in ("HOSTS", "JOBS", "REPLAY")}
+        environment = {**rest, "GOSSIP_BENCH": str(program)} if program else None
         began, last = time.monotonic(), ""
-        with subprocess.Popen(part.command, cwd=self.folder, env=part.environment, text=True, errors="replace",
+        with subprocess.Popen(command, cwd=self.folder, env=environment, text=True, errors="replace",
                               stdin=subprocess.DEVNULL, stdout=subprocess.PIPE) as process:
             for line in process.stdout:
                 last = line.rstrip("\n")
                 say(last)
             _, status, used = os.wait4(process.pid, 0)
             process.returncode = os.waitstatus_to_exitcode(status)
-        outcome = outcome_of(part.name, last, process.returncode, time.monotonic() - began,
-                             used.ru_utime + used.ru_stime)
+        outcome = outcome_of(name, last, process.returncode, time.monotonic() - began, used.ru_utime + used.ru_stime)
         self.outcomes.append(outcome)
         return not outcome.failed
 
-    def run_side_by_side(self, parts, lanes):
-        """Makes parts, and prints of each what it said once it is done."""
-        def run(part):
+    def run_side_by_side(self, parts, program, lanes):
+        """Makes parts, each a name and a command, and prints of each what it said once it is done."""
+        def run(name, command):
             said = []
-            self.run(part, said.append)
+            self.run(name, *command, program=program, say=said.append)
             with self.printing:
                 print(*said, sep="\n", flush=True)
 
         with ThreadPoolExecutor(lanes) as pool:
             # (what a part raises is raised here)
-            list(pool.map(run, parts))
+            list(pool.map(run, parts, parts.values()))
 
     def close(self):
         passed, failed = (sum(getattr(it, name) for it in self.outcomes) for name in ("passed", "failed"))
         print("==", *self.outcomes, f"{passed} passed, {failed} failed", sep="\n", flush=True)
-        return 1 if failed else 0
+        sys.exit(1 if failed else 0)

@@ -5,23 +5,22 @@ import os
 import sys
 from collections import Counter, defaultdict
 
-import trials
-from trials import TOP, Room
+import shared
+from shared import TOP, Room
 from gossip_tools import scenario
 
 REPLAY = os.environ.get("REPLAY", TOP / "tools" / "replay.py")
-LARGEST = 1023  # bytes of an entry
 
 
 def holds(kind, name, is_so):
-    trials.holds(f"{kind}: {name}", True, is_so)
+    shared.holds(f"{kind}: {name}", True, is_so)
 
 
 def end():
-    """Prints how many trials of each kind have passed, and the last line, and answers the status."""
-    kinds = Counter(it.partition(":")[0] for it in trials.passed)
+    """Prints how many trials of each kind have passed, and the last line, and ends the process."""
+    kinds = Counter(it.partition(":")[0] for it in shared.passed)
     print(", ".join(f"{kind} {number}" for kind, number in kinds.items()))
-    return trials.end()
+    shared.end()
 
 
 def reaching(exchange):
@@ -37,8 +36,7 @@ def drawn_words(chance):
 
 
 class Run:
-    """A scenario, and what it comes to: the rows of its report, its exchanges, and what each node holds of each owner,
-    by rounds."""
+    """A scenario, and by rounds the rows of its report, its exchanges, and what each node holds of each owner."""
 
     def __init__(self, load=(), restart=(), partition=(), **fields):
         self.fields = {"rounds": 0, "rotation": "none", "choice": "cycle", "loss_ppm": 0, "writes": 0} | fields
@@ -54,7 +52,7 @@ class Run:
         return (self.nodes - 1) * self.fields["keys"]
 
     def set_budget(self, entries):
-        self.fields |= {"budget": entries} if self.format == 1 else {"budget_bytes": LARGEST * entries}
+        self.fields |= {"budget": entries} if self.format == 1 else {"budget_bytes": scenario.LARGEST * entries}
 
     def text(self):
         arrays = (scenario.sections(it, getattr(self, it)) for it in ("load", "restart", "partition"))
@@ -63,7 +61,7 @@ class Run:
     def replay(self):
         with Room() as room:
             words = ["run", "--trace", room / "trace", "--tables", room / "tables"]
-            status, out, err = trials.ran(sys.executable, REPLAY, *words, given=self.text())
+            status, out, err = shared.ran(sys.executable, REPLAY, *words, given=self.text())
             if status:
                 sys.exit(err)
             texts = out, (room / "trace").read_text(), (room / "tables").read_text()

@@ -1,34 +1,19 @@
 """Trials of gossip_advise."""
 import csv
 import hashlib
-import html.parser
-import operator
+import html
 import pathlib
+import re
 import shlex
 import shutil
 import signal
 import tomllib
+from collections import Counter
 
-from tried.calls import program_that, refuse, refuses, run, started, stopped, tells, waits_for
-from trials import PROGRAM, Text, holds
-
-
-class Tags(html.parser.HTMLParser):
-    """The tags of a page that are open, and what its pictures, links and styles name."""
-
-    def __init__(self, text):
-        super().__init__()
-        self.open, self.named = [], []
-        self.feed(text)
-
-    def handle_starttag(self, tag, attributes):
-        self.named += [it for name, it in attributes if name in ("src", "href")]
-        if tag not in ("meta", "img", "br"):
-            self.open.append(tag)
-
-    def handle_endtag(self, tag):
-        if self.open[-1:] == [tag]:
-            self.open.pop()
+from tried.calls import program_that, refuse, refuses, run, started, stopped, tells, times_of, waits_for
+from shared import PROGRAM, Text, holds
+from gossip_tools.measures import span
+from gossip_tools.rules import is_better, seed_by_seed
 
 
 # The seeds that choose, the first of them, and those that bound how old a copy gets and what heals.
@@ -50,16 +35,6 @@ def budgets_of(folder):
     return sorted({int(it.name.split(".")[0].partition("-")[2]) for it in folder.glob("budget-*.csv")})
 
 
-def held(one, other):
-    return [sum(map(are_so, one, other)) for are_so in (operator.lt, operator.gt)]
-
-
-def is_better(one, other):
-    """"At least 15 of 20 seeds say so and not more than 2 the other way", and of six as large a part."""
-    less, more = held(one, other)
-    return less >= 0.75 * len(one) and more <= 0.1 * len(one)
-
-
 def healed(folder, budget):
     """The rounds after what a stage heals from until `greatest` is at most one round above its most of the 20 rounds
     before, or more, that count, and until nothing is left over, by seed. After a split rounds count once its first
@@ -77,18 +52,14 @@ def healed(folder, budget):
     if "leftover" in next(folder.glob("*.csv")).read_text():
         gone = [next(at for at in range(ends + 1, len(rows) + 1) if not rows[at - 1]) - ends
                 for rows in column(folder, budget, "leftover", HEAL)]
-    return after, gone, len(restarts)
-
-
-def spanned(figure):
-    return f"{min(figure)} to {max(figure)}" if min(figure) < max(figure) else f"{max(figure)}"
+    return after, gone
 
 
 def took(name, what, ends, seeds):
     """A line on what heals, by what each seed took, a round being a second: one in 21 of 63 is above the third."""
     most = sorted(seeds)[-3]
     return (f"\n  {name:<19} {what}: {ends} after at most {most} round{'s' if most > 1 else ''}, {most} s, in 20 of 21 "
-            f"cases ({spanned(seeds)} under 62 seeds)\n")
+            f"cases ({span(seeds)} under 62 seeds)\n")
 
 
 def advised(room, *words, **how):
@@ -98,15 +69,13 @@ def advised(room, *words, **how):
 
 
 def page_of(folder, *parts):
-    """The page, which is whole and tells these."""
+    """The page, which is whole, as each tag is closed as often as it is opened, and tells these."""
     page = (folder / "report.html").read_text()
     tells(f"the page in {folder.name}", page, *parts)
-    holds(f"the page in {folder.name} is whole", [], Tags(page).open)
+    opened, closed = (Counter(re.findall(rf"<{slash}(\w+)", page)) for slash in ("", "/"))
+    unlike = {it for it in opened | closed if opened[it] != closed[it]}
+    holds(f"the page in {folder.name} is whole", set(), unlike - {"meta", "img", "br"})
     return page
-
-
-def times_of(folder):
-    return {it: it.stat().st_mtime_ns for it in folder.glob("*/*.csv")}
 
 
 def try_advice(room):
@@ -114,7 +83,6 @@ def try_advice(room):
     cluster = "nodes=8 keys=1 writes=1 entry=40 packet=4000 loss=1 interval=0.5 forget=yes hours=0.05".split()
     advice = room / "advice"
     first, said, _ = advised(room, *cluster)
-    # (what heals is in the first answer, and as it is in the last)
     for name in ("a split", "a restart", "a forgotten state", "a rolling restart"):
         lines, last = ([it for it in part.splitlines() if it.startswith(f"  {name} ")] for part in (first, said))
         holds(f"{name} is told at once", (1, lines), (len(lines), last))
@@ -131,20 +99,19 @@ def try_advice(room):
           (told, counted[0].strip().startswith("Healed after N rounds: "), kept.count("\n".join(counted))))
     stages = [f"gossip_sweep -o {it} budget" for it in ("many", "many-bound", "split", "forgotten", "restart")]
     page = page_of(advice, hashlib.sha256(pathlib.Path(PROGRAM).read_bytes()).hexdigest(), *stages[:4],
-                   "@media screen and (prefers-color-scheme: dark)", "<thead>", "</thead><tbody>",
-                   "the oldest write that some copy lacked was for the first time no older than usual: at most one",
-                   "a rolling restart<b>wait ")
+                   "</thead><tbody>", "a rolling restart<b>wait ", "the oldest write that some copy lacked was for the "
+                   "first time no older than usual: at most one")
     # (a restart is told of nodes that forget)
     holds("a restart has no scenario of its own", False, stages[4] in page)
-    others = [it for it in Tags(page).named if not it.startswith("data:image/svg+xml;base64,")]
+    others = re.findall(r'(?:src|href)="(?!data:image/svg\+xml;base64,)(.*?)"', page)
     holds("the page needs no other", (7 if shutil.which("gnuplot") else 0, []), (page.count("<img "), others))
-    before, none = times_of(advice), room / "nothing"
+    before, none = times_of(advice, "*/*.csv"), room / "nothing"
     none.mkdir()
     for it in ("python3", "env"):
         (none / it).symlink_to(shutil.which(it))
     holds("it is read again, without gnuplot", said.replace("html.", "html without pictures, as gnuplot isn't there."),
           advised(room, "-o", "advice", PATH=str(none))[1])
-    holds("no run was made again", before, times_of(advice))
+    holds("no run was made again", before, times_of(advice, "*/*.csv"))
     holds("a page without pictures", 0, page_of(advice, "gnuplot isn't there").count("<img "))
     refuses(room, "the answer for another loss", "gossip_advise", *cluster[:5], "loss=2", *cluster[6:])
     other = program_that(room, "other", f'exec "{PROGRAM}" run')
@@ -158,8 +125,7 @@ def try_advice(room):
 
 def try_reserve(room):
     """Room for 60 entries, where 24 nodes write one of 6 keys: 24 are taken, if no budget from there on is better, nor
-    another mode, seed by seed. Choice, bound and floor are made here once more from the reports. 360 rounds, of a
-    second each, are a tenth of an hour."""
+    another mode, seed by seed. Choice, bound and floor are made here once more from the reports."""
     words = "nodes=24 keys=6 writes=1 entry=40 packet=2400 count=entries split=0 restarts=0 hours=0.1".split()
     first, said, out = advised(room, "-o", "reserve", *words)
     many, bound = room / "reserve" / "many", room / "reserve" / "many-bound"
@@ -167,9 +133,9 @@ def try_reserve(room):
     others = [worst(many, 48, 101, 200, FIRST, it) for it in ("scuttle-breadth", "precise-oldest", "precise-newest")]
     taken = min(budget for budget, it in figures.items()
                 if not any(is_better(other, it) for other in (*figures.values(), *others)))
-    less, more = held(figures[48], figures[taken])
-    reserve = (f"With 48 entries (2 times nodes * writes) it is {spanned(figures[48])} rounds in the runs that chose, "
-               f"where the budget has {spanned(figures[taken])}: no better (less under {less} of 20 seeds, more under "
+    less, more, _ = seed_by_seed(figures[48], figures[taken])
+    reserve = (f"With 48 entries (2 times nodes * writes) it is {span(figures[48])} rounds in the runs that chose, "
+               f"where the budget has {span(figures[taken])}: no better (less under {less} of 20 seeds, more under "
                f"{more}). So packet={40 * taken} is enough, and what is above that is a reserve")
     for name, told in (("first", first), ("last", said)):
         tells(f"the {name} answer", told, reserve,
@@ -178,16 +144,14 @@ def try_reserve(room):
     older = f"n 20 of 21 runs of 360 rounds (360 s) no copy is older than {max(figure)} rounds, {max(figure)} s"
     tells("what bounds it, at first", first, f"\nI{older}.\n")
     tells("what bounds it", said, f"\n  worst staleness     i{older}: the most of `greatest` in rounds 101 to 460 "
-          f"under 20 seeds, others than those that chose, which had {spanned(figure)}\n")
-    holds("the seeds that choose aren't those that bound", [set(CHOOSE), set(BOUND)], [
-        {int(it.name.split(".")[1].partition("-")[2]) for it in folder.glob("*.csv")} for folder in (many, bound)])
+          f"under 20 seeds, others than those that chose, which had {span(figure)}\n")
     # (24 * 6 entries never cut)
     holds("the floor is of runs that cut nothing", {0},
           {it for rows in column(bound, "budget-144", "cut", BOUND[:4]) for it in rows})
     best = worst(bound, 144, 101, 460, BOUND[:4])
-    tells("the floor", said, f"\n  the floor           no mode and no budget does better than {spanned(best)} rounds, "
-          f"{spanned(best)} s, with these peers and losses; the chosen one had "
-          f"{'that' if best == figure[:4] else spanned(figure[:4])} under the same 4 seeds\n")
+    tells("the floor", said, f"\n  the floor           no mode and no budget does better than {span(best)} rounds, "
+          f"{span(best)} s, with these peers and losses; the chosen one had "
+          f"{'that' if best == figure[:4] else span(figure[:4])} under the same 4 seeds\n")
     holds("nothing that heals is run where none is asked for", ({"many", "many-bound"}, False),
           ({it.parent.name for it in (room / "reserve").glob("*/scenario")}, "a split" in out or "a restart" in out))
     # (the name that a packet had before)
@@ -200,10 +164,9 @@ def try_reserve(room):
 
 
 def try_target(room):
-    """The smallest budget of 24 nodes with 6 keys that keeps the worst staleness within 4 s, or 8 rounds of
-    half a second, under all 20 seeds that bound it: counted once more from the reports. A delta of n entries of 40
-    bytes and a digest of 24 numbers of 10 bytes take n * 40 + 240 bytes. 24 * 23 * 6 are 3312 copies. 144 rounds are
-    72 s."""
+    """The smallest budget of 24 nodes with 6 keys that keeps the worst staleness within 4 s, or 8 rounds of half a
+    second, under all 20 seeds that bound it: counted once more from the reports. A delta of n entries and a digest take
+    n * 40 + 24 * 10 bytes. 24 * 23 * 6 are 3312 copies."""
     words = "nodes=24 keys=6 writes=1 entry=40 digest=10 interval=0.5 count=entries loss=1 hours=0.02".split()
     _, _, out = advised(room, "-o", "target", "target=4", *words, "mode=scuttle-depth")
     many, stop, bound = (room / "target" / it for it in ("many", "many-stop", "many-bound"))
@@ -217,67 +180,49 @@ def try_target(room):
     holds("all 20 seeds keep to the target, and of the smaller ones not all", (fewest, True, True),
           (bounds[0], max(figures[least]) <= 8, all(max(figures[it]) > 8 for it in smaller)))
     line = next((it for it in out.splitlines() if it.startswith("Take ")), "")
-    holds("the smallest packet", (True, True),
-          (line.startswith(f"Take scuttle-depth with room for {least} entries in a delta, {least * 40} bytes "),
-           line.endswith(f"packet={least * 40 + 240}.")))
+    take = f"Take scuttle-depth with room for {least} entries in a delta, {least * 40} bytes "
+    holds("the smallest packet", Text(take, f"packet={least * 40 + 240}."), line)
     tells("the target and the floor", out, "\n  the floor           no mode and no budget does better than ",
           "  target              met: in 20 of 21 runs of 144 rounds (72 s) the worst staleness is within 4 s, or 8 "
           "rounds\n", f"  a smaller one       {smaller[-1] if smaller else below} entries: the next smaller budget ")
-    if smaller:
-        seeds = figures[smaller[-1]]
-        tells("by how many a smaller one misses it", out,
-              f" under {sum(it > 8 for it in seeds)} of 20 seeds, up to {max(seeds)} rounds\n")
     of_least = f"budget-{least}"
     shares = [100 * sum(it[100:200]) / 100 / 3312 for it in column(many, of_least, "stale", FIRST)]
     half = [next(at for at in range(1, 9) if 2 * it[199 + at] <= it[199])
             for it in column(stop, of_least, "stale", FIRST)]
-    stale, typical = (spanned([round(it) for it in figure]) for figure in (shares, half))
+    stale, typical = (span([round(it) for it in figure]) for figure in (shares, half))
     tells("how many copies are stale, and how old a typical one is", out, f"  stale copies        {stale} %: ",
           f"  a typical one       {typical} round")
-    holds("no write in the 8 rounds after 200", True,
-          (stop / "scenario").read_text().endswith("\n[[load]]\nfrom = 201\nto = 208\nwrites = 0\n"))
     page = page_of(room / "target", f"<h1>24 nodes: scuttle-depth with {least} entries keeps the worst staleness "
                    "within 4 s</h1>")
     holds("the page has it once", 1, page.count("target<b>met</b>"))
-    before = times_of(room / "target")
     holds("it is read again", out, advised(room, "-o", "target")[2])
-    holds("and no run made again", before, times_of(room / "target"))
     for target, verdict in (("4", "met: in 20 of 21 runs of 144 rounds (72 s) the worst staleness is within 4 s"),
                             ("1", "not met: the worst staleness is above 1 s")):
         _, _, out = advised(room, "-o", f"judged {target}", *words, "mode=scuttle-depth",
                             f"packet={least * 40 + 240}", f"target={target}", "split=0", "restarts=0")
         tells(f"a packet for target={target}", out, f"\nThe target is {verdict}", f"\n  target              {verdict}")
     _, _, out = advised(room, "-o", "never", "target=1", *words)
-    holds("a target that no budget meets", True, out.startswith(
-        "No budget keeps the worst staleness within 1 s, or 2 rounds. The best that can be had, with room for 144 "
-        "entries"))
+    holds("a target that no budget meets", Text("No budget keeps the worst staleness within 1 s, or 2 rounds. The best "
+                                                "that can be had, with room for 144 entries"), out)
     page_of(room / "never", "<h1>24 nodes: no budget keeps")
 
 
 def try_calls(room):
-    """Three calls in an interval: a third of 12 entries is enough, an interval has three rounds, and only the first of
-    them writes. The first 200 intervals are the rounds up to 600. 180 s are 300 intervals, behind the first 100."""
+    """Three calls in an interval: a third of 12 entries is enough, and an interval has three rounds. 180 s are 300
+    intervals, behind the first 100."""
     words = "nodes=12 keys=2 writes=1 entry=40 packet=160 count=entries fanout=3 interval=0.6".split()
     _, _, out = advised(room, "-o", "calls", *words, "hours=0.05", "mode=scuttle-depth")
     figure = worst(room / "calls" / "many", 4, 301, 600)
     bound = worst(room / "calls" / "many-bound", 4, 301, 1200, BOUND)
     holds("three calls", "First answer, from 200 intervals of 3 rounds: scuttle-depth with room for 4 entries in a "
           "delta, 160 bytes (what fits; nodes * writes / 3); packet=160.", out.partition("\n")[0])
-    tells("three calls", out, f"\nWorst staleness {spanned(figure)} rounds, ", "\nIn 20 of 21 runs of 900 rounds (300 "
+    tells("three calls", out, f"\nWorst staleness {span(figure)} rounds, ", "\nIn 20 of 21 runs of 900 rounds (300 "
           f"intervals, 180 s) no copy is older than {max(bound)} rounds, ")
-    scenario = (room / "calls" / "many" / "scenario").read_text()
-    printed = run(room, "gossip_scenario", *words[:-1], "rounds=600")[1]
-    holds("the rounds without writes are those of gossip_scenario", printed.partition("[[load]]")[2],
-          scenario.partition("[[load]]")[2])
-    healed_after = [it for it in out.splitlines() if "healed after" in it and "N rounds" not in it]
-    holds("each figure in rounds, intervals and seconds", [],
-          [it for it in healed_after if " intervals, " not in it or " s" not in it])
 
 
 def try_hopeless_advice(room):
-    """Two entries for 24 nodes that write one of 20 keys each: some write of the first rounds is missing for more than
-    400 rounds. By a sum it is 23 * 20 / (2 * 2) - 20 at least. So it ends after 800 rounds, without what heals, and
-    names the 24 * 40 bytes and the call for that."""
+    """Two entries for 24 nodes that write one of 20 keys each: some write is missing for more than 400 rounds, by a sum
+    23 * 20 / (2 * 2) - 20 at least. So it ends after 800, and names the 24 * 40 bytes and the call for what heals."""
     words = ("nodes=24 keys=20 writes=1 entry=40 packet={} digest=10 shared=no restarts=4 mode=scuttle-depth "
              "count=entries hours=0.1")
     first, said, _ = advised(room, *words.format(80).split(), "-o", "no hope")
@@ -286,13 +231,10 @@ def try_hopeless_advice(room):
         "a round, so it is at least 95 rounds; room for nodes * writes = 24 entries takes packet=960.",
         "First answer, from 200 rounds: no budget that fits is seen to be enough, as none has a level of at most 100 "
         "rounds within 200."], first.splitlines()[:2])
-    tells("it says how far is looked", first,
-          "\nWhether it levels off later is seen from 400 and then 800 rounds, and no more.")
     no_level = "none has a level of at most 400 rounds within 800"
-    holds("none is enough", (True, True), (
-        max(worst(room / "no hope" / "longest", 2, 401, 800)) > 400, said.startswith(
-            f"No budget that fits is enough: {no_level}. The most that fits: room for 2 entries in a delta, 80 bytes")))
-    tells("none is enough", said, f"  worst staleness     not known: {no_level}; by a sum at least 95",
+    holds("none is enough", True, max(worst(room / "no hope" / "longest", 2, 401, 800)) > 400)
+    tells("none is enough", said, f"No budget that fits is enough: {no_level}. The most that fits: room for 2 entries "
+          "in a delta, 80 bytes", f"  worst staleness     not known: {no_level}; by a sum at least 95",
           "  enough              packet=960 has room for nodes * writes = 24 entries, and ")
     holds("nothing is run that heals, or bounds", ["longer", "longest", "many"],
           sorted(it.name for it in (room / "no hope").iterdir() if (it / "scenario").exists()))
@@ -318,30 +260,22 @@ def try_longer_runs(room):
           (max(short) > 100, max(long + bound) <= 200, is_better(at_knee, long)))
     tells("the first answer says how far is looked", first,
           "\nWhether it levels off later is seen from 400 and then 800 rounds, and no more.\n")
-    holds("the longer runs name mode, budget and what is enough", True, said.startswith(
-        "Take scuttle-depth, but packet=200 is too small: with room for 5 entries in a delta, 200 bytes (what fits; "
-        f"0.21 times nodes * writes), the worst copy was {spanned(long)} rounds, {spanned(long)} s, behind, and with "
-        f"packet=960 {spanned(at_knee)} rounds.\n"))
-    tells("and what bounds it and heals", said, "\n  worst staleness     in 20 of 21 runs of 360 rounds (360 s) no "
-          f"copy is older than {max(bound)} rounds, {max(bound)} s: ", " in rounds 201 to 560 under 20 seeds, others ",
+    tells("what the longer runs say", said, "Take scuttle-depth, but packet=200 is too small: with room for 5 entries "
+          "in a delta, 200 bytes (what fits; 0.21 times nodes * writes), the worst copy was "
+          f"{span(long)} rounds, {span(long)} s, behind, and with packet=960 {span(at_knee)} rounds.\n",
+          "\n  worst staleness     in 20 of 21 runs of 360 rounds (360 s) no copy is older than "
+          f"{max(bound)} rounds, {max(bound)} s: ", " in rounds 201 to 560 under 20 seeds, others ",
           "\n  a rolling restart   ")
-    tells("and how many calls are enough, which are 24 / 5", said.partition("Mind:")[2],
-          "(fanout=5, as nodes * writes / 5 entries fit)")
     page_of(room / "longer", "In rounds 201 to 400, by budget", "<h1>24 nodes: scuttle-depth with 5 entries, which are "
             "too few</h1>", '<div class="first">enough<b>960 bytes</b>')
 
 
 def try_advice_below_the_knee(room):
-    """Room for 10 entries, where 20 nodes write one key each: both answers name the 20 * 40 bytes, and what counts
-    where nodes forget. What heals is counted once more from the reports: of a restart the longer time under each seed,
-    of five groups of two, which are half of the nodes, or of one group alone. 10 mean entries are 5235 bytes."""
+    """Room for 10 entries, where 20 nodes write one key each. What heals is counted once more from the reports: of a
+    restart the longer time under each seed, of five groups of two or of one alone. 10 mean entries are 5235 bytes."""
     cluster = "nodes=20 keys=1 writes=1 entry=40 packet=400 count=entries restarts=2 forget=yes hours=0.1"
     first, said, _ = advised(room, "-o", "below", *cluster.split())
-    enough = "packet=800 has room for nodes * writes = 20 entries, and "
-    forget = "Nodes forget here, and the budget is below nodes * writes: old state"
-    tells("below the knee, at first", first, f"\nThat is below nodes * writes. {enough}", f"\n{forget}")
-    tells("below the knee", said.partition("Mind:")[2], enough, forget)
-    split, _, _ = healed(room / "below" / "split", "budget-10")
+    split, _ = healed(room / "below" / "split", "budget-10")
     groups, one = (healed(room / "below" / it, "budget_bytes-5235") for it in ("forgotten", "forgotten-one"))
     restart, gone = ([max(it) for it in zip(groups[at], one[at])] for at in (0, 1))
     what = ("of 2 nodes in each of 5 rounds, each down for one round, and then without its own state, and of such a "
@@ -354,20 +288,6 @@ def try_advice_below_the_knee(room):
               took("a forgotten state", what, "gone from all copies", gone),
               f"\n  a rolling restart   wait {waits} rounds, {waits} s, after a group of 2 nodes is up again: in 20 of "
               "21 cases a restart was healed and its forgotten state was gone by then\n")
-    holds("half of the nodes restart, or a group", (10, 2), (groups[2], one[2]))
-
-
-def try_restarts_of_half(room):
-    """Of 20 nodes 10 restart at once and forget: one such group is all that may restart, as more would leave nothing
-    old to lack, which was told as healed after a round. What is told is no less than its reports have."""
-    cluster = ("nodes=20 keys=4 writes=1 entry=40 packet=800 count=entries restarts=10 forget=yes split=0 "
-               "mode=scuttle-depth hours=0.1")
-    _, said, _ = advised(room, "-o", "half", *cluster.split())
-    restart, gone, count = healed(room / "half" / "forgotten", f"budget_bytes-{20 * 1047 // 2}")
-    what = "of 10 nodes, each down for one round, and then without its own state"
-    holds("restarts of half", (10, False, True), (count, (room / "half" / "forgotten-one").exists(), min(gone) > 1))
-    tells("restarts of half", said, took("a restart", what, "healed", restart),
-          took("a forgotten state", what, "gone from all copies", gone))
 
 
 def try_stopping_advice(room):

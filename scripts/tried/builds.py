@@ -1,12 +1,100 @@
-"""Trials of scripts/build, by a toolchain that proves nothing: what is proved, what is kept, and what is made anew."""
+"""Trials of scripts/build and ./gossip_bench, by a toolchain that proves nothing: what is proved, what is kept, what is
+made anew, and that what is called is the program."""
+import os
+import re
 import shutil
 import signal
 import sys
 
 from toolchain import NEWER, has_newer
-from tried.calls import run, started, stopped, waits_for
-from tried.toys import CRATES, Toy
-from trials import TOP, Text, holds, small_files
+from tried.calls import run, started, stopped, waits_for, written
+from shared import TOP, Text, holds, small_files
+
+# The crates, with those that each stands on, and what is needed of scripts.
+CRATES = {"low": "", "left": "low", "right": "low", "gossip_bench": "left right"}
+COPIED = ("gossip_bench", "scripts/build", "scripts/toolchain.py", "scripts/shared.py")
+COMMANDS = ("sh", "env", "python3", "find", "cksum", "sort", "cat", "dirname", "readlink", "mv", "rm", "sleep")
+LONG_AGO = 1_000_000_000
+# What is said of a proof that takes long, as each may on a busy machine.
+PROGRESS = re.compile(r"^gossip_bench: (still )?proving .*\n", re.MULTILINE)
+BUILDING = "gossip_bench: building. The first build proves everything and takes minutes.\n"
+TUNABLES = "glibc.malloc.hugetlb=1"
+
+
+class Toy:
+    """A repository in a folder of its own, and a toolchain beside it."""
+
+    def __init__(self, room):
+        self.kit, self.top, self.bare = room / "kit", room / "a tree", room / "bare"
+        self.kit.mkdir(parents=True)
+        written(self.kit / "bin" / "rt", (TOP / "scripts/tried/toy_rt").read_text())
+        for name in ("KIT-ID", "WHAT"):
+            (self.kit / name).write_text(f"{name}\n")
+        self.bare.mkdir()
+        for name in COMMANDS:
+            (self.bare / name).symlink_to(shutil.which(name))
+        (self.top / "scripts").mkdir(parents=True)
+        for name in COPIED:
+            shutil.copy(TOP / name, self.top / name)
+        (self.top / "HANDLES").write_text("Handles allowed: none.\n")
+        (self.top / "crates.txt").write_text("".join(f"{name}: {below}\n" for name, below in CRATES.items()))
+        for name in CRATES:
+            self.source(name).parent.mkdir(parents=True)
+            self.source(name).write_text(f"// {name}\npub fn {name}()\n")
+
+    path = property(lambda self: f"{self.kit / 'bin'}:{self.bare}")
+    program = property(lambda self: self.top / "crates/gossip_bench/out/gossip_bench")
+
+    def source(self, name):
+        return self.top / "crates" / name / "src" / ("main.rt" if name == "gossip_bench" else "lib.rt")
+
+    def add(self, name, line):
+        self.source(name).write_text(f"{self.source(name).read_text()}{line}\n")
+
+    def proved(self):
+        """The crates that were proved since this was asked last, in their order."""
+        note = self.kit / "proved"
+        names = note.read_text().split() if note.exists() else []
+        if names:  # (a note that is still empty is being written)
+            note.unlink()
+        return names
+
+    def call_and_hear(self, name, *words, with_rt=True, room=None, **how):
+        how = {"text": "", "PATH": self.path if with_rt else str(self.bare), **how}
+        return run(room or self.top, self.top / name, *words, **how)
+
+    def call(self, name, *words, **how):
+        """The same without lines of progress."""
+        status, out, err = self.call_and_hear(name, *words, **how)
+        return status, out, PROGRESS.sub("", err)
+
+    def left(self):
+        return [*self.top.glob("crates/*/out/rooms-*"), *self.top.glob("crates/*/out/**/*.part")]
+
+    def build(self, *words, **how):
+        """The status, the lines on standard error, and what was proved."""
+        status, out, err = self.call("scripts/build", *words, **how)
+        return status, out + err, self.proved()
+
+    def copy(self, to):
+        """Moves on to a copy, all of whose files have older times than any before."""
+        shutil.copytree(self.top, to, copy_function=shutil.copy)
+        for path in to.rglob("*"):
+            os.utime(path, (LONG_AGO, LONG_AGO))
+        self.top = to
+
+
+def starts(name, toy, *words, builds=False, **how):
+    text = "nodes = 2\nkeys = 1\n"
+    printed = f"{' '.join(words)} {TUNABLES}\n{text}"
+    status, out, err = toy.call("gossip_bench", *words, text=text, **how)
+    holds(name, (0, printed, BUILDING if builds else ""), (status, out[-len(printed):], err[:len(BUILDING)]))
+
+
+def built(room):
+    toy = Toy(room)
+    starts("a first call", toy, "run", "--workers", "2", builds=True)
+    return toy
 
 
 def builds(name, toy, wanted, *words, **how):
@@ -46,10 +134,6 @@ def try_kept(room):
     builds("a program that was written over", toy, ["gossip_bench"])
     (toy.top / "crates/left/out/proved/left.rlib/statements").write_text("pub fn others()\n")
     builds("a library that was written over", toy, ["left"])
-    toy.copy(room / "copy")
-    builds("a copy with older times", toy, [])
-    toy.source("low").write_text("// low\npub fn low()\n")
-    builds("an older text in the copy", toy, CRATES)
 
 
 def try_changes_under_way(room):
@@ -67,21 +151,78 @@ def try_changes_under_way(room):
     builds("a build again", toy, ["low", "right"])
 
 
+def try_building(room):
+    """It builds where there is no program yet, where a source was changed, and where the program was."""
+    holds("no toolchain and no program", (3, "", Text("", "rt of the Rattle toolchain", lines=1)),
+          Toy(room / "unbuilt").call("gossip_bench", "run", with_rt=False))
+    toy = built(room / "built")
+    toy.source("low").touch()
+    starts("a source with another time", toy, "check", with_rt=False)
+    toy.add("low", "pub fn more()")
+    holds("a source that was changed, without a toolchain", (3, "", Text(lines=1)),
+          toy.call("gossip_bench", "run", with_rt=False))
+    starts("a source that was changed", toy, "run", builds=True)
+    holds("what was changed is in it", True, "pub fn more()" in toy.program.read_text())
+    (toy.top / "crates/right/proofs").mkdir()
+    (toy.top / "crates/right/proofs/A.antt").write_text("a = b\n")
+    starts("a source more", toy, "run", builds=True)
+    source = toy.source("left")
+    time = source.stat().st_mtime_ns
+    source.write_text(source.read_text().replace("fn left", "fn lest"))
+    os.utime(source, ns=(time, time))
+    starts("another text of the same size and time", toy, "run", builds=True)
+    toy.program.write_text("#!/bin/sh\necho another\n")
+    starts("another program", toy, "run", builds=True)
+    toy.copy(room / "a copy")
+    starts("a copy with older times", toy, "run", with_rt=False)
+    toy.add("low", "// older")
+    os.utime(toy.source("low"), (LONG_AGO - 1, LONG_AGO - 1))
+    starts("another text with an older time", toy, "run", builds=True)
+
+
+def try_calling(room):
+    """It can be called from anywhere, by links, and passes on its words, its streams and its status."""
+    toy, elsewhere = built(room / "called"), room / "elsewhere"
+    elsewhere.mkdir()
+    starts("another folder", toy, "run", room=elsewhere, CDPATH=str(toy.top))
+    (elsewhere / "absolute").symlink_to(toy.top / "gossip_bench")
+    (elsewhere / "link").symlink_to("absolute")
+    holds("links", (0, Text("", f"\na b 'c' {TUNABLES}\n"), ""),
+          run(room, elsewhere / "link", "a b", "'c'", text="", PATH=str(toy.bare)))
+    holds("what the caller says of memory", (0, Text("", "\nrun \n"), ""),
+          toy.call("gossip_bench", "run", with_rt=False, GLIBC_TUNABLES=""))
+    toy.program.write_text("#!/bin/sh\ncat >&2\nexit 1\n")
+    (toy.top / "scripts/build").write_text("#!/bin/sh\n")
+    for name, said in (("status and standard error", BUILDING), ("once more", "")):
+        holds(name, (1, "", f"{said}a fault"), toy.call("gossip_bench", "run", text="a fault"))
+    # (a stream that the caller has closed stays closed)
+    toy.program.write_text("#!/bin/sh\nfor it in 0 1 2; do [ -e /proc/$$/fd/$it ] || exit 7; done\n")
+    toy.call("gossip_bench")
+    for closed, status in (("", 0), (">&-", 7), ("<&-", 7), ("<&- >&- 2>&-", 7)):
+        written(room / "closes", f'#!/bin/sh\nexec "{toy.top}/gossip_bench" {closed}\n')
+        holds(f"streams {closed}", (status, "", ""), run(room, room / "closes", PATH=toy.path))
+
+
 def try_failing(room):
     """What isn't proved is told, and what was built before stays, until all is proved."""
-    toy = Toy(room / "failing")
-    builds("a first build", toy, CRATES)
-    before = toy.program.read_bytes()
+    toy = built(room / "failing")
+    before, _ = toy.program.read_bytes(), toy.proved()
     toy.add("low", "pub fn wrong() // WRONG")
     why = "src/lib.rt: a goal is not proved\ngossip_bench: low is not proved: the log is crates/low/out/build.log\n"
     holds("a crate that isn't proved", (1, why, ["low"]), toy.build())
-    holds("it is tried again", (1, ["low"]), toy.build()[::2])
-    holds("the program is as it was", before, toy.program.read_bytes())
+    holds("a call", (3, "", Text("", "\ngossip_bench: the build failed, so nothing was run\n")),
+          toy.call("gossip_bench", "run"))
+    holds("it is tried again", (["low"], before), (toy.proved(), toy.program.read_bytes()))
     toy.source("low").write_text("// low\npub fn low()\n")
     builds("the former text", toy, [])
+    starts("the former text", toy, "run", with_rt=False)
     holds("no toolchain", (1, "gossip_bench: the command rt of the Rattle toolchain is not found\n", []),
           toy.build(with_rt=False))
     holds("nothing else is left", [], toy.left())
+    toy.program.unlink()
+    (toy.top / "scripts/build").write_text("#!/bin/sh\n")
+    why = f"{BUILDING}gossip_bench: the build left no program, so nothing was run\n"
+    holds("a build that leaves no program", (3, "", why), toy.call("gossip_bench", "run"))
 
 
 def try_toolchains(room):
@@ -99,15 +240,27 @@ def try_toolchains(room):
 
 
 def try_full_disks(room):
-    """A disk that is full is told in a sentence, and what was kept counts no less and no more."""
+    """A full disk is told in a sentence, what was kept counts no less and no more, and what is built can be run."""
     toy = Toy(room / "full")
+    why = "File too large.\ngossip_bench: the build failed, so nothing was run\n"
     for most in (0, 20, 40, 100, 150):
         holds(f"no file above {most} bytes", (1, Text("gossip_bench: not built: ", "File too large.\n", lines=1)),
               toy.build(before=small_files(most))[:2])
-    # (its seconds were being noted)
+    holds("no room for a build", (3, "", Text(BUILDING, why, lines=3)),
+          toy.call("gossip_bench", "run", before=small_files(20)))
     (toy.top / "crates/low/out/seconds").write_text("")
-    holds("with room", (0, True), (toy.build()[0], toy.program.exists()))
-    before = toy.program.read_bytes()
+    starts("with room", toy, "run", builds=True)
+    kept = {it: it.read_bytes() for it in (toy.program.with_name(name) for name in ("seen", "built_from"))}
+    shutil.copy(toy.source("low"), room / "low")
+    (room / "low").replace(toy.source("low"))
+    for _ in range(2):
+        holds("no room for times", (0, Text("", "\nnodes = 2\n"), Text("gossip_bench: ", lines=1)),
+              toy.call("gossip_bench", "run", text="nodes = 2\n", before=small_files(20)))
+    holds("what was noted stays, and nothing is left", (kept, []),
+          ({it: it.read_bytes() for it in kept}, [*toy.program.parent.glob("seen.*")]))
+    starts("with room again", toy, "run")
+    starts("and at once then", toy, "run")
+    before, _ = toy.program.read_bytes(), toy.proved()
     toy.add("gossip_bench", "pub fn later()")
     holds("a program that can't be written", (1, ["gossip_bench"]), toy.build(before=small_files(100))[::2])
     holds("the program is as it was", before, toy.program.read_bytes())
@@ -124,16 +277,13 @@ def try_words(room):
         builds(f"{word} once more", toy, [], word)
         builds(f"{word} without the word", toy, [])
         holds(f"the program after {word}", f"# for {kind}", toy.program.read_text().splitlines()[1])
-    holds("--help", (0, Text("build [portable | native]: proves and builds"), ""),
-          toy.call("scripts/build", "--help", with_rt=False))
     for words in (("walk",), ("portable", "native"), ("--portable",)):
         holds(f"build {' '.join(words)}", (2, "", Text("build: ", lines=1)), toy.call("scripts/build", *words))
     holds("words that are refused prove nothing", [], toy.proved())
 
 
 def try_stopping(room):
-    """A build that is stopped leaves nothing, and one that is killed nothing that the next one keeps. Two at once build
-    once."""
+    """A build that is stopped leaves nothing, one that is killed nothing that the next one keeps. Two build once."""
     toy = Toy(room / "stopping")
 
     def begun():

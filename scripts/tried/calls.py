@@ -6,7 +6,7 @@ import subprocess
 import tempfile
 import time
 
-from trials import PROGRAM, TOP, Text, holds, text_of
+from shared import PROGRAM, TOP, Text, holds, text_of
 
 GUIDE = TOP / "examples" / "guide"
 TOOLS = TOP / "tools"
@@ -69,6 +69,10 @@ def refuse(room, script):
         call, _, why = line.partition("-> ")
         if line.startswith(f"{script} "):
             refuses(room, why, *shlex.split(call))
+
+
+def times_of(folder, pattern):
+    return {it: it.stat().st_mtime_ns for it in folder.glob(pattern)}
 
 
 def written(file, text):

@@ -6,12 +6,11 @@ from pathlib import Path
 
 from toolchain import imported, load_reader
 from tried.calls import tells
-from trials import TOP, holds, text_of
+from shared import TOP, holds, text_of
 
 NEEDED = "rt"  # which reads the crate, and applies its edits
 SOURCE, ANSWERS = text_of("toy_lib.txt"), text_of("toy_answers.txt")
 SAID = tomllib.loads(text_of("edits.toml"))
-EDIT = "file: src/lib.rt\nold:     twice + twice\nnew:     {}\n"
 
 
 def toy(room, name, said=""):
@@ -19,7 +18,7 @@ def toy(room, name, said=""):
     script, rt, read = imported(TOP / "scripts/try_edits"), imported(Path(shutil.which("rt")).resolve()), []
     folder, left = room / name, iter(said.split(", "))
     for file, text in (("src/lib.rt", SOURCE), ("proofs/quad/Answers.antt", ANSWERS),
-                       ("edits/010_more.edit", EDIT.format("twice + twice + 1")),
+                       ("edits/010_add.edit", "file: src/lib.rt\nold:     twice + twice\nnew:     twice + twice + 1\n"),
                        ("edits/020_double.edit", "file: src/lib.rt\nold:     x + x\nnew:     x\n")):
         (folder / file).parent.mkdir(parents=True, exist_ok=True)
         (folder / file).write_text(text)

@@ -8,7 +8,7 @@ import statistics
 from concurrent.futures import ThreadPoolExecutor
 
 from tried.calls import fails, is_running, program_that, refuse, refuses, run, started, stopped, waits_for
-from trials import PROGRAM, Text, holds
+from shared import PROGRAM, Text, holds
 from gossip_tools import live
 from gossip_tools.live_figures import Figures
 from gossip_tools.live_node import Node, decoded
@@ -38,64 +38,54 @@ def columns(entry):
     return entry.owner, entry.key, entry.mark >> 32, entry.mark % 2**32, entry.value, entry.born
 
 
-class Follower:
-    """Nodes that do what a trace says, without a network: what they send and hold, as replay.py tells it, and the rows
-    of the report, as gossip_live counts them."""
+def exchanged(row, nodes, under_way):
+    """Carries out an exchange of a trace, and answers its lines of the file --sent."""
+    nodes[int(row["initiator"])].begin(int(row["responder"]))
+    for message, direction in enumerate(("forth", "back", "forth"), 1):
+        (receiver, datagram), is_lost = under_way.pop(), row["fate"] == f"lost{message}"
+        came, arrived = decoded(datagram), "no" if is_lost else "yes"
+        yield from ([row["round"], row["index"], direction, came.sender, receiver, arrived, *columns(it)]
+                    for it in came.delta)
+        if is_lost:
+            return
+        nodes[receiver].receive(datagram)
 
-    def __init__(self, plan):
-        self.plan, self.sent, self.tables, self.rows, self.put = plan, [], [], [], []
-        self.nodes = [Node(it, plan, lambda *what: self.put.append(what)) for it in range(plan.nodes)]
-        self.figures = Figures(plan)
 
-    def follow(self, trace):
-        for round in range(1, self.plan.rounds + 1):
-            writes = []
-            for node in self.nodes:
-                if restarts := self.plan.restarts_in(node.number, round):
-                    node.restart(any(it.get("forget") for it in restarts))
-                if not self.plan.is_down(node.number, round):
-                    writes += [node.write(round) for _ in range(self.plan.writes_in(round))]
-            for row in trace:
-                if int(row["round"]) == round:
-                    self.exchange(row)
-            self.tables += [[round, node.number, *columns(it)] for node in self.nodes
-                            for part in node.table.values() for it in part.values()]
-            entries, cut = sum(it.entries for it in self.nodes), sum(it.cut for it in self.nodes)
-            generations = {it.number: it.generation for it in self.nodes}
-            marks = {it.number: marks_of(it, self.plan) for it in self.nodes}
-            told = Told(entries, cut, timers=0, late=0, lag=0, writes=writes, generations=generations, marks=marks)
-            self.rows.append(self.figures.row(round, [told]))
-
-    def exchange(self, row):
-        self.nodes[int(row["initiator"])].begin(int(row["responder"]))
-        for message in (1, 2, 3):
-            is_lost = row["fate"] == f"lost{message}"
-            (receiver, datagram), = self.put
-            self.put.clear()
-            came, direction = decoded(datagram), "back" if message == 2 else "forth"
-            arrived = "no" if is_lost else "yes"
-            self.sent += [[int(row["round"]), int(row["index"]), direction, came.sender, receiver, arrived,
-                           *columns(it)] for it in came.delta]
-            if is_lost:
-                return
-            self.nodes[receiver].receive(datagram)
+def followed(plan, trace):
+    """What nodes send and hold that follow a trace, as replay.py tells it, and the report, as gossip_live counts it."""
+    sent, tables, rows, under_way, figures = [], [], [], [], Figures(plan)
+    nodes = [Node(it, plan, lambda *what: under_way.append(what)) for it in range(plan.nodes)]
+    for round in range(1, plan.rounds + 1):
+        writes = []
+        for node in nodes:
+            if restarts := plan.restarts_in(node.number, round):
+                node.restart(any(it.get("forget") for it in restarts))
+            if not plan.is_down(node.number, round):
+                writes += [node.write(round) for _ in range(plan.writes_in(round))]
+        sent += [it for row in trace if int(row["round"]) == round for it in exchanged(row, nodes, under_way)]
+        tables += [[round, node.number, *columns(it)] for node in nodes for part in node.table.values()
+                   for it in part.values()]
+        told = Told(sum(it.entries for it in nodes), sum(it.cut for it in nodes), timers=0, late=0, lag=0,
+                    writes=writes, generations={it.number: it.generation for it in nodes},
+                    marks={it.number: marks_of(it, plan) for it in nodes})
+        rows.append(figures.row(round, [told]))
+    return sent, sorted(tables), rows
 
 
 def try_following_traces(room):
-    """A live node sends and holds what replay.py does, entry by entry, where both meet the same and lose the same, and
-    the figures are those of the report."""
+    """A live node sends, holds and counts what replay.py does, where both meet the same and lose the same."""
     for mode, form in itertools.product(MODES, FORMATS):
         text, name = mishaps(mode, form), f"{mode} in format {form}"
         words = "run --trace trace --sent sent --tables tables".split()
         status, out, _ = run(room, "replay.py", *words, text=text)
-        follower = Follower(live.plan_of(text, live.told([])))
-        follower.follow(list(csv.DictReader((room / "trace").read_text().splitlines())))
-        for file, found in (("sent", follower.sent), ("tables", sorted(follower.tables))):
+        trace = list(csv.DictReader((room / "trace").read_text().splitlines()))
+        sent, tables, figures = followed(live.plan_of(text, live.told([])), trace)
+        for file, found in (("sent", sent), ("tables", tables)):
             _, *rows = csv.reader((room / file).read_text().splitlines())
             holds(f"{file} of {name}", (0, rows), (status, [[str(it) for it in row] for row in found]))
             holds(f"there is much in {file} of {name}", True, len(rows) > 1000)
         report = list(csv.DictReader(out.splitlines()))
-        found = [{name: str(row[name]) for name in report[0] if name in row} for row in follower.rows]
+        found = [{name: str(row[name]) for name in report[0] if name in row} for row in figures]
         wanted = [{name: row[name] for name in it} for row, it in zip(report, found)]
         holds(f"the report of {name}", (24, wanted), (len(report), found))
 
@@ -115,8 +105,7 @@ def try_words(room):
 
 
 def agreed(room, text):
-    """The report of a cluster whose writes stop, its rows and its status. A busy machine is given more intervals until
-    the copies agree, as long as a minute in all."""
+    """What comes of a cluster whose writes stop. A busy machine is given more intervals, up to a minute in all."""
     for rounds in (30, 120, 400):
         status, out, err = run(room, "gossip_live interval=0.1",
                                text=text.replace("rounds = 30", f"rounds = {rounds}") + WRITES_STOP)
@@ -144,27 +133,23 @@ def try_clusters(room):
         holds(f"copies agree: {name}", [0] * len(last), last)
         holds(f"it says how fast it was: {name}", (True, Text("gossip_live: ", " timers were late")),
               (status in (0, WORTHLESS), err))
-        # (wide bounds while nodes write: 16 writes make 240 entries to be sent in a round, and what a restarted node
-        # lacks may be as old as the first one)
+        # (wide bounds while nodes write: 16 writes are 240 entries; a restarted node may lack the first one)
         oldest = 15 if RESTARTED in text else 8
         wrong = [it for it in rows[5:15] if not (60 <= it[1] <= 480 and 0 < it[3] <= 960 and 1 <= it[4] <= oldest)]
         holds(f"figures of {name}", [], wrong if status != WORTHLESS else [])
 
 
 def try_beside(room):
-    """Beside the live cluster stand the means of the bench, and the most of `greatest`, under its seeds."""
+    """Beside the live cluster stand the means of the bench under its seeds."""
     text = CLUSTER.replace("rounds = 30", "rounds = 8")
     status, out, _ = run(room, "gossip_live interval=0.1 beside=3 window=5", text=text)
-    header, *rows = csv.reader(out.splitlines())
-    holds("windows", (True, [["1", "5"], ["6", "8"]]), (status in (0, WORTHLESS), [it[:2] for it in rows]))
     reports = [run(room, PROGRAM, "run", text=text.replace("seed = 1", f"seed = {seed}"))[1] for seed in (1, 2, 3)]
-    reports = [list(csv.DictReader(it.splitlines())) for it in reports]
-    for row, (first, last) in zip(rows, ((1, 5), (6, 8))):
-        for name, places in (("entries", 0), ("cut", 0), ("stale", 0), ("greatest", 1)):
-            means = [statistics.fmean(int(it[name]) for it in report[first - 1:last]) for report in reports]
-            least, most = (f"{it(means):.{places}f}" for it in (min, max))
-            holds(f"{name} of the bench in {first} to {last}", least if least == most else f"{least} to {most}",
-                  row[header.index(f"bench_{name}")])
+    entries, wanted = [[int(it["entries"]) for it in csv.DictReader(text.splitlines())] for text in reports], []
+    for first, last in ((1, 5), (6, 8)):
+        means = [statistics.fmean(it[first - 1:last]) for it in entries]
+        wanted.append([str(first), str(last), f"{min(means):.0f} to {max(means):.0f}"])
+    found = [[it["from"], it["to"], it["bench_entries"]] for it in csv.DictReader(out.splitlines())]
+    holds("windows, with the entries of the bench", (True, wanted), (status in (0, WORTHLESS), found))
 
 
 def try_slow_machines(room):
@@ -174,17 +159,12 @@ def try_slow_machines(room):
           run(room, "gossip_live interval=0.01 fanout=39", text=text))
 
 
-def wait_for_a_row(process):
-    header, _ = process.stdout.readline(), process.stdout.readline()
-    return header
-
-
 def try_stopping(room):
     """A cluster that is stopped leaves no process, and says so in a sentence."""
     text = CLUSTER.replace("rounds = 30", "rounds = 1000").replace("nodes = 16", "nodes = 40")
     for ends in (signal.SIGINT, signal.SIGTERM, signal.SIGHUP, signal.SIGKILL):
         with started(room, "gossip_live interval=0.2", text=text) as process:
-            header = wait_for_a_row(process)
+            header, _ = process.stdout.readline(), process.stdout.readline()
             processes = children(process.pid)
             status, _, err = stopped(process, ends)
         if ends != signal.SIGKILL:
@@ -192,7 +172,7 @@ def try_stopping(room):
                   (status, header, len(processes), err, [it for it in processes if is_running(it)]))
     holds("what a cluster that was killed leaves", True, waits_for(lambda: not any(map(is_running, processes))))
     with started(room, "gossip_live interval=0.2", text=text) as process:
-        wait_for_a_row(process)
+        process.stdout.readline()
         os.kill(children(process.pid)[0], signal.SIGKILL)
         _, err = process.communicate(timeout=60)
     holds("a process with nodes that was killed", (1, True),
@@ -200,16 +180,6 @@ def try_stopping(room):
 
 
 def try_faults(room):
-    with open("/dev/full", "w") as full:
-        fails(room, "No space left on device", 1, "gossip_live interval=0.1", text=CLUSTER, out=full)
-    with started(room, "gossip_live interval=0.1", text=CLUSTER) as process:
-        process.stdout.readline()
-        process.stdout.close()
-        holds("a reader that has ended", (1, "gossip_live: nobody reads the output any more.\n"),
-              (process.wait(timeout=60), process.stderr.read()))
-    with open(os.devnull, "w") as nowhere:
-        for closed, why in ((0, "standard input: it is closed"), (1, "the output: it is closed")):
-            fails(room, why, 1, "gossip_live interval=0.1", text=CLUSTER, out=nowhere, before=lambda: os.close(closed))
     half = program_that(room, "half", "echo half")
     fails(room, "printed no whole report", 1, "gossip_live beside=1", text=CLUSTER, GOSSIP_BENCH=half)
     faulty = program_that(room, "faulty", "echo fault 1: out of memory >&2; exit 1")

@@ -7,23 +7,19 @@ import re
 import signal
 
 import installed
-from tried.calls import (
-    GUIDE, SMALL, TOOLS, fails, gives, program_that, run, started, stopped, waits_for, written,
-)
-from trials import PROGRAM, Text, holds, small_files
+from tried.calls import GUIDE, SMALL, TOOLS, fails, gives, program_that, run, started, stopped, waits_for, written
+from shared import PROGRAM, Text, holds, small_files
 
 INPUT, OUTPUT, ERROR = range(3)
 TEXTS = (str(SMALL / "two_nodes.report.csv"), str(SMALL / "two_nodes.trace.csv"))
 LARGE = "nodes=300 keys=4 writes=1 entry=40 packet=60000"
 CLUSTER = ("nodes=8", "keys=1", "writes=1", "entry=40", "packet=4000", "split=0", "restarts=0")
-# Calls that print something.
 CALLS = {
     "gossip_sweep": ("budget=1",), "gossip_read": ("window", "1", "2", "runs"), "gossip_scenario": CLUSTER[:5],
     "gossip_advise": ("-o", "advice", *CLUSTER), "gossip_restarts": ("3", "1", "1", "1", "0"),
     "gossip_apart": ("1", "2", "3", "4"), "replay.py": ("run", "--trace", "trace.csv", "--tables", "tables.csv"),
     "check_trace.py": TEXTS,
 }
-READS_INPUT = {"gossip_sweep", "replay.py"}
 # All that are called as programs, with a module of Python's own that they load.
 LOADED = {**dict.fromkeys(installed.commands().values(), "fractions"), TOOLS / "replay.py": "tomllib",
           GUIDE / "check_trace.py": "csv"}
@@ -43,7 +39,7 @@ def try_closed_streams(room):
         kept, name = files_of(room), pathlib.Path(script).name
         for closed in SUBSETS:
             status, out, err = run(room, script, *words, before=lambda: [*map(os.close, closed)])
-            fails = OUTPUT in closed or INPUT in closed and script in READS_INPUT
+            fails = OUTPUT in closed or INPUT in closed and script in ("gossip_sweep", "replay.py")
             says_why = re.search(rf"^{name}: .*it is closed\.\n\Z", err, re.MULTILINE) and "Traceback" not in err
             holds(f"{name} {words} with {closed} closed",
                   (fails, "" if fails else printed, fails and ERROR not in closed), (bool(status), out, bool(says_why)))
@@ -76,8 +72,7 @@ def try_full_errors(room):
 
 
 def try_readers_that_are_gone(room):
-    """A tool whose output nobody reads any more says so, and ends with status 1; check_trace.py with 2, as 1 says that
-    two texts differ."""
+    """A tool whose output nobody reads any more says so, with status 1, or 2 where 1 says that two texts differ."""
     for script, words in (CALLS | {"gossip_live": ("interval=0.05",)}).items():
         reader, writer = os.pipe()
         os.close(reader)
@@ -114,7 +109,8 @@ def try_full_disks(room):
     gives(room, "1 runs in full\n", "gossip_sweep -o full mode=scuttle-depth")
     with open("/dev/full", "w") as full:
         for call in (f"gossip_scenario {LARGE}", "gossip_restarts 3 1 1 1 0", "gossip_apart 1 2 3 4",
-                     "gossip_read window 1 2 full", "gossip_sweep --help"):
+                     "gossip_read window 1 2 full", "gossip_sweep --help", "replay.py run --trace trace.csv",
+                     "replay.py compare", "replay.py check", "replay.py --help", "replay.py --version"):
             fails(room, "No space left on device", 1, call, out=full)
         fails(room, "No space left on device", 2, "check_trace.py", *TEXTS, out=full)
     fails(room, "File too large", 1, "gossip_sweep -o fuller seed=1", before=small_files(100))

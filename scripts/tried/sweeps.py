@@ -1,23 +1,21 @@
-"""Trials of gossip_sweep: what it refuses, what it makes, and that it loses nothing, whatever happens to it."""
+"""Trials of gossip_sweep and gossip_read: what they refuse and make, and that nothing is lost, whatever happens."""
+import contextlib
 import os
+import pathlib
 import resource
+import shutil
 import signal
 import time
 
 from tried.calls import (
-    COMPARED, HEADER, LACKING, SMALL, fails, gives, is_running, program_that, refuse, refuses, run, started, stopped,
+    COMPARED, HEADER, LACKING, fails, gives, is_running, program_that, refuse, refuses, run, started, stopped,
     takes_signal, waits_for, written,
 )
-from trials import PROGRAM, TOP, Text, holds
+from shared import PROGRAM, TOP, Text, holds, text_of
+from gossip_tools.scenario import MODES
 
 LONG = "x" * 5000
 WRONG_HOSTS = ("x/alpha", "/", "é", "-oProxyCommand=true", "a b", "8/", "0/alpha", "8/-o", "me@", "me@-o", "alpha\n")
-# Words, a text, and the fault that the program has in a run of them.
-FAULTS = (
-    ("budget=1,0", COMPARED, "fault 6: field budget"), ("mode=breadth", COMPARED, "fault 6: field mode"),
-    ("format=2", COMPARED, "fault 4: missing field budget_bytes"),
-    ("mode=scuttle-depth", "mode = ''\n", "fault 4: missing field format"),
-)
 
 
 def try_words_of_sweeps(room):
@@ -26,8 +24,10 @@ def try_words_of_sweeps(room):
             text="seed = 2\n" + COMPARED)
     refuses(room, "the scenario is empty", "gossip_sweep seed=1", text="")
     fails(room, f"answer to mode-{'x' * 55}.., so nothing was run.", 1, "gossip_sweep", f"mode={LONG}")
-    for words, text, fault in FAULTS:
-        holds(f"sweep of {words}", (1, "", Text(fault)), run(room, "gossip_sweep", words, text=text))
+    for words, text, fault in (("budget=1,0", COMPARED, "6: field budget"), ("mode=breadth", COMPARED, "6: field mode"),
+                               ("format=2", COMPARED, "4: missing field budget_bytes"),
+                               ("mode=scuttle-depth", "mode = ''\n", "4: missing field format")):
+        holds(f"sweep of {words}", (1, "", Text(f"fault {fault}")), run(room, "gossip_sweep", words, text=text))
     holds("no runs are left", False, (room / "runs").exists())
 
 
@@ -60,12 +60,10 @@ def try_long_scenarios(room):
 
 def try_runs(room):
     gives(room, "4 runs in runs\n", "gossip_sweep budget=1")
-    rows = {
-        "scuttle-breadth": "1,2,0,0,4,6,2,1\n2,2,0,0,4,2,0,0\n", "scuttle-depth": "1,2,0,0,4,6,2,1\n2,2,0,0,4,2,0,0\n",
-        "precise-oldest": "1,2,0,0,4,6,2,1\n2,2,0,0,4,2,0,0\n", "precise-newest": "1,2,0,0,4,6,2,1\n2,2,0,0,2,0,0,0\n",
-    }
-    for mode, wanted in rows.items():
-        holds(f"{mode} in runs", HEADER + wanted, (room / "runs" / f"budget-1.mode-{mode}.csv").read_text())
+    for mode in MODES:
+        last = "2,2,0,0,2,0,0,0\n" if mode == "precise-newest" else "2,2,0,0,4,2,0,0\n"
+        holds(f"{mode} in runs", f"{HEADER}1,2,0,0,4,6,2,1\n{last}",
+              (room / "runs" / f"budget-1.mode-{mode}.csv").read_text())
     # (the ring of four in bytes, worked out in docs/model.md)
     ring = (TOP / "examples" / "ring_of_four.toml").read_text()
     ring = ring.replace("format = 1", "format = 2").replace("budget = 1", "budget_bytes = 5000")
@@ -105,56 +103,40 @@ def try_what_is_kept(room):
           "1,precise-newest,50.00,9,9,9,9\n65535,precise-newest,0.00,0,0,0,0\n", "gossip_read window 2 2")
     gives(room, "budget,mode,round,took\n1,scuttle-breadth,2,2\n1,scuttle-depth,2,2\n1,precise-oldest,2,2\n"
           "1,precise-newest,never,never\n65535,precise-newest,1,1\n", "gossip_read level 1 0")
-    kept.unlink()
-    gives(room, "2 runs in runs\n", "gossip_sweep budget=1,65535 mode=precise-newest")
-    gives(room, "budget,mode,percent_cut,greatest_least,greatest_most,stale_least,stale_most\n"
-          "1,scuttle-breadth,50.00,0,1,0,2\n1,scuttle-depth,50.00,0,1,0,2\n1,precise-oldest,50.00,0,1,0,2\n"
-          "1,precise-newest,50.00,0,1,0,2\n65535,precise-newest,0.00,0,0,0,0\n", "gossip_read window 1 2")
-
-
-def try_forgetting(room):
-    """A node forgets in round 2 and is down in it, and its next write comes to the other one in round 3."""
-    forgets = (SMALL / "a_node_forgets.toml").read_text()
-    gives(room, "1 runs in forgets\n", "gossip_sweep -o forgets mode=scuttle-breadth", text=forgets)
-    gives(room, "mode,percent_cut,greatest_least,greatest_most,stale_least,stale_most,leftover_least,leftover_most\n"
-          "scuttle-breadth,0.00,0,2,0,1,0,1\n", "gossip_read window 2 3 forgets")
-    for first, level, wanted in (("1", "0", "1,1"), ("2", "0", "3,2"), ("2", "1", "2,1")):
-        gives(room, f"mode,round,took\nscuttle-breadth,{wanted}\n", "gossip_read leftover", first, level, "forgets")
 
 
 def try_missing(room):
-    """A report that isn't whole never counts: neither where runs are read, nor where a sweep goes on."""
-    sweep = ("-o", "missing", "budget=1,2", "mode=scuttle-depth,precise-newest")
-    gives(room, "4 runs in missing\n", "gossip_sweep", *sweep)
+    """A report that is missing is named, and so are all of them; what is there is read where that is asked for."""
+    gives(room, "4 runs in missing\n", "gossip_sweep -o missing budget=1,2 mode=scuttle-depth,precise-newest")
     name = "budget-1.mode-precise-newest"
-    report = room / "missing" / f"{name}.csv"
-    whole, (_, first, second) = report.read_text(), report.read_text().splitlines(keepends=True)
-    damaged = {
-        "it is empty": b"",
-        "its header is another": ("mode," + HEADER + first + second).encode(),
-        "its header is another ": (HEADER.replace("\n", ",leftover\n") + first + second).encode(),
-        "it is cut short after 1 of 2": (HEADER + first + second[:-1]).encode(),
-        "it is cut short after 0 of 2": (HEADER + first[:-1]).encode(),
-        "it goes on after its 2 rounds": (whole + "3,2,0,0,4,2,0,0\n").encode(),
-        "it goes on after its 2 rounds ": (whole + "3,2").encode(),
-        "its line of round 1": (HEADER + second + first).encode(),
-        "its line of round 2": (HEADER + first + second.replace("0", "none", 1)).encode(),
-        "its line of round 1 ": (HEADER + first + second).encode().replace(b",2,", b"\0\0\0", 1),
-        "it has other bytes": (HEADER + first + second).encode() + b"\xff",
-    }
-    for why, text in damaged.items():
-        report.write_bytes(text)
-        refuses(room, f"1 of 4 runs are missing: {name} ({why.strip()}", "gossip_read level 1 0 missing")
-        holds(f"made again: {why}", (0, "4 runs in missing\n", Text("", why.strip(), name), whole),
-              (*run(room, "gossip_sweep", *sweep), report.read_text()))
-    report.unlink()
-    refuses(room, f"{name} (it isn't there)", "gossip_read level 1 0 missing")
+    (room / "missing" / f"{name}.csv").unlink()
+    refuses(room, f"1 of 4 runs are missing: {name} (it isn't there)", "gossip_read level 1 0 missing")
     # (with room for two each way, two exchanges of a round bring the three writes)
     rows = "budget,mode,round,took\n1,scuttle-depth,2,2\n2,scuttle-depth,1,1\n2,precise-newest,1,1\n"
     holds("what is there is read", (0, rows, Text("", name)), run(room, "gossip_read level 1 0 missing --partial"))
     for it in (room / "missing").glob("*.csv"):
         it.unlink()
     refuses(room, "4 of 4 runs are missing", "gossip_read level 1 0 missing --partial")
+
+
+def try_reading(room):
+    """What gossip_read refuses, and a folder whose scenarios differ in other fields than the runs' or are none."""
+    room = room / "reading"
+    room.mkdir()
+    gives(room, "4 runs in read\n", "gossip_sweep -o read budget=1")
+    refuse(room, "gossip_read")
+    gives(room, "budget,mode,round,took\n1,scuttle-breadth,2,2\n1,scuttle-depth,2,2\n1,precise-oldest,2,2\n"
+          "1,precise-newest,2,2\n", "gossip_read level 1 0 -o read")
+    other = room / "read" / "seed-1.mode-scuttle-depth.toml"
+    shutil.copy(room / "read" / "budget-1.mode-scuttle-depth.toml", other)
+    refuses(room, "differ", "gossip_read window 1 2 read")
+    other = other.rename(room / "read" / "budget-2.mode-scuttle-depth.toml")
+    for text, why in ((other.read_bytes().replace(b"format = 1", b"format = 2"), "two formats"),
+                      (b"budget = ", "TOML 1.0"), (b"budget = 1", "isn't the scenario of a run"),
+                      (b"# \xe9\n", "isn't UTF-8"),
+                      (b"#" * 1048577, f"{other.relative_to(room)} is longer than 1048576 bytes")):
+        other.write_bytes(text)
+        refuses(room, why, "gossip_read window 1 2 read")
 
 
 def try_sweeps_at_once(room):
@@ -197,7 +179,6 @@ def try_stopping(room):
         # (parts that are left go with the next sweep)
         parts = [] if ends == signal.SIGKILL else list(room.glob("stopped/.*.part"))
         holds(f"what {ends.name} leaves", ([], []), (parts, list(room.glob("stopped/*.csv"))))
-    # (it waits for its scenario)
     reader, writer = os.pipe()
     with started(room, "gossip_sweep", *sweep, given=reader) as process:
         waits_for(lambda: takes_signal(process.pid, signal.SIGTERM))
@@ -246,6 +227,81 @@ def try_lasting_faults(room):
               "runs stand in taken.\n"), run(room, "gossip_sweep", *sweep))
         (room / "taken" / name).rmdir()
         kept.rename(room / "taken" / name)
-    name = "x" * 5000
     holds("a name that is too long", (1, "", f"gossip_sweep: {'x' * 60}..: File name too long.\n"),
-          run(room, "gossip_sweep -o", name, "budget=1"))
+          run(room, "gossip_sweep -o", LONG, "budget=1"))
+
+
+def try_several_machines(room):
+    """Runs on a machine with this disk, for which a script stands in, as ssh. What it starts goes on without it."""
+    room, there = room / "machines", room / "machines" / "there"
+    there.mkdir(parents=True)
+    written(there / "ssh", text_of("ssh"))
+    (room / "home").mkdir()
+    far = {"PATH": f"{there}:{os.environ['PATH']}", "HOME": str(room / "home")}
+    written(room / "none" / "parallel", "#!/bin/sh\nexit 1\n")
+    refuses(room, "GNU parallel", "gossip_sweep -o far budget=1", HOSTS="alpha",
+            PATH=f"{room / 'none'}:{os.environ['PATH']}")
+    if not shutil.which("parallel"):
+        return
+    sweep = ("budget=1,2", "seed=1,2")
+    gives(room, "16 runs in here\n", "gossip_sweep -o here", *sweep)
+    for hosts, folder in ((":,alpha", "runs 2"), ("alpha", "home/shared 2")):
+        gives(room, f"16 runs in {folder}\n", "gossip_sweep -o", folder, *sweep, HOSTS=hosts, **far)
+        holds(f"the runs on {hosts}", [], [it.name for it in (room / "here").iterdir() if it.name != "lock" and
+                                           it.read_bytes() != (room / folder / it.name).read_bytes()])
+    holds("nothing else at home", {".parallel", "shared 2"}, {it.name for it in (room / "home").iterdir()})
+    fails(room, "no route to leaving. 0 of 16 runs stand", 1, "gossip_sweep -o leaving", *sweep, HOSTS="leaving", **far)
+    # (a machine that dies is named, though ssh doesn't name it)
+    for hosts, why in (("alpha,dying", "on dying: status 255: Connection closed. "),
+                       ("silent,:", "on silent: status 255. ")):
+        fails(room, why, 1, "gossip_sweep -o dying", *sweep, HOSTS=hosts, **far)
+    look_at_first_starts(room, sweep, far)
+    faulty = program_that(room, "faulty", "echo fault 1: out of memory >&2; exit 1")
+    fails(room, "status 1: fault 1: out of memory. 0 of 16", 1, "gossip_sweep -o far", *sweep,
+          HOSTS="alpha", **far, GOSSIP_BENCH=faulty)
+    look_at_ends(room, sweep, far)
+
+
+def running_at(home):
+    """The processes that have this folder as their home, as all do of sweeps with other machines here."""
+    found = []
+    for it in pathlib.Path("/proc").glob("[0-9]*/environ"):
+        with contextlib.suppress(OSError):
+            found += [it.parent.name] * (f"HOME={home}\0".encode() in it.read_bytes())
+    return found
+
+
+def look_at_ends(room, sweep, far):
+    """A sweep that is stopped or killed leaves no run, here or on another machine."""
+    hanging = program_that(room, "hanging", "echo $$ >>pids\nexec sleep 60")
+    for number, status, said in ((signal.SIGTERM, 143, "0 of 16 runs stand in stopped"), (signal.SIGKILL, -9, "")):
+        with started(room, "gossip_sweep -o stopped", *sweep, HOSTS=":,alpha", **far,
+                     GOSSIP_BENCH=hanging) as process:
+            holds("runs begin on machines", True, waits_for(lambda: len(list(room.glob("**/pids"))) == 2))
+            holds(f"machines after {number.name}", (status, "", Text("", said)), stopped(process, number))
+        holds(f"nothing runs there after {number.name}", True, waits_for(lambda: not running_at(far["HOME"]), 30))
+        for it in running_at(far["HOME"]):
+            os.kill(int(it), signal.SIGKILL)
+        for it in room.glob("**/pids"):
+            it.unlink()
+
+
+def look_at_first_starts(room, sweep, far):
+    """Nothing is run where the program doesn't start on each machine, and its line is told."""
+    # (JOBS is set here alone)
+    written(room / "newer", LACKING.replace("echo", f'[ "$JOBS" ] && exec "{PROGRAM}" "$@"\necho'))
+    written(room / "silent", f'#!/bin/sh\n[ "$JOBS" ] && exec "{PROGRAM}" "$@"\nexit 127\n')
+    for hosts, program, why in ((":,down", PROGRAM, "down: no route to down"),
+                                (":,alpha,:", "./newer", "alpha: this machine lacks a feature"),
+                                ("8/alpha", "./silent", "8/alpha: status ")):
+        how = {"HOSTS": hosts, "GOSSIP_BENCH": program, **far}
+        refuses(room, f"not each of HOSTS runs the program. {why}", "gossip_sweep -o never", *sweep, **how)
+        # (another program may come next, as none is kept of which nothing was run)
+        refuses(room, why, "gossip_advise -o", "never advised", "nodes=8", "keys=2", "writes=1", "entry=40",
+                "packet=4000", **how)
+    with started(room, "gossip_sweep -o never", *sweep, HOSTS=":,slow", **far) as process:
+        holds("a first start begins", True, waits_for(lambda: (room / "home" / "slow").exists()))
+        holds("a first start is stopped", (143, "", Text("", "0 of 16 runs stand")), stopped(process, signal.SIGTERM))
+    pid = (room / "home" / "slow").read_text()
+    holds("and leaves no ssh", True, waits_for(lambda: not is_running(int(pid)), 2))
+    holds("nothing is run where a machine can't", [], [*room.glob("never*/**/*.csv"), *room.glob("never*/**/.*.part")])

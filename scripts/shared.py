@@ -1,4 +1,6 @@
-"""What the scripts of trials share: the program that is tried, how a command is run, the tally and its last line."""
+"""What scripts share: where the repository is, how their words are taken, the program that is tried, how a command is
+run, the texts that crates/acceptance stores, the tally of trials and its last line."""
+import argparse
 import os
 import re
 import resource
@@ -8,16 +10,56 @@ import sys
 import tempfile
 from pathlib import Path
 
-import arguments
-
 sys.dont_write_bytecode = True
 TOP = Path(__file__).resolve().parent.parent
-# (where the tools have their Python package)
 sys.path.insert(0, str(TOP / "tools"))
-PROGRAM = os.path.abspath(os.environ.get("GOSSIP_BENCH", TOP / "crates/gossip_bench/out/gossip_bench"))
-NO_PROGRAM = 3
+CRATES = TOP / "crates"
+STORED = CRATES / "acceptance" / "data"
+PROGRAM = os.path.abspath(os.environ.get("GOSSIP_BENCH", CRATES / "gossip_bench/out/gossip_bench"))
 MOST_LETTERS = 2000  # of an outcome that are shown
+OF_TRIALS = """
+Each trial that fails has a line, and the last line is 'N passed, M failed'. Status: 0 where all hold, 1 where one
+doesn't, 2 for other words, 3 where what is to be tried isn't there. Where the program or replay.py is tried, it is the
+one that GOSSIP_BENCH or REPLAY names, if they are set.
+"""
 passed, failed = [], []
+
+
+class Parser(argparse.ArgumentParser):
+    """What takes the words of the script that has this text. What it refuses ends the script with status 2."""
+
+    def __init__(self, text, more=""):
+        super().__init__(prog=Path(sys.argv[0]).name, allow_abbrev=False)
+        self.text = text + more
+
+    def format_help(self):
+        return self.text.lstrip()
+
+    def error(self, message):
+        self.exit(2, f"{self.prog}: {message}. {self.prog} --help says which words there are.\n")
+
+
+def take_none(text):
+    Parser(text, OF_TRIALS).parse_args()
+
+
+def take_names(text, known):
+    """The names that were told, of those that are known; all of them where none was."""
+    parser = Parser(text, OF_TRIALS)
+    parser.add_argument("names", nargs="*")
+    names = parser.parse_args().names
+    if unknown := [it for it in names if it not in known]:
+        parser.error(f"{', '.join(unknown)}: the names are {', '.join(known)}")
+    return names or known
+
+
+def take_numbers(text, count, seed):
+    """How many are drawn at random, and from which seed; these where none was told."""
+    parser = Parser(text, OF_TRIALS)
+    parser.add_argument("count", nargs="?", type=int, default=count)
+    parser.add_argument("seed", nargs="?", type=int, default=seed)
+    told = parser.parse_args()
+    return told.count, told.seed
 
 
 class Room(tempfile.TemporaryDirectory):
@@ -66,6 +108,19 @@ def text_of(name):
     return re.sub(r"@(.)(\d+)@", lambda mark: mark[1] * int(mark[2]), text)
 
 
+def comparison_of(case):
+    """The comparison of a case, or None: its report under each mode, if any is stored beside that under its own."""
+    report = (STORED / f"{case}.report.csv").read_bytes()
+    files = {mode: STORED / f"{case}.{mode}.csv" for mode in (STORED / "modes.txt").read_text().split()}
+    if not any(file.exists() for file in files.values()):
+        return None
+    lines = [b"mode," + report.splitlines(keepends=True)[0]]
+    for mode, file in files.items():
+        rows = (file.read_bytes() if file.exists() else report).splitlines(keepends=True)[1:]
+        lines += (mode.encode() + b"," + row for row in rows)
+    return b"".join(lines)
+
+
 def crates():
     lines = [it for it in (TOP / "crates.txt").read_text().splitlines() if it and not it.startswith("#")]
     return {name: below.split() for name, _, below in (it.partition(":") for it in lines)}
@@ -89,9 +144,9 @@ def all_hold(name, trials):
 
 
 def stop(why):
-    """Ends the process where what is to be tried isn't there."""
+    """Ends the process with status 3, as what is to be tried isn't there."""
     print(f"{Path(sys.argv[0]).name}: {why}", file=sys.stderr)
-    sys.exit(NO_PROGRAM)
+    sys.exit(3)
 
 
 def need_program(*others):
@@ -101,9 +156,9 @@ def need_program(*others):
 
 
 def end():
-    """Prints the last line, 'N passed, M failed', and answers the status: 0 where nothing failed."""
+    """Prints the last line, 'N passed, M failed', and ends the process, with status 0 where nothing failed."""
     print(f"{len(passed)} passed, {len(failed)} failed", flush=True)
-    return 1 if failed else 0
+    sys.exit(1 if failed else 0)
 
 
 def trials_of(names):
@@ -113,10 +168,10 @@ def trials_of(names):
 
 def try_each(names, needs_program=True):
     """Makes the trials that a script has, which takes no words, each in a room of its own."""
-    arguments.take_none(names["__doc__"])
+    take_none(names["__doc__"])
     if needs_program:
         need_program()
     for trial in trials_of(names):
         with Room() as room:
             trial(room)
-    return end()
+    end()

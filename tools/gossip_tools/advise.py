@@ -99,16 +99,10 @@ class Stages:
         text, runs = self.runs(stage, seeds)
         if to_do := [name for name in runs if f"{stage}/{name}" not in self.progress.over]:
             left = f", {in_words(self.progress.left())} in all" if self.progress.left() else ""
-            print(f"{stage}: {len(to_do)} runs of {self.study.rounds(stage)} rounds{self.shorter(stage)}{left}",
-                  file=sys.stderr, flush=True)
-        sweep.carry_out(self.folder / stage, text, runs, self.program, self.progress, os.environ.get("HOSTS"),
-                        "gossip_advise")
+            rounds = f"{self.study.rounds(stage)} rounds{self.study.shorter(stage)}"
+            print(f"{stage}: {len(to_do)} runs of {rounds}{left}", file=sys.stderr, flush=True)
+        sweep.carry_out(self.folder / stage, text, runs, self.program, self.progress, os.environ.get("HOSTS"))
         return study.Found(self.study, stage, self.folder / stage, seeds)
-
-    def shorter(self, stage):
-        it = self.study
-        is_shorter = stage == "split" and it.split < it.told["split"]
-        return say("shorter_split", it) if is_shorter else ""
 
     def choose(self, stage, pairs, dropped):
         """What these runs choose. What can't be chosen after the first seeds isn't run under the others."""

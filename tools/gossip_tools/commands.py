@@ -92,8 +92,13 @@ def fault_of(error):
     return f"{place}: {'it is closed' if error.errno == errno.EBADF else error.strerror}."
 
 
-def answer(name, main, tool):
-    words = sys.argv[1:]
+def remark(text):
+    """Says something beside the answer, under the name of the tool."""
+    print(f"{sys.argv[0]}: {text}", file=sys.stderr)
+
+
+def answer(main, tool):
+    name, *words = sys.argv
     if "--help" in words or "-h" in words:
         return print(tool.help())
     if "--version" in words:
@@ -101,9 +106,9 @@ def answer(name, main, tool):
     return main(words)
 
 
-def run(name, main, tool):
+def run(main, tool):
     try:
-        status = answer(name, main, tool) or 0
+        status = answer(main, tool) or 0
         sys.stdout.flush()
         return status
     except Refused as refused:
@@ -123,5 +128,5 @@ def run(name, main, tool):
         sys.stdout.flush()
     except OSError:
         drop_output()
-    print(f"{name}: {why}", file=sys.stderr)
+    remark(why)
     return status

@@ -8,13 +8,12 @@ import collections
 import contextlib
 import multiprocessing
 import os
-import queue
 import random
 import resource
 import sys
-import threading
 import time
 from array import array
+from concurrent.futures import ThreadPoolExecutor
 
 from gossip_tools import running
 from gossip_tools.commands import Refused, workers
@@ -137,30 +136,20 @@ async def play(plan, numbers, pipe):
     host = Host(plan, numbers, asyncio.get_running_loop())
     pipe.send(await host.bind())
     host.start(*pipe.recv())
-    supervisor, outbox, ended = os.getppid(), queue.SimpleQueue(), asyncio.Event()
+    supervisor, ended = os.getppid(), asyncio.Event()
+    # (a thread of its own, so that no node waits for the other side of the pipe, which may be gone)
+    with ThreadPoolExecutor(1) as sending:
+        def tell(round):
+            sending.submit(pipe.send, host.told())
+            if round == plan.rounds or os.getppid() != supervisor:
+                ended.set()
 
-    def tell(round):
-        outbox.put(host.told())
-        if round == plan.rounds or os.getppid() != supervisor:
-            ended.set()
-
-    def send():
-        # (the supervisor may be gone)
-        with contextlib.suppress(OSError):
-            for told in iter(outbox.get, None):
-                pipe.send(told)
-
-    # (a thread of its own, so that no node waits for the other side of the pipe)
-    sending = threading.Thread(target=send)
-    sending.start()
-    for round in range(1, plan.rounds + 1):
-        host.at(round, tell, round)
-    await ended.wait()
-    # (until the exchanges that are under way are over)
-    await asyncio.sleep(MESSAGES * plan.latency[1] * plan.interval + TIME_TO_END)
-    outbox.put((host.sent, host.received))
-    outbox.put(None)
-    sending.join()
+        for round in range(1, plan.rounds + 1):
+            host.at(round, tell, round)
+        await ended.wait()
+        # (until the exchanges that are under way are over)
+        await asyncio.sleep(MESSAGES * plan.latency[1] * plan.interval + TIME_TO_END)
+        sending.submit(pipe.send, (host.sent, host.received))
 
 
 def main(plan, numbers, pipe, others):

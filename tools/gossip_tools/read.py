@@ -1,11 +1,10 @@
 """Reports and what they say of some rounds; the tool gossip_read."""
 import pathlib
 import re
-import sys
 import tomllib
 
 from gossip_tools import files, scenario
-from gossip_tools.commands import Refused, folder_of, number, refuse_if, shown
+from gossip_tools.commands import Refused, folder_of, number, refuse_if, remark, shown
 from gossip_tools.texts import speaker
 
 OF_FORMAT_1 = ["round", "exchanges", "unreached", "lost", "entries", "cut", "stale", "greatest"]
@@ -203,9 +202,9 @@ def main(words):
     refuse_if(seeds and "seed" not in runs.fields, f"the runs in {folder} have no field seed of their own.")
     refuse_if(runs.missing and not (partial and runs.rows), say("missing", runs))
     if runs.missing:
-        print(f"gossip_read: {runs.what_is_missing()}", file=sys.stderr)
+        remark(runs.what_is_missing())
     if runs.without_sum:
-        print(f"gossip_read: {told_without_sum(runs.without_sum, folder)}", file=sys.stderr)
+        remark(told_without_sum(runs.without_sum, folder))
     fields, found = runs.fields, figures(runs, folder, what, first, second)
     if seeds:
         fields, found = over_seeds(fields, found)

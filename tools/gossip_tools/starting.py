@@ -4,6 +4,7 @@ While Python itself starts, Ctrl-C comes as a traceback. So it is started with -
 part of that, and signal.py isn't waited for.
 """
 import _signal
+import contextlib
 import importlib
 import io
 import os
@@ -24,16 +25,13 @@ class StandardError(io.TextIOWrapper):
         super().__init__(open(2, "wb", closefd=False), errors="backslashreplace", line_buffering=True)
 
     def write(self, text):
-        try:
-            return super().write(text)
-        except OSError:
-            return len(text)
+        with contextlib.suppress(OSError):
+            super().write(text)
+        return len(text)
 
     def flush(self):
-        try:
+        with contextlib.suppress(OSError):
             super().flush()
-        except OSError:
-            pass
 
 
 def fill_closed_streams():
@@ -71,13 +69,13 @@ def name_of(path):
 
 
 def start():
-    """Ends the process with the status of the tool that was called."""
-    interrupt, name = _signal.getsignal(_signal.SIGINT), name_of(sys.argv[0])
+    """Carries out the tool that was called, and ends the process."""
+    interrupt, sys.argv[0] = _signal.getsignal(_signal.SIGINT), name_of(sys.argv[0])
     end_at_signals()
     fill_closed_streams()
     commands = importlib.import_module("gossip_tools.commands")
-    main, tool = tool_of(name)
+    main, tool = tool_of(sys.argv[0])
     _signal.signal(_signal.SIGINT, interrupt)
-    status = commands.run(name, main, tool)
+    status = commands.run(main, tool)
     end_at_signals()
     sys.exit(status)

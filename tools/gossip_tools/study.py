@@ -231,6 +231,9 @@ class Study:
         """How many intervals what is to be healed lasts."""
         return self.split if stage == "split" else 1 if stage.endswith("-one") else self.restarting()[1]
 
+    def shorter(self, stage):
+        return say("shorter_split", self) if stage == "split" and self.split < self.told["split"] else ""
+
     def seeds(self, stage):
         """The seeds of a stage, by whether it chooses or bounds; more for what heals where the work allows it."""
         if stage in rules.WINDOWS or stage.endswith("-stop"):

@@ -9,8 +9,6 @@ from given import ROOMY, Figures, bound, cases_of, decided, of, plain, value_of
 # What is given in a case, beside the figures of each mode by its last word; the other names are of what comes of it.
 GIVEN = {"cluster", "all", "rising", "stage", "against", "bounds", "bounds_rise", "bounds_of_most", "most_rises",
          "floor", "heals", "gone", "with_reserve", *(it.partition("-")[2] for it in MODES)}
-
-
 # What is said of a case, of which it has parts.
 PARTS = {
     "lines": lambda case: answer.in_words(case.decision, case.healing, case.missing()),
@@ -28,7 +26,7 @@ class Taken:
     """Runs of which it is given how many rounds it took until something had healed, or was gone."""
 
     def __init__(self, taken, gone, pairs):
-        self.taken, self.gone, self.rows = [None if it == "never" else it for it in taken], gone, pairs
+        self.taken, self.gone, self.rows = taken, gone, pairs
 
     def healed_after(self, stage, *_):
         return self.gone if stage == "forgotten" and self.gone else self.taken
@@ -40,20 +38,18 @@ class Case:
     def __init__(self, given):
         it = of(given["cluster"])
         modes = {"all": it.fits} | {mode.partition("-")[2]: [mode] for mode in MODES}
-        figures = {(int(budget), mode): seeds for word in modes for mode in modes[word]
+        figures = {(budget, mode): seeds for word in modes for mode in modes[word]
                    for budget, seeds in given.get(word, {}).items()}
         rising = [(budget, mode) for word, budgets in given.get("rising", {}).items() for mode in modes[word]
                   for budget in budgets]
         found = choice.Decision(it, Figures(figures, rising), given.get("stage", "many"), given.get("against", ()))
         found.floor, self.decision = given.get("floor"), found
         taken, most = (found.budget, found.mode), (found.most, found.mode)
-        bounds = {(int(budget), found.mode): seeds for budget, seeds in given.get("bounds", {}).items()}
-        if bounds:
-            of_taken = Figures(bounds, [taken] if "bounds_rise" in given else ())
-            found.bound = choice.Bound(it, f"{found.stage}-bound", of_taken, taken)
+        if "bounds" in given:
+            bounds = {(budget, found.mode): seeds for budget, seeds in given["bounds"].items()}
+            found.bound = bound(found, bounds, taken, "bounds_rise" in given)
         if "bounds_of_most" in given:
-            of_most = Figures({most: given["bounds_of_most"]}, [most] if "most_rises" in given else ())
-            found.bound_of_most = choice.Bound(it, f"{found.stage}-bound", of_most, most)
+            found.bound_of_most = bound(found, {most: given["bounds_of_most"]}, most, "most_rises" in given)
         runs = (taken, most) if "with_reserve" in given else (taken,)
         stages = {stage: Taken(seeds, given.get("gone"), runs) for stage, seeds in given.get("heals", {}).items()}
         self.healing = healing.Healing(it, found.mode, stages) if stages else None
@@ -79,7 +75,7 @@ class Case:
         if name == "none":
             return [it for it in wanted if not any(it in line for line in PARTS["lines"](self))]
         if name == "nothing":
-            return [it for it in wanted if self.value(it) in ("", "none", [])]
+            return [it for it in wanted if not self.value(it)]
         if name.endswith("_lacks"):
             return [it for it in wanted if it not in PARTS[name.removesuffix("_lacks")](self)]
         return [it for it in wanted if it in PARTS[name](self)] if name in PARTS else self.value(name)
@@ -103,8 +99,9 @@ class Bounded(unittest.TestCase):
         class Made:
             @staticmethod
             def is_level(decision):
-                rising = () if decision.stage in level else [decision.budget]
-                return bound(decision, {decision.budget: [8, 11]}, rising).bound.is_level()
+                pair = decision.budget, decision.mode
+                decision.bound = bound(decision, {pair: [8, 11]}, pair, decision.stage not in level)
+                return decision.bound.is_level()
 
             @staticmethod
             def decide_in_time(stages, pairs, decision):

@@ -1,13 +1,13 @@
-"""What a live cluster is to do, what its nodes make of datagrams that come late, twice or in another order, and how its
-figures stand beside the bench: by hand. That nodes send, hold and count what the bench does is tried in scripts/."""
+"""What the nodes of a live cluster make of datagrams that come late, twice or in another order, and when its figures are
+worthless: by hand. That nodes send, hold and count what the bench does is tried in scripts/."""
 import random
 import unittest
-from types import SimpleNamespace
 
-from gossip_tools import live, live_figures, live_node
+from gossip_tools import live_node
+from gossip_tools.live_figures import Figures
 from gossip_tools.live_node import Entry, Kind, Message, Node
 from gossip_tools.scenario import MODES
-from given import outcome, plan, table
+from given import plan
 
 
 def mark(generation, version):
@@ -132,43 +132,14 @@ def gaps(nodes):
 
 
 class Plans(unittest.TestCase):
-    test_random_peers = table(lambda fanout: sorted(plan(peers="random", fanout=fanout).peers_of(2, 1)), {3: [0, 1, 3]})
+    def test_random_peers(self):
+        self.assertEqual([0, 1, 3], sorted(plan(peers="random", fanout=3).peers_of(2, 1)))
 
-
-def is_worthless(timers, late, sent, received):
-    figures = live_figures.Figures(plan(nodes=2, keys=1))
-    figures.row(1, [SimpleNamespace(writes=(), generations={0: 0, 1: 0}, marks={0: [0, 0], 1: [0, 0]}, timers=timers,
-                                    late=late, entries=0, cut=0, lag=0)])
-    figures.end([(sent, 0), (0, received)])
-    return figures.is_worthless()
-
-
-class Figures(unittest.TestCase):
-    # More than one timer in 20 was late, or more than one datagram in 1000 didn't come.
-    test_worthless = table(is_worthless, {
-        (100, 5, 1000, 999): False, (100, 6, 1000, 999): True, (100, 5, 1000, 998): True, (100, 0, 10, 11): False})
-
-    top = {"format": 2, "nodes": 2, "rounds": 2, "partition": [{"from": 1, "to": 2, "apart": [0]}],
-           "restart": [{"node": 1, "round": 2, "down": 1, "forget": True}], "load": [{"from": 2, "to": 2, "writes": 5}]}
-
-    def test_stretched(self):
-        """With three calls the intervals 1 and 2 are the rounds 1 to 3 and 4 to 6."""
-        wanted = ("format = 2\nnodes = 2\nrounds = 6\n[[partition]]\nfrom = 1\nto = 6\napart = [0]\n"
-                  "[[restart]]\nnode = 1\nround = 4\ndown = 3\nforget = true\n[[load]]\nfrom = 4\nto = 6\nwrites = 5\n"
-                  "[[load]]\nfrom = 2\nto = 3\nwrites = 0\n[[load]]\nfrom = 5\nto = 6\nwrites = 0\n")
-        self.assertEqual(wanted, live.stretched(self.top, 3))
-        self.assertIn("needs 1001 loads", outcome(live.stretched, {**self.top, "rounds": 1000}, 3))
-
-    def test_intervals(self):
-        rows = [{"round": it, "entries": it, "cut": 10 * it, "stale": it, "greatest": it} for it in range(1, 7)]
-        self.assertEqual([{"round": 1, "entries": 6, "cut": 60, "stale": 3, "greatest": 1},
-                          {"round": 2, "entries": 15, "cut": 150, "stale": 6, "greatest": 2}],
-                         live.intervals(rows, 3))
-
-    def test_side_by_side(self):
-        """Of the rounds 2 and 3 the means, and the most of `greatest`, with the least and the most of two seeds."""
-        live_rows, one, other = ([{"round": at, "stale": stale, "greatest": greatest} for at, stale, greatest in rows]
-                                 for rows in ([(2, 6, 1), (3, 8, 4)], [(1, 9, 9), (2, 4, 2), (3, 6, 2)],
-                                              [(1, 9, 9), (2, 10, 1), (3, 11, 4)]))
-        self.assertEqual([2, 3, "7", "5 to 10", "2.5", "2.0 to 2.5", 4, "2 to 4"],
-                         live.side_by_side(["stale", "greatest"], live_rows, [one, other]))
+    def test_worthless(self):
+        """More than one timer in 20 was late, or more than one datagram in 1000 didn't come."""
+        for late, sent, came, is_so in ((5, 1000, 999, False), (6, 1000, 999, True), (5, 1000, 998, True),
+                                        (0, 10, 11, False)):
+            figures = Figures(plan())
+            figures.timers, figures.late = 100, late
+            figures.end([(sent, 0), (0, came)])
+            self.assertEqual(is_so, figures.is_worthless(), (late, sent, came))

@@ -26,7 +26,7 @@ class Figures(given.Figures):
         return [15840, 19800]
 
     def half_of_stale_after(self, *_):
-        return [None if it == "never" else it for it in self.half]
+        return self.half
 
 
 class Made(advise.Stages):

@@ -263,7 +263,7 @@ def beside(it, stages, decision):
 
 def study_of(it, folder, program, check_sum):
     stages, healing = Stages(it, folder, program), None
-    if it.told["packet"] is None:
+    if not it.has_packet:
         return smallest_packet(it, stages, check_sum)
     first = first_answer(it, stages, check_sum)
     print(flush=True)

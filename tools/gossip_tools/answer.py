@@ -7,7 +7,6 @@ FLOOR = "the floor"
 WHAT_HEALS = "A split, a restart and a rolling restart"
 SUPPOSED = 20  # the bytes of a number in a sum that shows what a digest that wasn't told would take
 say = speaker("answer")
-TYPICAL = say("typical")
 
 
 def ended(said):
@@ -88,7 +87,7 @@ def limits(decision):
     in_one = f", and packet={packet} fits in one" if decision.suffices and packet <= rules.DATAGRAM < given else ""
     no_room = [mode for mode in scenario.MODES if it.rooms[mode] < 1]
     return sentences(
-        not size and say("no_digest", numbers=numbers, bytes=numbers * SUPPOSED, typical=TYPICAL),
+        not size and say("no_digest", numbers=numbers, bytes=numbers * SUPPOSED),
         size and not fits and say("several_packets", numbers=numbers, size=size, given=given),
         largest > rules.DATAGRAM and say("datagrams", datagram=rules.DATAGRAM, largest=largest, in_one=in_one),
         no_room and it.parts == 1 and not it.told["mode"] and say("no_room", modes=" and ".join(no_room)))

@@ -50,12 +50,9 @@ class Decision:
     """The mode and the budget that follow from the runs of a stage."""
 
     why_empty = "smaller budgets are run with the chosen mode, down to the first that is worse, for the last answer"
-    # What bounds all that fits, where a target asks for that.
-    bound_of_most = None
-    # What no mode and no budget goes below, for each seed: empty where no run shows it, None where none was made.
-    floor = None
-    # Whether it is what was looked for: with a target and no packet, a budget that keeps to it.
-    is_met = True
+    bound_of_most = None  # what bounds all that fits, where a target asks for that
+    floor = None  # what nothing goes below, for each seed: empty where no run shows it, None where none was made
+    is_met = True  # whether it is what was looked for: with a target and no packet, a budget that keeps to it
 
     def __init__(self, study, found, stage, against=(), bound=None):
         self.study, self.found, self.stage, self.window = study, found, stage, study.window(stage)
@@ -152,7 +149,7 @@ class Decision:
         return rules.reckoned(self.bounded()) if self.study.parts > 1 else max(self.bounded())
 
     def heals(self):
-        return self.suffices
+        return self.suffices and self.study.has_packet
 
     def times(self):
         """How the budget stands to nodes * writes."""
@@ -170,7 +167,7 @@ class Decision:
 
     def given(self):
         """The bytes of the packet that was told; that of the budget where none was."""
-        return self.packet() if self.study.told["packet"] is None else int(self.study.told["packet"])
+        return int(self.study.told["packet"]) if self.study.has_packet else self.packet()
 
     def room(self):
         it, entries, why = self.study, self.whole_budget(), [self.times()]
@@ -269,7 +266,7 @@ class Decision:
             return ""
         entries, name = it.tells_all()
         needed = it.packet(self.mode, entries)
-        more = ", more than yours" if it.told["packet"] is not None and needed > it.told["packet"] else ""
+        more = ", more than yours" if it.has_packet and needed > it.told["packet"] else ""
         if entries <= self.whole_budget():
             more = "; this budget has room for them"
         return say("all_keys", name=name, entries=entries, packet=needed, more=more)
@@ -292,7 +289,7 @@ class Decision:
     def why_not_knee(self):
         """Why more than nodes * writes is taken; empty where it isn't."""
         it = self.study
-        if not self.suffices or self.budget <= it.knee:
+        if not self.heals() or self.budget <= it.knee:
             return ""
         at_knee = say("at_knee", self, entries=it.whole(it.knee))
         if not self.knee_suffices():
@@ -308,7 +305,7 @@ class Decision:
     def too_close(self):
         """Which figures are too close to call. Those that aren't level say nothing."""
         it, said = self.study, []
-        if not self.suffices:
+        if not self.heals():
             return []
         close = [("", it.most(mode), mode) for mode, figure in self.figures.items()
                  if mode != self.mode and rules.are_close(figure, self.worst)]

@@ -27,8 +27,6 @@ def refuse_if(is_so, why, status=2):
 
 
 class Stopped(Exception):
-    """A signal that ends the process."""
-
     def __init__(self, number):
         super().__init__(signal.Signals(number).name)
         self.status = 128 + number

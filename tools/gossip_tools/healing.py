@@ -44,11 +44,6 @@ class Healing:
         return latest(found.healed_after(stage, budget, self.mode, self.study.ends(name))
                       for name, found in runs.items() if found)
 
-    def waited(self, budget):
-        """The rounds to wait between the groups of a rolling restart: until all that a restart leaves is over in most
-        cases. None where it isn't in the rounds that were run."""
-        return rules.bound_of(latest(self.taken(stage, budget) for stage in self.study.leaves()))
-
     def in_words(self, stage, budget):
         """At most how long it takes in most cases, or that it took longer than was run; the time, and the seeds."""
         taken = self.taken(stage, budget)
@@ -94,7 +89,9 @@ class Healing:
         return rows(*(("", it) for it in textwrap.wrap(self.counted(), IN_A_ROW)))
 
     def wait(self, budget):
-        it, rounds = self.study, self.waited(budget)
+        """How long to wait between the groups of a rolling restart: until all that one leaves is over in most cases."""
+        it = self.study
+        rounds = rules.bound_of(latest(self.taken(stage, budget) for stage in it.leaves()))
         if rounds is None:
             return say("no_wait")
         gone = " and its forgotten state was gone" if it.forgets else ""

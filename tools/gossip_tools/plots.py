@@ -90,7 +90,7 @@ def budget_line(decision, most):
     study = decision.study
     at = study.whole(study.fits[decision.mode])
     at, label = (at, f"fits: {at}") if at <= most else (most, "all fit")
-    if study.told["packet"] is None:
+    if not study.has_packet:
         at, label = decision.whole_budget(), f"taken: {decision.whole_budget()}"
     return f'set arrow from {at}, graph 0 to {at}, graph 1 {LINE} 2\nset label "{label}" at {at}, graph 1.03 center\n'
 

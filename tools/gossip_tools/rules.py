@@ -89,17 +89,14 @@ def halves(window):
 def suffices(in_first_half, in_second_half, window):
     """"A budget suffices where `greatest` is level in both halves of the window." It isn't level where the first half
     is better than the second: there it still rises. Nor is it known to be where it is too high for such a window."""
-    return not is_better(in_first_half, in_second_half) and can_be_level(max(in_first_half + in_second_half), window)
+    is_rising = is_better(in_first_half, in_second_half)
+    return not is_rising and max(in_first_half + in_second_half) <= highest_level(window)
 
 
 def highest_level(window):
     """The highest level that a window can show: the rounds that are left out before it. As `greatest` can't exceed the
     number of the round, what is higher wasn't reached yet as the window began."""
     return window[0] - 1
-
-
-def can_be_level(figure, window):
-    return figure <= highest_level(window)
 
 
 def has_left_the_diagonal(figure, last):

@@ -89,7 +89,7 @@ class Search:
 
     def __init__(self, it, stages):
         self.study, self.stages = it, stages
-        self.stage = next(stage for stage in it.steady_stages() if rules.can_be_level(it.target, it.window(stage)))
+        self.stage = next(stage for stage in it.steady_stages() if it.target <= rules.highest_level(it.window(stage)))
         top = min(it.nodes * it.keys, *it.fits.values())
         # (of a tenth those budgets are looked at with which it was seen to hold)
         least, self.top = (study.LEAST, top) if it.parts == 1 else (it.knee, min(top, rules.TENTH_HOLDS[1] * it.knee))
@@ -190,15 +190,6 @@ class Met(choice.Decision):
     def headline(self):
         within = f"the worst staleness within {cluster.plain(self.study.told['target'])} s"
         return f"{super().headline()} keeps {within}" if self.is_met else f"no budget keeps {within}"
-
-    def heals(self):
-        return False
-
-    def why_not_knee(self):
-        return ""
-
-    def too_close(self):
-        return []
 
     def smaller_one(self):
         """What the next smaller budget has that was run; empty where there is none."""

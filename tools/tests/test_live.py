@@ -1,5 +1,5 @@
-"""What the nodes of a live cluster make of datagrams that come late, twice or in another order, and when its figures are
-worthless: by hand. That nodes send, hold and count what the bench does is tried in scripts/."""
+"""What the nodes of a live cluster make of datagrams that come late, twice or in another order, and when its figures
+are worthless. That nodes send, hold and count what the bench does is tried in scripts/."""
 import random
 import unittest
 
@@ -25,11 +25,6 @@ class Cluster:
     def bring(self, at=0):
         receiver, datagram = self.under_way.pop(at)
         self.nodes[receiver].receive(datagram)
-
-    def exchange(self, initiator, responder):
-        self.nodes[initiator].begin(responder)
-        for _ in range(3):
-            self.bring()
 
     def do_anything(self, drawn, round):
         node, what = drawn.choice(self.nodes), drawn.random()
@@ -68,34 +63,6 @@ class Datagrams(unittest.TestCase):
 
 class Order(unittest.TestCase):
     """Datagrams that come late, in another order, twice, or after a restart."""
-
-    def test_an_older_delta_lowers_nothing(self):
-        """Node 0 is told version 1 of node 1 and then version 2, by deltas that come the other way round."""
-        for mode in MODES:
-            cluster = Cluster(nodes=2, keys=1, mode=mode)
-            for _ in range(2):
-                cluster.nodes[1].write(1)
-                cluster.nodes[0].begin(1)
-                # (the digest comes, and the answers stay under way)
-                cluster.bring(-1)
-            for answer in (1, 0):
-                cluster.bring(answer)
-                self.assertEqual(2, cluster.nodes[0].table[1][0].mark, mode)
-
-    def test_a_delta_for_an_earlier_life_is_dropped(self):
-        """Node 0 tells that it holds version 1 of node 1, restarts, and then gets version 2, to which 1 belongs."""
-        for mode in MODES:
-            cluster = Cluster(nodes=2, mode=mode)
-            cluster.nodes[1].write(1)
-            cluster.exchange(0, 1)
-            cluster.nodes[1].write(2)
-            cluster.nodes[0].begin(1)
-            cluster.bring()
-            cluster.nodes[0].restart(forgets=False)
-            cluster.bring()
-            self.assertEqual({}, cluster.nodes[0].table, mode)
-            cluster.exchange(0, 1)
-            self.assertEqual({0: 1, 1: 2}, {it.key: it.mark for it in cluster.nodes[0].table[1].values()}, mode)
 
     def test_a_newer_generation_wins(self):
         """Of owner 1 one node holds x, and another one y, which is of a newer generation."""

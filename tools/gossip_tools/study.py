@@ -254,9 +254,9 @@ class Study:
         return rules.rounds_of(window, self.fanout)
 
     def restarting(self):
-        """How many nodes restart at once, at least one, and in how many intervals such a group does: together no more
-        than half of the nodes, as what nobody lacks any more is healed too soon."""
-        each = max(1, min(self.restarts or 1, self.nodes // 2, scenario.MOST_SECTIONS))
+        """How many nodes restart at once, and in how many intervals such a group does: together no more than half of
+        them, as what nobody lacks any more is healed too soon."""
+        each = min(self.restarts or 1, self.nodes // 2, scenario.MOST_SECTIONS)
         most = RESTARTING if self.restarts else 1
         return each, min(most, self.nodes // 2 // each, scenario.MOST_SECTIONS // each)
 

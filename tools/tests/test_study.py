@@ -58,13 +58,6 @@ class Healing(unittest.TestCase):
             text.count("[[restart]]"), text.count("forget = true\n"), text.count(f"round = {it.begins}\n"),
             it.ends("forgotten-one"), text.startswith("format = 2\n")))
 
-    def test_no_more_than_half_restart(self):
-        found = {(nodes, each): of(f"nodes={nodes} keys=1 writes=1 entry=40 packet=4000 restarts={each}").restarting()
-                 for nodes in (2, 3, 20, 21, 30) for each in range(1, nodes + 1)}
-        self.assertEqual({}, {told: (each, groups) for told, (each, groups) in found.items()
-                              if not 1 <= each <= each * groups <= max(1, told[0] // 2) or groups > 10})
-        self.assertEqual((10, 1), found[(20, 10)])
-
 
 class Reading(unittest.TestCase):
     def test_those_that_are_wanted(self):

@@ -133,8 +133,7 @@ class Stages:
         return decision
 
     def bound(self, stage, pair, times=0):
-        """What bounds a budget and a mode that a stage chose: longer runs under other seeds. For the time left it is
-        reckoned with as many again so many times."""
+        """What bounds a budget and a mode that a stage chose: longer runs under other seeds, planned so many times."""
         self.plan((f"{stage}-bound", {pair}), times=times)
         return choice.Bound(self.study, f"{stage}-bound", self.carry_out(f"{stage}-bound", {pair}), pair)
 
@@ -196,8 +195,7 @@ def call_with(it, packet, folder):
 
 
 def tell(folder, lines, kept=(), told=()):
-    """Tells these lines, but for those that were told before, and keeps them behind those that are kept, as answer.txt.
-    Answers all of them."""
+    """Tells these lines, but for those told before, and keeps all behind those that are kept; answers what is kept."""
     print(*(it for it in lines if it not in told), sep="\n", flush=True)
     lines = [*kept, *lines]
     files.put(folder / "answer.txt", "\n".join(lines) + "\n")

@@ -60,8 +60,8 @@ class Decision:
         self.against, self.bound = list(against), bound
         self.figures = {mode: self.worst_with(study.most(mode), mode) for mode in study.fits
                         if (study.most(mode), mode) in found.rows}
-        enough = {mode: it for mode, it in self.figures.items() if self.is_enough(study.most(mode), mode)}
-        # (whether a budget that fits is enough, in some mode, and the mode that is better though none is)
+        # (of those with which a budget that fits is enough; whether there are some, and the mode that is better else)
+        enough = self.enough = {it: figure for it, figure in self.figures.items() if self.is_enough(study.most(it), it)}
         self.suffices = bool(enough)
         self.ahead = None if enough else rules.ahead(self.figures, self.window[1])
         self.mode = rules.mode_of(enough) if enough else self.ahead or self.usual()
@@ -82,9 +82,8 @@ class Decision:
     def may_be_chosen(self):
         """The budgets and modes that further seeds may choose: the usual mode and those that may still be better; where
         it isn't level, those that are, and those that may be the best."""
-        usual, enough = self.usual(), [it for it in self.figures if self.is_enough(self.study.most(it), it)]
-        modes = [*enough, *self.contenders()]
-        if usual in enough:
+        usual, modes = self.usual(), [*self.enough, *self.contenders()]
+        if usual in self.enough:
             modes = [mode for mode, figure in self.figures.items()
                      if mode == usual or rules.may_get_better(figure, self.figures[usual])]
         return {pair for pair in self.found.rows if pair[1] in modes}
@@ -152,7 +151,6 @@ class Decision:
         return self.suffices and self.study.has_packet
 
     def times(self):
-        """How the budget stands to nodes * writes."""
         of_knee = "" if self.budget == self.study.knee else f"{self.of_knee():.2g} times "
         return of_knee + self.study.knee_name
 
@@ -224,7 +222,6 @@ class Decision:
         return f"{more} {lasting(self.study, [self.most_rounds()])}, for {self.study.all_nodes} nodes"
 
     def staleness(self):
-        """The worst staleness: what bounds it, or what the runs that chose had."""
         it = self.study
         if not self.suffices:
             by_sum = f"; by a sum at least {it.least_rounds}" if it.least_rounds else ""

@@ -38,9 +38,8 @@ def instead(name, text):
     decimal = re.fullmatch(r"[0-9]+\.[0-9]+", text)
     unit = re.fullmatch(r"([0-9]+) ?([kKmM])i?[bB]?", text)
     if name == "writes" and decimal and Fraction(text).denominator > 1:
-        whole = int(Fraction(text))
-        part = (Fraction(text) - whole).limit_denominator(20)
-        return say("part_of_writes", whole=whole, part=part, more=whole + 1)
+        whole, part = divmod(Fraction(text), 1)
+        return say("part_of_writes", whole=whole, part=part.limit_denominator(20), more=whole + 1)
     if name in BYTES and unit:
         thousands, kibi = (int(unit[1]) * it**(1 if unit[2] in "kK" else 2) for it in (1000, 1024))
         return f"write {name}={thousands}, or {name}={kibi} where K is 1024"

@@ -79,11 +79,6 @@ def workers():
     return int(told or len(os.sched_getaffinity(0)))
 
 
-def drop_output():
-    """Lets what is still to be printed go nowhere, so that the end of the process can't fail on it."""
-    os.dup2(os.open(os.devnull, os.O_WRONLY), 1)
-
-
 def fault_of(error):
     place = str(error.filename or "the output")
     place = shown(place) if error.errno == errno.ENAMETOOLONG else place
@@ -116,7 +111,6 @@ def run(main, tool):
     except KeyboardInterrupt:
         why, status = "stopped by SIGINT.", 128 + signal.SIGINT
     except BrokenPipeError:
-        drop_output()
         why, status = "nobody reads the output any more.", 1
     except OSError as error:
         why, status = fault_of(error), 1
@@ -125,6 +119,7 @@ def run(main, tool):
     try:
         sys.stdout.flush()
     except OSError:
-        drop_output()
+        # (what is still to be printed goes nowhere, so that the end of the process can't fail on it)
+        os.dup2(os.open(os.devnull, os.O_WRONLY), 1)
     remark(why)
     return status

@@ -27,8 +27,7 @@ def fewer(study, asked):
 
 
 class Healing:
-    """How long a split, a restart and a forgotten state take to heal. Of a restart the longer time counts, of several
-    groups or of one alone."""
+    """How long what heals takes: of a restart the longer time counts, of several groups or of one alone."""
 
     def __init__(self, study, mode, stages):
         self.study, self.mode = study, mode

@@ -10,7 +10,6 @@ import multiprocessing
 import os
 import random
 import resource
-import sys
 import time
 from array import array
 from concurrent.futures import ThreadPoolExecutor
@@ -132,7 +131,6 @@ class Host:
 
 
 async def play(plan, numbers, pipe):
-    """All intervals from the beginning to the end."""
     host = Host(plan, numbers, asyncio.get_running_loop())
     pipe.send(await host.bind())
     host.start(*pipe.recv())
@@ -171,8 +169,6 @@ def processes(plan):
     """The pipes to processes that have the nodes, which begin at once. They end with the block."""
     count = max(1, min(workers(), plan.nodes // NODES_OF_A_PROCESS))
     fork, started, pipes = multiprocessing.get_context("fork"), [], []
-    # (what a buffer has would be printed by each of them)
-    sys.stdout.flush()
     try:
         for at in range(count):
             with running.deaf():

@@ -108,8 +108,7 @@ def rounds(decision, name, y, value):
 
 
 def healing(healed, stage, y, value):
-    """A column over the rounds since the end of what is to be healed, by budget: the seeds' middle, and bars from
-    their least to their most where they differ."""
+    """A column over the rounds since the end of what heals, by budget: the seeds' middle, and bars if they differ."""
     study, found = healed.study, healed.stages[stage]
     ends, budgets = study.ends(stage), [it for it, _ in found.rows][-len(BUDGETS):]
     taken = [it for budget in budgets for it in healed.taken(stage, budget) if it]

@@ -94,14 +94,13 @@ def suffices(in_first_half, in_second_half, window):
 
 
 def highest_level(window):
-    """The highest level that a window can show: the rounds that are left out before it. As `greatest` can't exceed the
-    number of the round, what is higher wasn't reached yet as the window began."""
+    """The highest level that a window can show: the rounds before it, as what is higher wasn't reached as it began."""
     return window[0] - 1
 
 
 def has_left_the_diagonal(figure, last):
-    """Whether `greatest` says something up to the last round. Where it is about the number of the round, which it can't
-    exceed, above nine tenths of it under some seed, it says nothing."""
+    """Whether `greatest` says something up to the last round: it can't exceed that, and says nothing where it is above
+    nine tenths of it under some seed."""
     return 10 * max(figure) <= 9 * last
 
 

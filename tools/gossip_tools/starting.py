@@ -35,8 +35,7 @@ class StandardError(io.TextIOWrapper):
 
 
 def fill_closed_streams():
-    """Opens /dev/null for each stream that is closed, so that no file of the tool gets its number. Input is opened for
-    writing, output for reading, so that they fail where they are used."""
+    """Opens /dev/null for each closed stream, so that no file gets its number, in a way that fails where it is used."""
     for number, way in enumerate((os.O_WRONLY, os.O_RDONLY, os.O_RDONLY)):
         try:
             os.fstat(number)

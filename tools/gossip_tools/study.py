@@ -105,15 +105,14 @@ class Study:
         return rounds
 
     def why_none_fits(self):
-        told = self.told
-        lacks = f"no room for {LEAST} entries of {cluster.plain(told['entry'])} bytes"
-        enough = f"takes packet={self.packet(self.usual)}"
+        given, entry = self.told["packet"], self.told["entry"]
+        values = {"least": LEAST, "entry": cluster.plain(entry), "enough": self.packet(self.usual)}
         if not self.shares:
-            return say("none_fits", self, lacks=lacks, enough=enough)
-        digest, alone = self.digest_bytes(self.usual), int(told["packet"] / told["entry"])
-        too_large = f", and the digest still fits no packet of {told['packet']}" if digest > told["packet"] else ""
-        return say("none_fits_with_digest", self, digest=digest, lacks=lacks, alone=alone,
-                   part=alone / self.knee_of_all, too_large=too_large, enough=enough)
+            return say("none_fits", self, **values)
+        digest, alone = self.digest_bytes(self.usual), int(given / entry)
+        too_large = f", and the digest still fits no packet of {given}" if digest > given else ""
+        values |= {"digest": digest, "alone": alone, "part": alone / self.knee_of_all, "too_large": too_large}
+        return say("none_fits_with_digest", self, **values)
 
     def why_at_least(self):
         """The sum in words, and how large a packet would have to be."""
@@ -140,8 +139,7 @@ class Study:
         return self.digest_bytes(mode) if self.shares else 0
 
     def packet(self, mode, entries=None):
-        """The bytes of a packet with room for so many entries of the whole cluster, nodes * writes where it isn't told,
-        with the digest where they share it."""
+        """The bytes of a packet with room for these entries of all nodes, else nodes * writes, and a shared digest."""
         return math.ceil((entries or self.knee_of_all) * self.told["entry"]) + self.shared_digest(mode)
 
     def tells_all(self):
@@ -162,8 +160,8 @@ class Study:
         return max(run, self.knee) if entries >= self.knee_of_all else min(run, self.knee - 1)
 
     def whole(self, budget):
-        """A budget of what is run as one of the whole cluster: all that fits, nodes * keys, and what is looked at by
-        nodes * writes, as exactly that of the whole."""
+        """A budget of what is run as one of the whole cluster: exactly what fits there, nodes * keys, or what is looked
+        at by nodes * writes, if it is that."""
         if self.parts == 1:
             return budget
         exact = {self.fits.get(self.usual): self.fits_of_all[self.usual],
@@ -286,7 +284,7 @@ class Study:
 
     def healing_groups(self):
         """The same, by what they tell."""
-        return read.grouped((tells, stage) for stage, tells in self.healing_stages().items()).items()
+        return list(read.grouped((tells, stage) for stage, tells in self.healing_stages().items()).items())
 
     def wanted(self, mode):
         """The budgets and modes that decide: each mode with what it may take, and this one with nodes * writes."""

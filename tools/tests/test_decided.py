@@ -89,37 +89,38 @@ class Decided(unittest.TestCase):
                 self.assertEqual(wanted, {it: case.told(it, wanted[it]) for it in wanted})
 
 
+class Made:
+    """Stages of which nothing is run. The runs that bound are level in some of them."""
+    chose = {1000: [9, 9], 600: [9, 9]}
+
+    def __init__(self, *level):
+        self.level, self.made = level, []
+
+    def is_level(self, decision):
+        pair = decision.budget, decision.mode
+        decision.bound = bound(decision, {pair: [8, 11]}, pair, decision.stage not in self.level)
+        return decision.bound.is_level()
+
+    def decide_in_time(self, stages, pairs, decision):
+        self.made.append(stages[0])
+        return decided(ROOMY, self.chose, stage=stages[0])
+
+    def bounded(self):
+        first = decided(ROOMY, self.chose)
+        return advise.bounded_decision(first.study, self, first)
+
+
 class Bounded(unittest.TestCase):
-    """What bounds a decision, and what is decided where that isn't level."""
-
-    def bounded(self, *level):
-        """What is decided where the runs that bound are level in these stages, and from which of them it was."""
-        made, chose = [], {1000: [9, 9], 600: [9, 9]}
-
-        class Made:
-            @staticmethod
-            def is_level(decision):
-                pair = decision.budget, decision.mode
-                decision.bound = bound(decision, {pair: [8, 11]}, pair, decision.stage not in level)
-                return decision.bound.is_level()
-
-            @staticmethod
-            def decide_in_time(stages, pairs, decision):
-                made.append(stages[0])
-                return decided(ROOMY, chose, stage=stages[0])
-
-        first = decided(ROOMY, chose)
-        return advise.bounded_decision(first.study, Made, first), made
-
     def test_later_stages(self):
         """A bound that isn't level has the longer runs choose; after the longest there is none: 1800 rounds behind 400
         show a level of up to 400."""
-        for level, later in ((("many",), []), (("longer",), ["longer"]), (("longest",), ["longer", "longest"])):
-            found, made = self.bounded(*level)
-            self.assertEqual((True, 600, later, level[0]), (found.suffices, found.budget, made, found.stage))
+        for level, later in (("many", []), ("longer", ["longer"]), ("longest", ["longer", "longest"])):
+            stages = Made(level)
+            found = stages.bounded()
+            self.assertEqual((True, 600, later, level), (found.suffices, found.budget, stages.made, found.stage))
             self.assertIn(" of 21 runs of 1800 rounds (30 min) no copy is older than 11 rounds, 11 s: the most of ",
                           answer.in_words(found, None)[2])
-        found, made = self.bounded()
+        found = Made().bounded()
         why = "none keeps a level of at most 400 rounds in runs of 1800 rounds (30 min)"
         self.assertEqual((False, 1000, f"no budget that fits is enough: {why}"),
                          (found.suffices, found.budget, found.headline()))

@@ -76,7 +76,8 @@ def bars(**greatest):
     study = SimpleNamespace(ends=lambda _: 30, rounds=lambda _: 60, whole=lambda budget: budget)
     rows = {(int(budget[1:]), DEPTH): [[{"round": at, "greatest": it} for at in range(1, 61)] for it in seeds]
             for budget, seeds in greatest.items()}
-    healed = SimpleNamespace(study=study, mode=DEPTH, stages={"split": SimpleNamespace(rows=rows)}, taken=lambda *_: [3])
+    stages = {"split": SimpleNamespace(rows=rows)}
+    healed = SimpleNamespace(study=study, mode=DEPTH, stages=stages, taken=lambda *_: [3])
     script = plots.healing(healed, "split", "y", lambda row: row["greatest"])
     blocks = [it.splitlines() for it in re.findall(r"\$bars\d << END\n(.*?)\nEND", script, re.S)]
     return [[tuple(map(float, line.split())) for line in it if "NaN" not in line] for it in blocks], script

@@ -4,7 +4,7 @@ import tempfile
 import unittest
 
 from gossip_tools import read, rules, scenario, sweep
-from given import BREADTH, DEPTH, NEWEST, OLDEST, ROOMY, of
+from given import BREADTH, DEPTH, NEWEST, OLDEST, of
 
 SHARED = "nodes=100 keys=4 writes=1 entry=40 packet=6000 digest=10"
 
@@ -46,17 +46,6 @@ class Calls(unittest.TestCase):
         text = of(f"{self.words} restarts=5 split=40").scene("restart")
         self.assertEqual(50, text.count("\ndown = 3\n"))
         self.assertEqual([5] * 10, [text.count(f"\nround = {at}\n") for at in range(151, 180, 3)])
-
-
-class Healing(unittest.TestCase):
-    def test_one_group_alone(self):
-        it = of(f"{ROOMY} restarts=5 forget=yes")
-        self.assertEqual([("split",), ("forgotten", "forgotten-one")],
-                         [tuple(of_these) for _, of_these in it.healing_groups()])
-        text = it.scene("forgotten-one")
-        self.assertEqual((5, 5, 5, it.begins, True), (
-            text.count("[[restart]]"), text.count("forget = true\n"), text.count(f"round = {it.begins}\n"),
-            it.ends("forgotten-one"), text.startswith("format = 2\n")))
 
 
 class Reading(unittest.TestCase):

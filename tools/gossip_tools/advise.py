@@ -129,7 +129,7 @@ class Stages:
             if decision.suffices:
                 break
             dropped = decision.why_dropped()
-            pairs = {(self.study.most(mode), mode) for mode in decision.contenders()}
+            pairs = {(self.study.most(mode), mode) for mode in decision.contenders}
         return decision
 
     def bound(self, stage, pair, times=0):
@@ -171,10 +171,8 @@ class Stages:
 
 def look(folder):
     """Refuses a folder with other things in it, what is no folder, and a name that an answer can't have in UTF-8."""
-    try:
-        str(folder).encode()
-    except UnicodeEncodeError:
-        raise Refused(say("not_utf8", name=ascii(str(folder)))) from None
+    name = str(folder)
+    refuse_if(name != name.encode(errors="ignore").decode(), say("not_utf8", name=ascii(name)))
     refuse_if(folder.exists() and not folder.is_dir(), f"{folder} isn't a folder: name another one.")
     if folder.exists() and not (folder / "cluster.toml").exists() and {it.name for it in folder.iterdir()} - {"lock"}:
         raise Refused(f"{folder} isn't empty and has no answer: name a new folder by -o.")
@@ -187,7 +185,6 @@ def call_with_enough(decision, folder):
 
 
 def call_with(it, packet, folder):
-    """The whole call with another packet, into another folder."""
     told = it.told | {"packet": packet}
     words = {name: str(as_text(told[name])) for name in (*cluster.NEEDED, *USUAL) if told[name] is not None}
     asked = [f"{name}={text}" for name, text in words.items() if text != USUAL.get(name)]

@@ -61,10 +61,13 @@ class Decision:
         self.figures = {mode: self.worst_with(study.most(mode), mode) for mode in study.fits
                         if (study.most(mode), mode) in found.rows}
         # (of those with which a budget that fits is enough; whether there are some, and the mode that is better else)
+        # (the mode to begin with, of those that were run, and those than which none is known to be better)
+        self.usual = next(it for it in (study.usual, *rules.CHEAPEST_FIRST) if it in self.figures)
+        self.contenders = rules.contenders(self.figures, self.window[1])
         enough = self.enough = {it: figure for it, figure in self.figures.items() if self.is_enough(study.most(it), it)}
         self.suffices = bool(enough)
         self.ahead = None if enough else rules.ahead(self.figures, self.window[1])
-        self.mode = rules.mode_of(enough) if enough else self.ahead or self.usual()
+        self.mode = rules.mode_of(enough) if enough else self.ahead or self.usual
         self.most = self.budget = study.most(self.mode)
         # (what that is held against: all that suffices from nodes * writes on, and the other modes)
         self.others = list(enough.values())
@@ -82,18 +85,11 @@ class Decision:
     def may_be_chosen(self):
         """The budgets and modes that further seeds may choose: the usual mode and those that may still be better; where
         it isn't level, those that are, and those that may be the best."""
-        usual, modes = self.usual(), [*self.enough, *self.contenders()]
+        usual, modes = self.usual, [*self.enough, *self.contenders]
         if usual in self.enough:
             modes = [mode for mode, figure in self.figures.items()
                      if mode == usual or rules.may_get_better(figure, self.figures[usual])]
         return {pair for pair in self.found.rows if pair[1] in modes}
-
-    def usual(self):
-        """The mode to begin with, of those that were run."""
-        return next(it for it in (self.study.usual, *rules.CHEAPEST_FIRST) if it in self.figures)
-
-    def contenders(self):
-        return rules.contenders(self.figures, self.window[1])
 
     def worst_with(self, budget, mode):
         return self.found.worst(budget, mode, self.window)
@@ -124,7 +120,6 @@ class Decision:
         return least
 
     def more_is_worse(self):
-        """Whether the budget is better than all that fits, which then is no reserve."""
         return rules.is_better(self.worst, self.figures[self.mode])
 
     def knee_suffices(self):
@@ -195,7 +190,7 @@ class Decision:
 
     def most_that_fits(self):
         """The largest budget where none is enough, and which mode is ahead with that, or why none is."""
-        it, last, runs_on = self.study, self.window[1], self.contenders()
+        it, last, runs_on = self.study, self.window[1], self.contenders
         has_left = any(rules.has_left_the_diagonal(figure, last) for figure in self.figures.values())
         why = say("none_is_ahead", modes=listed(list(runs_on))) if has_left else say("on_the_diagonal")
         mode = f" No mode can be preferred with that: {why}"
@@ -204,7 +199,7 @@ class Decision:
         return f"The most that fits: {self.room()}.{mode if len(it.fits) > 1 else ''}"
 
     def why_dropped(self):
-        kept = self.contenders()
+        kept = self.contenders
         best = min(kept, key=lambda mode: max(kept[mode]))
         lost = [f"{mode} with {in_rounds(figure)}" for mode, figure in self.figures.items() if mode not in kept]
         why = say("dropped", self, best=best, had=in_rounds(self.figures[best]), lost=", ".join(lost))

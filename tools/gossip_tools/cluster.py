@@ -119,7 +119,6 @@ def check_fanout(fanout):
 
 
 def counts_bytes(it, room):
-    """Whether a scenario counts bytes, where a delta has room for so many entries."""
     return it["count"] == "bytes" or not it["count"] and rules.counts_bytes(room)
 
 
@@ -132,7 +131,6 @@ def without_writes(rounds, fanout):
 
 
 def remarks(it, room, in_bytes, loads):
-    """What stands in front of a scenario, line by line."""
     left = ["latency"] + ["more than one peer a round"] * (it["fanout"] == 1) + ["generations"] * (not in_bytes)
     values = {"room": room, "entries": float(room / it["entry"]), "entry": plain(it["entry"]), "mode": it["mode"],
               "digest": it["packet"] - room, "fanout": it["fanout"], "left": ", ".join(left)}

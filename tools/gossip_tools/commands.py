@@ -60,14 +60,13 @@ def folder_of(words, usual):
 
 def the_program():
     """The path of gossip_bench: what GOSSIP_BENCH names, else the one beside the tools, else the built one."""
-    beside = pathlib.Path(__file__).resolve().parent.parent
+    beside, top = pathlib.Path(__file__).resolve().parents[1:3]
     named = os.environ.get("GOSSIP_BENCH")
-    choices = [named] if named else [beside / "gossip_bench", beside.parent / "crates/gossip_bench/out/gossip_bench"]
+    choices = [named] if named else [beside / "gossip_bench", top / "crates/gossip_bench/out/gossip_bench"]
     if found := next(filter(None, map(shutil.which, choices)), None):
         return os.path.abspath(found)
     refuse_if(named, f"GOSSIP_BENCH names '{shown(named or '')}', which is no program that can be started.")
-    refuse_if((beside.parent / "crates").is_dir(), f"the program isn't built: {beside.parent / 'gossip_bench'} --help "
-              "builds it.")
+    refuse_if((top / "crates").is_dir(), f"the program isn't built: {top / 'gossip_bench'} --help builds it.")
     raise Refused(f"the program isn't beside this tool, in {beside}: install both again, or name it in GOSSIP_BENCH.")
 
 

@@ -62,7 +62,7 @@ class Folder:
         """Sentences on what doesn't show of the reports: which program made them, and that they are as it made them."""
         if not self.has_reports() or (self.path / "program").exists():
             return []
-        without = sum(map(read.is_without_sum, self.path.glob("*.csv")))
+        without = sum(not it.with_suffix(".sum").exists() for it in self.path.glob("*.csv"))
         return [say("no_program", self), *([read.told_without_sum(without, self.path)] if without else [])]
 
     def fill(self):

@@ -49,12 +49,12 @@ def plan_of(text, asked):
 
 
 def stretched(top, fanout):
-    """The text of a scenario in which each interval is as many rounds as a node has calls. Writes are in the first."""
+    """The text of a scenario in which each interval is as many rounds as a node has calls. Writes, and what begins, are
+    in the first of them, and what ends in the last."""
     loads, most = len(top.get("load", [])) + top["rounds"], scenario.MOST_SECTIONS
     refuse_if(loads > most, say("too_many_loads", loads=loads, most=most))
 
     def stretch(fields):
-        """What begins does so in the first round of an interval, and what ends in the last."""
         return {name: (it - 1) * fanout + 1 if name in ("from", "round") else it * fanout
                 if name in ("to", "down", "rounds") else it for name, it in fields.items()}
 

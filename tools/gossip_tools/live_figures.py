@@ -14,7 +14,7 @@ class Figures:
         self.plan = plan
         # (by owner and key, the writes of the owner's generation of now: their marks, and when they were made)
         self.marks, self.born = defaultdict(list), defaultdict(list)
-        self.entries = self.cut = self.timers = self.late = self.sent = self.received = 0
+        self.entries = self.cut = self.timers = self.late = self.sent = self.lost = 0
         self.lag = 0.0
 
     def add(self, write):
@@ -49,16 +49,14 @@ class Figures:
         return row
 
     def end(self, parts):
-        self.sent, self.received = map(sum, zip(*parts))
-
-    def lost(self):
-        return max(self.sent - self.received, 0)
+        self.sent, received = map(sum, zip(*parts))
+        self.lost = max(self.sent - received, 0)
 
     def is_worthless(self):
-        return self.late > MOST_LATE * self.timers or self.lost() > MOST_LOST * self.sent
+        return self.late > MOST_LATE * self.timers or self.lost > MOST_LOST * self.sent
 
     def how_fast(self):
         said = (f"{self.late} of {self.timers} timers were late by more than {LATE:g} intervals, the latest by "
-                f"{self.lag:.3f}, and {self.lost()} of {self.sent} datagrams didn't come")
+                f"{self.lag:.3f}, and {self.lost} of {self.sent} datagrams didn't come")
         return f"{said}: the figures are worthless; take fewer nodes or a longer interval." \
             if self.is_worthless() else f"{said}."

@@ -15,6 +15,11 @@ COLUMNS = {1: OF_FORMAT_1, 2: [*OF_FORMAT_1, "leftover"]}  # by the format
 class NotWhole(Exception):
     """What a report lacks."""
 
+    @classmethod
+    def where(cls, is_so, why):
+        if is_so:
+            raise cls(why)
+
 
 def settings(text):
     """The fields of a scenario that the program takes."""
@@ -26,18 +31,13 @@ def settings(text):
 
 def rows_of(content, form, rounds):
     """The rows of a report, in numbers, where it is that of a scenario of this format with so many rounds."""
-    if not content:
-        raise NotWhole("it is empty")
-    if not content.isascii():
-        raise NotWhole("it has other bytes than those of a report")
+    NotWhole.where(not content, "it is empty")
+    NotWhole.where(not content.isascii(), "it has other bytes than those of a report")
     header, (first, _, rest) = COLUMNS[form], content.decode().partition("\n")
     *lines, last = rest.split("\n")
-    if first.split(",") != header:
-        raise NotWhole("its header is another")
-    if len(lines) < rounds:
-        raise NotWhole(f"it is cut short after {len(lines)} of {rounds} rounds")
-    if len(lines) > rounds or last:
-        raise NotWhole(f"it goes on after its {rounds} rounds")
+    NotWhole.where(first.split(",") != header, "its header is another")
+    NotWhole.where(len(lines) < rounds, f"it is cut short after {len(lines)} of {rounds} rounds")
+    NotWhole.where(len(lines) > rounds or last, f"it goes on after its {rounds} rounds")
     line = re.compile(",".join(["[0-9]{1,18}"] * len(header)))
     for at, it in enumerate(lines, 1):
         if not line.fullmatch(it) or int(it.partition(",")[0]) != at:
@@ -64,17 +64,11 @@ def report(path, form, rounds):
 
 def compare(name, there, wanted):
     """Says what is another of the check sums that a file has, of a scenario and its report."""
-    if re.fullmatch(rb"[0-9]+ [0-9a-f]{64}\n", there):
-        raise NotWhole(f"{name} is of an earlier version, which left its scenario out")
-    if there.splitlines()[:1] != wanted.splitlines()[:1]:
-        raise NotWhole(f"its scenario's check sum isn't that of {name}")
-    if there != wanted:
-        raise NotWhole(f"its check sum isn't that of {name}")
-
-
-def is_without_sum(path):
-    """Whether a report is there and nothing beside it that says what it was."""
-    return path.exists() and not path.with_suffix(".sum").exists()
+    is_older = re.fullmatch(rb"[0-9]+ [0-9a-f]{64}\n", there)
+    NotWhole.where(is_older, f"{name} is of an earlier version, which left its scenario out")
+    is_another = there.splitlines()[:1] != wanted.splitlines()[:1]
+    NotWhole.where(is_another, f"its scenario's check sum isn't that of {name}")
+    NotWhole.where(there != wanted, f"its check sum isn't that of {name}")
 
 
 class Runs:
@@ -98,7 +92,7 @@ class Runs:
             refuse_if(top["format"] != (form := form or top["format"]), f"the runs in {folder} are of two formats.")
             try:
                 self.rows[values] = report(file.with_suffix(".csv"), form, top["rounds"])
-                self.without_sum += is_without_sum(file.with_suffix(".csv"))
+                self.without_sum += not file.with_suffix(".sum").exists()
             except NotWhole as why:
                 self.missing[file.stem] = str(why)
         others = "" if self.fields else ", ".join(sorted({it.parent.name for it in folder.glob("*/*-*.toml")}))

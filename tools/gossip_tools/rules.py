@@ -56,7 +56,6 @@ def is_far_better(one, other):
 
 
 def are_close(one, other):
-    """Whether two figures are too close to call: neither is better."""
     return not is_better(one, other) and not is_better(other, one)
 
 
@@ -75,7 +74,6 @@ FLOOR = "no mode and no budget does better than {}, with these peers and losses"
 
 
 def rounds_of(window, fanout):
-    """The first and the last round of a window of intervals."""
     first, last = window
     return (first - 1) * fanout + 1, last * fanout
 
@@ -155,7 +153,6 @@ def least_that_is_taken(figures, others):
 
 
 def smaller_budgets(budget, at_knee):
-    """The budgets below one, from the largest on."""
     return sorted({it for over, under in LOOKED_AT if 1 <= (it := at_knee * over // under) < budget}, reverse=True)
 
 

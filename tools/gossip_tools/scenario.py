@@ -27,7 +27,6 @@ def limited(name, number):
 
 
 def digest_numbers(nodes, keys, mode):
-    """How many numbers a digest has at most."""
     return nodes * (keys if mode.startswith("precise") else 1)
 
 

@@ -54,7 +54,6 @@ def end_at_signals():
 
 
 def tool_of(name):
-    """What carries a tool out, and what it declares of its words."""
     module, main = TOOLS[name]
     words = importlib.import_module("gossip_tools.words")
     return getattr(importlib.import_module(f"gossip_tools.{module}"), main), words.tool(name)

@@ -327,7 +327,6 @@ class Study:
                  "mode": list(in_modes)} for (those, in_modes), budgets in alike.items()]
 
     def value(self, stage, budget):
-        """A budget as the runs of a stage name it."""
         return str(scenario.budget_field(budget, self.counts_bytes(stage))[1])
 
 
@@ -365,8 +364,7 @@ class Found:
         """The intervals after the `last` round with writes until half of the copies that are stale then are so no more,
         which by docs/study.md lack only writes of so many intervals; None where they aren't in these rounds."""
         ends = [rows[last - 1::fanout] for rows in self.rows[(budget, mode)]]
-        return [next((at for at, row in enumerate(rows) if 2 * row["stale"] <= rows[0]["stale"]), None)
-                for rows in ends]
+        return [next((at for at, it in enumerate(rows) if 2 * it["stale"] <= rows[0]["stale"]), None) for rows in ends]
 
     def suffices(self, budget, mode, window):
         return rules.suffices(*(self.worst(budget, mode, half) for half in rules.halves(window)), window)

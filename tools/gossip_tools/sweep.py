@@ -70,7 +70,6 @@ def check(runs, program):
 
 
 def make(folder, program, progress, hosts):
-    """Makes the reports that the folder lacks."""
     for sentence in folder.unknown():
         remark(sentence)
     lacking = {name: lacks for name in folder.runs if (lacks := folder.lacks(name))}
@@ -90,7 +89,6 @@ def make(folder, program, progress, hosts):
 
 
 def what_stands(folder):
-    """How many runs of the folder have their report, in words."""
     count = 0
     for name in folder.runs:
         # (a report that can't be read doesn't stand)

@@ -66,7 +66,6 @@ class Ages:
         return None if None in intervals else [at * it.fanout for at in intervals]
 
     def at_most(self, budget, mode):
-        """How old a typical stale copy is, in words."""
         it, rounds = self.study, self.typical(budget, mode)
         return f"more than {in_rounds([it.target])}" if rounds is None else lasting(it, rounds)
 
@@ -133,8 +132,8 @@ class Search:
             for mode, budget in steps.items():
                 bounds = self.least if self.keeps(budget, mode) else self.below
                 bounds[mode] = budget
-        self.chosen = min(self.modes, default=it.usual, key=lambda mode: (
-            self.packet(mode), rules.CHEAPEST_FIRST.index(mode)))
+        cheapest_first = [mode for mode in rules.CHEAPEST_FIRST if mode in self.modes]
+        self.chosen = min(cheapest_first, default=it.usual, key=self.packet)
         return self.bound()
 
     def bound(self):

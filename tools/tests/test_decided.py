@@ -1,6 +1,7 @@
 """From figures to a decision, its words and its page: the cases of decided.toml, and what those can't say."""
 import pathlib
 import unittest
+from types import SimpleNamespace
 
 from gossip_tools import advise, answer, choice, healing, page, target
 from gossip_tools.scenario import MODES
@@ -22,14 +23,9 @@ PARTS = {
 }
 
 
-class Taken:
+def healed(taken, gone, pairs):
     """Runs of which it is given how many rounds it took until something had healed, or was gone."""
-
-    def __init__(self, taken, gone, pairs):
-        self.taken, self.gone, self.rows = taken, gone, pairs
-
-    def healed_after(self, stage, *_):
-        return self.gone if stage == "forgotten" and self.gone else self.taken
+    return SimpleNamespace(rows=pairs, healed_after=lambda stage, *_: gone if stage == "forgotten" and gone else taken)
 
 
 class Case:
@@ -51,7 +47,7 @@ class Case:
         if "bounds_of_most" in given:
             found.bound_of_most = bound(found, {most: given["bounds_of_most"]}, most, "most_rises" in given)
         runs = (taken, most) if "with_reserve" in given else (taken,)
-        stages = {stage: Taken(seeds, given.get("gone"), runs) for stage, seeds in given.get("heals", {}).items()}
+        stages = {stage: healed(seeds, given.get("gone"), runs) for stage, seeds in given.get("heals", {}).items()}
         self.healing = healing.Healing(it, found.mode, stages) if stages else None
 
     def missing(self, was_enough=False):

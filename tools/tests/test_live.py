@@ -56,9 +56,9 @@ class Datagrams(unittest.TestCase):
     def test_entries_have_the_bytes_of_the_bench(self):
         for form, value, wanted in ((1, 999, 24), (2, 0, 24), (2, 999, 1023), (2, 1003, 27)):
             entry = Entry(1, 0, mark(0, 3), value, 2)
-            none, one = (live_node.encoded(self.message._replace(delta=it), plan(format=form).padding)
-                         for it in ([], [entry]))
-            self.assertEqual(wanted, len(one) - len(none))
+            datagram = live_node.encoded(self.message._replace(delta=[entry]), plan(format=form).padding)
+            # (31 are those of the head and the one number)
+            self.assertEqual(31 + wanted, len(datagram))
 
 
 class Order(unittest.TestCase):

@@ -91,8 +91,7 @@ class Healing(unittest.TestCase):
         places = sorted(it[0] for it in one + other)
         self.assertEqual(0.25, min(after - before for before, after in zip(places, places[1:])))
         self.assertNotIn("filledcurves", script)
-
-    def test_seeds_that_agree_have_no_bar(self):
+        # (where all seeds agree there is none)
         (one, other), _ = bars(b50=(9, 9, 9), b100=(4, 4, 5))
         self.assertEqual((0, 26), (len(one), len(other)))
 

@@ -1,12 +1,10 @@
 """The tables of tables.toml: what functions of the tools make of their arguments, by hand."""
+import importlib
 import pathlib
 import unittest
 
-from gossip_tools import cluster, live, measures, progress, rules, scenario, study
+from gossip_tools import rules, study
 from given import of, outcome, plain, plan, table_of, value_of
-
-MODULES = {"cluster": cluster, "live": live, "measures": measures, "progress": progress, "rules": rules,
-           "scenario": scenario}
 
 
 def alike(less, more, seeds):
@@ -36,7 +34,7 @@ def found(name, first, *others):
         return getattr(rules, function)(*alike(*first))
     if module in KINDS:
         return outcome(lambda: value_of(KINDS[module](first), function, *others))
-    return outcome(getattr(MODULES[module], function), first, *others)
+    return outcome(getattr(importlib.import_module(f"gossip_tools.{module}"), function), first, *others)
 
 
 class Tables(unittest.TestCase):

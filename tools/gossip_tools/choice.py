@@ -8,11 +8,6 @@ from gossip_tools.texts import speaker
 say = speaker("choice")
 
 
-def listed(names):
-    *others, last = names
-    return f"{', '.join(others)} and {last}" if others else last
-
-
 def by_seeds(one, other):
     less, more, seeds = rules.seed_by_seed(one, other)
     return f"less under {less} of {seeds} seeds, more under {more}"
@@ -48,7 +43,6 @@ class Bound:
 
 class Decision:
     """The mode and the budget that follow from the runs of a stage."""
-
     why_empty = "smaller budgets are run with the chosen mode, down to the first that is worse, for the last answer"
     bound_of_most = None  # what bounds all that fits, where a target asks for that
     floor = None  # what nothing goes below, for each seed: empty where no run shows it, None where none was made
@@ -108,8 +102,7 @@ class Decision:
         return (self.budget if mode == self.mode else self.study.most(mode)), mode
 
     def smaller(self):
-        """The least budget from which on nothing is better, if that isn't the chosen one itself. It is below nodes *
-        writes, as from there on it would be taken."""
+        """The least budget from which on nothing is better, below nodes * writes; None where it is the chosen one."""
         least = None
         for budget in reversed([it for it in self.of_mode() if it < self.budget]):
             worst = self.worst_with(budget, self.mode)
@@ -190,11 +183,11 @@ class Decision:
 
     def most_that_fits(self):
         """The largest budget where none is enough, and which mode is ahead with that, or why none is."""
-        it, last, runs_on = self.study, self.window[1], self.contenders
+        it, last, modes = self.study, self.window[1], " and ".join(", ".join(self.contenders).rsplit(", ", 1))
         has_left = any(rules.has_left_the_diagonal(figure, last) for figure in self.figures.values())
-        why = say("none_is_ahead", modes=listed(list(runs_on))) if has_left else say("on_the_diagonal")
+        why = say("none_is_ahead", modes=modes) if has_left else say("on_the_diagonal")
         mode = f" No mode can be preferred with that: {why}"
-        if self.ahead or self.against and len(runs_on) == 1:
+        if self.ahead or self.against and len(self.contenders) == 1:
             mode = say("is_ahead", self, most=briefly(it, self.figures[self.mode]), last=last)
         return f"The most that fits: {self.room()}.{mode if len(it.fits) > 1 else ''}"
 
@@ -237,7 +230,7 @@ class Decision:
         own = self.bounded()[:len(self.floor)]
         had = "that" if self.floor == own else span(own)
         chosen = say("above_floor", had=had, seeds=len(own)) if self.suffices else ""
-        return f"{rules.FLOOR.format(lasting(it, self.floor))}{chosen}{it.nodes_run}"
+        return say("floor", floor=lasting(it, self.floor)) + chosen + it.nodes_run
 
     def to_knee(self):
         """The bytes with which nodes * writes entries fit, and what they would bring; empty where they do fit."""

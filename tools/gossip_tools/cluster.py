@@ -4,14 +4,13 @@ from fractions import Fraction
 
 from gossip_tools import rules, scenario
 from gossip_tools.commands import Refused, refuse_if
-from gossip_tools.scenario import limited
+from gossip_tools.scenario import USUAL_MODE, limited
 from gossip_tools.texts import speaker
 from gossip_tools.words import TEXTS, values_of
 
 DECIMALS = ("entry", "loss", "interval", "hours", "target")
 BYTES = ("entry", "packet", "digest")
-USUAL = {"digest": "0", "loss": "0", "fanout": "1", "rounds": None, "seed": "1", "mode": scenario.USUAL_MODE,
-         "count": None}
+USUAL = {"digest": "0", "loss": "0", "fanout": "1", "rounds": None, "seed": "1", "mode": USUAL_MODE, "count": None}
 USUAL_ROUNDS = 60
 say = speaker("cluster")
 MOST_CALLS = 16  # others that a node calls in an interval

@@ -53,9 +53,9 @@ def folder_of(words, usual):
     if "-o" not in words:
         return pathlib.Path(usual), words
     at = words.index("-o")
-    if not words[at + 1:at + 2] or not words[at + 1] or "-o" in words[at + 1:]:
-        raise Refused("-o needs a folder, and comes once.")
-    return pathlib.Path(words[at + 1]), words[:at] + words[at + 2:]
+    named, others = words[at + 1:at + 2], words[:at] + words[at + 2:]
+    refuse_if(not any(named) or "-o" in named + others, "-o needs a folder, and comes once.")
+    return pathlib.Path(*named), others
 
 
 def the_program():

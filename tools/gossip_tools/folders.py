@@ -51,9 +51,8 @@ class Folder:
         for name, dot, ending in (it.rpartition(".") for it in sorted(names)):
             refuse_if(dot and ending in ("toml", "csv", "sum") and "-" in name and fields_of(name) not in wanted,
                       say("other_fields", self, fields=", ".join(fields_of(name))))
-        is_known = "program" in names and self.has_reports()
-        refuse_if(is_known and (self.path / "program").read_bytes() != self.program.encode(),
-                  say("another_program", self))
+        known = "program" in names and self.has_reports()
+        refuse_if(known and (self.path / "program").read_bytes() != self.program.encode(), say("another_program", self))
 
     def has_reports(self):
         return any(self.path.glob("*.csv"))

@@ -67,8 +67,7 @@ class Healing:
         return f"of {nodes}{few}, {down}{', and then without its own state' if it.forgets else ''}{alone}"
 
     def lines(self, heals, budget):
-        """The lines of what heals; below the first of all that is looked at what is counted, and below a restart how
-        long to wait between the groups of a rolling one."""
+        """The lines of what heals, with what is counted below the first of all, and the wait of a rolling restart."""
         lines = []
         for stage in heals:
             rounds, time = self.in_words(stage, budget)

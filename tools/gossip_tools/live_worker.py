@@ -6,6 +6,7 @@ the end of each interval what they hold, and at last how many datagrams they sen
 import asyncio
 import collections
 import contextlib
+import functools
 import multiprocessing
 import os
 import random
@@ -40,11 +41,8 @@ def marks_of(node, plan):
 
 
 class Socket(asyncio.DatagramProtocol):
-    def __init__(self, host, number):
-        self.host, self.number = host, number
-
-    def datagram_received(self, data, address):
-        self.host.receive(self.number, data, address)
+    def __init__(self, receive):
+        self.datagram_received = receive
 
 
 class Host:
@@ -63,7 +61,7 @@ class Host:
         """Gives each node a socket, and answers with their addresses."""
         for number in self.nodes:
             self.sockets[number], _ = await self.loop.create_datagram_endpoint(
-                lambda number=number: Socket(self, number), local_addr=("127.0.0.1", 0))
+                lambda number=number: Socket(functools.partial(self.receive, number)), local_addr=("127.0.0.1", 0))
         return {number: it.get_extra_info("sockname") for number, it in self.sockets.items()}
 
     def start(self, addresses, begin):

@@ -8,8 +8,7 @@ from gossip_tools.healing import ENDS, HEALED, ROLLING
 from gossip_tools.measures import in_rounds, lasting, sentences, span
 from gossip_tools.texts import speaker, text_of
 
-# (on paper the page is light, whatever the screen is; pictures, which are drawn on white, are turned dark, and their
-# colours stay what they are)
+# (on paper the page is light; pictures, which are drawn on white, are turned dark, and their colours stay the same)
 STYLE = "\n" + text_of("page.css")
 say = speaker("page")
 MOST_COLUMNS = 5  # of cards beside each other

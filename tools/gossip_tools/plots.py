@@ -14,8 +14,7 @@ from gossip_tools.texts import text_of
 COLOURS = dict(zip(scenario.MODES, (("#e69f00", 5), ("#00407a", 7), ("#009e73", 9), ("#cc79a7", 13))))
 WIDTHS = (9, 6, 3.5, 1.5)
 # (the usual mode comes last, on top of the others)
-STYLES = {mode: (COLOURS[mode][0], width, COLOURS[mode][1])
-          for mode, width in zip(reversed(rules.CHEAPEST_FIRST), WIDTHS)}
+STYLES = {mode: (COLOURS[mode][0], width, COLOURS[mode][1]) for mode, width in zip(rules.CHEAPEST_FIRST[::-1], WIDTHS)}
 BUDGETS = (("#e69f00", 8, 5), ("#56b4e9", 5.5, 9), ("#009e73", 3.5, 13), ("#00407a", 1.5, 7))
 IS_THERE = shutil.which("gnuplot") is not None
 HEAD = text_of("picture.gnuplot")

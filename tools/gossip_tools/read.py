@@ -72,11 +72,10 @@ def compare(name, there, wanted):
 
 
 class Runs:
-    """The runs of a folder: their fields, the rows of each by the values of its fields, how many have no check sum, and
-    what others lack."""
+    """The runs of a folder, or those alone whose values are wanted: their fields, the rows of each by the values of its
+    fields, how many have no check sum, and what others lack."""
 
     def __init__(self, folder, wanted=None):
-        """All of them, or those alone whose values are wanted."""
         self.fields, self.rows, self.missing, self.without_sum = None, {}, {}, 0
         form = None
         for file in sorted(folder.glob("*-*.toml")):

@@ -22,8 +22,7 @@ LOOKED_AT = ((1, 4), (1, 2), (3, 4), (1, 1), (3, 2), (2, 1))
 # By the size of their digests, and the usual one before scuttle-breadth, which lags longer below the knee.
 CHEAPEST_FIRST = sorted(MODES, key=lambda mode: (digest_numbers(2, 2, mode), mode != USUAL_MODE))
 FEW_ENTRIES = 50
-# How far a tenth was seen to hold in scuttle-depth: how many rounds more in `greatest` ten times the nodes had, with
-# which parts of `nodes * writes`.
+# How many rounds more in `greatest` ten times the nodes had in scuttle-depth, and with which parts of `nodes * writes`.
 TENTH_MORE, TENTH_HOLDS = (2, 6), (1, 2)
 
 
@@ -67,10 +66,6 @@ def bound_of(figure):
     """"Of m + 1 runs with seeds drawn alike, the last is above the k-th greatest of the others with a chance of k in
     m + 1": the greatest of 20, or the third greatest of 62, which varies less. None is never, above all others."""
     return sorted(figure, key=lambda it: math.inf if it is None else it)[-max(1, (len(figure) + 1) // ONE_IN)]
-
-
-# What a run that cuts nothing shows.
-FLOOR = "no mode and no budget does better than {}, with these peers and losses"
 
 
 def rounds_of(window, fanout):

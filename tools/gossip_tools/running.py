@@ -18,8 +18,7 @@ NAME = "[A-Za-z0-9_.][A-Za-z0-9_.-]*"
 HOST = f"([1-9][0-9]{{0,3}}/)?(:|({NAME}@)?{NAME})"
 # The signals that end a process where nothing else is said.
 ENDINGS = signal.SIGINT, signal.SIGTERM, signal.SIGHUP
-# How GNU parallel ends, and in how many seconds: by its first TERM it begins no more, by the second it ends what runs,
-# which it may have to do on other machines.
+# How GNU parallel ends, and in how many seconds: its first TERM lets none begin, its second ends what runs anywhere.
 GENTLY = (signal.SIGTERM, 1), (signal.SIGTERM, 10)
 
 

@@ -21,9 +21,6 @@ TOOLS = {
 class StandardError(io.TextIOWrapper):
     """Standard error. What can't be written there is dropped, as the work is worth more than what is said of it."""
 
-    def __init__(self):
-        super().__init__(open(2, "wb", closefd=False), errors="backslashreplace", line_buffering=True)
-
     def write(self, text):
         with contextlib.suppress(OSError):
             super().write(text)
@@ -43,7 +40,7 @@ def fill_closed_streams():
             os.set_inheritable(os.open(os.devnull, way), True)
     sys.stdin = sys.stdin or open(0, closefd=False)
     sys.stdout = sys.stdout or open(1, "w", closefd=False)
-    sys.stderr = StandardError()
+    sys.stderr = StandardError(open(2, "wb", closefd=False), errors="backslashreplace", line_buffering=True)
 
 
 def end_at_signals():

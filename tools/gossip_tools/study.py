@@ -24,8 +24,7 @@ from gossip_tools import cluster, read, rules, scenario
 from gossip_tools.commands import Refused, refuse_if
 from gossip_tools.texts import speaker
 
-# What is to be healed begins once the tables have filled and `greatest` is level: after so many intervals, of which the
-# last ones tell the level, and later with a budget below the knee.
+# What heals begins after so many intervals, of which the last ones tell the level; later with a budget below the knee.
 FILLING, LEVEL = 30, 20
 USUAL_SPLIT = 30
 RESTARTING = 10
@@ -346,7 +345,7 @@ class Found:
         return [read.between(rows, *window) for rows in self.rows[(budget, mode)]]
 
     def worst(self, *run):
-        return list(map(worst, self.windows(*run)))
+        return [max(row["greatest"] for row in rows) for rows in self.windows(*run)]
 
     def cut(self, *run):
         return list(map(read.percent_cut, self.windows(*run)))
@@ -358,7 +357,8 @@ class Found:
         """The worst staleness in a window of a run that cut nothing up to its end; empty where some seed has none."""
         uncut = [[rows for rows in of_seed if not any(row["cut"] for row in read.between(rows, 1, window[1]))]
                  for of_seed in zip(*self.rows.values())]
-        return [worst(read.between(some[0], *window)) for some in uncut] if all(uncut) else []
+        windows = [read.between(some[0], *window) for some in uncut] if all(uncut) else []
+        return [max(row["greatest"] for row in rows) for rows in windows]
 
     def half_of_stale_after(self, budget, mode, last, fanout):
         """The intervals after the `last` round with writes until half of the copies that are stale then are so no more,
@@ -382,7 +382,3 @@ class Found:
             at = read.first_at_most(column, rows, first, level)
             found.append(None if at is None else at - ends)
         return found
-
-
-def worst(rows):
-    return max(row["greatest"] for row in rows)

@@ -90,8 +90,7 @@ class Search:
         top = min(it.nodes * it.keys, *it.fits.values())
         # (of a tenth those budgets are looked at with which it was seen to hold)
         least, self.top = (study.LEAST, top) if it.parts == 1 else (it.knee, min(top, rules.TENTH_HOLDS[1] * it.knee))
-        # (those that can keep to the target, and by mode the least budget that does and the largest below it that
-        # doesn't)
+        # (those that can keep to it; by mode the least budget that does, and the largest below that, which doesn't)
         self.modes, self.pairs, self.found = list(it.fits), set(), None
         self.least, self.below = dict.fromkeys(it.fits, self.top), dict.fromkeys(it.fits, least - 1)
         # (the mode with the smallest packet, its budget, and by budgets what bounds it)
@@ -162,7 +161,6 @@ class Search:
 
 class Met(choice.Decision):
     """The smallest packet that keeps to the target; or, where none does, what is the best that can be had."""
-
     why_empty = "in each mode budgets are halved until the smallest that keeps to the target is known"
 
     def __init__(self, search, is_met, ages):

@@ -133,7 +133,7 @@ class Stages:
         return decision
 
     def bound(self, stage, pair, times=0):
-        """What bounds a budget and a mode that a stage chose: longer runs under other seeds, planned so many times."""
+        """What bounds a budget and a mode that a stage chose: longer runs under other seeds. `times` as in `plan`."""
         self.plan((f"{stage}-bound", {pair}), times=times)
         return choice.Bound(self.study, f"{stage}-bound", self.carry_out(f"{stage}-bound", {pair}), pair)
 

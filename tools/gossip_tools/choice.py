@@ -54,10 +54,10 @@ class Decision:
         self.against, self.bound = list(against), bound
         self.figures = {mode: self.worst_with(study.most(mode), mode) for mode in study.fits
                         if (study.most(mode), mode) in found.rows}
-        # (of those with which a budget that fits is enough; whether there are some, and the mode that is better else)
         # (the mode to begin with, of those that were run, and those than which none is known to be better)
         self.usual = next(it for it in (study.usual, *rules.CHEAPEST_FIRST) if it in self.figures)
         self.contenders = rules.contenders(self.figures, self.window[1])
+        # (those with which a budget that fits is enough; whether there are some, and the mode that is better else)
         enough = self.enough = {it: figure for it, figure in self.figures.items() if self.is_enough(study.most(it), it)}
         self.suffices = bool(enough)
         self.ahead = None if enough else rules.ahead(self.figures, self.window[1])

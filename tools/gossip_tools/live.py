@@ -49,8 +49,7 @@ def plan_of(text, asked):
 
 
 def stretched(top, fanout):
-    """The text of a scenario in which each interval is as many rounds as a node has calls. Writes, and what begins, are
-    in the first of them, and what ends in the last."""
+    """The text of a scenario in which an interval has a round for each call: what begins, and writes, in the first."""
     loads, most = len(top.get("load", [])) + top["rounds"], scenario.MOST_SECTIONS
     refuse_if(loads > most, say("too_many_loads", loads=loads, most=most))
 

@@ -82,8 +82,7 @@ def halves(window):
 def suffices(in_first_half, in_second_half, window):
     """"A budget suffices where `greatest` is level in both halves of the window." It isn't level where the first half
     is better than the second: there it still rises. Nor is it known to be where it is too high for such a window."""
-    is_rising = is_better(in_first_half, in_second_half)
-    return not is_rising and max(in_first_half + in_second_half) <= highest_level(window)
+    return not is_better(in_first_half, in_second_half) and max(in_first_half + in_second_half) <= highest_level(window)
 
 
 def highest_level(window):

@@ -44,6 +44,8 @@ class Signals:
 
         for it in numbers:
             signal.signal(it, stop)
+        # (where a caller has it ignored no process that ends can be waited for)
+        signal.signal(signal.SIGCHLD, signal.SIG_DFL)
 
     @classmethod
     @contextlib.contextmanager

@@ -60,7 +60,7 @@ class Ages:
         return [100 * stale / copies for stale in self.found.stale(budget, mode, self.window)]
 
     def typical(self, budget, mode):
-        """The rounds before which half of the stale copies lack nothing; None where runs are too short for that."""
+        """After how many rounds half of the stale copies lack nothing older; None where runs are too short for that."""
         it = self.study
         intervals = self.stopped.half_of_stale_after(budget, mode, self.last, it.fanout)
         return None if None in intervals else [at * it.fanout for at in intervals]

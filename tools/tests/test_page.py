@@ -6,9 +6,6 @@ from types import SimpleNamespace
 from gossip_tools import page, plots
 from given import DEPTH, decided
 
-# By the guidelines for accessible pages, WCAG 2: at least this contrast between a text and what is behind it.
-CONTRAST = 4.5
-
 
 def themes():
     """The colours of the light theme and of the dark one, by name."""
@@ -34,12 +31,13 @@ class Themes(unittest.TestCase):
         self.assertEqual(["21.00", "4.48"], [f"{contrast(it, '#fff'):.2f}" for it in ("#000", "#777")])
 
     def test_texts_are_readable(self):
-        """The text and the small one, on the page and where it is marked, and white on the cards."""
+        """With a contrast of 4.5, by the guidelines for accessible pages, WCAG 2: the text and the small one, on the
+        page and where it is marked, and white on the cards."""
         pairs = (("text", "page"), ("soft", "page"), ("text", "code"), ("text", "mark"))
         for theme in themes():
             colours = [(theme[text], theme[behind]) for text, behind in pairs]
             colours += [("#fff", theme[card]) for card in ("first", "none")]
-            self.assertEqual([], [it for it in colours if contrast(*it) < CONTRAST])
+            self.assertEqual([], [it for it in colours if contrast(*it) < 4.5])
 
     def test_all_colours_are_of_the_theme(self):
         light, dark = themes()

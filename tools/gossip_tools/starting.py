@@ -65,7 +65,8 @@ def name_of(path):
 
 def start():
     """Carries out the tool that was called, and ends the process."""
-    interrupt, sys.argv[0] = _signal.getsignal(_signal.SIGINT), name_of(sys.argv[0])
+    interrupt = _signal.getsignal(_signal.SIGINT)
+    sys.argv[0] = name_of(sys.argv[0])
     end_at_signals()
     fill_closed_streams()
     commands = importlib.import_module("gossip_tools.commands")

@@ -298,7 +298,7 @@ def apply(sent, table):
 # Exchanges, rounds and figures.
 
 class Record(NamedTuple):
-    """What was sent in an exchange."""
+    """What was sent in an exchange, in the order of the trace."""
     initiator: int
     responder: int
     fate: str
@@ -409,8 +409,7 @@ def put(file, *values):
 
 
 def put_record(trace, sent, round, index, it):
-    put(trace, round, index, it.initiator, it.responder, it.fate, it.digest1, it.digest2, len(it.back), len(it.forth),
-        it.back_cut, it.forth_cut)
+    put(trace, round, index, *it._replace(back=len(it.back), forth=len(it.forth)))
     for direction, sender, receiver, delta, lost in (("back", it.responder, it.initiator, it.back, "lost2"),
                                                      ("forth", it.initiator, it.responder, it.forth, "lost3")):
         for entry in delta:

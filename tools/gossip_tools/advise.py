@@ -99,16 +99,10 @@ class Stages:
         text, runs = self.runs(stage, seeds)
         if to_do := [name for name in runs if f"{stage}/{name}" not in self.progress.over]:
             left = f", {in_words(self.progress.left())} in all" if self.progress.left() else ""
-            print(f"{stage}: {len(to_do)} runs of {self.study.rounds(stage)} rounds{self.shorter(stage)}{left}",
-                  file=sys.stderr, flush=True)
-        sweep.carry_out(self.folder / stage, text, runs, self.program, self.progress, os.environ.get("HOSTS"),
-                        "gossip_advise")
+            rounds = f"{self.study.rounds(stage)} rounds{self.study.shorter(stage)}"
+            print(f"{stage}: {len(to_do)} runs of {rounds}{left}", file=sys.stderr, flush=True)
+        sweep.carry_out(self.folder / stage, text, runs, self.program, self.progress, os.environ.get("HOSTS"))
         return study.Found(self.study, stage, self.folder / stage, seeds)
-
-    def shorter(self, stage):
-        it = self.study
-        is_shorter = stage == "split" and it.split < it.told["split"]
-        return say("shorter_split", it) if is_shorter else ""
 
     def choose(self, stage, pairs, dropped):
         """What these runs choose. What can't be chosen after the first seeds isn't run under the others."""
@@ -135,12 +129,11 @@ class Stages:
             if decision.suffices:
                 break
             dropped = decision.why_dropped()
-            pairs = {(self.study.most(mode), mode) for mode in decision.contenders()}
+            pairs = {(self.study.most(mode), mode) for mode in decision.contenders}
         return decision
 
     def bound(self, stage, pair, times=0):
-        """What bounds a budget and a mode that a stage chose: longer runs under other seeds. For the time left it is
-        reckoned with as many again so many times."""
+        """What bounds a budget and a mode that a stage chose: longer runs under other seeds. `times` as in `plan`."""
         self.plan((f"{stage}-bound", {pair}), times=times)
         return choice.Bound(self.study, f"{stage}-bound", self.carry_out(f"{stage}-bound", {pair}), pair)
 
@@ -178,10 +171,8 @@ class Stages:
 
 def look(folder):
     """Refuses a folder with other things in it, what is no folder, and a name that an answer can't have in UTF-8."""
-    try:
-        str(folder).encode()
-    except UnicodeEncodeError:
-        raise Refused(say("not_utf8", name=ascii(str(folder)))) from None
+    name = str(folder)
+    refuse_if(name != name.encode(errors="ignore").decode(), say("not_utf8", name=ascii(name)))
     refuse_if(folder.exists() and not folder.is_dir(), f"{folder} isn't a folder: name another one.")
     if folder.exists() and not (folder / "cluster.toml").exists() and {it.name for it in folder.iterdir()} - {"lock"}:
         raise Refused(f"{folder} isn't empty and has no answer: name a new folder by -o.")
@@ -194,7 +185,6 @@ def call_with_enough(decision, folder):
 
 
 def call_with(it, packet, folder):
-    """The whole call with another packet, into another folder."""
     told = it.told | {"packet": packet}
     words = {name: str(as_text(told[name])) for name in (*cluster.NEEDED, *USUAL) if told[name] is not None}
     asked = [f"{name}={text}" for name, text in words.items() if text != USUAL.get(name)]
@@ -202,8 +192,7 @@ def call_with(it, packet, folder):
 
 
 def tell(folder, lines, kept=(), told=()):
-    """Tells these lines, but for those that were told before, and keeps them behind those that are kept, as answer.txt.
-    Answers all of them."""
+    """Tells these lines, but for those told before, and keeps all behind those that are kept; answers what is kept."""
     print(*(it for it in lines if it not in told), sep="\n", flush=True)
     lines = [*kept, *lines]
     files.put(folder / "answer.txt", "\n".join(lines) + "\n")
@@ -269,7 +258,7 @@ def beside(it, stages, decision):
 
 def study_of(it, folder, program, check_sum):
     stages, healing = Stages(it, folder, program), None
-    if it.told["packet"] is None:
+    if not it.has_packet:
         return smallest_packet(it, stages, check_sum)
     first = first_answer(it, stages, check_sum)
     print(flush=True)

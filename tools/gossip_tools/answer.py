@@ -7,7 +7,6 @@ FLOOR = "the floor"
 WHAT_HEALS = "A split, a restart and a rolling restart"
 SUPPOSED = 20  # the bytes of a number in a sum that shows what a digest that wasn't told would take
 say = speaker("answer")
-TYPICAL = say("typical")
 
 
 def ended(said):
@@ -41,8 +40,7 @@ def last_of_first_words(decision, folder):
 
 
 def not_run(decision, call, was_enough=False):
-    """Why nothing was run that heals, and the call that runs it. Short where nothing of it was asked for. In a first
-    answer a budget may have been enough, so that it was run there."""
+    """Why nothing was run that heals, or in the first answer alone, where a budget was enough, and the call for it."""
     it = decision.study
     if decision.suffices or not it.heals():
         return []
@@ -79,8 +77,7 @@ def else_helps(decision):
 
 
 def limits(decision):
-    """What of the digest and the packet limits the decision: that it wasn't told, or fits no packet, or leaves no room
-    to some modes; that a packet is more than one datagram."""
+    """What of the digest and the packet limits the decision."""
     it, size, given, packet = decision.study, decision.study.told["digest"], decision.given(), decision.packet()
     numbers = it.digest_numbers(decision.mode)
     fits = it.told["shared"] == "yes" or it.digest_bytes(decision.mode) <= given
@@ -88,7 +85,7 @@ def limits(decision):
     in_one = f", and packet={packet} fits in one" if decision.suffices and packet <= rules.DATAGRAM < given else ""
     no_room = [mode for mode in scenario.MODES if it.rooms[mode] < 1]
     return sentences(
-        not size and say("no_digest", numbers=numbers, bytes=numbers * SUPPOSED, typical=TYPICAL),
+        not size and say("no_digest", numbers=numbers, bytes=numbers * SUPPOSED),
         size and not fits and say("several_packets", numbers=numbers, size=size, given=given),
         largest > rules.DATAGRAM and say("datagrams", datagram=rules.DATAGRAM, largest=largest, in_one=in_one),
         no_room and it.parts == 1 and not it.told["mode"] and say("no_room", modes=" and ".join(no_room)))
@@ -130,13 +127,11 @@ def of_staleness(decision, more):
 
 
 def in_words(decision, heals, missing=(), more=()):
-    """The answer, line by line, with more names and words beside the worst staleness. Without a budget that is enough
-    nothing heals, but there are the lines on what is missing."""
-    it, in_mode = decision.study, ""
-    lines = sentences(f"Take {decision.takes()}.", ended(decision.tells_all()))
-    if not decision.suffices:
-        lines = [say("none_is_enough", decision)]
-        in_mode = f", in {decision.mode}"
+    """The answer, line by line, with lines on what was not run, and more names and words beside the worst staleness."""
+    it, in_mode = decision.study, "" if decision.suffices else f", in {decision.mode}"
+    lines = [say("none_is_enough", decision)]
+    if decision.suffices:
+        lines = sentences(f"Take {decision.takes()}.", ended(decision.tells_all()))
     lines += ["", *of_staleness(decision, more), *rows(
         ("more than that" if decision.more_is_worse() else "a reserve", decision.reserve()),
         (it.knee_name, decision.why_not_knee()),

@@ -8,11 +8,6 @@ from gossip_tools.texts import speaker
 say = speaker("choice")
 
 
-def listed(names):
-    *others, last = names
-    return f"{', '.join(others)} and {last}" if others else last
-
-
 def by_seeds(one, other):
     less, more, seeds = rules.seed_by_seed(one, other)
     return f"less under {less} of {seeds} seeds, more under {more}"
@@ -48,14 +43,10 @@ class Bound:
 
 class Decision:
     """The mode and the budget that follow from the runs of a stage."""
-
     why_empty = "smaller budgets are run with the chosen mode, down to the first that is worse, for the last answer"
-    # What bounds all that fits, where a target asks for that.
-    bound_of_most = None
-    # What no mode and no budget goes below, for each seed: empty where no run shows it, None where none was made.
-    floor = None
-    # Whether it is what was looked for: with a target and no packet, a budget that keeps to it.
-    is_met = True
+    bound_of_most = None  # what bounds all that fits, where a target asks for that
+    floor = None  # what nothing goes below, for each seed: empty where no run shows it, None where none was made
+    is_met = True  # whether it is what was looked for: with a target and no packet, a budget that keeps to it
 
     def __init__(self, study, found, stage, against=(), bound=None):
         self.study, self.found, self.stage, self.window = study, found, stage, study.window(stage)
@@ -63,11 +54,14 @@ class Decision:
         self.against, self.bound = list(against), bound
         self.figures = {mode: self.worst_with(study.most(mode), mode) for mode in study.fits
                         if (study.most(mode), mode) in found.rows}
-        enough = {mode: it for mode, it in self.figures.items() if self.is_enough(study.most(mode), mode)}
-        # (whether a budget that fits is enough, in some mode, and the mode that is better though none is)
+        # (the mode to begin with, of those that were run, and those than which none is known to be better)
+        self.usual = next(it for it in (study.usual, *rules.CHEAPEST_FIRST) if it in self.figures)
+        self.contenders = rules.contenders(self.figures, self.window[1])
+        # (those with which a budget that fits is enough; whether there are some, and the mode that is better else)
+        enough = self.enough = {it: figure for it, figure in self.figures.items() if self.is_enough(study.most(it), it)}
         self.suffices = bool(enough)
         self.ahead = None if enough else rules.ahead(self.figures, self.window[1])
-        self.mode = rules.mode_of(enough) if enough else self.ahead or self.usual()
+        self.mode = rules.mode_of(enough) if enough else self.ahead or self.usual
         self.most = self.budget = study.most(self.mode)
         # (what that is held against: all that suffices from nodes * writes on, and the other modes)
         self.others = list(enough.values())
@@ -85,19 +79,11 @@ class Decision:
     def may_be_chosen(self):
         """The budgets and modes that further seeds may choose: the usual mode and those that may still be better; where
         it isn't level, those that are, and those that may be the best."""
-        usual, enough = self.usual(), [it for it in self.figures if self.is_enough(self.study.most(it), it)]
-        modes = [*enough, *self.contenders()]
-        if usual in enough:
+        usual, modes = self.usual, [*self.enough, *self.contenders]
+        if usual in self.enough:
             modes = [mode for mode, figure in self.figures.items()
                      if mode == usual or rules.may_get_better(figure, self.figures[usual])]
         return {pair for pair in self.found.rows if pair[1] in modes}
-
-    def usual(self):
-        """The mode to begin with, of those that were run."""
-        return next(it for it in (self.study.usual, *rules.CHEAPEST_FIRST) if it in self.figures)
-
-    def contenders(self):
-        return rules.contenders(self.figures, self.window[1])
 
     def worst_with(self, budget, mode):
         return self.found.worst(budget, mode, self.window)
@@ -116,8 +102,7 @@ class Decision:
         return (self.budget if mode == self.mode else self.study.most(mode)), mode
 
     def smaller(self):
-        """The least budget from which on nothing is better, if that isn't the chosen one itself. It is below nodes *
-        writes, as from there on it would be taken."""
+        """The least budget from which on nothing is better, below nodes * writes; None where it is the chosen one."""
         least = None
         for budget in reversed([it for it in self.of_mode() if it < self.budget]):
             worst = self.worst_with(budget, self.mode)
@@ -128,7 +113,6 @@ class Decision:
         return least
 
     def more_is_worse(self):
-        """Whether the budget is better than all that fits, which then is no reserve."""
         return rules.is_better(self.worst, self.figures[self.mode])
 
     def knee_suffices(self):
@@ -152,10 +136,9 @@ class Decision:
         return rules.reckoned(self.bounded()) if self.study.parts > 1 else max(self.bounded())
 
     def heals(self):
-        return self.suffices
+        return self.suffices and self.study.has_packet
 
     def times(self):
-        """How the budget stands to nodes * writes."""
         of_knee = "" if self.budget == self.study.knee else f"{self.of_knee():.2g} times "
         return of_knee + self.study.knee_name
 
@@ -170,7 +153,7 @@ class Decision:
 
     def given(self):
         """The bytes of the packet that was told; that of the budget where none was."""
-        return self.packet() if self.study.told["packet"] is None else int(self.study.told["packet"])
+        return int(self.study.told["packet"]) if self.study.has_packet else self.packet()
 
     def room(self):
         it, entries, why = self.study, self.whole_budget(), [self.times()]
@@ -200,16 +183,16 @@ class Decision:
 
     def most_that_fits(self):
         """The largest budget where none is enough, and which mode is ahead with that, or why none is."""
-        it, last, runs_on = self.study, self.window[1], self.contenders()
+        it, last, modes = self.study, self.window[1], " and ".join(", ".join(self.contenders).rsplit(", ", 1))
         has_left = any(rules.has_left_the_diagonal(figure, last) for figure in self.figures.values())
-        why = say("none_is_ahead", modes=listed(list(runs_on))) if has_left else say("on_the_diagonal")
+        why = say("none_is_ahead", modes=modes) if has_left else say("on_the_diagonal")
         mode = f" No mode can be preferred with that: {why}"
-        if self.ahead or self.against and len(runs_on) == 1:
+        if self.ahead or self.against and len(self.contenders) == 1:
             mode = say("is_ahead", self, most=briefly(it, self.figures[self.mode]), last=last)
         return f"The most that fits: {self.room()}.{mode if len(it.fits) > 1 else ''}"
 
     def why_dropped(self):
-        kept = self.contenders()
+        kept = self.contenders
         best = min(kept, key=lambda mode: max(kept[mode]))
         lost = [f"{mode} with {in_rounds(figure)}" for mode, figure in self.figures.items() if mode not in kept]
         why = say("dropped", self, best=best, had=in_rounds(self.figures[best]), lost=", ".join(lost))
@@ -227,7 +210,6 @@ class Decision:
         return f"{more} {lasting(self.study, [self.most_rounds()])}, for {self.study.all_nodes} nodes"
 
     def staleness(self):
-        """The worst staleness: what bounds it, or what the runs that chose had."""
         it = self.study
         if not self.suffices:
             by_sum = f"; by a sum at least {it.least_rounds}" if it.least_rounds else ""
@@ -248,7 +230,7 @@ class Decision:
         own = self.bounded()[:len(self.floor)]
         had = "that" if self.floor == own else span(own)
         chosen = say("above_floor", had=had, seeds=len(own)) if self.suffices else ""
-        return f"{rules.FLOOR.format(lasting(it, self.floor))}{chosen}{it.nodes_run}"
+        return say("floor", floor=lasting(it, self.floor)) + chosen + it.nodes_run
 
     def to_knee(self):
         """The bytes with which nodes * writes entries fit, and what they would bring; empty where they do fit."""
@@ -269,7 +251,7 @@ class Decision:
             return ""
         entries, name = it.tells_all()
         needed = it.packet(self.mode, entries)
-        more = ", more than yours" if it.told["packet"] is not None and needed > it.told["packet"] else ""
+        more = ", more than yours" if it.has_packet and needed > it.told["packet"] else ""
         if entries <= self.whole_budget():
             more = "; this budget has room for them"
         return say("all_keys", name=name, entries=entries, packet=needed, more=more)
@@ -292,7 +274,7 @@ class Decision:
     def why_not_knee(self):
         """Why more than nodes * writes is taken; empty where it isn't."""
         it = self.study
-        if not self.suffices or self.budget <= it.knee:
+        if not self.heals() or self.budget <= it.knee:
             return ""
         at_knee = say("at_knee", self, entries=it.whole(it.knee))
         if not self.knee_suffices():
@@ -308,7 +290,7 @@ class Decision:
     def too_close(self):
         """Which figures are too close to call. Those that aren't level say nothing."""
         it, said = self.study, []
-        if not self.suffices:
+        if not self.heals():
             return []
         close = [("", it.most(mode), mode) for mode, figure in self.figures.items()
                  if mode != self.mode and rules.are_close(figure, self.worst)]

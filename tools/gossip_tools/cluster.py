@@ -4,14 +4,13 @@ from fractions import Fraction
 
 from gossip_tools import rules, scenario
 from gossip_tools.commands import Refused, refuse_if
-from gossip_tools.scenario import limited
+from gossip_tools.scenario import USUAL_MODE, limited
 from gossip_tools.texts import speaker
 from gossip_tools.words import TEXTS, values_of
 
 DECIMALS = ("entry", "loss", "interval", "hours", "target")
 BYTES = ("entry", "packet", "digest")
-USUAL = {"digest": "0", "loss": "0", "fanout": "1", "rounds": None, "seed": "1", "mode": scenario.USUAL_MODE,
-         "count": None}
+USUAL = {"digest": "0", "loss": "0", "fanout": "1", "rounds": None, "seed": "1", "mode": USUAL_MODE, "count": None}
 USUAL_ROUNDS = 60
 say = speaker("cluster")
 MOST_CALLS = 16  # others that a node calls in an interval
@@ -38,9 +37,8 @@ def instead(name, text):
     decimal = re.fullmatch(r"[0-9]+\.[0-9]+", text)
     unit = re.fullmatch(r"([0-9]+) ?([kKmM])i?[bB]?", text)
     if name == "writes" and decimal and Fraction(text).denominator > 1:
-        whole = int(Fraction(text))
-        part = (Fraction(text) - whole).limit_denominator(20)
-        return say("part_of_writes", whole=whole, part=part, more=whole + 1)
+        whole, part = divmod(Fraction(text), 1)
+        return say("part_of_writes", whole=whole, part=part.limit_denominator(20), more=whole + 1)
     if name in BYTES and unit:
         thousands, kibi = (int(unit[1]) * it**(1 if unit[2] in "kK" else 2) for it in (1000, 1024))
         return f"write {name}={thousands}, or {name}={kibi} where K is 1024"
@@ -120,7 +118,6 @@ def check_fanout(fanout):
 
 
 def counts_bytes(it, room):
-    """Whether a scenario counts bytes, where a delta has room for so many entries."""
     return it["count"] == "bytes" or not it["count"] and rules.counts_bytes(room)
 
 
@@ -133,7 +130,6 @@ def without_writes(rounds, fanout):
 
 
 def remarks(it, room, in_bytes, loads):
-    """What stands in front of a scenario, line by line."""
     left = ["latency"] + ["more than one peer a round"] * (it["fanout"] == 1) + ["generations"] * (not in_bytes)
     values = {"room": room, "entries": float(room / it["entry"]), "entry": plain(it["entry"]), "mode": it["mode"],
               "digest": it["packet"] - room, "fanout": it["fanout"], "left": ", ".join(left)}

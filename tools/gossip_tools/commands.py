@@ -27,8 +27,6 @@ def refuse_if(is_so, why, status=2):
 
 
 class Stopped(Exception):
-    """A signal that ends the process."""
-
     def __init__(self, number):
         super().__init__(signal.Signals(number).name)
         self.status = 128 + number
@@ -55,21 +53,20 @@ def folder_of(words, usual):
     if "-o" not in words:
         return pathlib.Path(usual), words
     at = words.index("-o")
-    if not words[at + 1:at + 2] or not words[at + 1] or "-o" in words[at + 1:]:
-        raise Refused("-o needs a folder, and comes once.")
-    return pathlib.Path(words[at + 1]), words[:at] + words[at + 2:]
+    named, others = words[at + 1:at + 2], words[:at] + words[at + 2:]
+    refuse_if(not any(named) or "-o" in named + others, "-o needs a folder, and comes once.")
+    return pathlib.Path(*named), others
 
 
 def the_program():
     """The path of gossip_bench: what GOSSIP_BENCH names, else the one beside the tools, else the built one."""
-    beside = pathlib.Path(__file__).resolve().parent.parent
+    beside, top = pathlib.Path(__file__).resolve().parents[1:3]
     named = os.environ.get("GOSSIP_BENCH")
-    choices = [named] if named else [beside / "gossip_bench", beside.parent / "crates/gossip_bench/out/gossip_bench"]
+    choices = [named] if named else [beside / "gossip_bench", top / "crates/gossip_bench/out/gossip_bench"]
     if found := next(filter(None, map(shutil.which, choices)), None):
         return os.path.abspath(found)
     refuse_if(named, f"GOSSIP_BENCH names '{shown(named or '')}', which is no program that can be started.")
-    refuse_if((beside.parent / "crates").is_dir(), f"the program isn't built: {beside.parent / 'gossip_bench'} --help "
-              "builds it.")
+    refuse_if((top / "crates").is_dir(), f"the program isn't built: {top / 'gossip_bench'} --help builds it.")
     raise Refused(f"the program isn't beside this tool, in {beside}: install both again, or name it in GOSSIP_BENCH.")
 
 
@@ -81,19 +78,19 @@ def workers():
     return int(told or len(os.sched_getaffinity(0)))
 
 
-def drop_output():
-    """Lets what is still to be printed go nowhere, so that the end of the process can't fail on it."""
-    os.dup2(os.open(os.devnull, os.O_WRONLY), 1)
-
-
 def fault_of(error):
     place = str(error.filename or "the output")
     place = shown(place) if error.errno == errno.ENAMETOOLONG else place
     return f"{place}: {'it is closed' if error.errno == errno.EBADF else error.strerror}."
 
 
-def answer(name, main, tool):
-    words = sys.argv[1:]
+def remark(text):
+    """Says something beside the answer, under the name of the tool."""
+    print(f"{sys.argv[0]}: {text}", file=sys.stderr)
+
+
+def answer(main, tool):
+    name, *words = sys.argv
     if "--help" in words or "-h" in words:
         return print(tool.help())
     if "--version" in words:
@@ -101,9 +98,9 @@ def answer(name, main, tool):
     return main(words)
 
 
-def run(name, main, tool):
+def run(main, tool):
     try:
-        status = answer(name, main, tool) or 0
+        status = answer(main, tool) or 0
         sys.stdout.flush()
         return status
     except Refused as refused:
@@ -113,7 +110,6 @@ def run(name, main, tool):
     except KeyboardInterrupt:
         why, status = "stopped by SIGINT.", 128 + signal.SIGINT
     except BrokenPipeError:
-        drop_output()
         why, status = "nobody reads the output any more.", 1
     except OSError as error:
         why, status = fault_of(error), 1
@@ -122,6 +118,7 @@ def run(name, main, tool):
     try:
         sys.stdout.flush()
     except OSError:
-        drop_output()
-    print(f"{name}: {why}", file=sys.stderr)
+        # (what is still to be printed goes nowhere, so that the end of the process can't fail on it)
+        os.dup2(os.open(os.devnull, os.O_WRONLY), 1)
+    remark(why)
     return status

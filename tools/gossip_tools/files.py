@@ -29,8 +29,7 @@ def check_sum(path):
 
 
 def check_sums(contents):
-    """What stands beside files of these contents, by name, so that it shows where one is another later. It is what
-    sha256sum prints of them, and checks."""
+    """What stands beside files of these contents, by name, to show where one is another later: lines of sha256sum."""
     return "".join(f"{hashlib.sha256(content).hexdigest()}  {name}\n" for name, content in contents.items())
 
 

@@ -51,9 +51,8 @@ class Folder:
         for name, dot, ending in (it.rpartition(".") for it in sorted(names)):
             refuse_if(dot and ending in ("toml", "csv", "sum") and "-" in name and fields_of(name) not in wanted,
                       say("other_fields", self, fields=", ".join(fields_of(name))))
-        is_known = "program" in names and self.has_reports()
-        refuse_if(is_known and (self.path / "program").read_bytes() != self.program.encode(),
-                  say("another_program", self))
+        known = "program" in names and self.has_reports()
+        refuse_if(known and (self.path / "program").read_bytes() != self.program.encode(), say("another_program", self))
 
     def has_reports(self):
         return any(self.path.glob("*.csv"))
@@ -62,7 +61,7 @@ class Folder:
         """Sentences on what doesn't show of the reports: which program made them, and that they are as it made them."""
         if not self.has_reports() or (self.path / "program").exists():
             return []
-        without = sum(map(read.is_without_sum, self.path.glob("*.csv")))
+        without = sum(not it.with_suffix(".sum").exists() for it in self.path.glob("*.csv"))
         return [say("no_program", self), *([read.told_without_sum(without, self.path)] if without else [])]
 
     def fill(self):

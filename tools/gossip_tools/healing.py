@@ -27,8 +27,7 @@ def fewer(study, asked):
 
 
 class Healing:
-    """How long a split, a restart and a forgotten state take to heal. Of a restart the longer time counts, of several
-    groups or of one alone."""
+    """How long what heals takes: of a restart the longer time counts, of several groups or of one alone."""
 
     def __init__(self, study, mode, stages):
         self.study, self.mode = study, mode
@@ -43,11 +42,6 @@ class Healing:
         runs = {stage: self.stages[stage], f"{stage}-one": self.alone.get(stage)}
         return latest(found.healed_after(stage, budget, self.mode, self.study.ends(name))
                       for name, found in runs.items() if found)
-
-    def waited(self, budget):
-        """The rounds to wait between the groups of a rolling restart: until all that a restart leaves is over in most
-        cases. None where it isn't in the rounds that were run."""
-        return rules.bound_of(latest(self.taken(stage, budget) for stage in self.study.leaves()))
 
     def in_words(self, stage, budget):
         """At most how long it takes in most cases, or that it took longer than was run; the time, and the seeds."""
@@ -73,8 +67,7 @@ class Healing:
         return f"of {nodes}{few}, {down}{', and then without its own state' if it.forgets else ''}{alone}"
 
     def lines(self, heals, budget):
-        """The lines of what heals; below the first of all that is looked at what is counted, and below a restart how
-        long to wait between the groups of a rolling one."""
+        """The lines of what heals, with what is counted below the first of all, and the wait of a rolling restart."""
         lines = []
         for stage in heals:
             rounds, time = self.in_words(stage, budget)
@@ -94,7 +87,9 @@ class Healing:
         return rows(*(("", it) for it in textwrap.wrap(self.counted(), IN_A_ROW)))
 
     def wait(self, budget):
-        it, rounds = self.study, self.waited(budget)
+        """How long to wait between the groups of a rolling restart: until all that one leaves is over in most cases."""
+        it = self.study
+        rounds = rules.bound_of(latest(self.taken(stage, budget) for stage in it.leaves()))
         if rounds is None:
             return say("no_wait")
         gone = " and its forgotten state was gone" if it.forgets else ""

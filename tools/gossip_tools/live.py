@@ -3,10 +3,9 @@ import itertools
 import re
 import statistics
 import subprocess
-import sys
 
 from gossip_tools import cluster, live_worker, read, running, scenario, sweep
-from gossip_tools.commands import Refused, number, refuse_if, shown, the_program
+from gossip_tools.commands import Refused, number, refuse_if, remark, shown, the_program
 from gossip_tools.live_figures import Figures
 from gossip_tools.live_plan import LARGEST, Plan
 from gossip_tools.texts import speaker
@@ -50,12 +49,11 @@ def plan_of(text, asked):
 
 
 def stretched(top, fanout):
-    """The text of a scenario in which each interval is as many rounds as a node has calls. Writes are in the first."""
+    """The text of a scenario in which an interval has a round for each call: what begins, and writes, in the first."""
     loads, most = len(top.get("load", [])) + top["rounds"], scenario.MOST_SECTIONS
     refuse_if(loads > most, say("too_many_loads", loads=loads, most=most))
 
     def stretch(fields):
-        """What begins does so in the first round of an interval, and what ends in the last."""
         return {name: (it - 1) * fanout + 1 if name in ("from", "round") else it * fanout
                 if name in ("to", "down", "rounds") else it for name, it in fields.items()}
 
@@ -123,7 +121,7 @@ def main(words):
     asked = told(words)
     program = the_program()
     running.Signals.listen()
-    text = sweep.given_scenario("gossip_live")
+    text = sweep.given_scenario()
     sweep.check({"the scenario": text}, program)
     plan = plan_of(text, asked)
     columns = [it for it in read.COLUMNS[plan.format][1:] if it not in LACKING]
@@ -137,5 +135,5 @@ def main(words):
         for values in printed(columns, rows, benches, asked["window"]):
             print(*values, sep=",", flush=True)
         figures.end(live_worker.heard(pipes))
-    print(f"gossip_live: {figures.how_fast()}", file=sys.stderr)
+    remark(figures.how_fast())
     return WORTHLESS if figures.is_worthless() else 0

@@ -12,18 +12,16 @@ class Figures:
 
     def __init__(self, plan):
         self.plan = plan
-        # (by owner and key, the writes of the owner's generation of now: their marks, and when they were made)
-        self.marks, self.born = defaultdict(list), defaultdict(list)
-        self.entries = self.cut = self.timers = self.late = self.sent = self.received = 0
+        # (by owner and key, those of the owner's generation of now)
+        self.writes = defaultdict(list)
+        self.entries = self.cut = self.timers = self.late = self.sent = self.lost = 0
         self.lag = 0.0
 
     def add(self, write):
-        marks, born = self.marks[write.owner, write.key], self.born[write.owner, write.key]
-        if marks and marks[-1] >> 32 < write.mark >> 32:
-            marks.clear()
-            born.clear()
-        marks.append(write.mark)
-        born.append(write.born)
+        writes = self.writes[write.owner, write.key]
+        if writes and writes[-1].mark >> 32 < write.mark >> 32:
+            writes.clear()
+        writes.append(write)
 
     def row(self, round, parts):
         tables, generations = {}, {}
@@ -39,9 +37,9 @@ class Figures:
         for place, held in enumerate(zip(*(tables[it] for it in range(self.plan.nodes)))):
             owner, _ = at = divmod(place, self.plan.keys)
             if behind := [it for it in held if it < held[owner]]:
-                first_missed = self.born[at][bisect.bisect_right(self.marks[at], min(behind))]
+                first_missed = bisect.bisect_right(self.writes[at], min(behind), key=lambda it: it.mark)
                 row["stale"] += len(behind)
-                row["greatest"] = max(row["greatest"], round - first_missed + 1)
+                row["greatest"] = max(row["greatest"], round - self.writes[at][first_missed].born + 1)
             if generations[owner]:
                 row["leftover"] += sum(0 < it < generations[owner] << 32 for it in held)
         self.entries, self.cut = entries, cut
@@ -49,16 +47,14 @@ class Figures:
         return row
 
     def end(self, parts):
-        self.sent, self.received = map(sum, zip(*parts))
-
-    def lost(self):
-        return max(self.sent - self.received, 0)
+        self.sent, received = map(sum, zip(*parts))
+        self.lost = max(self.sent - received, 0)
 
     def is_worthless(self):
-        return self.late > MOST_LATE * self.timers or self.lost() > MOST_LOST * self.sent
+        return self.late > MOST_LATE * self.timers or self.lost > MOST_LOST * self.sent
 
     def how_fast(self):
         said = (f"{self.late} of {self.timers} timers were late by more than {LATE:g} intervals, the latest by "
-                f"{self.lag:.3f}, and {self.lost()} of {self.sent} datagrams didn't come")
+                f"{self.lag:.3f}, and {self.lost} of {self.sent} datagrams didn't come")
         return f"{said}: the figures are worthless; take fewer nodes or a longer interval." \
             if self.is_worthless() else f"{said}."

@@ -27,7 +27,6 @@ class Plan(SimpleNamespace):
         return ENTRY.size + self.padding(entry) if self.format == 2 else 1
 
     def largest_message(self):
-        """The most bytes that a message may take: a digest and a delta."""
         lacking = (self.nodes - 1) * self.keys
         delta = min(self.budget, lacking) * ENTRY.size
         if self.format == 2:

@@ -6,15 +6,14 @@ the end of each interval what they hold, and at last how many datagrams they sen
 import asyncio
 import collections
 import contextlib
+import functools
 import multiprocessing
 import os
-import queue
 import random
 import resource
-import sys
-import threading
 import time
 from array import array
+from concurrent.futures import ThreadPoolExecutor
 
 from gossip_tools import running
 from gossip_tools.commands import Refused, workers
@@ -42,11 +41,8 @@ def marks_of(node, plan):
 
 
 class Socket(asyncio.DatagramProtocol):
-    def __init__(self, host, number):
-        self.host, self.number = host, number
-
-    def datagram_received(self, data, address):
-        self.host.receive(self.number, data, address)
+    def __init__(self, receive):
+        self.datagram_received = receive
 
 
 class Host:
@@ -65,7 +61,7 @@ class Host:
         """Gives each node a socket, and answers with their addresses."""
         for number in self.nodes:
             self.sockets[number], _ = await self.loop.create_datagram_endpoint(
-                lambda number=number: Socket(self, number), local_addr=("127.0.0.1", 0))
+                lambda number=number: Socket(functools.partial(self.receive, number)), local_addr=("127.0.0.1", 0))
         return {number: it.get_extra_info("sockname") for number, it in self.sockets.items()}
 
     def start(self, addresses, begin):
@@ -133,34 +129,23 @@ class Host:
 
 
 async def play(plan, numbers, pipe):
-    """All intervals from the beginning to the end."""
     host = Host(plan, numbers, asyncio.get_running_loop())
     pipe.send(await host.bind())
     host.start(*pipe.recv())
-    supervisor, outbox, ended = os.getppid(), queue.SimpleQueue(), asyncio.Event()
+    supervisor, ended = os.getppid(), asyncio.Event()
+    # (a thread of its own, so that no node waits for the other side of the pipe, which may be gone)
+    with ThreadPoolExecutor(1) as sending:
+        def tell(round):
+            sending.submit(pipe.send, host.told())
+            if round == plan.rounds or os.getppid() != supervisor:
+                ended.set()
 
-    def tell(round):
-        outbox.put(host.told())
-        if round == plan.rounds or os.getppid() != supervisor:
-            ended.set()
-
-    def send():
-        # (the supervisor may be gone)
-        with contextlib.suppress(OSError):
-            for told in iter(outbox.get, None):
-                pipe.send(told)
-
-    # (a thread of its own, so that no node waits for the other side of the pipe)
-    sending = threading.Thread(target=send)
-    sending.start()
-    for round in range(1, plan.rounds + 1):
-        host.at(round, tell, round)
-    await ended.wait()
-    # (until the exchanges that are under way are over)
-    await asyncio.sleep(MESSAGES * plan.latency[1] * plan.interval + TIME_TO_END)
-    outbox.put((host.sent, host.received))
-    outbox.put(None)
-    sending.join()
+        for round in range(1, plan.rounds + 1):
+            host.at(round, tell, round)
+        await ended.wait()
+        # (until the exchanges that are under way are over)
+        await asyncio.sleep(MESSAGES * plan.latency[1] * plan.interval + TIME_TO_END)
+        sending.submit(pipe.send, (host.sent, host.received))
 
 
 def main(plan, numbers, pipe, others):
@@ -182,8 +167,6 @@ def processes(plan):
     """The pipes to processes that have the nodes, which begin at once. They end with the block."""
     count = max(1, min(workers(), plan.nodes // NODES_OF_A_PROCESS))
     fork, started, pipes = multiprocessing.get_context("fork"), [], []
-    # (what a buffer has would be printed by each of them)
-    sys.stdout.flush()
     try:
         for at in range(count):
             with running.deaf():

@@ -8,8 +8,7 @@ from gossip_tools.healing import ENDS, HEALED, ROLLING
 from gossip_tools.measures import in_rounds, lasting, sentences, span
 from gossip_tools.texts import speaker, text_of
 
-# (on paper the page is light, whatever the screen is; pictures, which are drawn on white, are turned dark, and their
-# colours stay what they are)
+# (on paper the page is light; pictures, which are drawn on white, are turned dark, and their colours stay the same)
 STYLE = "\n" + text_of("page.css")
 say = speaker("page")
 MOST_COLUMNS = 5  # of cards beside each other
@@ -42,7 +41,6 @@ def chosen_cards(decision):
 
 
 def cards(decision, healing, more):
-    """The decision in a few large words."""
     it, rows = decision.study, chosen_cards(decision)
     if decision.is_too_small() or not decision.suffices and decision.to_knee():
         rows.append(("enough", f"{it.packet(decision.mode)} bytes", decision.to_knee(), "first"))
@@ -91,7 +89,7 @@ def captions(decision):
 
 
 def pictures(folder, decision, healing):
-    if not plots.is_there():
+    if not plots.IS_THERE:
         return say("no_pictures")
     room = folder / "pictures"
     room.mkdir(exist_ok=True)
@@ -137,27 +135,23 @@ def made_of(folder, study, made, check_sum):
                  f"{told(study.scene(stage))}</pre></details>")
     told_words = read.settings((folder / "cluster.toml").read_bytes().decode())
     call = " ".join(f"{name}={value}" for name, value in told_words.items() if name != "program")
-    return (f"<p>The program's SHA-256 is <code style='overflow-wrap:anywhere'>{check_sum}</code>. The folder of this "
-            "page has each scenario and report, and in <code>pictures</code> a script for each picture, drawn again by "
-            f"<code>gnuplot NAME.gnuplot</code>.</p><pre>gossip_advise {told(call)}</pre>{text}")
+    return say("made_of", check_sum=check_sum, call=told(call), stages=text)
 
 
 def make(folder, decision, healing, made, check_sum, missing=(), more=(), head=""):
-    """Writes the page, and says where it is. It names the runs that were made, by stage their budgets and modes.
-    Without healing it has lines on what is missing. What stands beside the worst staleness comes as names and words.
-    A first answer says so in the head."""
+    """Writes the page, and says where it is. `made` are the runs by stage, `missing` lines on what didn't heal, `more`
+    names and words beside the worst staleness; the head of a first answer says so."""
     it = decision.study
     tenth = f", of which {it.nodes} were run; budgets are those of all" if it.parts > 1 else ""
-    title = f"{head}{int(it.told['nodes'])} nodes: {decision.headline()}"
     text = text_of("page.html").format(
-        title=told(title), style=STYLE, it=it, nodes=it.told["nodes"], tenth=tenth,
+        title=told(f"{head}{it.all_nodes} nodes: {decision.headline()}"), style=STYLE, it=it, tenth=tenth,
         interval=cluster.plain(it.told["interval"]), lost=cluster.plain(it.told["loss"]), choosing=len(rules.CHOOSING),
-        in_most=rules.IN_MOST, cards=cards(decision, healing, more),
-        below_the_cards=below_the_cards(decision, healing), missing=paragraphs(missing),
-        mind=listed("Mind", answer.warnings(decision), "mind"), pictures=pictures(folder, decision, healing),
-        table=table(decision), too_close=listed("Too close to call", decision.too_close()),
+        in_most=rules.IN_MOST, cards=cards(decision, healing, more), below_the_cards=below_the_cards(decision, healing),
+        missing=paragraphs(missing), mind=listed("Mind", answer.warnings(decision), "mind"),
+        pictures=pictures(folder, decision, healing), table=table(decision),
+        too_close=listed("Too close to call", decision.too_close()),
         left_out=listed("Left out for this cluster", answer.left_out(decision)),
         made_of=made_of(folder, it, made, check_sum))
     files.put(folder / "report.html", text)
-    missing = "" if plots.is_there() else " without pictures, as gnuplot isn't there"
+    missing = "" if plots.IS_THERE else " without pictures, as gnuplot isn't there"
     return f"The page is {folder / 'report.html'}{missing}."

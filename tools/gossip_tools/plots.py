@@ -14,18 +14,14 @@ from gossip_tools.texts import text_of
 COLOURS = dict(zip(scenario.MODES, (("#e69f00", 5), ("#00407a", 7), ("#009e73", 9), ("#cc79a7", 13))))
 WIDTHS = (9, 6, 3.5, 1.5)
 # (the usual mode comes last, on top of the others)
-STYLES = {mode: (COLOURS[mode][0], width, COLOURS[mode][1])
-          for mode, width in zip(reversed(rules.CHEAPEST_FIRST), WIDTHS)}
+STYLES = {mode: (COLOURS[mode][0], width, COLOURS[mode][1]) for mode, width in zip(rules.CHEAPEST_FIRST[::-1], WIDTHS)}
 BUDGETS = (("#e69f00", 8, 5), ("#56b4e9", 5.5, 9), ("#009e73", 3.5, 13), ("#00407a", 1.5, 7))
+IS_THERE = shutil.which("gnuplot") is not None
 HEAD = text_of("picture.gnuplot")
 LINE = 'nohead linewidth 1.5 linecolor "#555555" dashtype'
 LEAST_SHOWN = 20
 # A budget has bars at so many rounds at most, the next one's so far beside them, of the way to the next round.
 MOST_BARS, BESIDE = 40, 0.25
-
-
-def is_there():
-    return shutil.which("gnuplot") is not None
 
 
 def draw(folder, name, script):
@@ -67,10 +63,10 @@ def knee(decision, name, y, figure, capped):
                   f'linecolor "{colour}" title "{mode}"']
     top = (min(most, 6 * max(figure(*decision.run_of(decision.mode)))) if capped else most) or 1
     budgets = [study.whole(it) for it in decision.budgets()]
-    tics = []
+    tics = [budgets[0]]
+    # (so that their labels have room beside each other)
     for it in budgets:
-        # (so that their labels have room beside each other)
-        if not tics or it > 1.13 * tics[-1]:
+        if it > 1.13 * tics[-1]:
             tics.append(it)
     text += f"set logscale x 2\nset xtics ({', '.join(map(str, tics))}) rotate by -45\n"
     text += f"set yrange [0:{1.08 * top:.4g}]\nset xrange [{0.85 * budgets[0]:.6g}:{1.18 * budgets[-1]:.6g}]\n"
@@ -90,7 +86,7 @@ def budget_line(decision, most):
     study = decision.study
     at = study.whole(study.fits[decision.mode])
     at, label = (at, f"fits: {at}") if at <= most else (most, "all fit")
-    if study.told["packet"] is None:
+    if not study.has_packet:
         at, label = decision.whole_budget(), f"taken: {decision.whole_budget()}"
     return f'set arrow from {at}, graph 0 to {at}, graph 1 {LINE} 2\nset label "{label}" at {at}, graph 1.03 center\n'
 
@@ -110,14 +106,13 @@ def rounds(decision, name, y, value):
     return text + "set xrange [0:*]\nset yrange [0:*]\n" + plotted(plots)
 
 
-def healing(healed, stage, name, y, value):
-    """A column over the rounds since the end of what is to be healed, by budget: the seeds' middle, and bars from
-    their least to their most where they differ."""
+def healing(healed, stage, y, value):
+    """A column over the rounds since the end of what heals, by budget: the seeds' middle, and bars if they differ."""
     study, found = healed.study, healed.stages[stage]
     ends, budgets = study.ends(stage), [it for it, _ in found.rows][-len(BUDGETS):]
     taken = [it for budget in budgets for it in healed.taken(stage, budget) if it]
     shown = max(LEAST_SHOWN, min(max(taken, default=0) + 5, study.rounds(stage) - ends))
-    text, plots = HEAD.format(name=name, x="rounds since its end", y=y), []
+    text, bars, lines = HEAD.format(name=stage, x="rounds since its end", y=y), [], []
     step = -(-(shown + 5) // MOST_BARS)
     for at, budget in enumerate(budgets):
         colour, width, _ = BUDGETS[at + len(BUDGETS) - len(budgets)]
@@ -128,11 +123,10 @@ def healing(healed, stage, name, y, value):
         text += block(f"budget{at}", [(number, statistics.median_high(it)) for number, it in values.items()])
         text += block(f"bars{at}", [(round(number + beside, 3), *rules.band(it)) for number, it in values.items()
                                     if min(it) < max(it) and number % step == 0])
-        plots.insert(at, f'$bars{at} using 1:2:(0):($3-$2) with vectors nohead linewidth 1.5 linecolor "{colour}" '
-                     "notitle")
-        plots.append(f'$budget{at} with lines linewidth {width} linecolor "{colour}" '
+        bars.append(f'$bars{at} using 1:2:(0):($3-$2) with vectors nohead linewidth 1.5 linecolor "{colour}" notitle')
+        lines.append(f'$budget{at} with lines linewidth {width} linecolor "{colour}" '
                      f'title "{study.whole(budget)} entries"')
-    return text + f"set xrange [-5:{shown}]\nset yrange [0:*]\n" + plotted(plots)
+    return text + f"set xrange [-5:{shown}]\nset yrange [0:*]\n" + plotted(bars + lines)
 
 
 def all_of(decision, healed):
@@ -147,7 +141,7 @@ def all_of(decision, healed):
                         lambda row: round(100 * row["stale"] / copies, 3)),
     }
     leftover = "leftover, in states of a node", lambda row: round(row["leftover"] / of_node, 4)
-    return pictures | {stage: healing(healed, stage, stage, *(leftover if stage == "forgotten" else greatest))
+    return pictures | {stage: healing(healed, stage, *(leftover if stage == "forgotten" else greatest))
                        for stage in decision.study.heals() if healed}
 
 

@@ -1,11 +1,10 @@
 """Reports and what they say of some rounds; the tool gossip_read."""
 import pathlib
 import re
-import sys
 import tomllib
 
 from gossip_tools import files, scenario
-from gossip_tools.commands import Refused, folder_of, number, refuse_if, shown
+from gossip_tools.commands import Refused, folder_of, number, refuse_if, remark, shown
 from gossip_tools.texts import speaker
 
 OF_FORMAT_1 = ["round", "exchanges", "unreached", "lost", "entries", "cut", "stale", "greatest"]
@@ -15,6 +14,11 @@ COLUMNS = {1: OF_FORMAT_1, 2: [*OF_FORMAT_1, "leftover"]}  # by the format
 
 class NotWhole(Exception):
     """What a report lacks."""
+
+    @classmethod
+    def where(cls, is_so, why):
+        if is_so:
+            raise cls(why)
 
 
 def settings(text):
@@ -27,18 +31,13 @@ def settings(text):
 
 def rows_of(content, form, rounds):
     """The rows of a report, in numbers, where it is that of a scenario of this format with so many rounds."""
-    if not content:
-        raise NotWhole("it is empty")
-    if not content.isascii():
-        raise NotWhole("it has other bytes than those of a report")
+    NotWhole.where(not content, "it is empty")
+    NotWhole.where(not content.isascii(), "it has other bytes than those of a report")
     header, (first, _, rest) = COLUMNS[form], content.decode().partition("\n")
     *lines, last = rest.split("\n")
-    if first.split(",") != header:
-        raise NotWhole("its header is another")
-    if len(lines) < rounds:
-        raise NotWhole(f"it is cut short after {len(lines)} of {rounds} rounds")
-    if len(lines) > rounds or last:
-        raise NotWhole(f"it goes on after its {rounds} rounds")
+    NotWhole.where(first.split(",") != header, "its header is another")
+    NotWhole.where(len(lines) < rounds, f"it is cut short after {len(lines)} of {rounds} rounds")
+    NotWhole.where(len(lines) > rounds or last, f"it goes on after its {rounds} rounds")
     line = re.compile(",".join(["[0-9]{1,18}"] * len(header)))
     for at, it in enumerate(lines, 1):
         if not line.fullmatch(it) or int(it.partition(",")[0]) != at:
@@ -65,25 +64,18 @@ def report(path, form, rounds):
 
 def compare(name, there, wanted):
     """Says what is another of the check sums that a file has, of a scenario and its report."""
-    if re.fullmatch(rb"[0-9]+ [0-9a-f]{64}\n", there):
-        raise NotWhole(f"{name} is of an earlier version, which left its scenario out")
-    if there.splitlines()[:1] != wanted.splitlines()[:1]:
-        raise NotWhole(f"its scenario's check sum isn't that of {name}")
-    if there != wanted:
-        raise NotWhole(f"its check sum isn't that of {name}")
-
-
-def is_without_sum(path):
-    """Whether a report is there and nothing beside it that says what it was."""
-    return path.exists() and not path.with_suffix(".sum").exists()
+    is_older = re.fullmatch(rb"[0-9]+ [0-9a-f]{64}\n", there)
+    NotWhole.where(is_older, f"{name} is of an earlier version, which left its scenario out")
+    is_another = there.splitlines()[:1] != wanted.splitlines()[:1]
+    NotWhole.where(is_another, f"its scenario's check sum isn't that of {name}")
+    NotWhole.where(there != wanted, f"its check sum isn't that of {name}")
 
 
 class Runs:
-    """The runs of a folder: their fields, the rows of each by the values of its fields, how many have no check sum, and
-    what others lack."""
+    """The runs of a folder, or those alone whose values are wanted: their fields, the rows of each by the values of its
+    fields, how many have no check sum, and what others lack."""
 
     def __init__(self, folder, wanted=None):
-        """All of them, or those alone whose values are wanted."""
         self.fields, self.rows, self.missing, self.without_sum = None, {}, {}, 0
         form = None
         for file in sorted(folder.glob("*-*.toml")):
@@ -99,7 +91,7 @@ class Runs:
             refuse_if(top["format"] != (form := form or top["format"]), f"the runs in {folder} are of two formats.")
             try:
                 self.rows[values] = report(file.with_suffix(".csv"), form, top["rounds"])
-                self.without_sum += is_without_sum(file.with_suffix(".csv"))
+                self.without_sum += not file.with_suffix(".sum").exists()
             except NotWhole as why:
                 self.missing[file.stem] = str(why)
         others = "" if self.fields else ", ".join(sorted({it.parent.name for it in folder.glob("*/*-*.toml")}))
@@ -203,9 +195,9 @@ def main(words):
     refuse_if(seeds and "seed" not in runs.fields, f"the runs in {folder} have no field seed of their own.")
     refuse_if(runs.missing and not (partial and runs.rows), say("missing", runs))
     if runs.missing:
-        print(f"gossip_read: {runs.what_is_missing()}", file=sys.stderr)
+        remark(runs.what_is_missing())
     if runs.without_sum:
-        print(f"gossip_read: {told_without_sum(runs.without_sum, folder)}", file=sys.stderr)
+        remark(told_without_sum(runs.without_sum, folder))
     fields, found = runs.fields, figures(runs, folder, what, first, second)
     if seeds:
         fields, found = over_seeds(fields, found)

@@ -22,8 +22,7 @@ LOOKED_AT = ((1, 4), (1, 2), (3, 4), (1, 1), (3, 2), (2, 1))
 # By the size of their digests, and the usual one before scuttle-breadth, which lags longer below the knee.
 CHEAPEST_FIRST = sorted(MODES, key=lambda mode: (digest_numbers(2, 2, mode), mode != USUAL_MODE))
 FEW_ENTRIES = 50
-# How far a tenth was seen to hold in scuttle-depth: how many rounds more in `greatest` ten times the nodes had, with
-# which parts of `nodes * writes`.
+# How many rounds more in `greatest` ten times the nodes had in scuttle-depth, and with which parts of `nodes * writes`.
 TENTH_MORE, TENTH_HOLDS = (2, 6), (1, 2)
 
 
@@ -56,7 +55,6 @@ def is_far_better(one, other):
 
 
 def are_close(one, other):
-    """Whether two figures are too close to call: neither is better."""
     return not is_better(one, other) and not is_better(other, one)
 
 
@@ -70,12 +68,7 @@ def bound_of(figure):
     return sorted(figure, key=lambda it: math.inf if it is None else it)[-max(1, (len(figure) + 1) // ONE_IN)]
 
 
-# What a run that cuts nothing shows.
-FLOOR = "no mode and no budget does better than {}, with these peers and losses"
-
-
 def rounds_of(window, fanout):
-    """The first and the last round of a window of intervals."""
     first, last = window
     return (first - 1) * fanout + 1, last * fanout
 
@@ -89,22 +82,17 @@ def halves(window):
 def suffices(in_first_half, in_second_half, window):
     """"A budget suffices where `greatest` is level in both halves of the window." It isn't level where the first half
     is better than the second: there it still rises. Nor is it known to be where it is too high for such a window."""
-    return not is_better(in_first_half, in_second_half) and can_be_level(max(in_first_half + in_second_half), window)
+    return not is_better(in_first_half, in_second_half) and max(in_first_half + in_second_half) <= highest_level(window)
 
 
 def highest_level(window):
-    """The highest level that a window can show: the rounds that are left out before it. As `greatest` can't exceed the
-    number of the round, what is higher wasn't reached yet as the window began."""
+    """The highest level that a window can show: the rounds before it, as what is higher wasn't reached as it began."""
     return window[0] - 1
 
 
-def can_be_level(figure, window):
-    return figure <= highest_level(window)
-
-
 def has_left_the_diagonal(figure, last):
-    """Whether `greatest` says something up to the last round. Where it is about the number of the round, which it can't
-    exceed, above nine tenths of it under some seed, it says nothing."""
+    """Whether `greatest` says something up to the last round: it can't exceed that, and says nothing where it is above
+    nine tenths of it under some seed."""
     return 10 * max(figure) <= 9 * last
 
 
@@ -159,7 +147,6 @@ def least_that_is_taken(figures, others):
 
 
 def smaller_budgets(budget, at_knee):
-    """The budgets below one, from the largest on."""
     return sorted({it for over, under in LOOKED_AT if 1 <= (it := at_knee * over // under) < budget}, reverse=True)
 
 

@@ -2,7 +2,6 @@
 import contextlib
 import os
 import re
-import resource
 import shlex
 import shutil
 import signal
@@ -19,8 +18,7 @@ NAME = "[A-Za-z0-9_.][A-Za-z0-9_.-]*"
 HOST = f"([1-9][0-9]{{0,3}}/)?(:|({NAME}@)?{NAME})"
 # The signals that end a process where nothing else is said.
 ENDINGS = signal.SIGINT, signal.SIGTERM, signal.SIGHUP
-# How GNU parallel ends, and in how many seconds: by its first TERM it begins no more, by the second it ends what runs,
-# which it may have to do on other machines.
+# How GNU parallel ends, and in how many seconds: its first TERM lets none begin, its second ends what runs anywhere.
 GENTLY = (signal.SIGTERM, 1), (signal.SIGTERM, 10)
 
 
@@ -46,6 +44,8 @@ class Signals:
 
         for it in numbers:
             signal.signal(it, stop)
+        # (where a caller has it ignored no process that ends can be waited for)
+        signal.signal(signal.SIGCHLD, signal.SIG_DFL)
 
     @classmethod
     @contextlib.contextmanager
@@ -157,12 +157,12 @@ def here(folder, names, program, jobs, done):
                         running[name] = subprocess.Popen([program, "run"], stdin=given, stdout=report,
                                                          stderr=subprocess.PIPE, process_group=runs,
                                                          env={**LARGE_PAGES, **os.environ})
-                for name, processor in ended(running):
-                    with Signals.hold():
-                        why = close(folder, name, running.pop(name), program)
-                        failed = failed or why
-                        if not why:
-                            done(name, processor, time.monotonic() - begun[name])
+                name, processor = ended(running, runs)
+                with Signals.hold():
+                    why = close(folder, name, running.pop(name), program)
+                    failed = failed or why
+                    if not why:
+                        done(name, processor, time.monotonic() - begun[name])
     finally:
         for name, process in running.items():
             process.wait()
@@ -172,23 +172,12 @@ def here(folder, names, program, jobs, done):
         raise Failed(failed)
 
 
-def processor_of_ended():
-    used = resource.getrusage(resource.RUSAGE_CHILDREN)
-    return used.ru_utime + used.ru_stime
-
-
-def ended(running):
-    """The runs that have ended, by name with their processor time, once one has."""
-    pause, found = 0.001, []
-    while not found:
-        for name, process in running.items():
-            before = processor_of_ended()
-            if process.poll() is not None:
-                found.append((name, processor_of_ended() - before))
-        if not found:
-            time.sleep(pause)
-            pause = min(2 * pause, 0.02)
-    return found
+def ended(running, group):
+    """The next run of a process group that ends, by its name, and its processor time."""
+    pid, status, used = os.wait4(-group, 0)
+    name, process = next((name, it) for name, it in running.items() if it.pid == pid)
+    process.returncode = os.waitstatus_to_exitcode(status)
+    return name, used.ru_utime + used.ru_stime
 
 
 def hosts():

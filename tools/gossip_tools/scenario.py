@@ -27,7 +27,6 @@ def limited(name, number):
 
 
 def digest_numbers(nodes, keys, mode):
-    """How many numbers a digest has at most."""
     return nodes * (keys if mode.startswith("precise") else 1)
 
 
@@ -83,10 +82,8 @@ def set_field(text, field, value):
 def restarts(nodes, each, first_round, last_round, down, forget=False, first=0, every=1):
     """Restarts: in every `every`-th of these rounds the next `each` nodes, by ascending number from `first` on."""
     refuse_if(not 1 <= first_round <= last_round, f"{first_round} to {last_round} aren't rounds.")
-    refuse_if(each < 1, f"{each} nodes in a round are no restarts: 1 is the least.")
     refuse_if(each > nodes, f"{each} nodes can't restart in a round, of {nodes}.")
     refuse_if(first >= nodes, f"{first} can't be the first node, of {nodes} that are numbered from 0.")
-    refuse_if(every < 1, "every=1 is each round, and the least.")
     rounds = range(first_round, last_round + 1, every)
     refuse_if(each * len(rounds) > MOST_SECTIONS, f"that makes {each * len(rounds)} restarts, where a scenario takes "
               f"{MOST_SECTIONS}: run half of it.")

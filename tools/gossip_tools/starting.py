@@ -4,6 +4,7 @@ While Python itself starts, Ctrl-C comes as a traceback. So it is started with -
 part of that, and signal.py isn't waited for.
 """
 import _signal
+import contextlib
 import importlib
 import io
 import os
@@ -20,25 +21,18 @@ TOOLS = {
 class StandardError(io.TextIOWrapper):
     """Standard error. What can't be written there is dropped, as the work is worth more than what is said of it."""
 
-    def __init__(self):
-        super().__init__(open(2, "wb", closefd=False), errors="backslashreplace", line_buffering=True)
-
     def write(self, text):
-        try:
-            return super().write(text)
-        except OSError:
-            return len(text)
+        with contextlib.suppress(OSError):
+            super().write(text)
+        return len(text)
 
     def flush(self):
-        try:
+        with contextlib.suppress(OSError):
             super().flush()
-        except OSError:
-            pass
 
 
 def fill_closed_streams():
-    """Opens /dev/null for each stream that is closed, so that no file of the tool gets its number. Input is opened for
-    writing, output for reading, so that they fail where they are used."""
+    """Opens /dev/null for each closed stream, so that no file gets its number, in a way that fails where it is used."""
     for number, way in enumerate((os.O_WRONLY, os.O_RDONLY, os.O_RDONLY)):
         try:
             os.fstat(number)
@@ -46,7 +40,7 @@ def fill_closed_streams():
             os.set_inheritable(os.open(os.devnull, way), True)
     sys.stdin = sys.stdin or open(0, closefd=False)
     sys.stdout = sys.stdout or open(1, "w", closefd=False)
-    sys.stderr = StandardError()
+    sys.stderr = StandardError(open(2, "wb", closefd=False), errors="backslashreplace", line_buffering=True)
 
 
 def end_at_signals():
@@ -57,7 +51,6 @@ def end_at_signals():
 
 
 def tool_of(name):
-    """What carries a tool out, and what it declares of its words."""
     module, main = TOOLS[name]
     words = importlib.import_module("gossip_tools.words")
     return getattr(importlib.import_module(f"gossip_tools.{module}"), main), words.tool(name)
@@ -71,13 +64,14 @@ def name_of(path):
 
 
 def start():
-    """Ends the process with the status of the tool that was called."""
-    interrupt, name = _signal.getsignal(_signal.SIGINT), name_of(sys.argv[0])
+    """Carries out the tool that was called, and ends the process."""
+    interrupt = _signal.getsignal(_signal.SIGINT)
+    sys.argv[0] = name_of(sys.argv[0])
     end_at_signals()
     fill_closed_streams()
     commands = importlib.import_module("gossip_tools.commands")
-    main, tool = tool_of(name)
+    main, tool = tool_of(sys.argv[0])
     _signal.signal(_signal.SIGINT, interrupt)
-    status = commands.run(name, main, tool)
+    status = commands.run(main, tool)
     end_at_signals()
     sys.exit(status)

@@ -24,8 +24,7 @@ from gossip_tools import cluster, read, rules, scenario
 from gossip_tools.commands import Refused, refuse_if
 from gossip_tools.texts import speaker
 
-# What is to be healed begins once the tables have filled and `greatest` is level: after so many intervals, of which the
-# last ones tell the level, and later with a budget below the knee.
+# What heals begins after so many intervals, of which the last ones tell the level; later with a budget below the knee.
 FILLING, LEVEL = 30, 20
 USUAL_SPLIT = 30
 RESTARTING = 10
@@ -48,11 +47,10 @@ class Study:
     def __init__(self, told):
         self.told = told
         self.usual = told["mode"] or scenario.USUAL_MODE
-        self.parts = 10 if cluster.is_too_large(told["nodes"], told["keys"]) else 1
-        refuse_if(self.parts > 1 and self.usual != scenario.USUAL_MODE, say(
-            "one_mode", nodes=told["nodes"], usual=scenario.USUAL_MODE, mode=self.usual))
-        self.all_nodes, self.keys, self.writes = int(told["nodes"]), int(told["keys"]), int(told["writes"])
-        self.nodes = self.all_nodes // self.parts
+        self.all_nodes, self.keys, self.writes = (int(told[name]) for name in ("nodes", "keys", "writes"))
+        self.parts = 10 if cluster.is_too_large(self.all_nodes, self.keys) else 1
+        self.nodes, usual = self.all_nodes // self.parts, scenario.USUAL_MODE
+        refuse_if(self.parts > 1 and self.usual != usual, say("one_mode", self, usual=usual))
         refuse_if(cluster.is_too_large(self.nodes, self.keys), say("tenth_is_too_large", most=scenario.MOST_TRIPLES))
         scenario.limited("nodes", self.nodes)
         self.fanout, self.seconds = int(told["fanout"]), told["interval"] / told["fanout"]
@@ -63,11 +61,12 @@ class Study:
                                        for nodes in (self.nodes, self.all_nodes))
         product = "nodes * writes" if self.writes <= self.keys else "nodes * keys"
         self.knee_name = product + (f" / {self.fanout}" if self.fanout > 1 else "")
-        # whether the digest takes some of the packet
+        # (whether the packet is told, or the smallest is looked for; and whether the digest takes some of it)
+        self.has_packet = told["packet"] is not None
         self.shares = told["shared"] == "yes" and bool(told["digest"])
         self.rooms = {mode: self.room(mode) / self.parts for mode in scenario.MODES}
         modes = (self.usual,) if told["mode"] or self.parts > 1 else scenario.MODES
-        room = self.knee if told["packet"] is None else max(self.rooms[it] for it in modes)
+        room = max(self.rooms[it] for it in modes) if self.has_packet else self.knee
         self.in_bytes = cluster.counts_bytes(told, room)
         self.fits_of_all = {mode: int(self.room(mode)) for mode in modes}
         self.fits = {mode: min(self.run_of(self.fits_of_all[mode]), scenario.LIMITS["budget"][1]) for mode in modes
@@ -93,7 +92,7 @@ class Study:
 
     def room(self, mode):
         """The entries that a delta of all nodes has room for in a mode; without a packet all that are of use."""
-        if self.told["packet"] is None:
+        if not self.has_packet:
             return self.all_nodes * self.keys
         return (self.told["packet"] - self.shared_digest(mode)) / self.told["entry"]
 
@@ -105,15 +104,14 @@ class Study:
         return rounds
 
     def why_none_fits(self):
-        told = self.told
-        lacks = f"no room for {LEAST} entries of {cluster.plain(told['entry'])} bytes"
-        enough = f"takes packet={self.packet(self.usual)}"
+        given, entry = self.told["packet"], self.told["entry"]
+        values = {"least": LEAST, "entry": cluster.plain(entry), "enough": self.packet(self.usual)}
         if not self.shares:
-            return say("none_fits", self, lacks=lacks, enough=enough)
-        digest, alone = self.digest_bytes(self.usual), int(told["packet"] / told["entry"])
-        too_large = f", and the digest still fits no packet of {told['packet']}" if digest > told["packet"] else ""
-        return say("none_fits_with_digest", self, digest=digest, lacks=lacks, alone=alone,
-                   part=alone / self.knee_of_all, too_large=too_large, enough=enough)
+            return say("none_fits", self, **values)
+        digest, alone = self.digest_bytes(self.usual), int(given / entry)
+        too_large = f", and the digest still fits no packet of {given}" if digest > given else ""
+        values |= {"digest": digest, "alone": alone, "part": alone / self.knee_of_all, "too_large": too_large}
+        return say("none_fits_with_digest", self, **values)
 
     def why_at_least(self):
         """The sum in words, and how large a packet would have to be."""
@@ -122,7 +120,7 @@ class Study:
     def steady_stages(self):
         """The stages that can show a budget to be level, each longer than the one before."""
         is_little = self.work_of(self.intervals("many")) <= LITTLE_WORK
-        return [it for it in rules.WINDOWS if rules.can_be_level(self.least_rounds, self.window(it))
+        return [it for it in rules.WINDOWS if self.least_rounds <= rules.highest_level(self.window(it))
                 and not (it == "few" and is_little)]
 
     def later_stages(self, stage):
@@ -140,8 +138,7 @@ class Study:
         return self.digest_bytes(mode) if self.shares else 0
 
     def packet(self, mode, entries=None):
-        """The bytes of a packet with room for so many entries of the whole cluster, nodes * writes where it isn't told,
-        with the digest where they share it."""
+        """The bytes of a packet with room for these entries of all nodes, else nodes * writes, and a shared digest."""
         return math.ceil((entries or self.knee_of_all) * self.told["entry"]) + self.shared_digest(mode)
 
     def tells_all(self):
@@ -162,8 +159,8 @@ class Study:
         return max(run, self.knee) if entries >= self.knee_of_all else min(run, self.knee - 1)
 
     def whole(self, budget):
-        """A budget of what is run as one of the whole cluster: all that fits, nodes * keys, and what is looked at by
-        nodes * writes, as exactly that of the whole."""
+        """A budget of what is run as one of the whole cluster: exactly what fits there, nodes * keys, or what is looked
+        at by nodes * writes, if it is that."""
         if self.parts == 1:
             return budget
         exact = {self.fits.get(self.usual): self.fits_of_all[self.usual],
@@ -228,8 +225,10 @@ class Study:
         return rules.WINDOWS[base][1] - (-self.target // self.fanout if kind == "stop" else 0)
 
     def lasts(self, stage):
-        """How many intervals what is to be healed lasts."""
         return self.split if stage == "split" else 1 if stage.endswith("-one") else self.restarting()[1]
+
+    def shorter(self, stage):
+        return say("shorter_split", self) if stage == "split" and self.split < self.told["split"] else ""
 
     def seeds(self, stage):
         """The seeds of a stage, by whether it chooses or bounds; more for what heals where the work allows it."""
@@ -252,9 +251,9 @@ class Study:
         return rules.rounds_of(window, self.fanout)
 
     def restarting(self):
-        """How many nodes restart at once, at least one, and in how many intervals such a group does: together no more
-        than half of the nodes, as what nobody lacks any more is healed too soon."""
-        each = max(1, min(self.restarts or 1, self.nodes // 2, scenario.MOST_SECTIONS))
+        """How many nodes restart at once, and in how many intervals such a group does: together no more than half of
+        them, as what nobody lacks any more is healed too soon."""
+        each = min(self.restarts or 1, self.nodes // 2, scenario.MOST_SECTIONS)
         most = RESTARTING if self.restarts else 1
         return each, min(most, self.nodes // 2 // each, scenario.MOST_SECTIONS // each)
 
@@ -272,7 +271,6 @@ class Study:
         return ("restart", "forgotten") if self.forgets else ("restart",)
 
     def heals(self):
-        """What heals and is looked at, in its order."""
         return ("split", *self.leaves()) if self.split else self.leaves()
 
     def healing_stages(self):
@@ -285,7 +283,7 @@ class Study:
 
     def healing_groups(self):
         """The same, by what they tell."""
-        return read.grouped((tells, stage) for stage, tells in self.healing_stages().items()).items()
+        return list(read.grouped((tells, stage) for stage, tells in self.healing_stages().items()).items())
 
     def wanted(self, mode):
         """The budgets and modes that decide: each mode with what it may take, and this one with nodes * writes."""
@@ -328,12 +326,12 @@ class Study:
                  "mode": list(in_modes)} for (those, in_modes), budgets in alike.items()]
 
     def value(self, stage, budget):
-        """A budget as the runs of a stage name it."""
         return str(scenario.budget_field(budget, self.counts_bytes(stage))[1])
 
 
 class Found:
-    """The runs of a stage that are there: the rows of each seed, by budget in entries and mode."""
+    """The runs of a stage that are there: the rows of each seed, by budget in entries and mode. The figures of a run
+    have what it had in a window, for each seed."""
 
     def __init__(self, study, stage, folder, seeds):
         self.before = study.before
@@ -347,38 +345,33 @@ class Found:
         return [read.between(rows, *window) for rows in self.rows[(budget, mode)]]
 
     def worst(self, *run):
-        """The worst staleness of a budget and a mode in a window, for each seed."""
-        return list(map(worst, self.windows(*run)))
+        return [max(row["greatest"] for row in rows) for rows in self.windows(*run)]
 
     def cut(self, *run):
-        """The share that was cut, in per cent, for each seed."""
         return list(map(read.percent_cut, self.windows(*run)))
 
     def stale(self, *run):
-        """The copies that are stale on average, for each seed."""
         return [statistics.fmean(row["stale"] for row in rows) for rows in self.windows(*run)]
 
     def uncut(self, window):
-        """The worst staleness in a window under each seed of a run that cut nothing up to its end, which no mode and no
-        budget goes below. Empty where some seed has none."""
+        """The worst staleness in a window of a run that cut nothing up to its end; empty where some seed has none."""
         uncut = [[rows for rows in of_seed if not any(row["cut"] for row in read.between(rows, 1, window[1]))]
                  for of_seed in zip(*self.rows.values())]
-        return [worst(read.between(some[0], *window)) for some in uncut] if all(uncut) else []
+        windows = [read.between(some[0], *window) for some in uncut] if all(uncut) else []
+        return [max(row["greatest"] for row in rows) for rows in windows]
 
     def half_of_stale_after(self, budget, mode, last, fanout):
         """The intervals after the `last` round with writes until half of the copies that are stale then are so no more,
-        for each seed; None where they aren't in these rounds. By docs/study.md half of the stale copies lack only
-        writes of so many intervals."""
+        which by docs/study.md lack only writes of so many intervals; None where they aren't in these rounds."""
         ends = [rows[last - 1::fanout] for rows in self.rows[(budget, mode)]]
-        return [next((at for at, row in enumerate(rows) if 2 * row["stale"] <= rows[0]["stale"]), None)
-                for rows in ends]
+        return [next((at for at, it in enumerate(rows) if 2 * it["stale"] <= rows[0]["stale"]), None) for rows in ends]
 
     def suffices(self, budget, mode, window):
         return rules.suffices(*(self.worst(budget, mode, half) for half in rules.halves(window)), window)
 
     def healed_after(self, stage, budget, mode, ends):
-        """The rounds after `ends` until what heals in a stage has, for each seed; None where it never has: until
-        `greatest` was back at its level, after a split once it shows that, or until nothing was left over."""
+        """The rounds after `ends` until what heals in a stage has; None where it never has: until `greatest` was back
+        at its level, after a split once it shows that, or until nothing was left over."""
         found = []
         for rows, most in zip(self.rows[(budget, mode)], self.worst(budget, mode, self.before)):
             column, level, first = "greatest", rules.healed_level(most), ends + 1
@@ -389,7 +382,3 @@ class Found:
             at = read.first_at_most(column, rows, first, level)
             found.append(None if at is None else at - ends)
         return found
-
-
-def worst(rows):
-    return max(row["greatest"] for row in rows)

@@ -8,7 +8,7 @@ import subprocess
 import sys
 
 from gossip_tools import files, folders, running, scenario
-from gossip_tools.commands import Refused, fault_of, folder_of, refuse_if, shown, the_program, workers
+from gossip_tools.commands import Refused, fault_of, folder_of, refuse_if, remark, shown, the_program, workers
 from gossip_tools.progress import Progress
 from gossip_tools.words import tool
 
@@ -46,9 +46,9 @@ def spread(text, choices, name=""):
     return runs
 
 
-def given_scenario(name="gossip_sweep"):
+def given_scenario():
     if sys.stdin.isatty():
-        print(f"{name}: the scenario is read from here, as none comes by < SCENARIO.", file=sys.stderr)
+        remark("the scenario is read from here, as none comes by < SCENARIO.")
     with files.named("standard input"):
         return scenario.read(sys.stdin.buffer)
 
@@ -69,14 +69,13 @@ def check(runs, program):
             raise Refused(f"that is the program's answer to {shown(name)}, so nothing was run.", 1)
 
 
-def make(folder, program, progress, hosts, what):
-    """Makes the reports that the folder lacks."""
+def make(folder, program, progress, hosts):
     for sentence in folder.unknown():
-        print(f"{what}: {sentence}", file=sys.stderr)
+        remark(sentence)
     lacking = {name: lacks for name in folder.runs if (lacks := folder.lacks(name))}
     for name, lacks in lacking.items():
         if (folder.path / f"{name}.csv").exists():
-            print(f"{what}: {name} is run again, as its report isn't whole: {lacks}.", file=sys.stderr)
+            remark(f"{name} is run again, as its report isn't whole: {lacks}.")
     progress.begin(folder.path.name, list(lacking), folder.runs.keys() - lacking.keys(), 1 if hosts else workers())
     try:
         if lacking and hosts:
@@ -90,7 +89,6 @@ def make(folder, program, progress, hosts, what):
 
 
 def what_stands(folder):
-    """How many runs of the folder have their report, in words."""
     count = 0
     for name in folder.runs:
         # (a report that can't be read doesn't stand)
@@ -99,12 +97,12 @@ def what_stands(folder):
     return f"{count} of {len(folder.runs)} runs stand in {folder.path}"
 
 
-def carry_out(path, text, runs, program, progress, hosts=None, what="gossip_sweep"):
+def carry_out(path, text, runs, program, progress, hosts):
     """Makes the reports of the runs that have none in the folder, or says what stands where that ends early."""
     folder = folders.Folder(path, text, runs, files.check_sum(program))
     try:
         with folder.held():
-            make(folder, program, progress, hosts, what)
+            make(folder, program, progress, hosts)
     except running.Stopped as stopped:
         why, status = f"stopped by {stopped}, which loses the runs under way", stopped.status
     except running.Failed as failed:

@@ -60,19 +60,16 @@ class Ages:
         return [100 * stale / copies for stale in self.found.stale(budget, mode, self.window)]
 
     def typical(self, budget, mode):
-        """The rounds after which half of the stale copies lack nothing that was written before, for each seed; None
-        where the runs are too short for that."""
+        """After how many rounds half of the stale copies lack nothing older; None where runs are too short for that."""
         it = self.study
         intervals = self.stopped.half_of_stale_after(budget, mode, self.last, it.fanout)
         return None if None in intervals else [at * it.fanout for at in intervals]
 
     def at_most(self, budget, mode):
-        """How old a typical stale copy is, in words."""
         it, rounds = self.study, self.typical(budget, mode)
         return f"more than {in_rounds([it.target])}" if rounds is None else lasting(it, rounds)
 
     def told(self, budget, mode):
-        """Both, as names and words."""
         why = say("not_yet" if self.typical(budget, mode) is None else "no_older")
         return [("stale copies", say("stale", self, share=span(self.shares(budget, mode)))),
                 ("a typical one", f"{self.at_most(budget, mode)}: {why}")]
@@ -89,12 +86,11 @@ class Search:
 
     def __init__(self, it, stages):
         self.study, self.stages = it, stages
-        self.stage = next(stage for stage in it.steady_stages() if rules.can_be_level(it.target, it.window(stage)))
+        self.stage = next(stage for stage in it.steady_stages() if it.target <= rules.highest_level(it.window(stage)))
         top = min(it.nodes * it.keys, *it.fits.values())
         # (of a tenth those budgets are looked at with which it was seen to hold)
         least, self.top = (study.LEAST, top) if it.parts == 1 else (it.knee, min(top, rules.TENTH_HOLDS[1] * it.knee))
-        # (those that can keep to the target, and by mode the least budget that does and the largest below it that
-        # doesn't)
+        # (those that can keep to it; by mode the least budget that does, and the largest below that, which doesn't)
         self.modes, self.pairs, self.found = list(it.fits), set(), None
         self.least, self.below = dict.fromkeys(it.fits, self.top), dict.fromkeys(it.fits, least - 1)
         # (the mode with the smallest packet, its budget, and by budgets what bounds it)
@@ -108,15 +104,13 @@ class Search:
         self.found = self.stages.carry_out(self.stage, self.pairs, rules.FIRST)
 
     def run_of(self, mode):
-        """The budget and mode whose runs tell what the least budget of a mode brings, by halving: where that is the
-        largest, with which nothing is cut, those of the usual mode."""
+        """The runs that tell what the least budget of a mode brings: those of the usual mode where nothing is cut."""
         pair = self.least[mode], mode
         return pair if pair in self.pairs else (self.least[mode], self.study.usual)
 
     def keeps(self, budget, mode):
-        window = self.study.window(self.stage)
-        return (self.found.suffices(budget, mode, window)
-                and self.study.keeps_to_target(self.found.worst(budget, mode, window)))
+        run = budget, mode, self.study.window(self.stage)
+        return self.found.suffices(*run) and self.study.keeps_to_target(self.found.worst(*run))
 
     def next(self, mode):
         """The budget to be run next with a mode; None where the least is known."""
@@ -126,9 +120,8 @@ class Search:
         return knee if below < knee < least else (below + least) // 2
 
     def carry_out(self):
-        """Whether some budget keeps to the target, the largest that is looked at being the last. Finds which modes do,
-        and the least budget of each; that of the mode with the smallest packet is bounded. Where nothing is cut all do
-        alike."""
+        """Finds which modes keep to the target, and the least budget of each; that of the mode with the smallest packet
+        is bounded. Whether some budget keeps to it. Where nothing is cut all modes do alike."""
         it = self.study
         cuts = self.top < (it.nodes - 1) * it.keys
         self.run({(self.top, mode) for mode in (it.fits if cuts else [it.usual])})
@@ -138,9 +131,8 @@ class Search:
             for mode, budget in steps.items():
                 bounds = self.least if self.keeps(budget, mode) else self.below
                 bounds[mode] = budget
-        # (of those that keep to it the one with the smallest packet)
-        self.chosen = min(self.modes, default=it.usual, key=lambda mode: (
-            self.packet(mode), rules.CHEAPEST_FIRST.index(mode)))
+        cheapest_first = [mode for mode in rules.CHEAPEST_FIRST if mode in self.modes]
+        self.chosen = min(cheapest_first, default=it.usual, key=self.packet)
         return self.bound()
 
     def bound(self):
@@ -169,7 +161,6 @@ class Search:
 
 class Met(choice.Decision):
     """The smallest packet that keeps to the target; or, where none does, what is the best that can be had."""
-
     why_empty = "in each mode budgets are halved until the smallest that keeps to the target is known"
 
     def __init__(self, search, is_met, ages):
@@ -190,15 +181,6 @@ class Met(choice.Decision):
     def headline(self):
         within = f"the worst staleness within {cluster.plain(self.study.told['target'])} s"
         return f"{super().headline()} keeps {within}" if self.is_met else f"no budget keeps {within}"
-
-    def heals(self):
-        return False
-
-    def why_not_knee(self):
-        return ""
-
-    def too_close(self):
-        return []
 
     def smaller_one(self):
         """What the next smaller budget has that was run; empty where there is none."""
@@ -221,7 +203,6 @@ class Met(choice.Decision):
         return [("target", said), *smaller, *self.ages.told(*self.run_of(self.mode))]
 
     def of_mode_in_words(self, mode):
-        """What a mode needs, and what it then has."""
         budget, pair = self.search.least[mode], self.search.run_of(mode)
         most = "" if self.ages.typical(*pair) is None else "at most "
         return say("of_mode", entries=self.study.whole(budget), packet=self.search.packet(mode), most=most,

@@ -15,7 +15,6 @@ TEXTS = {"mode": MODES, "count": ("bytes", "entries"), "shared": ("yes", "no"), 
 
 class Word(NamedTuple):
     """A word of a call, of NAME=VALUE the name, or a variable that the call goes by."""
-
     name: str
     text: str
     values: tuple | None = None  # those that are known, of NAME=VALUE; None of another word
@@ -23,7 +22,6 @@ class Word(NamedTuple):
 
 class Tool(NamedTuple):
     """What is said of a tool: its calls, and parts, each a paragraph or the words that are explained there."""
-
     calls: tuple
     parts: tuple
     options: tuple = ()  # each with what comes after it, as "-o FOLDER"

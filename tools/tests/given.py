@@ -1,4 +1,4 @@
-"""What tests are given: clusters by their words, and figures for which nothing was run."""
+"""What tests are given: clusters by their words, figures for which nothing was run, and tables of cases."""
 import pathlib
 import tomllib
 
@@ -32,21 +32,15 @@ class Figures:
         return not {budget, (budget, mode)} & {*self.rising}
 
 
-def of_depth(figures):
-    """Figures by budget alone, in scuttle-depth."""
-    return {(budget, DEPTH): worst for budget, worst in figures.items()}
-
-
 def decided(words, depth, stage="many"):
     """What is decided for a cluster by its figures in scuttle-depth, by budget."""
-    return choice.Decision(of(words), Figures(of_depth(depth)), stage)
+    return choice.Decision(of(words), Figures({(budget, DEPTH): worst for budget, worst in depth.items()}), stage)
 
 
-def bound(decision, depth, rising=()):
-    """Bounds what is decided by figures in scuttle-depth."""
-    figures, pair = Figures(of_depth(depth), rising), (decision.budget, decision.mode)
-    decision.bound = choice.Bound(decision.study, f"{decision.stage}-bound", figures, pair)
-    return decision
+def bound(decision, figures, pair, rises):
+    """What bounds a budget and a mode, by figures, behind the runs of a decision."""
+    figures = Figures(figures, [pair] if rises else ())
+    return choice.Bound(decision.study, f"{decision.stage}-bound", figures, pair)
 
 
 def plan(**fields):
@@ -65,17 +59,15 @@ def outcome(function, *words):
         return str(why)
 
 
-def table(function, outcomes):
-    """A test that a function has these outcomes, each by its argument or its arguments."""
-    def test(self):
-        found = {it: function(*it) if isinstance(it, tuple) else function(it) for it in outcomes}
-        self.assertEqual(outcomes, found)
-
-    return test
+def meant(value):
+    """What a value of a table stands for: names of digits are numbers, and `none` and `never` are None."""
+    if isinstance(value, dict):
+        return {int(name) if name.isdigit() else name: meant(it) for name, it in value.items()}
+    return list(map(meant, value)) if isinstance(value, list) else None if value in ("none", "never") else value
 
 
 def table_of(name):
-    return tomllib.loads(pathlib.Path(__file__).with_name(name).read_text("utf-8"))
+    return meant(tomllib.loads(pathlib.Path(__file__).with_name(name).read_text("utf-8")))
 
 
 def cases_of(name):
@@ -94,9 +86,7 @@ def value_of(it, name, *arguments):
 
 
 def plain(value):
-    """A value as a table has it."""
-    if value is None:
-        return "none"
+    """A value with lists alone, as a table has it."""
     if isinstance(value, dict):
         return {name: plain(it) for name, it in value.items()}
     if isinstance(value, (set, frozenset)):

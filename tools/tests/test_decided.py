@@ -1,6 +1,7 @@
 """From figures to a decision, its words and its page: the cases of decided.toml, and what those can't say."""
 import pathlib
 import unittest
+from types import SimpleNamespace
 
 from gossip_tools import advise, answer, choice, healing, page, target
 from gossip_tools.scenario import MODES
@@ -9,8 +10,6 @@ from given import ROOMY, Figures, bound, cases_of, decided, of, plain, value_of
 # What is given in a case, beside the figures of each mode by its last word; the other names are of what comes of it.
 GIVEN = {"cluster", "all", "rising", "stage", "against", "bounds", "bounds_rise", "bounds_of_most", "most_rises",
          "floor", "heals", "gone", "with_reserve", *(it.partition("-")[2] for it in MODES)}
-
-
 # What is said of a case, of which it has parts.
 PARTS = {
     "lines": lambda case: answer.in_words(case.decision, case.healing, case.missing()),
@@ -24,14 +23,9 @@ PARTS = {
 }
 
 
-class Taken:
+def healed(taken, gone, pairs):
     """Runs of which it is given how many rounds it took until something had healed, or was gone."""
-
-    def __init__(self, taken, gone, pairs):
-        self.taken, self.gone, self.rows = [None if it == "never" else it for it in taken], gone, pairs
-
-    def healed_after(self, stage, *_):
-        return self.gone if stage == "forgotten" and self.gone else self.taken
+    return SimpleNamespace(rows=pairs, healed_after=lambda stage, *_: gone if stage == "forgotten" and gone else taken)
 
 
 class Case:
@@ -40,22 +34,20 @@ class Case:
     def __init__(self, given):
         it = of(given["cluster"])
         modes = {"all": it.fits} | {mode.partition("-")[2]: [mode] for mode in MODES}
-        figures = {(int(budget), mode): seeds for word in modes for mode in modes[word]
+        figures = {(budget, mode): seeds for word in modes for mode in modes[word]
                    for budget, seeds in given.get(word, {}).items()}
         rising = [(budget, mode) for word, budgets in given.get("rising", {}).items() for mode in modes[word]
                   for budget in budgets]
         found = choice.Decision(it, Figures(figures, rising), given.get("stage", "many"), given.get("against", ()))
         found.floor, self.decision = given.get("floor"), found
         taken, most = (found.budget, found.mode), (found.most, found.mode)
-        bounds = {(int(budget), found.mode): seeds for budget, seeds in given.get("bounds", {}).items()}
-        if bounds:
-            of_taken = Figures(bounds, [taken] if "bounds_rise" in given else ())
-            found.bound = choice.Bound(it, f"{found.stage}-bound", of_taken, taken)
+        if "bounds" in given:
+            bounds = {(budget, found.mode): seeds for budget, seeds in given["bounds"].items()}
+            found.bound = bound(found, bounds, taken, "bounds_rise" in given)
         if "bounds_of_most" in given:
-            of_most = Figures({most: given["bounds_of_most"]}, [most] if "most_rises" in given else ())
-            found.bound_of_most = choice.Bound(it, f"{found.stage}-bound", of_most, most)
+            found.bound_of_most = bound(found, {most: given["bounds_of_most"]}, most, "most_rises" in given)
         runs = (taken, most) if "with_reserve" in given else (taken,)
-        stages = {stage: Taken(seeds, given.get("gone"), runs) for stage, seeds in given.get("heals", {}).items()}
+        stages = {stage: healed(seeds, given.get("gone"), runs) for stage, seeds in given.get("heals", {}).items()}
         self.healing = healing.Healing(it, found.mode, stages) if stages else None
 
     def missing(self, was_enough=False):
@@ -79,7 +71,7 @@ class Case:
         if name == "none":
             return [it for it in wanted if not any(it in line for line in PARTS["lines"](self))]
         if name == "nothing":
-            return [it for it in wanted if self.value(it) in ("", "none", [])]
+            return [it for it in wanted if not self.value(it)]
         if name.endswith("_lacks"):
             return [it for it in wanted if it not in PARTS[name.removesuffix("_lacks")](self)]
         return [it for it in wanted if it in PARTS[name](self)] if name in PARTS else self.value(name)
@@ -93,36 +85,38 @@ class Decided(unittest.TestCase):
                 self.assertEqual(wanted, {it: case.told(it, wanted[it]) for it in wanted})
 
 
+class Made:
+    """Stages of which nothing is run. The runs that bound are level in some of them."""
+    chose = {1000: [9, 9], 600: [9, 9]}
+
+    def __init__(self, *level):
+        self.level, self.made = level, []
+
+    def is_level(self, decision):
+        pair = decision.budget, decision.mode
+        decision.bound = bound(decision, {pair: [8, 11]}, pair, decision.stage not in self.level)
+        return decision.bound.is_level()
+
+    def decide_in_time(self, stages, pairs, decision):
+        self.made.append(stages[0])
+        return decided(ROOMY, self.chose, stage=stages[0])
+
+    def bounded(self):
+        first = decided(ROOMY, self.chose)
+        return advise.bounded_decision(first.study, self, first)
+
+
 class Bounded(unittest.TestCase):
-    """What bounds a decision, and what is decided where that isn't level."""
-
-    def bounded(self, *level):
-        """What is decided where the runs that bound are level in these stages, and from which of them it was."""
-        made, chose = [], {1000: [9, 9], 600: [9, 9]}
-
-        class Made:
-            @staticmethod
-            def is_level(decision):
-                rising = () if decision.stage in level else [decision.budget]
-                return bound(decision, {decision.budget: [8, 11]}, rising).bound.is_level()
-
-            @staticmethod
-            def decide_in_time(stages, pairs, decision):
-                made.append(stages[0])
-                return decided(ROOMY, chose, stage=stages[0])
-
-        first = decided(ROOMY, chose)
-        return advise.bounded_decision(first.study, Made, first), made
-
     def test_later_stages(self):
         """A bound that isn't level has the longer runs choose; after the longest there is none: 1800 rounds behind 400
         show a level of up to 400."""
-        for level, later in ((("many",), []), (("longer",), ["longer"]), (("longest",), ["longer", "longest"])):
-            found, made = self.bounded(*level)
-            self.assertEqual((True, 600, later, level[0]), (found.suffices, found.budget, made, found.stage))
+        for level, later in (("many", []), ("longer", ["longer"]), ("longest", ["longer", "longest"])):
+            stages = Made(level)
+            found = stages.bounded()
+            self.assertEqual((True, 600, later, level), (found.suffices, found.budget, stages.made, found.stage))
             self.assertIn(" of 21 runs of 1800 rounds (30 min) no copy is older than 11 rounds, 11 s: the most of ",
                           answer.in_words(found, None)[2])
-        found, made = self.bounded()
+        found = Made().bounded()
         why = "none keeps a level of at most 400 rounds in runs of 1800 rounds (30 min)"
         self.assertEqual((False, 1000, f"no budget that fits is enough: {why}"),
                          (found.suffices, found.budget, found.headline()))

@@ -1,13 +1,10 @@
 """The page: its themes and how it is printed."""
 import re
-import types
 import unittest
+from types import SimpleNamespace
 
 from gossip_tools import page, plots
-from given import decided
-
-# By the guidelines for accessible pages, WCAG 2: at least this contrast between a text and what is behind it.
-CONTRAST = 4.5
+from given import DEPTH, decided
 
 
 def themes():
@@ -34,12 +31,13 @@ class Themes(unittest.TestCase):
         self.assertEqual(["21.00", "4.48"], [f"{contrast(it, '#fff'):.2f}" for it in ("#000", "#777")])
 
     def test_texts_are_readable(self):
-        """The text and the small one, on the page and where it is marked, and white on the cards."""
+        """With a contrast of 4.5, by the guidelines for accessible pages, WCAG 2: the text and the small one, on the
+        page and where it is marked, and white on the cards."""
         pairs = (("text", "page"), ("soft", "page"), ("text", "code"), ("text", "mark"))
         for theme in themes():
             colours = [(theme[text], theme[behind]) for text, behind in pairs]
             colours += [("#fff", theme[card]) for card in ("first", "none")]
-            self.assertEqual([], [it for it in colours if contrast(*it) < CONTRAST])
+            self.assertEqual([], [it for it in colours if contrast(*it) < 4.5])
 
     def test_all_colours_are_of_the_theme(self):
         light, dark = themes()
@@ -70,37 +68,29 @@ class Cards(unittest.TestCase):
             self.assertGreaterEqual(min(broad, default=1000), max(narrow))
 
 
-class Healed:
-    """Runs of 60 rounds that heal from round 30 on, with the greatest age of all rounds under three seeds."""
-    mode = "scuttle-depth"
-
-    def __init__(self, **greatest):
-        self.study = types.SimpleNamespace(ends=lambda _: 30, rounds=lambda _: 60, whole=lambda budget: budget)
-        rows = {(int(budget[1:]), self.mode): [[{"round": at, "greatest": it} for at in range(1, 61)] for it in seeds]
-                for budget, seeds in greatest.items()}
-        self.stages = {"split": types.SimpleNamespace(rows=rows)}
-
-    def taken(self, *_):
-        return [3]
+def bars(**greatest):
+    """The bars of each budget, as (place, least, most), and how the picture is drawn, where runs of 60 rounds heal from
+    round 30 on, with the greatest age of all rounds under three seeds."""
+    study = SimpleNamespace(ends=lambda _: 30, rounds=lambda _: 60, whole=lambda budget: budget)
+    rows = {(int(budget[1:]), DEPTH): [[{"round": at, "greatest": it} for at in range(1, 61)] for it in seeds]
+            for budget, seeds in greatest.items()}
+    stages = {"split": SimpleNamespace(rows=rows)}
+    healed = SimpleNamespace(study=study, mode=DEPTH, stages=stages, taken=lambda *_: [3])
+    script = plots.healing(healed, "split", "y", lambda row: row["greatest"])
+    blocks = [it.splitlines() for it in re.findall(r"\$bars\d << END\n(.*?)\nEND", script, re.S)]
+    return [[tuple(map(float, line.split())) for line in it if "NaN" not in line] for it in blocks], script
 
 
 class Healing(unittest.TestCase):
-    def bars(self, **greatest):
-        """The bars of each budget, as (place, least, most), and how the picture is drawn."""
-        script = plots.healing(Healed(**greatest), "split", "split", "y", lambda row: row["greatest"])
-        blocks = [it.splitlines() for it in re.findall(r"\$bars\d << END\n(.*?)\nEND", script, re.S)]
-        return [[tuple(map(float, line.split())) for line in it if "NaN" not in line] for it in blocks], script
-
     def test_bars_stand_beside_each_other(self):
         """Two budgets, each with other figures under each seed: all 26 rounds have a bar of each, and no two meet."""
-        (one, other), script = self.bars(b50=(9, 5, 7), b100=(4, 6, 5))
+        (one, other), script = bars(b50=(9, 5, 7), b100=(4, 6, 5))
         self.assertEqual(([(5, 9)] * 26, [(4, 6)] * 26), tuple([it[1:] for it in bars] for bars in (one, other)))
         places = sorted(it[0] for it in one + other)
         self.assertEqual(0.25, min(after - before for before, after in zip(places, places[1:])))
         self.assertNotIn("filledcurves", script)
-
-    def test_seeds_that_agree_have_no_bar(self):
-        (one, other), _ = self.bars(b50=(9, 9, 9), b100=(4, 4, 5))
+        # (where all seeds agree there is none)
+        (one, other), _ = bars(b50=(9, 9, 9), b100=(4, 4, 5))
         self.assertEqual((0, 26), (len(one), len(other)))
 
 

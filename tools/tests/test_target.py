@@ -1,9 +1,9 @@
-"""The smallest packet for a target, by figures that are given: the cases of searched.toml, and what those can't say."""
+"""The smallest packet for a target, by figures that are given: the cases of searched.toml."""
 import unittest
 
 import given
-from gossip_tools import advise, rules, target
-from given import BREADTH, DEPTH, NEWEST, OLDEST, cases_of, of
+from gossip_tools import advise, target
+from given import BREADTH, DEPTH, NEWEST, OLDEST, cases_of, of, plain
 
 # What a budget is divided into: so many rounds the worst staleness then has, rounded up.
 ROUNDS = {DEPTH: 800, BREADTH: 1200, OLDEST: 900, NEWEST: 1000}
@@ -26,7 +26,7 @@ class Figures(given.Figures):
         return [15840, 19800]
 
     def half_of_stale_after(self, *_):
-        return [None if it == "never" else it for it in self.half]
+        return self.half
 
 
 class Made(advise.Stages):
@@ -38,11 +38,11 @@ class Made(advise.Stages):
         self.rising = range(it.nodes * it.keys + 1) if rising == "all" else rising
 
     def carry_out(self, stage, pairs, seeds=None):
-        self.asked.setdefault(stage, []).append(seeds)
+        self.asked.setdefault(stage, set()).add(seeds)
         return Figures(pairs, self, stage.endswith("-bound"))
 
 
-def searched(words, rounds=ROUNDS, nodes="nodes=100 keys=4", **more):
+def searched(words, rounds, nodes="nodes=100 keys=4", **more):
     it = of(f"{nodes} writes=1 entry=40 {words}")
     search = target.Search(it, Made(it, rounds, **more))
     search.is_met = search.carry_out()
@@ -62,8 +62,9 @@ def told(search, name, wanted):
         return [it for it in wanted if it in lines]
     if name == "none":
         return [it for it in wanted if not any(it in line for line in lines)]
-    values = {"headline": met.headline(), "bounded": [*search.bounded], "packet": search.packet(search.chosen)}
-    return values[name] if name in values else getattr(search, name)
+    values = {"headline": met.headline(), "bounded": [*search.bounded], "packet": search.packet(search.chosen),
+              "asked": search.stages.asked, "run_of": {mode: search.run_of(mode) for mode in search.modes}}
+    return plain(values[name] if name in values else getattr(search, name))
 
 
 class Searched(unittest.TestCase):
@@ -77,30 +78,3 @@ class Searched(unittest.TestCase):
                 self.assertEqual(wanted, {it: told(search, it, wanted[it]) for it in wanted})
                 # (what it brings is known of the seeds that choose too)
                 self.assertIn((search.budget, search.chosen), search.pairs)
-
-    def test_seeds(self):
-        """Those that bound are others than the first of those that choose."""
-        search = searched("target=10")
-        in_words(search)
-        self.assertEqual({"many": {rules.FIRST}, "many-bound": {None}, "many-stop": {None}},
-                         {stage: set(seeds) for stage, seeds in search.stages.asked.items()})
-
-    def test_large_budgets_are_known_to_a_hundredth(self):
-        search = searched("target=10 mode=scuttle-depth", {DEPTH: 12345}, nodes="nodes=2000 keys=4")
-        least, below = search.least[DEPTH], search.below[DEPTH]
-        self.assertEqual((True, True, True),
-                         (below < 1235 <= least, least - below <= least // 100, len(search.pairs) < 12))
-
-    def test_the_largest_budget(self):
-        """None has less than 7 rounds. Where all that is told is 7, the modes may need all 400, which cut nothing."""
-        search = searched("target=6")
-        self.assertEqual((False, {(400, DEPTH)}), (search.is_met, search.pairs))
-        search = searched("target=7", dict.fromkeys(ROUNDS, 2796) | {DEPTH: 2800})
-        self.assertEqual((400, (400, DEPTH), True), (search.least[OLDEST], search.run_of(OLDEST), search.is_met))
-
-    def test_a_largest_budget_that_may_cut(self):
-        """1999 * 64 entries may be lacking, and a scenario takes a budget of 65535 at most. So all modes are run with
-        that, and one that has 11 rounds then isn't looked at any more."""
-        search = searched("target=10", ROUNDS | {NEWEST: 11 * 65535}, nodes="nodes=2000 keys=64")
-        self.assertEqual((True, [BREADTH, DEPTH, OLDEST]), (search.is_met, search.modes))
-        self.assertEqual({(65535, mode) for mode in ROUNDS}, {pair for pair in search.pairs if pair[0] == 65535})

@@ -5,10 +5,7 @@ pub mod Candidates
 pub mod MarkedLaws
 pub mod RoundMarks
 pub mod Starts
-pub mod Layers
-pub mod LevelMarks
 pub mod DeltaMarks
-pub mod Firsts
 pub mod WeightLaws
 pub mod OfferWeights
 pub mod LevelSteps

@@ -1,8 +1,8 @@
 -- What an offer's numbers take of its budget.
 -- Serves the functions of `offers`, `LevelSteps`, `RoundMarks`, `RunSteps` and `TurnSteps`.
-use Rattle.delta_plans.proofs.Common.{◌≡◌, ℕ, ◌*◌, ◌≤◌, Option, Some, None, arith, mul-le-mul_right, Entry, Budget, Entries, Bytes, MOST_NODES, MOST_KEYS, MOST_ENTRY_SIZE, write_numbered, all_writes, Offer, cells_in, weights_in, weight_in, count_in, IsOffer, share_or_none, one_each}
+use Rattle.delta_plans.proofs.Common.{◌≡◌, ℕ, ◌*◌, ◌≤◌, Option, Some, None, arith, mul-le-mul_right, Entry, Budget, Entries, Bytes, MOST_NODES, MOST_KEYS, MOST_ENTRY_SIZE, write_numbered, all_writes, Offer, cells_in, weights_in, weight_in, count_in, IsOffer, share_or_none, one_each, weight_of, count_between}
 use Rattle.delta_plans.proofs.Sums.{sum_below-none}
-use Rattle.delta_plans.proofs.WeightLaws.{weight_of-none, weight_between-same, weight_between-most, number_share-one, count_all_between-most}
+use Rattle.delta_plans.proofs.WeightLaws.{weight_of-most, weight_of-none, weight_between-same, weight_between-most, number_share-one, count_all_between-most}
 
 -- no write takes more than the largest share
 pub share-most : (budget : Budget) (o : Option Entry) → share_or_none budget o ≤ MOST_ENTRY_SIZE
@@ -23,6 +23,12 @@ pub offer-most : {N : Type 0} (number : N → ℕ) (offer : Offer N) (low high :
 offer-most number offer low high =
     weight_between-most (weights_in offer) MOST_ENTRY_SIZE (cells_in number offer) offer.grid.size.nodes offer.grid.size.keys low high
     (λ owner n. share-most offer.budget (write_numbered (all_writes offer.lists.now owner) n))
+
+-- and so of one owner's
+pub owner-most : {N : Type 0} (number : N → ℕ) (offer : Offer N) (keys owner low high : ℕ) → weight_of (weights_in offer owner) (cells_in number offer) keys owner low high
+    ≤ count_between (cells_in number offer) keys owner low high * MOST_ENTRY_SIZE
+owner-most number offer keys owner low high = weight_of-most (weights_in offer owner) MOST_ENTRY_SIZE (cells_in number offer) keys owner low high
+    (λ n. share-most offer.budget (write_numbered (all_writes offer.lists.now owner) n))
 
 module _ {N : Type 0} {number : N → ℕ} {most : ℕ} {offer : Offer N} (is : IsOffer number most offer) (low high : ℕ → ℕ) where
   pub offer-few : count_in number offer low high ≤ MOST_NODES * MOST_KEYS

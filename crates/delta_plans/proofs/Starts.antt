@@ -21,9 +21,9 @@ write_from-behind [] ys place = ap (write_from ys) {x = 0 + place} {y = place} (
 write_from-behind (x ∷ xs) ys place = ap (write_from (x ∷ (xs ++ ys))) {x = length (x ∷ xs) + place} {y = suc (length xs + place)} (omega arith) ∙ write_from-behind xs ys place
 
 -- a write of an owner's own generation has all those of earlier ones before it
-pub start-own : (v : OwnerListView) (number : ℕ) → AreWrites v → length v.earlier < number → number ≤ length (entries_of v) → start_of (entries_of v) number ≡ length v.earlier
-start-own v zero are lt le = absurd (omega (arith, lt))
-start-own v (suc place) are lt le =
+pub start_own : (v : OwnerListView) (number : ℕ) → AreWrites v → length v.earlier < number → number ≤ length (entries_of v) → start_of (entries_of v) number ≡ length v.earlier
+start_own v zero are lt le = absurd (omega (arith, lt))
+start_own v (suc place) are lt le =
     let there = numbered-some (entries_of v) (suc place) (omega arith) le in
     let within : place - length v.earlier < length v.current = omega (arith, lt, le, length-append v.earlier v.current) in
     let here : write_from v.current (place - length v.earlier) ≡ Some there.0 =
@@ -38,7 +38,7 @@ start-own v (suc place) are lt le =
 -- so the lower of number and base is the start of a write that is of no earlier generation
 pub start-lower : (most : ℕ) (v : OwnerListView) (x base y : ℕ) → IsKnown most v x base → (0 < x → x ≤ base → ⊥) → y ≡ min x base → y ≡ start_of (entries_of v) x
 start-lower most v x base y known own lower =
-    let behind : base < x → start_of (entries_of v) x ≡ base = λ lt. start-own v x known.writes (omega (arith, lt, known.based)) known.within ∙ sym known.based in
+    let behind : base < x → start_of (entries_of v) x ≡ base = λ lt. start_own v x known.writes (omega (arith, lt, known.based)) known.within ∙ sym known.based in
     grind (arith, lower, own, behind, start-upto (entries_of v) x)
 
 -- the receiver's own mark is put

@@ -52,7 +52,7 @@ module _ (weight : ℕ → ℕ) (cells : Cells) (keys owner : ℕ) where
         on Newest is under = (omega (arith, is.upto, under), omega (arith, is.above, under))
 
     -- up to a mark past the next number there is that one
-    from-one : NumbersDiffer cells keys owner → from first mark past ≡ weight next
+    pub from-one : NumbersDiffer cells keys owner → from first mark past ≡ weight next
     from-one differ = one first is is_past
       where
         one : (f : First) → IsNext f cells keys owner mark far next → IsPast f next past → from f mark past ≡ weight next

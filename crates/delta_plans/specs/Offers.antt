@@ -39,12 +39,6 @@ offered_sum from cells low g =
     sum_below from.nodes (λ owner. sum_below from.keys
     (λ key. if nat_lt (low owner) (cells owner key) then g owner key else 0))
 
--- how many of an owner's numbers above a mark are below a number
-abbrev pub rank_above : Cells → ℕ → ℕ → ℕ → ℕ → ℕ
-rank_above cells keys owner mark number =
-    sum_below keys (λ key. if nat_lt mark (cells owner key)
-    then (if nat_lt (cells owner key) number then 1 else 0) else 0)
-
 -- what of an owner isn't offered to a receiver that has this as its greatest number; the most for the receiver itself
 abbrev pub told_by : DigestKind → List Entry → ℕ → ℕ
 told_by Scuttle writes greatest = greatest

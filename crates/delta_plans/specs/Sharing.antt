@@ -1,5 +1,5 @@
 -- A level shared out by rotation, as marks. Source: this project.
-use Rattle.std.specs.Prelude.{◌≡◌, ℕ, ◌+◌, ◌<◌, ◌≤◌, true, false}
+use Rattle.std.specs.Prelude.{◌≡◌, ◌≢◌, ℕ, ◌+◌, ◌<◌, ◌≤◌, true, false, nat_lt, if◌then◌else◌}
 use Rattle.delta_plans.specs.declared.marked.First.{First}
 use Rattle.bench_types.specs.Budget.{amount_of}
 use Rattle.model.specs.Order.{rotated}
@@ -10,20 +10,24 @@ use Rattle.delta_plans.specs.OfferInMemory.{cells_in, low_in, weights_in}
 use Rattle.delta_plans.specs.Plans.{weight_on, count_on}
 use Rattle.delta_plans.specs.LevelMarks.{lets_through}
 
--- marks that stop at an owner's number: the owners whose turn is before its owner's have the far mark, those whose turn
--- is behind it the near one, and its owner's lets through what comes before it
+-- an owner's mark that lets through what comes before a number, which its far mark lets through and its near one not
+pub record StopsBefore (first : First) (cells : Cells) (keys owner low near far mark next : ℕ) : Type 0 where
+  pub offered : low < next
+  pub above : low ≤ mark
+  pub outside : lets_through first near next ≡ false
+  pub inside : lets_through first far next ≡ true
+  pub own : (k : ℕ) → k < keys → lets_through first mark (cells owner k) ≡ comes_first first (cells owner k) next
+
+-- marks that stop at an owner's number: of the others, those whose turn is before its owner's have the far mark, and
+-- those whose turn is behind it the near one
 pub record StopAt (first : First) (rotation nodes keys : ℕ) (cells : Cells) (low near far mark : ℕ → ℕ) : Type 0 where
   pub owner : ℕ
   pub key : ℕ
   pub owner_below : owner < nodes
   pub key_below : key < keys
-  pub offered : low owner < cells owner key
-  pub outside : lets_through first (near owner) (cells owner key) ≡ false
-  pub inside : lets_through first (far owner) (cells owner key) ≡ true
-  pub passed : (r : ℕ) → r < nodes → rotated nodes rotation r < rotated nodes rotation owner → mark r ≡ far r
-  pub waiting : (r : ℕ) → r < nodes → rotated nodes rotation owner < rotated nodes rotation r → mark r ≡ near r
-  pub own : (k : ℕ) → k < keys → low owner < cells owner k
-      → lets_through first (mark owner) (cells owner k) ≡ comes_first first (cells owner k) (cells owner key)
+  pub stops : StopsBefore first cells keys owner (low owner) (near owner) (far owner) (mark owner) (cells owner key)
+  pub others : (r : ℕ) → r < nodes → r ≢ owner
+      → mark r ≡ (if nat_lt (rotated nodes rotation r) (rotated nodes rotation owner) then far r else near r)
 
 -- marks that share out a level: they stop at a number that doesn't fit any more
 pub record AreShared {N : Type 0} (first : First) (rotation : ℕ) (number : N → ℕ) (offer : Offer N)

@@ -5,7 +5,7 @@ use Rattle.delta_plans.specs.declared.marked.First.TheVariants.{Oldest, Newest}
 use Rattle.planes.specs.Planes.{Cells}
 use Rattle.delta_plans.specs.declared.stops.Part.{Part}
 use Rattle.delta_plans.specs.Firsts.{by_first}
-use Rattle.delta_plans.specs.OfferInMemory.{cells_in, HasOwner}
+use Rattle.delta_plans.specs.OfferInMemory.{cells_in, weights_in, HasOwner}
 use Rattle.delta_plans.specs.Weights.{weight_from}
 
 -- a key's number is above one mark and up to another
@@ -52,6 +52,18 @@ HasNext first cells keys owner near far =
 -- a part of one of the owners of an offer
 abbrev pub IsPart : {N : Type 0} → (N → ℕ) → ℕ → Part N → Type 0
 IsPart number most part = HasOwner number most part.offer.now part.owner
+
+-- of which some number is behind a near mark
+pub record HasNextOf {N : Type 0} (number : N → ℕ) (most : ℕ) (part : Part N) (near : ℕ) : Type 0 where
+  pub is_part : IsPart number most part
+  pub some : HasNext part.first (cells_in number part.offer.now) part.offer.now.grid.size.keys part.owner near
+      (number part.far)
+
+-- and those behind it weigh more than there is room for
+pub record IsTooHeavy {N : Type 0} (number : N → ℕ) (most : ℕ) (part : Part N) (near room : ℕ) : Type 0 where
+  pub is_part : IsPart number most part
+  pub beyond : room < weight_from part.first (weights_in part.offer.now part.owner) (cells_in number part.offer.now)
+      part.offer.now.grid.size.keys part.owner near (number part.far)
 
 -- a number is the next one of a part for whichever direction and near mark the answers fit
 abbrev pub IsNearest : {N : Type 0} → (N → ℕ) → Part N → (N → N → N → Type 0) → N → Type 0

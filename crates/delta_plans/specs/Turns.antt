@@ -1,5 +1,5 @@
 -- The owners' turns in a level, from the rotation on. Source: this project.
-use Rattle.std.specs.Prelude.{◌≡◌, ◌⊎◌, ℕ, ◌+◌, ◌-◌, ◌<◌, ◌≤◌, List, length, map}
+use Rattle.std.specs.Prelude.{◌≡◌, ◌⊎◌, ℕ, ◌+◌, ◌-◌, ◌<◌, ◌≤◌, nat_lt, List, length, map, if◌then◌else◌}
 use Rattle.bench_types.specs.Budget.{amount_of}
 use Rattle.bench_types.specs.Sums.{sum_below}
 use Rattle.bench_types.specs.declared.exchanges.Budget.TheVariants.{Entries}
@@ -19,11 +19,6 @@ pub record AreTurns {N : Type 0} (number : N → ℕ) (most : ℕ) (turns : Turn
   pub rotation : turns.rotation < turns.offer.now.grid.size.nodes
   pub level : IsLevel turns.first number turns.offer.now turns.level.now
 
--- and one of the owners
-pub record HasTurn {N : Type 0} (number : N → ℕ) (most : ℕ) (turns : Turns N) (owner : ℕ) : Type 0 where
-  pub are : AreTurns number most turns
-  pub in_nodes : owner < turns.offer.now.grid.size.nodes
-
 -- what an owner's part of it weighs
 abbrev pub part_weight : {N : Type 0} → (N → ℕ) → (ℕ → ℕ) → Turns N → ℕ → ℕ
 part_weight number weight turns owner =
@@ -40,15 +35,30 @@ AreKnownFor number most turns counts =
     HasEach turns.offer.now.grid.size.nodes (λ r n. (n ≡ most) ⊎ (n ≡ part_weight number (λ _. 1) turns r))
     (map number counts)
 
--- so it is of turns
-pub record HasCounts {N : Type 0} (number : N → ℕ) (most : ℕ) (turns : Turns N) (counts : List N) : Type 0 where
+-- so it is of turns, and these are some of their owners, from one on
+pub record HaveParts {N : Type 0} (number : N → ℕ) (most : ℕ) (turns : Turns N) (counts : List N)
+    (owner size : ℕ) : Type 0 where
   pub are : AreTurns number most turns
   pub known : AreKnownFor number most turns counts
+  pub within : owner + size ≤ turns.offer.now.grid.size.nodes
 
--- so it is, and an owner's part has so many
+-- and of these it is known
+pub record KnowParts {N : Type 0} (number : N → ℕ) (most : ℕ) (turns : Turns N) (counts : List N)
+    (owner size : ℕ) : Type 0 where
+  pub each : (r : ℕ) → owner ≤ r → r < owner + size
+      → marks number counts r ≡ part_weight number (λ _. 1) turns r
+  pub known : AreKnownFor number most turns counts
+
+-- an owner's part has so many
+pub record HasPart {N : Type 0} (number : N → ℕ) (most : ℕ) (turns : Turns N) (owner count : ℕ) : Type 0 where
+  pub are : AreTurns number most turns
+  pub in_nodes : owner < turns.offer.now.grid.size.nodes
+  pub its : count ≡ part_weight number (λ _. 1) turns owner
+
+-- so it is, or the parts of some owners have so many, and it is known as before
 pub record KnowsPart {N : Type 0} (number : N → ℕ) (most : ℕ) (turns : Turns N) (known : List N)
-    (owner many : ℕ) : Type 0 where
-  pub count : many ≡ part_weight number (λ _. 1) turns owner
+    (part many : ℕ) : Type 0 where
+  pub count : many ≡ part
   pub counts : AreKnownFor number most turns known
 
 -- the owner whose turn it is
@@ -65,15 +75,19 @@ pub record AreSharedBy {N : Type 0} (number : N → ℕ) (turns : Turns N) (mark
 -- owners whose turn has come have the far mark, and the others the near one
 pub record HasReached {N : Type 0} (number : N → ℕ) (turns : Turns N) (mark : List N) (reached : Reached) : Type 0 where
   pub size : length mark ≡ turns.offer.now.grid.size.nodes
-  pub passed : (r : ℕ) → r < turns.offer.now.grid.size.nodes
-      → rotated turns.offer.now.grid.size.nodes turns.rotation r < reached.turn
-      → marks number mark r ≡ marks number turns.level.now.far.items r
-  pub waiting : (r : ℕ) → r < turns.offer.now.grid.size.nodes
-      → reached.turn ≤ rotated turns.offer.now.grid.size.nodes turns.rotation r
-      → marks number mark r ≡ marks number turns.level.now.near.items r
+  pub each : (r : ℕ) → r < turns.offer.now.grid.size.nodes
+      → marks number mark r ≡ (if nat_lt (rotated turns.offer.now.grid.size.nodes turns.rotation r) reached.turn
+      then marks number turns.level.now.far.items r else marks number turns.level.now.near.items r)
   pub left : weight_on turns.first number turns.offer.now (marks number mark) + reached.left
       ≡ amount_of turns.offer.now.budget
   pub count : reached.sent ≡ count_on turns.first number turns.offer.now (marks number mark)
+
+-- turns, how many numbers their parts have, as far as that is known, and what marks have reached
+pub record ArePassing {N : Type 0} (number : N → ℕ) (most : ℕ) (turns : Turns N) (counts mark : List N)
+    (reached : Reached) : Type 0 where
+  pub are : AreTurns number most turns
+  pub known : AreKnownFor number most turns counts
+  pub so_far : HasReached number turns mark reached
 
 -- what is reached once so many owners more, from one on, have the far mark
 abbrev pub reached_after : {N : Type 0} → (N → ℕ) → Turns N → Reached → ℕ → ℕ → Reached
@@ -84,9 +98,10 @@ reached_after number turns reached owner size = record {
 }
 
 -- so many owners, from one on, are next, one after another; entries are counted, and the parts of all fit
-pub record HaveTurns {N : Type 0} (number : N → ℕ) (most : ℕ) (turns : Turns N) (reached : Reached)
+pub record HaveTurns {N : Type 0} (number : N → ℕ) (most : ℕ) (turns : Turns N) (mark : List N) (reached : Reached)
     (several : Several) : Type 0 where
   pub are : AreTurns number most turns
+  pub so_far : HasReached number turns mark reached
   pub entries : ℕ
   pub counted : turns.offer.now.budget ≡ Entries entries
   pub in_nodes : several.owner + several.size ≤ turns.offer.now.grid.size.nodes
@@ -95,3 +110,9 @@ pub record HaveTurns {N : Type 0} (number : N → ℕ) (most : ℕ) (turns : Tur
       → rotated turns.offer.now.grid.size.nodes turns.rotation (several.owner + i) ≡ reached.turn + i
   pub sum : several.count ≡ parts_count number turns several.owner several.size
   pub fits : several.count ≤ reached.left
+
+-- and then have had their turns
+pub record HadTurns {N : Type 0} (number : N → ℕ) (turns : Turns N) (mark : List N) (reached : Reached)
+    (to : ℕ) : Type 0 where
+  pub so_far : HasReached number turns mark reached
+  pub turn : reached.turn ≡ to

@@ -4,11 +4,11 @@
 ghost use Rattle.std.specs.Prelude.{◌≡◌, ℕ, ◌+◌, ◌-◌, ◌<◌, ◌≤◌};
 ghost use Rattle.delta_plans.specs.Granted.{IfGranted};
 ghost use Rattle.delta_plans.specs.Firsts.{by_first};
-ghost use Rattle.delta_plans.specs.OfferInMemory.{marks, weights_in};
-ghost use Rattle.delta_plans.specs.Turns.{part_weight, parts_count, AreKnownFor, AreSharedBy, AreTurns, HasCounts, HasReached, HasTurn, HaveTurns, IsOwnerOfTurn, KnowsPart};
+ghost use Rattle.delta_plans.specs.OfferInMemory.{weights_in};
+ghost use Rattle.delta_plans.specs.Turns.{part_weight, parts_count, ArePassing, AreSharedBy, AreTurns, HadTurns, HasPart, HaveParts, HaveTurns, IsOwnerOfTurn, KnowParts, KnowsPart};
 
 use crate::marked::First;
-use crate::offers::{Level, Offer, Share, number_at};
+use crate::offers::{Level, Offer, Step, number_at};
 use crate::stops::Part;
 use bench_types::{Budget, Fault};
 use planes::{Number, all_of, count_some_between};
@@ -67,8 +67,7 @@ pub(crate) fn by_first<'a, N: Number>(first: First, oldest: &'a [N], newest: &'a
 
 impl<'a, 'b, N: Number> Turns<'a, 'b, N> {
     fn weight_of_part(&self, owner: usize, count: u32) -> u32
-        requires turn { HasTurn N.number N.most self.now owner }
-        requires count { count ≡ part_weight N.number (λ _. 1) self.now owner }
+        requires { HasPart N.number N.most self.now owner count }
         ensures { result ≡ part_weight N.number (weights_in self.now.offer.now owner) self.now owner }
     {
         match self.offer.budget {
@@ -89,11 +88,8 @@ impl<'a, 'b, N: Number> Turns<'a, 'b, N> {
     // needs it.
     #[inline(never)]
     fn count_parts(&self, counts: &mut [N], owner: usize, size: usize)
-        requires counts { HasCounts N.number N.most self.now counts.old }
-        requires within { owner + size ≤ self.now.offer.now.grid.size.nodes }
-        ensures each { (r : ℕ) → owner ≤ r → r < owner + size
-            → marks N.number counts.new r ≡ part_weight N.number (λ _. 1) self.now r }
-        ensures counts { AreKnownFor N.number N.most self.now counts.new }
+        requires { HaveParts N.number N.most self.now counts.old owner size }
+        ensures { KnowParts N.number N.most self.now counts.new owner size }
     {
         let offer = self.offer;
         let some = &mut counts[owner..owner + size];
@@ -106,9 +102,8 @@ impl<'a, 'b, N: Number> Turns<'a, 'b, N> {
 
     // How many numbers an owner's part has. Where that isn't known, parts are counted from this owner on.
     fn count_of_part(&self, counts: &mut [N], owner: usize) -> u32
-        requires turn { HasTurn N.number N.most self.now owner }
-        requires counts { AreKnownFor N.number N.most self.now counts.old }
-        ensures { KnowsPart N.number N.most self.now counts.new owner result }
+        requires { HaveParts N.number N.most self.now counts.old owner 1 }
+        ensures { KnowsPart N.number N.most self.now counts.new (part_weight N.number (λ _. 1) self.now owner) result }
     {
         let known = number_at(counts, owner);
         if N::greatest().is_above(known) {
@@ -121,10 +116,8 @@ impl<'a, 'b, N: Number> Turns<'a, 'b, N> {
 
     // How many numbers the parts of some owners have, from an owner on.
     fn count_of_parts(&self, counts: &mut [N], owner: usize, size: usize) -> u32
-        requires counts { HasCounts N.number N.most self.now counts.old }
-        requires within { owner + size ≤ self.now.offer.now.grid.size.nodes }
-        ensures count { result ≡ parts_count N.number self.now owner size }
-        ensures counts { AreKnownFor N.number N.most self.now counts.new }
+        requires { HaveParts N.number N.most self.now counts.old owner size }
+        ensures { KnowsPart N.number N.most self.now counts.new (parts_count N.number self.now owner size) result }
     {
         self.count_parts(counts, owner, size);
         let mut count = 0;
@@ -136,10 +129,8 @@ impl<'a, 'b, N: Number> Turns<'a, 'b, N> {
 
     // Gives some owners, from an owner on, the far mark.
     fn pass_some(&self, mark: &mut [N], reached: Reached, several: Several) -> Reached
-        requires turns { HaveTurns N.number N.most self.now reached several }
-        requires reached { HasReached N.number self.now mark.old reached }
-        ensures reached { HasReached N.number self.now mark.new result }
-        ensures turn { result.turn ≡ reached.turn + several.size }
+        requires { HaveTurns N.number N.most self.now mark.old reached several }
+        ensures { HadTurns N.number self.now mark.new result (reached.turn + several.size) }
     {
         let Several { owner, size, count } = several;
         let all: &[N] = &self.level.far;
@@ -157,10 +148,8 @@ impl<'a, 'b, N: Number> Turns<'a, 'b, N> {
     // Gives the owners in turn the far mark, many at a time, as long as entries are counted and the parts of all of
     // these fit.
     fn pass_many(&self, counts: &mut [N], mark: &mut [N], start: Reached) -> Reached
-        requires counts { HasCounts N.number N.most self.now counts.old }
-        requires start { HasReached N.number self.now mark.old start }
-        ensures reached { HasReached N.number self.now mark.new result }
-        ensures counts { AreKnownFor N.number N.most self.now counts.new }
+        requires { ArePassing N.number N.most self.now counts.old mark.old start }
+        ensures { ArePassing N.number N.most self.now counts.new mark.new result }
     {
         let mut reached = start;
         if let Budget::Entries(_) = self.offer.budget {
@@ -181,7 +170,7 @@ impl<'a, 'b, N: Number> Turns<'a, 'b, N> {
     // Gives the owners in turn the far mark as long as their parts fit, and the first whose part doesn't the mark where
     // that stops. Answers how many numbers these marks let through.
     fn share_into(&self, counts: &mut [N], mark: &mut [N]) -> u32
-        requires counts { HasCounts N.number N.most self.now counts.old }
+        requires counts { HaveParts N.number N.most self.now counts.old 0 self.now.offer.now.grid.size.nodes }
         requires mark { mark.old ≡ self.now.level.now.near.items }
         ensures { AreSharedBy N.number self.now mark.new result }
     {
@@ -219,13 +208,13 @@ impl<'a, 'b, N: Number> Turns<'a, 'b, N> {
     }
 
     /// What of the levels and of the one that doesn't fit is sent.
-    pub(crate) fn share(&self, alloc: Global) -> Result<Share<N>, Fault>
+    pub(crate) fn share(&self, alloc: Global) -> Result<Step<N>, Fault>
         requires turns { AreTurns N.number N.most self.now }
-        ensures { IfGranted result (λ s. AreSharedBy N.number self.now s.mark.items s.sent) }
+        ensures { IfGranted result (λ s. AreSharedBy N.number self.now s.marks.items s.more) }
     {
         let mut counts = all_of(alloc, self.offer.grid.size.nodes, N::greatest())?;
-        let mut mark = Vec::from_slice(alloc, &self.level.near)?;
-        let sent = self.share_into(&mut counts, &mut mark);
-        Ok(Share { mark, sent })
+        let mut marks = Vec::from_slice(alloc, &self.level.near)?;
+        let more = self.share_into(&mut counts, &mut marks);
+        Ok(Step { marks, more })
     }
 }

@@ -1,13 +1,12 @@
 //! An owner's part of a level, candidate by candidate up to the first that doesn't fit.
 
-ghost use Rattle.std.specs.Prelude.{◌+◌, ◌-◌, ◌<◌, ◌≤◌};
+ghost use Rattle.std.specs.Prelude.{◌<◌, ◌≤◌};
 ghost use Rattle.delta_plans.specs.OfferInMemory.{cells_in, weights_in};
-ghost use Rattle.delta_plans.specs.Stops.{HasNext, IsNearest, IsNext, IsPart, IsPast, IsStopFrom};
-ghost use Rattle.delta_plans.specs.Weights.{weight_from};
+ghost use Rattle.delta_plans.specs.Stops.{HasNextOf, IsNearest, IsNext, IsPart, IsPast, IsStopFrom, IsTooHeavy};
 
 use crate::marked::First;
-use crate::offers::{Offer, pick};
-use planes::Number;
+use crate::offers::Offer;
+use planes::{Number, pick};
 
 /// The mark where an owner's part stops, and how many numbers it lets through of it.
 #[derive(Clone, Copy)]
@@ -41,9 +40,7 @@ impl<'a, 'b, N: Number> Part<'a, 'b, N> {
 
     // Of those between a near mark and the far one the least, or from the newest on the greatest.
     fn next(&self, near: N) -> N
-        requires part { IsPart N.number N.most self.now }
-        requires some { HasNext self.now.first (cells_in N.number self.now.offer.now) self.now.offer.now.grid.size.keys
-            self.now.owner (N.number near) (N.number self.now.far) }
+        requires { HasNextOf N.number N.most self.now (N.number near) }
         ensures { IsNext self.now.first (cells_in N.number self.now.offer.now) self.now.offer.now.grid.size.keys
             self.now.owner (N.number near) (N.number self.now.far) (N.number result) }
     {
@@ -59,10 +56,7 @@ impl<'a, 'b, N: Number> Part<'a, 'b, N> {
 
     /// One after another from a near mark on, as long as they fit.
     pub(crate) fn stop_from(&self, near: N, room: u32) -> Stop<N>
-        requires part { IsPart N.number N.most self.now }
-        requires beyond { room < weight_from self.now.first (weights_in self.now.offer.now self.now.owner)
-            (cells_in N.number self.now.offer.now) self.now.offer.now.grid.size.keys self.now.owner
-            (N.number near) (N.number self.now.far) }
+        requires { IsTooHeavy N.number N.most self.now (N.number near) room }
         ensures { IsStopFrom self.now.first (weights_in self.now.offer.now self.now.owner)
             (cells_in N.number self.now.offer.now) self.now.offer.now.grid.size.keys self.now.owner
             (N.number near) (N.number self.now.far) room (N.number result.mark) result.sent }

@@ -14,7 +14,7 @@ loop-owner-preserved g c =
     let next = weight-next (weights_in self) cells owner self.grid.size.keys low high in
     elim c.if-is_above.branch [
       | then-is_above+in_ok-left w ↦
-          let weight = w.weight_of-weight.ensures.weight ∙ (λ i. weight_of (weights_in self owner) cells self.grid.size.keys owner (c.number_at-from.ensures i) (c.number_at-to.ensures i)) in
+          let weight = w.weight_of-weight.ensures ∙ (λ i. weight_of (weights_in self owner) cells self.grid.size.keys owner (c.number_at-from.ensures i) (c.number_at-to.ensures i)) in
           record { left = omega (arith, next, weight, c.loop-owner.invariant.left, w.in_ok-left.ensures.0, w.in_ok-left.ensures.1, w.left-is) }
       | else-is_above w ↦
           let le = ltb-false (low owner) (high owner) ((λ i. ltb (sym c.number_at-from.ensures i) (sym c.number_at-to.ensures i)) ∙ sym c.is_above.ensures ∙ w.if-is_above.false) in
@@ -25,7 +25,7 @@ pub returns-in_err-left : goal.returns-in_err-left
 returns-in_err-left g c =
     let number = g.N.Number.number in
     let self = c.args.self.now in
-    let weight = c.weight_of-weight.ensures.weight ∙ (λ i. weight_of (weights_in self c.loop-owner.owner) (cells_in number self) self.grid.size.keys c.loop-owner.owner (c.number_at-from.ensures i) (c.number_at-to.ensures i)) in
+    let weight = c.weight_of-weight.ensures ∙ (λ i. weight_of (weights_in self c.loop-owner.owner) (cells_in number self) self.grid.size.keys c.loop-owner.owner (c.number_at-from.ensures i) (c.number_at-to.ensures i)) in
     let more = sum_below-longer (λ r. weight_of (weights_in self r) (cells_in number self) self.grid.size.keys r (marks number c.args.low.now r) (marks number c.args.high.now r)) (suc c.loop-owner.owner) self.grid.size.nodes (omega (arith, c.loop-owner-test.true)) in
     subst (IsLeftOf c.args.room (weight_in number self (marks number c.args.low.now) (marks number c.args.high.now))) (sym c.from_residual.ensures)
     (λ fits. c.in_err-left.ensures (omega (arith, fits, more, weight, c.loop-owner.invariant.left)))

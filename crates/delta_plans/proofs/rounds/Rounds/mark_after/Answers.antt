@@ -1,4 +1,4 @@
-use Rattle.delta_plans.proofs.Common.{◌≡◌, length, map, max, get_or, ap, sym, subst, ◌∙◌, arith, with_items, length-map, with_items_is, made-as, HasEach, marks, round_at, end_mark}
+use Rattle.delta_plans.proofs.Common.{◌≡◌, length, map, max, get_or, ap, sym, subst, ◌∙◌, arith, with_items, length-map, with_items_is, made-as, HasEach, marks, by_first, ◌-◌, end_mark}
 use Rattle.delta_plans.proofs.rounds.Rounds.mark_after.Goals as goal
 use Rattle.delta_plans.proofs.rounds.Rounds.mark_after.Goals.{in-Oldest, in-Newest}
 
@@ -16,10 +16,10 @@ returns g c =
     let ends = map number c.args.self.now.ends.numbers.now in
     let low = marks number offer.low.now in
     let start = c.deref_mut.ensures.value ∙ c.in_ok-mark.ensures.items in
-    let round : c.match-self.round ≡ round_at c.args.self.now.first c.args.self.now.ends.rounds c.args.count =
+    let round : c.match-self.round ≡ by_first c.args.self.now.first c.args.count (c.args.self.now.ends.rounds - c.args.count) =
     elim c.match-self.branch [
-      | in-Newest w ↦ w.round-is ∙ (λ i. round_at (sym w.in-Newest.is i) c.args.self.now.ends.rounds c.args.count)
-      | in-Oldest w ↦ w.round-is ∙ (λ i. round_at (sym w.in-Oldest.is i) c.args.self.now.ends.rounds c.args.count)
+      | in-Newest w ↦ w.round-is ∙ (λ i. by_first (sym w.in-Newest.is i) c.args.count (c.args.self.now.ends.rounds - c.args.count))
+      | in-Oldest w ↦ w.round-is ∙ (λ i. by_first (sym w.in-Oldest.is i) c.args.count (c.args.self.now.ends.rounds - c.args.count))
     ]
     in
     let whole = with_items_is c.in_ok-mark.mark c.change.new.numbers (c.change.auto.numbers ∙ c.deref_mut.ensures.len) in (

@@ -21,7 +21,7 @@ returns g c =
     let old = c.args.counts.now in
     let new = c.count_some_between.new.counts in
     let size = owner + c.args.size - owner in
-    let within : owner + size ≤ length old = omega (arith, c.requires.within, c.requires.counts.known.size, length-map old number) in
+    let within : owner + size ≤ length old = omega (arith, c.requires.within, c.requires.known.size, length-map old number) in
     let sized : length new ≡ size = c.count_some_between.auto.counts ∙ length-take-le size (drop owner old) (omega (arith, within, length-drop owner old)) in
     let parts =
     counted number (cells_in number offer) offer.grid.size.keys (length (take size (drop owner old))) owner turns.first turns.level.now.near.items turns.level.now.far.items (map number new)
@@ -38,5 +38,5 @@ returns g c =
           let inside : r - owner < size = omega (arith, from, upto) in
           subst (λ j. get_or (map number (put_mid owner size old new)) j 0 ≡ part_weight number (λ _. 1) turns j) {x = owner + (r - owner)} {y = r} (omega (arith, from))
           (part-here number owner size old new within sized (r - owner) inside ∙ here (r - owner) inside);
-      counts = part-written number owner size old new within sized offer.grid.size.nodes _ c.requires.counts.known (λ r lt. inr (here r lt));
+      known = part-written number owner size old new within sized offer.grid.size.nodes _ c.requires.known (λ r lt. inr (here r lt));
     }

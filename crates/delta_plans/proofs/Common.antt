@@ -1,6 +1,6 @@
 -- The names of other libraries that these proofs cite, passed on from one place. Declares nothing.
 -- Serves most of the crate and `version_tables`.
-pub use Rattle.std.proofs.Common.{Bool, Fits, List, None, Option, Some, Vec, [], ap, arith, cond, drop, eqb, false, get_or, if◌then◌else◌, inl, inr, leb, length, ltb, map, max, min, nat_lt, not, refl, rules, set, slice_index, subst, suc, sym, take, true, w32, zero, ℕ, ◌*◌, ◌++◌, ◌+◌, ◌-◌, ◌<◌, ◌∙◌, ◌∷◌, ◌≡◌, ◌≢◌, ◌≤◌, ◌⊎◌}
+pub use Rattle.std.proofs.Common.{◌/◌, Bool, Fits, List, None, Option, Some, Vec, [], ap, arith, cond, drop, eqb, false, get_or, if◌then◌else◌, inl, inr, leb, length, ltb, map, max, min, nat_lt, not, refl, rules, set, slice_index, subst, suc, sym, take, true, w32, zero, ℕ, ◌*◌, ◌++◌, ◌+◌, ◌-◌, ◌<◌, ◌∙◌, ◌∷◌, ◌≡◌, ◌≢◌, ◌≤◌, ◌⊎◌}
 pub use Rattle.std.proofs.Math.Nat.{mul-le-mul_left, mul-le-mul_right}
 pub use Rattle.std.proofs.Math.Path.{transport}
 pub use Rattle.std.proofs.lemmas.Bool.{and_parts, both_ways, cases_eq, cases_lt, eqb-true, le-leb, le-ltb, lt-leb, lt-ltb, ltb-false, ltb-true}
@@ -46,24 +46,21 @@ pub use Rattle.model.specs.inner.Applied.{items_at, stands_at}
 pub use Rattle.owner_writes.proofs.Numbers.{number-of_version, numbered-some, versions-rise, write_from-at}
 pub use Rattle.owner_writes.specs.Numbered.{IsHistory, start_before, start_of}
 pub use Rattle.planes.proofs.Counts.{count_le, number_next, one_le, sum_next, sum_whole}
-pub use Rattle.planes.proofs.Elementwise.{changed_all, changed_none, made-as, number-at, written_next}
+pub use Rattle.planes.proofs.Elementwise.{changed_all, changed_none, made-as, number-at, number-waits, written_next}
 pub use Rattle.planes.proofs.Places.{each-next, part-here, part-written}
 pub use Rattle.planes.specs.Elementwise.{AreChanged, AreChangedUpto}
 pub use Rattle.planes.specs.Planes.{Cells, HasEach, HasNoneAbove, IsLeastAbove, IsNextAbove, cell, count_above, count_between, total_of}
 pub use Rattle.delta_plans.specs.Granted.{IfGranted}
-pub use Rattle.delta_plans.specs.Firsts.{by_first, comes_first, item_number}
-pub use Rattle.delta_plans.specs.Grids.{number_here, number_there, sum_over}
-pub use Rattle.delta_plans.specs.LevelMarks.{AreLevelMarks, NumbersDiffer, first_level, first_sent, level_number, lets_through, rank_above, round_of}
+pub use Rattle.delta_plans.specs.LevelMarks.{by_first, comes_first, item_number, AreLevelMarks, NumbersDiffer, first_level, first_sent, level_number, lets_through, rank_above, round_of}
+pub use Rattle.delta_plans.specs.Offers.{number_here, number_there, sum_over, AreSent, Offers, is_lacked, offered_sum, told_by, told_number}
 pub use Rattle.delta_plans.specs.Marked.{AreMarked, IsLevelOf, KeepsLow}
 pub use Rattle.delta_plans.specs.OfferInMemory.{AreCounted, IsLeftOf, IsOffer, cells_in, count_in, high_in, low_in, marks, owner_count_in, weight_in, weights_in}
-pub use Rattle.delta_plans.specs.Offers.{AreSent, Offers, is_lacked, offered_sum, told_by, told_number}
 pub use Rattle.delta_plans.specs.Plans.{AreFarther, AreMarksFrom, AreNextRuns, AreRunsFrom, IsLevel, IsLevelBy, IsNextLayer, IsNextMark, IsStep, count_on, weight_on}
 pub use Rattle.delta_plans.specs.RoundLevels.{AreFewAndEnough, AreRaised, AreRoundMarks, HasRounds, IsFound, IsLevelOfRounds, end_mark, mark_of_rounds}
 pub use Rattle.delta_plans.specs.SentSets.{DeltasHaveTheirSets, HasSet, IsKeptOut, IsSentSet, size_in}
-pub use Rattle.delta_plans.specs.Sharing.{AreShared, StopAt, StopsBefore}
+pub use Rattle.delta_plans.specs.Turns.{AreShared, StopAt, StopsBefore, AreKnownFor, ArePassing, AreSharedBy, AreTurns, HadTurns, HasPart, HasReached, HaveParts, HaveTurns, KnowParts, KnowsPart, part_weight, parts_count}
 pub use Rattle.delta_plans.specs.Stops.{AnswersNearer, HasBetween, HasNext, IsBeyond, IsNext, IsOn, IsPast, IsStopFrom, nearer_beyond}
 pub use Rattle.delta_plans.specs.Told.{IsKnown}
-pub use Rattle.delta_plans.specs.Turns.{AreKnownFor, ArePassing, AreSharedBy, AreTurns, HadTurns, HasPart, HasReached, HaveParts, HaveTurns, KnowParts, KnowsPart, part_weight, parts_count}
 pub use Rattle.delta_plans.specs.Weights.{count_all_between, number_share, number_shares, one_each, share_or_none, weight_between, weight_from, weight_of, weight_through}
 pub use Rattle.delta_plans.specs.declared.marked.First.{First}
 pub use Rattle.delta_plans.specs.declared.marked.First.TheVariants.{Newest, Oldest}

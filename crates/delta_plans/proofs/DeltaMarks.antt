@@ -153,7 +153,8 @@ module _ {mode : Mode} {from to : Table} {lists : ℕ → List Entry} {cells : C
           other (rotated-injective from.nodes rotation c.owner stop.owner in_nodes (place c in_c).owner_below stop.owner_below e) in
           ap (λ r. lets_through first r m) (stop.others c.owner (place c in_c).owner_below other)
           ∙ elim (ltb (turn c.owner) (turn stop.owner)) as
-          (λ b. lets_through first (cond b (far c.owner) (near c.owner)) m ≡ cond b (lets mode cells far c) (lets mode cells near c)) [ true ↦ refl | false ↦ refl ]
+          (λ b. lets_through first (cond b (far c.owner) (near c.owner)) m ≡ cond b (lets mode cells far c) (lets mode cells near c))
+          [ true ↦ refl | false ↦ refl ]
           ∙ ap (λ b. cond b (lets mode cells far c) (lets mode cells near c)) (sym (turn-lt (turn c.owner) (turn stop.owner) versions apart))
           ∙ sym (order-tells c in_c)
     ]

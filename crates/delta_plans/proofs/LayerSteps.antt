@@ -1,11 +1,10 @@
 -- Layers of an offer, gone over as long as they fit.
 -- Serves `breadth` and `one_more`.
 use Rattle.delta_plans.proofs.Common.{◌≡◌, ℕ, ◌+◌, ◌-◌, ◌<◌, ◌≤◌, cond, leb, ltb, List, length, get_or, map, inl, inr, refl, Some, Vec, Global, sym, ap, ◌∙◌, subst, arith, nat_tests, cases_lt, le-leb, lt-leb, lt-ltb, le-ltb, length-map, amount_of, Cells, count_between, HasEach, HasNoneAbove, IsNextAbove, IsLeastAbove, AreChanged, sum_below, sum_below-same, NumbersDiffer, Oldest, Offer, Level, Step, cells_in, low_in, high_in, marks, weights_in, weight_in, count_in, IsLeftOf, IsOffer, IsNextLayer, IsNextMark, AreLevelMarks, rank_above}
-use Rattle.delta_plans.proofs.Sums.{sum_below-each_none}
+use Rattle.delta_plans.proofs.WeightLaws.{part, sum_below-each_none, weight_of-all, weight_of-none, weight_of-split}
 use Rattle.delta_plans.proofs.LevelSteps.{IsLevelSoFar, level-first, level-left, level-next}
 use Rattle.delta_plans.proofs.Nodes.{step-each, step-is}
 use Rattle.delta_plans.proofs.StopSteps.{from-one}
-use Rattle.delta_plans.proofs.WeightLaws.{part, weight_of-none, weight_of-split, weight_of-all}
 
 -- a mark that lets through an owner's first so many numbers above another, or all where there are no more
 pub record IsLayerMark (cells : Cells) (keys owner low layers mark : ℕ) : Type 0 where

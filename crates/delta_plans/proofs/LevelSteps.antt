@@ -1,8 +1,7 @@
 -- Levels of an offer, gone over as long as they fit.
 -- Serves `breadth`, `depth`, `LayerSteps` and `RunSteps`.
 use Rattle.delta_plans.proofs.Common.{◌≡◌, ℕ, ◌+◌, ◌*◌, ◌<◌, ◌≤◌, inl, inr, List, length, Option, Some, None, Vec, Global, sym, ap, ◌∙◌, subst, transport, arith, cases_lt, sum_below-same, sum_below-plus, sum_below-le, amount_of, MOST_NODES, MOST_KEYS, Offer, Level, Step, Oldest, cells_in, low_in, high_in, marks, weights_in, weight_in, count_in, AreCounted, IsLeftOf, IsOffer, one_each, weight_between, IsLevel, AreFarther, IsStep}
-use Rattle.delta_plans.proofs.OfferWeights.{offer-few, offer-weighs_none, offer-counts_none}
-use Rattle.delta_plans.proofs.WeightLaws.{weight_of-split, weight_of-upto}
+use Rattle.delta_plans.proofs.WeightLaws.{offer-counts_none, offer-few, offer-weighs_none, weight_of-split, weight_of-upto}
 
 -- levels as far as they were gone over, the oldest first: near marks, up to which all fit, and far marks, with so many
 -- numbers more

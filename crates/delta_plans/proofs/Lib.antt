@@ -1,13 +1,10 @@
 pub mod SentSets
-pub mod Sums
-pub mod Grids
 pub mod Candidates
 pub mod MarkedLaws
 pub mod RoundMarks
 pub mod Starts
 pub mod DeltaMarks
 pub mod WeightLaws
-pub mod OfferWeights
 pub mod LevelSteps
 pub mod LayerSteps
 pub mod RunSteps

@@ -1,8 +1,10 @@
 -- Nodes' numbers changed one after another, of which some are counted.
--- Serves `next_runs` and `one_more`.
-use Rattle.delta_plans.proofs.Common.{◌≡◌, ℕ, zero, suc, ◌+◌, ◌*◌, ◌<◌, ◌≤◌, Bool, cond, List, length, get_or, set, map, refl, sym, ap, ◌∙◌, arith, Fits, w32, length-map, MOST_NODES, sum_below, sum_below-same, AreChanged, AreChangedUpto, count_between, Offer, Step, cells_in, marks, IsStep, one_le, count_le, sum_next, sum_whole, changed_none, changed_all, written_next}
+-- Serves `next_runs`, `one_more`, `LayerSteps` and `RunSteps`.
+use Rattle.delta_plans.proofs.Common.{◌≡◌, ℕ, ◌+◌, ◌*◌, ◌<◌, ◌≤◌, Bool, cond, List, length, get_or, set, map, refl, sym, ap, ◌∙◌, arith, Fits, w32, length-map, MOST_NODES, sum_below, sum_below-same, AreChanged, AreChangedUpto, count_between, Offer, Step, cells_in, marks, IsStep, one_le, count_le, sum_next, sum_whole, changed_none, changed_all, written_next}
+use Rattle.delta_plans.proofs.WeightLaws.{sum_below-scaled}
 
-pub count_fits : (test : ℕ → Bool) (r n count x : ℕ) (b : Bool) → count ≡ sum_below r (λ k. cond (test k) 1 0) → x ≡ cond b 1 0 → r < n → n ≤ MOST_NODES → Fits w32 (count + x)
+pub count_fits : (test : ℕ → Bool) (r n count x : ℕ) (b : Bool) → count ≡ sum_below r (λ k. cond (test k) 1 0) → x ≡ cond b 1 0 → r < n
+    → n ≤ MOST_NODES → Fits w32 (count + x)
 count_fits test r n count x b is now lt most = omega (arith, is, now, one_le b, count_le r test, lt, most)
 
 pub record AreCountedUpto (changed : ℕ → ℕ → ℕ → Type 0) (test : ℕ → Bool) (old new : List ℕ) (bound count : ℕ) : Type 0 where
@@ -27,11 +29,6 @@ module _ {N : Type 0} (changed : ℕ → ℕ → ℕ → Type 0) (test : ℕ →
       changed_all changed (map number old) (map number new) bound so_far.written (omega (arith, le, length-map old number)),
       sum_whole (λ r. cond (test r) 1 0) bound (length old) count so_far.counted le ge,
     )
-
--- so many times a sum
-sum_below-scaled : (n size : ℕ) (f : ℕ → ℕ) → sum_below n (λ i. f i * size) ≡ sum_below n f * size
-sum_below-scaled zero size f = omega arith
-sum_below-scaled (suc n) size f = omega (arith, sum_below-scaled n size f)
 
 -- marks written so are a step, where each that is counted has so many numbers between its old and its new mark
 module _ {N : Type 0} (number : N → ℕ) (offer : Offer N) (near : ℕ → ℕ) (size : ℕ) (changed : ℕ → ℕ → ℕ → Type 0) (test : ℕ → Bool)

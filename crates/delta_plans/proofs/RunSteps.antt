@@ -1,11 +1,9 @@
 -- Runs of an offer, gone over as long as they fit.
 -- Serves `depth` and `next_runs`.
 use Rattle.delta_plans.proofs.Common.{◌≡◌, ℕ, ◌+◌, ◌-◌, ◌*◌, ◌<◌, ◌≤◌, cond, eqb, leb, ltb, List, length, get_or, map, inl, inr, Some, Vec, Global, refl, sym, ap, ◌∙◌, subst, arith, nat_tests, cases_lt, cases_eq, length-map, amount_of, Cells, count_above, count_between, HasNoneAbove, HasEach, AreChanged, sum_below, sum_below-same, MOST_KEYS, Offer, Level, Step, Oldest, Newest, cells_in, low_in, high_in, owner_count_in, marks, weights_in, weight_in, IsLeftOf, IsOffer, AreMarksFrom, AreRunsFrom, AreNextRuns, AreLevelMarks, weight_of}
-use Rattle.delta_plans.proofs.Sums.{where_true, sum_below-none, sum_below-each_none}
+use Rattle.delta_plans.proofs.WeightLaws.{count_between-most, offer-weighs_none, sum_below-each_none, sum_below-none, weight_of-none, where_true}
 use Rattle.delta_plans.proofs.LevelSteps.{IsLevelSoFar, level-first, level-left, level-next}
-use Rattle.delta_plans.proofs.OfferWeights.{offer-weighs_none}
 use Rattle.delta_plans.proofs.Nodes.{step-each, step-is}
-use Rattle.delta_plans.proofs.WeightLaws.{weight_of-none, count_between-most}
 
 module _ (cells : Cells) (keys owner low high : ℕ) (covered : HasNoneAbove cells keys owner high) where
   abbrev above : ℕ
@@ -21,29 +19,26 @@ module _ (cells : Cells) (keys owner low high : ℕ) (covered : HasNoneAbove cel
       let out = sum_below-each_none keys (λ k. where_true (ltb low (cells owner k)) 1) none key lt in grind (arith, nat_tests))
 
   -- one owner's part of the next runs
-  module _ (size near next : ℕ) (some : 0 < size) (longer : near ≡ cond (leb (size + 1) above) high low)
-      (is : next ≡ cond (eqb above size) high near) where
-    run-from : next ≡ cond (leb size above) high low
-    run-from = grind (arith, nat_tests)
-
-    run-rises : near ≤ next
-    run-rises = elim (cases_lt low high) [
-      | inl lt ↦ grind (arith, nat_tests)
-      | inr le ↦ let empty = weight_of-none (λ _. 1) cells keys owner low high (omega (arith, le)) in grind (arith, nat_tests, count-covered)
-    ]
-
-    run-count : where_true (eqb above size) 1 * size ≡ count_between cells keys owner near next
-    run-count = elim (cases_eq above size) [
-      | inl same ↦
-          let from : near ≡ low = grind (arith, nat_tests) in
-          let to : next ≡ high = grind (arith, nat_tests) in
-          let all = (λ i. count_between cells keys owner (from i) (to i)) ∙ count-covered in
-          grind (arith, nat_tests)
-      | inr other ↦
-          let stays : next ≡ near = grind (arith, nat_tests) in
-          let none = weight_of-none (λ _. 1) cells keys owner near next (omega (arith, stays)) in
-          grind (arith, nat_tests)
-    ]
+  run-told : (size near next : ℕ) → 0 < size → near ≡ cond (leb (size + 1) above) high low → next ≡ cond (eqb above size) high near
+      → (near ≤ next) × (where_true (eqb above size) 1 * size ≡ count_between cells keys owner near next) × (next ≡ cond (leb size above) high low)
+  run-told size near next some longer is = elim (cases_eq above size) [
+    | inl same ↦
+        let from : near ≡ low = grind (arith, nat_tests) in
+        let to : next ≡ high = grind (arith, nat_tests) in
+        let all = (λ i. count_between cells keys owner (from i) (to i)) ∙ count-covered in
+        let empty = weight_of-none (λ _. 1) cells keys owner low high in (
+          elim (cases_lt low high) [
+            | inl lt ↦ omega (arith, from, to, lt)
+            | inr le ↦ absurd (omega (arith, empty (omega (arith, le)), count-covered, same, some))
+          ],
+          grind (arith, nat_tests),
+          grind (arith, nat_tests),
+        )
+    | inr other ↦
+        let stays : next ≡ near = grind (arith, nat_tests) in
+        let none = weight_of-none (λ _. 1) cells keys owner near next (omega (arith, stays)) in
+        (omega (arith, stays), grind (arith, nat_tests), grind (arith, nat_tests))
+  ]
 
 -- what a step over the owners' runs writes
 pub next-runs : {N : Type 0} {number : N → ℕ} {most : ℕ} {offer : Offer N} {counts near : List N} {size : ℕ}
@@ -53,13 +48,9 @@ pub next-runs : {N : Type 0} {number : N → ℕ} {most : ℕ} {offer : Offer N}
     × (owners ≡ sum_below (length old) (λ r. cond (eqb (get_or (map number counts) r 0) size) 1 0))
     → AreNextRuns number offer (marks number near) size step
 next-runs {number = number} {offer = offer} {counts} {near} {size} from old new owners step same whole more done = record {
-  is_step = step-is number offer (marks number near) size _ _ old new owners step long whole more done (λ r lt. (
-    run-rises cells keys r (low r) (high r) (covered r lt) size (marks number near r) (marks number step.marks.items r) from.some (from.longer r lt) (told r lt),
-    ap (λ n. where_true (eqb n size) 1 * size) (from.counts_are.each r lt)
-        ∙ run-count cells keys r (low r) (high r) (covered r lt) size (marks number near r) (marks number step.marks.items r) from.some (from.longer r lt) (told r lt),
-  ));
-  next = λ r lt. run-from cells keys r (low r) (high r) (covered r lt) size (marks number near r) (marks number step.marks.items r)
-      from.some (from.longer r lt) (told r lt);
+  is_step = step-is number offer (marks number near) size _ _ old new owners step long whole more done
+      (λ r lt. ((run r lt).0, ap (λ n. where_true (eqb n size) 1 * size) (from.counts_are.each r lt) ∙ (run r lt).1));
+  next = λ r lt. (run r lt).2;
 }
   where
     cells : Cells
@@ -74,9 +65,6 @@ next-runs {number = number} {offer = offer} {counts} {near} {size} from old new 
     high : ℕ → ℕ
     high = high_in number offer
 
-    covered : (r : ℕ) → r < offer.grid.size.nodes → HasNoneAbove cells keys r (high r)
-    covered = from.is_offer.covered
-
     long : length old ≡ offer.grid.size.nodes
     long = ap length same ∙ from.each_near
 
@@ -85,6 +73,12 @@ next-runs {number = number} {offer = offer} {counts} {near} {size} from old new 
     told r lt =
         step-each number offer (marks number near) size _ _ old new owners step long whole more done r lt
         ∙ (λ i. cond (eqb (from.counts_are.each r lt i) size) (high r) (marks number (same i) r))
+
+    run : (r : ℕ) → r < offer.grid.size.nodes → (marks number near r ≤ marks number step.marks.items r)
+        × (where_true (eqb (owner_count_in number offer r) size) 1 * size ≡ count_between cells keys r (marks number near r) (marks number step.marks.items r))
+        × (marks number step.marks.items r ≡ cond (leb size (owner_count_in number offer r)) (high r) (low r))
+    run r lt = run-told cells keys r (low r) (high r) (from.is_offer.covered r lt) size (marks number near r) (marks number step.marks.items r)
+        from.some (from.longer r lt) (told r lt)
 
 -- runs as far as they were gone over: the longer ones fit, and those of this size are next
 pub record HasRuns {N : Type 0} (number : N → ℕ) (most : ℕ) (offer : Offer N) (counts : List N) (level : Level N) (size more : ℕ) : Type 0 where

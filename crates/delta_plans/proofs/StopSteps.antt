@@ -1,17 +1,18 @@
 -- An owner's numbers gone over one after another.
--- Serves `Part::nearest`, `Part::stop_from`, `Turns::share_into` and `TurnSteps`.
+-- Serves `Part::nearest`, `Part::stop_from`, `Turns::share_into`, `LayerSteps` and `TurnSteps`.
 use Rattle.delta_plans.proofs.Common.{◌≡◌, ℕ, zero, suc, ◌+◌, ◌-◌, ◌<◌, ◌≤◌, ◌⊎◌, inl, inr, sym, ap, ◌∙◌, subst, arith, nat_tests, cases_lt, Cells, First, Oldest, Newest, by_first, NumbersDiffer, HasBetween, HasNext, IsBeyond, IsNext, IsOn, IsPast, nearer_beyond, weight_of, weight_from}
-use Rattle.delta_plans.proofs.Sums.{sum_below-one}
-use Rattle.delta_plans.proofs.WeightLaws.{part-cases, weight_of-none, weight_of-split, count_between-most}
+use Rattle.delta_plans.proofs.WeightLaws.{sum_below-one, part-cases, weight_of-none, weight_of-split, count_between-most}
 
 -- a single number of an owner lies between two marks
-weight_of-one : (weight : ℕ → ℕ) (cells : Cells) (keys owner low high key number : ℕ) → key < keys → cells owner key ≡ number → low < number → number ≤ high
+weight_of-one : (weight : ℕ → ℕ) (cells : Cells) (keys owner low high key number : ℕ) → key < keys → cells owner key ≡ number
+    → low < number → number ≤ high
     → ((k : ℕ) → k < keys → low < cells owner k → cells owner k ≤ high → k ≡ key) → weight_of weight cells keys owner low high ≡ weight number
 weight_of-one weight cells keys owner low high key number in_keys is above upto one =
     sum_below-one keys key _ in_keys (λ k lt other. let same = one k lt in grind (arith, nat_tests)) ∙ (let same = ap weight is in grind (arith, nat_tests))
 
 -- where something weighs, there is a number
-pub has-between : (weight : ℕ → ℕ) (cells : Cells) (keys owner low high : ℕ) → 0 < weight_of weight cells keys owner low high → HasBetween cells keys owner low high
+pub has-between : (weight : ℕ → ℕ) (cells : Cells) (keys owner low high : ℕ) → 0 < weight_of weight cells keys owner low high
+    → HasBetween cells keys owner low high
 has-between weight cells zero owner low high some = absurd (omega (arith, some))
 has-between weight cells (suc keys) owner low high some = elim (part-cases weight low high (cells owner keys)) [
   | inl here ↦ record { key = keys; in_keys = omega arith; above = here.0; upto = here.1 }
@@ -39,7 +40,8 @@ module _ (weight : ℕ → ℕ) (cells : Cells) (keys owner : ℕ) where
   pub none-from : (first : First) (near : ℕ) → from first near near ≡ 0
   none-from first near = weight_of-none weight cells keys owner (by_first first near near) (by_first first near near) (omega arith)
 
-  from-split : (first : First) (near mark far : ℕ) → IsOn first near mark → IsOn first mark far → from first near far ≡ from first near mark + from first mark far
+  from-split : (first : First) (near mark far : ℕ) → IsOn first near mark → IsOn first mark far
+      → from first near far ≡ from first near mark + from first mark far
   from-split Oldest near mark far on upto = weight_of-split weight cells keys owner near mark far on upto
   from-split Newest near mark far on upto = omega (arith, weight_of-split weight cells keys owner far mark near upto on)
 
@@ -72,7 +74,8 @@ pub few-from : (cells : Cells) (keys owner : ℕ) (first : First) (near far : �
 few-from cells keys owner first near far = count_between-most cells keys owner (by_first first near far) (by_first first far near)
 
 -- where an owner's part stops, as far as its numbers were gone over: those up to the mark fit, and the next one is known
-pub record IsStopSoFar (first : First) (weight : ℕ → ℕ) (cells : Cells) (keys owner near far room mark number taken left sent : ℕ) : Type 0 where
+pub record IsStopSoFar (first : First) (weight : ℕ → ℕ) (cells : Cells)
+    (keys owner near far room mark number taken left sent : ℕ) : Type 0 where
   pub next : IsNext first cells keys owner mark far number
   pub on : IsOn first near mark
   pub takes : taken ≡ weight number
@@ -81,8 +84,8 @@ pub record IsStopSoFar (first : First) (weight : ℕ → ℕ) (cells : Cells) (k
   pub count : sent ≡ weight_from first (λ _. 1) cells keys owner near mark
 
 module _ {first : First} {weight : ℕ → ℕ} {cells : Cells} {keys owner near far room : ℕ} where
-  pub stop-first : {number taken : ℕ} → IsNext first cells keys owner near far number → taken ≡ weight number → room < weight_from first weight cells keys owner near far
-      → IsStopSoFar first weight cells keys owner near far room near number taken room 0
+  pub stop-first : {number taken : ℕ} → IsNext first cells keys owner near far number → taken ≡ weight number
+      → room < weight_from first weight cells keys owner near far → IsStopSoFar first weight cells keys owner near far room near number taken room 0
   stop-first next takes beyond = record {
     next = next;
     on = on-start first near;
@@ -92,23 +95,25 @@ module _ {first : First} {weight : ℕ → ℕ} {cells : Cells} {keys owner near
     count = sym (none-from (λ _. 1) cells keys owner first near);
   }
 
-  module _ {mark number taken left sent : ℕ} (so_far : IsStopSoFar first weight cells keys owner near far room mark number taken left sent) where
-    module _ (differ : NumbersDiffer cells keys owner) (past : ℕ) (is : IsPast first number past) (fits : taken ≤ left) where
-      past_beyond : left - taken < weight_from first weight cells keys owner past far
-      past_beyond = omega (arith, past-rest weight cells keys owner first mark far number past so_far.next is differ, so_far.beyond, so_far.takes, fits)
+  module _ {mark number taken left sent : ℕ} (so_far : IsStopSoFar first weight cells keys owner near far room mark number taken left sent)
+      (differ : NumbersDiffer cells keys owner) (past : ℕ) (is : IsPast first number past) (fits : taken ≤ left) where
+    past_beyond : left - taken < weight_from first weight cells keys owner past far
+    past_beyond = omega (arith, past-rest weight cells keys owner first mark far number past so_far.next is differ, so_far.beyond, so_far.takes, fits)
 
-      pub stop-more : HasNext first cells keys owner past far
-      stop-more = some-next weight cells keys owner first past far (omega (arith, past_beyond))
+    pub stop-more : HasNext first cells keys owner past far
+    stop-more = some-next weight cells keys owner first past far (omega (arith, past_beyond))
 
-      pub stop-next : {other takes : ℕ} → IsNext first cells keys owner past far other → takes ≡ weight other → IsStopSoFar first weight cells keys owner near far room past other takes (left - taken) (sent + 1)
-      stop-next next weighs = record {
-        next = next;
-        on = on-through first near mark past so_far.on (past-on weight cells keys owner first mark far number past so_far.next is).0;
-        takes = weighs;
-        rest = omega (arith, so_far.rest, past-next weight cells keys owner first mark far number past so_far.next is differ near so_far.on, so_far.takes, fits);
-        beyond = past_beyond;
-        count = ap (λ n. n + 1) so_far.count ∙ sym (past-next (λ _. 1) cells keys owner first mark far number past so_far.next is differ near so_far.on);
-      }
+    pub stop-next : {other takes : ℕ} → IsNext first cells keys owner past far other → takes ≡ weight other
+        → IsStopSoFar first weight cells keys owner near far room past other takes (left - taken) (sent + 1)
+    stop-next next weighs =
+        let more = λ (w : ℕ → ℕ). past-next w cells keys owner first mark far number past so_far.next is differ near so_far.on in record {
+          next = next;
+          on = on-through first near mark past so_far.on (past-on weight cells keys owner first mark far number past so_far.next is).0;
+          takes = weighs;
+          rest = omega (arith, so_far.rest, more weight, so_far.takes, fits);
+          beyond = past_beyond;
+          count = ap (λ n. n + 1) so_far.count ∙ sym (more (λ _. 1));
+        }
 
 -- the nearest of the numbers gone over, or the far mark where none is beyond the near one
 pub record IsNextSoFar (first : First) (cells : Cells) (keys owner near far next : ℕ) : Type 0 where
@@ -118,11 +123,13 @@ pub record IsNextSoFar (first : First) (cells : Cells) (keys owner near far next
 
 -- what the nearer of two numbers is
 nearer-tells : (first : First) (near next number nearer : ℕ) → nearer ≡ nearer_beyond first near next number
-    → IsOn first nearer next × (IsBeyond first near number → IsOn first nearer number) × ((nearer ≡ next) ⊎ ((nearer ≡ number) × IsBeyond first near number))
+    → IsOn first nearer next × (IsBeyond first near number → IsOn first nearer number)
+    × ((nearer ≡ next) ⊎ ((nearer ≡ number) × IsBeyond first near number))
 nearer-tells Oldest near next number nearer is = (grind (arith, nat_tests), (λ over. grind (arith, nat_tests)), grind (arith, nat_tests))
 nearer-tells Newest near next number nearer is = (grind (arith, nat_tests), (λ over. grind (arith, nat_tests)), grind (arith, nat_tests))
 
-pub next-nearer : (first : First) (cells : Cells) (key owner near far next nearer : ℕ) → IsNextSoFar first cells key owner near far next → nearer ≡ nearer_beyond first near next (cells owner key)
+pub next-nearer : (first : First) (cells : Cells) (key owner near far next nearer : ℕ) → IsNextSoFar first cells key owner near far next
+    → nearer ≡ nearer_beyond first near next (cells owner key)
     → IsNextSoFar first cells (key + 1) owner near far nearer
 next-nearer first cells key owner near far next nearer so_far is =
     let tells = nearer-tells first near next (cells owner key) nearer is in
@@ -130,25 +137,27 @@ next-nearer first cells key owner near far next nearer so_far is =
       to_far = on-through first nearer next far tells.0 so_far.to_far;
       nearest = λ k lt over. elim (cases_lt k key) [
         | inl before ↦ on-through first nearer next (cells owner k) tells.0 (so_far.nearest k before over)
-        | inr here ↦ subst (λ j. IsBeyond first near (cells owner j) → IsOn first nearer (cells owner j)) {x = key} {y = k} (omega (arith, lt, here)) tells.1 over
+        | inr here ↦
+            subst (λ j. IsBeyond first near (cells owner j) → IsOn first nearer (cells owner j)) {x = key} {y = k} (omega (arith, lt, here)) tells.1 over
       ];
       held = elim tells.2 [
         | inr here ↦ inr (key, omega arith, sym here.0, subst (IsBeyond first near) (sym here.0) here.1)
-        | inl stays ↦ subst (λ n. (n ≡ far) ⊎ ((k : ℕ) × (k < key + 1) × (cells owner k ≡ n) × IsBeyond first near n)) (sym stays) (elim so_far.held [ inl none ↦ inl none | inr some ↦ inr (some.0, omega (arith, some.1), some.2, some.3) ])
+        | inl stays ↦ subst (λ n. (n ≡ far) ⊎ ((k : ℕ) × (k < key + 1) × (cells owner k ≡ n) × IsBeyond first near n)) (sym stays)
+            (elim so_far.held [ inl none ↦ inl none | inr some ↦ inr (some.0, omega (arith, some.1), some.2, some.3) ])
       ];
     }
 
-pub next-found : (first : First) (cells : Cells) (key keys owner near far next : ℕ) → key ≡ keys → IsNextSoFar first cells key owner near far next → HasNext first cells keys owner near far → IsNext first cells keys owner near far next
-next-found first cells key keys owner near far next all so_far has = found first (subst (λ n. IsNextSoFar first cells n owner near far next) all so_far) has
-  where
-    found : (first : First) → IsNextSoFar first cells keys owner near far next → HasNext first cells keys owner near far → IsNext first cells keys owner near far next
-    found Oldest so_far has = elim so_far.held [
-      | inr some ↦ record { key = some.0; in_keys = some.1; is = some.2; above = some.3; upto = so_far.to_far; nearest = so_far.nearest }
-      | inl all ↦
-          let same : cells owner has.key ≡ next = omega (arith, all, has.upto, so_far.nearest has.key has.in_keys has.above) in
-          record { key = has.key; in_keys = has.in_keys; is = same; above = omega (arith, same, has.above); upto = so_far.to_far; nearest = so_far.nearest }
-    ]
-    found Newest so_far has = elim so_far.held [
-      | inr some ↦ record { key = some.0; in_keys = some.1; is = some.2; above = omega (arith, has.above, so_far.nearest has.key has.in_keys has.upto); upto = some.3; nearest = so_far.nearest }
-      | inl all ↦ absurd (omega (arith, all, has.above, so_far.nearest has.key has.in_keys has.upto))
+pub next-found : (first : First) (cells : Cells) (keys owner near far next : ℕ) → IsNextSoFar first cells keys owner near far next
+    → HasNext first cells keys owner near far → IsNext first cells keys owner near far next
+next-found Oldest cells keys owner near far next so_far has = elim so_far.held [
+  | inr some ↦ record { key = some.0; in_keys = some.1; is = some.2; above = some.3; upto = so_far.to_far; nearest = so_far.nearest }
+  | inl all ↦
+      let same : cells owner has.key ≡ next = omega (arith, all, has.upto, so_far.nearest has.key has.in_keys has.above) in
+      record { key = has.key; in_keys = has.in_keys; is = same; above = omega (arith, same, has.above); upto = so_far.to_far; nearest = so_far.nearest }
+]
+next-found Newest cells keys owner near far next so_far has =
+    let above = so_far.nearest has.key has.in_keys has.upto in
+    elim so_far.held [
+      | inr some ↦ record { key = some.0; in_keys = some.1; is = some.2; above = omega (arith, has.above, above); upto = some.3; nearest = so_far.nearest }
+      | inl all ↦ absurd (omega (arith, all, has.above, above))
     ]

@@ -1,10 +1,8 @@
 -- The owners' turns in a level.
 -- Serves the functions of `rounds` and `sharing` and `RoundMarks`.
-use Rattle.delta_plans.proofs.Common.{◌≡◌, ◌≢◌, ℕ, suc, ◌+◌, ◌-◌, ◌*◌, ◌<◌, ◌≤◌, cond, ltb, List, get_or, set, map, inl, inr, refl, sym, ap, ◌∙◌, subst, transport, arith, nat_tests, get_or-set_same, get_or-set_other, length-map, map-set, Entries, MOST_NODES, MOST_KEYS, MOST_ENTRY_SIZE, cases_eq, all_writes, Cells, HasNoneAbove, sum_below-same, sum_below-plus, rotated, rotated-injective, rotated-is, First, Oldest, Newest, Offer, Reached, Turns, by_first, cells_in, low_in, high_in, marks, weights_in, IsOffer, count_on, AreFarther, StopsBefore, lt-ltb, le-ltb, IsNext, IsOn, IsStopFrom, part_weight, parts_count, AreTurns, HasReached, AreSharedBy, Several, length-set, HasPart, HaveTurns, weight_of, weight_from, weight_through, one_each}
-use Rattle.delta_plans.proofs.Sums.{sum_below-changed, sum_below-longer}
+use Rattle.delta_plans.proofs.Common.{◌≡◌, ◌≢◌, ℕ, suc, ◌+◌, ◌-◌, ◌*◌, ◌<◌, ◌≤◌, cond, ltb, List, get_or, set, map, inl, inr, refl, sym, ap, ◌∙◌, subst, transport, arith, nat_tests, get_or-set_same, get_or-set_other, length-map, map-set, Entries, MOST_NODES, MOST_KEYS, MOST_ENTRY_SIZE, cases_eq, Cells, HasNoneAbove, sum_below-same, sum_below-plus, rotated, rotated-injective, rotated-is, First, Oldest, Newest, Offer, Reached, Turns, by_first, cells_in, low_in, high_in, marks, weights_in, IsOffer, count_on, AreFarther, StopsBefore, lt-ltb, le-ltb, IsNext, IsOn, IsStopFrom, part_weight, parts_count, AreTurns, HasReached, AreSharedBy, Several, length-set, HasPart, HaveTurns, weight_of, weight_from, weight_through, one_each}
+use Rattle.delta_plans.proofs.WeightLaws.{offer-few, owner-entries, owner-most, part, sum_below-changed, sum_below-longer, weight_of-split}
 use Rattle.delta_plans.proofs.StopSteps.{few-from}
-use Rattle.delta_plans.proofs.WeightLaws.{part, weight_of-split, weight_of-same, number_share-one}
-use Rattle.delta_plans.proofs.OfferWeights.{offer-few, owner-most}
 
 -- the weights from a lower mark on and from a higher one, which may be above all numbers
 split-covered : (weight : ℕ → ℕ) (cells : Cells) (keys owner low mark high : ℕ) → low ≤ mark → HasNoneAbove cells keys owner high
@@ -123,8 +121,8 @@ module _ {N : Type 0} {number : N → ℕ} {most : ℕ} {turns : Turns N} (are :
           ≡ weight_through turns.first weights cells nodes keys low high (marks number mark)
           + weight_from turns.first (weights owner) cells keys owner (near owner) (number to)
       grown ordered weights =
-          through-changed weights cells nodes keys low high (marks number mark) next owner in_nodes (λ r lt. others r) turns.first (are.offer.covered owner in_nodes)
-          (transport (λ i. AreFarther turns.first (low owner) (sym waits i) (sym here i)) ordered)
+          through-changed weights cells nodes keys low high (marks number mark) next owner in_nodes (λ r lt. others r) turns.first
+          (are.offer.covered owner in_nodes) (transport (λ i. AreFarther turns.first (low owner) (sym waits i) (sym here i)) ordered)
           ∙ (λ i. weight_through turns.first weights cells nodes keys low high (marks number mark)
           + weight_from turns.first (weights owner) cells keys owner (waits i) (here i))
 
@@ -197,10 +195,7 @@ module _ {N : Type 0} {number : N → ℕ} {most : ℕ} {turns : Turns N} {owner
 
   -- entries that are counted take as much as they are
   pub part-entries : (n : ℕ) → turns.offer.now.budget ≡ Entries n → count ≡ part_weight number (weights_in turns.offer.now owner) turns owner
-  part-entries n counted = has.its
-      ∙ weight_of-same (λ _. 1) (weights_in turns.offer.now owner) (cells_in number turns.offer.now) turns.offer.now.grid.size.keys owner from upto
-      (λ key in_keys above _. sym (number_share-one turns.offer.now.budget n (all_writes turns.offer.now.lists.now owner) (cells_in number turns.offer.now owner key) counted
-      (omega (arith, above)) (has.are.offer.written owner key has.in_nodes in_keys)))
+  part-entries n counted = has.its ∙ sym (owner-entries has.are.offer n counted owner has.in_nodes from upto)
 
   -- a part without numbers weighs nothing
   pub part-none : count ≡ 0 → 0 ≡ part_weight number (weights_in turns.offer.now owner) turns owner

@@ -9,7 +9,21 @@ use Rattle.bench_types.specs.declared.exchanges.Mode.{Mode}
 use Rattle.bench_types.specs.declared.exchanges.Mode.TheVariants.{ScuttleBreadth, ScuttleDepth, PreciseOldest, PreciseNewest}
 use Rattle.model.specs.calls.Numbers.{write_numbered}
 use Rattle.planes.specs.Planes.{Cells, count_above}
-use Rattle.delta_plans.specs.Firsts.{comes_first}
+use Rattle.bench_types.specs.declared.entries.Item.{Item}
+
+-- the number of an item
+abbrev pub item_number : Cells → Item → ℕ
+item_number cells i = cells i.owner i.entry.key
+
+-- of an owner's numbers the lower comes first, or from the newest on the higher
+abbrev pub comes_first : First → ℕ → ℕ → Bool
+comes_first Oldest m n = nat_lt m n
+comes_first Newest m n = nat_lt n m
+
+-- one of two, by what goes first
+abbrev pub by_first : {A : Type 0} → First → A → A → A
+by_first Oldest x y = x
+by_first Newest x y = y
 
 -- which of an owner's candidates of one level a mode sends first
 abbrev pub first_sent : Mode → First

@@ -10,7 +10,7 @@ use Rattle.delta_plans.specs.declared.offers.Offer.{Offer}
 use Rattle.delta_plans.specs.OfferInMemory.{cells_in, low_in, high_in, count_in}
 use Rattle.delta_plans.specs.Plans.{weight_on, count_on, IsLevelBy}
 use Rattle.delta_plans.specs.LevelMarks.{first_level, first_sent, level_number, lets_through, AreLevelMarks}
-use Rattle.delta_plans.specs.Sharing.{AreShared}
+use Rattle.delta_plans.specs.Turns.{AreShared}
 
 -- the level of an owner's number that is offered
 abbrev pub level_in : {N : Type 0} → Mode → (N → ℕ) → Offer N → ℕ → ℕ → ℕ

@@ -12,8 +12,7 @@ use Rattle.owner_writes.specs.Numbered.{AreMadeBy, AreEnds}
 use Rattle.delta_plans.specs.OfferInMemory.{low_in, marks, IsTooLarge}
 use Rattle.delta_plans.specs.Plans.{weight_on, count_on, IsLevelBy}
 use Rattle.model.specs.calls.Numbers.{write_numbered}
-use Rattle.delta_plans.specs.Firsts.{by_first}
-use Rattle.delta_plans.specs.LevelMarks.{round_of}
+use Rattle.delta_plans.specs.LevelMarks.{by_first, round_of}
 
 -- where the rounds end in which all that is offered was written
 pub record AreEndsOf {N : Type 0} (number : N → ℕ) (offer : Offer N) (ends : Ends N) : Type 0 where
@@ -76,4 +75,5 @@ pub record AreFewAndEnough {N : Type 0} (number : N → ℕ) (rounds : Rounds N)
 abbrev pub IsLevelOfRounds : {N : Type 0} → (N → ℕ) → Rounds N → Level N → Type 0
 IsLevelOfRounds number rounds =
     IsLevelBy rounds.first rounds.first
-    (λ owner number. round_of (write_numbered (all_writes rounds.offer.now.lists.now owner) number)) number rounds.offer.now
+    (λ owner number. round_of (write_numbered (all_writes rounds.offer.now.lists.now owner) number)) number
+    rounds.offer.now

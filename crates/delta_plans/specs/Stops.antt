@@ -4,7 +4,7 @@ use Rattle.delta_plans.specs.declared.marked.First.{First}
 use Rattle.delta_plans.specs.declared.marked.First.TheVariants.{Oldest, Newest}
 use Rattle.planes.specs.Planes.{Cells}
 use Rattle.delta_plans.specs.declared.stops.Part.{Part}
-use Rattle.delta_plans.specs.Firsts.{by_first}
+use Rattle.delta_plans.specs.LevelMarks.{by_first}
 use Rattle.delta_plans.specs.OfferInMemory.{cells_in, weights_in, HasOwner}
 use Rattle.delta_plans.specs.Weights.{weight_from}
 

@@ -1,17 +1,49 @@
--- The owners' turns in a level, from the rotation on. Source: this project.
-use Rattle.std.specs.Prelude.{◌≡◌, ◌⊎◌, ℕ, ◌+◌, ◌-◌, ◌<◌, ◌≤◌, nat_lt, List, length, map, if◌then◌else◌}
+-- A level shared out by the owners' turns, from the rotation on. Source: this project.
+use Rattle.std.specs.Prelude.{◌≡◌, ◌⊎◌, ℕ, ◌+◌, ◌-◌, ◌<◌, ◌≤◌, nat_lt, List, length, map, if◌then◌else◌, ◌≢◌, true, false}
 use Rattle.bench_types.specs.Budget.{amount_of}
 use Rattle.bench_types.specs.Sums.{sum_below}
 use Rattle.bench_types.specs.declared.exchanges.Budget.TheVariants.{Entries}
-use Rattle.planes.specs.Planes.{HasEach}
+use Rattle.planes.specs.Planes.{HasEach, Cells}
 use Rattle.model.specs.Order.{rotated}
 use Rattle.delta_plans.specs.declared.sharing.Reached.{Reached}
 use Rattle.delta_plans.specs.declared.sharing.Several.{Several}
 use Rattle.delta_plans.specs.declared.sharing.Turns.{Turns}
-use Rattle.delta_plans.specs.OfferInMemory.{cells_in, marks, IsOffer}
+use Rattle.delta_plans.specs.OfferInMemory.{cells_in, marks, weights_in, IsOffer, low_in}
 use Rattle.delta_plans.specs.Plans.{weight_on, count_on, IsLevel}
-use Rattle.delta_plans.specs.Sharing.{AreShared}
 use Rattle.delta_plans.specs.Weights.{weight_from}
+use Rattle.delta_plans.specs.declared.marked.First.{First}
+use Rattle.delta_plans.specs.declared.offers.Offer.{Offer}
+use Rattle.delta_plans.specs.LevelMarks.{comes_first, lets_through}
+
+-- an owner's mark that lets through what comes before a number, which its far mark lets through and its near one not
+pub record StopsBefore (first : First) (cells : Cells) (keys owner low near far mark next : ℕ) : Type 0 where
+  pub offered : low < next
+  pub above : low ≤ mark
+  pub outside : lets_through first near next ≡ false
+  pub inside : lets_through first far next ≡ true
+  pub own : (k : ℕ) → k < keys → lets_through first mark (cells owner k) ≡ comes_first first (cells owner k) next
+
+-- marks that stop at an owner's number: of the others, those whose turn is before its owner's have the far mark, and
+-- those whose turn is behind it the near one
+pub record StopAt (first : First) (rotation nodes keys : ℕ) (cells : Cells) (low near far mark : ℕ → ℕ) : Type 0 where
+  pub owner : ℕ
+  pub key : ℕ
+  pub owner_below : owner < nodes
+  pub key_below : key < keys
+  pub stops : StopsBefore first cells keys owner (low owner) (near owner) (far owner) (mark owner) (cells owner key)
+  pub others : (r : ℕ) → r < nodes → r ≢ owner
+      → mark r ≡ (if nat_lt (rotated nodes rotation r) (rotated nodes rotation owner) then far r else near r)
+
+-- marks that share out a level: they stop at a number that doesn't fit any more
+pub record AreShared {N : Type 0} (first : First) (rotation : ℕ) (number : N → ℕ) (offer : Offer N)
+    (near far mark : ℕ → ℕ) (sent : ℕ) : Type 0 where
+  pub stop : StopAt first rotation offer.grid.size.nodes offer.grid.size.keys (cells_in number offer)
+      (low_in number offer) near far mark
+  pub above : (r : ℕ) → r < offer.grid.size.nodes → low_in number offer r ≤ mark r
+  pub count : sent ≡ count_on first number offer mark
+  pub within : weight_on first number offer mark ≤ amount_of offer.budget
+  pub beyond : amount_of offer.budget
+      < weight_on first number offer mark + weights_in offer stop.owner (cells_in number offer stop.owner stop.key)
 
 -- a level that doesn't fit, of an offer, that is shared out in turn from a rotation on
 pub record AreTurns {N : Type 0} (number : N → ℕ) (most : ℕ) (turns : Turns N) : Type 0 where

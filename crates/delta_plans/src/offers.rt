@@ -10,7 +10,7 @@ ghost use Rattle.delta_plans.specs.Weights.{weight_of};
 use bench_types::limits::MOST_ENTRY_SIZE;
 use bench_types::{Budget, Entry};
 use owner_writes::{Kept, OwnerWrites};
-use planes::{Grid, Number, is_between};
+use planes::{Grid, Number};
 
 /// The candidates are the cells of each owner above `low`, `found` in all. None is above `high`.
 #[derive(Drop)]
@@ -23,8 +23,8 @@ pub struct Offer<'a, N: Number> {
     pub found: u32,
 }
 
-/// Near marks let through whole levels, `whole` numbers in all, after which so much of the budget is left, and far marks
-/// one level more, which doesn't fit.
+/// Near marks let through whole levels, `whole` numbers in all, after which so much of the budget is left, and far
+/// marks one level more, which doesn't fit.
 #[derive(Drop)]
 pub(crate) struct Level<N: Number> {
     pub(crate) near: Vec<N>,
@@ -110,15 +110,15 @@ impl<'a, N: Number> Offer<'a, N> {
         let mut weight = 0;
         for key in 0..self.grid.size.keys {
             let cell = self.cell_of(owner, key);
-            if is_between(cell, low, high) {
+            if cell.is_above(low) && cell.is_upto(high) {
                 weight += self.weight_of_number(owner, cell);
             }
         }
         weight
     }
 
-    // What is left of so many bytes after all owners' numbers above one mark and up to another, if they fit. It stops at
-    // the first owner whose numbers don't.
+    // What is left of so many bytes after all owners' numbers above one mark and up to another, if they fit. It stops
+    // at the first owner whose numbers don't.
     fn bytes_left_of(&self, room: u32, low: &[N], high: &[N]) -> Option<u32>
         requires { HasMarks N.number N.most self.now low.now high.now }
         ensures { IsLeftOf room (weight_in N.number self.now (marks N.number low.now)

@@ -3,7 +3,7 @@
 
 ghost use Rattle.std.specs.Prelude.{◌≡◌, ℕ, ◌+◌, ◌-◌, ◌<◌, ◌≤◌};
 ghost use Rattle.delta_plans.specs.Granted.{IfGranted};
-ghost use Rattle.delta_plans.specs.Firsts.{by_first};
+ghost use Rattle.delta_plans.specs.LevelMarks.{by_first};
 ghost use Rattle.delta_plans.specs.OfferInMemory.{weights_in};
 ghost use Rattle.delta_plans.specs.Turns.{part_weight, parts_count, ArePassing, AreSharedBy, AreTurns, HadTurns, HasPart, HaveParts, HaveTurns, IsOwnerOfTurn, KnowParts, KnowsPart};
 

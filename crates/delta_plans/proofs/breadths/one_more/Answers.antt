@@ -22,7 +22,8 @@ loop-r-preserved g c =
     ∙ c.loop-r.invariant.written.from r (omega arith) in
     let size = ap length c.deref_mut-all.ensures.value in
     let mark = number-at number c.args.near.now r c.index-near-r.result
-    (omega (arith, c.loop-r-test.true, size, length-map c.in_ok-marks.marks.items number, c.in_ok-marks.ensures.least.size, c.requires.each_low)) c.index-near-r.is in
+    (omega (arith, c.loop-r-test.true, size, length-map c.in_ok-marks.marks.items number, c.in_ok-marks.ensures.least.size, c.requires.each_low))
+    c.index-near-r.is in
     let found = c.is_above-found.ensures ∙ (λ i. nat_lt (least i) (c.greatest.ensures i)) in
     counted_next _ _ number c.deref_mut-all.result.now all r c.loop-r.more c.loop-r.invariant c.pick.result c.one_if-more.result c.loop-r-test.true
     (c.pick.ensures ∙ (λ i. if found i then least i else mark i))
@@ -35,7 +36,8 @@ returns g c =
     let new = c.loop-r.all in
     let v = c.in_ok-marks.marks in
     let whole = with_items_is v new (c.loop-r.auto.all ∙ c.deref_mut-all.ensures.len) in
-    let done = counted_all _ _ number old new c.loop-r.r c.loop-r.more c.loop-r.invariant (omega (arith, c.loop-r-test.false)) (omega (arith, c.loop-r.auto.r-end)) in (
+    let done = counted_all _ _ number old new c.loop-r.r c.loop-r.more c.loop-r.invariant
+    (omega (arith, c.loop-r-test.false)) (omega (arith, c.loop-r.auto.r-end)) in (
       next-layer c.requires.is_offer (marks number c.args.near.now) v.items old new c.loop-r.more _ c.deref_mut-all.ensures.value
           c.in_ok-marks.ensures.least whole refl done,
       tt,

@@ -16,7 +16,8 @@ next_runs-requires g c =
     let size = c.greatest_of-size.result in
     let longest = subst (λ xs. (r : ℕ) → r < length xs → get_or (map number xs) r 0 ≤ size) c.deref.ensures.value c.greatest_of-size.ensures.greatest in
     transport (λ i. AreRunsFrom number g.N.Number.most c.args.offer.now (sym c.deref-2.ensures.value i) (sym c.deref-3.ensures.value i) size)
-    (runs-from_low c.requires.offer.is_offer c.requires.offer.beyond c.in_ok-counts.ensures.counts longest c.greatest_of-size.ensures.few c.in_ok-near.ensures.items)
+    (runs-from_low c.requires.offer.is_offer c.requires.offer.beyond c.in_ok-counts.ensures.counts longest
+    c.greatest_of-size.ensures.few c.in_ok-near.ensures.items)
 
 pub loop-left-init : goal.loop-left-init
 loop-left-init g c =

@@ -39,5 +39,6 @@ returns g c =
     let old = c.deref_mut-all.result.now in
     let new = c.loop-r.all in
     let whole = with_items_is c.in_ok-marks.marks new (c.loop-r.auto.all ∙ c.deref_mut-all.ensures.len) in
-    let done = counted_all _ _ g.N.Number.number old new c.loop-r.r c.loop-r.owners c.loop-r.invariant (omega (arith, c.loop-r-test.false)) (omega (arith, c.loop-r.auto.r-end)) in
+    let done = counted_all _ _ g.N.Number.number old new c.loop-r.r c.loop-r.owners c.loop-r.invariant
+    (omega (arith, c.loop-r-test.false)) (omega (arith, c.loop-r.auto.r-end)) in
     (next-runs c.requires old new c.loop-r.owners _ (c.deref_mut-all.ensures.value ∙ c.in_ok-marks.ensures.items) whole refl done, tt)

@@ -21,7 +21,8 @@ returns-in-Oldest g c =
     let offer = c.args.self.now.offer.now in
     let is = c.requires.has_rounds.too_large.is_offer in
     let mark = marks number c.args.mark.now in
-    let upto = count-upto (cells_in number offer) offer.grid.size.nodes offer.grid.size.keys (high_in number offer) is.covered (low_in number offer) mark c.requires.above in
+    let upto = count-upto (cells_in number offer) offer.grid.size.nodes offer.grid.size.keys (high_in number offer) is.covered
+    (low_in number offer) mark c.requires.above in
     subst (λ first. offer.found - c.total_above-above.result ≡ count_on first number offer mark) (sym c.in-Oldest.is)
     (omega (arith, is.found, c.total_above-above.ensures, upto))
 

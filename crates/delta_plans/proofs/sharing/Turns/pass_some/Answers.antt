@@ -12,5 +12,6 @@ loop-i-preserved g c =
 
 pub overflow_add-result-2 : goal.overflow_add-result-2
 overflow_add-result-2 g c =
-    let all = ap (parts_count g.N.Number.number c.args.self.now c.args.several.owner) {x = c.loop-i.i} {y = c.args.several.size} (omega (arith, c.loop-i-test.false, c.loop-i.auto.i-end)) in
+    let all = ap (parts_count g.N.Number.number c.args.self.now c.args.several.owner) {x = c.loop-i.i} {y = c.args.several.size}
+    (omega (arith, c.loop-i-test.false, c.loop-i.auto.i-end)) in
     omega (arith, all, c.requires.sum, turns-few c.requires.are c.loop-i.invariant)

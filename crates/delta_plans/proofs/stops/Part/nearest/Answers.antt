@@ -1,5 +1,5 @@
-use Rattle.delta_plans.proofs.Common.{ap, ◌∙◌, arith, cells_in, nearer_beyond}
-use Rattle.delta_plans.proofs.StopSteps.{next-nearer, next-found}
+use Rattle.delta_plans.proofs.Common.{subst, ap, ◌∙◌, arith, cells_in, nearer_beyond}
+use Rattle.delta_plans.proofs.StopSteps.{IsNextSoFar, next-nearer, next-found}
 use Rattle.delta_plans.proofs.stops.Part.nearest.Goals as goal
 
 pub loop-key-preserved : goal.loop-key-preserved
@@ -16,5 +16,6 @@ returns g c first near answers some =
     let number = g.N.Number.number in
     let part = c.args.self.now in
     let offer = part.offer.now in
-    next-found first (cells_in number offer) c.loop-key.key offer.grid.size.keys part.owner near (number part.far) (number c.loop-key.next)
-    (omega (arith, c.loop-key-test.false, c.loop-key.auto.key-end)) (c.loop-key.invariant first near answers) some
+    let so_far = subst (λ keys. IsNextSoFar first (cells_in number offer) keys part.owner near (number part.far) (number c.loop-key.next))
+    {x = c.loop-key.key} {y = offer.grid.size.keys} (omega (arith, c.loop-key-test.false, c.loop-key.auto.key-end)) (c.loop-key.invariant first near answers) in
+    next-found first (cells_in number offer) offer.grid.size.keys part.owner near (number part.far) (number c.loop-key.next) so_far some

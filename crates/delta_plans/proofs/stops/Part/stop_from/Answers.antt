@@ -20,12 +20,14 @@ pub next-next-requires-in-loop-weight : goal.next-next-requires-in-loop-weight
 next-next-requires-in-loop-weight g c =
     let differ = c.requires.is_part.is_offer.differ c.args.self.now.owner c.requires.is_part.in_nodes in record {
       is_part = c.requires.is_part;
-      some = stop-more c.loop-weight.invariant differ (g.N.Number.number c.mark_past-mark.result) c.mark_past-mark.ensures (omega (arith, c.loop-weight-test.true));
+      some = stop-more c.loop-weight.invariant differ (g.N.Number.number c.mark_past-mark.result) c.mark_past-mark.ensures
+          (omega (arith, c.loop-weight-test.true));
     }
 
 pub loop-weight-preserved : goal.loop-weight-preserved
 loop-weight-preserved g c =
-    stop-next c.loop-weight.invariant (c.requires.is_part.is_offer.differ c.args.self.now.owner c.requires.is_part.in_nodes) (g.N.Number.number c.mark_past-mark.result) c.mark_past-mark.ensures (omega (arith, c.loop-weight-test.true))
+    stop-next c.loop-weight.invariant (c.requires.is_part.is_offer.differ c.args.self.now.owner c.requires.is_part.in_nodes)
+    (g.N.Number.number c.mark_past-mark.result) c.mark_past-mark.ensures (omega (arith, c.loop-weight-test.true))
     c.next-next-in-loop-weight.ensures c.weight_of_number-weight-in-loop-weight.ensures
 
 pub loop-weight-smaller : goal.loop-weight-smaller

@@ -58,8 +58,8 @@ pub use Rattle.delta_plans.specs.OfferInMemory.{AreCounted, IsLeftOf, IsOffer, c
 pub use Rattle.delta_plans.specs.Plans.{AreFarther, AreMarksFrom, AreNextRuns, AreRunsFrom, IsLevel, IsLevelBy, IsNextLayer, IsNextMark, IsStep, count_on, weight_on}
 pub use Rattle.delta_plans.specs.RoundLevels.{AreFewAndEnough, AreRaised, AreRoundMarks, HasRounds, IsFound, IsLevelOfRounds, end_mark, mark_of_rounds}
 pub use Rattle.delta_plans.specs.SentSets.{DeltasHaveTheirSets, HasSet, IsKeptOut, IsSentSet, size_in}
-pub use Rattle.delta_plans.specs.Turns.{AreShared, StopAt, StopsBefore, AreKnownFor, ArePassing, AreSharedBy, AreTurns, HadTurns, HasPart, HasReached, HaveParts, HaveTurns, KnowParts, KnowsPart, part_weight, parts_count}
-pub use Rattle.delta_plans.specs.Stops.{AnswersNearer, HasBetween, HasNext, IsBeyond, IsNext, IsOn, IsPast, IsStopFrom, nearer_beyond}
+pub use Rattle.delta_plans.specs.Turns.{AreShared, StopAt, StopsBefore, AreKnownFor, ArePassing, AreSharedBy, AreTurns, HadTurns, HasPart, HasReached, HaveParts, HaveTurns, IsStopOf, IsTooHeavy, KnowParts, KnowsPart, part_weight, parts_count, weight_to}
+pub use Rattle.delta_plans.specs.Stops.{IsOn, IsStopBetween, IsStopFrom}
 pub use Rattle.delta_plans.specs.Told.{IsKnown}
 pub use Rattle.delta_plans.specs.Weights.{count_all_between, number_share, number_shares, one_each, share_or_none, weight_between, weight_from, weight_of, weight_through}
 pub use Rattle.delta_plans.specs.declared.marked.First.{First}

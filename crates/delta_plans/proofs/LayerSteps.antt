@@ -4,7 +4,7 @@ use Rattle.delta_plans.proofs.Common.{◌≡◌, ℕ, ◌+◌, ◌-◌, ◌<◌,
 use Rattle.delta_plans.proofs.WeightLaws.{part, sum_below-each_none, weight_of-all, weight_of-none, weight_of-split}
 use Rattle.delta_plans.proofs.LevelSteps.{IsLevelSoFar, level-first, level-left, level-next}
 use Rattle.delta_plans.proofs.Nodes.{step-each, step-is}
-use Rattle.delta_plans.proofs.StopSteps.{from-one}
+use Rattle.delta_plans.proofs.StopSteps.{weight_of-one}
 
 -- a mark that lets through an owner's first so many numbers above another, or all where there are no more
 pub record IsLayerMark (cells : Cells) (keys owner low layers mark : ℕ) : Type 0 where
@@ -18,8 +18,9 @@ module _ (cells : Cells) (keys owner : ℕ) where
 
   -- up to an owner's next number there is that one
   one-next : (mark least : ℕ) → NumbersDiffer cells keys owner → IsLeastAbove cells keys owner mark least → count mark least ≡ 1
-  one-next mark least differ next = from-one (λ _. 1) cells keys owner Oldest mark least least least
-      (record { key = next.key; in_keys = next.below; is = next.is; above = next.above; upto = omega arith; nearest = next.no_less }) refl differ
+  one-next mark least differ next = weight_of-one (λ _. 1) cells keys owner mark least next.key next.below
+      (omega (arith, next.is, next.above)) (omega (arith, next.is)) (λ k lt above upto.
+      differ k next.key lt next.below (omega (arith, above)) (omega (arith, upto, next.no_less k lt above, next.is)))
 
   -- a number between two marks is counted
   some-between : (from to key : ℕ) → key < keys → from < cells owner key → cells owner key ≤ to → 0 < count from to

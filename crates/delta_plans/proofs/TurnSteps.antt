@@ -1,8 +1,8 @@
 -- The owners' turns in a level.
 -- Serves the functions of `rounds` and `sharing` and `RoundMarks`.
-use Rattle.delta_plans.proofs.Common.{◌≡◌, ◌≢◌, ℕ, suc, ◌+◌, ◌-◌, ◌*◌, ◌<◌, ◌≤◌, cond, ltb, List, get_or, set, map, inl, inr, refl, sym, ap, ◌∙◌, subst, transport, arith, nat_tests, get_or-set_same, get_or-set_other, length-map, map-set, Entries, MOST_NODES, MOST_KEYS, MOST_ENTRY_SIZE, cases_eq, Cells, HasNoneAbove, sum_below-same, sum_below-plus, rotated, rotated-injective, rotated-is, First, Oldest, Newest, Offer, Reached, Turns, by_first, cells_in, low_in, high_in, marks, weights_in, IsOffer, count_on, AreFarther, StopsBefore, lt-ltb, le-ltb, IsNext, IsOn, IsStopFrom, part_weight, parts_count, AreTurns, HasReached, AreSharedBy, Several, length-set, HasPart, HaveTurns, weight_of, weight_from, weight_through, one_each}
+use Rattle.delta_plans.proofs.Common.{◌≡◌, ◌≢◌, ℕ, suc, ◌+◌, ◌-◌, ◌*◌, ◌<◌, ◌≤◌, cond, ltb, List, get_or, set, map, inl, inr, refl, sym, ap, ◌∙◌, subst, transport, arith, nat_tests, get_or-set_same, get_or-set_other, length-map, map-set, Entries, MOST_NODES, MOST_KEYS, MOST_ENTRY_SIZE, cases_eq, Cells, HasNoneAbove, sum_below-same, sum_below-plus, rotated, rotated-injective, rotated-is, First, Oldest, Newest, Offer, Reached, Turns, by_first, cells_in, low_in, high_in, marks, weights_in, IsOffer, count_on, AreFarther, StopsBefore, lt-ltb, le-ltb, IsStopOf, weight_to, part_weight, parts_count, AreTurns, HasReached, AreSharedBy, Several, length-set, HasPart, HaveTurns, weight_of, weight_from, weight_through, one_each}
 use Rattle.delta_plans.proofs.WeightLaws.{offer-few, owner-entries, owner-most, part, sum_below-changed, sum_below-longer, weight_of-split}
-use Rattle.delta_plans.proofs.StopSteps.{few-from}
+use Rattle.delta_plans.proofs.StopSteps.{IsStopTold, few-from, stop-tells}
 
 -- the weights from a lower mark on and from a higher one, which may be above all numbers
 split-covered : (weight : ℕ → ℕ) (cells : Cells) (keys owner low mark high : ℕ) → low ≤ mark → HasNoneAbove cells keys owner high
@@ -11,25 +11,6 @@ split-covered weight cells keys owner low mark high le covered =
     sum_below-same keys _ (λ key. part weight mark high (cells owner key) + part weight low mark (cells owner key))
     (λ key lt. let upto = covered key lt in grind (arith, nat_tests))
     ∙ sum_below-plus keys _ _
-
--- where an owner's part stops
-module _ {cells : Cells} {keys owner mark far next : ℕ} where
-  stop-tells : (first : First) (low near : ℕ) → AreFarther first low near far → IsNext first cells keys owner mark far next → IsOn first near mark
-      → StopsBefore first cells keys owner low near far mark next
-  stop-tells Oldest low near level is on = record {
-    offered = omega (arith, level.0, on, is.above);
-    above = omega (arith, level.0, on);
-    outside = grind (arith, nat_tests, is.above, on);
-    inside = grind (arith, nat_tests, is.upto);
-    own = λ k lt. grind (arith, nat_tests, is.above, is.nearest k lt);
-  }
-  stop-tells Newest low near level is on = record {
-    offered = omega (arith, level.1, is.above);
-    above = omega (arith, level.1, is.above, is.upto);
-    outside = grind (arith, nat_tests, is.upto, on);
-    inside = grind (arith, nat_tests, is.above);
-    own = λ k lt. grind (arith, nat_tests, is.upto, is.nearest k lt);
-  }
 
 module _ (weights : ℕ → ℕ → ℕ) (cells : Cells) (nodes keys : ℕ) (low high : ℕ → ℕ) (mark next : ℕ → ℕ) where
   -- marks that are the same for each owner
@@ -153,35 +134,35 @@ module _ {N : Type 0} {number : N → ℕ} {most : ℕ} {turns : Turns N} (are :
           part-to weight = ap (weight_from turns.first weight cells keys owner (near owner)) to_far
 
       -- or it stops at a number
-      pub turns-shared : {stop_sent : ℕ}
-          → IsStopFrom turns.first (weights_in offer owner) cells keys owner (near owner) (far owner) reached.left (number to) stop_sent
-          → AreSharedBy number turns (set mark owner to) (reached.sent + stop_sent)
-      turns-shared {stop_sent} stop = record {
+      pub turns-shared : {sent : ℕ} → IsStopOf number turns owner reached.left (number to)
+          → sent ≡ weight_to number (λ _. 1) turns owner (near owner) (number to) → AreSharedBy number turns (set mark owner to) (reached.sent + sent)
+      turns-shared stop counts = record {
         size = length-set mark owner to ∙ so_far.size;
         shared = record {
           stop = record {
             owner = owner;
-            key = stop.next.key;
+            key = tells.key;
             owner_below = in_nodes;
-            key_below = stop.next.in_keys;
-            stops = transport (λ i. StopsBefore turns.first cells keys owner (low owner) (near owner) (far owner) (sym here i) (sym stop.next.is i)) tells;
+            key_below = tells.in_keys;
+            stops = subst (λ m. StopsBefore turns.first cells keys owner (low owner) (near owner) (far owner) m (cells owner tells.key)) (sym here) tells.stops;
             others = stays;
           };
           above = λ r lt. elim (cases_eq r owner) [
-            | inl same ↦ omega (arith, ap low same, ap next same, here, tells.above)
+            | inl same ↦ omega (arith, ap low same, ap next same, here, tells.stops.above)
             | inr other ↦ let is = stays r lt other in let farther = are.level.farther r lt in grind (arith, nat_tests, farther.0, farther.1)
           ];
-          count = omega (arith, so_far.count, stop.count, grown ordered one_each);
-          within = omega (arith, so_far.left, stop.within, grown ordered (weights_in offer));
-          beyond = omega (arith, so_far.left, stop.beyond, grown ordered (weights_in offer), ap (weights_in offer owner) stop.next.is);
+          count = omega (arith, so_far.count, counts, grown ordered one_each);
+          within = omega (arith, so_far.left, stop.so_far.rest, grown ordered (weights_in offer));
+          beyond = omega (arith, so_far.left, stop.so_far.rest, tells.beyond, grown ordered (weights_in offer));
         };
       }
         where
-          tells : StopsBefore turns.first cells keys owner (low owner) (near owner) (far owner) (number to) stop.number
-          tells = stop-tells turns.first (low owner) (near owner) (are.level.farther owner in_nodes) stop.next stop.on
+          tells : IsStopTold turns.first (weights_in offer owner) cells keys owner (low owner) (near owner) (far owner) (number to) stop.left
+          tells = stop-tells (weights_in offer owner) cells keys owner (near owner) (far owner) reached.left (low owner) (number to) stop.beyond stop.left
+              (are.offer.differ owner in_nodes) stop.below stop.above turns.first (are.level.farther owner in_nodes) stop.so_far
 
           ordered : AreFarther turns.first (low owner) (near owner) (number to)
-          ordered = ((are.level.farther owner in_nodes).0, tells.above, stop.on)
+          ordered = ((are.level.farther owner in_nodes).0, tells.stops.above, stop.so_far.on)
 
           stays : (r : ℕ) → r < nodes → r ≢ owner → next r ≡ cond (ltb (turn r) (turn owner)) (far r) (near r)
           stays r lt other = others r other ∙ so_far.each r lt ∙ ap (λ t. cond (ltb (turn r) t) (far r) (near r)) (sym its)

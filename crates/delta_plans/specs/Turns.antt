@@ -10,6 +10,7 @@ use Rattle.delta_plans.specs.declared.sharing.Several.{Several}
 use Rattle.delta_plans.specs.declared.sharing.Turns.{Turns}
 use Rattle.delta_plans.specs.OfferInMemory.{cells_in, marks, weights_in, IsOffer, low_in}
 use Rattle.delta_plans.specs.Plans.{weight_on, count_on, IsLevel}
+use Rattle.delta_plans.specs.Stops.{IsStopFrom}
 use Rattle.delta_plans.specs.Weights.{weight_from}
 use Rattle.delta_plans.specs.declared.marked.First.{First}
 use Rattle.delta_plans.specs.declared.offers.Offer.{Offer}
@@ -51,11 +52,28 @@ pub record AreTurns {N : Type 0} (number : N → ℕ) (most : ℕ) (turns : Turn
   pub rotation : turns.rotation < turns.offer.now.grid.size.nodes
   pub level : IsLevel turns.first number turns.offer.now turns.level.now
 
--- what an owner's part of it weighs
+-- what an owner's numbers from one mark on to another weigh, and what its part of it does
+abbrev pub weight_to : {N : Type 0} → (N → ℕ) → (ℕ → ℕ) → Turns N → ℕ → ℕ → ℕ → ℕ
+weight_to number weight turns =
+    weight_from turns.first weight (cells_in number turns.offer.now) turns.offer.now.grid.size.keys
+
 abbrev pub part_weight : {N : Type 0} → (N → ℕ) → (ℕ → ℕ) → Turns N → ℕ → ℕ
 part_weight number weight turns owner =
-    weight_from turns.first weight (cells_in number turns.offer.now) turns.offer.now.grid.size.keys owner
-    (marks number turns.level.now.near.items owner) (marks number turns.level.now.far.items owner)
+    weight_to number weight turns owner (marks number turns.level.now.near.items owner)
+    (marks number turns.level.now.far.items owner)
+
+-- that is more than there is room for
+pub record IsTooHeavy {N : Type 0} (number : N → ℕ) (most : ℕ) (turns : Turns N) (owner room : ℕ) : Type 0 where
+  pub are : AreTurns number most turns
+  pub in_nodes : owner < turns.offer.now.grid.size.nodes
+  pub beyond : room < part_weight number (weights_in turns.offer.now owner) turns owner
+
+-- where it stops then
+abbrev pub IsStopOf : {N : Type 0} → (N → ℕ) → Turns N → ℕ → ℕ → ℕ → Type 0
+IsStopOf number turns owner =
+    IsStopFrom turns.first (weights_in turns.offer.now owner) (cells_in number turns.offer.now)
+    turns.offer.now.grid.size.keys owner (marks number turns.level.now.near.items owner)
+    (marks number turns.level.now.far.items owner)
 
 -- how many numbers the parts of so many owners have, from one on
 abbrev pub parts_count : {N : Type 0} → (N → ℕ) → Turns N → ℕ → ℕ → ℕ

@@ -3,6 +3,7 @@
 ghost use Rattle.std.specs.Prelude.{◌≡◌, ◌+◌, ◌^◌, ◌*◌, ◌<◌, ◌≤◌, ◌↔◌, IsTrue, length, if◌then◌else◌};
 ghost use Rattle.bench_types.specs.declared.limits.TheConstants.{MOST_ENTRY_SIZE, MOST_KEYS, MOST_NODES};
 ghost use Rattle.bench_types.specs.Budget.{amount_of, share_of};
+ghost use Rattle.planes.specs.Planes.{count_between};
 ghost use Rattle.owner_writes.specs.Kept.{entry_kept};
 ghost use Rattle.delta_plans.specs.OfferInMemory.{cells_in, high_in, low_in, marks, weight_in, weights_in, AreCounted, HasMarks, HasOwner, HasPlace, IsLeftOf, IsOffer};
 ghost use Rattle.delta_plans.specs.Weights.{weight_of};
@@ -10,7 +11,7 @@ ghost use Rattle.delta_plans.specs.Weights.{weight_of};
 use bench_types::limits::MOST_ENTRY_SIZE;
 use bench_types::{Budget, Entry};
 use owner_writes::{Kept, OwnerWrites};
-use planes::{Grid, Number};
+use planes::{Grid, Number, is_between};
 
 /// The candidates are the cells of each owner above `low`, `found` in all. None is above `high`.
 #[derive(Drop)]
@@ -110,11 +111,24 @@ impl<'a, N: Number> Offer<'a, N> {
         let mut weight = 0;
         for key in 0..self.grid.size.keys {
             let cell = self.cell_of(owner, key);
-            if cell.is_above(low) && cell.is_upto(high) {
+            if is_between(cell, low, high) {
                 weight += self.weight_of_number(owner, cell);
             }
         }
         weight
+    }
+
+    /// How many these are.
+    pub(crate) fn count_of(&self, owner: usize, low: N, high: N) -> u32
+        requires { HasOwner N.number N.most self.now owner }
+        ensures { result ≡ count_between (cells_in N.number self.now) self.now.grid.size.keys owner
+            (N.number low) (N.number high) }
+    {
+        let mut count = 0;
+        for key in 0..self.grid.size.keys {
+            count += one_if(is_between(self.cell_of(owner, key), low, high));
+        }
+        count
     }
 
     // What is left of so many bytes after all owners' numbers above one mark and up to another, if they fit. It stops

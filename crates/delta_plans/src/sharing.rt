@@ -4,12 +4,11 @@
 ghost use Rattle.std.specs.Prelude.{◌≡◌, ℕ, ◌+◌, ◌-◌, ◌<◌, ◌≤◌};
 ghost use Rattle.delta_plans.specs.Granted.{IfGranted};
 ghost use Rattle.delta_plans.specs.LevelMarks.{by_first};
-ghost use Rattle.delta_plans.specs.OfferInMemory.{weights_in};
-ghost use Rattle.delta_plans.specs.Turns.{part_weight, parts_count, ArePassing, AreSharedBy, AreTurns, HadTurns, HasPart, HaveParts, HaveTurns, IsOwnerOfTurn, KnowParts, KnowsPart};
+ghost use Rattle.delta_plans.specs.OfferInMemory.{weights_in, HasOwner};
+ghost use Rattle.delta_plans.specs.Turns.{part_weight, parts_count, weight_to, ArePassing, AreSharedBy, AreTurns, HadTurns, HasPart, HaveParts, HaveTurns, IsOwnerOfTurn, IsStopOf, IsTooHeavy, KnowParts, KnowsPart};
 
 use crate::marked::First;
 use crate::offers::{Level, Offer, Step, number_at};
-use crate::stops::Part;
 use bench_types::{Budget, Fault};
 use planes::{Number, all_of, count_some_between};
 use std::alloc::Global;
@@ -76,12 +75,56 @@ impl<'a, 'b, N: Number> Turns<'a, 'b, N> {
             Budget::Bytes(_) => {
                 let near = number_at(&self.level.near, owner);
                 let far = number_at(&self.level.far, owner);
-                match self.first {
-                    First::Oldest => self.offer.weight_of(owner, near, far),
-                    First::Newest => self.offer.weight_of(owner, far, near),
-                }
+                self.weight_from(owner, near, far)
             }
         }
+    }
+
+    // What an owner's numbers from one mark on to another weigh, and how many these are. Where entries are counted, no
+    // write is looked up.
+    fn weight_from(&self, owner: usize, near: N, far: N) -> u32
+        requires { HasOwner N.number N.most self.now.offer.now owner }
+        ensures { result ≡ weight_to N.number (weights_in self.now.offer.now owner) self.now owner
+            (N.number near) (N.number far) }
+    {
+        match (self.offer.budget, self.first) {
+            (Budget::Entries(_), _) => self.count_from(owner, near, far),
+            (Budget::Bytes(_), First::Oldest) => self.offer.weight_of(owner, near, far),
+            (Budget::Bytes(_), First::Newest) => self.offer.weight_of(owner, far, near),
+        }
+    }
+
+    fn count_from(&self, owner: usize, near: N, far: N) -> u32
+        requires { HasOwner N.number N.most self.now.offer.now owner }
+        ensures { result ≡ weight_to N.number (λ _. 1) self.now owner (N.number near) (N.number far) }
+    {
+        match self.first {
+            First::Oldest => self.offer.count_of(owner, near, far),
+            First::Newest => self.offer.count_of(owner, far, near),
+        }
+    }
+
+    // Of an owner's part that doesn't fit, the mark up to which it does. It halves what lies between a mark up to which
+    // all fits and one beyond that.
+    fn stop_of(&self, owner: usize, room: u32) -> N
+        requires { IsTooHeavy N.number N.most self.now owner room }
+        ensures { IsStopOf N.number self.now owner room (N.number result) }
+    {
+        let most = N::greatest();
+        let mut fits = most.min_with(number_at(&self.level.near, owner)).widen();
+        let mut beyond = most.min_with(number_at(&self.level.far, owner)).widen();
+        let mut left = room;
+        while fits.abs_diff(beyond) > 1 {
+            let middle = fits.min(beyond) + fits.abs_diff(beyond) / 2;
+            let weight = self.weight_from(owner, N::narrow(fits), N::narrow(middle));
+            if weight <= left {
+                left -= weight;
+                fits = middle;
+            } else {
+                beyond = middle;
+            }
+        }
+        N::narrow(fits)
     }
 
     // Counts the numbers of some owners' parts, from an owner on. It stands outside the loop over turns, which seldom
@@ -190,15 +233,9 @@ impl<'a, 'b, N: Number> Turns<'a, 'b, N> {
             let far = number_at(&self.level.far, owner);
             if left < weight {
                 let near = number_at(&self.level.near, owner);
-                let part = Part {
-                    offer: self.offer,
-                    first: self.first,
-                    owner,
-                    far,
-                };
-                let stop = part.stop_from(near, left);
-                mark[owner] = stop.mark;
-                return sent + stop.sent;
+                let stop = self.stop_of(owner, left);
+                mark[owner] = stop;
+                return sent + self.count_from(owner, near, stop);
             }
             mark[owner] = far;
             left -= weight;

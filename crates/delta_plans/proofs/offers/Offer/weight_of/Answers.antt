@@ -1,7 +1,7 @@
-use Rattle.delta_plans.proofs.Common.{◌≡◌, ℕ, sym, ap, arith, nat_tests, number_next, all_writes, write_numbered, cells_in, weights_in}
+use Rattle.delta_plans.proofs.Common.{ℕ, ap, arith, nat_tests, number_next, all_writes, write_numbered, cells_in, weights_in}
 use Rattle.delta_plans.proofs.WeightLaws.{count_between-most, owner-most, part, share-most}
 use Rattle.delta_plans.proofs.offers.Offer.weight_of.Goals as goal
-use Rattle.delta_plans.proofs.offers.Offer.weight_of.Goals.{then-is_above+then-is_upto, else-is_above, else-is_above-via-then-is_above+else-is_upto, else-is_above-via-else-is_above}
+use Rattle.delta_plans.proofs.offers.Offer.weight_of.Goals.{then-is_between, else-is_between}
 
 pub overflow_add-weight : goal.overflow_add-weight
 overflow_add-weight g c =
@@ -19,25 +19,12 @@ loop-key-preserved g c =
     let weight = weights_in offer c.args.owner in
     let cell = c.cell_of-cell.ensures in
     let more = (λ (k : ℕ). part weight (number c.args.low) (number c.args.high) (cells_in number offer c.args.owner k)) in
-    elim c.if-is_above.branch [
-      | then-is_above+then-is_upto w ↦
+    elim c.if-is_between.branch [
+      | then-is_between w ↦
           let same = ap weight cell in
-          number_next more c.loop-key.key c.loop-key.weight c.if-is_above.weight {y = w.weight_of_number-weight.result} c.loop-key.invariant w.weight-is
-          (grind (
-            arith,
-            nat_tests,
-            cell,
-            same,
-            c.is_above.ensures,
-            w.if-is_above.true,
-            w.is_upto.ensures,
-            w.if-is_upto.true,
-            w.weight_of_number-weight.ensures,
-          ))
-      | else-is_above w ↦
-          let none : more c.loop-key.key ≡ 0 = elim w.else-is_above.branch [
-            | else-is_above-via-then-is_above+else-is_upto w' ↦ grind (arith, nat_tests, cell, w'.is_upto.ensures, w'.if-is_upto.false)
-            | else-is_above-via-else-is_above w' ↦ grind (arith, nat_tests, cell, c.is_above.ensures, w'.if-is_above.false)
-          ] in
-          number_next more c.loop-key.key c.loop-key.weight c.if-is_above.weight {y = 0} c.loop-key.invariant (omega (arith, w.weight-is)) (sym none)
+          number_next more c.loop-key.key c.loop-key.weight c.if-is_between.weight {y = w.weight_of_number-weight.result} c.loop-key.invariant w.weight-is
+          (grind (arith, nat_tests, cell, same, c.is_between.ensures, w.if-is_between.true, w.weight_of_number-weight.ensures))
+      | else-is_between w ↦
+          number_next more c.loop-key.key c.loop-key.weight c.if-is_between.weight {y = 0} c.loop-key.invariant (omega (arith, w.weight-is))
+          (grind (arith, nat_tests, cell, c.is_between.ensures, w.if-is_between.false))
     ]

@@ -1,6 +1,6 @@
 -- The names of other libraries that these proofs cite, passed on from one place. Declares nothing.
 -- Serves most of the crate and `version_tables`.
-pub use Rattle.std.proofs.Common.{Bool, Fits, List, None, Option, Some, Vec, [], ap, arith, cond, drop, eqb, false, get_or, if◌then◌else◌, inl, inr, leb, length, ltb, map, max, min, nat_lt, not, refl, rules, set, slice_index, subst, suc, sym, take, true, w32, zero, ℕ, ◌*◌, ◌++◌, ◌+◌, ◌-◌, ◌<◌, ◌∙◌, ◌∷◌, ◌≡◌, ◌≢◌, ◌≤◌, ◌⊎◌}
+pub use Rattle.std.proofs.Common.{◌/◌, Bool, Fits, List, None, Option, Some, Vec, [], ap, arith, cond, drop, eqb, false, get_or, if◌then◌else◌, inl, inr, leb, length, ltb, map, max, min, nat_lt, not, refl, rules, set, slice_index, subst, suc, sym, take, true, w32, zero, ℕ, ◌*◌, ◌++◌, ◌+◌, ◌-◌, ◌<◌, ◌∙◌, ◌∷◌, ◌≡◌, ◌≢◌, ◌≤◌, ◌⊎◌}
 pub use Rattle.std.proofs.Math.Nat.{mul-le-mul_left, mul-le-mul_right}
 pub use Rattle.std.proofs.Math.Path.{transport}
 pub use Rattle.std.proofs.lemmas.Bool.{and_parts, both_ways, cases_eq, cases_lt, eqb-true, le-leb, le-ltb, lt-leb, lt-ltb, ltb-false, ltb-true}
@@ -26,9 +26,11 @@ pub use Rattle.bench_types.specs.declared.exchanges.Budget.TheVariants.{Bytes, E
 pub use Rattle.bench_types.specs.declared.limits.TheConstants.{MOST_ENTRY_SIZE}
 pub use Rattle.model.proofs.Common.{Budget, DigestKind, Entry, Item, MOST_KEYS, MOST_NODES, Mode, PreciseNewest, PreciseOldest, ScuttleBreadth, ScuttleDepth, amount_of, digest_kind, is_before, mark_of, nat_cmp-equal, nat_cmp-greater, nat_cmp-less, sum_below, sum_below-le}
 pub use Rattle.model.proofs.Apart.{rotated-injective, rotated-is}
+pub use Rattle.model.proofs.Counts.{count_by-not}
+pub use Rattle.model.proofs.Fitting.{sum_by-ones}
 pub use Rattle.model.proofs.DeltaLaws.{sending_order-strict, sending_order-total}
 pub use Rattle.model.proofs.Items.{Contains-items_of, IsApart, apart-items_of, entry_at-items_of, items_at-apart}
-pub use Rattle.model.proofs.Levels.{level_cmp, order-levels, version_cmp}
+pub use Rattle.model.proofs.Levels.{level_order, order-levels}
 pub use Rattle.model.proofs.Members.{Contains-filter, Contains-kept, same_members}
 pub use Rattle.model.proofs.Places.{Contains-first_places, first_places-Contains}
 pub use Rattle.model.proofs.StateDeltas.{sent_apart}
@@ -42,25 +44,23 @@ pub use Rattle.model.specs.calls.Numbers.{write_from, write_numbered}
 pub use Rattle.model.specs.calls.OwnerListView.{AreWrites, OwnerListView, all_writes, entries_of, list_of_owner, no_writes}
 pub use Rattle.model.specs.inner.Applied.{items_at, stands_at}
 pub use Rattle.owner_writes.proofs.Numbers.{number-of_version, numbered-some, versions-rise, write_from-at}
-pub use Rattle.owner_writes.specs.Numbered.{AreMadeBy, IsHistory, IsRoundMark, start_before, start_of}
+pub use Rattle.owner_writes.specs.Numbered.{IsHistory, start_before, start_of}
 pub use Rattle.planes.proofs.Counts.{count_le, number_next, one_le, sum_next, sum_whole}
-pub use Rattle.planes.proofs.Elementwise.{changed_all, changed_none, made-as, number-at, written_next}
+pub use Rattle.planes.proofs.Elementwise.{changed_all, changed_none, made-as, number-at, number-waits, written_next}
 pub use Rattle.planes.proofs.Places.{each-next, part-here, part-written}
 pub use Rattle.planes.specs.Elementwise.{AreChanged, AreChangedUpto}
 pub use Rattle.planes.specs.Planes.{Cells, HasEach, HasNoneAbove, IsLeastAbove, IsNextAbove, cell, count_above, count_between, total_of}
-pub use Rattle.delta_plans.specs.Firsts.{by_first, comes_first, item_number}
-pub use Rattle.delta_plans.specs.Grids.{number_here, number_there, sum_over}
-pub use Rattle.delta_plans.specs.LevelMarks.{AreLevelMarks, AreRounds, AreRuns, HasShape, IsLayerMark, IsRunMark, NumbersDiffer, first_sent, lets_through}
+pub use Rattle.delta_plans.specs.Granted.{IfGranted}
+pub use Rattle.delta_plans.specs.LevelMarks.{by_first, comes_first, item_number, AreLevelMarks, NumbersDiffer, first_level, first_sent, level_number, lets_through, rank_above, round_of}
+pub use Rattle.delta_plans.specs.Offers.{number_here, number_there, sum_over, AreSent, Offers, is_lacked, offered_sum, told_by, told_number}
 pub use Rattle.delta_plans.specs.Marked.{AreMarked, IsLevelOf, KeepsLow}
 pub use Rattle.delta_plans.specs.OfferInMemory.{AreCounted, IsLeftOf, IsOffer, cells_in, count_in, high_in, low_in, marks, owner_count_in, weight_in, weights_in}
-pub use Rattle.delta_plans.specs.Offers.{AreSent, Offers, is_lacked, offered_sum, rank_above, told_by, told_number}
-pub use Rattle.delta_plans.specs.Plans.{AreFarther, AreMarksFrom, AreNextRuns, HasLayers, HasRuns, IsLevel, IsLevelSoFar, IsNextLayer, IsNextMark, IsStep, count_on, weight_on}
-pub use Rattle.delta_plans.specs.RoundLevels.{AreFewAndEnough, AreRaised, AreRoundMarks, HasRounds, IsFound, IsLevelOfRounds, end_mark, mark_of_rounds, round_at, round_mark}
+pub use Rattle.delta_plans.specs.Plans.{AreFarther, AreMarksFrom, AreNextRuns, AreRunsFrom, IsLevel, IsLevelBy, IsNextLayer, IsNextMark, IsStep, count_on, weight_on}
+pub use Rattle.delta_plans.specs.RoundLevels.{AreFewAndEnough, AreRaised, AreRoundMarks, HasRounds, IsFound, IsLevelOfRounds, end_mark, mark_of_rounds}
 pub use Rattle.delta_plans.specs.SentSets.{DeltasHaveTheirSets, HasSet, IsKeptOut, IsSentSet, size_in}
-pub use Rattle.delta_plans.specs.Sharing.{AreShared, StopAt}
-pub use Rattle.delta_plans.specs.Stops.{AnswersNearer, HasBetween, HasNext, IsBeyond, IsNext, IsOn, IsPast, IsStopFrom, nearer_beyond}
+pub use Rattle.delta_plans.specs.Turns.{AreShared, StopAt, StopsBefore, AreKnownFor, ArePassing, AreSharedBy, AreTurns, HadTurns, HasPart, HasReached, HaveParts, HaveTurns, IsStopOf, IsTooHeavy, KnowParts, KnowsPart, part_weight, parts_count, weight_to}
+pub use Rattle.delta_plans.specs.Stops.{IsOn, IsStopBetween, IsStopFrom}
 pub use Rattle.delta_plans.specs.Told.{IsKnown}
-pub use Rattle.delta_plans.specs.Turns.{AreKnownFor, AreSharedBy, AreTurns, HasReached, HasTurn, HaveTurns, part_weight, parts_count, reached_after}
 pub use Rattle.delta_plans.specs.Weights.{count_all_between, number_share, number_shares, one_each, share_or_none, weight_between, weight_from, weight_of, weight_through}
 pub use Rattle.delta_plans.specs.declared.marked.First.{First}
 pub use Rattle.delta_plans.specs.declared.marked.First.TheVariants.{Newest, Oldest}

@@ -1,29 +1,64 @@
 -- A delta by marks: whole levels, and of the next one what comes before the first candidate that doesn't fit.
 -- Serves `version_tables`.
-use Rattle.delta_plans.proofs.Common.{◌≡◌, ℕ, ◌+◌, ◌<◌, ◌≤◌, Bool, true, false, cond, not, List, [], ◌∷◌, length, Some, inl, inr, refl, sym, ap, ◌∙◌, subst, arith, nat_tests, nat_lt, ◌&&◌, count_by, Contains, sum_by, Ordering, Less, Equal, Greater, nat_cmp, ordering_then, is_lt, tied_itself, cases_lt, cases_eq, lt-ltb, and_parts, ltb-true, sum_by-cons, same_Some, nat_cmp-less, nat_cmp-equal, nat_cmp-greater, Entry, Item, Budget, Mode, amount_of, Table, entry_at, candidates, DeltaView, delta_between, item_share, rotated, sending_order, rotated-injective, sending_order-total, order-levels, level_cmp, Cells, HasNoneAbove, sum_below-same, First, Oldest, Newest, HasSet, comes_first, item_number, KeepsLow, AreSent, first_sent, lets_through, AreLevelMarks, HasShape, StopAt, share_or_none, number_shares, weight_between, weight_through, one_each, sum_below, size_in, IsInPlace}
-use Rattle.delta_plans.proofs.Candidates.{IsOffered, candidate-at, candidate-number, candidate-place, offered-sum, older, one_item}
-use Rattle.delta_plans.proofs.Firsts.{age_cmp, own-order, version-first, version-last}
-use Rattle.delta_plans.proofs.LevelMarks.{level-marks, version_cmp-first}
+use Rattle.delta_plans.proofs.Common.{◌≡◌, ◌≢◌, ℕ, ◌+◌, ◌<◌, ◌≤◌, Bool, true, false, cond, not, List, length, inl, inr, refl, sym, ap, ◌∙◌, subst, arith, nat_tests, nat_lt, ltb, ◌&&◌, Contains, sum_by, Ordering, Less, Equal, Greater, nat_cmp, ordering_then, is_lt, cases_eq, lt-ltb, and_parts, ltb-true, same_Some, nat_cmp-equal, Entry, Item, Budget, Mode, ScuttleBreadth, ScuttleDepth, PreciseOldest, PreciseNewest, Some, amount_of, Table, entry_at, candidates, rank_among, owner_count, DeltaView, delta_between, item_share, rotated, sending_order, rotated-injective, sending_order-total, order-levels, level_order, Cells, HasNoneAbove, sum_below-same, First, Oldest, Newest, HasSet, comes_first, item_number, KeepsLow, AreSent, first_sent, first_level, lets_through, level_number, round_of, AreLevelMarks, StopAt, share_or_none, number_shares, weight_between, weight_through, one_each, sum_below, size_in, IsInPlace, count_by-not, sum_by-ones}
+use Rattle.delta_plans.proofs.Candidates.{IsOffered, candidate-at, candidate-number, candidate-place, offered-sum, older, one_item, owner_count-is, rank_among-is}
 use Rattle.delta_plans.proofs.SentSets.{stops_sent, all_sent, set_sent}
 
 -- marks let a candidate through
 abbrev pub lets : Mode → Cells → (ℕ → ℕ) → Item → Bool
 lets mode cells mark c = lets_through (first_sent mode) (mark c.owner) (item_number cells c)
 
-then_greater : (a b : Ordering) → b ≡ Greater → is_lt (ordering_then a b) ≡ is_lt a
-then_greater Less b is = refl
-then_greater Equal b is = ap is_lt is
-then_greater Greater b is = refl
+-- numbers compare: the lower first, or the higher
+abbrev age_cmp : First → ℕ → ℕ → Ordering
+age_cmp Oldest m n = nat_cmp m n
+age_cmp Newest m n = nat_cmp n m
 
--- what passes a test and what doesn't are all
-count-others : {X : Type 0} (p : X → Bool) (xs : List X) → count_by p xs + count_by (λ x. not (p x)) xs ≡ sum_by (λ x. 1) xs
-count-others p [] = refl
-count-others p (x ∷ xs) =
-    let rest = count-others p xs in
-    let passed = sum_by-cons (λ x. cond (p x) 1 0) x xs in
-    let others = sum_by-cons (λ x. cond (not (p x)) 1 0) x xs in
-    let all = sum_by-cons (λ x. 1) x xs in
-    grind (arith, nat_tests)
+-- what of a candidate tells its level
+abbrev level_key : Mode → List Item → Item → ℕ
+level_key ScuttleBreadth cs c = rank_among cs c
+level_key ScuttleDepth cs c = owner_count cs c
+level_key PreciseOldest cs c = c.entry.born
+level_key PreciseNewest cs c = c.entry.born
+
+-- a mode's order goes by level, turn, version and key
+order-by : (mode : Mode) (nodes rotation : ℕ) (cs : List Item) (c d : Item) → level_order mode nodes rotation cs c d
+    ≡ ordering_then (age_cmp (first_level mode) (level_key mode cs c) (level_key mode cs d))
+    (ordering_then (nat_cmp (rotated nodes rotation c.owner) (rotated nodes rotation d.owner))
+    (ordering_then (age_cmp (first_sent mode) c.entry.version d.entry.version) (nat_cmp c.entry.key d.entry.key)))
+order-by ScuttleBreadth nodes rotation cs c d = refl
+order-by ScuttleDepth nodes rotation cs c d = refl
+order-by PreciseOldest nodes rotation cs c d = refl
+order-by PreciseNewest nodes rotation cs c d = refl
+
+-- a second comparison decides where the first one ties
+then-lt : (a b : Ordering) → is_lt (ordering_then a b) ≡ cond (is_lt b) (is_lt (ordering_then a Less)) (is_lt a)
+then-lt Less b = elim (is_lt b) as (λ x. true ≡ cond x true true) [ true ↦ refl | false ↦ refl ]
+then-lt Equal b = elim (is_lt b) as (λ x. x ≡ cond x true false) [ true ↦ refl | false ↦ refl ]
+then-lt Greater b = elim (is_lt b) as (λ x. false ≡ cond x false false) [ true ↦ refl | false ↦ refl ]
+
+-- the first one does where it doesn't tie
+turn-lt : (t u : ℕ) (o : Ordering) → t ≢ u → is_lt (ordering_then (nat_cmp t u) o) ≡ ltb t u
+turn-lt t u o apart = grind (arith, nat_tests)
+
+-- marks of a level tell which others are before that of a candidate, and which no later
+level-tells : (way : First) (l m next : ℕ) (near far : Bool) → near ≡ comes_first way l next → far ≡ not (comes_first way next l)
+    → comes_first way m next ≡ false → not (comes_first way next m) ≡ true
+    → (near ≡ is_lt (age_cmp way l m)) × (far ≡ is_lt (ordering_then (age_cmp way l m) Less))
+level-tells Oldest l m next near far before upto outside inside =
+    let its : m ≡ next = grind (arith, nat_tests) in (grind (arith, nat_tests), grind (arith, nat_tests))
+level-tells Newest l m next near far before upto outside inside =
+    let its : m ≡ next = grind (arith, nat_tests) in (grind (arith, nat_tests), grind (arith, nat_tests))
+
+-- an owner's versions rise with its numbers, so its candidates of one level stand as these do
+own-order : (first : First) (m n v w k l : ℕ) → (m < n → v < w) → (n < m → w < v) → (m ≡ n → (v ≡ w) × (k ≡ l))
+    → is_lt (ordering_then (age_cmp first v w) (nat_cmp k l)) ≡ comes_first first m n
+own-order Oldest m n v w k l rise fall same = grind (arith, nat_tests)
+own-order Newest m n v w k l rise fall same = grind (arith, nat_tests)
+
+own-lets : (first : First) (near far m n : ℕ) → lets_through first near n ≡ false → lets_through first far n ≡ true
+    → cond (comes_first first m n) (lets_through first far m) (lets_through first near m) ≡ comes_first first m n
+own-lets Oldest near far m n outside inside = grind (arith, nat_tests)
+own-lets Newest near far m n outside inside = grind (arith, nat_tests)
 
 module _ {mode : Mode} {from to : Table} {lists : ℕ → List Entry} {cells : Cells} {low : ℕ → ℕ} (given : IsOffered mode from to lists cells low)
     {rotation : ℕ} (in_nodes : rotation < from.nodes) where
@@ -33,65 +68,96 @@ module _ {mode : Mode} {from to : Table} {lists : ℕ → List Entry} {cells : C
   abbrev first : First
   first = first_sent mode
 
+  abbrev way : First
+  way = first_level mode
+
   abbrev turn : ℕ → ℕ
   turn = rotated from.nodes rotation
 
   abbrev order : Item → Item → Ordering
   order = sending_order mode from.nodes rotation cs
 
+  level-is : (m : Mode) (c : Item) → Contains cs c → level_number m lists cells from.keys low c.owner (item_number cells c) ≡ level_key m cs c
+  level-is ScuttleBreadth c in_c = sym (rank_among-is given c in_c)
+  level-is ScuttleDepth c in_c = sym (owner_count-is given c in_c)
+  level-is PreciseOldest c in_c = ap round_of (candidate-number given c in_c).1
+  level-is PreciseNewest c in_c = ap round_of (candidate-number given c in_c).1
+
   -- marks that stop at a number let through what comes before its candidate
-  module _ {near far mark : ℕ → ℕ} (shape : HasShape mode lists cells from.nodes from.keys low near far)
+  module _ {near far mark : ℕ → ℕ} (shape : AreLevelMarks first way (level_number mode lists cells from.keys low) cells from.nodes from.keys low near far)
       (stop : StopAt first rotation from.nodes from.keys cells low near far mark) where
     abbrev entry : Entry
-    entry = (candidate-at given stop.owner stop.key stop.owner_below stop.key_below stop.offered).0
+    entry = (candidate-at given stop.owner stop.key stop.owner_below stop.key_below stop.stops.offered).0
 
     abbrev next : Item
     next = record { owner = stop.owner; entry = entry }
 
     in_next : Contains cs next
-    in_next = (candidate-at given stop.owner stop.key stop.owner_below stop.key_below stop.offered).2
+    in_next = (candidate-at given stop.owner stop.key stop.owner_below stop.key_below stop.stops.offered).2
 
     its_number : item_number cells next ≡ cells stop.owner stop.key
     its_number = ap (cells stop.owner) (given.proper.in_place stop.owner stop.key entry
-        (candidate-at given stop.owner stop.key stop.owner_below stop.key_below stop.offered).1).keyed
+        (candidate-at given stop.owner stop.key stop.owner_below stop.key_below stop.stops.offered).1).keyed
 
-    outside : lets_through first (near stop.owner) (item_number cells next) ≡ false
-    outside = ap (lets_through first (near stop.owner)) its_number ∙ stop.outside
+    outside : lets mode cells near next ≡ false
+    outside = ap (lets_through first (near stop.owner)) its_number ∙ stop.stops.outside
 
-    inside : lets_through first (far stop.owner) (item_number cells next) ≡ true
-    inside = ap (lets_through first (far stop.owner)) its_number ∙ stop.inside
-
-    levels : AreLevelMarks first (level_cmp mode cs) cs cells next near far
-    levels = level-marks given next in_next mode near far shape outside inside
+    inside : lets mode cells far next ≡ true
+    inside = ap (lets_through first (far stop.owner)) its_number ∙ stop.stops.inside
 
     -- what compares behind the levels
     abbrev behind : Item → Ordering
     behind c = ordering_then (nat_cmp (turn c.owner) (turn stop.owner))
         (ordering_then (age_cmp first c.entry.version entry.version) (nat_cmp c.entry.key entry.key))
 
-    by_levels : (c : Item) → Contains cs c → order c next ≡ ordering_then (level_cmp mode cs c next) (behind c)
-    by_levels c in_c =
-        order-levels mode from.nodes rotation cs c next in_nodes (candidate-place given c in_c).owner_below stop.owner_below in_c in_next
-        ∙ ap (λ o. ordering_then (level_cmp mode cs c next)
-        (ordering_then (nat_cmp (turn c.owner) (turn stop.owner)) (ordering_then o (nat_cmp c.entry.key entry.key))))
-        (version_cmp-first mode c.entry.version entry.version)
+    module _ (c : Item) (in_c : Contains cs c) where
+      place : IsInPlace from.nodes from.keys c.owner c.entry.key c.entry
+      place = candidate-place given c in_c
 
-    -- of a level those go with the far marks that are less, and those with the near ones that are greater
-    by_far : (c : Item) → Contains cs c → behind c ≡ Less → lets mode cells far c ≡ is_lt (order c next)
-    by_far c in_c less = levels.upto c in_c ∙ ap (λ o. is_lt (ordering_then (level_cmp mode cs c next) o)) (sym less) ∙ ap is_lt (sym (by_levels c in_c))
+      near-lets : lets mode cells near c ≡ comes_first way (level_key mode cs c) shape.next
+      near-lets =
+          shape.near_is c.owner c.entry.key place.owner_below place.key_below (candidate-number given c in_c).0
+          ∙ ap (λ l. comes_first way l shape.next) (level-is mode c in_c)
 
-    by_near : (c : Item) → Contains cs c → behind c ≡ Greater → lets mode cells near c ≡ is_lt (order c next)
-    by_near c in_c greater = levels.before c in_c ∙ sym (then_greater (level_cmp mode cs c next) (behind c) greater) ∙ ap is_lt (sym (by_levels c in_c))
+      far-lets : lets mode cells far c ≡ not (comes_first way shape.next (level_key mode cs c))
+      far-lets =
+          shape.far_is c.owner c.entry.key place.owner_below place.key_below (candidate-number given c in_c).0
+          ∙ ap (λ l. not (comes_first way shape.next l)) (level-is mode c in_c)
 
-    -- candidates of its owner stand as their numbers say
-    order-own : (c : Item) → Contains cs c → c.owner ≡ stop.owner → comes_first first (item_number cells c) (item_number cells next) ≡ is_lt (order c next)
-    order-own c in_c owners =
-        own-order first (near c.owner) (far c.owner) m n (is_lt (order c next))
-        (ap (λ o. lets_through first (near o) n) owners ∙ outside) (ap (λ o. lets_through first (far o) n) owners ∙ inside)
-        (λ before. by_far c in_c (by_version Less (version-first m n c.entry.version entry.version rise fall first before)))
-        (λ after. by_near c in_c (by_version Greater (version-last m n c.entry.version entry.version rise fall first after)))
-        (λ same. ap is_lt (ap (order c) (sym (one_item given c next in_c in_next owners same)) ∙ tied_itself
-        (sending_order-total mode from.nodes rotation cs) c))
+    -- a candidate comes before it where the far marks let it through, or the near ones if it is behind it in its level
+    order-tells : (c : Item) → Contains cs c → is_lt (order c next) ≡ cond (is_lt (behind c)) (lets mode cells far c) (lets mode cells near c)
+    order-tells c in_c =
+        let levels = level-tells way (level_key mode cs c) (level_key mode cs next) shape.next _ _ (near-lets c in_c) (far-lets c in_c)
+        (sym (near-lets next in_next) ∙ outside) (sym (far-lets next in_next) ∙ inside) in
+        ap is_lt (order-levels mode from.nodes rotation cs c next in_nodes (place c in_c).owner_below stop.owner_below in_c in_next
+        ∙ order-by mode from.nodes rotation cs c next)
+        ∙ then-lt (age_cmp way (level_key mode cs c) (level_key mode cs next)) (behind c)
+        ∙ (λ i. cond (is_lt (behind c)) (sym levels.1 i) (sym levels.0 i))
+
+    marks-stop : (c : Item) → Contains cs c → lets mode cells mark c ≡ is_lt (order c next)
+    marks-stop c in_c = elim (cases_eq c.owner stop.owner) [
+      | inl same ↦
+          let one = one_item given c next in_c in_next same in
+          let own = own-order first m n c.entry.version entry.version c.entry.key entry.key (older given c next in_c in_next same)
+          (older given next c in_next in_c (sym same)) (λ e. (ap (λ (i : Item). i.entry.version) (one e), ap (λ (i : Item). i.entry.key) (one e))) in
+          let tied = nat_cmp-equal (turn c.owner) (turn stop.owner) (ap turn same) in
+          subst (λ o. lets_through first (mark o) (cells o c.entry.key) ≡ comes_first first (cells o c.entry.key) n) (sym same)
+          (stop.stops.own c.entry.key (place c in_c).key_below ∙ ap (comes_first first (cells stop.owner c.entry.key)) (sym its_number))
+          ∙ sym (own-lets first (near c.owner) (far c.owner) m n (ap (λ o. lets_through first (near o) n) same ∙ outside)
+          (ap (λ o. lets_through first (far o) n) same ∙ inside))
+          ∙ (λ i. cond (sym own i) (lets mode cells far c) (lets mode cells near c))
+          ∙ ap (λ t. cond (is_lt (ordering_then t versions)) (lets mode cells far c) (lets mode cells near c)) (sym tied)
+          ∙ sym (order-tells c in_c)
+      | inr other ↦
+          let apart : turn c.owner ≢ turn stop.owner = λ e.
+          other (rotated-injective from.nodes rotation c.owner stop.owner in_nodes (place c in_c).owner_below stop.owner_below e) in
+          ap (λ r. lets_through first r m) (stop.others c.owner (place c in_c).owner_below other)
+          ∙ elim (ltb (turn c.owner) (turn stop.owner)) as
+          (λ b. lets_through first (cond b (far c.owner) (near c.owner)) m ≡ cond b (lets mode cells far c) (lets mode cells near c))
+          [ true ↦ refl | false ↦ refl ]
+          ∙ ap (λ b. cond b (lets mode cells far c) (lets mode cells near c)) (sym (turn-lt (turn c.owner) (turn stop.owner) versions apart))
+          ∙ sym (order-tells c in_c)
+    ]
       where
         m : ℕ
         m = item_number cells c
@@ -99,44 +165,8 @@ module _ {mode : Mode} {from to : Table} {lists : ℕ → List Entry} {cells : C
         n : ℕ
         n = item_number cells next
 
-        rise : m < n → c.entry.version < entry.version
-        rise = older given c next in_c in_next owners
-
-        fall : n < m → entry.version < c.entry.version
-        fall = older given next c in_next in_c (sym owners)
-
-        by_version : (o : Ordering) → age_cmp first c.entry.version entry.version ≡ o → behind c ≡ ordering_then o (nat_cmp c.entry.key entry.key)
-        by_version o is =
-            let same = nat_cmp-equal (turn c.owner) (turn stop.owner) (ap turn owners) in
-            λ i. ordering_then (same i) (ordering_then (is i) (nat_cmp c.entry.key entry.key))
-
-    marks-stop : (c : Item) → Contains cs c → lets mode cells mark c ≡ is_lt (order c next)
-    marks-stop c in_c = elim (cases_eq c.owner stop.owner) [
-      | inl same ↦
-          let above = subst (λ o. low o < cells o c.entry.key) same (candidate-number given c in_c).0 in
-          subst (λ o. lets_through first (mark o) (cells o c.entry.key) ≡ comes_first first (cells o c.entry.key) (item_number cells next)) (sym same)
-          (stop.own c.entry.key place.key_below above ∙ ap (comes_first first (cells stop.owner c.entry.key)) (sym its_number))
-          ∙ order-own c in_c same
-      | inr other ↦ elim (cases_lt (turn c.owner) (turn stop.owner)) [
-        | inl before ↦
-            ap (λ m. lets_through first m (item_number cells c)) (stop.passed c.owner place.owner_below before)
-            ∙ by_far c in_c (by_turn Less (nat_cmp-less (turn c.owner) (turn stop.owner) before))
-        | inr not_before ↦ elim (cases_lt (turn stop.owner) (turn c.owner)) [
-          | inl after ↦
-              ap (λ m. lets_through first m (item_number cells c)) (stop.waiting c.owner place.owner_below after)
-              ∙ by_near c in_c (by_turn Greater (nat_cmp-greater (turn c.owner) (turn stop.owner) after))
-          | inr same ↦ absurd (other (rotated-injective from.nodes rotation c.owner stop.owner in_nodes place.owner_below stop.owner_below
-              (omega (arith, not_before, same))))
-        ]
-      ]
-    ]
-      where
-        place : IsInPlace from.nodes from.keys c.owner c.entry.key c.entry
-        place = candidate-place given c in_c
-
-        by_turn : (o : Ordering) → nat_cmp (turn c.owner) (turn stop.owner) ≡ o
-            → behind c ≡ ordering_then o (ordering_then (age_cmp first c.entry.version entry.version) (nat_cmp c.entry.key entry.key))
-        by_turn o is = ap (λ t. ordering_then t (ordering_then (age_cmp first c.entry.version entry.version) (nat_cmp c.entry.key entry.key))) is
+        versions : Ordering
+        versions = ordering_then (age_cmp first c.entry.version entry.version) (nat_cmp c.entry.key entry.key)
 
   -- sums over what marks let through are weights
   module _ {high : ℕ → ℕ} (covered : (owner : ℕ) → owner < from.nodes → HasNoneAbove cells from.keys owner (high owner)) (mark : ℕ → ℕ)
@@ -177,7 +207,7 @@ module _ {mode : Mode} {from to : Table} {lists : ℕ → List Entry} {cells : C
       sizes-weigh = sum-through _ weights (λ c in_c. ap (λ n. cond (lets mode cells mark c) n 0) (share-is c in_c))
 
       -- marks that share out a level up to a number that doesn't fit give the delta
-      pub shared-sent : {near far : ℕ → ℕ} → HasShape mode lists cells from.nodes from.keys low near far
+      pub shared-sent : {near far : ℕ → ℕ} → AreLevelMarks first way (level_number mode lists cells from.keys low) cells from.nodes from.keys low near far
           → (stop : StopAt first rotation from.nodes from.keys cells low near far mark)
           → through weights ≤ amount_of budget → amount_of budget < through weights + weights stop.owner (cells stop.owner stop.key)
           → HasSet cs (lets mode cells mark) delta
@@ -201,7 +231,7 @@ module _ {mode : Mode} {from to : Table} {lists : ℕ → List Entry} {cells : C
         count-sent = has.count ∙ sum-through _ one_each (λ c in_c. refl)
 
         pub count-cut : length delta.items + delta.cut ≡ weight_between one_each cells from.nodes from.keys low high
-        count-cut = omega (arith, has.count, has.cut, count-others (lets mode cells mark) cs, all-counted)
+        count-cut = omega (arith, has.count, has.cut, count_by-not (lets mode cells mark) cs, sum_by-ones (λ c. 1) (λ _. refl) cs, all-counted)
 
         pub are-sent : (sent : ℕ → ℕ → Bool)
             → ((owner key : ℕ) → owner < from.nodes → key < from.keys → sent owner key ≡

@@ -1,60 +1,124 @@
 -- Layers of an offer, gone over as long as they fit.
 -- Serves `breadth` and `one_more`.
-use Rattle.delta_plans.proofs.Common.{◌≡◌, ℕ, ◌+◌, ◌<◌, ◌≤◌, cond, ltb, List, length, get_or, map, inl, inr, Some, Vec, Global, sym, ap, ◌∙◌, subst, arith, nat_tests, cases_lt, length-map, amount_of, Cells, count_between, HasEach, HasNoneAbove, IsNextAbove, IsLeastAbove, AreChanged, sum_below, sum_below-same, NumbersDiffer, Offer, Level, Step, cells_in, low_in, high_in, marks, weights_in, weight_in, count_in, IsLeftOf, IsOffer, IsNextLayer, IsNextMark, HasLayers, IsLayerMark}
-use Rattle.delta_plans.proofs.Sums.{sum_below-each_none}
-use Rattle.delta_plans.proofs.Layers.{counted-next, layer-stays, layer-next}
-use Rattle.delta_plans.proofs.LevelSteps.{level-first, level-left, level-next}
-use Rattle.delta_plans.proofs.WeightLaws.{weight_of-none, weight_of-split, weight_of-all}
+use Rattle.delta_plans.proofs.Common.{◌≡◌, ℕ, ◌+◌, ◌-◌, ◌<◌, ◌≤◌, cond, leb, ltb, List, length, get_or, map, inl, inr, refl, Some, Vec, Global, sym, ap, ◌∙◌, subst, arith, nat_tests, cases_lt, le-leb, lt-leb, lt-ltb, le-ltb, length-map, amount_of, Cells, count_between, HasEach, HasNoneAbove, IsNextAbove, IsLeastAbove, AreChanged, sum_below, sum_below-same, NumbersDiffer, Oldest, Offer, Level, Step, cells_in, low_in, high_in, marks, weights_in, weight_in, count_in, IsLeftOf, IsOffer, IsNextLayer, IsNextMark, AreLevelMarks, rank_above}
+use Rattle.delta_plans.proofs.WeightLaws.{part, sum_below-each_none, weight_of-all, weight_of-none, weight_of-split}
+use Rattle.delta_plans.proofs.LevelSteps.{IsLevelSoFar, level-first, level-left, level-next}
+use Rattle.delta_plans.proofs.Nodes.{step-each, step-is}
+use Rattle.delta_plans.proofs.StopSteps.{weight_of-one}
 
--- the next number, or else the mark itself
-module _ (most : ℕ) (cells : Cells) (keys owner mark least y : ℕ) (below : (key : ℕ) → key < keys → cells owner key < most)
-    (next : IsNextAbove most cells keys owner mark least) (settled : y ≡ cond (ltb least most) least mark) where
-  pub next-mark : IsNextMark cells keys owner mark y
-  next-mark = elim next [
-    | inl none ↦ inl (none.0, grind (arith, nat_tests, none.1))
-    | inr some ↦
-        let is : y ≡ least = grind (arith, nat_tests, some.is, below some.key some.below) in
-        inr (subst (IsLeastAbove cells keys owner mark) (sym is) some)
-  ]
+-- a mark that lets through an owner's first so many numbers above another, or all where there are no more
+pub record IsLayerMark (cells : Cells) (keys owner low layers mark : ℕ) : Type 0 where
+  above : low ≤ mark
+  count : count_between cells keys owner low mark ≤ layers
+  full : (key : ℕ) → key < keys → mark < cells owner key → count_between cells keys owner low mark ≡ layers
 
-  -- which is counted where it is a number
-  pub next-counted : NumbersDiffer cells keys owner → ◌≡◌ {A = ℕ} (cond (ltb least most) 1 0) (count_between cells keys owner mark y)
-  next-counted differ = elim next-mark [
-    | inl end ↦
-        let none = weight_of-none (λ _. 1) cells keys owner mark y (omega (arith, end.1)) in
-        let no_number : most ≤ least = elim next [
-          | inl none ↦ omega (arith, none.1)
-          | inr some ↦ absurd
-              (omega (arith, some.is, some.above, end.0 some.key some.below))
-        ] in
-        grind (arith, nat_tests)
-    | inr some ↦
-        let one = counted-next cells keys owner mark mark y (omega arith) differ some in
-        let none = weight_of-none (λ _. 1) cells keys owner mark mark (omega arith) in
-        let number : least < most = elim next [
-          | inl none ↦ absurd (omega (arith, some.is, some.above, none.0 some.key some.below))
-          | inr some ↦ omega
-              (arith, some.is, below some.key some.below)
-        ] in
+module _ (cells : Cells) (keys owner : ℕ) where
+  abbrev count : ℕ → ℕ → ℕ
+  count from to = count_between cells keys owner from to
+
+  -- up to an owner's next number there is that one
+  one-next : (mark least : ℕ) → NumbersDiffer cells keys owner → IsLeastAbove cells keys owner mark least → count mark least ≡ 1
+  one-next mark least differ next = weight_of-one (λ _. 1) cells keys owner mark least next.key next.below
+      (omega (arith, next.is, next.above)) (omega (arith, next.is)) (λ k lt above upto.
+      differ k next.key lt next.below (omega (arith, above)) (omega (arith, upto, next.no_less k lt above, next.is)))
+
+  -- a number between two marks is counted
+  some-between : (from to key : ℕ) → key < keys → from < cells owner key → cells owner key ≤ to → 0 < count from to
+  some-between from to key lt above upto = elim (cases_lt 0 (count from to)) [
+    | inl some ↦ some
+    | inr none ↦
+        let here = sum_below-each_none keys (λ k. part (λ _. 1) from to (cells owner k)) (omega (arith, none)) key lt in
         grind (arith, nat_tests)
   ]
 
--- each owner's next number is counted
-pub layer-counted : {N : Type 0} (number : N → ℕ) (most : ℕ) (offer : Offer N) → IsOffer number most offer
-    → (near : ℕ → ℕ) (items old new : List N) (count : ℕ) → old ≡ items
+  -- the next number, or else the mark itself, which is counted where it is a number
+  next-told : (most mark least y : ℕ) → ((key : ℕ) → key < keys → cells owner key < most) → NumbersDiffer cells keys owner
+      → IsNextAbove most cells keys owner mark least → y ≡ cond (ltb least most) least mark
+      → IsNextMark cells keys owner mark y × (mark ≤ y) × (cond (ltb least most) 1 0 ≡ count mark y)
+  next-told most mark least y below differ next settled = elim next [
+    | inl none ↦
+        let same : y ≡ mark = grind (arith, nat_tests, none.1) in
+        let nothing = weight_of-none (λ _. 1) cells keys owner mark y (omega (arith, same)) in
+        (inl (none.0, same), omega (arith, same), grind (arith, nat_tests, none.1))
+    | inr some ↦
+        let number : least < most = omega (arith, some.is, below some.key some.below) in
+        let same : y ≡ least = grind (arith, nat_tests) in
+        let one = one-next mark y differ (subst (IsLeastAbove cells keys owner mark) (sym same) some) in (
+          inr (subst (IsLeastAbove cells keys owner mark) (sym same) some),
+          omega (arith, same, some.above),
+          grind (arith, nat_tests),
+        )
+  ]
+
+  module _ (low layers mark : ℕ) (is : IsLayerMark cells keys owner low layers mark) where
+    -- a number is let through where it is of one of the layers
+    layer-lets : (key : ℕ) → key < keys → low < cells owner key
+        → leb (cells owner key) mark ≡ ltb (rank_above cells keys owner low (cells owner key)) layers
+    layer-lets key lt above =
+        let n = cells owner key in
+        let rank : rank_above cells keys owner low n ≡ count low (n - 1) = sum_below-same keys _ _ (λ k lt'. grind (arith, nat_tests)) in
+        elim (cases_lt mark n) [
+          | inl over ↦
+              let split = weight_of-split (λ _. 1) cells keys owner low mark (n - 1) is.above (omega (arith, over)) in
+              lt-leb n mark over ∙ sym (le-ltb (rank_above cells keys owner low n) layers (omega (arith, rank, split, is.full key lt over)))
+          | inr upto ↦
+              let split = weight_of-split (λ _. 1) cells keys owner low (n - 1) mark (omega (arith, above)) (omega (arith, upto)) in
+              let some = some-between (n - 1) mark key lt (omega (arith, above)) (omega (arith, upto)) in
+              le-leb n mark (omega (arith, upto)) ∙ sym (lt-ltb (rank_above cells keys owner low n) layers (omega (arith, rank, split, some, is.count)))
+        ]
+
+    -- the next mark is one of a layer more
+    layer-more : (next : ℕ) → NumbersDiffer cells keys owner → IsNextMark cells keys owner mark next → IsLayerMark cells keys owner low (layers + 1) next
+    layer-more next differ step = elim step [
+      | inl none ↦ subst (IsLayerMark cells keys owner low (layers + 1)) (sym none.1) (record {
+        above = is.above;
+        count = omega (arith, is.count);
+        full = λ key lt over. absurd (omega (arith, over, none.0 key lt));
+      })
+      | inr some ↦
+          let split = weight_of-split (λ _. 1) cells keys owner low mark next is.above (omega (arith, some.above)) in
+          let full = is.full some.key some.below (omega (arith, some.is, some.above)) in
+          let counted : count low next ≡ layers + 1 = omega (arith, split, one-next mark next differ some, full) in
+          record { above = omega (arith, is.above, some.above); count = omega (arith, counted); full = λ key lt over. counted }
+    ]
+
+-- what a step over the owners' next numbers writes
+pub next-layer : {N : Type 0} {number : N → ℕ} {most : ℕ} {offer : Offer N} → IsOffer number most offer
+    → (near : ℕ → ℕ) (items old new : List N) (count : ℕ) (step : Step N) → old ≡ items
     → HasEach offer.grid.size.nodes (λ r n. IsNextAbove most (cells_in number offer) offer.grid.size.keys r (near r) n) (map number items)
+    → step.marks.items ≡ new → step.more ≡ count
     → AreChanged (λ r x y. y ≡ cond (ltb x most) x (near r)) (map number old) (map number new)
-    → count ≡ sum_below (length old) (λ r. cond (ltb (get_or (map number old) r 0) most) 1 0)
-    → count ≡ count_in number offer near (λ r. get_or (map number new) r 0)
-layer-counted number most offer is near items old new count value found settled counted =
-    counted
-    ∙ ap (λ n. sum_below n (λ r. cond (ltb (get_or (map number old) r 0) most) 1 0)) (sym (length-map old number) ∙ of_old.size)
-    ∙ sum_below-same offer.grid.size.nodes _ _ (λ r lt.
-    next-counted most (cells_in number offer) offer.grid.size.keys r (near r) (get_or (map number old) r 0) (get_or (map number new) r 0)
-    (λ key in_keys. is.below r key lt in_keys) (of_old.each r lt) (settled.each r (omega (arith, lt, of_old.size))) (is.differ r lt))
+    × (count ≡ sum_below (length old) (λ r. cond (ltb (get_or (map number old) r 0) most) 1 0))
+    → IsNextLayer number offer near step
+next-layer {number = number} {most = most} {offer = offer} is near items old new count step same found whole more done = record {
+  is_step = step-is number offer near 1 _ _ old new count step long whole (omega (arith, more)) done
+      (λ r lt. ((told r lt).1, omega (arith, (told r lt).2)));
+  next = λ r lt. (told r lt).0;
+}
   where
-    of_old : HasEach offer.grid.size.nodes (λ r n. IsNextAbove most (cells_in number offer) offer.grid.size.keys r (near r) n) (map number old)
-    of_old = subst (λ xs. HasEach offer.grid.size.nodes (λ r n. IsNextAbove most (cells_in number offer) offer.grid.size.keys r (near r) n) (map number xs)) (sym value) found
+    long : length old ≡ offer.grid.size.nodes
+    long = ap length same ∙ sym (length-map items number) ∙ found.size
+
+    told : (r : ℕ) → r < offer.grid.size.nodes
+        → IsNextMark (cells_in number offer) offer.grid.size.keys r (near r) (marks number step.marks.items r)
+        × (near r ≤ marks number step.marks.items r)
+        × (cond (ltb (get_or (map number old) r 0) most) 1 0
+        ≡ count_between (cells_in number offer) offer.grid.size.keys r (near r) (marks number step.marks.items r))
+    told r lt = next-told (cells_in number offer) offer.grid.size.keys r most (near r) (get_or (map number old) r 0) (marks number step.marks.items r)
+        (λ key in_keys. is.below r key lt in_keys) (is.differ r lt) (rw same (found.each r lt))
+        (step-each number offer near 1 _ _ old new count step long whole (omega (arith, more)) done r lt)
+
+-- marks of so many layers
+abbrev pub AreLayerMarks : {N : Type 0} → (N → ℕ) → Offer N → ℕ → (ℕ → ℕ) → Type 0
+AreLayerMarks number offer layers mark =
+    (r : ℕ) → r < offer.grid.size.nodes → IsLayerMark (cells_in number offer) offer.grid.size.keys r (low_in number offer r) layers (mark r)
+
+-- layers as far as they were gone over
+pub record HasLayers {N : Type 0} (number : N → ℕ) (offer : Offer N) (level : Level N) (more : ℕ) : Type 0 where
+  pub so_far : IsLevelSoFar number offer level more
+  layers : ℕ
+  near_is : AreLayerMarks number offer layers (marks number level.near.items)
+  far_is : AreLayerMarks number offer (layers + 1) (marks number level.far.items)
 
 module _ {N : Type 0} {number : N → ℕ} {most : ℕ} {offer : Offer N} (is : IsOffer number most offer) where
   abbrev cells : Cells
@@ -63,71 +127,78 @@ module _ {N : Type 0} {number : N → ℕ} {most : ℕ} {offer : Offer N} (is : 
   abbrev low : ℕ → ℕ
   low = low_in number offer
 
-  -- marks of so many layers
-  abbrev AreMarks : ℕ → (ℕ → ℕ) → Type 0
-  AreMarks layers mark = (owner : ℕ) → owner < offer.grid.size.nodes → IsLayerMark cells offer.grid.size.keys owner (low owner) layers (mark owner)
+  abbrev high : ℕ → ℕ
+  high = high_in number offer
 
-  none-marks : AreMarks 0 low
+  none-marks : AreLayerMarks number offer 0 low
   none-marks owner lt =
       let none = weight_of-none (λ _. 1) cells offer.grid.size.keys owner (low owner) (low owner) (omega arith) in
       record { above = omega arith; count = omega (arith, none); full = λ key in_keys over. none }
 
-  one-more : {layers : ℕ} {near far : ℕ → ℕ} → AreMarks layers near
+  one-more : {layers : ℕ} {near far : ℕ → ℕ} → AreLayerMarks number offer layers near
       → ((owner : ℕ) → owner < offer.grid.size.nodes → IsNextMark cells offer.grid.size.keys owner (near owner) (far owner))
-      → AreMarks (layers + 1) far
-  one-more {layers} {near} {far} before next owner lt = elim (next owner lt) [
-    | inl none ↦
-        subst (IsLayerMark cells offer.grid.size.keys owner (low owner) (layers + 1)) (sym none.1)
-        (layer-stays cells offer.grid.size.keys owner (low owner) layers (near owner) (before owner lt) none.0)
-    | inr some ↦ layer-next cells offer.grid.size.keys owner (low owner) layers (near owner) (before owner lt) (far owner) (is.differ owner lt) some
-  ]
+      → AreLayerMarks number offer (layers + 1) far
+  one-more {layers} {near} {far} before next owner lt =
+      layer-more cells offer.grid.size.keys owner (low owner) layers (near owner) (before owner lt) (far owner) (is.differ owner lt) (next owner lt)
 
   -- the first layer
   pub layers-first : {near : Vec N Global} {step : Step N} {level : Level N}
       → level ≡ record { near = near; far = step.marks; whole = 0; left = amount_of offer.budget }
       → near.items ≡ offer.low.now → IsNextLayer number offer (marks number near.items) step → HasLayers number offer level step.more
-  layers-first {near} {step} made start layer =
-      let near_is = subst (λ xs. AreMarks 0 (marks number xs)) (sym start) none-marks in
-      record {
-        so_far = level-first is made start layer.is_step;
-        shape = rw made (record { layers = 0; near_is = near_is; far_is = one-more near_is layer.next });
-      }
+  layers-first made start layer =
+      let near_is = subst (λ xs. AreLayerMarks number offer 0 (marks number xs)) (sym start) none-marks in
+      rw made (record { so_far = level-first is refl start layer.is_step; layers = 0; near_is = near_is; far_is = one-more near_is layer.next })
 
-  module _ {level : Level N} {more left : ℕ} (has : HasLayers number offer level more)
-      (fits : IsLeftOf level.left (weight_in number offer (marks number level.near.items) (marks number level.far.items)) (Some left)) where
+  module _ {level : Level N} {more : ℕ} (has : HasLayers number offer level more) where
     abbrev near : ℕ → ℕ
     near = marks number level.near.items
 
     abbrev far : ℕ → ℕ
     far = marks number level.far.items
 
-    -- where not all fits, a layer that does has something
-    pub layers-more : amount_of offer.budget < weight_in number offer low (high_in number offer) → 0 < more
-    layers-more cut = elim (cases_lt 0 more) [
-      | inl some ↦ some
-      | inr none ↦ absurd (omega (arith, level-left is has.so_far fits, cut, all (omega (arith, none, has.so_far.added))))
-    ]
-      where
-        -- a number beyond both would be of the next layer
-        ends : count_in number offer near far ≡ 0 → (owner : ℕ) → owner < offer.grid.size.nodes → HasNoneAbove cells offer.grid.size.keys owner (far owner)
-        ends none owner lt key in_keys = elim (cases_lt (far owner) (cells owner key)) [
-          | inr upto ↦ omega (arith, upto)
-          | inl over ↦
-              let farther = has.so_far.farther owner lt in
-              let split = weight_of-split (λ _. 1) cells offer.grid.size.keys owner (low owner) (near owner) (far owner) farther.0 farther.2 in
-              let empty = sum_below-each_none offer.grid.size.nodes _ none owner lt in
-              absurd (omega (arith, split, empty, (has.shape.near_is owner lt).count, (has.shape.far_is owner lt).full key in_keys over))
-        ]
-
-        all : count_in number offer near far ≡ 0 → weight_in number offer low far ≡ weight_in number offer low (high_in number offer)
-        all none = sum_below-same offer.grid.size.nodes _ _ (λ owner lt.
-            weight_of-all (weights_in offer owner) cells offer.grid.size.keys owner (low owner) (far owner) (high_in number offer owner) (is.covered owner lt)
-            (ends none owner lt))
-
-    -- one layer more
-    pub layers-next : {step : Step N} {next : Level N} → next ≡ record { near = level.far; far = step.marks; whole = level.whole + more; left = left }
-        → IsNextLayer number offer far step → HasLayers number offer next step.more
-    layers-next made layer = record {
-      so_far = level-next is has.so_far fits made layer.is_step;
-      shape = rw made (record { layers = has.shape.layers + 1; near_is = has.shape.far_is; far_is = one-more has.shape.far_is layer.next });
+    -- the level at which they end
+    pub level-of_layers : AreLevelMarks Oldest Oldest (λ owner number. rank_above cells offer.grid.size.keys owner (low owner) number)
+        cells offer.grid.size.nodes offer.grid.size.keys low near far
+    level-of_layers = record {
+      next = has.layers;
+      near_is = λ r key lt in_keys over.
+          layer-lets cells offer.grid.size.keys r (low r) has.layers (near r) (has.near_is r lt) key in_keys over;
+      far_is = λ r key lt in_keys over.
+          let lets = layer-lets cells offer.grid.size.keys r (low r) (has.layers + 1) (far r) (has.far_is r lt) key in_keys over in
+          grind (arith, nat_tests);
     }
+
+    module _ {left : ℕ} (fits : IsLeftOf level.left (weight_in number offer near far) (Some left)) where
+      -- where not all fits, a layer that does has something
+      pub layers-more : amount_of offer.budget < weight_in number offer low high → 0 < more
+      layers-more cut = elim (cases_lt 0 more) [
+        | inl some ↦ some
+        | inr none ↦ absurd (omega (arith, level-left is has.so_far fits, cut, all (omega (arith, none, has.so_far.added))))
+      ]
+        where
+          -- a number beyond both would be of the next layer
+          ends : count_in number offer near far ≡ 0 → (owner : ℕ) → owner < offer.grid.size.nodes
+              → HasNoneAbove cells offer.grid.size.keys owner (far owner)
+          ends none owner lt key in_keys = elim (cases_lt (far owner) (cells owner key)) [
+            | inr upto ↦ omega (arith, upto)
+            | inl over ↦
+                let farther = has.so_far.farther owner lt in
+                let split = weight_of-split (λ _. 1) cells offer.grid.size.keys owner (low owner) (near owner) (far owner) farther.0 farther.2 in
+                let empty = sum_below-each_none offer.grid.size.nodes _ none owner lt in
+                absurd (omega (arith, split, empty, (has.near_is owner lt).count, (has.far_is owner lt).full key in_keys over))
+          ]
+
+          all : count_in number offer near far ≡ 0 → weight_in number offer low far ≡ weight_in number offer low high
+          all none = sum_below-same offer.grid.size.nodes _ _ (λ owner lt.
+              weight_of-all (weights_in offer owner) cells offer.grid.size.keys owner (low owner) (far owner) (high owner)
+              (is.covered owner lt) (ends none owner lt))
+
+      -- one layer more
+      pub layers-next : {step : Step N} {next : Level N} → next ≡ record { near = level.far; far = step.marks; whole = level.whole + more; left = left }
+          → IsNextLayer number offer far step → HasLayers number offer next step.more
+      layers-next made layer = rw made (record {
+        so_far = level-next is has.so_far fits refl layer.is_step;
+        layers = has.layers + 1;
+        near_is = has.far_is;
+        far_is = one-more has.far_is layer.next;
+      })

@@ -1,8 +1,18 @@
 -- Levels of an offer, gone over as long as they fit.
 -- Serves `breadth`, `depth`, `LayerSteps` and `RunSteps`.
-use Rattle.delta_plans.proofs.Common.{◌≡◌, ℕ, ◌+◌, ◌*◌, ◌<◌, ◌≤◌, inl, inr, List, length, Option, Some, None, Vec, Global, sym, ap, ◌∙◌, subst, transport, arith, cases_lt, sum_below-same, sum_below-plus, sum_below-le, amount_of, MOST_NODES, MOST_KEYS, Offer, Level, Step, Oldest, cells_in, low_in, high_in, marks, weights_in, weight_in, count_in, AreCounted, IsLeftOf, IsOffer, one_each, weight_between, IsLevel, IsLevelSoFar, IsStep}
-use Rattle.delta_plans.proofs.OfferWeights.{offer-few, offer-weighs_none, offer-counts_none}
-use Rattle.delta_plans.proofs.WeightLaws.{weight_of-split, weight_of-upto}
+use Rattle.delta_plans.proofs.Common.{◌≡◌, ℕ, ◌+◌, ◌*◌, ◌<◌, ◌≤◌, inl, inr, List, length, Option, Some, None, Vec, Global, sym, ap, ◌∙◌, subst, transport, arith, cases_lt, sum_below-same, sum_below-plus, sum_below-le, amount_of, MOST_NODES, MOST_KEYS, Offer, Level, Step, Oldest, cells_in, low_in, high_in, marks, weights_in, weight_in, count_in, AreCounted, IsLeftOf, IsOffer, one_each, weight_between, IsLevel, AreFarther, IsStep}
+use Rattle.delta_plans.proofs.WeightLaws.{offer-counts_none, offer-few, offer-weighs_none, weight_of-split, weight_of-upto}
+
+-- levels as far as they were gone over, the oldest first: near marks, up to which all fit, and far marks, with so many
+-- numbers more
+pub record IsLevelSoFar {N : Type 0} (number : N → ℕ) (offer : Offer N) (level : Level N) (more : ℕ) : Type 0 where
+  pub near : length level.near.items ≡ offer.grid.size.nodes
+  pub far : length level.far.items ≡ offer.grid.size.nodes
+  pub farther : (owner : ℕ) → owner < offer.grid.size.nodes
+      → AreFarther Oldest (low_in number offer owner) (marks number level.near.items owner) (marks number level.far.items owner)
+  pub whole : level.whole ≡ count_in number offer (low_in number offer) (marks number level.near.items)
+  pub added : more ≡ count_in number offer (marks number level.near.items) (marks number level.far.items)
+  pub left : weight_in number offer (low_in number offer) (marks number level.near.items) + level.left ≡ amount_of offer.budget
 
 module _ {N : Type 0} {number : N → ℕ} {most : ℕ} {offer : Offer N} (is : IsOffer number most offer) where
   abbrev low : ℕ → ℕ

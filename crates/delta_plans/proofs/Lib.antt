@@ -1,16 +1,10 @@
 pub mod SentSets
-pub mod Sums
-pub mod Grids
 pub mod Candidates
 pub mod MarkedLaws
 pub mod RoundMarks
 pub mod Starts
-pub mod Layers
-pub mod LevelMarks
 pub mod DeltaMarks
-pub mod Firsts
 pub mod WeightLaws
-pub mod OfferWeights
 pub mod LevelSteps
 pub mod LayerSteps
 pub mod RunSteps

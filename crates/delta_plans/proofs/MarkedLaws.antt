@@ -21,8 +21,10 @@ module _ {N : Type 0} (number : N → ℕ) (most : ℕ) (offer : Offer N) (is : 
   -- marks above the low ones let through no more than all
   above-tells : (first : First) (mark : ℕ → ℕ) → ((r : ℕ) → r < offer.grid.size.nodes → low r ≤ mark r)
       → (count_on first number offer mark ≤ count_in number offer low high) × KeepsLow first offer.grid.size.nodes low mark
-  above-tells Oldest mark above = (count-le (cells_in number offer) offer.grid.size.nodes offer.grid.size.keys low low mark high (λ owner in_nodes. omega arith) is.covered, tt)
-  above-tells Newest mark above = (count-le (cells_in number offer) offer.grid.size.nodes offer.grid.size.keys mark low high high above is.covered, above)
+  above-tells Oldest mark above =
+      (count-le (cells_in number offer) offer.grid.size.nodes offer.grid.size.keys low low mark high (λ owner lt. omega arith) is.covered, tt)
+  above-tells Newest mark above =
+      (count-le (cells_in number offer) offer.grid.size.nodes offer.grid.size.keys mark low high high above is.covered, above)
 
   -- the marks that let all through: the high ones, or from the newest on the low ones
   abbrev whole_marks : First → List N

@@ -1,48 +1,43 @@
 -- What marks at the ends of rounds let through.
 -- Serves `Rounds::count`, `Rounds::few_rounds`, `Rounds::left_of_few`, `Rounds::level`, `Rounds::look` and
 -- `version_tables`.
-use Rattle.delta_plans.proofs.Common.{◌≡◌, ℕ, ◌+◌, ◌-◌, ◌*◌, ◌<◌, ◌≤◌, IfSome, MOST_ENTRY_SIZE, max, map, ltb, List, length, Some, None, inl, inr, refl, sym, ap, ◌∙◌, subst, transport, arith, nat_tests, nat_lt, length-map, cases_lt, Entry, amount_of, all_writes, Cells, cell, total_of, HasNoneAbove, sum_below-same, sum_below-plus, AreMadeBy, IsRoundMark, numbered-some, First, Oldest, Newest, Offer, Level, Fit, Rounds, cells_in, low_in, high_in, marks, weights_in, count_in, count_on, weight_on, AreFarther, end_mark, round_mark, mark_of_rounds, AreFewAndEnough, AreRaised, AreRoundMarks, HasRounds, IsFound, IsLevelOfRounds, AreRounds, IsOn, weight_through, count_all_between, one_each}
-use Rattle.delta_plans.proofs.Sums.{where_true, sum_below-none}
-use Rattle.delta_plans.proofs.OfferWeights.{offer-most}
+use Rattle.delta_plans.proofs.Common.{◌≡◌, ℕ, ◌+◌, ◌-◌, ◌*◌, ◌<◌, ◌≤◌, IfSome, MOST_ENTRY_SIZE, map, ltb, leb, List, Some, None, inl, inr, refl, sym, ap, ◌∙◌, subst, transport, arith, nat_tests, nat_lt, length-map, cases_lt, amount_of, all_writes, Cells, cell, total_of, HasNoneAbove, sum_below-same, sum_below-plus, numbered-some, write_numbered, First, Oldest, Newest, by_first, Offer, Level, Fit, Rounds, cells_in, low_in, high_in, marks, weights_in, count_on, weight_on, AreFarther, end_mark, mark_of_rounds, AreFewAndEnough, AreRaised, AreRoundMarks, HasRounds, IsFound, IsLevelOfRounds, AreLevelMarks, round_of, IsOn, weight_through, count_all_between, one_each}
+use Rattle.delta_plans.proofs.WeightLaws.{offer-most, part, sum_below-none, weight_of-all, weight_of-none, where_true}
 use Rattle.delta_plans.proofs.TurnSteps.{through-same}
-use Rattle.delta_plans.proofs.WeightLaws.{part, weight_of-all, weight_of-none}
 
-module _ (cells : Cells) (nodes keys : ℕ) (high : ℕ → ℕ) (covered : (owner : ℕ) → owner < nodes → HasNoneAbove cells keys owner (high owner)) where
+module _ (cells : Cells) (nodes keys : ℕ) (high : ℕ → ℕ)
+    (covered : (owner : ℕ) → owner < nodes → HasNoneAbove cells keys owner (high owner)) where
   abbrev above : (ℕ → ℕ) → ℕ
   above mark = total_of nodes keys (λ r k. nat_lt (mark r) (cells r k))
 
   -- how many are above marks
   pub count-above : (mark : ℕ → ℕ) → above mark ≡ count_all_between cells nodes keys mark high
-  count-above mark = sum_below-same nodes _ _ (λ owner in_nodes. sum_below-same keys _ _ (λ key in_keys. let le = covered owner in_nodes key in_keys in grind (arith, nat_tests)))
+  count-above mark = sum_below-same nodes _ _ (λ owner in_nodes. sum_below-same keys _ _
+      (λ key in_keys. let le = covered owner in_nodes key in_keys in grind (arith, nat_tests)))
 
   -- and so how many are up to them
-  count-upto : (low mark : ℕ → ℕ) → ((owner : ℕ) → owner < nodes → low owner ≤ mark owner) → count_all_between cells nodes keys low high ≡ count_all_between cells nodes keys low mark + above mark
+  pub count-upto : (low mark : ℕ → ℕ) → ((owner : ℕ) → owner < nodes → low owner ≤ mark owner)
+      → count_all_between cells nodes keys low high ≡ count_all_between cells nodes keys low mark + above mark
   count-upto low mark raised =
       sum_below-same nodes _ _ (λ owner in_nodes.
-      sum_below-same keys _ (λ key. part (λ _. 1) (low owner) (mark owner) (cells owner key) + where_true (ltb (mark owner) (cells owner key)) 1)
+      sum_below-same keys _
+      (λ key. part (λ _. 1) (low owner) (mark owner) (cells owner key) + where_true (ltb (mark owner) (cells owner key)) 1)
       (λ key in_keys. let le = covered owner in_nodes key in_keys in let lower = raised owner in_nodes in grind (arith, nat_tests))
       ∙ sum_below-plus keys _ _)
       ∙ sum_below-plus nodes _ _
 
--- a mark at a round's end, raised to the low mark, parts what is above that
-pub raised-mark : (writes : List Entry) (low round mark : ℕ) → IsRoundMark writes 0 round mark → IsRoundMark writes low round (max low mark)
-raised-mark writes low round mark is = record {
-  upto = λ number e above stands le. is.upto number e (omega (arith, above)) stands (omega (arith, above, le));
-  above = λ number e above stands lt. is.above number e (omega (arith, above)) stands (omega (arith, lt));
-}
-
--- no number is above the end of the last round
-pub none-later : (writes : List Entry) (rounds mark number : ℕ) → IsRoundMark writes 0 rounds mark → AreMadeBy rounds writes → number ≤ length writes → number ≤ mark
-none-later writes rounds mark number is made le = elim (cases_lt mark number) [
-  | inl above ↦
-      let there = numbered-some writes number (omega (arith, above)) le in
-      absurd (omega (arith, is.above number there.0 (omega (arith, above)) there.1 above, made.last number there.0 there.1))
-  | inr upto ↦ omega (arith, upto)
-]
-
 module _ {N : Type 0} {number : N → ℕ} {most : ℕ} (rounds : Rounds N) (is : HasRounds number most rounds) where
   abbrev offer : Offer N
   offer = rounds.offer.now
+
+  abbrev nodes : ℕ
+  nodes = offer.grid.size.nodes
+
+  abbrev keys : ℕ
+  keys = offer.grid.size.keys
+
+  abbrev cells : Cells
+  cells = cells_in number offer
 
   abbrev low : ℕ → ℕ
   low = low_in number offer
@@ -50,50 +45,69 @@ module _ {N : Type 0} {number : N → ℕ} {most : ℕ} (rounds : Rounds N) (is 
   abbrev high : ℕ → ℕ
   high = high_in number offer
 
-  abbrev lists : ℕ → List Entry
-  lists = all_writes offer.lists.now
-
   abbrev last : ℕ
   last = rounds.ends.rounds
 
   abbrev end : ℕ → ℕ → ℕ
-  end round owner = end_mark (map number rounds.ends.numbers.now) offer.grid.size.nodes low round owner
+  end round owner = end_mark (map number rounds.ends.numbers.now) nodes low round owner
 
   -- the marks of so many rounds, from either end
   abbrev mark : First → ℕ → ℕ → ℕ
-  mark first count = round_mark first last (map number rounds.ends.numbers.now) offer.grid.size.nodes low count
+  mark first count = end (by_first first count (last - count))
 
   abbrev through : First → (ℕ → ℕ → ℕ) → (ℕ → ℕ) → ℕ
-  through first weights mark = weight_through first weights (cells_in number offer) offer.grid.size.nodes offer.grid.size.keys low high mark
+  through first weights mark = weight_through first weights cells nodes keys low high mark
 
-  pub count-oldest : (mark : ℕ → ℕ) → ((owner : ℕ) → owner < offer.grid.size.nodes → low owner ≤ mark owner)
-      → count_in number offer low high ≡ count_in number offer low mark + total_of offer.grid.size.nodes offer.grid.size.keys (λ r k. nat_lt (mark r) (cells_in number offer r k))
-  count-oldest mark raised = count-upto (cells_in number offer) offer.grid.size.nodes offer.grid.size.keys high is.too_large.is_offer.covered low mark raised
+  -- the round in which a number was written
+  abbrev born : ℕ → ℕ → ℕ
+  born owner number = round_of (write_numbered (all_writes offer.lists.now owner) number)
 
-  all-made : (owner : ℕ) → owner < offer.grid.size.nodes → HasNoneAbove (cells_in number offer) offer.grid.size.keys owner (end last owner)
-  all-made owner in_nodes key in_keys =
-      let stop = cell (map number rounds.ends.numbers.now) offer.grid.size.nodes owner last in
-      let parts = is.are_ends_of.are_ends.parts owner last in_nodes (omega arith) in
-      let written = is.too_large.is_offer.written owner key in_nodes in_keys in
-      omega (arith, none-later (lists owner) last stop (cells_in number offer owner key) parts (is.are_ends_of.made owner) written)
+  module _ (owner key : ℕ) (in_nodes : owner < nodes) (in_keys : key < keys) where
+    -- a number is up to a round's end where it was written by then
+    written-by : (round : ℕ) → round ≤ last → low owner < cells owner key
+        → leb (cells owner key) (end round owner) ≡ leb (born owner (cells owner key)) round
+    written-by round le over =
+        let n = cells owner key in
+        let there = numbered-some (all_writes offer.lists.now owner) n (omega (arith, over)) (is.too_large.is_offer.written owner key in_nodes in_keys) in
+        let parts = is.are_ends_of.are_ends.parts owner round in_nodes le in
+        let its : born owner n ≡ there.0.born = ap round_of there.1 in
+        let stop = cell (map number rounds.ends.numbers.now) nodes owner round in
+        elim (cases_lt stop n) [
+          | inl above ↦ let later = parts.above n there.0 (omega (arith, over)) there.1 above in grind (arith, nat_tests)
+          | inr upto ↦ let by_then = parts.upto n there.0 (omega (arith, over)) there.1 (omega (arith, upto)) in grind (arith, nat_tests)
+        ]
 
-  none-made : (owner : ℕ) → owner < offer.grid.size.nodes → end 0 owner ≡ low owner
+    -- all were by the last one
+    all-made : cells owner key ≤ end last owner
+    all-made = elim (cases_lt (low owner) (cells owner key)) [
+      | inl over ↦ let by_then = written-by last (omega arith) over in let made = made_by in grind (arith, nat_tests)
+      | inr upto ↦ omega (arith, upto)
+    ]
+      where
+        made_by : born owner (cells owner key) ≤ last
+        made_by = elim (write_numbered (all_writes offer.lists.now owner) (cells owner key)) as
+            (λ o. write_numbered (all_writes offer.lists.now owner) (cells owner key) ≡ o → round_of o ≤ last) [
+              | None ↦ λ _. omega arith
+              | Some e ↦ λ there. (is.are_ends_of.made owner).last (cells owner key) e there
+            ] refl
+
+  none-made : (owner : ℕ) → owner < nodes → end 0 owner ≡ low owner
   none-made owner in_nodes = omega (arith, is.are_ends_of.are_ends.none owner in_nodes)
 
   -- no round lets nothing through
   no_rounds : (first : First) (weights : ℕ → ℕ → ℕ) → through first weights (mark first 0) ≡ 0
-  no_rounds Oldest weights =
-      sum_below-none offer.grid.size.nodes _ (λ owner in_nodes. weight_of-none (weights owner) (cells_in number offer) offer.grid.size.keys owner (low owner) (end 0 owner) (omega (arith, none-made owner in_nodes)))
-  no_rounds Newest weights = sum_below-none offer.grid.size.nodes _ (λ owner in_nodes. sum_below-none offer.grid.size.keys _ (λ key in_keys.
-      let le = subst (λ round. cells_in number offer owner key ≤ end round owner) {x = last} {y = last - 0} (omega arith) (all-made owner in_nodes key in_keys) in
+  no_rounds Oldest weights = sum_below-none nodes _ (λ owner in_nodes.
+      weight_of-none (weights owner) cells keys owner (low owner) (end 0 owner) (omega (arith, none-made owner in_nodes)))
+  no_rounds Newest weights = sum_below-none nodes _ (λ owner in_nodes. sum_below-none keys _ (λ key in_keys.
+      let le = subst (λ round. cells owner key ≤ end round owner) {x = last} {y = last - 0} (omega arith) (all-made owner key in_nodes in_keys) in
       grind (arith, nat_tests)))
 
   -- all rounds let all through
   all_rounds : (first : First) (weights : ℕ → ℕ → ℕ) → through first weights (mark first last) ≡ through Oldest weights high
-  all_rounds Oldest weights = sum_below-same offer.grid.size.nodes _ _ (λ owner in_nodes.
-      weight_of-all (weights owner) (cells_in number offer) offer.grid.size.keys owner (low owner) (end last owner) (high owner) (is.too_large.is_offer.covered owner in_nodes) (all-made owner in_nodes))
-  all_rounds Newest weights =
-      through-same weights (cells_in number offer) offer.grid.size.nodes offer.grid.size.keys low high low (mark Newest last) Newest
+  all_rounds Oldest weights = sum_below-same nodes _ _ (λ owner in_nodes.
+      weight_of-all (weights owner) cells keys owner (low owner) (end last owner) (high owner) (is.too_large.is_offer.covered owner in_nodes)
+      (λ key in_keys. all-made owner key in_nodes in_keys))
+  all_rounds Newest weights = through-same weights cells nodes keys low high low (mark Newest last) Newest
       (λ owner in_nodes. ap (λ round. end round owner) {x = last - last} {y = 0} (omega arith) ∙ none-made owner in_nodes)
 
   -- the search begins with none, which fit, and all, which don't
@@ -101,7 +115,9 @@ module _ {N : Type 0} {number : N → ℕ} {most : ℕ} (rounds : Rounds N) (is 
   begun all = record {
     below = elim (cases_lt 0 last) [
       | inl some ↦ some
-      | inr none ↦ absurd (omega (arith, too_many, no_rounds rounds.first (weights_in offer), ap (λ count. weight_on rounds.first number offer (mark rounds.first count)) {x = last} {y = 0} (omega (arith, none))))
+      | inr none ↦
+          let same = ap (λ count. weight_on rounds.first number offer (mark rounds.first count)) {x = last} {y = 0} (omega (arith, none)) in
+          absurd (omega (arith, too_many, no_rounds rounds.first (weights_in offer), same))
     ];
     bound = omega arith;
     fits = record {
@@ -125,12 +141,14 @@ module _ {N : Type 0} {number : N → ℕ} {most : ℕ} (rounds : Rounds N) (is 
     pub rounds-raised : AreRaised number most rounds items
     rounds-raised = record { has_rounds = is; size = sym (length-map items number) ∙ are.size; above = λ r lt. omega (arith, are.each r lt) }
 
-    pub let_through : (weights : ℕ → ℕ → ℕ) → through rounds.first weights (marks number items) ≡ through rounds.first weights (mark_of_rounds number rounds count)
-    let_through weights = through-same weights (cells_in number offer) offer.grid.size.nodes offer.grid.size.keys low high (mark_of_rounds number rounds count) (marks number items) rounds.first are.each
+    pub let_through : (weights : ℕ → ℕ → ℕ)
+        → through rounds.first weights (marks number items) ≡ through rounds.first weights (mark_of_rounds number rounds count)
+    let_through weights = through-same weights cells nodes keys low high (mark_of_rounds number rounds count) (marks number items) rounds.first are.each
 
     module _ {few enough : ℕ} {fit : Fit} (so_far : AreFewAndEnough number rounds few enough fit) where
       -- one more look finds more rounds that fit
-      pub further : {found : Fit} → IsFound number rounds (marks number items) (Some found) → count < enough → AreFewAndEnough number rounds count enough found
+      pub further : {found : Fit} → IsFound number rounds (marks number items) (Some found) → count < enough
+          → AreFewAndEnough number rounds count enough found
       further {found} look lt = record {
         below = lt;
         bound = so_far.bound;
@@ -155,7 +173,8 @@ module _ {N : Type 0} {number : N → ℕ} {most : ℕ} (rounds : Rounds N) (is 
       }
 
   -- one round more lets through more
-  farther : (first : First) (few enough owner : ℕ) → enough ≡ few + 1 → enough ≤ last → owner < offer.grid.size.nodes → AreFarther first (low owner) (mark first few owner) (mark first enough owner)
+  farther : (first : First) (few enough owner : ℕ) → enough ≡ few + 1 → enough ≤ last → owner < nodes
+      → AreFarther first (low owner) (mark first few owner) (mark first enough owner)
   farther first few enough owner is_next le in_nodes = (omega arith, omega arith, on first)
     where
       rises : (round next : ℕ) → round < last → next ≡ round + 1 → end round owner ≤ end next owner
@@ -168,34 +187,44 @@ module _ {N : Type 0} {number : N → ℕ} {most : ℕ} (rounds : Rounds N) (is 
   -- the level that a few rounds and one more are
   pub rounds-level : {enough : ℕ} {level : Level N} {fit : Fit} → AreFewAndEnough number rounds (enough - 1) enough fit → level.whole ≡ fit.count
       → AreRoundMarks number rounds (enough - 1) level.near.items → AreRoundMarks number rounds enough level.far.items
-      → weight_on rounds.first number offer (marks number level.near.items) + level.left ≡ amount_of offer.budget → IsLevelOfRounds number rounds level
+      → weight_on rounds.first number offer (marks number level.near.items) + level.left ≡ amount_of offer.budget
+      → IsLevelOfRounds number rounds level
   rounds-level {enough} {level} found whole near far left = record {
     is_level = record {
       near = (rounds-raised (enough - 1) level.near.items near).size;
       far = (rounds-raised enough level.far.items far).size;
       farther = λ owner in_nodes.
-          transport (λ i. AreFarther rounds.first (low owner) (sym (near.each owner in_nodes) i) (sym (far.each owner in_nodes) i)) (farther rounds.first (enough - 1) enough owner (omega (arith, found.below)) found.bound in_nodes);
+          transport (λ i. AreFarther rounds.first (low owner) (sym (near.each owner in_nodes) i) (sym (far.each owner in_nodes) i))
+          (farther rounds.first (enough - 1) enough owner (omega (arith, found.below)) found.bound in_nodes);
       whole = whole ∙ found.fits.count ∙ sym (let_through (enough - 1) level.near.items near one_each);
       left = left;
       beyond = omega (arith, found.beyond, let_through enough level.far.items far (weights_in offer));
     };
-    of_rounds = by_ends rounds.first near.each far.each;
+    shape = shape rounds.first near.each far.each;
   }
     where
-      parts : (round same : ℕ) (marked : ℕ → ℕ) → same ≡ round → round ≤ last → ((owner : ℕ) → owner < offer.grid.size.nodes → marked owner ≡ end round owner) → (owner : ℕ) → owner < offer.grid.size.nodes → IsRoundMark (lists owner) (low owner) same (marked owner)
-      parts round same marked is_round le are_ends owner in_nodes =
-          transport (λ i. IsRoundMark (lists owner) (low owner) (sym is_round i) (sym (are_ends owner in_nodes) i))
-          (raised-mark (lists owner) (low owner) round (cell (map number rounds.ends.numbers.now) offer.grid.size.nodes owner round) (is.are_ends_of.are_ends.parts owner round in_nodes le))
+      near_marks : ℕ → ℕ
+      near_marks = marks number level.near.items
 
-      by_ends : (f : First) → ((owner : ℕ) → owner < offer.grid.size.nodes → marks number level.near.items owner ≡ mark f (enough - 1) owner) → ((owner : ℕ) → owner < offer.grid.size.nodes → marks number level.far.items owner ≡ mark f enough owner)
-          → AreRounds f lists offer.grid.size.nodes low (marks number level.near.items) (marks number level.far.items)
-      by_ends Oldest nears fars = record {
-        round = enough - 1;
-        early_is = parts (enough - 1) (enough - 1) (marks number level.near.items) refl (omega (arith, found.below, found.bound)) nears;
-        late_is = parts enough (enough - 1 + 1) (marks number level.far.items) (omega (arith, found.below)) found.bound fars;
+      far_marks : ℕ → ℕ
+      far_marks = marks number level.far.items
+
+      shape : (f : First) → ((owner : ℕ) → owner < nodes → near_marks owner ≡ mark f (enough - 1) owner)
+          → ((owner : ℕ) → owner < nodes → far_marks owner ≡ mark f enough owner) → AreLevelMarks f f born cells nodes keys low near_marks far_marks
+      shape Oldest nears fars = record {
+        next = enough;
+        near_is = λ r key lt in_keys over.
+            let by_then = written-by r key lt in_keys (enough - 1) (omega (arith, found.bound)) over in let at = nears r lt in let some = found.below in
+            grind (arith, nat_tests);
+        far_is = λ r key lt in_keys over.
+            let by_then = written-by r key lt in_keys enough found.bound over in let at = fars r lt in grind (arith, nat_tests);
       }
-      by_ends Newest nears fars = record {
-        round = last - enough;
-        early_is = parts (last - enough) (last - enough) (marks number level.far.items) refl (omega arith) fars;
-        late_is = parts (last - (enough - 1)) (last - enough + 1) (marks number level.near.items) (omega (arith, found.below, found.bound)) (omega arith) nears;
+      shape Newest nears fars = record {
+        next = last - (enough - 1);
+        near_is = λ r key lt in_keys over.
+            let by_then = written-by r key lt in_keys (last - (enough - 1)) (omega arith) over in let at = nears r lt in grind (arith, nat_tests);
+        far_is = λ r key lt in_keys over.
+            let by_then = written-by r key lt in_keys (last - enough) (omega arith) over in let at = fars r lt in
+            let one : last - (enough - 1) ≡ last - enough + 1 = omega (arith, found.below, found.bound) in
+            grind (arith, nat_tests);
       }

@@ -1,7 +1,7 @@
 -- Any set of candidates that is closed downwards, fits, and lets nothing more in is what is sent.
 -- Serves `deltas_have_their_sets` and `DeltaMarks`.
-use Rattle.delta_plans.proofs.Common.{◌≡◌, ◌≢◌, ℕ, zero, suc, ◌+◌, ◌<◌, ◌≤◌, Bool, true, false, cond, not, eqb, List, [], ◌∷◌, refl, sym, ap, ◌∙◌, subst, arith, nat_tests, count_by, filter, IsPermutation, Contains, ◌&&◌, sum_by, Ordering, Less, Equal, Greater, is_lt, ordering_reverse, IsTotalOrder, tied_itself, both_ways, le-leb, lt-leb, AllPairs-filter, length_permutation, sum_by-cons, length-filter, Item, amount_of, is_before, mark_of, digest_kind, items_of, stands_at, IsApart, candidates, known_mark, DeltaView, delta_between, item_share, sending_order, sending_order-total, sending_order-strict, Contains-filter, Contains-kept, same_members, before_count, size_through, fits, sent, cut_count, Contains-first_places, first_places-Contains, sent_apart, size_in, IsKeptOut, IsSentSet, DeltasHaveTheirSets}
-use Rattle.delta_plans.proofs.Grids.{table_apart}
+use Rattle.delta_plans.proofs.Common.{is_lacked, ◌≡◌, ◌≢◌, ℕ, zero, suc, ◌+◌, ◌<◌, ◌≤◌, Bool, true, false, cond, not, List, [], ◌∷◌, refl, sym, ap, ◌∙◌, subst, arith, nat_tests, count_by, filter, IsPermutation, Contains, sum_by, Ordering, Less, Equal, Greater, is_lt, ordering_reverse, IsTotalOrder, tied_itself, both_ways, le-leb, lt-leb, AllPairs-filter, length_permutation, sum_by-cons, length-filter, Item, amount_of, items_of, stands_at, IsApart, candidates, DeltaView, delta_between, item_share, sending_order, sending_order-total, sending_order-strict, Contains-filter, Contains-kept, same_members, before_count, size_through, fits, sent, cut_count, Contains-first_places, first_places-Contains, sent_apart, size_in, IsKeptOut, IsSentSet, DeltasHaveTheirSets}
+use Rattle.delta_plans.proofs.Candidates.{table_apart}
 
 -- a sum over a list whose terms are no greater, for the elements of the list
 sum_by-le : {X : Type 0} (f g : X → ℕ) (xs : List X) → ((x : X) → Contains xs x → f x ≤ g x) → sum_by f xs ≤ sum_by g xs
@@ -10,13 +10,15 @@ sum_by-le f g (x ∷ xs) le =
     omega (arith, sum_by-cons f x xs, sum_by-cons g x xs, le x (0, omega arith, refl), sum_by-le f g xs (λ y (k, lt, is). le y (suc k, omega (arith, lt), is)))
 
 -- and where one of them is 0 and is greater by n there
-sum_by-more : {X : Type 0} (f g : X → ℕ) (xs : List X) (n : ℕ) (y : X) → Contains xs y → ((x : X) → Contains xs x → f x ≤ g x) → f y + n ≤ g y → sum_by f xs + n ≤ sum_by g xs
+sum_by-more : {X : Type 0} (f g : X → ℕ) (xs : List X) (n : ℕ) (y : X) → Contains xs y
+    → ((x : X) → Contains xs x → f x ≤ g x) → f y + n ≤ g y → sum_by f xs + n ≤ sum_by g xs
 sum_by-more f g [] n y (k, lt, is) le more = absurd (omega (arith, lt))
 sum_by-more f g (x ∷ xs) n y (zero, lt, is) le more =
     let at : f x + n ≤ g x = subst (λ z. f z + n ≤ g z) (sym is) more in
     omega (arith, sum_by-cons f x xs, sum_by-cons g x xs, at, sum_by-le f g xs (λ z (k, lt, is). le z (suc k, omega (arith, lt), is)))
 sum_by-more f g (x ∷ xs) n y (suc k, lt, is) le more =
-    omega (arith, sum_by-cons f x xs, sum_by-cons g x xs, le x (0, omega arith, refl), sum_by-more f g xs n y (k, omega (arith, lt), is) (λ z (j, lt, is). le z (suc j, omega (arith, lt), is)) more)
+    let rest = sum_by-more f g xs n y (k, omega (arith, lt), is) (λ z (j, lt, is). le z (suc j, omega (arith, lt), is)) more in
+    omega (arith, sum_by-cons f x xs, sum_by-cons g x xs, le x (0, omega arith, refl), rest)
 
 -- tests that agree on a list count as many
 sum_by-same : {X : Type 0} (f g : X → ℕ) (xs : List X) → ((x : X) → Contains xs x → f x ≡ g x) → sum_by f xs ≡ sum_by g xs
@@ -32,7 +34,8 @@ not_less Less e = absurd (e refl)
 not_less Equal e = refl
 not_less Greater e = refl
 
-module _ {X : Type 0} (order : X → X → Ordering) (total : IsTotalOrder order) (cs : List X) (size : X → ℕ) (is_in : X → Bool) (budget : ℕ) (strict : (c d : X) → Contains cs c → Contains cs d → order c d ≡ Equal → c ≡ d) (is : IsSentSet order cs size is_in budget) where
+module _ {X : Type 0} (order : X → X → Ordering) (total : IsTotalOrder order) (cs : List X) (size : X → ℕ) (is_in : X → Bool) (budget : ℕ)
+    (strict : (c d : X) → Contains cs c → Contains cs d → order c d ≡ Equal → c ≡ d) (is : IsSentSet order cs size is_in budget) where
   abbrev term : X → ℕ
   term d = cond (is_in d) (size d) 0
 
@@ -53,7 +56,8 @@ module _ {X : Type 0} (order : X → X → Ordering) (total : IsTotalOrder order
   sent_fits : (c : X) → Contains cs c → is_in c ≡ true → size_through order cs size c ≤ size_in order cs size is_in
   sent_fits c at_c yes' = sum_by-le (through c) term cs (λ d at_d. let behind = behind_in c d at_c at_d in grind (arith, nat_tests))
 
-  kept_out : (c : X) → Contains cs c → is_in c ≡ false → (out : IsKeptOut order cs size is_in budget c) → size_in order cs size is_in + size out.next ≤ size_through order cs size c
+  kept_out : (c : X) → Contains cs c → is_in c ≡ false → (out : IsKeptOut order cs size is_in budget c)
+      → size_in order cs size is_in + size out.next ≤ size_through order cs size c
   kept_out c at_c no' out = sum_by-more term (through c) cs (size out.next) out.next out.candidate
       (λ d at_d. let before = before_in c d at_c at_d in grind (arith, nat_tests))
       (let no_later = not_less (order c out.next) out.no_later in grind (arith, nat_tests, out.outside))
@@ -95,7 +99,8 @@ module _ {X : Type 0} (order : X → X → Ordering) (total : IsTotalOrder order
   in_set-sent c at_c yes' = first_places-Contains order total cs strict places c at_c (set_place c at_c yes')
 
   pub cut-is : cut_count order cs size budget ≡ count_by (λ c. not (is_in c)) cs
-  cut-is = sum_by-same (λ c. cond (not (fits order cs size budget c)) 1 0) (λ c. cond (not (is_in c)) 1 0) cs (λ c at_c. ap (λ b. cond (not b) 1 0) (fits-is c at_c))
+  cut-is = sum_by-same (λ c. cond (not (fits order cs size budget c)) 1 0) (λ c. cond (not (is_in c)) 1 0) cs
+      (λ c at_c. ap (λ b. cond (not b) 1 0) (fits-is c at_c))
 
 module _ {X : Type 0} (order : X → X → Ordering) (total : IsTotalOrder order) (cs : List X) (size : X → ℕ) (is_in : X → Bool) (budget : ℕ) where
   -- what comes before a candidate that doesn't fit beside it
@@ -123,7 +128,7 @@ module _ {X : Type 0} (order : X → X → Ordering) (total : IsTotalOrder order
 
 pub set_sent : DeltasHaveTheirSets
 set_sent mode rotation budget from to is_in proper in_nodes is = record {
-  members = λ c. ((λ there. sent-in_set order total cs size is_in (amount_of budget) strict is c there), (λ both. in_set-sent order total cs size is_in (amount_of budget) strict is c both.0 both.1));
+  members = λ c. (sent_in c, (λ both. in_sent c both.0 both.1));
   count = sym (length_permutation delta.items (filter is_in cs) same_items) ∙ length-filter is_in cs;
   cut = cut-is order total cs size is_in (amount_of budget) strict is;
 }
@@ -146,19 +151,22 @@ set_sent mode rotation budget from to is_in proper in_nodes is = record {
     delta : DeltaView
     delta = delta_between mode rotation budget from to
 
-    not_known : Item → Bool
-    not_known x = not (eqb x.owner to.node) && is_before (known_mark (digest_kind mode) to x) (mark_of x.entry)
+    sent_in : (c : Item) → Contains delta.items c → Contains cs c × (is_in c ≡ true)
+    sent_in = sent-in_set order total cs size is_in (amount_of budget) strict is
+
+    in_sent : (c : Item) → Contains cs c → is_in c ≡ true → Contains delta.items c
+    in_sent = in_set-sent order total cs size is_in (amount_of budget) strict is
 
     is_apart : Item → Item → Type 0
     is_apart i j = stands_at i.owner i.entry.key j ≡ false
 
     held : (c : Item) → Contains cs c → Contains (items_of from) c
-    held c there = (Contains-kept not_known (items_of from) c there).0
+    held c there = (Contains-kept (is_lacked mode to) (items_of from) c there).0
 
     filtered_apart : IsApart (filter is_in cs)
-    filtered_apart = AllPairs-filter is_apart is_in cs (AllPairs-filter is_apart not_known (items_of from) (table_apart from proper))
+    filtered_apart = AllPairs-filter is_apart is_in cs (AllPairs-filter is_apart (is_lacked mode to) (items_of from) (table_apart from proper))
 
     same_items : IsPermutation delta.items (filter is_in cs)
     same_items = same_members delta.items (filter is_in cs) (sent_apart order total from proper cs held _) filtered_apart
-        (λ c there. let at = sent-in_set order total cs size is_in (amount_of budget) strict is c there in Contains-filter is_in cs c at.0 at.1)
-        (λ c there. let at = Contains-kept is_in cs c there in in_set-sent order total cs size is_in (amount_of budget) strict is c at.0 at.1)
+        (λ c there. Contains-filter is_in cs c (sent_in c there).0 (sent_in c there).1)
+        (λ c there. let at = Contains-kept is_in cs c there in in_sent c at.0 at.1)

@@ -1,17 +1,23 @@
--- An owner's numbers gone over one after another.
--- Serves `Part::nearest`, `Part::stop_from`, `Turns::share_into` and `TurnSteps`.
-use Rattle.delta_plans.proofs.Common.{◌≡◌, ℕ, zero, suc, ◌+◌, ◌-◌, ◌<◌, ◌≤◌, ◌⊎◌, inl, inr, sym, ap, ◌∙◌, subst, arith, nat_tests, cases_lt, Cells, First, Oldest, Newest, by_first, NumbersDiffer, HasBetween, HasNext, IsBeyond, IsNext, IsOn, IsPast, nearer_beyond, weight_of, weight_from}
-use Rattle.delta_plans.proofs.Sums.{sum_below-one}
-use Rattle.delta_plans.proofs.WeightLaws.{part-cases, weight_of-none, weight_of-split, count_between-most}
+-- Where an owner's part of a level stops.
+-- Serves `Turns::share_into`, `Turns::stop_of`, `LayerSteps` and `TurnSteps`.
+use Rattle.delta_plans.proofs.Common.{◌≡◌, ℕ, zero, suc, ◌+◌, ◌-◌, ◌<◌, ◌≤◌, min, max, inl, inr, ◌∙◌, arith, nat_tests, Cells, First, Oldest, Newest, by_first, AreFarther, NumbersDiffer, IsOn, IsStopBetween, StopsBefore, weight_of, weight_from}
+use Rattle.delta_plans.proofs.WeightLaws.{count_between-most, part-cases, sum_below-one, weight_of-none, weight_of-split}
 
 -- a single number of an owner lies between two marks
-weight_of-one : (weight : ℕ → ℕ) (cells : Cells) (keys owner low high key number : ℕ) → key < keys → cells owner key ≡ number → low < number → number ≤ high
-    → ((k : ℕ) → k < keys → low < cells owner k → cells owner k ≤ high → k ≡ key) → weight_of weight cells keys owner low high ≡ weight number
-weight_of-one weight cells keys owner low high key number in_keys is above upto one =
-    sum_below-one keys key _ in_keys (λ k lt other. let same = one k lt in grind (arith, nat_tests)) ∙ (let same = ap weight is in grind (arith, nat_tests))
+pub weight_of-one : (weight : ℕ → ℕ) (cells : Cells) (keys owner low high key : ℕ) → key < keys → low < cells owner key → cells owner key ≤ high
+    → ((k : ℕ) → k < keys → low < cells owner k → cells owner k ≤ high → k ≡ key) → weight_of weight cells keys owner low high ≡ weight (cells owner key)
+weight_of-one weight cells keys owner low high key in_keys above upto one =
+    sum_below-one keys key _ in_keys (λ k lt other. let same = one k lt in grind (arith, nat_tests)) ∙ grind (arith, nat_tests)
 
--- where something weighs, there is a number
-pub has-between : (weight : ℕ → ℕ) (cells : Cells) (keys owner low high : ℕ) → 0 < weight_of weight cells keys owner low high → HasBetween cells keys owner low high
+-- a key's number is above one mark and up to another
+record HasBetween (cells : Cells) (keys owner low high : ℕ) : Type 0 where
+  key : ℕ
+  in_keys : key < keys
+  above : low < cells owner key
+  upto : cells owner key ≤ high
+
+-- so it is where something weighs
+has-between : (weight : ℕ → ℕ) (cells : Cells) (keys owner low high : ℕ) → 0 < weight_of weight cells keys owner low high → HasBetween cells keys owner low high
 has-between weight cells zero owner low high some = absurd (omega (arith, some))
 has-between weight cells (suc keys) owner low high some = elim (part-cases weight low high (cells owner keys)) [
   | inl here ↦ record { key = keys; in_keys = omega arith; above = here.0; upto = here.1 }
@@ -20,7 +26,10 @@ has-between weight cells (suc keys) owner low high some = elim (part-cases weigh
       record { key = rest.key; in_keys = omega (arith, rest.in_keys); above = rest.above; upto = rest.upto }
 ]
 
-pub on-start : (first : First) (near : ℕ) → IsOn first near near
+pub few-from : (cells : Cells) (keys owner : ℕ) (first : First) (near far : ℕ) → weight_from first (λ _. 1) cells keys owner near far ≤ keys
+few-from cells keys owner first near far = count_between-most cells keys owner (by_first first near far) (by_first first far near)
+
+on-start : (first : First) (near : ℕ) → IsOn first near near
 on-start Oldest near = omega arith
 on-start Newest near = omega arith
 
@@ -28,127 +37,93 @@ on-through : (first : First) (a b c : ℕ) → IsOn first a b → IsOn first b c
 on-through Oldest a b c ab bc = omega (arith, ab, bc)
 on-through Newest a b c ab bc = omega (arith, ab, bc)
 
--- from the oldest or the newest on
-module _ (weight : ℕ → ℕ) (cells : Cells) (keys owner : ℕ) where
+-- halfway between two marks
+on-middle : (first : First) (a b middle : ℕ) → IsOn first a b → min a b ≤ middle → middle ≤ max a b → IsOn first a middle × IsOn first middle b
+on-middle Oldest a b middle on above upto = (omega (arith, on, above), omega (arith, on, upto))
+on-middle Newest a b middle on above upto = (omega (arith, on, upto), omega (arith, on, above))
+
+-- where a part stops: what its number that doesn't fit tells
+pub record IsStopTold (first : First) (weight : ℕ → ℕ) (cells : Cells) (keys owner low near far mark left : ℕ) : Type 0 where
+  pub key : ℕ
+  pub in_keys : key < keys
+  pub stops : StopsBefore first cells keys owner low near far mark (cells owner key)
+  pub beyond : left < weight (cells owner key)
+
+module _ (weight : ℕ → ℕ) (cells : Cells) (keys owner near far room : ℕ) where
   abbrev from : First → ℕ → ℕ → ℕ
-  from first near far = weight_from first weight cells keys owner near far
+  from first a b = weight_from first weight cells keys owner a b
 
-  pub some-next : (first : First) (near far : ℕ) → 0 < from first near far → HasNext first cells keys owner near far
-  some-next first near far some = has-between weight cells keys owner (by_first first near far) (by_first first far near) some
+  from-split : (first : First) (a b c : ℕ) → IsOn first a b → IsOn first b c → from first a c ≡ from first a b + from first b c
+  from-split Oldest a b c ab bc = weight_of-split weight cells keys owner a b c ab bc
+  from-split Newest a b c ab bc = omega (arith, weight_of-split weight cells keys owner c b a bc ab)
 
-  pub none-from : (first : First) (near : ℕ) → from first near near ≡ 0
-  none-from first near = weight_of-none weight cells keys owner (by_first first near near) (by_first first near near) (omega arith)
+  abbrev Between : First → ℕ → ℕ → ℕ → Type 0
+  Between first mark beyond left = IsStopBetween first weight cells keys owner near far room mark beyond left
 
-  from-split : (first : First) (near mark far : ℕ) → IsOn first near mark → IsOn first mark far → from first near far ≡ from first near mark + from first mark far
-  from-split Oldest near mark far on upto = weight_of-split weight cells keys owner near mark far on upto
-  from-split Newest near mark far on upto = omega (arith, weight_of-split weight cells keys owner far mark near upto on)
-
-  module _ (first : First) (mark far next past : ℕ) (is : IsNext first cells keys owner mark far next) (is_past : IsPast first next past) where
-    pub past-on : IsOn first mark past × IsOn first past far
-    past-on = on first is is_past
-      where
-        on : (f : First) → IsNext f cells keys owner mark far next → IsPast f next past → IsOn f mark past × IsOn f past far
-        on Oldest is same = (omega (arith, is.above, same), omega (arith, is.upto, same))
-        on Newest is under = (omega (arith, is.upto, under), omega (arith, is.above, under))
-
-    -- up to a mark past the next number there is that one
-    from-one : NumbersDiffer cells keys owner → from first mark past ≡ weight next
-    from-one differ = one first is is_past
-      where
-        one : (f : First) → IsNext f cells keys owner mark far next → IsPast f next past → from f mark past ≡ weight next
-        one Oldest is same = weight_of-one weight cells keys owner mark past is.key next is.in_keys is.is is.above (omega (arith, same))
-            (λ k lt above upto. differ k is.key lt is.in_keys (omega (arith, above)) (omega (arith, is.is, same, upto, is.nearest k lt above)))
-        one Newest is under = weight_of-one weight cells keys owner past mark is.key next is.in_keys is.is (omega (arith, under)) is.upto
-            (λ k lt above upto. differ k is.key lt is.in_keys (omega (arith, above)) (omega (arith, is.is, under, above, is.nearest k lt upto)))
-
-    -- so such a mark lets through that one more
-    pub past-next : NumbersDiffer cells keys owner → (near : ℕ) → IsOn first near mark → from first near past ≡ from first near mark + weight next
-    past-next differ near on = omega (arith, from-split first near mark past on past-on.0, from-one differ)
-
-    pub past-rest : NumbersDiffer cells keys owner → from first mark far ≡ weight next + from first past far
-    past-rest differ = omega (arith, from-split first mark past far past-on.0 past-on.1, from-one differ)
-
-pub few-from : (cells : Cells) (keys owner : ℕ) (first : First) (near far : ℕ) → weight_from first (λ _. 1) cells keys owner near far ≤ keys
-few-from cells keys owner first near far = count_between-most cells keys owner (by_first first near far) (by_first first far near)
-
--- where an owner's part stops, as far as its numbers were gone over: those up to the mark fit, and the next one is known
-pub record IsStopSoFar (first : First) (weight : ℕ → ℕ) (cells : Cells) (keys owner near far room mark number taken left sent : ℕ) : Type 0 where
-  pub next : IsNext first cells keys owner mark far number
-  pub on : IsOn first near mark
-  pub takes : taken ≡ weight number
-  pub rest : room ≡ left + weight_from first weight cells keys owner near mark
-  pub beyond : left < weight_from first weight cells keys owner mark far
-  pub count : sent ≡ weight_from first (λ _. 1) cells keys owner near mark
-
-module _ {first : First} {weight : ℕ → ℕ} {cells : Cells} {keys owner near far room : ℕ} where
-  pub stop-first : {number taken : ℕ} → IsNext first cells keys owner near far number → taken ≡ weight number → room < weight_from first weight cells keys owner near far
-      → IsStopSoFar first weight cells keys owner near far room near number taken room 0
-  stop-first next takes beyond = record {
-    next = next;
+  -- at first nothing is let through
+  pub stop-first : (first : First) → IsOn first near far → room < from first near far → Between first near far room
+  stop-first first on more = record {
     on = on-start first near;
-    takes = takes;
-    rest = omega (arith, none-from weight cells keys owner first near);
-    beyond = beyond;
-    count = sym (none-from (λ _. 1) cells keys owner first near);
+    between = on;
+    upto = on-start first far;
+    rest = omega (arith, weight_of-none weight cells keys owner (by_first first near near) (by_first first near near) (omega arith));
+    more = more;
   }
 
-  module _ {mark number taken left sent : ℕ} (so_far : IsStopSoFar first weight cells keys owner near far room mark number taken left sent) where
-    module _ (differ : NumbersDiffer cells keys owner) (past : ℕ) (is : IsPast first number past) (fits : taken ≤ left) where
-      past_beyond : left - taken < weight_from first weight cells keys owner past far
-      past_beyond = omega (arith, past-rest weight cells keys owner first mark far number past so_far.next is differ, so_far.beyond, so_far.takes, fits)
+  -- a mark halfway: either all up to it fits, or it is beyond what does
+  pub stop-halved : (first : First) (mark beyond left middle taken : ℕ) → Between first mark beyond left → min mark beyond ≤ middle → middle ≤ max mark beyond
+      → taken ≡ from first mark middle → (taken ≤ left → Between first middle beyond (left - taken)) × (left < taken → Between first mark middle left)
+  stop-halved first mark beyond left middle taken so_far above below takes =
+      let on = on-middle first mark beyond middle so_far.between above below in (
+        (λ fits. record {
+          on = on-through first near mark middle so_far.on on.0;
+          between = on.1;
+          upto = so_far.upto;
+          rest = omega (arith, from-split first near mark middle so_far.on on.0, so_far.rest, takes, fits);
+          more = omega (arith, from-split first mark middle beyond on.0 on.1, so_far.more, takes, fits);
+        }),
+        (λ more. record {
+          on = so_far.on;
+          between = on.0;
+          upto = on-through first middle beyond far on.1 so_far.upto;
+          rest = so_far.rest;
+          more = omega (arith, more, takes);
+        }),
+      )
 
-      pub stop-more : HasNext first cells keys owner past far
-      stop-more = some-next weight cells keys owner first past far (omega (arith, past_beyond))
-
-      pub stop-next : {other takes : ℕ} → IsNext first cells keys owner past far other → takes ≡ weight other → IsStopSoFar first weight cells keys owner near far room past other takes (left - taken) (sent + 1)
-      stop-next next weighs = record {
-        next = next;
-        on = on-through first near mark past so_far.on (past-on weight cells keys owner first mark far number past so_far.next is).0;
-        takes = weighs;
-        rest = omega (arith, so_far.rest, past-next weight cells keys owner first mark far number past so_far.next is differ near so_far.on, so_far.takes, fits);
-        beyond = past_beyond;
-        count = ap (λ n. n + 1) so_far.count ∙ sym (past-next (λ _. 1) cells keys owner first mark far number past so_far.next is differ near so_far.on);
-      }
-
--- the nearest of the numbers gone over, or the far mark where none is beyond the near one
-pub record IsNextSoFar (first : First) (cells : Cells) (keys owner near far next : ℕ) : Type 0 where
-  pub to_far : IsOn first next far
-  pub nearest : (k : ℕ) → k < keys → IsBeyond first near (cells owner k) → IsOn first next (cells owner k)
-  pub held : (next ≡ far) ⊎ ((k : ℕ) × (k < keys) × (cells owner k ≡ next) × IsBeyond first near next)
-
--- what the nearer of two numbers is
-nearer-tells : (first : First) (near next number nearer : ℕ) → nearer ≡ nearer_beyond first near next number
-    → IsOn first nearer next × (IsBeyond first near number → IsOn first nearer number) × ((nearer ≡ next) ⊎ ((nearer ≡ number) × IsBeyond first near number))
-nearer-tells Oldest near next number nearer is = (grind (arith, nat_tests), (λ over. grind (arith, nat_tests)), grind (arith, nat_tests))
-nearer-tells Newest near next number nearer is = (grind (arith, nat_tests), (λ over. grind (arith, nat_tests)), grind (arith, nat_tests))
-
-pub next-nearer : (first : First) (cells : Cells) (key owner near far next nearer : ℕ) → IsNextSoFar first cells key owner near far next → nearer ≡ nearer_beyond first near next (cells owner key)
-    → IsNextSoFar first cells (key + 1) owner near far nearer
-next-nearer first cells key owner near far next nearer so_far is =
-    let tells = nearer-tells first near next (cells owner key) nearer is in
-    record {
-      to_far = on-through first nearer next far tells.0 so_far.to_far;
-      nearest = λ k lt over. elim (cases_lt k key) [
-        | inl before ↦ on-through first nearer next (cells owner k) tells.0 (so_far.nearest k before over)
-        | inr here ↦ subst (λ j. IsBeyond first near (cells owner j) → IsOn first nearer (cells owner j)) {x = key} {y = k} (omega (arith, lt, here)) tells.1 over
-      ];
-      held = elim tells.2 [
-        | inr here ↦ inr (key, omega arith, sym here.0, subst (IsBeyond first near) (sym here.0) here.1)
-        | inl stays ↦ subst (λ n. (n ≡ far) ⊎ ((k : ℕ) × (k < key + 1) × (cells owner k ≡ n) × IsBeyond first near n)) (sym stays) (elim so_far.held [ inl none ↦ inl none | inr some ↦ inr (some.0, omega (arith, some.1), some.2, some.3) ])
-      ];
-    }
-
-pub next-found : (first : First) (cells : Cells) (key keys owner near far next : ℕ) → key ≡ keys → IsNextSoFar first cells key owner near far next → HasNext first cells keys owner near far → IsNext first cells keys owner near far next
-next-found first cells key keys owner near far next all so_far has = found first (subst (λ n. IsNextSoFar first cells n owner near far next) all so_far) has
-  where
-    found : (first : First) → IsNextSoFar first cells keys owner near far next → HasNext first cells keys owner near far → IsNext first cells keys owner near far next
-    found Oldest so_far has = elim so_far.held [
-      | inr some ↦ record { key = some.0; in_keys = some.1; is = some.2; above = some.3; upto = so_far.to_far; nearest = so_far.nearest }
-      | inl all ↦
-          let same : cells owner has.key ≡ next = omega (arith, all, has.upto, so_far.nearest has.key has.in_keys has.above) in
-          record { key = has.key; in_keys = has.in_keys; is = same; above = omega (arith, same, has.above); upto = so_far.to_far; nearest = so_far.nearest }
-    ]
-    found Newest so_far has = elim so_far.held [
-      | inr some ↦ record { key = some.0; in_keys = some.1; is = some.2; above = omega (arith, has.above, so_far.nearest has.key has.in_keys has.upto); upto = some.3; nearest = so_far.nearest }
-      | inl all ↦ absurd (omega (arith, all, has.above, so_far.nearest has.key has.in_keys has.upto))
-    ]
+  -- in the end there is one number between
+  module _ (low mark beyond left : ℕ) (differ : NumbersDiffer cells keys owner) (below : mark ≤ beyond + 1) (above : beyond ≤ mark + 1) where
+    pub stop-tells : (first : First) → AreFarther first low near far → Between first mark beyond left
+        → IsStopTold first weight cells keys owner low near far mark left
+    stop-tells Oldest level are =
+        let has = has-between weight cells keys owner mark beyond (omega (arith, are.more)) in
+        let one = weight_of-one weight cells keys owner mark beyond has.key has.in_keys has.above has.upto
+        (λ k lt over le. differ k has.key lt has.in_keys (omega (arith, over)) (omega (arith, over, le, has.above, has.upto, above))) in
+        record {
+          key = has.key;
+          in_keys = has.in_keys;
+          stops = record {
+            offered = omega (arith, level.0, are.on, has.above);
+            above = omega (arith, level.0, are.on);
+            outside = grind (arith, nat_tests, are.on, has.above);
+            inside = grind (arith, nat_tests, are.upto, has.upto);
+            own = λ k lt. grind (arith, nat_tests, has.above, has.upto);
+          };
+          beyond = omega (arith, are.more, one);
+        }
+    stop-tells Newest level are =
+        let has = has-between weight cells keys owner beyond mark (omega (arith, are.more)) in
+        let one = weight_of-one weight cells keys owner beyond mark has.key has.in_keys has.above has.upto
+        (λ k lt over le. differ k has.key lt has.in_keys (omega (arith, over)) (omega (arith, over, le, has.above, has.upto, below))) in
+        record {
+          key = has.key;
+          in_keys = has.in_keys;
+          stops = record {
+            offered = omega (arith, level.1, are.upto, has.above);
+            above = omega (arith, level.1, are.upto, are.between);
+            outside = grind (arith, nat_tests, are.on, has.upto);
+            inside = grind (arith, nat_tests, are.upto, has.above);
+            own = λ k lt. grind (arith, nat_tests, has.above, has.upto);
+          };
+          beyond = omega (arith, are.more, one);
+        }

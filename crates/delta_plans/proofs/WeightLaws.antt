@@ -1,30 +1,60 @@
--- What numbers weigh between marks.
+-- Sums below a bound, and what numbers weigh between marks.
 -- Serves most of the crate and `version_tables`.
-use Rattle.delta_plans.proofs.Common.{◌≡◌, ℕ, zero, suc, ◌+◌, ◌*◌, ◌<◌, ◌≤◌, ltb, leb, List, length, ◌⊎◌, ap, ◌∙◌, arith, nat_tests, Entry, Budget, Entries, Cells, count_between, HasNoneAbove, sum_below-same, sum_below-le, sum_below-plus, numbered-some, number_share, share_or_none, weight_of, weight_between, count_all_between}
-use Rattle.delta_plans.proofs.Sums.{sum_below-none, sum_below-times, where_true}
+use Rattle.delta_plans.proofs.Common.{◌≡◌, ◌≢◌, ℕ, zero, suc, ◌+◌, ◌-◌, ◌*◌, ◌<◌, ◌≤◌, Bool, cond, ltb, leb, Option, Some, None, ◌⊎◌, inl, inr, ap, ◌∙◌, subst, arith, nat_tests, cases_lt, mul-le-mul_right, Entry, Budget, Entries, Bytes, MOST_NODES, MOST_KEYS, MOST_ENTRY_SIZE, write_numbered, numbered-some, all_writes, Cells, count_between, HasNoneAbove, sum_below, sum_below-most, sum_below-same, sum_below-le, sum_below-plus, fold_below-join, sums, Offer, cells_in, weights_in, weight_in, count_in, IsOffer, number_share, share_or_none, weight_of, weight_between, count_all_between}
+
+-- a number where a test passes
+abbrev pub where_true : Bool → ℕ → ℕ
+where_true b n = cond b n 0
+
+pub sum_below-none : (n : ℕ) (f : ℕ → ℕ) → ((i : ℕ) → i < n → f i ≡ 0) → sum_below n f ≡ 0
+sum_below-none n f none = omega (arith, sum_below-most f n 0 (λ i lt. omega (arith, none i lt)))
+
+-- a sum that changes at one index
+pub sum_below-changed : (n r d : ℕ) (f g : ℕ → ℕ) → r < n → ((i : ℕ) → i < n → i ≢ r → g i ≡ f i) → g r ≡ f r + d
+    → sum_below n g ≡ sum_below n f + d
+sum_below-changed zero r d f g lt others here = absurd (omega (arith, lt))
+sum_below-changed (suc n) r d f g lt others here = elim (cases_lt r n) [
+  | inl below ↦
+      let rest = sum_below-changed n r d f g below (λ i lt' ne. others i (omega (arith, lt')) ne) here in
+      omega (arith, rest, others n (omega arith) (λ e. omega (arith, e, below)))
+  | inr not_below ↦
+      let at : g n ≡ f n + d = subst (λ i. g i ≡ f i + d) {x = r} {y = n} (omega (arith, lt, not_below)) here in
+      omega (arith, at, sum_below-same n g f (λ i lt'. others i (omega (arith, lt')) (λ e. omega (arith, e, lt', not_below))))
+]
+
+pub sum_below-one : (n r : ℕ) (f : ℕ → ℕ) → r < n → ((i : ℕ) → i < n → i ≢ r → f i ≡ 0) → sum_below n f ≡ f r
+sum_below-one n r f lt others =
+    omega (arith, sum_below-changed n r (f r) (λ _. 0) f lt others (omega arith), sum_below-none n (λ _. 0) (λ i lt'. omega arith))
+
+-- so many times a sum
+pub sum_below-scaled : (n size : ℕ) (f : ℕ → ℕ) → sum_below n (λ i. f i * size) ≡ sum_below n f * size
+sum_below-scaled zero size f = omega arith
+sum_below-scaled (suc n) size f = omega (arith, sum_below-scaled n size f)
+
+sum_below-times : (n most : ℕ) (f g : ℕ → ℕ) → ((i : ℕ) → i < n → f i ≤ g i * most) → sum_below n f ≤ sum_below n g * most
+sum_below-times n most f g le = omega (arith, sum_below-le n f (λ i. g i * most) le, sum_below-scaled n most g)
+
+-- a sum of fewer terms is no more
+pub sum_below-longer : (f : ℕ → ℕ) (n m : ℕ) → n ≤ m → sum_below n f ≤ sum_below m f
+sum_below-longer f n m le =
+    omega (arith, fold_below-join sums f n (m - n), ap (λ k. sum_below k f) {x = n + (m - n)} {y = m} (omega (arith, le)))
+
+-- where a sum is 0, each term is
+pub sum_below-each_none : (n : ℕ) (f : ℕ → ℕ) → sum_below n f ≡ 0 → (i : ℕ) → i < n → f i ≡ 0
+sum_below-each_none n f none i lt = omega (arith, none, sum_below-longer f (suc i) n (omega (arith, lt)))
 
 -- one number's part of a weight
 abbrev pub part : (ℕ → ℕ) → ℕ → ℕ → ℕ → ℕ
 part weight low high number = where_true (ltb low number) (where_true (leb number high) (weight number))
 
 -- a number is in between, or adds nothing
-pub part-cases : (weight : ℕ → ℕ) (low high number : ℕ) → ((low < number) × (number ≤ high) × (part weight low high number ≡ weight number)) ⊎ (part weight low high number ≡ 0)
+pub part-cases : (weight : ℕ → ℕ) (low high number : ℕ)
+    → ((low < number) × (number ≤ high) × (part weight low high number ≡ weight number)) ⊎ (part weight low high number ≡ 0)
 part-cases weight low high number = grind (arith, nat_tests)
 
 -- nothing is between marks of which the higher is no more than the lower
 pub weight_of-none : (weight : ℕ → ℕ) (cells : Cells) (keys owner low high : ℕ) → high ≤ low → weight_of weight cells keys owner low high ≡ 0
 weight_of-none weight cells keys owner low high le = sum_below-none keys _ (λ key lt. grind (arith, nat_tests))
-
--- weights of which those between the marks are alike
-pub weight_of-same : (weight other : ℕ → ℕ) (cells : Cells) (keys owner low high : ℕ) → ((key : ℕ) → key < keys → low < cells owner key → cells owner key ≤ high → weight (cells owner key) ≡ other (cells owner key))
-    → weight_of weight cells keys owner low high ≡ weight_of other cells keys owner low high
-weight_of-same weight other cells keys owner low high same = sum_below-same keys _ _ (λ key lt. let is = same key lt in grind (arith, nat_tests))
-
-pub weight_between-same : (weights others : ℕ → ℕ → ℕ) (cells : Cells) (nodes keys : ℕ) (low high : ℕ → ℕ)
-    → ((owner key : ℕ) → owner < nodes → key < keys → low owner < cells owner key → cells owner key ≤ high owner → weights owner (cells owner key) ≡ others owner (cells owner key))
-    → weight_between weights cells nodes keys low high ≡ weight_between others cells nodes keys low high
-weight_between-same weights others cells nodes keys low high same =
-    sum_below-same nodes _ _ (λ owner lt. weight_of-same (weights owner) (others owner) cells keys owner (low owner) (high owner) (λ key in_keys. same owner key lt in_keys))
 
 -- the weights up to a mark and from it on
 pub weight_of-split : (weight : ℕ → ℕ) (cells : Cells) (keys owner low mark high : ℕ) → low ≤ mark → mark ≤ high
@@ -34,31 +64,21 @@ weight_of-split weight cells keys owner low mark high below above =
     ∙ sum_below-plus keys _ _
 
 -- no more than so many times the largest
-pub weight_of-most : (weight : ℕ → ℕ) (most : ℕ) (cells : Cells) (keys owner low high : ℕ) → ((number : ℕ) → weight number ≤ most) → weight_of weight cells keys owner low high ≤ count_between cells keys owner low high * most
-weight_of-most weight most cells keys owner low high le = sum_below-times keys most _ _ (λ key lt. let few = le (cells owner key) in grind (arith, nat_tests))
+weight_of-most : (weight : ℕ → ℕ) (most : ℕ) (cells : Cells) (keys owner low high : ℕ) → ((number : ℕ) → weight number ≤ most)
+    → weight_of weight cells keys owner low high ≤ count_between cells keys owner low high * most
+weight_of-most weight most cells keys owner low high le =
+    sum_below-times keys most _ _ (λ key lt. let few = le (cells owner key) in grind (arith, nat_tests))
 
-pub weight_between-most : (weights : ℕ → ℕ → ℕ) (most : ℕ) (cells : Cells) (nodes keys : ℕ) (low high : ℕ → ℕ) → ((owner number : ℕ) → weights owner number ≤ most)
+pub weight_between-most : (weights : ℕ → ℕ → ℕ) (most : ℕ) (cells : Cells) (nodes keys : ℕ) (low high : ℕ → ℕ)
+    → ((owner number : ℕ) → weights owner number ≤ most)
     → weight_between weights cells nodes keys low high ≤ count_all_between cells nodes keys low high * most
 weight_between-most weights most cells nodes keys low high le =
     sum_below-times nodes most _ _ (λ owner lt. weight_of-most (weights owner) most cells keys owner (low owner) (high owner) (le owner))
-
--- where each counts for 1, they weigh what they count
-pub number_share-one : (budget : Budget) (n : ℕ) (writes : List Entry) (number : ℕ) → budget ≡ Entries n → 0 < number → number ≤ length writes → number_share budget writes number ≡ 1
-number_share-one budget n writes number is some within =
-    (λ i. number_share (is i) writes number) ∙ ap (share_or_none (Entries n)) (numbered-some writes number some within).1
 
 -- so many at most
 pub count_between-most : (cells : Cells) (keys owner low high : ℕ) → count_between cells keys owner low high ≤ keys
 count_between-most cells zero owner low high = omega arith
 count_between-most cells (suc keys) owner low high = let rest = count_between-most cells keys owner low high in grind (arith, nat_tests)
-
-pub count_all_between-most : (cells : Cells) (nodes keys : ℕ) (low high : ℕ → ℕ) → count_all_between cells nodes keys low high ≤ nodes * keys
-count_all_between-most cells zero keys low high = omega arith
-count_all_between-most cells (suc nodes) keys low high = omega (arith, count_all_between-most cells nodes keys low high, count_between-most cells keys nodes (low nodes) (high nodes))
-
--- one more owner is weighed
-pub weight-next : (weights : ℕ → ℕ → ℕ) (cells : Cells) (owner keys : ℕ) (low high : ℕ → ℕ) → weight_between weights cells (owner + 1) keys low high ≡ weight_between weights cells owner keys low high + weight_of (weights owner) cells keys owner (low owner) (high owner)
-weight-next weights cells owner keys low high = ap (λ n. weight_between weights cells n keys low high) {x = owner + 1} {y = suc owner} (omega arith)
 
 -- marks above all numbers let through as much as any such
 module _ (weight : ℕ → ℕ) (cells : Cells) (keys owner low mark high : ℕ) (covered : HasNoneAbove cells keys owner high) where
@@ -67,3 +87,63 @@ module _ (weight : ℕ → ℕ) (cells : Cells) (keys owner low mark high : ℕ)
 
   pub weight_of-all : HasNoneAbove cells keys owner mark → weight_of weight cells keys owner low mark ≡ weight_of weight cells keys owner low high
   weight_of-all none = sum_below-same keys _ _ (λ key lt. let le = covered key lt in let le' = none key lt in grind (arith, nat_tests))
+
+-- no write takes more than the largest share
+pub share-most : (budget : Budget) (o : Option Entry) → share_or_none budget o ≤ MOST_ENTRY_SIZE
+share-most budget None = omega arith
+share-most (Entries n) (Some e) = omega arith
+share-most (Bytes n) (Some e) = omega arith
+
+module _ {N : Type 0} (number : N → ℕ) (offer : Offer N) where
+  abbrev cells : Cells
+  cells = cells_in number offer
+
+  abbrev nodes : ℕ
+  nodes = offer.grid.size.nodes
+
+  abbrev keys : ℕ
+  keys = offer.grid.size.keys
+
+  most : (owner n : ℕ) → weights_in offer owner n ≤ MOST_ENTRY_SIZE
+  most owner n = share-most offer.budget (write_numbered (all_writes offer.lists.now owner) n)
+
+  -- nothing is between marks and themselves
+  pub offer-weighs_none : (mark : ℕ → ℕ) → weight_in number offer mark mark ≡ 0
+  offer-weighs_none mark = sum_below-none nodes _
+      (λ owner lt. weight_of-none (weights_in offer owner) cells keys owner (mark owner) (mark owner) (omega arith))
+
+  pub offer-counts_none : (mark : ℕ → ℕ) → count_in number offer mark mark ≡ 0
+  offer-counts_none mark = sum_below-none nodes _ (λ owner lt. weight_of-none (λ _. 1) cells keys owner (mark owner) (mark owner) (omega arith))
+
+  -- no more than so many times the largest size
+  pub offer-most : (low high : ℕ → ℕ) → weight_in number offer low high ≤ count_in number offer low high * MOST_ENTRY_SIZE
+  offer-most low high = weight_between-most (weights_in offer) MOST_ENTRY_SIZE cells nodes keys low high most
+
+  pub owner-most : (keys owner low high : ℕ)
+      → weight_of (weights_in offer owner) cells keys owner low high ≤ count_between cells keys owner low high * MOST_ENTRY_SIZE
+  owner-most keys owner low high = weight_of-most (weights_in offer owner) MOST_ENTRY_SIZE cells keys owner low high (most owner)
+
+module _ {N : Type 0} {number : N → ℕ} {most : ℕ} {offer : Offer N} (is : IsOffer number most offer) where
+  pub offer-few : (low high : ℕ → ℕ) → count_in number offer low high ≤ MOST_NODES * MOST_KEYS
+  offer-few low high =
+      let keys = offer.grid.size.keys in
+      let most = sum_below-most (λ owner. count_between (cells_in number offer) keys owner (low owner) (high owner)) offer.grid.size.nodes keys
+      (λ owner _. count_between-most (cells_in number offer) keys owner (low owner) (high owner)) in
+      omega (arith, most, mul-le-mul_right {m = offer.grid.size.nodes} {n = MOST_NODES} keys is.grid.few_nodes, is.grid.few_keys)
+
+  -- where entries are counted, they take as much as they are
+  module _ (n : ℕ) (counted : offer.budget ≡ Entries n) where
+    pub owner-entries : (owner : ℕ) → owner < offer.grid.size.nodes → (low high : ℕ)
+        → weight_of (weights_in offer owner) (cells_in number offer) offer.grid.size.keys owner low high
+        ≡ count_between (cells_in number offer) offer.grid.size.keys owner low high
+    owner-entries owner in_nodes low high = sum_below-same offer.grid.size.keys _ _ (λ key in_keys.
+        let one = one_each key in_keys in grind (arith, nat_tests))
+      where
+        one_each : (key : ℕ) → key < offer.grid.size.keys → 0 < cells_in number offer owner key → weights_in offer owner (cells_in number offer owner key) ≡ 1
+        one_each key in_keys some =
+            let writes = all_writes offer.lists.now owner in
+            let it = cells_in number offer owner key in
+            (λ i. number_share (counted i) writes it) ∙ ap (share_or_none (Entries n)) (numbered-some writes it some (is.written owner key in_nodes in_keys)).1
+
+    pub offer-entries : (low high : ℕ → ℕ) → weight_in number offer low high ≡ count_in number offer low high
+    offer-entries low high = sum_below-same offer.grid.size.nodes _ _ (λ owner lt. owner-entries owner lt (low owner) (high owner))

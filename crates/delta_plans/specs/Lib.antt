@@ -1,6 +1,4 @@
-pub mod Firsts
 pub mod Granted
-pub mod Grids
 pub mod LevelMarks
 pub mod Marked
 pub mod OfferInMemory
@@ -8,7 +6,6 @@ pub mod Offers
 pub mod Plans
 pub mod RoundLevels
 pub mod SentSets
-pub mod Sharing
 pub mod Stops
 pub mod Told
 pub mod Turns

@@ -7,21 +7,20 @@ use Rattle.bench_types.specs.Budget.{amount_of}
 use Rattle.model.specs.calls.OwnerListView.{all_writes}
 use Rattle.delta_plans.specs.declared.offers.Level.{Level}
 use Rattle.delta_plans.specs.declared.offers.Offer.{Offer}
-use Rattle.delta_plans.specs.OfferInMemory.{cells_in, low_in, high_in, count_in, marks}
-use Rattle.delta_plans.specs.Plans.{weight_on, count_on, IsLevel}
-use Rattle.delta_plans.specs.LevelMarks.{first_sent, lets_through, HasShape}
-use Rattle.delta_plans.specs.Sharing.{AreShared}
+use Rattle.delta_plans.specs.OfferInMemory.{cells_in, low_in, high_in, count_in}
+use Rattle.delta_plans.specs.Plans.{weight_on, count_on, IsLevelBy}
+use Rattle.delta_plans.specs.LevelMarks.{first_level, first_sent, level_number, lets_through, AreLevelMarks}
+use Rattle.delta_plans.specs.Turns.{AreShared}
 
--- the marks of a level of what is offered
-abbrev pub HasShapeIn : {N : Type 0} → Mode → (N → ℕ) → Offer N → (ℕ → ℕ) → (ℕ → ℕ) → Type 0
-HasShapeIn mode number offer near far =
-    HasShape mode (all_writes offer.lists.now) (cells_in number offer) offer.grid.size.nodes offer.grid.size.keys
-    (low_in number offer) near far
+-- the level of an owner's number that is offered
+abbrev pub level_in : {N : Type 0} → Mode → (N → ℕ) → Offer N → ℕ → ℕ → ℕ
+level_in mode number offer =
+    level_number mode (all_writes offer.lists.now) (cells_in number offer) offer.grid.size.keys (low_in number offer)
 
 -- a level as a mode has it
-pub record IsLevelOf {N : Type 0} (mode : Mode) (number : N → ℕ) (offer : Offer N) (level : Level N) : Type 0 where
-  pub is_level : IsLevel (first_sent mode) number offer level
-  pub shape : HasShapeIn mode number offer (marks number level.near.items) (marks number level.far.items)
+abbrev pub IsLevelOf : {N : Type 0} → Mode → (N → ℕ) → Offer N → Level N → Type 0
+IsLevelOf mode number offer =
+    IsLevelBy (first_sent mode) (first_level mode) (level_in mode number offer) number offer
 
 -- marks that let all through, which fits
 pub record LetAll {N : Type 0} (first : First) (number : N → ℕ) (offer : Offer N) (mark : ℕ → ℕ) : Type 0 where
@@ -35,7 +34,8 @@ pub record ShareLevel {N : Type 0} (mode : Mode) (rotation : ℕ) (number : N �
     (sent : ℕ) : Type 0 where
   pub near : ℕ → ℕ
   pub far : ℕ → ℕ
-  pub shape : HasShapeIn mode number offer near far
+  pub shape : AreLevelMarks (first_sent mode) (first_level mode) (level_in mode number offer) (cells_in number offer)
+      offer.grid.size.nodes offer.grid.size.keys (low_in number offer) near far
   pub shared : AreShared (first_sent mode) rotation number offer near far mark sent
 
 -- from the newest on no mark is below the low one

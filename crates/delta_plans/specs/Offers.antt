@@ -1,6 +1,6 @@
 -- What one table offers another, told by numbers of writes: each owner's writes are numbered from 1, through all its
 -- generations, so within one owner numbers compare as marks. Source: this project.
-use Rattle.std.specs.Prelude.{◌≡◌, ℕ, ◌<◌, ◌≤◌, ◌↔◌, not, ◌&&◌, ◌==◌, true, false, if◌then◌else◌, nat_lt, Bool, List, Contains, Some}
+use Rattle.std.specs.Prelude.{◌≡◌, ℕ, ◌<◌, ◌≤◌, ◌↔◌, not, ◌&&◌, ◌==◌, true, false, if◌then◌else◌, nat_lt, Bool, List, Contains, Some, Option, None}
 use Rattle.bench_types.specs.declared.entries.Entry.{Entry}
 use Rattle.bench_types.specs.declared.entries.Item.{Item}
 use Rattle.bench_types.specs.declared.exchanges.Mode.{Mode}
@@ -39,12 +39,6 @@ offered_sum from cells low g =
     sum_below from.nodes (λ owner. sum_below from.keys
     (λ key. if nat_lt (low owner) (cells owner key) then g owner key else 0))
 
--- how many of an owner's numbers above a mark are below a number
-abbrev pub rank_above : Cells → ℕ → ℕ → ℕ → ℕ → ℕ
-rank_above cells keys owner mark number =
-    sum_below keys (λ key. if nat_lt mark (cells owner key)
-    then (if nat_lt (cells owner key) number then 1 else 0) else 0)
-
 -- what of an owner isn't offered to a receiver that has this as its greatest number; the most for the receiver itself
 abbrev pub told_by : DigestKind → List Entry → ℕ → ℕ
 told_by Scuttle writes greatest = greatest
@@ -61,6 +55,19 @@ offered_by Precise sender receiver low = λ owner key. number_ahead (sender owne
 
 -- these places of the sender's are what a delta has
 pub record AreSent (from : Table) (items : List Item) (sent : ℕ → ℕ → Bool) : Type 0 where
-  pub held : (owner key : ℕ) → owner < from.nodes → key < from.keys → sent owner key ≡ true → (e : Entry) × (entry_at from owner key ≡ Some e)
+  pub held : (owner key : ℕ) → owner < from.nodes → key < from.keys → sent owner key ≡ true
+      → (e : Entry) × (entry_at from owner key ≡ Some e)
   pub members : (owner key : ℕ) (e : Entry) → entry_at from owner key ≡ Some e
       → (sent owner key ≡ true) ↔ Contains items (record { owner = owner; entry = e })
+
+-- what a number of an item is at a place, 0 where nothing is held
+abbrev pub number_here : (Item → ℕ) → ℕ → Option Entry → ℕ
+number_here f owner None = 0
+number_here f owner (Some e) = f (record { owner = owner; entry = e })
+
+abbrev pub number_there : (Item → ℕ) → Table → ℕ → ℕ → ℕ
+number_there f t owner key = number_here f owner (entry_at t owner key)
+
+-- the sum over all places
+abbrev pub sum_over : (Item → ℕ) → Table → ℕ
+sum_over f t = sum_below t.nodes (λ owner. sum_below t.keys (number_there f t owner))

@@ -1,17 +1,15 @@
 -- Levels of what is offered, as marks: near marks let through whole levels, and far marks one level more, which doesn't
 -- fit. Source: this project.
-use Rattle.std.specs.Prelude.{◌≡◌, ◌⊎◌, ℕ, ◌+◌, ◌*◌, ◌<◌, ◌≤◌, nat_eq, nat_le, List, length, map, if◌then◌else◌}
+use Rattle.std.specs.Prelude.{◌≡◌, ◌⊎◌, ℕ, ◌+◌, ◌<◌, ◌≤◌, nat_le, List, length, map, if◌then◌else◌}
 use Rattle.delta_plans.specs.declared.marked.First.{First}
-use Rattle.delta_plans.specs.declared.marked.First.TheVariants.{Oldest}
 use Rattle.bench_types.specs.Budget.{amount_of}
 use Rattle.planes.specs.Planes.{Cells, HasEach, HasNoneAbove, IsLeastAbove}
-use Rattle.bench_types.specs.Sums.{sum_below}
 use Rattle.bench_types.specs.declared.limits.TheConstants.{MOST_KEYS}
 use Rattle.delta_plans.specs.declared.offers.Offer.{Offer}
 use Rattle.delta_plans.specs.declared.offers.Level.{Level}
 use Rattle.delta_plans.specs.declared.offers.Step.{Step}
-use Rattle.delta_plans.specs.OfferInMemory.{cells_in, low_in, high_in, owner_count_in, marks, weights_in, weight_in, count_in, IsOffer}
-use Rattle.delta_plans.specs.LevelMarks.{AreLayers}
+use Rattle.delta_plans.specs.OfferInMemory.{cells_in, low_in, high_in, owner_count_in, marks, weights_in, count_in, IsOffer}
+use Rattle.delta_plans.specs.LevelMarks.{AreLevelMarks}
 use Rattle.delta_plans.specs.Stops.{IsOn}
 use Rattle.delta_plans.specs.Weights.{weight_through, one_each}
 
@@ -60,24 +58,12 @@ pub record IsLevel {N : Type 0} (first : First) (number : N → ℕ) (offer : Of
   pub left : weight_on first number offer (marks number level.near.items) + level.left ≡ amount_of offer.budget
   pub beyond : amount_of offer.budget < weight_on first number offer (marks number level.far.items)
 
--- levels as far as they were gone over, the oldest first: near marks, up to which all fit, and far marks, with so many
--- numbers more
-pub record IsLevelSoFar {N : Type 0} (number : N → ℕ) (offer : Offer N) (level : Level N) (more : ℕ) : Type 0 where
-  pub near : length level.near.items ≡ offer.grid.size.nodes
-  pub far : length level.far.items ≡ offer.grid.size.nodes
-  pub farther : (owner : ℕ) → owner < offer.grid.size.nodes
-      → AreFarther Oldest (low_in number offer owner) (marks number level.near.items owner)
-      (marks number level.far.items owner)
-  pub whole : level.whole ≡ count_in number offer (low_in number offer) (marks number level.near.items)
-  pub added : more ≡ count_in number offer (marks number level.near.items) (marks number level.far.items)
-  pub left : weight_in number offer (low_in number offer) (marks number level.near.items) + level.left
-      ≡ amount_of offer.budget
-
--- layers as far as they were gone over
-pub record HasLayers {N : Type 0} (number : N → ℕ) (offer : Offer N) (level : Level N) (more : ℕ) : Type 0 where
-  pub so_far : IsLevelSoFar number offer level more
-  pub shape : AreLayers (cells_in number offer) offer.grid.size.nodes offer.grid.size.keys (low_in number offer)
-      (marks number level.near.items) (marks number level.far.items)
+-- whose marks part levels that go by these numbers
+pub record IsLevelBy {N : Type 0} (first way : First) (level_number : ℕ → ℕ → ℕ) (number : N → ℕ) (offer : Offer N)
+    (level : Level N) : Type 0 where
+  pub is_level : IsLevel first number offer level
+  pub shape : AreLevelMarks first way level_number (cells_in number offer) offer.grid.size.nodes offer.grid.size.keys
+      (low_in number offer) (marks number level.near.items) (marks number level.far.items)
 
 -- each owner's mark goes all the way where it has so many numbers, and else not at all
 abbrev pub AreMarksFrom : {N : Type 0} → (N → ℕ) → Offer N → ℕ → (ℕ → ℕ) → Type 0
@@ -86,28 +72,18 @@ AreMarksFrom number offer size mark =
     → mark owner ≡ (if nat_le size (owner_count_in number offer owner) then high_in number offer owner
     else low_in number offer owner)
 
--- near marks, how many numbers each owner has, and so many as some may have
+-- how many numbers each owner has, and near marks, which let through the runs that are longer than a size
 pub record AreRunsFrom {N : Type 0} (number : N → ℕ) (most : ℕ) (offer : Offer N) (counts near : List N)
     (size : ℕ) : Type 0 where
   pub is_offer : IsOffer number most offer
   pub counts_are : HasEach offer.grid.size.nodes (λ r n. n ≡ owner_count_in number offer r) (map number counts)
   pub each_near : length near ≡ offer.grid.size.nodes
+  pub some : 0 < size
   pub few : size ≤ MOST_KEYS
+  pub longer : AreMarksFrom number offer (size + 1) (marks number near)
 
--- all numbers of the owners that have so many are added
+-- and those of that size are next
 pub record AreNextRuns {N : Type 0} (number : N → ℕ) (offer : Offer N) (near : ℕ → ℕ) (size : ℕ)
     (step : Step N) : Type 0 where
-  pub count : length step.marks.items ≡ offer.grid.size.nodes
-  pub marked : (owner : ℕ) → owner < offer.grid.size.nodes
-      → marks number step.marks.items owner ≡ (if nat_eq (owner_count_in number offer owner) size
-      then high_in number offer owner else near owner)
-  pub more : step.more ≡ sum_below offer.grid.size.nodes
-      (λ owner. if nat_eq (owner_count_in number offer owner) size then 1 else 0) * size
-
--- runs as far as they were gone over: the longer ones fit, and those of this size are next
-pub record HasRuns {N : Type 0} (number : N → ℕ) (offer : Offer N) (level : Level N) (size more : ℕ) : Type 0 where
-  pub so_far : IsLevelSoFar number offer level more
-  pub some : 0 < size
-  pub short : size ≤ MOST_KEYS
-  pub longer : AreMarksFrom number offer (size + 1) (marks number level.near.items)
-  pub next : AreMarksFrom number offer size (marks number level.far.items)
+  pub is_step : IsStep number offer near step
+  pub next : AreMarksFrom number offer size (marks number step.marks.items)

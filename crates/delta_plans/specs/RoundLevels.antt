@@ -1,7 +1,5 @@
 -- Levels of rounds, as marks. Source: this project.
 use Rattle.std.specs.Prelude.{◌≡◌, ℕ, ◌+◌, ◌-◌, ◌*◌, ◌<◌, ◌≤◌, max, length, map, IfSome, List, Option, Some, None}
-use Rattle.delta_plans.specs.declared.marked.First.{First}
-use Rattle.delta_plans.specs.declared.marked.First.TheVariants.{Oldest, Newest}
 use Rattle.bench_types.specs.Budget.{amount_of}
 use Rattle.model.specs.calls.OwnerListView.{all_writes}
 use Rattle.planes.specs.Planes.{cell, HasEach}
@@ -12,8 +10,9 @@ use Rattle.delta_plans.specs.declared.rounds.Fit.{Fit}
 use Rattle.delta_plans.specs.declared.rounds.Rounds.{Rounds}
 use Rattle.owner_writes.specs.Numbered.{AreMadeBy, AreEnds}
 use Rattle.delta_plans.specs.OfferInMemory.{low_in, marks, IsTooLarge}
-use Rattle.delta_plans.specs.Plans.{weight_on, count_on, IsLevel}
-use Rattle.delta_plans.specs.LevelMarks.{AreRounds}
+use Rattle.delta_plans.specs.Plans.{weight_on, count_on, IsLevelBy}
+use Rattle.model.specs.calls.Numbers.{write_numbered}
+use Rattle.delta_plans.specs.LevelMarks.{by_first, round_of}
 
 -- where the rounds end in which all that is offered was written
 pub record AreEndsOf {N : Type 0} (number : N → ℕ) (offer : Offer N) (ends : Ends N) : Type 0 where
@@ -22,17 +21,9 @@ pub record AreEndsOf {N : Type 0} (number : N → ℕ) (offer : Offer N) (ends :
       (cell (map number ends.numbers.now) offer.grid.size.nodes)
   pub made : (owner : ℕ) → AreMadeBy ends.rounds (all_writes offer.lists.now owner)
 
--- the round that so many rounds from the oldest on end with, or before which so many from the newest on begin
-abbrev pub round_at : First → ℕ → ℕ → ℕ
-round_at Oldest rounds count = count
-round_at Newest rounds count = rounds - count
-
 -- an owner's mark at a round's end, but none below its low mark
 abbrev pub end_mark : List ℕ → ℕ → (ℕ → ℕ) → ℕ → ℕ → ℕ
 end_mark ends nodes low round owner = max (low owner) (cell ends nodes owner round)
-
-abbrev pub round_mark : First → ℕ → List ℕ → ℕ → (ℕ → ℕ) → ℕ → ℕ → ℕ
-round_mark first rounds ends nodes low count owner = end_mark ends nodes low (round_at first rounds count) owner
 
 -- an offer that is too large, and where its rounds end
 pub record IsAsked {N : Type 0} (number : N → ℕ) (most : ℕ) (offer : Offer N) (ends : Ends N) : Type 0 where
@@ -62,11 +53,11 @@ IsFound number rounds mark (Some fit) = IsFit number rounds mark fit
 IsFound number rounds mark None =
     weight_on rounds.first number rounds.offer.now mark ≤ amount_of rounds.offer.now.budget → ⊥
 
--- the marks of so many rounds of it
+-- the marks of so many rounds, from the oldest or from the newest on
 abbrev pub mark_of_rounds : {N : Type 0} → (N → ℕ) → Rounds N → ℕ → ℕ → ℕ
-mark_of_rounds number rounds =
-    round_mark rounds.first rounds.ends.rounds (map number rounds.ends.numbers.now) rounds.offer.now.grid.size.nodes
-    (low_in number rounds.offer.now)
+mark_of_rounds number rounds count =
+    end_mark (map number rounds.ends.numbers.now) rounds.offer.now.grid.size.nodes (low_in number rounds.offer.now)
+    (by_first rounds.first count (rounds.ends.rounds - count))
 
 abbrev pub AreRoundMarks : {N : Type 0} → (N → ℕ) → Rounds N → ℕ → List N → Type 0
 AreRoundMarks number rounds count mark =
@@ -81,7 +72,8 @@ pub record AreFewAndEnough {N : Type 0} (number : N → ℕ) (rounds : Rounds N)
       < weight_on rounds.first number rounds.offer.now (mark_of_rounds number rounds enough)
 
 -- the level that they end at
-pub record IsLevelOfRounds {N : Type 0} (number : N → ℕ) (rounds : Rounds N) (level : Level N) : Type 0 where
-  pub is_level : IsLevel rounds.first number rounds.offer.now level
-  pub of_rounds : AreRounds rounds.first (all_writes rounds.offer.now.lists.now) rounds.offer.now.grid.size.nodes
-      (low_in number rounds.offer.now) (marks number level.near.items) (marks number level.far.items)
+abbrev pub IsLevelOfRounds : {N : Type 0} → (N → ℕ) → Rounds N → Level N → Type 0
+IsLevelOfRounds number rounds =
+    IsLevelBy rounds.first rounds.first
+    (λ owner number. round_of (write_numbered (all_writes rounds.offer.now.lists.now owner) number)) number
+    rounds.offer.now

@@ -24,7 +24,8 @@ pub record AreKnown (most : ℕ) (lists : List OwnerListView) (numbers bases : L
 
 -- so it is of numbers in memory
 abbrev pub AreKnownOf : {N : Type 0} → (N → ℕ) → ℕ → Owners N → List N → Type 0
-AreKnownOf number most owners numbers = AreKnown most owners.lists.now (map number numbers) (map number owners.bases.now)
+AreKnownOf number most owners numbers =
+    AreKnown most owners.lists.now (map number numbers) (map number owners.bases.now)
 
 -- each number becomes where its generation starts
 abbrev pub AreStarts : {N : Type 0} → (N → ℕ) → Owners N → List N → List N → Type 0

@@ -1,17 +1,50 @@
--- The owners' turns in a level, from the rotation on. Source: this project.
-use Rattle.std.specs.Prelude.{◌≡◌, ◌⊎◌, ℕ, ◌+◌, ◌-◌, ◌<◌, ◌≤◌, List, length, map}
+-- A level shared out by the owners' turns, from the rotation on. Source: this project.
+use Rattle.std.specs.Prelude.{◌≡◌, ◌⊎◌, ℕ, ◌+◌, ◌-◌, ◌<◌, ◌≤◌, nat_lt, List, length, map, if◌then◌else◌, ◌≢◌, true, false}
 use Rattle.bench_types.specs.Budget.{amount_of}
 use Rattle.bench_types.specs.Sums.{sum_below}
 use Rattle.bench_types.specs.declared.exchanges.Budget.TheVariants.{Entries}
-use Rattle.planes.specs.Planes.{HasEach}
+use Rattle.planes.specs.Planes.{HasEach, Cells}
 use Rattle.model.specs.Order.{rotated}
 use Rattle.delta_plans.specs.declared.sharing.Reached.{Reached}
 use Rattle.delta_plans.specs.declared.sharing.Several.{Several}
 use Rattle.delta_plans.specs.declared.sharing.Turns.{Turns}
-use Rattle.delta_plans.specs.OfferInMemory.{cells_in, marks, IsOffer}
+use Rattle.delta_plans.specs.OfferInMemory.{cells_in, marks, weights_in, IsOffer, low_in}
 use Rattle.delta_plans.specs.Plans.{weight_on, count_on, IsLevel}
-use Rattle.delta_plans.specs.Sharing.{AreShared}
+use Rattle.delta_plans.specs.Stops.{IsStopFrom}
 use Rattle.delta_plans.specs.Weights.{weight_from}
+use Rattle.delta_plans.specs.declared.marked.First.{First}
+use Rattle.delta_plans.specs.declared.offers.Offer.{Offer}
+use Rattle.delta_plans.specs.LevelMarks.{comes_first, lets_through}
+
+-- an owner's mark that lets through what comes before a number, which its far mark lets through and its near one not
+pub record StopsBefore (first : First) (cells : Cells) (keys owner low near far mark next : ℕ) : Type 0 where
+  pub offered : low < next
+  pub above : low ≤ mark
+  pub outside : lets_through first near next ≡ false
+  pub inside : lets_through first far next ≡ true
+  pub own : (k : ℕ) → k < keys → lets_through first mark (cells owner k) ≡ comes_first first (cells owner k) next
+
+-- marks that stop at an owner's number: of the others, those whose turn is before its owner's have the far mark, and
+-- those whose turn is behind it the near one
+pub record StopAt (first : First) (rotation nodes keys : ℕ) (cells : Cells) (low near far mark : ℕ → ℕ) : Type 0 where
+  pub owner : ℕ
+  pub key : ℕ
+  pub owner_below : owner < nodes
+  pub key_below : key < keys
+  pub stops : StopsBefore first cells keys owner (low owner) (near owner) (far owner) (mark owner) (cells owner key)
+  pub others : (r : ℕ) → r < nodes → r ≢ owner
+      → mark r ≡ (if nat_lt (rotated nodes rotation r) (rotated nodes rotation owner) then far r else near r)
+
+-- marks that share out a level: they stop at a number that doesn't fit any more
+pub record AreShared {N : Type 0} (first : First) (rotation : ℕ) (number : N → ℕ) (offer : Offer N)
+    (near far mark : ℕ → ℕ) (sent : ℕ) : Type 0 where
+  pub stop : StopAt first rotation offer.grid.size.nodes offer.grid.size.keys (cells_in number offer)
+      (low_in number offer) near far mark
+  pub above : (r : ℕ) → r < offer.grid.size.nodes → low_in number offer r ≤ mark r
+  pub count : sent ≡ count_on first number offer mark
+  pub within : weight_on first number offer mark ≤ amount_of offer.budget
+  pub beyond : amount_of offer.budget
+      < weight_on first number offer mark + weights_in offer stop.owner (cells_in number offer stop.owner stop.key)
 
 -- a level that doesn't fit, of an offer, that is shared out in turn from a rotation on
 pub record AreTurns {N : Type 0} (number : N → ℕ) (most : ℕ) (turns : Turns N) : Type 0 where
@@ -19,16 +52,28 @@ pub record AreTurns {N : Type 0} (number : N → ℕ) (most : ℕ) (turns : Turn
   pub rotation : turns.rotation < turns.offer.now.grid.size.nodes
   pub level : IsLevel turns.first number turns.offer.now turns.level.now
 
--- and one of the owners
-pub record HasTurn {N : Type 0} (number : N → ℕ) (most : ℕ) (turns : Turns N) (owner : ℕ) : Type 0 where
-  pub are : AreTurns number most turns
-  pub in_nodes : owner < turns.offer.now.grid.size.nodes
+-- what an owner's numbers from one mark on to another weigh, and what its part of it does
+abbrev pub weight_to : {N : Type 0} → (N → ℕ) → (ℕ → ℕ) → Turns N → ℕ → ℕ → ℕ → ℕ
+weight_to number weight turns =
+    weight_from turns.first weight (cells_in number turns.offer.now) turns.offer.now.grid.size.keys
 
--- what an owner's part of it weighs
 abbrev pub part_weight : {N : Type 0} → (N → ℕ) → (ℕ → ℕ) → Turns N → ℕ → ℕ
 part_weight number weight turns owner =
-    weight_from turns.first weight (cells_in number turns.offer.now) turns.offer.now.grid.size.keys owner
-    (marks number turns.level.now.near.items owner) (marks number turns.level.now.far.items owner)
+    weight_to number weight turns owner (marks number turns.level.now.near.items owner)
+    (marks number turns.level.now.far.items owner)
+
+-- that is more than there is room for
+pub record IsTooHeavy {N : Type 0} (number : N → ℕ) (most : ℕ) (turns : Turns N) (owner room : ℕ) : Type 0 where
+  pub are : AreTurns number most turns
+  pub in_nodes : owner < turns.offer.now.grid.size.nodes
+  pub beyond : room < part_weight number (weights_in turns.offer.now owner) turns owner
+
+-- where it stops then
+abbrev pub IsStopOf : {N : Type 0} → (N → ℕ) → Turns N → ℕ → ℕ → ℕ → Type 0
+IsStopOf number turns owner =
+    IsStopFrom turns.first (weights_in turns.offer.now owner) (cells_in number turns.offer.now)
+    turns.offer.now.grid.size.keys owner (marks number turns.level.now.near.items owner)
+    (marks number turns.level.now.far.items owner)
 
 -- how many numbers the parts of so many owners have, from one on
 abbrev pub parts_count : {N : Type 0} → (N → ℕ) → Turns N → ℕ → ℕ → ℕ
@@ -40,15 +85,30 @@ AreKnownFor number most turns counts =
     HasEach turns.offer.now.grid.size.nodes (λ r n. (n ≡ most) ⊎ (n ≡ part_weight number (λ _. 1) turns r))
     (map number counts)
 
--- so it is of turns
-pub record HasCounts {N : Type 0} (number : N → ℕ) (most : ℕ) (turns : Turns N) (counts : List N) : Type 0 where
+-- so it is of turns, and these are some of their owners, from one on
+pub record HaveParts {N : Type 0} (number : N → ℕ) (most : ℕ) (turns : Turns N) (counts : List N)
+    (owner size : ℕ) : Type 0 where
   pub are : AreTurns number most turns
   pub known : AreKnownFor number most turns counts
+  pub within : owner + size ≤ turns.offer.now.grid.size.nodes
 
--- so it is, and an owner's part has so many
+-- and of these it is known
+pub record KnowParts {N : Type 0} (number : N → ℕ) (most : ℕ) (turns : Turns N) (counts : List N)
+    (owner size : ℕ) : Type 0 where
+  pub each : (r : ℕ) → owner ≤ r → r < owner + size
+      → marks number counts r ≡ part_weight number (λ _. 1) turns r
+  pub known : AreKnownFor number most turns counts
+
+-- an owner's part has so many
+pub record HasPart {N : Type 0} (number : N → ℕ) (most : ℕ) (turns : Turns N) (owner count : ℕ) : Type 0 where
+  pub are : AreTurns number most turns
+  pub in_nodes : owner < turns.offer.now.grid.size.nodes
+  pub its : count ≡ part_weight number (λ _. 1) turns owner
+
+-- so it is, or the parts of some owners have so many, and it is known as before
 pub record KnowsPart {N : Type 0} (number : N → ℕ) (most : ℕ) (turns : Turns N) (known : List N)
-    (owner many : ℕ) : Type 0 where
-  pub count : many ≡ part_weight number (λ _. 1) turns owner
+    (part many : ℕ) : Type 0 where
+  pub count : many ≡ part
   pub counts : AreKnownFor number most turns known
 
 -- the owner whose turn it is
@@ -65,15 +125,19 @@ pub record AreSharedBy {N : Type 0} (number : N → ℕ) (turns : Turns N) (mark
 -- owners whose turn has come have the far mark, and the others the near one
 pub record HasReached {N : Type 0} (number : N → ℕ) (turns : Turns N) (mark : List N) (reached : Reached) : Type 0 where
   pub size : length mark ≡ turns.offer.now.grid.size.nodes
-  pub passed : (r : ℕ) → r < turns.offer.now.grid.size.nodes
-      → rotated turns.offer.now.grid.size.nodes turns.rotation r < reached.turn
-      → marks number mark r ≡ marks number turns.level.now.far.items r
-  pub waiting : (r : ℕ) → r < turns.offer.now.grid.size.nodes
-      → reached.turn ≤ rotated turns.offer.now.grid.size.nodes turns.rotation r
-      → marks number mark r ≡ marks number turns.level.now.near.items r
+  pub each : (r : ℕ) → r < turns.offer.now.grid.size.nodes
+      → marks number mark r ≡ (if nat_lt (rotated turns.offer.now.grid.size.nodes turns.rotation r) reached.turn
+      then marks number turns.level.now.far.items r else marks number turns.level.now.near.items r)
   pub left : weight_on turns.first number turns.offer.now (marks number mark) + reached.left
       ≡ amount_of turns.offer.now.budget
   pub count : reached.sent ≡ count_on turns.first number turns.offer.now (marks number mark)
+
+-- turns, how many numbers their parts have, as far as that is known, and what marks have reached
+pub record ArePassing {N : Type 0} (number : N → ℕ) (most : ℕ) (turns : Turns N) (counts mark : List N)
+    (reached : Reached) : Type 0 where
+  pub are : AreTurns number most turns
+  pub known : AreKnownFor number most turns counts
+  pub so_far : HasReached number turns mark reached
 
 -- what is reached once so many owners more, from one on, have the far mark
 abbrev pub reached_after : {N : Type 0} → (N → ℕ) → Turns N → Reached → ℕ → ℕ → Reached
@@ -84,9 +148,10 @@ reached_after number turns reached owner size = record {
 }
 
 -- so many owners, from one on, are next, one after another; entries are counted, and the parts of all fit
-pub record HaveTurns {N : Type 0} (number : N → ℕ) (most : ℕ) (turns : Turns N) (reached : Reached)
+pub record HaveTurns {N : Type 0} (number : N → ℕ) (most : ℕ) (turns : Turns N) (mark : List N) (reached : Reached)
     (several : Several) : Type 0 where
   pub are : AreTurns number most turns
+  pub so_far : HasReached number turns mark reached
   pub entries : ℕ
   pub counted : turns.offer.now.budget ≡ Entries entries
   pub in_nodes : several.owner + several.size ≤ turns.offer.now.grid.size.nodes
@@ -95,3 +160,9 @@ pub record HaveTurns {N : Type 0} (number : N → ℕ) (most : ℕ) (turns : Tur
       → rotated turns.offer.now.grid.size.nodes turns.rotation (several.owner + i) ≡ reached.turn + i
   pub sum : several.count ≡ parts_count number turns several.owner several.size
   pub fits : several.count ≤ reached.left
+
+-- and then have had their turns
+pub record HadTurns {N : Type 0} (number : N → ℕ) (turns : Turns N) (mark : List N) (reached : Reached)
+    (to : ℕ) : Type 0 where
+  pub so_far : HasReached number turns mark reached
+  pub turn : reached.turn ≡ to

@@ -7,7 +7,7 @@ use Rattle.bench_types.specs.Budget.{share_of}
 use Rattle.model.specs.calls.Numbers.{write_numbered}
 use Rattle.planes.specs.Planes.{Cells, count_between}
 use Rattle.bench_types.specs.Sums.{sum_below}
-use Rattle.delta_plans.specs.Firsts.{by_first}
+use Rattle.delta_plans.specs.LevelMarks.{by_first}
 
 -- what a write takes of a budget, 0 for none
 abbrev pub share_or_none : Budget → Option Entry → ℕ

@@ -6,9 +6,9 @@ ghost use Rattle.delta_plans.specs.Marked.{IsLevelOf};
 ghost use Rattle.delta_plans.specs.OfferInMemory.{marks, HasMarks, IsTooLarge};
 ghost use Rattle.delta_plans.specs.Plans.{IsNextLayer};
 
-use crate::offers::{Level, Offer, Step, one_if, pick};
+use crate::offers::{Level, Offer, Step, one_if};
 use bench_types::Fault;
-use planes::{Number, least_above};
+use planes::{Number, least_above, pick};
 use std::alloc::Global;
 
 // One number more of each owner that has one. The marks of the others stay.

@@ -8,9 +8,9 @@ ghost use Rattle.delta_plans.specs.Marked.{IsLevelOf};
 ghost use Rattle.delta_plans.specs.OfferInMemory.{marks, IsTooLarge};
 ghost use Rattle.delta_plans.specs.Plans.{AreNextRuns, AreRunsFrom};
 
-use crate::offers::{Level, Offer, Step, one_if, pick};
+use crate::offers::{Level, Offer, Step, one_if};
 use bench_types::Fault;
-use planes::{Number, counts_above};
+use planes::{Number, counts_above, pick};
 use std::alloc::Global;
 
 fn greatest_of<N: Number>(numbers: &[N]) -> u32

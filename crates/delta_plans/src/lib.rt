@@ -22,7 +22,6 @@ mod marked;
 mod offers;
 mod rounds;
 mod sharing;
-mod stops;
 mod told_marks;
 
 pub use laws::deltas_have_their_sets;

@@ -79,11 +79,11 @@ pub fn planned<N: Number>(
     };
     let share = turns.share(alloc)?;
     let counts = DeltaCounts {
-        sent: share.sent,
-        cut: offer.found - share.sent,
+        sent: share.more,
+        cut: offer.found - share.more,
     };
     Ok(Marked {
-        mark: share.mark,
+        mark: share.marks,
         counts,
     })
 }

@@ -2,7 +2,8 @@
 
 ghost use Rattle.std.specs.Prelude.{◌≡◌, ◌+◌, ◌^◌, ◌*◌, ◌<◌, ◌≤◌, ◌↔◌, IsTrue, length, if◌then◌else◌};
 ghost use Rattle.bench_types.specs.declared.limits.TheConstants.{MOST_ENTRY_SIZE, MOST_KEYS, MOST_NODES};
-ghost use Rattle.bench_types.specs.Budget.{amount_of, largest_share, share_of};
+ghost use Rattle.bench_types.specs.Budget.{amount_of, share_of};
+ghost use Rattle.planes.specs.Planes.{count_between};
 ghost use Rattle.owner_writes.specs.Kept.{entry_kept};
 ghost use Rattle.delta_plans.specs.OfferInMemory.{cells_in, high_in, low_in, marks, weight_in, weights_in, AreCounted, HasMarks, HasOwner, HasPlace, IsLeftOf, IsOffer};
 ghost use Rattle.delta_plans.specs.Weights.{weight_of};
@@ -10,7 +11,7 @@ ghost use Rattle.delta_plans.specs.Weights.{weight_of};
 use bench_types::limits::MOST_ENTRY_SIZE;
 use bench_types::{Budget, Entry};
 use owner_writes::{Kept, OwnerWrites};
-use planes::{Grid, Number};
+use planes::{Grid, Number, is_between};
 
 /// The candidates are the cells of each owner above `low`, `found` in all. None is above `high`.
 #[derive(Drop)]
@@ -23,8 +24,8 @@ pub struct Offer<'a, N: Number> {
     pub found: u32,
 }
 
-/// Near marks let through whole levels, `whole` numbers in all, after which so much of the budget is left, and far marks
-/// one level more, which doesn't fit.
+/// Near marks let through whole levels, `whole` numbers in all, after which so much of the budget is left, and far
+/// marks one level more, which doesn't fit.
 #[derive(Drop)]
 pub(crate) struct Level<N: Number> {
     pub(crate) near: Vec<N>,
@@ -48,24 +49,11 @@ impl<N: Number> Level<N> {
     }
 }
 
-/// Marks up to which is sent, or above which where the newest goes first, and how many numbers these are.
-#[derive(Drop)]
-pub(crate) struct Share<N: Number> {
-    pub(crate) mark: Vec<N>,
-    pub(crate) sent: u32,
-}
-
-/// Marks of one level more, and how many numbers it has.
+/// Marks, and how many numbers they let through, or of one level more, how many numbers that has.
 #[derive(Drop)]
 pub(crate) struct Step<N: Number> {
     pub(crate) marks: Vec<N>,
     pub(crate) more: u32,
-}
-
-pub(crate) fn pick<N: Number>(test: bool, number: N, other: N) -> N
-    ensures { N.number result ≡ (if test then N.number number else N.number other) }
-{
-    if test { number } else { other }
 }
 
 pub(crate) fn one_if(test: bool) -> u32
@@ -97,9 +85,8 @@ fn share_of(budget: Budget, kept: &Kept) -> u32
 impl<'a, N: Number> Offer<'a, N> {
     /// What the write of an owner's number takes of the budget, 0 where there is none.
     pub(crate) fn weight_of_number(&self, owner: usize, number: N) -> u32
-        requires owner { owner < length self.now.lists.now }
-        ensures weight { result ≡ weights_in self.now owner (N.number number) }
-        ensures limit { result ≤ largest_share self.now.budget }
+        requires { owner < length self.now.lists.now }
+        ensures { result ≡ weights_in self.now owner (N.number number) }
     {
         match self.lists[owner].numbered(number.widen()) {
             Some(kept) => share_of(self.budget, kept),
@@ -118,23 +105,34 @@ impl<'a, N: Number> Offer<'a, N> {
     #[inline(never)]
     pub(crate) fn weight_of(&self, owner: usize, low: N, high: N) -> u32
         requires { HasOwner N.number N.most self.now owner }
-        ensures weight { result ≡ weight_of (weights_in self.now owner)
-            (cells_in N.number self.now) self.now.grid.size.keys owner
-            (N.number low) (N.number high) }
-        ensures limit { result ≤ self.now.grid.size.keys * largest_share self.now.budget }
+        ensures { result ≡ weight_of (weights_in self.now owner) (cells_in N.number self.now)
+            self.now.grid.size.keys owner (N.number low) (N.number high) }
     {
         let mut weight = 0;
         for key in 0..self.grid.size.keys {
             let cell = self.cell_of(owner, key);
-            if cell.is_above(low) && cell.is_upto(high) {
+            if is_between(cell, low, high) {
                 weight += self.weight_of_number(owner, cell);
             }
         }
         weight
     }
 
-    // What is left of so many bytes after all owners' numbers above one mark and up to another, if they fit. It stops at
-    // the first owner whose numbers don't.
+    /// How many these are.
+    pub(crate) fn count_of(&self, owner: usize, low: N, high: N) -> u32
+        requires { HasOwner N.number N.most self.now owner }
+        ensures { result ≡ count_between (cells_in N.number self.now) self.now.grid.size.keys owner
+            (N.number low) (N.number high) }
+    {
+        let mut count = 0;
+        for key in 0..self.grid.size.keys {
+            count += one_if(is_between(self.cell_of(owner, key), low, high));
+        }
+        count
+    }
+
+    // What is left of so many bytes after all owners' numbers above one mark and up to another, if they fit. It stops
+    // at the first owner whose numbers don't.
     fn bytes_left_of(&self, room: u32, low: &[N], high: &[N]) -> Option<u32>
         requires { HasMarks N.number N.most self.now low.now high.now }
         ensures { IsLeftOf room (weight_in N.number self.now (marks N.number low.now)

@@ -3,13 +3,12 @@
 
 ghost use Rattle.std.specs.Prelude.{◌≡◌, ℕ, ◌+◌, ◌-◌, ◌<◌, ◌≤◌};
 ghost use Rattle.delta_plans.specs.Granted.{IfGranted};
-ghost use Rattle.delta_plans.specs.Firsts.{by_first};
-ghost use Rattle.delta_plans.specs.OfferInMemory.{marks, weights_in};
-ghost use Rattle.delta_plans.specs.Turns.{part_weight, parts_count, AreKnownFor, AreSharedBy, AreTurns, HasCounts, HasReached, HasTurn, HaveTurns, IsOwnerOfTurn, KnowsPart};
+ghost use Rattle.delta_plans.specs.LevelMarks.{by_first};
+ghost use Rattle.delta_plans.specs.OfferInMemory.{weights_in, HasOwner};
+ghost use Rattle.delta_plans.specs.Turns.{part_weight, parts_count, weight_to, ArePassing, AreSharedBy, AreTurns, HadTurns, HasPart, HaveParts, HaveTurns, IsOwnerOfTurn, IsStopOf, IsTooHeavy, KnowParts, KnowsPart};
 
 use crate::marked::First;
-use crate::offers::{Level, Offer, Share, number_at};
-use crate::stops::Part;
+use crate::offers::{Level, Offer, Step, number_at};
 use bench_types::{Budget, Fault};
 use planes::{Number, all_of, count_some_between};
 use std::alloc::Global;
@@ -67,8 +66,7 @@ pub(crate) fn by_first<'a, N: Number>(first: First, oldest: &'a [N], newest: &'a
 
 impl<'a, 'b, N: Number> Turns<'a, 'b, N> {
     fn weight_of_part(&self, owner: usize, count: u32) -> u32
-        requires turn { HasTurn N.number N.most self.now owner }
-        requires count { count ≡ part_weight N.number (λ _. 1) self.now owner }
+        requires { HasPart N.number N.most self.now owner count }
         ensures { result ≡ part_weight N.number (weights_in self.now.offer.now owner) self.now owner }
     {
         match self.offer.budget {
@@ -77,23 +75,64 @@ impl<'a, 'b, N: Number> Turns<'a, 'b, N> {
             Budget::Bytes(_) => {
                 let near = number_at(&self.level.near, owner);
                 let far = number_at(&self.level.far, owner);
-                match self.first {
-                    First::Oldest => self.offer.weight_of(owner, near, far),
-                    First::Newest => self.offer.weight_of(owner, far, near),
-                }
+                self.weight_from(owner, near, far)
             }
         }
+    }
+
+    // What an owner's numbers from one mark on to another weigh, and how many these are. Where entries are counted, no
+    // write is looked up.
+    fn weight_from(&self, owner: usize, near: N, far: N) -> u32
+        requires { HasOwner N.number N.most self.now.offer.now owner }
+        ensures { result ≡ weight_to N.number (weights_in self.now.offer.now owner) self.now owner
+            (N.number near) (N.number far) }
+    {
+        match (self.offer.budget, self.first) {
+            (Budget::Entries(_), _) => self.count_from(owner, near, far),
+            (Budget::Bytes(_), First::Oldest) => self.offer.weight_of(owner, near, far),
+            (Budget::Bytes(_), First::Newest) => self.offer.weight_of(owner, far, near),
+        }
+    }
+
+    fn count_from(&self, owner: usize, near: N, far: N) -> u32
+        requires { HasOwner N.number N.most self.now.offer.now owner }
+        ensures { result ≡ weight_to N.number (λ _. 1) self.now owner (N.number near) (N.number far) }
+    {
+        match self.first {
+            First::Oldest => self.offer.count_of(owner, near, far),
+            First::Newest => self.offer.count_of(owner, far, near),
+        }
+    }
+
+    // Of an owner's part that doesn't fit, the mark up to which it does. It halves what lies between a mark up to which
+    // all fits and one beyond that.
+    fn stop_of(&self, owner: usize, room: u32) -> N
+        requires { IsTooHeavy N.number N.most self.now owner room }
+        ensures { IsStopOf N.number self.now owner room (N.number result) }
+    {
+        let most = N::greatest();
+        let mut fits = most.min_with(number_at(&self.level.near, owner)).widen();
+        let mut beyond = most.min_with(number_at(&self.level.far, owner)).widen();
+        let mut left = room;
+        while fits.abs_diff(beyond) > 1 {
+            let middle = fits.min(beyond) + fits.abs_diff(beyond) / 2;
+            let weight = self.weight_from(owner, N::narrow(fits), N::narrow(middle));
+            if weight <= left {
+                left -= weight;
+                fits = middle;
+            } else {
+                beyond = middle;
+            }
+        }
+        N::narrow(fits)
     }
 
     // Counts the numbers of some owners' parts, from an owner on. It stands outside the loop over turns, which seldom
     // needs it.
     #[inline(never)]
     fn count_parts(&self, counts: &mut [N], owner: usize, size: usize)
-        requires counts { HasCounts N.number N.most self.now counts.old }
-        requires within { owner + size ≤ self.now.offer.now.grid.size.nodes }
-        ensures each { (r : ℕ) → owner ≤ r → r < owner + size
-            → marks N.number counts.new r ≡ part_weight N.number (λ _. 1) self.now r }
-        ensures counts { AreKnownFor N.number N.most self.now counts.new }
+        requires { HaveParts N.number N.most self.now counts.old owner size }
+        ensures { KnowParts N.number N.most self.now counts.new owner size }
     {
         let offer = self.offer;
         let some = &mut counts[owner..owner + size];
@@ -106,9 +145,8 @@ impl<'a, 'b, N: Number> Turns<'a, 'b, N> {
 
     // How many numbers an owner's part has. Where that isn't known, parts are counted from this owner on.
     fn count_of_part(&self, counts: &mut [N], owner: usize) -> u32
-        requires turn { HasTurn N.number N.most self.now owner }
-        requires counts { AreKnownFor N.number N.most self.now counts.old }
-        ensures { KnowsPart N.number N.most self.now counts.new owner result }
+        requires { HaveParts N.number N.most self.now counts.old owner 1 }
+        ensures { KnowsPart N.number N.most self.now counts.new (part_weight N.number (λ _. 1) self.now owner) result }
     {
         let known = number_at(counts, owner);
         if N::greatest().is_above(known) {
@@ -121,10 +159,8 @@ impl<'a, 'b, N: Number> Turns<'a, 'b, N> {
 
     // How many numbers the parts of some owners have, from an owner on.
     fn count_of_parts(&self, counts: &mut [N], owner: usize, size: usize) -> u32
-        requires counts { HasCounts N.number N.most self.now counts.old }
-        requires within { owner + size ≤ self.now.offer.now.grid.size.nodes }
-        ensures count { result ≡ parts_count N.number self.now owner size }
-        ensures counts { AreKnownFor N.number N.most self.now counts.new }
+        requires { HaveParts N.number N.most self.now counts.old owner size }
+        ensures { KnowsPart N.number N.most self.now counts.new (parts_count N.number self.now owner size) result }
     {
         self.count_parts(counts, owner, size);
         let mut count = 0;
@@ -136,10 +172,8 @@ impl<'a, 'b, N: Number> Turns<'a, 'b, N> {
 
     // Gives some owners, from an owner on, the far mark.
     fn pass_some(&self, mark: &mut [N], reached: Reached, several: Several) -> Reached
-        requires turns { HaveTurns N.number N.most self.now reached several }
-        requires reached { HasReached N.number self.now mark.old reached }
-        ensures reached { HasReached N.number self.now mark.new result }
-        ensures turn { result.turn ≡ reached.turn + several.size }
+        requires { HaveTurns N.number N.most self.now mark.old reached several }
+        ensures { HadTurns N.number self.now mark.new result (reached.turn + several.size) }
     {
         let Several { owner, size, count } = several;
         let all: &[N] = &self.level.far;
@@ -157,10 +191,8 @@ impl<'a, 'b, N: Number> Turns<'a, 'b, N> {
     // Gives the owners in turn the far mark, many at a time, as long as entries are counted and the parts of all of
     // these fit.
     fn pass_many(&self, counts: &mut [N], mark: &mut [N], start: Reached) -> Reached
-        requires counts { HasCounts N.number N.most self.now counts.old }
-        requires start { HasReached N.number self.now mark.old start }
-        ensures reached { HasReached N.number self.now mark.new result }
-        ensures counts { AreKnownFor N.number N.most self.now counts.new }
+        requires { ArePassing N.number N.most self.now counts.old mark.old start }
+        ensures { ArePassing N.number N.most self.now counts.new mark.new result }
     {
         let mut reached = start;
         if let Budget::Entries(_) = self.offer.budget {
@@ -181,7 +213,7 @@ impl<'a, 'b, N: Number> Turns<'a, 'b, N> {
     // Gives the owners in turn the far mark as long as their parts fit, and the first whose part doesn't the mark where
     // that stops. Answers how many numbers these marks let through.
     fn share_into(&self, counts: &mut [N], mark: &mut [N]) -> u32
-        requires counts { HasCounts N.number N.most self.now counts.old }
+        requires counts { HaveParts N.number N.most self.now counts.old 0 self.now.offer.now.grid.size.nodes }
         requires mark { mark.old ≡ self.now.level.now.near.items }
         ensures { AreSharedBy N.number self.now mark.new result }
     {
@@ -201,15 +233,9 @@ impl<'a, 'b, N: Number> Turns<'a, 'b, N> {
             let far = number_at(&self.level.far, owner);
             if left < weight {
                 let near = number_at(&self.level.near, owner);
-                let part = Part {
-                    offer: self.offer,
-                    first: self.first,
-                    owner,
-                    far,
-                };
-                let stop = part.stop_from(near, left);
-                mark[owner] = stop.mark;
-                return sent + stop.sent;
+                let stop = self.stop_of(owner, left);
+                mark[owner] = stop;
+                return sent + self.count_from(owner, near, stop);
             }
             mark[owner] = far;
             left -= weight;
@@ -219,13 +245,13 @@ impl<'a, 'b, N: Number> Turns<'a, 'b, N> {
     }
 
     /// What of the levels and of the one that doesn't fit is sent.
-    pub(crate) fn share(&self, alloc: Global) -> Result<Share<N>, Fault>
+    pub(crate) fn share(&self, alloc: Global) -> Result<Step<N>, Fault>
         requires turns { AreTurns N.number N.most self.now }
-        ensures { IfGranted result (λ s. AreSharedBy N.number self.now s.mark.items s.sent) }
+        ensures { IfGranted result (λ s. AreSharedBy N.number self.now s.marks.items s.more) }
     {
         let mut counts = all_of(alloc, self.offer.grid.size.nodes, N::greatest())?;
-        let mut mark = Vec::from_slice(alloc, &self.level.near)?;
-        let sent = self.share_into(&mut counts, &mut mark);
-        Ok(Share { mark, sent })
+        let mut marks = Vec::from_slice(alloc, &self.level.near)?;
+        let more = self.share_into(&mut counts, &mut marks);
+        Ok(Step { marks, more })
     }
 }

@@ -74,6 +74,7 @@ fn put_starts<N: Number>(numbers: &mut [N], owners: Owners<N>)
 }
 
 // Where the generation of a number's write starts. That of the owner's own generation is given.
+#[tactic(auto, using(crate::proofs::Starts::start_own))]
 fn start_of<N: Number>(list: &OwnerWrites, number: N, base: N) -> N
     requires { IsKnown N.most list.now (N.number number) (N.number base) }
     ensures { N.number result ≡ start_of (entries_of list.now) (N.number number) }

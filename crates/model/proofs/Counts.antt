@@ -1,5 +1,5 @@
 -- Which elements of a list pass a test that holds on one stretch of it, and how many.
--- Serves `Apart`, `Picked`, `Places` and `reconcile`.
+-- Serves `Apart`, `Picked`, `Places`, `delta_plans` and `reconcile`.
 use Rattle.model.proofs.Common.{◌≡◌, ℕ, zero, suc, ◌+◌, ◌-◌, ◌<◌, ◌≤◌, Bool, true, false, cond, not, List, [], ◌∷◌, length, take, drop, get_or, ◌⊎◌, inl, inr, refl, sym, ap, ◌∙◌, arith, filter, count_by, length-take-le, length-drop, sum_by-cons, length-filter}
 use Rattle.std.specs.Prelude.{Contains}
 

@@ -11,14 +11,12 @@ pub use Rattle.std.proofs.lemmas.Result.{IfOk-weaker, on_ok_weaker}
 pub use Rattle.std.specs.FinMap.{entries, len-entries}
 pub use Rattle.std.specs.Prelude.{Contains, count_by, ◌||◌}
 pub use Rattle.bench_types.specs.declared.limits.TheConstants.{MOST_ROUNDS}
-pub use Rattle.delta_plans.proofs.Candidates.{IsOffered, candidate-number, candidate-place}
+pub use Rattle.delta_plans.proofs.Candidates.{IsOffered, candidate-number, candidate-place, items_sum}
 pub use Rattle.delta_plans.proofs.DeltaMarks.{are-sent, count-cut, count-sent, lets, shared-sent, whole-sent}
-pub use Rattle.delta_plans.proofs.Grids.{items_sum}
 pub use Rattle.delta_plans.proofs.MarkedLaws.{whole-marked, whole-size}
 pub use Rattle.delta_plans.proofs.RoundMarks.{count-above}
 pub use Rattle.delta_plans.proofs.Starts.{all_writes-here}
-pub use Rattle.delta_plans.proofs.Sums.{sum_below-none}
-pub use Rattle.delta_plans.proofs.WeightLaws.{count_between-most, part, part-cases, weight_between-most, weight_of-none, weight_of-split}
+pub use Rattle.delta_plans.proofs.WeightLaws.{count_between-most, part, part-cases, sum_below-none, weight_between-most, weight_of-none, weight_of-split}
 pub use Rattle.delta_plans.specs.Offers.{HasCells, Offers, is_lacked, offered_by, told_by, told_number}
 pub use Rattle.delta_plans.specs.declared.marked.First.{First}
 pub use Rattle.delta_plans.specs.declared.marked.First.TheVariants.{Newest, Oldest}

@@ -4,11 +4,10 @@ ghost use Rattle.std.specs.Prelude.{◌≡◌, ◌<◌, length, map, IfOk, IsOkU
 ghost use Rattle.bench_types.specs.declared.exchanges.DigestKind.TheVariants.{Precise};
 ghost use Rattle.bench_types.specs.declared.faults.Fault.TheVariants.{OutOfMemory};
 ghost use Rattle.bench_types.specs.Mode.{digest_kind};
-ghost use Rattle.delta_plans.specs.LevelMarks.{first_sent};
+ghost use Rattle.delta_plans.specs.LevelMarks.{first_sent, by_first};
 ghost use Rattle.version_tables.specs.Views.{table_in};
 ghost use Rattle.version_tables.specs.inner.Deltas.{AreMarksOf, AreOfOneSize, MaySend};
 ghost use Rattle.version_tables.specs.inner.Histories.{FitsHistories};
-ghost use Rattle.delta_plans.specs.Firsts.{by_first};
 ghost use Rattle.version_tables.specs.inner.Offered.{AreAhead, AreMarksBy, AreTold, IsOffered};
 
 use crate::histories::Histories;

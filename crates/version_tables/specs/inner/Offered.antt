@@ -11,7 +11,7 @@ use Rattle.version_tables.specs.declared.deltas.DeltaMarks.{DeltaMarks}
 use Rattle.version_tables.specs.declared.deltas.Offered.{Offered}
 use Rattle.delta_plans.specs.declared.marked.First.{First}
 use Rattle.delta_plans.specs.declared.marked.Marked.{Marked}
-use Rattle.delta_plans.specs.Firsts.{by_first}
+use Rattle.delta_plans.specs.LevelMarks.{by_first}
 use Rattle.delta_plans.specs.Offers.{offered_by, told_by, told_number}
 
 -- the marks that a receiver tells, whose table is one

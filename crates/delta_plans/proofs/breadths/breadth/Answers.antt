@@ -1,5 +1,5 @@
 use Rattle.delta_plans.proofs.Common.{ap, subst, arith, marks, Level, IsNextLayer}
-use Rattle.delta_plans.proofs.LayerSteps.{layers-first, layers-more, layers-next}
+use Rattle.delta_plans.proofs.LayerSteps.{layers-first, layers-more, layers-next, level-of_layers}
 use Rattle.delta_plans.proofs.LevelSteps.{level-asked, level-ends, level-few, level-told, level-upto}
 use Rattle.delta_plans.proofs.breadths.breadth.Goals as goal
 
@@ -10,7 +10,8 @@ loop-left-init g c =
     record { has = layers-first c.requires.offer.is_offer c.first_level-level.ensures c.in_ok-near.ensures.items layer }
 
 pub left_of-requires : goal.left_of-requires
-left_of-requires g c = level-asked c.requires.offer.is_offer c.loop-left.invariant.has.so_far c.deref-in-loop-left.ensures.value c.deref-in-loop-left-2.ensures.value
+left_of-requires g c = level-asked c.requires.offer.is_offer c.loop-left.invariant.has.so_far
+    c.deref-in-loop-left.ensures.value c.deref-in-loop-left-2.ensures.value
 
 pub next-level-requires : goal.next-level-requires
 next-level-requires g c = omega (arith, level-few c.requires.offer.is_offer c.loop-left.invariant.has.so_far)
@@ -35,10 +36,6 @@ loop-left-preserved g c =
 pub returns : goal.returns
 returns g c =
     let is = c.requires.offer.is_offer in
-    let has = c.loop-left.invariant.has in (
-      record {
-        is_level = level-ends is has.so_far (level-told is has.so_far c.deref-in-loop-left.ensures.value c.deref-in-loop-left-2.ensures.value c.in_default.is c.left_of.ensures);
-        shape = has.shape;
-      },
-      tt,
-    )
+    let has = c.loop-left.invariant.has in
+    let told = level-told is has.so_far c.deref-in-loop-left.ensures.value c.deref-in-loop-left-2.ensures.value c.in_default.is c.left_of.ensures in
+    (record { is_level = level-ends is has.so_far told; shape = level-of_layers is has }, tt)

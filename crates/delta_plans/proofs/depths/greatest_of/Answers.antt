@@ -7,7 +7,9 @@ loop-r-preserved g c =
     record {
       greatest = λ r lt. elim (cases_lt r c.loop-r.r) [
         | inl before ↦ omega (arith, c.loop-r.invariant.greatest r before, c.max-greatest.ensures)
-        | inr not_before ↦ subst (λ k. get_or (map g.N.Number.number c.args.numbers.now) k 0 ≤ c.max-greatest.result) {x = c.loop-r.r} {y = r} (omega (arith, lt, not_before)) (omega (arith, here, c.widen.ensures, c.max-greatest.ensures))
+        | inr not_before ↦
+            subst (λ k. get_or (map g.N.Number.number c.args.numbers.now) k 0 ≤ c.max-greatest.result) {x = c.loop-r.r} {y = r} (omega (arith, lt, not_before))
+            (omega (arith, here, c.widen.ensures, c.max-greatest.ensures))
       ];
       few = omega (arith, here, c.widen.ensures, c.max-greatest.ensures, c.loop-r.invariant.few, c.requires.few c.loop-r.r c.loop-r-test.true);
     }

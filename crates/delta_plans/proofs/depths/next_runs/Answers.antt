@@ -1,20 +1,28 @@
-use Rattle.delta_plans.proofs.Common.{◌≡◌, ◌≤◌, eqb, get_or, length, map, refl, ap, ◌∙◌, arith, if◌then◌else◌, with_items, length-map, with_items_is, mul-le-mul_left, mul-le-mul_right, MOST_NODES, count_le, number-at}
+use Rattle.delta_plans.proofs.Common.{◌≤◌, eqb, get_or, length, map, refl, ap, ◌∙◌, arith, if◌then◌else◌, length-map, with_items_is, mul-le-mul_left, mul-le-mul_right, MOST_NODES, count_le, number-at}
 use Rattle.delta_plans.proofs.Nodes.{count_fits, counted_next, counted_all}
 use Rattle.delta_plans.proofs.RunSteps.{next-runs}
 use Rattle.delta_plans.proofs.depths.next_runs.Goals as goal
 
 pub overflow_add-owners : goal.overflow_add-owners
 overflow_add-owners g c =
-    count_fits (λ r. eqb (get_or (map g.N.Number.number c.args.counts.now) r 0) c.args.size) c.loop-r.r (length c.deref_mut-all.result.now) c.loop-r.owners c.one_if-owners.result _ c.loop-r.invariant.counted c.one_if-owners.ensures (omega (arith, c.loop-r-test.true))
-    (omega (arith, ap length c.deref_mut-all.ensures.value, ap length c.in_ok-marks.ensures.items, c.requires.each_near, c.requires.is_offer.grid.few_nodes))
+    let all = c.deref_mut-all.result.now in
+    let size = ap length c.deref_mut-all.ensures.value ∙ ap length c.in_ok-marks.ensures.items ∙ c.requires.each_near in
+    count_fits (λ r. eqb (get_or (map g.N.Number.number c.args.counts.now) r 0) c.args.size) c.loop-r.r (length all) c.loop-r.owners c.one_if-owners.result _
+    c.loop-r.invariant.counted c.one_if-owners.ensures (omega (arith, c.loop-r-test.true)) (omega (arith, size, c.requires.is_offer.grid.few_nodes))
 
 pub loop-r-preserved : goal.loop-r-preserved
 loop-r-preserved g c =
     let number = g.N.Number.number in
-    let count = number-at number c.args.counts.now c.loop-r.r c.index-counts-r.result (omega (arith, c.loop-r-test.true, ap length c.deref_mut-all.ensures.value, ap length c.in_ok-marks.ensures.items, c.requires.each_near, c.requires.counts_are.size, length-map c.args.counts.now number)) c.index-counts-r.is in
-    let high = number-at number c.args.offer.now.high.now c.loop-r.r c.index-high-r.result (omega (arith, c.loop-r-test.true, ap length c.deref_mut-all.ensures.value, ap length c.in_ok-marks.ensures.items, c.requires.each_near, c.requires.is_offer.high)) c.index-high-r.is in
-    let mark = number-at number c.loop-r.all c.loop-r.r c.index-all-r.result (omega (arith, c.loop-r-test.true, c.loop-r.auto.all)) c.index-all-r.is ∙ c.loop-r.invariant.written.from c.loop-r.r (omega arith) in
-    counted_next _ _ number c.deref_mut-all.result.now c.loop-r.all c.loop-r.r c.loop-r.owners c.loop-r.invariant c.pick.result c.one_if-owners.result c.loop-r-test.true
+    let r = c.loop-r.r in
+    let all = c.loop-r.all in
+    let size = ap length c.deref_mut-all.ensures.value ∙ ap length c.in_ok-marks.ensures.items ∙ c.requires.each_near in
+    let count = number-at number c.args.counts.now r c.index-counts-r.result
+    (omega (arith, c.loop-r-test.true, size, c.requires.counts_are.size, length-map c.args.counts.now number)) c.index-counts-r.is in
+    let high = number-at number c.args.offer.now.high.now r c.index-high-r.result
+    (omega (arith, c.loop-r-test.true, size, c.requires.is_offer.high)) c.index-high-r.is in
+    let mark = number-at number all r c.index-all-r.result (omega (arith, c.loop-r-test.true, c.loop-r.auto.all)) c.index-all-r.is
+    ∙ c.loop-r.invariant.written.from r (omega arith) in
+    counted_next _ _ number c.deref_mut-all.result.now all r c.loop-r.owners c.loop-r.invariant c.pick.result c.one_if-owners.result c.loop-r-test.true
     (c.pick.ensures ∙ (λ i. if eqb ((c.widen.ensures ∙ count) i) c.args.size then high i else mark i))
     (c.one_if-owners.ensures ∙ (λ i. if eqb ((c.widen.ensures ∙ count) i) c.args.size then 1 else 0))
 
@@ -28,13 +36,9 @@ overflow_mul-more g c =
 
 pub returns : goal.returns
 returns g c =
-    let number = g.N.Number.number in
-    let offer = c.args.offer.now in
-    let v = c.in_ok-marks.marks in
-    let new = c.loop-r.all in
     let old = c.deref_mut-all.result.now in
-    let xs = (with_items v new).items in
-    let start : old ≡ c.args.near.now = c.deref_mut-all.ensures.value ∙ c.in_ok-marks.ensures.items in
-    let whole : xs ≡ new = with_items_is v new (c.loop-r.auto.all ∙ c.deref_mut-all.ensures.len) in
-    let all = counted_all _ _ number old new c.loop-r.r c.loop-r.owners c.loop-r.invariant (omega (arith, c.loop-r-test.false)) (omega (arith, c.loop-r.auto.r-end)) in
-    (next-runs number offer c.args.near.now c.args.counts.now old new _ c.args.size c.loop-r.owners start c.requires.each_near whole refl c.requires.counts_are all.0 all.1, tt)
+    let new = c.loop-r.all in
+    let whole = with_items_is c.in_ok-marks.marks new (c.loop-r.auto.all ∙ c.deref_mut-all.ensures.len) in
+    let done = counted_all _ _ g.N.Number.number old new c.loop-r.r c.loop-r.owners c.loop-r.invariant
+    (omega (arith, c.loop-r-test.false)) (omega (arith, c.loop-r.auto.r-end)) in
+    (next-runs c.requires old new c.loop-r.owners _ (c.deref_mut-all.ensures.value ∙ c.in_ok-marks.ensures.items) whole refl done, tt)

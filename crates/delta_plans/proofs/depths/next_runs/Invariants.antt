@@ -4,5 +4,6 @@ use Rattle.delta_plans.proofs.depths.next_runs.Given as goal
 
 abbrev pub invariant-loop-r : goal.invariant-loop-r
 invariant-loop-r g l =
-    AreCountedUpto (λ r x y. y ≡ (if eqb (slice_index (map g.N.Number.number l.counts) r) l.size then slice_index (map g.N.Number.number l.offer.high.now) r else x)) (λ r. eqb (slice_index (map g.N.Number.number l.counts) r) l.size)
-    (map g.N.Number.number l.initial.all) (map g.N.Number.number l.all) l.r l.owners
+    let number = g.N.Number.number in
+    AreCountedUpto (λ r x y. y ≡ (if eqb (slice_index (map number l.counts) r) l.size then slice_index (map number l.offer.high.now) r else x))
+    (λ r. eqb (slice_index (map number l.counts) r) l.size) (map number l.initial.all) (map number l.all) l.r l.owners

@@ -18,9 +18,9 @@ returns-then-fits-clause-marked g c =
 pub overflow_sub-counts : goal.overflow_sub-counts
 overflow_sub-counts g c =
     sent-found g.N.Number.number g.N.Number.most c.args.offer.now c.requires.offer c.args.rotation c.args.mode c.in_ok-level.ensures.0
-    c.in_ok-share.share.mark.items (rw c.of-first.ensures at c.in_ok-share.ensures.0.shared)
+    c.in_ok-share.share.marks.items (rw c.of-first.ensures at c.in_ok-share.ensures.0.shared)
 
 pub returns-clause-marked : goal.returns-clause-marked
 returns-clause-marked g c =
     share-marked g.N.Number.number g.N.Number.most c.args.offer.now c.requires.offer c.args.rotation c.args.mode c.in_ok-level.ensures.0
-    c.in_ok-share.share.mark.items (rw c.of-first.ensures at c.in_ok-share.ensures.0.shared)
+    c.in_ok-share.share.marks.items (rw c.of-first.ensures at c.in_ok-share.ensures.0.shared)

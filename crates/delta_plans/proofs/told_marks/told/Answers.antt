@@ -11,9 +11,11 @@ returns-clause-told g c =
     let lists = c.args.owners.lists.now in
     let new = c.put_marks.new.numbers in
     let put =
-    subst (λ xs. AreChanged (λ r x y. y ≡ told_by kind (all_writes lists r) x) (map number xs) (map number new)) (c.deref_mut.ensures.value ∙ c.in_ok-told.ensures.items) c.put_marks.ensures
+    subst (λ xs. AreChanged (λ r x y. y ≡ told_by kind (all_writes lists r) x) (map number xs) (map number new))
+    (c.deref_mut.ensures.value ∙ c.in_ok-told.ensures.items) c.put_marks.ensures
     in
-    let told = told-set kind most node (all_writes lists) (map number c.args.greatest.now) (map number new) put (omega (arith, c.requires.node, c.requires.known.count)) in
+    let told = told-set kind most node (all_writes lists) (map number c.args.greatest.now) (map number new) put
+    (omega (arith, c.requires.node, c.requires.known.count)) in
     let whole =
     ap (set (map number new) node) (sym c.greatest.ensures) ∙ sym (map-set number new node c.greatest.result)
     ∙ ap (λ xs. map number (set xs node c.greatest.result)) (sym (with_items_is c.in_ok-told.told new (c.put_marks.auto.numbers ∙ c.deref_mut.ensures.len)))

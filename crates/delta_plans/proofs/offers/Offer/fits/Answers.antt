@@ -1,5 +1,5 @@
 use Rattle.delta_plans.proofs.Common.{arith, high_in, low_in}
-use Rattle.delta_plans.proofs.OfferWeights.{offer-few, offer-most}
+use Rattle.delta_plans.proofs.WeightLaws.{offer-few, offer-most}
 use Rattle.delta_plans.proofs.offers.Offer.fits.Goals as goal
 
 pub surely_fit-requires : goal.surely_fit-requires

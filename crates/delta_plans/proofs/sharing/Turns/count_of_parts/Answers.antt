@@ -6,7 +6,7 @@ pub overflow_add-count : goal.overflow_add-count
 overflow_add-count g c =
     let turns = c.args.self.now in
     let owner = c.args.owner in
-    let are = c.requires.counts.are in
+    let are = c.requires.are in
     let most = sum_below-most (λ i. part_weight g.N.Number.number (λ _. 1) turns (owner + i)) (suc c.loop-i.i) MOST_KEYS (λ i _. part-few are (owner + i)) in
     let here = c.count_parts.ensures.each (owner + c.loop-i.i) (omega arith) (omega (arith, c.loop-i-test.true)) in
     let count = c.widen-count.ensures ∙ c.number_at.ensures ∙ here in

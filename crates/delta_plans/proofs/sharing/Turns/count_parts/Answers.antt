@@ -3,7 +3,8 @@ use Rattle.delta_plans.proofs.sharing.Turns.count_parts.Goals as goal
 
 -- a part has as many numbers as lie between the two marks that go first
 counted : {N : Type 0} (number : N → ℕ) (cells : Cells) (keys size start : ℕ) (first : First) (near far : List N) (xs : List ℕ)
-    → HasEach size (λ r n. n ≡ count_between cells keys (start + r) (marks number (by_first first near far) (start + r)) (marks number (by_first first far near) (start + r))) xs
+    → HasEach size (λ r n. n ≡ count_between cells keys (start + r) (marks number (by_first first near far) (start + r))
+    (marks number (by_first first far near) (start + r))) xs
     → HasEach size (λ r n. n ≡ weight_from first (λ _. 1) cells keys (start + r) (marks number near (start + r)) (marks number far (start + r))) xs
 counted number cells keys size start Oldest near far xs has = has
 counted number cells keys size start Newest near far xs has = has
@@ -21,10 +22,11 @@ returns g c =
     let old = c.args.counts.now in
     let new = c.count_some_between.new.counts in
     let size = owner + c.args.size - owner in
-    let within : owner + size ≤ length old = omega (arith, c.requires.within, c.requires.counts.known.size, length-map old number) in
+    let within : owner + size ≤ length old = omega (arith, c.requires.within, c.requires.known.size, length-map old number) in
     let sized : length new ≡ size = c.count_some_between.auto.counts ∙ length-take-le size (drop owner old) (omega (arith, within, length-drop owner old)) in
     let parts =
-    counted number (cells_in number offer) offer.grid.size.keys (length (take size (drop owner old))) owner turns.first turns.level.now.near.items turns.level.now.far.items (map number new)
+    counted number (cells_in number offer) offer.grid.size.keys (length (take size (drop owner old))) owner turns.first
+    turns.level.now.near.items turns.level.now.far.items (map number new)
     (transport (λ i. HasEach (length (take size (drop owner old))) (λ r n. n ≡ count_between (cells_in number offer) offer.grid.size.keys (owner + r)
     (marks number ((c.by_first-low.ensures ∙ (λ j. by_first turns.first (c.deref.ensures.value j) (c.deref-2.ensures.value j))) i) (owner + r))
     (marks number ((c.by_first-high.ensures ∙ (λ j. by_first turns.first (c.deref-3.ensures.value j) (c.deref-4.ensures.value j))) i) (owner + r)))
@@ -36,7 +38,8 @@ returns g c =
     record {
       each = λ r from upto.
           let inside : r - owner < size = omega (arith, from, upto) in
-          subst (λ j. get_or (map number (put_mid owner size old new)) j 0 ≡ part_weight number (λ _. 1) turns j) {x = owner + (r - owner)} {y = r} (omega (arith, from))
+          subst (λ j. get_or (map number (put_mid owner size old new)) j 0 ≡ part_weight number (λ _. 1) turns j)
+          {x = owner + (r - owner)} {y = r} (omega (arith, from))
           (part-here number owner size old new within sized (r - owner) inside ∙ here (r - owner) inside);
-      counts = part-written number owner size old new within sized offer.grid.size.nodes _ c.requires.counts.known (λ r lt. inr (here r lt));
+      known = part-written number owner size old new within sized offer.grid.size.nodes _ c.requires.known (λ r lt. inr (here r lt));
     }

@@ -1,7 +1,8 @@
 -- What loops over all planes of a table do to its numbers. Source: this project.
-use Rattle.std.specs.Prelude.{◌≡◌, ℕ, ◌≤◌, List, length, map, max, slice_index}
+use Rattle.std.specs.Prelude.{◌≡◌, ℕ, ◌<◌, ◌≤◌, ◌==◌, List, length, map, max, nat_lt, slice_index, if◌then◌else◌}
 use Rattle.bench_types.specs.declared.limits.TheConstants.{MOST_KEYS, MOST_NODES}
 use Rattle.planes.specs.declared.sizes.Grid.{Grid}
+use Rattle.planes.specs.declared.sizes.Size.{Size}
 use Rattle.planes.specs.Elementwise.{AreChanged}
 use Rattle.planes.specs.Grids.{cells_in, HasMarkOfEach}
 use Rattle.planes.specs.Planes.{cell, most_ahead, number_ahead, number_raised, total_above, AreCovered, AreRaised, AreTaken, ArePlanesChanged, HasEachPlace, IsGrid}
@@ -14,6 +15,21 @@ use Rattle.grids.specs.declared.merges.BothMarks.{BothMarks}
 pub record IsBeside {N : Type 0} (grid : Grid N) (others : List N) : Type 0 where
   pub shape : IsGrid grid.size.nodes grid.size.keys (length others)
   pub count : length grid.cells.now ≡ length others
+
+-- an owner's numbers are among those of a table of a size
+pub record HasColumn {N : Type 0} (size : Size) (cells : List N) (owner : ℕ) : Type 0 where
+  pub grid : IsGrid size.nodes size.keys (length cells)
+  pub among : owner < size.nodes
+
+-- a number that is above a mark, else 0
+abbrev pub number_kept : ℕ → ℕ → ℕ
+number_kept mark number = if nat_lt mark number then number else 0
+
+-- so it is of those, and the others stay
+abbrev pub IsOwnerKept : {N : Type 0} → (N → ℕ) → Size → ℕ → ℕ → List N → List N → Type 0
+IsOwnerKept number size owner mark old new =
+    ArePlanesChanged (λ r k x y. y ≡ (if r == owner then number_kept mark x else x)) size.nodes size.keys
+    (map number old) (map number new)
 
 -- a table, a peer's numbers and a mark for each owner
 pub record HasPeer {N : Type 0} (grid : Grid N) (peer low : List N) : Type 0 where

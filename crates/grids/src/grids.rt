@@ -4,7 +4,7 @@
 ghost use Rattle.std.specs.Prelude.{◌≡◌, ℕ, ◌<◌, ◌≤◌, ◌==◌, ◌↔◌, Bool, IsTrue, length, map, max, nat_lt, slice_index, IfOk, IsOkUnless, if◌then◌else◌};
 ghost use Rattle.bench_types.specs.declared.faults.Fault.TheVariants.{OutOfMemory};
 ghost use Rattle.planes.specs.Planes.{cell, number_ahead, total_of, ArePlanesChanged, IsGrid};
-ghost use Rattle.grids.specs.Grids.{AreSentTaken, HasPeer, IsAhead, MayTake};
+ghost use Rattle.grids.specs.Grids.{AreSentTaken, HasColumn, HasPeer, IsAhead, IsOwnerKept, MayTake};
 ghost use Rattle.bench_types.specs.declared.limits.TheConstants.{MOST_NODES};
 ghost use Rattle.grids.specs.inner.Loops.{IsPlaneTaken, MakesAs, MayTakePlane};
 ghost use Rattle.grids.specs.inner.Masks.{AreKeptAhead, HasNoOtherMark};
@@ -86,17 +86,15 @@ fn has_no_other_mark<N: Number>(low: &[N], own: usize) -> bool
     ) == 0
 }
 
-// Puts 0 in place of an owner's numbers up to a mark.
-fn drop_owner<N: Number>(cells: &mut [N], size: Size, owner: usize, mark: N)
-    requires grid { IsGrid size.nodes size.keys (length cells.old) }
-    requires owner { owner < size.nodes }
-    ensures { ArePlanesChanged (λ r k x y. y ≡ (if r == owner then number_ahead x 0 (N.number mark) else x))
-        size.nodes size.keys (map N.number cells.old) (map N.number cells.new) }
+/// Puts 0 in place of an owner's numbers up to a mark.
+pub fn drop_owner<N: Number>(cells: &mut [N], size: Size, owner: usize, mark: u32)
+    requires { HasColumn size cells.old owner }
+    ensures { IsOwnerKept N.number size owner mark cells.old cells.new }
 {
     for key in 0..size.keys {
         let cell = &mut cells[key * size.nodes + owner];
         let number = *cell;
-        *cell = planes::pick(number.is_above(mark), number, N::zero());
+        *cell = planes::pick(number.widen() > mark, number, N::zero());
     }
 }
 
@@ -138,7 +136,7 @@ fn ahead_of_peer<N: Number>(
     let Grid { cells, size } = grid;
     let mut numbers = copied(alloc, cells)?;
     let all: &mut [N] = &mut numbers;
-    drop_owner(all, size, own, low[own]);
+    drop_owner(all, size, own, low[own].widen());
     let count = keep_ahead(all, size, peer);
     Ok(Masked { numbers, count })
 }

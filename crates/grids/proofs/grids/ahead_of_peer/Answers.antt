@@ -13,9 +13,9 @@ returns-clause-ahead g c =
     let own : c.args.own < length c.args.low.now = omega (arith, c.requires.own, c.requires.peer.marks.count) in
     let mark = number-at number c.args.low.now c.args.own c.index-low-own.result own c.index-low-own.is in
     let all =
-    masked-once nodes c.args.grid.size.keys c.args.own (number c.index-low-own.result) (cell (map number c.args.peer.now) nodes)
+    masked-once nodes c.args.grid.size.keys c.args.own c.widen.result (cell (map number c.args.peer.now) nodes)
     (map number c.args.low.now) (map number old) (map number c.drop_owner.new.cells) (map number new)
-    (length-map c.args.low.now number ∙ c.requires.peer.marks.count) c.requires.none mark c.drop_owner.ensures
+    (length-map c.args.low.now number ∙ c.requires.peer.marks.count) c.requires.none (c.widen.ensures ∙ mark) c.drop_owner.ensures
     c.keep_ahead-count.result c.keep_ahead-count.ensures.numbers c.keep_ahead-count.ensures.count in
     record {
       numbers = rw (items, ← c.in_ok-numbers.ensures.copy, ← c.deref_mut-all.ensures.value) (record {

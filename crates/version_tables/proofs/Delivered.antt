@@ -1,7 +1,7 @@
 -- From an offer's marks to the marks of a delta between two tables.
 -- Serves `marks_sent` and `Merged`.
 use Rattle.version_tables.proofs.Common.{◌≡◌, ℕ, ◌<◌, ◌≤◌, List, length, get_or, map, inl, inr, refl, sym, ap, ◌∙◌, subst, arith, nat_lt, ◌&&◌, total_above, cases_eq, length-map, nat_tests, Entry, First, Oldest, Newest, Rules, DigestKind, Scuttle, Precise, digest_kind, first_sent, Table, candidates, delta_between, write_numbered, all_writes, Cells, cell, HasEach, HasNoneAbove, Offer, HasSet, by_first, AreMarked, KeepsLow, IsOffer, IsHistory, Offers, offered_by, told_by, told_number, lets_through, NumbersDiffer, IsOffered, candidate-place, candidate-number, lets, count-above, count-sent, count-cut, are-sent, shared-sent, whole-sent, numbered-some, VersionTableView, HistoriesView, table_in, is_taken_at, AreLaidBoth, AreMarksOf, AreLow, AreOffered, is_taken}
-use Rattle.version_tables.proofs.Fitting.{turned, first-numbers}
+use Rattle.version_tables.proofs.Fitting.{turned, first-keyed, first-upto}
 use Rattle.version_tables.proofs.Told.{told-offers, offered-is, offered-upto}
 
 -- what a receiver takes by the marks of a delta is what these let through of what is offered
@@ -60,7 +60,7 @@ module _ {N : Type 0} (number : N → ℕ) {written : ℕ → List Entry} {most 
   cells = cell (map number given.grid.cells.now) from.nodes
 
   sender-high : (owner key : ℕ) → owner < from.nodes → key < from.keys → sender owner key ≤ high owner
-  sender-high owner key in_nodes in_keys = omega (arith, (two.first.most owner in_nodes).upto key in_keys, ap (λ xs. get_or xs owner 0) high_is)
+  sender-high owner key in_nodes in_keys = omega (arith, (two.first.most.each owner in_nodes).upto key in_keys, ap (λ xs. get_or xs owner 0) high_is)
 
   cells-upto : (owner key : ℕ) → owner < from.nodes → key < from.keys → cells owner key ≤ sender owner key
   cells-upto owner key in_nodes in_keys = omega (arith, offered.each owner key in_nodes in_keys, offered-upto kind sender receiver low owner key)
@@ -73,12 +73,11 @@ module _ {N : Type 0} (number : N → ℕ) {written : ℕ → List Entry} {most 
 
   differ : (owner : ℕ) → owner < from.nodes → NumbersDiffer cells from.keys owner
   differ owner in_nodes k l in_k in_l some same =
-      let numbers = first-numbers two in
       let at_k : cells owner k ≡ sender owner k = offered.each owner k in_nodes in_k ∙ offered-is kind sender receiver low owner k (omega (arith, some, offered.each owner k in_nodes in_k)) in
       let at_l : cells owner l ≡ sender owner l = offered.each owner l in_nodes in_l ∙ offered-is kind sender receiver low owner l (omega (arith, some, same, offered.each owner l in_nodes in_l)) in
-      let there = numbered-some (lists owner) (sender owner k) (omega (arith, some, at_k)) (numbers.written owner k in_nodes in_k) in
-      sym (numbers.keyed owner k there.0 in_nodes in_k there.1)
-      ∙ numbers.keyed owner l there.0 in_nodes in_l (ap (write_numbered (lists owner)) (sym at_l ∙ sym same ∙ at_k) ∙ there.1)
+      let there = numbered-some (lists owner) (sender owner k) (omega (arith, some, at_k)) (first-upto two owner k in_nodes in_k) in
+      sym (first-keyed two owner k there.0 in_nodes in_k there.1)
+      ∙ first-keyed two owner l there.0 in_nodes in_l (ap (write_numbered (lists owner)) (sym at_l ∙ sym same ∙ at_k) ∙ there.1)
 
   -- the numbers are an offer
   pub offer-is : IsOffer number most given
@@ -89,10 +88,10 @@ module _ {N : Type 0} (number : N → ℕ) {written : ℕ → List Entry} {most 
       few_keys = two.first.proper.keys_limit;
     };
     low = sym (length-map given.low.now number) ∙ low_is.count ∙ sym two.both.size.nodes;
-    high = sym (length-map given.high.now number) ∙ ap length high_is ∙ two.first.greatest_count;
+    high = sym (length-map given.high.now number) ∙ ap length high_is ∙ two.first.most.size;
     lists = sym two.both.first.nodes;
-    written = λ owner key in_nodes in_keys. omega (arith, cells-upto owner key in_nodes in_keys, (first-numbers two).written owner key in_nodes in_keys);
-    below = λ owner key in_nodes in_keys. omega (arith, cells-upto owner key in_nodes in_keys, (first-numbers two).written owner key in_nodes in_keys, (two.known.so_far owner).few);
+    written = λ owner key in_nodes in_keys. omega (arith, cells-upto owner key in_nodes in_keys, first-upto two owner key in_nodes in_keys);
+    below = λ owner key in_nodes in_keys. omega (arith, cells-upto owner key in_nodes in_keys, first-upto two owner key in_nodes in_keys, (two.known.so_far owner).few);
     differ = differ;
     covered = covered;
     found = found ∙ count-above cells from.nodes from.keys high covered low;
@@ -124,7 +123,7 @@ module _ {N : Type 0} (number : N → ℕ) {written : ℕ → List Entry} {most 
     told-upto : (owner key : ℕ) → owner < to.nodes → key < to.keys → kind ≡ Scuttle → receiver owner key ≤ low owner
     told-upto owner key in_to in_keys is_scuttle = elim (cases_eq owner to.node) [
       | inl own ↦ subst (λ o. receiver o key ≤ low o) (sym own) (low_is.held key in_keys)
-      | inr other ↦ omega (arith, low_is.others owner in_to other, ap (λ k. told_by k (lists owner) (get_or to.greatest owner 0)) is_scuttle, (two.second.most owner in_to).upto key in_keys)
+      | inr other ↦ omega (arith, low_is.others owner in_to other, ap (λ k. told_by k (lists owner) (get_or to.greatest owner 0)) is_scuttle, (two.second.most.each owner in_to).upto key in_keys)
     ]
 
     taken-is : (owner key : ℕ) → owner < from.nodes → key < from.keys
@@ -140,7 +139,7 @@ module _ {N : Type 0} (number : N → ℕ) {written : ℕ → List Entry} {most 
         let sent_is = marked.count ∙ sym (count-sent given_is in_nodes covered m marked.above rules.budget has) in
         record {
           low_count = by_first-size first (map number given.low.now) mark from.nodes (low_is.count ∙ sym two.both.size.nodes) mark_size;
-          high_count = by_first-size first mark (map number given.high.now) from.nodes mark_size (ap length high_is ∙ two.first.greatest_count);
+          high_count = by_first-size first mark (map number given.high.now) from.nodes mark_size (ap length high_is ∙ two.first.most.size);
           marks = are-sent given_is in_nodes covered m marked.above rules.budget has
               (is_taken_at from to (by_first first (map number given.low.now) mark) (by_first first mark (map number given.high.now))) taken-is;
           count = sent_is;
@@ -153,8 +152,8 @@ pub told-low : {written : ℕ → List Entry} {most : ℕ} {h : HistoriesView} {
 told-low {most = most} {h = h} {from = from} {to = to} two kind low told = record {
   count = told.size ∙ sym two.both.second.nodes;
   others = λ owner lt other. let is = told.each owner (omega (arith, lt, two.both.second.nodes)) in grind (arith, nat_tests);
-  sent = λ key in_keys. omega (arith, own, (first-numbers two).written to.node key (omega (arith, two.second.proper.node_below, two.both.size.nodes)) in_keys, (two.known.so_far to.node).few);
-  held = λ key in_keys. omega (arith, own, (first-numbers (turned two)).written to.node key two.second.proper.node_below in_keys, (two.known.so_far to.node).few);
+  sent = λ key in_keys. omega (arith, own, first-upto two to.node key (omega (arith, two.second.proper.node_below, two.both.size.nodes)) in_keys, (two.known.so_far to.node).few);
+  held = λ key in_keys. omega (arith, own, first-upto (turned two) to.node key two.second.proper.node_below in_keys, (two.known.so_far to.node).few);
 }
   where
     own : get_or low to.node 0 ≡ most

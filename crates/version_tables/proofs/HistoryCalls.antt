@@ -1,7 +1,7 @@
 -- What the calls of the histories make of all that is kept of the owners' writes.
 -- Serves `Histories::begin_generation`, `Histories::end_round`, `Histories::lasts`, `Histories::new` and
 -- `Histories::write`.
-use Rattle.version_tables.proofs.Common.{◌≡◌, ◌≢◌, ℕ, zero, suc, ◌+◌, ◌*◌, ◌<◌, ◌≤◌, ◌==◌, cond, List, [], ◌∷◌, ◌++◌, length, get_or, set, map, Some, inl, inr, refl, sym, ap, ◌∙◌, subst, transport, arith, length-append, cases_lt, cases_eq, eq-eqb, ne_eqb, get_or-set_same, get_or-set_other, get_or_append_left, get_or_push, length-set, get_or-append-add, get_or_default, length-map, map-append, map-set, append_assoc, append-nil, same_Some, number-at, Entry, LEAST_KEYS, MOST_KEYS, MOST_NODES, MOST_ROUNDS, write_numbered, OwnerListView, all_writes, entries_of, list_of_owner, no_writes, next_entry, with_write, begun_generation, AreWrites, ListBecomes, writes_more, writes_begun, HasEach, HasEachPlace, ArePlanesChanged, cell, AreMadeBy, IsHistory, IsNumberedHistory, IsRoundMark, IsLastNumber, numbered-within, write_from-here, HistoriesView, round_ended, AreHistories, AreNoWrites, IsCounted, IsWrittenSoFar, IsWriteUnder}
+use Rattle.version_tables.proofs.Common.{◌≡◌, ◌≢◌, ℕ, zero, suc, ◌+◌, ◌*◌, ◌<◌, ◌≤◌, ◌==◌, cond, List, [], ◌∷◌, ◌++◌, length, get_or, set, map, Some, inl, inr, refl, sym, ap, ◌∙◌, subst, transport, arith, length-append, cases_lt, cases_eq, eq-eqb, ne_eqb, get_or-set_same, get_or-set_other, get_or_append_left, get_or_push, length-set, get_or-append-add, get_or_default, length-map, map-append, map-set, append_assoc, append-nil, same_Some, number-at, Entry, LEAST_KEYS, MOST_KEYS, MOST_NODES, MOST_ROUNDS, write_numbered, OwnerListView, all_writes, entries_of, list_of_owner, no_writes, next_entry, with_write, begun_generation, AreWrites, ListBecomes, writes_more, writes_begun, HasEach, HasEachPlace, ArePlanesChanged, cell, nat_tests, number_kept, AreMadeBy, IsHistory, IsNumberedHistory, IsRoundMark, IsLastNumber, numbered-within, write_from-here, HistoriesView, round_ended, AreHistories, AreNoWrites, IsCounted, IsWrittenSoFar, IsWriteUnder}
 use Rattle.version_tables.proofs.Generations.{current-at, earlier-at}
 use Rattle.version_tables.proofs.OwnCalls.{other-place, place-within}
 
@@ -211,7 +211,7 @@ module _ {written : ℕ → List Entry} {most : ℕ} {h : HistoriesView} {counts
         index : ℕ
         index = key * nodes + owner
 
-    pub histories-begun : (bases' lasts' : List ℕ) → ListBecomes owner (begun_generation list) lists new → bases' ≡ set bases owner n → ArePlanesChanged (λ r k x y. y ≡ cond (r == owner) 0 x) nodes keys lasts lasts'
+    pub histories-begun : (bases' lasts' : List ℕ) → ListBecomes owner (begun_generation list) lists new → bases' ≡ set bases owner n → ArePlanesChanged (λ r k x y. y ≡ cond (r == owner) (number_kept n x) x) nodes keys lasts lasts'
         → AreHistories written most after-call counts bases' lasts' ends
     histories-begun bases' lasts' changes is cleared =
         subst (λ bs. AreHistories written most after-call counts bs lasts' ends) (sym is)
@@ -231,7 +231,7 @@ module _ {written : ℕ → List Entry} {most : ℕ} {h : HistoriesView} {counts
         (record {
           counted = old.counted ∙ sym (ap (λ (es : List Entry). length es) whole);
           based = get_or-set_same bases owner n 0 (omega (arith, in_nodes, kept.bases_size));
-          last = λ k in_keys. subst (IsLastNumber (begun_generation list) k) (sym (rw (eq-eqb owner owner refl) at (cleared.each owner k in_nodes in_keys))) (record {
+          last = λ k in_keys. subst (IsLastNumber (begun_generation list) k) (sym (dropped k in_keys)) (record {
             written = omega arith;
             last = λ m d missed. omega (arith, missed.current, (numbered-within (entries_of (begun_generation list)) m d missed.written).1, ap (λ (es : List Entry). length es) whole);
             there = λ below lt. absurd (omega (arith, lt));
@@ -244,6 +244,11 @@ module _ {written : ℕ → List Entry} {most : ℕ} {h : HistoriesView} {counts
       where
         whole : entries_of (begun_generation list) ≡ entries_of list
         whole = append-nil (entries_of list)
+
+        dropped : (k : ℕ) → k < keys → cell lasts' nodes owner k ≡ 0
+        dropped k in_keys =
+            let upto = (old.last k in_keys).written in
+            (rw (eq-eqb owner owner refl) at (cleared.each owner k in_nodes in_keys)) ∙ grind (arith, nat_tests)
 
   -- one more round's end
   module _ (owner : ℕ) (lt : owner < nodes) where

@@ -26,7 +26,7 @@ module _ (written : ℕ → List Entry) (v : VersionTableView) (kept : IsKept wr
       let there = numbered-some (entries_of list) own (omega (arith, here.written)) (omega (arith, low, length-append list.earlier list.current)) in
       let at = current-at list are own there.0 there.1 (omega (arith, here.written)) in
       let is : write_numbered (written v.node) (cell v.cells v.nodes v.node k) ≡ Some e =
-      sym (has_cells written v.node v.nodes v.keys v.generation (cell v.cells v.nodes) kept.numbers v.node k in_nodes here.key_below) ∙ holds in
+      sym (has_cells written v kept.numbers v.node k in_nodes here.key_below) ∙ holds in
       let one : there.0.generation ≡ e.generation = at.0 ∙ sym generation ∙ sym (kept.proper.own k e holds) in
       let two : there.0.version ≡ e.version = omega (arith, at.1) in
       let same = under.apart own (cell v.cells v.nodes v.node k) there.0 e (sym (begins own (omega (arith, low, length-append list.earlier list.current))) ∙ there.1) is (λ i. record { generation = one i; version = two i }) in
@@ -51,6 +51,6 @@ module _ (written : ℕ → List Entry) (v : VersionTableView) (kept : IsKept wr
     entry = next_entry list key value born;
     is = under.is;
     next = λ i. record { key = key; generation = sym generation i; version = sym greatest i + 1; value = value; born = born };
-    above = elim (kept.most v.node in_nodes).held [ inl none ↦ omega (arith, none) | inr (k, in_keys, is) ↦ omega (arith, is, upto k in_keys) ];
+    above = elim (kept.most.each v.node in_nodes).held [ inl none ↦ omega (arith, none) | inr (k, in_keys, is) ↦ omega (arith, is, upto k in_keys) ];
     first = first;
   }

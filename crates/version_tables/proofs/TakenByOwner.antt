@@ -1,6 +1,6 @@
 -- One owner's numbers once what was sent is taken and what is of older generations is dropped.
 -- Serves `TakenViews`.
-use Rattle.version_tables.proofs.Common.{◌≡◌, ℕ, ◌<◌, ◌≤◌, Bool, true, false, List, length, Some, ◌⊎◌, inl, inr, refl, sym, ap, ◌∙◌, subst, get_or, arith, cases_lt, nat_tests, Entry, mark_held, Table, entry_at, generation_held, write_numbered, OwnerListView, all_writes, entries_of, list_of_owner, AreWrites, cell, numbers_taken, IsRaised, start_before, start_of, numbered-some, numbered-within, numbers-up_to, IsGreatest, VersionTableView, HistoriesView, table_in, is_taken_at, AreLaidBoth, bases_in, IsWrittenSoFar, SendsNoNewer, SendsNewer, drop_start, number_kept, IsTaken}
+use Rattle.version_tables.proofs.Common.{◌≡◌, ℕ, ◌<◌, ◌≤◌, Bool, true, false, List, length, Some, ◌⊎◌, inl, inr, refl, sym, ap, ◌∙◌, subst, get_or, arith, cases_lt, nat_tests, Entry, mark_held, Table, entry_at, generation_held, write_numbered, OwnerListView, all_writes, entries_of, list_of_owner, AreWrites, cell, numbers_taken, IsRaised, start_before, start_of, numbered-some, numbered-within, numbers-up_to, IsGreatest, VersionTableView, HistoriesView, table_in, is_taken_at, AreLaidBoth, bases_in, IsWrittenSoFar, SendsNoNewer, SendsNewer, drop_start, number_kept, HasTaken}
 use Rattle.version_tables.proofs.Fitting.{generation_of, turned, first-held}
 use Rattle.version_tables.proofs.Generations.{current-at, generation-upto}
 
@@ -34,9 +34,9 @@ module _ {all writes : List Entry} {most rounds : ℕ} (so_far : IsWrittenSoFar 
       omega (arith, first.2, second.2, generation-upto list are n second.0 list_second, (current-at list are m first.0 list_first over).0)
 
 -- by numbers that are taken from the sender as it was, or as it is now
-module _ {written : ℕ → List Entry} {most : ℕ} {h : HistoriesView} {from to : VersionTableView} {low high now cells greatest : List ℕ} (two : AreLaidBoth written most h from to)
+module _ {written : ℕ → List Entry} {most : ℕ} {h : HistoriesView} {from to : VersionTableView} {low high now : List ℕ} {after : VersionTableView} (two : AreLaidBoth written most h from to)
     (same : (owner key : ℕ) → owner < to.nodes → key < to.keys → numbers_taken to.nodes to.cells now low high owner key ≡ numbers_taken to.nodes to.cells from.cells low high owner key)
-    (taken : IsTaken (all_writes h.lists) (bases_in h.lists) to.nodes to.keys to.cells to.greatest now low high cells greatest) (owner : ℕ) (in_nodes : owner < to.nodes) where
+    (taken : HasTaken h.lists to now low high after) (owner : ℕ) (in_nodes : owner < to.nodes) where
   abbrev F : Table
   F = table_in written from
 
@@ -62,16 +62,16 @@ module _ {written : ℕ → List Entry} {most : ℕ} {h : HistoriesView} {from t
   old = get_or to.greatest owner 0
 
   abbrev new : ℕ
-  new = get_or greatest owner 0
+  new = get_or after.greatest owner 0
 
   abbrev start : ℕ
   start = drop_start writes old (bases_in h.lists owner) new
 
   before : IsGreatest (cell to.cells to.nodes) to.keys owner old
-  before = two.second.most owner in_nodes
+  before = two.second.most.each owner in_nodes
 
   raised : IsRaised (numbers_taken to.nodes to.cells now low high) to.keys owner old new
-  raised = taken.raised owner in_nodes
+  raised = taken.raised.each owner in_nodes
 
   sent_above : (key : ℕ) → sent key ≡ true → receiver key < sender key
   sent_above key yes' = grind (arith, nat_tests)
@@ -114,9 +114,9 @@ module _ {written : ℕ → List Entry} {most : ℕ} {h : HistoriesView} {from t
       grind (arith, nat_tests)
 
   -- what is sent comes
-  pub came_number : (key : ℕ) → key < to.keys → sent key ≡ true → cell cells to.nodes owner key ≡ sender key
+  pub came_number : (key : ℕ) → key < to.keys → sent key ≡ true → cell after.cells to.nodes owner key ≡ sender key
   came_number key lt yes' =
-      let is = taken.kept owner key in_nodes lt in
+      let is = taken.kept.each owner key in_nodes lt in
       let at = y_sent key lt yes' in
       let some : 0 < sender key = omega (arith, sent_above key yes') in
       let below = stands (sender key) some (omega (arith, at, raised.upto key lt)) (λ _. omega (arith, (of_sender key lt some).3)) in
@@ -147,23 +147,23 @@ module _ {written : ℕ → List Entry} {most : ℕ} {h : HistoriesView} {from t
 
   -- where nothing newer comes other numbers stay, and where something does they are dropped
   pub other_number : (key : ℕ) → key < to.keys → sent key ≡ false
-      → (SendsNoNewer F T (is_taken_at from to low high) owner × (cell cells to.nodes owner key ≡ receiver key)) ⊎ (SendsNewer F T (is_taken_at from to low high) owner × (cell cells to.nodes owner key ≡ 0))
+      → (SendsNoNewer F T (is_taken_at from to low high) owner × (cell after.cells to.nodes owner key ≡ receiver key)) ⊎ (SendsNewer F T (is_taken_at from to low high) owner × (cell after.cells to.nodes owner key ≡ 0))
   other_number key lt no' = elim newer_or_not [ inl none ↦ inl (none, stays none) | inr newer ↦ inr (newer, dropped newer) ]
     where
-      is : cell cells to.nodes owner key ≡ number_kept start (receiver key)
-      is = taken.kept owner key in_nodes lt ∙ ap (number_kept start) (y_stays key lt no')
+      is : cell after.cells to.nodes owner key ≡ number_kept start (receiver key)
+      is = taken.kept.each owner key in_nodes lt ∙ ap (number_kept start) (y_stays key lt no')
 
       here : 0 < receiver key → generation_of writes (receiver key) ≡ generation_held T owner
       here some = (first-held (turned two) owner key in_nodes lt some).3
 
-      stays : SendsNoNewer F T (is_taken_at from to low high) owner → cell cells to.nodes owner key ≡ receiver key
+      stays : SendsNoNewer F T (is_taken_at from to low high) owner → cell after.cells to.nodes owner key ≡ receiver key
       stays none =
           let below = λ (some : 0 < receiver key). stands (receiver key) some (omega (arith, before.upto key lt, raised.rises)) (λ raises.
           let at = of_new raises in
           omega (arith, here some, none at.0 at.1 at.3 at.2, two.first.proper.copies owner at.0 at.1 at.3)) in
           is ∙ grind (arith, nat_tests)
 
-      dropped : SendsNewer F T (is_taken_at from to low high) owner → cell cells to.nodes owner key ≡ 0
+      dropped : SendsNewer F T (is_taken_at from to low high) owner → cell after.cells to.nodes owner key ≡ 0
       dropped newer =
           let le = before.upto key lt in
           let is_newer = newer.newer in
@@ -175,9 +175,9 @@ module _ {written : ℕ → List Entry} {most : ℕ} {h : HistoriesView} {from t
           is ∙ grind (arith, nat_tests, of_old, here)
 
   -- the greatest number stands
-  pub top_number : IsGreatest (cell cells to.nodes) to.keys owner new
+  pub top_number : IsGreatest (cell after.cells to.nodes) to.keys owner new
   top_number = record {
-    upto = λ key lt. let is = taken.kept owner key in_nodes lt in let le = raised.upto key lt in grind (arith, nat_tests);
+    upto = λ key lt. let is = taken.kept.each owner key in_nodes lt in let le = raised.upto key lt in grind (arith, nat_tests);
     held = elim (cases_lt 0 new) [
       | inr none ↦ inl (omega (arith, none))
       | inl some ↦
@@ -186,7 +186,7 @@ module _ {written : ℕ → List Entry} {most : ℕ} {h : HistoriesView} {from t
             | inl stays ↦ elim before.held [ inl none ↦ absurd (omega (arith, none, stays, some)) | inr (key, lt, is) ↦ (key, lt, omega (arith, is, stays, raised.upto key lt)) ]
           ] in
           let same_number = at.2 in
-          let is = taken.kept owner at.0 in_nodes at.1 in
+          let is = taken.kept.each owner at.0 in_nodes at.1 in
           let below = stands new some (omega arith) (λ lt. omega (arith, (of_new lt).4)) in
           inr (at.0, at.1, grind (arith, nat_tests))
     ];

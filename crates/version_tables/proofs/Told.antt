@@ -1,7 +1,7 @@
 -- What a digest tells, by numbers: which of the sender's writes the receiver lacks.
 -- Serves `Delivered`.
 use Rattle.version_tables.proofs.Common.{◌≡◌, ℕ, zero, suc, ◌-◌, ◌<◌, ◌≤◌, max, List, length, Option, Some, None, inl, inr, refl, sym, ap, ◌∙◌, subst, arith, nat_lt, cases_eq, lt-ltb, le-ltb, Entry, Item, Mark, Mode, DigestKind, Scuttle, Precise, mark_of, mark_held, is_before, IsUpTo, digest_kind, absent-first, Table, mark_at, greatest_mark, greatest_mark-unique, known_mark, write_numbered, Cells, start_before, start_of, Offers, is_lacked, told_by, offered_by, numbers-before, numbered-none, numbered-some, numbered-within, numbers-up_to, numbers-compare, all_writes, cell, get_or, entry_at, nat_tests, VersionTableView, HistoriesView, table_in, AreLaidBoth, AreLow, AreOffered, IsGreatest, IsWrittenSoFar}
-use Rattle.version_tables.proofs.Fitting.{turned, first-cells, first-held, first-numbers}
+use Rattle.version_tables.proofs.Fitting.{turned, first-cells, first-held, first-upto}
 
 module _ {written : ℕ → List Entry} {most : ℕ} {h : HistoriesView} {from to : VersionTableView} (two : AreLaidBoth written most h from to) (owner : ℕ) (in_nodes : owner < to.nodes) where
   abbrev T : Table
@@ -23,10 +23,10 @@ module _ {written : ℕ → List Entry} {most : ℕ} {h : HistoriesView} {from t
   has key in_keys = first-cells (turned two) owner key in_nodes in_keys
 
   upto : (key : ℕ) → key < to.keys → held key ≤ length writes
-  upto key in_keys = (first-numbers (turned two)).written owner key in_nodes in_keys
+  upto key in_keys = first-upto (turned two) owner key in_nodes in_keys
 
   top : IsGreatest (cell to.cells to.nodes) to.keys owner greatest
-  top = two.second.most owner in_nodes
+  top = two.second.most.each owner in_nodes
 
   -- the mark of a number
   abbrev mark_numbered : ℕ → Mark

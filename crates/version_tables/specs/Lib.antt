@@ -1,4 +1,3 @@
-pub mod Laid
 pub mod Views
 pub mod Writes
 pub mod inner

@@ -3,8 +3,7 @@ use Rattle.std.specs.Prelude.{◌≡◌, ℕ, ◌<◌, List, slice_index, Some}
 use Rattle.bench_types.specs.declared.entries.Entry.{Entry}
 use Rattle.model.specs.Table.{own_write, with_own_write}
 use Rattle.model.specs.calls.Numbers.{write_numbered}
-use Rattle.version_tables.specs.Views.{VersionTableView, table_in}
-use Rattle.version_tables.specs.Laid.{IsFirst}
+use Rattle.version_tables.specs.Views.{VersionTableView, table_in, IsFirst}
 
 -- under a number above all that a table holds of its node stands what the node writes next of a key
 pub record IsNextWrite (written : ℕ → List Entry) (v : VersionTableView) (key number : ℕ) : Type 0 where

@@ -4,11 +4,10 @@ ghost use Rattle.std.specs.Prelude.{◌≡◌, IfOk, IsOkUnless};
 ghost use Rattle.bench_types.specs.declared.faults.Fault.TheVariants.{OutOfMemory};
 ghost use Rattle.version_tables.specs.inner.Histories.{AreNoWrites};
 
-use crate::owners::clear_owner;
 use crate::tables::Written;
 use bench_types::Fault;
 use owner_writes::OwnerWrites;
-use planes::{Ends, Number, zeros};
+use planes::{Ends, Number, Size, zeros};
 use std::alloc::Global;
 use std::marker::{Model, PhantomData};
 
@@ -111,9 +110,13 @@ impl<N: Number, H: Written> Histories<N, H> {
     {
         let owner = owner as usize;
         self.lists[owner].begin_generation();
-        self.bases[owner] = self.counts[owner];
-        let nodes = self.lists.len();
-        clear_owner(&mut self.lasts, nodes, self.keys as usize, owner);
+        let count = self.counts[owner];
+        self.bases[owner] = count;
+        let size = Size {
+            nodes: self.lists.len(),
+            keys: self.keys as usize,
+        };
+        grids::drop_owner(&mut self.lasts, size, owner, count.widen());
     }
 
     /// The writes of the next round are made. An error is lack of memory (`OutOfMemory`), and then the round has

@@ -32,9 +32,8 @@ pub struct VersionTable<N: Number, H: Written> {
 
 impl<N: Number, H: Written> Model for VersionTable<N, H> {
     ghost use Rattle.std.specs.Prelude.{map};
-    ghost use Rattle.version_tables.specs.Views.{VersionTableView};
+    ghost use Rattle.version_tables.specs.Views.{VersionTableView, IsKept};
     ghost use Rattle.version_tables.specs.inner.Codes.{table_view_code};
-    ghost use Rattle.version_tables.specs.Laid.{IsVersionTable};
 
     ghost Value = { VersionTableView };
 
@@ -49,8 +48,14 @@ impl<N: Number, H: Written> Model for VersionTable<N, H> {
       greatest = map N.number t.greatest.items;
     } };
 
-    ghost invariant = { λ t. IsVersionTable H.lists t.node t.nodes t.keys t.generation (map N.number t.cells.items)
-        (map N.number t.greatest.items) };
+    ghost invariant = { λ t. IsKept H.lists (record {
+      node = t.node;
+      nodes = t.nodes;
+      keys = t.keys;
+      generation = t.generation;
+      cells = map N.number t.cells.items;
+      greatest = map N.number t.greatest.items;
+    }) };
 }
 
 impl<N: Number, H: Written> VersionTable<N, H> {
@@ -101,10 +106,12 @@ impl<N: Number, H: Written> VersionTable<N, H> {
     pub fn forget_others(&mut self)
         ensures { table_in H.lists self.new ≡ without_others (table_in H.lists self.old) }
     {
-        let nodes = self.nodes as usize;
-        let keys = self.keys as usize;
+        let size = Size {
+            nodes: self.nodes as usize,
+            keys: self.keys as usize,
+        };
         let owner = self.node as usize;
-        keep_owner(&mut self.cells, nodes, keys, owner);
+        keep_owner(&mut self.cells, size, owner);
         keep_one(&mut self.greatest, owner);
     }
 

@@ -1,11 +1,11 @@
 -- The cells of a table that has taken a delta. Source: this project.
-use Rattle.std.specs.Prelude.{◌≡◌, ℕ, ◌<◌, ◌≤◌, ◌⊎◌, ◌==◌, ◌&&◌, Bool, true, false, max, nat_lt, nat_le, List, length, map, slice_index, Some, if◌then◌else◌}
+use Rattle.std.specs.Prelude.{◌≡◌, ℕ, ◌<◌, ◌≤◌, ◌⊎◌, ◌&&◌, Bool, true, false, max, nat_lt, nat_le, List, length, map, slice_index, Some, if◌then◌else◌}
 use Rattle.bench_types.specs.declared.entries.Entry.{Entry}
 use Rattle.model.specs.Table.{Table, entry_at, generation_held}
-use Rattle.planes.specs.Planes.{Cells, cell, numbers_taken, ArePlanesChanged, IsGrid, IsRaised}
-use Rattle.version_tables.specs.Views.{VersionTableView}
-use Rattle.version_tables.specs.Laid.{IsVersionTable}
-use Rattle.model.specs.calls.OwnerListView.{all_writes}
+use Rattle.grids.specs.Grids.{number_kept}
+use Rattle.planes.specs.Planes.{Cells, numbers_taken, ArePlanesChanged, AreRaised, IsGrid}
+use Rattle.version_tables.specs.Views.{VersionTableView, IsKept}
+use Rattle.model.specs.calls.OwnerListView.{OwnerListView, all_writes}
 use Rattle.delta_plans.specs.declared.told_marks.Owners.{Owners}
 use Rattle.version_tables.specs.declared.taking.Arrival.{Arrival}
 use Rattle.version_tables.specs.inner.Histories.{bases_in, AreOwners}
@@ -40,10 +40,6 @@ abbrev pub drop_start : List Entry → ℕ → ℕ → ℕ → ℕ
 drop_start writes old base new =
     if (nat_lt 0 old && nat_le old base) && nat_lt old new then start_of writes new else 0
 
--- a number that is above a mark, else 0
-abbrev pub number_kept : ℕ → ℕ → ℕ
-number_kept start number = if nat_le number start then 0 else number
-
 -- up to where the numbers of each owner are dropped
 abbrev pub drop_starts : (ℕ → List Entry) → List ℕ → List ℕ → List ℕ → ℕ → ℕ
 drop_starts lists before bases greatest owner =
@@ -56,38 +52,26 @@ pub record MayDrop {N : Type 0} (number : N → ℕ) (nodes keys : ℕ) (cells b
   pub greatest_count : length greatest ≡ nodes
   pub known : AreOwners number nodes owners
 
--- so it is of an owner's numbers, and the others stay
-abbrev pub IsOwnerKept : {N : Type 0} → (N → ℕ) → ℕ → ℕ → ℕ → ℕ → List N → List N → Type 0
-IsOwnerKept number nodes keys owner start old new =
-    ArePlanesChanged (λ r k x y. y ≡ (if r == owner then number_kept start x else x)) nodes keys
-    (map number old) (map number new)
-
--- a receiver's numbers and greatest ones once it took them, and dropped what is of older generations
-pub record IsTaken (lists : ℕ → List Entry) (bases : ℕ → ℕ) (nodes keys : ℕ) (cells greatest sent low high new_cells new_greatest : List ℕ) : Type 0 where
-  pub cell_count : length new_cells ≡ length cells
-  pub greatest_count : length new_greatest ≡ nodes
-  pub raised : (owner : ℕ) → owner < nodes
-      → IsRaised (numbers_taken nodes cells sent low high) keys owner (slice_index greatest owner) (slice_index new_greatest owner)
-  pub kept : (owner key : ℕ) → owner < nodes → key < keys
-      → cell new_cells nodes owner key
-      ≡ number_kept (drop_start (lists owner) (slice_index greatest owner) (bases owner) (slice_index new_greatest owner))
-      (numbers_taken nodes cells sent low high owner key)
-
--- the table stays one whatever numbers it has then
-abbrev pub StaysOne : (ℕ → List Entry) → (ℕ → List Entry) → (ℕ → ℕ) → VersionTableView → List ℕ → List ℕ → List ℕ → Type 0
-StaysOne written lists bases to sent low high =
-    (cells greatest : List ℕ) → IsTaken lists bases to.nodes to.keys to.cells to.greatest sent low high cells greatest
-    → IsVersionTable written to.node to.nodes to.keys to.generation cells greatest
-
--- a table has taken a delta: its numbers alone have changed
-pub record HasTaken (lists : ℕ → List Entry) (bases : ℕ → ℕ) (to : VersionTableView) (sent low high : List ℕ) (new : VersionTableView) : Type 0 where
-  pub taken : IsTaken lists bases to.nodes to.keys to.cells to.greatest sent low high new.cells new.greatest
+-- a table has taken numbers that are sent, and dropped what is of older generations: its numbers alone have changed
+pub record HasTaken (lists : List OwnerListView) (to : VersionTableView) (sent low high : List ℕ)
+    (new : VersionTableView) : Type 0 where
+  pub raised : AreRaised to.nodes to.keys to.cells sent low high to.greatest new.greatest
+  pub kept : ArePlanesChanged (λ r k x y. y ≡ number_kept (drop_start (all_writes lists r) (slice_index to.greatest r)
+      (bases_in lists r) (slice_index new.greatest r)) (numbers_taken to.nodes to.cells sent low high r k))
+      to.nodes to.keys to.cells new.cells
   pub rest : new ≡ record to { cells = new.cells; greatest = new.greatest }
 
+-- the table stays one whatever numbers it has then
+abbrev pub StaysOne :
+    (ℕ → List Entry) → List OwnerListView → VersionTableView → List ℕ → List ℕ → List ℕ → Type 0
+StaysOne written lists to sent low high =
+    (new : VersionTableView) → HasTaken lists to sent low high new → IsKept written new
+
 -- or nothing, where the message that has the delta was lost
-abbrev pub HasTakenUnless : Bool → (ℕ → List Entry) → (ℕ → ℕ) → VersionTableView → List ℕ → List ℕ → List ℕ → VersionTableView → Type 0
-HasTakenUnless true lists bases to sent low high new = new ≡ to
-HasTakenUnless false lists bases to sent low high new = HasTaken lists bases to sent low high new
+abbrev pub HasTakenUnless :
+    Bool → List OwnerListView → VersionTableView → List ℕ → List ℕ → List ℕ → VersionTableView → Type 0
+HasTakenUnless true lists to sent low high new = new ≡ to
+HasTakenUnless false lists to sent low high new = HasTaken lists to sent low high new
 
 -- a table may take what comes of a sender's numbers: these are as many as its own, there are marks and owners for each
 -- node, and it stays one
@@ -97,13 +81,13 @@ pub record MayArrive {N : Type 0} (number : N → ℕ) (written : ℕ → List E
   pub low_count : length arrival.marks.now.low.items ≡ to.nodes
   pub high_count : length arrival.marks.now.high.items ≡ to.nodes
   pub known : AreOwners number to.nodes owners
-  pub stays : StaysOne written (all_writes owners.lists.now) (bases_in owners.lists.now) to sent
+  pub stays : StaysOne written owners.lists.now to sent
       (map number arrival.marks.now.low.items) (map number arrival.marks.now.high.items)
 
 -- and it has taken that
 abbrev pub HasArrived : {N : Type 0} → (N → ℕ) → Owners N → VersionTableView → List ℕ → Arrival N → VersionTableView → Type 0
 HasArrived number owners to sent arrival new =
-    HasTakenUnless arrival.nothing (all_writes owners.lists.now) (bases_in owners.lists.now) to sent
+    HasTakenUnless arrival.nothing owners.lists.now to sent
     (map number arrival.marks.now.low.items) (map number arrival.marks.now.high.items) new
 
 -- the first of two tables may take what comes of the second one's numbers, and then the second one of the first one's

@@ -6,7 +6,7 @@ returns-in-Scuttle g c = rw c.in-Scuttle.is (record {
   low = refl;
   offered = record {
     cells = record {
-      size = ap length c.grid-grid.ensures.grid.cells ∙ c.grid-grid.ensures.kept.cell_count;
+      size = ap length c.grid-grid.ensures.grid.cells ∙ c.grid-grid.ensures.kept.numbers.size;
       each = λ owner key _ _. ap (λ xs. cell xs c.args.sender.now.nodes owner key) c.grid-grid.ensures.grid.cells;
     };
     found = rw (← c.grid-grid.ensures.grid.nodes, ← c.grid-grid.ensures.grid.keys) c.total_above-found.ensures;

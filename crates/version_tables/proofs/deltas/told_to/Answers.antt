@@ -8,7 +8,7 @@ told-requires-clause-known g c =
     let h = c.args.histories.now in
     let kept = c.greatest.ensures.kept in
     rw (c.lists.ensures.value, c.greatest.ensures.value) (record {
-      count = kept.greatest_count ∙ c.requires.receiver.nodes;
+      count = kept.most.size ∙ c.requires.receiver.nodes;
       base_count = c.bases.ensures.value.size;
       few_nodes = omega (arith, c.requires.receiver.nodes, kept.proper.nodes_limit);
       each = λ owner lt.
@@ -16,7 +16,7 @@ told-requires-clause-known g c =
           let so_far = c.lists.ensures.so_far owner in
           record {
             few = so_far.few;
-            within = elim ((kept.most owner in_nodes).held) [
+            within = elim (kept.most.each owner in_nodes).held [
               | inl none ↦ omega (arith, none)
               | inr (key, in_keys, is) ↦ omega (arith, is, so-far-upto g.H.Written.lists v kept _ owner so_far.begins (c.requires.receiver.holds owner) key in_nodes in_keys)
             ];

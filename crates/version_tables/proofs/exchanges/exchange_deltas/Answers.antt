@@ -1,4 +1,4 @@
-use Rattle.version_tables.proofs.Common.{◌≡◌, ℕ, ◌*◌, Bool, true, false, List, length, map, ap, sym, ◌∙◌, ◌||◌, length-map, Entry, HasEach, Exchanged, Owners, Record, HistoriesView, VersionTableView, table_in, delta_of_views, HasTakenUnless, bases_in, AreKnown, AreOwners}
+use Rattle.version_tables.proofs.Common.{◌≡◌, ℕ, ◌*◌, Bool, true, false, List, length, map, ap, sym, ◌∙◌, ◌||◌, length-map, Entry, HasEach, Exchanged, Owners, OwnerListView, Record, HistoriesView, VersionTableView, table_in, delta_of_views, HasTakenUnless, bases_in, AreKnown, AreOwners}
 use Rattle.version_tables.proofs.ExchangedViews.{stays_back, stays_forth, exchange_whole}
 use Rattle.version_tables.proofs.Fitting.{ready}
 use Rattle.version_tables.proofs.exchanges.exchange_deltas.Goals as goal
@@ -20,10 +20,10 @@ owners-are number written most h owners nodes known lists_is nodes_is based = re
 }
 
 -- a table that takes, or doesn't, has as many numbers as before
-as_many : (nothing : Bool) (lists : ℕ → List Entry) (bases : ℕ → ℕ) (to new : VersionTableView) (sent low high : List ℕ)
-    → HasTakenUnless nothing lists bases to sent low high new → length new.cells ≡ length to.cells
-as_many true lists bases to new sent low high is = ap (λ (v : VersionTableView). length v.cells) is
-as_many false lists bases to new sent low high has = has.taken.cell_count
+as_many : (nothing : Bool) (lists : List OwnerListView) (to new : VersionTableView) (sent low high : List ℕ)
+    → HasTakenUnless nothing lists to sent low high new → length new.cells ≡ length to.cells
+as_many true lists to new sent low high is = ap (λ (v : VersionTableView). length v.cells) is
+as_many false lists to new sent low high has = has.kept.size
 
 pub take_both-requires : goal.take_both-requires
 take_both-requires g c = record {
@@ -34,7 +34,7 @@ take_both-requires g c = record {
       let back = c.in_ok-back.ensures.delta in
       let forth = c.in_ok-forth.ensures.delta in
       let cells : length c.args.responder.now.cells ≡ length c.args.initiator.now.cells =
-      both.second.cell_count ∙ (λ i. sym c.requires.ready.tables.keys i * sym nodes i) ∙ sym both.first.cell_count
+      both.second.numbers.size ∙ (λ i. sym c.requires.ready.tables.keys i * sym nodes i) ∙ sym both.first.numbers.size
       in
       record {
         first = record {
@@ -45,7 +45,7 @@ take_both-requires g c = record {
           stays = rw c.lists.ensures.value (stays_back c.args.course.now.plan.now both back forth);
         };
         second = λ after took. record {
-          cells = as_many c.is_nothing.result _ _ c.args.initiator.now after _ _ _ took ∙ sym cells;
+          cells = as_many c.is_nothing.result _ c.args.initiator.now after _ _ _ took ∙ sym cells;
           low_count = sym (length-map c.in_ok-forth.forth.low.items number) ∙ forth.low_count ∙ nodes;
           high_count = sym (length-map c.in_ok-forth.forth.high.items number) ∙ forth.high_count ∙ nodes;
           known = owners-are number _ _ c.args.course.now.histories.now _ c.args.responder.now.nodes both.known c.lists.ensures.value both.both.second.nodes c.bases.ensures.value;

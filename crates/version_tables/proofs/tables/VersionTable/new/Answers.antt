@@ -1,4 +1,5 @@
-use Rattle.version_tables.proofs.OwnCalls.{lies-table, lies-kept, starts}
+use Rattle.version_tables.proofs.Laid.{lies-kept, lies-table}
+use Rattle.version_tables.proofs.OwnCalls.{starts}
 use Rattle.version_tables.proofs.tables.VersionTable.new.Goals as goal
 
 pub invariant_of-result : goal.invariant_of-result

@@ -18,16 +18,33 @@ by_first-size : (first : First) (xs ys : List ℕ) (n : ℕ) → length xs ≡ n
 by_first-size Oldest xs ys n one other = one
 by_first-size Newest xs ys n one other = other
 
-module _ {N : Type 0} (number : N → ℕ) {written : ℕ → List Entry} {most : ℕ} {h : HistoriesView} {from to : VersionTableView} (two : AreLaidBoth written most h from to) (rules : Rules)
-    (given : Offer N) (nodes : given.grid.size.nodes ≡ from.nodes) (keys : given.grid.size.keys ≡ from.keys) (lists_are : given.lists.now ≡ h.lists) (budget : given.budget ≡ rules.budget) (high_is : map number given.high.now ≡ from.greatest) (low_is : AreLow (digest_kind rules.mode) h from to (map number given.low.now))
-    (offered : AreOffered (digest_kind rules.mode) from to (map number given.low.now) (map number given.grid.cells.now))
-    (found : given.found ≡ total_above from.nodes from.keys (map number given.grid.cells.now) (map number given.low.now)) where
+-- an offer is of what one table lacks of another's
+pub record IsOfferOf {N : Type 0} (number : N → ℕ) (rules : Rules) (h : HistoriesView) (from to : VersionTableView) (given : Offer N) : Type 0 where
+  pub nodes : given.grid.size.nodes ≡ from.nodes
+  pub keys : given.grid.size.keys ≡ from.keys
+  pub lists : given.lists.now ≡ h.lists
+  pub budget : given.budget ≡ rules.budget
+  pub high : map number given.high.now ≡ from.greatest
+  pub low : AreLow (digest_kind rules.mode) h from to (map number given.low.now)
+  pub offered : AreOffered (digest_kind rules.mode) from to (map number given.low.now) (map number given.grid.cells.now)
+  pub found : given.found ≡ total_above from.nodes from.keys (map number given.grid.cells.now) (map number given.low.now)
+
+module _ {N : Type 0} (number : N → ℕ) {written : ℕ → List Entry} {most : ℕ} {h : HistoriesView} {from to : VersionTableView} (two : AreLaidBoth written most h from to)
+    (rules : Rules) (given : Offer N) (is : IsOfferOf number rules h from to given) where
   -- the offer, of the sender's owners and keys and the lists so far
   abbrev offer : Offer N
-  offer = record given { grid = record given.grid { size = record { nodes = from.nodes; keys = from.keys } }; lists = record given.lists { now = h.lists }; budget = rules.budget }
+  offer = record given {
+    grid = record given.grid { size = record { nodes = from.nodes; keys = from.keys } };
+    lists = record given.lists { now = h.lists };
+    budget = rules.budget;
+  }
 
   same : given ≡ offer
-  same = λ i. record given { grid = record given.grid { size = record { nodes = nodes i; keys = keys i } }; lists = record given.lists { now = lists_are i }; budget = budget i }
+  same = λ i. record given {
+    grid = record given.grid { size = record { nodes = is.nodes i; keys = is.keys i } };
+    lists = record given.lists { now = is.lists i };
+    budget = is.budget i;
+  }
 
   abbrev kind : DigestKind
   kind = digest_kind rules.mode
@@ -60,21 +77,25 @@ module _ {N : Type 0} (number : N → ℕ) {written : ℕ → List Entry} {most 
   cells = cell (map number given.grid.cells.now) from.nodes
 
   sender-high : (owner key : ℕ) → owner < from.nodes → key < from.keys → sender owner key ≤ high owner
-  sender-high owner key in_nodes in_keys = omega (arith, (two.first.most.each owner in_nodes).upto key in_keys, ap (λ xs. get_or xs owner 0) high_is)
+  sender-high owner key in_nodes in_keys = omega (arith, (two.first.most.each owner in_nodes).upto key in_keys, ap (λ xs. get_or xs owner 0) is.high)
 
   cells-upto : (owner key : ℕ) → owner < from.nodes → key < from.keys → cells owner key ≤ sender owner key
-  cells-upto owner key in_nodes in_keys = omega (arith, offered.each owner key in_nodes in_keys, offered-upto kind sender receiver low owner key)
+  cells-upto owner key in_nodes in_keys = omega (arith, is.offered.each owner key in_nodes in_keys, offered-upto kind sender receiver low owner key)
 
   offers : Offers rules.mode F T lists cells low
-  offers = told-offers two rules.mode (map number given.low.now) (map number given.grid.cells.now) low_is offered
+  offers = told-offers two rules.mode (map number given.low.now) (map number given.grid.cells.now) is.low is.offered
 
   covered : (owner : ℕ) → owner < from.nodes → HasNoneAbove cells from.keys owner (high owner)
   covered owner in_nodes key in_keys = omega (arith, cells-upto owner key in_nodes in_keys, sender-high owner key in_nodes in_keys)
 
+  at : (owner key : ℕ) → owner < from.nodes → key < from.keys → 0 < cells owner key → cells owner key ≡ sender owner key
+  at owner key in_nodes in_keys some =
+      is.offered.each owner key in_nodes in_keys ∙ offered-is kind sender receiver low owner key (omega (arith, some, is.offered.each owner key in_nodes in_keys))
+
   differ : (owner : ℕ) → owner < from.nodes → NumbersDiffer cells from.keys owner
   differ owner in_nodes k l in_k in_l some same =
-      let at_k : cells owner k ≡ sender owner k = offered.each owner k in_nodes in_k ∙ offered-is kind sender receiver low owner k (omega (arith, some, offered.each owner k in_nodes in_k)) in
-      let at_l : cells owner l ≡ sender owner l = offered.each owner l in_nodes in_l ∙ offered-is kind sender receiver low owner l (omega (arith, some, same, offered.each owner l in_nodes in_l)) in
+      let at_k : cells owner k ≡ sender owner k = at owner k in_nodes in_k some in
+      let at_l : cells owner l ≡ sender owner l = at owner l in_nodes in_l (omega (arith, some, same)) in
       let there = numbered-some (lists owner) (sender owner k) (omega (arith, some, at_k)) (first-upto two owner k in_nodes in_k) in
       sym (first-keyed two owner k there.0 in_nodes in_k there.1)
       ∙ first-keyed two owner l there.0 in_nodes in_l (ap (write_numbered (lists owner)) (sym at_l ∙ sym same ∙ at_k) ∙ there.1)
@@ -83,18 +104,18 @@ module _ {N : Type 0} (number : N → ℕ) {written : ℕ → List Entry} {most 
   pub offer-is : IsOffer number most given
   offer-is = subst (IsOffer number most) (sym same) (record {
     grid = record {
-      whole = sym (length-map given.grid.cells.now number) ∙ offered.size;
+      whole = sym (length-map given.grid.cells.now number) ∙ is.offered.size;
       few_nodes = two.first.proper.nodes_limit;
       few_keys = two.first.proper.keys_limit;
     };
-    low = sym (length-map given.low.now number) ∙ low_is.count ∙ sym two.both.size.nodes;
-    high = sym (length-map given.high.now number) ∙ ap length high_is ∙ two.first.most.size;
+    low = sym (length-map given.low.now number) ∙ is.low.count ∙ sym two.both.size.nodes;
+    high = sym (length-map given.high.now number) ∙ ap length is.high ∙ two.first.most.size;
     lists = sym two.both.first.nodes;
     written = λ owner key in_nodes in_keys. omega (arith, cells-upto owner key in_nodes in_keys, first-upto two owner key in_nodes in_keys);
     below = λ owner key in_nodes in_keys. omega (arith, cells-upto owner key in_nodes in_keys, first-upto two owner key in_nodes in_keys, (two.known.so_far owner).few);
     differ = differ;
     covered = covered;
-    found = found ∙ count-above cells from.nodes from.keys high covered low;
+    found = is.found ∙ count-above cells from.nodes from.keys high covered low;
   })
 
   -- what marks let through of the offer is the delta
@@ -122,8 +143,8 @@ module _ {N : Type 0} (number : N → ℕ) {written : ℕ → List Entry} {most 
     -- all that the receiver holds is up to the low marks of a scuttle digest
     told-upto : (owner key : ℕ) → owner < to.nodes → key < to.keys → kind ≡ Scuttle → receiver owner key ≤ low owner
     told-upto owner key in_to in_keys is_scuttle = elim (cases_eq owner to.node) [
-      | inl own ↦ subst (λ o. receiver o key ≤ low o) (sym own) (low_is.held key in_keys)
-      | inr other ↦ omega (arith, low_is.others owner in_to other, ap (λ k. told_by k (lists owner) (get_or to.greatest owner 0)) is_scuttle, (two.second.most.each owner in_to).upto key in_keys)
+      | inl own ↦ subst (λ o. receiver o key ≤ low o) (sym own) (is.low.held key in_keys)
+      | inr other ↦ omega (arith, is.low.others owner in_to other, ap (λ k. told_by k (lists owner) (get_or to.greatest owner 0)) is_scuttle, (two.second.most.each owner in_to).upto key in_keys)
     ]
 
     taken-is : (owner key : ℕ) → owner < from.nodes → key < from.keys
@@ -131,15 +152,15 @@ module _ {N : Type 0} (number : N → ℕ) {written : ℕ → List Entry} {most 
     taken-is owner key lt in_keys =
         taken-by kind first sender receiver (map number given.low.now) mark (map number given.high.now) owner key (told-upto owner key (omega (arith, lt, two.both.size.nodes)) (omega (arith, in_keys, two.both.size.keys)))
         (λ is_newest. subst (λ f. KeepsLow f from.nodes low m) is_newest marked.above owner lt) (sender-high owner key lt in_keys)
-        ∙ (λ i. nat_lt (low owner) (sym (offered.each owner key lt in_keys) i) && lets_through first (m owner) (sym (offered.each owner key lt in_keys) i))
+        ∙ (λ i. nat_lt (low owner) (sym (is.offered.each owner key lt in_keys) i) && lets_through first (m owner) (sym (is.offered.each owner key lt in_keys) i))
 
     pub delta-marks : length mark ≡ from.nodes
         → AreMarksOf rules rotation written from to (by_first first (map number given.low.now) mark) (by_first first mark (map number given.high.now)) sent cut
     delta-marks mark_size =
         let sent_is = marked.count ∙ sym (count-sent given_is in_nodes covered m marked.above rules.budget has) in
         record {
-          low_count = by_first-size first (map number given.low.now) mark from.nodes (low_is.count ∙ sym two.both.size.nodes) mark_size;
-          high_count = by_first-size first mark (map number given.high.now) from.nodes mark_size (ap length high_is ∙ two.first.most.size);
+          low_count = by_first-size first (map number given.low.now) mark from.nodes (is.low.count ∙ sym two.both.size.nodes) mark_size;
+          high_count = by_first-size first mark (map number given.high.now) from.nodes mark_size (ap length is.high ∙ two.first.most.size);
           marks = are-sent given_is in_nodes covered m marked.above rules.budget has
               (is_taken_at from to (by_first first (map number given.low.now) mark) (by_first first mark (map number given.high.now))) taken-is;
           count = sent_is;

@@ -1,7 +1,7 @@
 -- Tables that take all that the other has above their own greatest numbers exchange as the model's do.
 -- Serves `exchange`.
-use Rattle.version_tables.proofs.Common.{◌≡◌, ℕ, zero, suc, ◌+◌, ◌-◌, ◌<◌, ◌≤◌, false, max, List, get_or, length, map, inl, inr, refl, sym, ap, ◌∙◌, arith, Option, Some, None, mul-le-mul_right, cases_lt, map-id, nat_tests, Entry, Budget, Entries, Bytes, Scuttle, Exchange, First, Oldest, Newest, Record, Rules, amount_of, largest_share, digest_kind, first_sent, sum_below-le, DeltaView, digest_size, last_fate, sent_until, MakesOf, write_numbered, all_writes, Cells, cell, count_between, most_ahead, total_above, BothCounts, Offer, NumbersDiffer, by_first, IsOffer, share_or_none, number_shares, count_all_between, weight_between, sum_below-none, whole-size, whole-marked, part, part-cases, weight_of-none, weight_of-split, weight_between-most, count_between-most, VersionTableView, HistoriesView, table_in, delta_of_views, AreLaidBoth, AreMarksOf, bases_in, AreLow, AreOffered, BothStayMerged, HasMerged, HaveMerged, MayMerge, MayTakeAll, HasTaken}
-use Rattle.version_tables.proofs.Delivered.{offer-is, delta-marks}
+use Rattle.version_tables.proofs.Common.{◌≡◌, ℕ, zero, suc, ◌+◌, ◌-◌, ◌<◌, ◌≤◌, false, max, List, get_or, length, map, inl, inr, refl, sym, ap, ◌∙◌, arith, Option, Some, None, mul-le-mul_right, cases_lt, map-id, nat_tests, Entry, Budget, Entries, Bytes, Scuttle, Exchange, First, Oldest, Newest, Record, Rules, amount_of, largest_share, digest_kind, first_sent, sum_below-le, DeltaView, digest_size, last_fate, sent_until, MakesOf, write_numbered, all_writes, Cells, cell, count_between, most_ahead, total_above, BothCounts, Offer, NumbersDiffer, by_first, IsOffer, share_or_none, number_shares, count_all_between, weight_between, sum_below-none, whole-size, whole-marked, part, part-cases, weight_of-none, weight_of-split, weight_between-most, count_between-most, VersionTableView, HistoriesView, table_in, delta_of_views, AreLaidBoth, AreMarksOf, bases_in, BothStayMerged, HasMerged, HaveMerged, MayMerge, MayTakeAll, HasTaken}
+use Rattle.version_tables.proofs.Delivered.{IsOfferOf, offer-is, delta-marks}
 use Rattle.version_tables.proofs.Fitting.{turned}
 use Rattle.version_tables.proofs.Laid.{LiesAs, lies-kept, lies-table}
 use Rattle.version_tables.proofs.TakenEntries.{after}
@@ -65,19 +65,25 @@ module _ (rules : Rules) (rotation : ℕ) {written : ℕ → List Entry} {most :
   sender-upto : (owner key : ℕ) → owner < from.nodes → key < from.keys → cells owner key ≤ high owner
   sender-upto owner key in_owners in_keys = (two.first.most.each owner in_owners).upto key in_keys
 
-  low-is : AreLow (digest_kind rules.mode) h from to (map id to.greatest)
-  low-is = simp (scuttle, map-id) (record {
-    count = two.second.most.size;
-    others = λ _ _ _. refl;
-    sent = λ key in_keys. omega (arith, may.own, sender-upto to.node key (omega (arith, two.second.proper.node_below, two.both.size.nodes)) in_keys);
-    held = (two.second.most.each to.node two.second.proper.node_below).upto;
-  })
-
-  cells-are : AreOffered (digest_kind rules.mode) from to (map id to.greatest) (map id from.cells)
-  cells-are = simp (scuttle, map-id) (record { size = two.first.numbers.size; each = λ _ _ _ _. refl })
+  of-all : IsOfferOf id rules h from to all
+  of-all = record {
+    nodes = refl;
+    keys = refl;
+    lists = refl;
+    budget = refl;
+    high = map-id from.greatest;
+    low = simp (scuttle, map-id) (record {
+      count = two.second.most.size;
+      others = λ _ _ _. refl;
+      sent = λ key in_keys. omega (arith, may.own, sender-upto to.node key (omega (arith, two.second.proper.node_below, two.both.size.nodes)) in_keys);
+      held = (two.second.most.each to.node two.second.proper.node_below).upto;
+    });
+    offered = simp (scuttle, map-id) (record { size = two.first.numbers.size; each = λ _ _ _ _. refl });
+    found = simp map-id;
+  }
 
   is-offer : IsOffer id most all
-  is-offer = offer-is id two rules all refl refl refl refl (map-id from.greatest) low-is cells-are (simp map-id)
+  is-offer = offer-is id two rules all of-all
 
   -- so many, which are no more than the greatest numbers are apart
   abbrev count : ℕ
@@ -102,7 +108,7 @@ module _ (rules : Rules) (rotation : ℕ) {written : ℕ → List Entry} {most :
   marks-of =
       let whole = by_first (first_sent rules.mode) from.greatest to.greatest in
       whole-marks (first_sent rules.mode) to.greatest from.greatest (λ xs ys. AreMarksOf rules rotation written from to xs ys (total_above from.nodes from.keys from.cells to.greatest) 0)
-      (simp map-id at (delta-marks id two rules all refl refl refl refl (map-id from.greatest) low-is cells-are (simp map-id) rotation in_nodes (map id whole) (total_above from.nodes from.keys from.cells to.greatest) 0
+      (simp map-id at (delta-marks id two rules all of-all rotation in_nodes (map id whole) (total_above from.nodes from.keys from.cells to.greatest) 0
       (whole-marked id most all is-offer rotation (simp map-id within) rules.mode whole refl)
       (whole-size id most all is-offer (first_sent rules.mode) (map id whole) (simp map-id))))
 

@@ -3,7 +3,6 @@
 
 ghost use Rattle.std.specs.Prelude.{◌≡◌, ◌*◌, ◌≤◌, ◌↔◌, IsTrue};
 ghost use Rattle.bench_types.specs.Budget.{amount_of, largest_share};
-ghost use Rattle.bench_types.specs.declared.limits.TheConstants.{MOST_NODES, MOST_KEYS};
 ghost use Rattle.planes.specs.Planes.{most_ahead};
 ghost use Rattle.version_tables.specs.Views.{table_in};
 ghost use Rattle.version_tables.specs.inner.Deltas.{AreOfOneSize, FitBoth};
@@ -18,12 +17,13 @@ use grids::{BothCounts, BothMarks};
 use planes::{Number, Size};
 
 fn surely_fit(budget: Budget, count: u32) -> bool
-    requires { count ≤ MOST_NODES * MOST_KEYS }
     ensures { IsTrue result ↔ (count * largest_share budget ≤ amount_of budget) }
 {
     match budget {
         Budget::Entries(amount) => count <= amount,
-        Budget::Bytes(amount) => count * MOST_ENTRY_SIZE <= amount,
+        Budget::Bytes(amount) => {
+            u64::from(count) * u64::from(MOST_ENTRY_SIZE) <= u64::from(amount)
+        }
     }
 }
 

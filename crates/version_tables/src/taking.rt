@@ -8,6 +8,7 @@ ghost use Rattle.owner_writes.specs.Numbered.{IsNumberedHistory};
 ghost use Rattle.version_tables.specs.inner.Taken.{drop_start, drop_starts, HasArrived, MayArrive, MayDrop};
 
 use crate::deltas::DeltaMarks;
+use crate::histories::Histories;
 use crate::tables::{VersionTable, Written};
 use delta_plans::Owners;
 use grids::Sent;
@@ -74,12 +75,11 @@ pub(crate) fn take_unless<N: Number, H: Written>(
     cells: &[N],
     arrival: Arrival<N>,
     before: &[N],
-    owners: Owners<N>,
+    histories: &Histories<N, H>,
 )
-    requires may { MayArrive N.number H.lists owners table.old (map N.number cells.now) arrival }
+    requires may { MayArrive N.number H.lists histories.now table.old (map N.number cells.now) arrival }
     requires before { map N.number before.now ≡ table.old.greatest }
-    ensures { HasArrived N.number owners.entry table.old
-        (map N.number cells.now) arrival.entry table.new }
+    ensures { HasArrived N.number histories.now table.old (map N.number cells.now) arrival.entry table.new }
 {
     if arrival.nothing {
         return;
@@ -94,5 +94,9 @@ pub(crate) fn take_unless<N: Number, H: Written>(
         high: &arrival.marks.high,
     };
     grids::take(&mut table.cells, &mut table.greatest, sent);
+    let owners = Owners {
+        lists: histories.lists(),
+        bases: histories.bases(),
+    };
     drop_older(&mut table.cells, size, before, &table.greatest, owners);
 }

@@ -8,6 +8,7 @@ use Rattle.version_tables.specs.Views.{VersionTableView, IsKept}
 use Rattle.model.specs.calls.OwnerListView.{OwnerListView, all_writes}
 use Rattle.delta_plans.specs.declared.told_marks.Owners.{Owners}
 use Rattle.version_tables.specs.declared.taking.Arrival.{Arrival}
+use Rattle.round_tables.specs.Histories.{HistoriesView}
 use Rattle.version_tables.specs.inner.Histories.{bases_in, AreOwners}
 use Rattle.owner_writes.specs.Numbered.{start_of}
 
@@ -18,7 +19,8 @@ is_taken number sent low high = nat_lt (max number low) sent && nat_le sent high
 -- nothing of the owner that is sent is of a newer generation than the receiver's copy
 abbrev pub SendsNoNewer : Table → Table → (ℕ → ℕ → Bool) → ℕ → Type 0
 SendsNoNewer from to sent owner =
-    (key : ℕ) (e : Entry) → entry_at from owner key ≡ Some e → sent owner key ≡ true → e.generation ≤ generation_held to owner
+    (key : ℕ) (e : Entry) → entry_at from owner key ≡ Some e → sent owner key ≡ true
+    → e.generation ≤ generation_held to owner
 
 -- something is
 pub record SendsNewer (from to : Table) (sent : ℕ → ℕ → Bool) (owner : ℕ) : Type 0 where
@@ -30,12 +32,14 @@ pub record SendsNewer (from to : Table) (sent : ℕ → ℕ → Bool) (owner : �
 
 -- what is sent is put in; the rest of a copy stays, or is dropped where something newer came
 pub record AreTakenCells (from to : Table) (sent : ℕ → ℕ → Bool) (sender receiver taken : Cells) : Type 0 where
-  pub came : (owner key : ℕ) → owner < to.nodes → key < to.keys → sent owner key ≡ true → taken owner key ≡ sender owner key
+  pub came : (owner key : ℕ) → owner < to.nodes → key < to.keys → sent owner key ≡ true
+      → taken owner key ≡ sender owner key
   pub others : (owner key : ℕ) → owner < to.nodes → key < to.keys → sent owner key ≡ false
-      → (SendsNoNewer from to sent owner × (taken owner key ≡ receiver owner key)) ⊎ (SendsNewer from to sent owner × (taken owner key ≡ 0))
+      → (SendsNoNewer from to sent owner × (taken owner key ≡ receiver owner key))
+      ⊎ (SendsNewer from to sent owner × (taken owner key ≡ 0))
 
--- up to where an owner's numbers are dropped, where its greatest one was raised: to where the newest generation starts, if
--- the old one is of an earlier generation than the owner's, which has so many writes before it
+-- up to where an owner's numbers are dropped, where its greatest one was raised: to where the newest generation starts,
+-- if the old one is of an earlier generation than the owner's, which has so many writes before it
 abbrev pub drop_start : List Entry → ℕ → ℕ → ℕ → ℕ
 drop_start writes old base new =
     if (nat_lt 0 old && nat_le old base) && nat_lt old new then start_of writes new else 0
@@ -46,7 +50,8 @@ drop_starts lists before bases greatest owner =
     drop_start (lists owner) (slice_index before owner) (slice_index bases owner) (slice_index greatest owner)
 
 -- as many numbers before, and greatest ones, as there are owners, whose planes these are
-pub record MayDrop {N : Type 0} (number : N → ℕ) (nodes keys : ℕ) (cells before greatest : List N) (owners : Owners N) : Type 0 where
+pub record MayDrop {N : Type 0} (number : N → ℕ) (nodes keys : ℕ) (cells before greatest : List N)
+    (owners : Owners N) : Type 0 where
   pub grid : IsGrid nodes keys (length cells)
   pub before_count : length before ≡ nodes
   pub greatest_count : length greatest ≡ nodes
@@ -73,38 +78,37 @@ abbrev pub HasTakenUnless :
 HasTakenUnless true lists to sent low high new = new ≡ to
 HasTakenUnless false lists to sent low high new = HasTaken lists to sent low high new
 
--- a table may take what comes of a sender's numbers: these are as many as its own, there are marks and owners for each
--- node, and it stays one
-pub record MayArrive {N : Type 0} (number : N → ℕ) (written : ℕ → List Entry) (owners : Owners N)
+-- a table may take what comes of a sender's numbers: these are as many as its own, there are marks for each node, which
+-- the histories have, and it stays one
+pub record MayArrive {N : Type 0} (number : N → ℕ) (written : ℕ → List Entry) (h : HistoriesView)
     (to : VersionTableView) (sent : List ℕ) (arrival : Arrival N) : Type 0 where
+  pub nodes : to.nodes ≡ length h.lists
   pub cells : length sent ≡ length to.cells
   pub low_count : length arrival.marks.now.low.items ≡ to.nodes
   pub high_count : length arrival.marks.now.high.items ≡ to.nodes
-  pub known : AreOwners number to.nodes owners
-  pub stays : StaysOne written owners.lists.now to sent
+  pub stays : StaysOne written h.lists to sent
       (map number arrival.marks.now.low.items) (map number arrival.marks.now.high.items)
 
 -- and it has taken that
-abbrev pub HasArrived : {N : Type 0} → (N → ℕ) → Owners N → VersionTableView → List ℕ → Arrival N → VersionTableView → Type 0
-HasArrived number owners to sent arrival new =
-    HasTakenUnless arrival.nothing owners.lists.now to sent
+abbrev pub HasArrived :
+    {N : Type 0} → (N → ℕ) → HistoriesView → VersionTableView → List ℕ → Arrival N → VersionTableView → Type 0
+HasArrived number h to sent arrival new =
+    HasTakenUnless arrival.nothing h.lists to sent
     (map number arrival.marks.now.low.items) (map number arrival.marks.now.high.items) new
 
 -- the first of two tables may take what comes of the second one's numbers, and then the second one of the first one's
-pub record MayTakeBoth {N : Type 0} (number : N → ℕ) (written : ℕ → List Entry) (owners : Owners N)
+pub record MayTakeBoth {N : Type 0} (number : N → ℕ) (written : ℕ → List Entry) (h : HistoriesView)
     (initiator responder : VersionTableView) (back forth : Arrival N) : Type 0 where
-  pub first : MayArrive number written owners initiator responder.cells back
-  pub second : (after : VersionTableView)
-      → HasArrived number owners initiator responder.cells back after
-      → MayArrive number written owners responder after.cells forth
+  pub first : MayArrive number written h initiator responder.cells back
+  pub second : (after : VersionTableView) → HasArrived number h initiator responder.cells back after
+      → MayArrive number written h responder after.cells forth
 
 -- or neither has changed
 abbrev pub BothStay : VersionTableView → VersionTableView → VersionTableView → VersionTableView → Type 0
 BothStay initiator responder new_initiator new_responder = (new_initiator ≡ initiator) × (new_responder ≡ responder)
 
 -- and they have taken that
-pub record HaveTakenBoth {N : Type 0} (number : N → ℕ) (owners : Owners N)
-    (initiator responder : VersionTableView) (back forth : Arrival N)
-    (new_initiator new_responder : VersionTableView) : Type 0 where
-  pub first : HasArrived number owners initiator responder.cells back new_initiator
-  pub second : HasArrived number owners responder new_initiator.cells forth new_responder
+pub record HaveTakenBoth {N : Type 0} (number : N → ℕ) (h : HistoriesView) (initiator responder : VersionTableView)
+    (back forth : Arrival N) (new_initiator new_responder : VersionTableView) : Type 0 where
+  pub first : HasArrived number h initiator responder.cells back new_initiator
+  pub second : HasArrived number h responder new_initiator.cells forth new_responder

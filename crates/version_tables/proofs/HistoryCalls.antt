@@ -6,7 +6,7 @@ use Rattle.version_tables.proofs.Generations.{current-at, earlier-at}
 use Rattle.version_tables.proofs.OwnCalls.{other-place, place-within}
 
 -- one more write, in the round that comes next
-module _ (all : List Entry) (most rounds : ℕ) (v : OwnerListView) (key value : ℕ) (are : AreWrites v) (so_far : IsWrittenSoFar all most rounds (entries_of v)) where
+module _ {all : List Entry} {most rounds : ℕ} {v : OwnerListView} (key value : ℕ) (are : AreWrites v) (so_far : IsWrittenSoFar all most rounds (entries_of v)) where
   abbrev w : List Entry
   w = entries_of v
 
@@ -46,7 +46,8 @@ module _ (all : List Entry) (most rounds : ℕ) (v : OwnerListView) (key value :
       ∙ ap Some (ap (λ es. get_or es (length w) e) whole ∙ get_or_push w e e (length w) refl)
 
   -- what holds of each write before, and of the one more
-  each : (P : ℕ → Entry → Type 0) → ((number : ℕ) (d : Entry) → number ≤ length w → write_numbered w number ≡ Some d → P number d) → P (length w + 1) e → (number : ℕ) (d : Entry) → write_numbered more number ≡ Some d → P number d
+  each : (P : ℕ → Entry → Type 0) → ((number : ℕ) (d : Entry) → number ≤ length w → write_numbered w number ≡ Some d → P number d)
+      → P (length w + 1) e → (number : ℕ) (d : Entry) → write_numbered more number ≡ Some d → P number d
   each P before last number d is = elim (cases_lt (length w) number) [
     | inl behind ↦
         let here : length w + 1 ≡ number = omega (arith, behind, (numbered-within more number d is).1, longer) in
@@ -85,7 +86,8 @@ module _ (all : List Entry) (most rounds : ℕ) (v : OwnerListView) (key value :
         n d is_d;
     alike = λ m n c d is_c is_d. each (λ n d. m ≤ n → n < m + d.version → c.generation ≡ d.generation)
         (λ n d upto is le. so_far.numbered.alike m n c d (back m c (omega (arith, upto, le)) is_c) is le)
-        (λ _ lt. each (λ m c. length v.earlier < m → c.generation ≡ v.generation) (λ m c _ is behind. (current-at v are m c is behind).0) (λ _. refl) m c is_c (omega (arith, lt, split)))
+        (λ _ lt. each (λ m c. length v.earlier < m → c.generation ≡ v.generation)
+        (λ m c _ is behind. (current-at v are m c is behind).0) (λ _. refl) m c is_c (omega (arith, lt, split)))
         n d is_d;
   }
 
@@ -106,10 +108,10 @@ module _ (all : List Entry) (most rounds : ℕ) (v : OwnerListView) (key value :
   }
 
   -- its number is the last one of its key, and those of other keys stay; where the rounds before end doesn't change
-  pub counted-more : (keys count base : ℕ) (lasts lasts' ends : ℕ → ℕ) → IsCounted v keys rounds count base lasts ends → lasts' key ≡ length w + 1 → ((k : ℕ) → k < keys → k ≢ key → lasts' k ≡ lasts k)
-      → IsCounted after keys rounds (length w + 1) base lasts' ends
-  counted-more keys count base lasts lasts' ends kept here others = record {
-    counted = sym (longer);
+  pub counted-more : {keys count base : ℕ} {lasts lasts' ends : ℕ → ℕ} → IsCounted v keys rounds count base lasts ends → lasts' key ≡ length w + 1
+      → ((k : ℕ) → k < keys → k ≢ key → lasts' k ≡ lasts k) → IsCounted after keys rounds (length w + 1) base lasts' ends
+  counted-more {keys = keys} {lasts = lasts} {lasts' = lasts'} {ends = ends} kept here others = record {
+    counted = sym longer;
     based = kept.based;
     last = λ k in_keys. elim (cases_eq k key) [
       | inl same ↦ subst (λ j. IsLastNumber after j (lasts' j)) (sym same) (subst (IsLastNumber after key) (sym here) (record {
@@ -121,7 +123,8 @@ module _ (all : List Entry) (most rounds : ℕ) (v : OwnerListView) (key value :
           let last = kept.last k in_keys in
           subst (IsLastNumber after k) (sym (others k in_keys other)) (record {
             written = omega (arith, last.written, longer);
-            last = λ m d missed. each (λ m d. length v.earlier < m → d.key ≡ k → lasts k < m → ⊥) (λ m d _ is current keyed over. last.last m d (record { written = is; current = current; keyed = keyed; over = over }))
+            last = λ m d missed. each (λ m d. length v.earlier < m → d.key ≡ k → lasts k < m → ⊥)
+                (λ m d _ is current keyed over. last.last m d (record { written = is; current = current; keyed = keyed; over = over }))
                 (λ _ keyed _. other (sym keyed)) m d missed.written missed.current missed.keyed missed.over;
             there = λ below lt.
                 let old = last.there below lt in
@@ -131,8 +134,10 @@ module _ (all : List Entry) (most rounds : ℕ) (v : OwnerListView) (key value :
     none = kept.none;
     rise = kept.rise;
     parts = λ round upto. record {
-      upto = λ number d some is_d. each (λ n d. 0 < n → n ≤ ends round → d.born ≤ round) (λ n d _ is some. (kept.parts round upto).upto n d some is) (λ _ le. absurd (omega (arith, le, kept.reached round upto))) number d is_d some;
-      above = λ number d some is_d. each (λ n d. 0 < n → ends round < n → round < d.born) (λ n d _ is some. (kept.parts round upto).above n d some is) (λ _ _. omega (arith, upto)) number d is_d some;
+      upto = λ number d some is_d. each (λ n d. 0 < n → n ≤ ends round → d.born ≤ round)
+          (λ n d _ is some. (kept.parts round upto).upto n d some is) (λ _ le. absurd (omega (arith, le, kept.reached round upto))) number d is_d some;
+      above = λ number d some is_d. each (λ n d. 0 < n → ends round < n → round < d.born)
+          (λ n d _ is some. (kept.parts round upto).above n d some is) (λ _ _. omega (arith, upto)) number d is_d some;
     };
     reached = λ round upto. omega (arith, kept.reached round upto, longer);
   }
@@ -165,11 +170,13 @@ module _ {written : ℕ → List Entry} {most : ℕ} {h : HistoriesView} {counts
     after-call = record h { lists = new }
 
     -- the others' stay as they are
-    histories-changed : (list' : OwnerListView) (counts' bases' lasts' : List ℕ) → ListBecomes owner list' lists new → length counts' ≡ length counts → length bases' ≡ length bases → length lasts' ≡ length lasts
-        → AreWrites list' → IsWrittenSoFar (written owner) most rounds (entries_of list')
-        → ((r : ℕ) → r < nodes → r ≢ owner → IsCounted (list_of_owner lists r) keys rounds (get_or counts' r 0) (get_or bases' r 0) (cell lasts' nodes r) (cell ends nodes r))
-        → IsCounted list' keys rounds (get_or counts' owner 0) (get_or bases' owner 0) (cell lasts' nodes owner) (cell ends nodes owner) → AreHistories written most after-call counts' bases' lasts' ends
-    histories-changed list' counts' bases' lasts' changes same_counts same_bases same_lasts are so_far others own = record {
+    histories-changed : {list' : OwnerListView} {counts' bases' lasts' : List ℕ} → ListBecomes owner list' lists new
+        → length counts' ≡ length counts → length bases' ≡ length bases → length lasts' ≡ length lasts → AreWrites list' → IsWrittenSoFar (written owner) most rounds (entries_of list')
+        → ((r : ℕ) → r < nodes → r ≢ owner → (get_or counts' r 0 ≡ get_or counts r 0) × (get_or bases' r 0 ≡ get_or bases r 0)
+        × ((k : ℕ) → k < keys → cell lasts' nodes r k ≡ cell lasts nodes r k))
+        → IsCounted list' keys rounds (get_or counts' owner 0) (get_or bases' owner 0) (cell lasts' nodes owner) (cell ends nodes owner)
+        → AreHistories written most after-call counts' bases' lasts' ends
+    histories-changed {list' = list'} {counts' = counts'} {bases' = bases'} {lasts' = lasts'} changes same_counts same_bases same_lasts are so_far others own = record {
       limits = record {
         few_nodes = omega (arith, kept.limits.few_nodes, changes.count);
         some_key = kept.limits.some_key;
@@ -184,8 +191,20 @@ module _ {written : ℕ → List Entry} {most : ℕ} {h : HistoriesView} {counts
         so_far = each-list (λ r v. IsWrittenSoFar (written r) most rounds (entries_of v)) (λ r _. kept.known.so_far r) so_far;
         writes = each-list (λ _ v. AreWrites v) (λ r _. kept.known.writes r) are;
       };
-      each = subst (λ m. (r : ℕ) → r < m → IsCounted (list_of_owner new r) keys rounds (get_or counts' r 0) (get_or bases' r 0) (cell lasts' m r) (cell ends m r)) (sym changes.count)
-          (each-list (λ r v. r < nodes → IsCounted v keys rounds (get_or counts' r 0) (get_or bases' r 0) (cell lasts' nodes r) (cell ends nodes r)) (λ r other lt. others r lt other) (λ _. own));
+      each = subst (λ m. (r : ℕ) → r < m → IsCounted (list_of_owner new r) keys rounds (get_or counts' r 0) (get_or bases' r 0) (cell lasts' m r) (cell ends m r))
+          (sym changes.count)
+          (each-list (λ r v. r < nodes → IsCounted v keys rounds (get_or counts' r 0) (get_or bases' r 0) (cell lasts' nodes r) (cell ends nodes r)) (λ r other lt.
+          let stays = kept.each r lt in
+          let same = others r lt other in
+          record {
+            counted = same.0 ∙ stays.counted;
+            based = same.1 ∙ stays.based;
+            last = λ k in_keys. subst (IsLastNumber (list_of_owner lists r) k) (sym (same.2 k in_keys)) (stays.last k in_keys);
+            none = stays.none;
+            rise = stays.rise;
+            parts = stays.parts;
+            reached = stays.reached;
+          }) (λ _. own));
     }
       where
         each-list : (P : ℕ → OwnerListView → Type 0) → ((r : ℕ) → r ≢ owner → P r (list_of_owner lists r)) → P owner list' → (r : ℕ) → P r (list_of_owner new r)
@@ -194,40 +213,33 @@ module _ {written : ℕ → List Entry} {most : ℕ} {h : HistoriesView} {counts
           | inr other ↦ subst (P r) (sym (changes.others r other)) (before r other)
         ]
 
-    pub histories-written : (key value : ℕ) (counts' lasts' : List ℕ) → ListBecomes owner (with_write list key value (rounds + 1)) lists new → IsWriteUnder written most owner (n + 1) (next_entry list key value (rounds + 1)) → key < keys
+    pub histories-written : (key value : ℕ) (counts' lasts' : List ℕ) → ListBecomes owner (with_write list key value (rounds + 1)) lists new
+        → IsWriteUnder written most owner (n + 1) (next_entry list key value (rounds + 1)) → key < keys
         → counts' ≡ set counts owner (n + 1) → lasts' ≡ set lasts (key * nodes + owner) (n + 1) → AreHistories written most after-call counts' bases lasts' ends
     histories-written key value counts' lasts' changes under in_keys is last_is =
+        let are = kept.known.writes owner in
+        let so_far = kept.known.so_far owner in
+        let number = get_or-set_same counts owner (n + 1) 0 (omega (arith, in_nodes, kept.counts_size)) in
+        let last = get_or-set_same lasts index (n + 1) 0 (omega (arith, kept.lasts_size, place-within nodes keys owner key in_nodes in_keys)) in
         transport (λ i. AreHistories written most after-call (sym is i) bases (sym last_is i) ends)
-        (histories-changed (with_write list key value (rounds + 1)) (set counts owner (n + 1)) bases (set lasts index (n + 1)) changes (length-set counts owner (n + 1)) refl (length-set lasts index (n + 1))
-        (writes_more list (kept.known.writes owner) key value (rounds + 1)) (so_far-more (written owner) most rounds list key value (kept.known.writes owner) (kept.known.so_far owner) under.is under.below)
-        (λ r lt other. transport (λ i. IsCounted (list_of_owner lists r) keys rounds (sym (get_or-set_other counts owner r (n + 1) 0 other) i) (get_or bases r 0)
-        (λ k. sym (get_or-set_other lasts index (k * nodes + r) (n + 1) 0 (other-place nodes r k owner key lt in_nodes (inl other))) i) (cell ends nodes r)) (kept.each r lt))
+        (histories-changed changes (length-set counts owner (n + 1)) refl (length-set lasts index (n + 1)) (writes_more list are key value (rounds + 1))
+        (so_far-more key value are so_far under.is under.below)
+        (λ r lt other.
+        (get_or-set_other counts owner r (n + 1) 0 other, refl, λ k _. get_or-set_other lasts index (k * nodes + r) (n + 1) 0 (other-place nodes r k owner key lt in_nodes (inl other))))
         (subst (λ m. IsCounted (with_write list key value (rounds + 1)) keys rounds m (get_or bases owner 0) (cell (set lasts index (n + 1)) nodes owner) (cell ends nodes owner))
-        (sym (get_or-set_same counts owner (n + 1) 0 (omega (arith, in_nodes, kept.counts_size))))
-        (counted-more (written owner) most rounds list key value (kept.known.writes owner) (kept.known.so_far owner) keys (get_or counts owner 0) (get_or bases owner 0) (cell lasts nodes owner) (cell (set lasts index (n + 1)) nodes owner) (cell ends nodes owner) old
-        (get_or-set_same lasts index (n + 1) 0 (omega (arith, kept.lasts_size, place-within nodes keys owner key in_nodes in_keys)))
+        (sym number) (counted-more key value are so_far old last
         (λ k _ other. get_or-set_other lasts index (k * nodes + owner) (n + 1) 0 (other-place nodes owner k owner key in_nodes in_nodes (inr other))))))
       where
         index : ℕ
         index = key * nodes + owner
 
-    pub histories-begun : (bases' lasts' : List ℕ) → ListBecomes owner (begun_generation list) lists new → bases' ≡ set bases owner n → ArePlanesChanged (λ r k x y. y ≡ cond (r == owner) (number_kept n x) x) nodes keys lasts lasts'
-        → AreHistories written most after-call counts bases' lasts' ends
+    pub histories-begun : (bases' lasts' : List ℕ) → ListBecomes owner (begun_generation list) lists new → bases' ≡ set bases owner n
+        → ArePlanesChanged (λ r k x y. y ≡ cond (r == owner) (number_kept n x) x) nodes keys lasts lasts' → AreHistories written most after-call counts bases' lasts' ends
     histories-begun bases' lasts' changes is cleared =
         subst (λ bs. AreHistories written most after-call counts bs lasts' ends) (sym is)
-        (histories-changed (begun_generation list) counts (set bases owner n) lasts' changes refl (length-set bases owner n) cleared.size
-        (writes_begun list (kept.known.writes owner)) (subst (IsWrittenSoFar (written owner) most rounds) (sym whole) (kept.known.so_far owner))
-        (λ r lt other.
-        let stays = kept.each r lt in
-        record {
-          counted = stays.counted;
-          based = get_or-set_other bases owner r n 0 other ∙ stays.based;
-          last = λ k in_keys. subst (IsLastNumber (list_of_owner lists r) k) (sym (rw (ne_eqb r owner other) at (cleared.each r k lt in_keys))) (stays.last k in_keys);
-          none = stays.none;
-          rise = stays.rise;
-          parts = stays.parts;
-          reached = stays.reached;
-        })
+        (histories-changed changes refl (length-set bases owner n) cleared.size (writes_begun list (kept.known.writes owner))
+        (subst (IsWrittenSoFar (written owner) most rounds) (sym whole) (kept.known.so_far owner))
+        (λ r lt other. (refl, get_or-set_other bases owner r n 0 other, λ k in_keys. rw (ne_eqb r owner other) at (cleared.each r k lt in_keys)))
         (record {
           counted = old.counted ∙ sym (ap (λ (es : List Entry). length es) whole);
           based = get_or-set_same bases owner n 0 (omega (arith, in_nodes, kept.bases_size));
@@ -288,12 +300,7 @@ module _ {written : ℕ → List Entry} {most : ℕ} {h : HistoriesView} {counts
 
   pub histories-ended : (ends' : List ℕ) → ends' ≡ ends ++ counts → rounds < MOST_ROUNDS → AreHistories written most (round_ended h) counts bases lasts ends'
   histories-ended ends' is left = subst (AreHistories written most (round_ended h) counts bases lasts) (sym is) (record {
-    limits = record {
-      few_nodes = kept.limits.few_nodes;
-      some_key = kept.limits.some_key;
-      few_keys = kept.limits.few_keys;
-      few_rounds = omega (arith, left);
-    };
+    limits = record { few_nodes = kept.limits.few_nodes; some_key = kept.limits.some_key; few_keys = kept.limits.few_keys; few_rounds = omega (arith, left) };
     counts_size = kept.counts_size;
     bases_size = kept.bases_size;
     lasts_size = kept.lasts_size;

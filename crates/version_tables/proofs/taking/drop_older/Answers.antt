@@ -2,14 +2,6 @@ use Rattle.version_tables.proofs.Common.{◌≡◌, refl, subst, arith, map, ap,
 use Rattle.version_tables.proofs.taking.drop_older.Given as given
 use Rattle.version_tables.proofs.taking.drop_older.Goals as goal
 
-pub returns-then-none_upto : goal.returns-then-none_upto
-returns-then-none_upto g c = record {
-  size = refl;
-  each = λ r k lt _.
-      let none = c.none_upto.ensures.0 c.if-none_upto.true r (omega (arith, lt, c.requires.before_count, length-map c.args.before.now g.N.Number.number)) in
-      grind (arith, nat_tests);
-}
-
 -- what an owner's numbers are dropped up to
 starts : (g : given.Over) (c : goal.After-cells-1 g) → c.drop_from-start.result
     ≡ drop_starts (all_writes c.args.owners.lists.now) (map g.N.Number.number c.args.before.now) (map g.N.Number.number c.args.owners.bases.now) (map g.N.Number.number c.args.greatest.now) c.loop-owner.owner

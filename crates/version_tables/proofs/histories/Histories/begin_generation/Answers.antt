@@ -10,11 +10,6 @@ module _ (g : given.Over) (c : goal.After-self-3-1 g) where
   becomes : ListBecomes c.args.owner (begun_generation (list_of_owner c.self.inside.lists.items c.args.owner)) c.self.inside.lists.items (set c.self.inside.lists.items c.args.owner c.begin_generation.new.self)
   becomes = list-becomes c.self.inside.lists.items c.args.owner c.index_mut.result.now c.begin_generation.new.self begun_generation in_range c.index_mut.ensures.value c.begin_generation.ensures
 
-pub returns : goal.returns
-returns g c =
-    subst (λ (h : HistoriesView). HistoryBecomes c.args.owner (begun_generation (list_of_owner h.lists c.args.owner)) h (record { lists = set c.self.inside.lists.items c.args.owner c.begin_generation.new.self; keys = c.self.inside.keys; rounds = c.self.inside.rounds })) c.self.view_is
-    (record { lists = becomes g c; beside = record { keys = refl; rounds = refl } })
-
 pub invariant_of-self : goal.invariant_of-self
 invariant_of-self g c =
     let number = g.N.Number.number in

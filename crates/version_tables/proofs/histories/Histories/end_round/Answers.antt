@@ -6,6 +6,3 @@ pub invariant_of-self-2 : goal.invariant_of-self-2
 invariant_of-self-2 g c =
     histories-ended c.self.invariant _ (numbers-appended g.N.Number.number _ _ _ _ c.in_ok-extend_from_slice.ensures.items c.deref.ensures.value)
     (subst (λ (h : HistoriesView). h.rounds < MOST_ROUNDS) (sym c.self.view_is) c.requires)
-
-pub returns-clause-ok : goal.returns-clause-ok
-returns-clause-ok g c = ap round_ended c.self.view_is

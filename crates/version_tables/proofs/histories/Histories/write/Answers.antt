@@ -27,20 +27,3 @@ invariant_of-self-2 g c =
 
 pub returns-clause-number : goal.returns-clause-number
 returns-clause-number g c = subst (λ (h : HistoriesView). g.N.Number.number c.plus-number.result ≡ length (all_writes h.lists c.args.owner) + 1) c.self.view_is (counted g c)
-
-pub returns-clause-ok : goal.returns-clause-ok
-returns-clause-ok g c =
-    subst (λ (h : HistoriesView). HistoryBecomes c.args.owner (with_write (list_of_owner h.lists c.args.owner) c.args.key c.args.value (h.rounds + 1)) h (record { lists = set c.self.inside.lists.items c.args.owner c.write.new.self; keys = c.self.inside.keys; rounds = c.self.inside.rounds })) c.self.view_is
-    (record { lists = becomes g c; beside = record { keys = refl; rounds = refl } })
-
-pub plus-number-requires : goal.plus-number-requires
-plus-number-requires g c =
-    let in_range = subst (λ (h : HistoriesView). c.args.owner < length h.lists) (sym c.self.view_is) c.requires.owner in
-    let count = count-read g.N.Number.number c.self.inside.counts.items c.self.invariant c.args.owner c.index.result.now in_range c.index.ensures in
-    omega (arith, count, (c.self.invariant.known.so_far c.args.owner).few)
-
-pub invariant_of-self : goal.invariant_of-self
-invariant_of-self g c =
-    let lists = c.self.inside.lists.items in
-    let stays : set lists c.args.owner c.write.new.self ≡ lists = ap (set lists c.args.owner) (c.in_err-write.ensures.err ∙ c.index_mut.ensures.value) ∙ set-get_or lists c.args.owner c.index_mut.result.now in
-    rw stays c.self.invariant

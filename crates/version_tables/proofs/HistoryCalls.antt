@@ -1,7 +1,7 @@
 -- What the calls of the histories make of all that is kept of the owners' writes.
 -- Serves `Histories::begin_generation`, `Histories::end_round`, `Histories::lasts`, `Histories::new` and
 -- `Histories::write`.
-use Rattle.version_tables.proofs.Common.{◌≡◌, ◌≢◌, ℕ, zero, suc, ◌+◌, ◌*◌, ◌<◌, ◌≤◌, ◌==◌, cond, List, [], ◌∷◌, ◌++◌, length, get_or, set, map, Some, inl, inr, refl, sym, ap, ◌∙◌, subst, transport, arith, length-append, cases_lt, cases_eq, eq-eqb, ne_eqb, get_or-set_same, get_or-set_other, get_or_append_left, get_or_push, length-set, get_or-append-add, get_or_default, length-map, map-append, map-set, append_assoc, append-nil, same_Some, number-at, Entry, LEAST_KEYS, MOST_KEYS, MOST_NODES, MOST_ROUNDS, write_numbered, OwnerListView, all_writes, entries_of, list_of_owner, no_writes, next_entry, with_write, begun_generation, AreWrites, ListBecomes, writes_more, writes_begun, HasEach, HasEachPlace, ArePlanesChanged, cell, nat_tests, number_kept, AreMadeBy, IsHistory, IsNumberedHistory, IsRoundMark, IsLastNumber, numbered-within, write_from-here, HistoriesView, round_ended, AreHistories, AreNoWrites, IsCounted, IsWrittenSoFar, IsWriteUnder}
+use Rattle.version_tables.proofs.Common.{◌≡◌, ◌≢◌, ℕ, zero, suc, ◌+◌, ◌*◌, ◌<◌, ◌≤◌, ◌==◌, cond, List, [], ◌∷◌, ◌++◌, length, get_or, set, map, Some, inl, inr, refl, sym, ap, ◌∙◌, subst, transport, arith, length-append, cases_lt, cases_eq, eq-eqb, ne_eqb, get_or-set_same, get_or-set_other, get_or_append_left, get_or_push, length-set, get_or-append-add, get_or_default, length-map, map-append, map-set, append_assoc, append-nil, same_Some, number-at, Entry, AreSizes, MOST_ROUNDS, write_numbered, OwnerListView, all_writes, entries_of, list_of_owner, no_writes, next_entry, with_write, begun_generation, AreWrites, ListBecomes, writes_more, writes_begun, HasEach, HasEachPlace, ArePlanesChanged, cell, nat_tests, number_kept, AreMadeBy, IsHistory, IsNumberedHistory, IsRoundMark, IsLastNumber, numbered-within, write_from-here, HistoriesView, round_ended, AreHistories, AreNoWrites, IsCounted, IsWrittenSoFar, IsWriteUnder}
 use Rattle.version_tables.proofs.Generations.{current-at, earlier-at}
 use Rattle.version_tables.proofs.OwnCalls.{other-place, place-within}
 
@@ -325,13 +325,6 @@ pub count-read : {N : Type 0} {written : ℕ → List Entry} {most : ℕ} {h : H
     → (owner : ℕ) (x : N) → owner < length h.lists → x ≡ get_or counts owner x → number x ≡ length (all_writes h.lists owner)
 count-read number counts kept owner x lt is = number-at number counts owner x (omega (arith, lt, kept.counts_size, length-map counts number)) is ∙ (kept.each owner lt).counted
 
--- what is kept of last numbers
-abbrev pub AreLasts : HistoriesView → List ℕ → Type 0
-AreLasts h lasts = HasEachPlace (length h.lists) h.keys (λ r k n. IsLastNumber (list_of_owner h.lists r) k n) lasts
-
-pub lasts-kept : {written : ℕ → List Entry} {most : ℕ} {h : HistoriesView} {counts bases lasts ends : List ℕ} → AreHistories written most h counts bases lasts ends → AreLasts h lasts
-lasts-kept kept = record { size = kept.lasts_size; each = λ r k lt in_keys. (kept.each r lt).last k in_keys }
-
 -- no number is that of a write where nothing was written
 none-written : {P : Type 0} (number : ℕ) (e : Entry) → write_numbered [] number ≡ Some e → P
 none-written number e is = let within = numbered-within [] number e is in absurd (omega (arith, within.0, within.1))
@@ -346,11 +339,11 @@ so_far-none all most some = record {
 }
 
 -- before the first round
-pub histories-empty : (written : ℕ → List Entry) (most nodes keys : ℕ) (lists : List OwnerListView) (counts bases lasts ends : List ℕ) → 0 < most → nodes ≤ MOST_NODES → LEAST_KEYS ≤ keys → keys ≤ MOST_KEYS → AreNoWrites nodes lists
-    → HasEach nodes (λ r n. n ≡ 0) counts → HasEach nodes (λ r n. n ≡ 0) bases → HasEach (keys * nodes) (λ r n. n ≡ 0) lasts → HasEach nodes (λ r n. n ≡ 0) ends
-    → AreHistories written most (record { lists = lists; keys = keys; rounds = 0 }) counts bases lasts ends
-histories-empty written most nodes keys lists counts bases lasts ends some few some_key few_keys nothing no_counts no_bases no_lasts no_ends = record {
-  limits = record { few_nodes = omega (arith, few, nothing.count); some_key = some_key; few_keys = few_keys; few_rounds = omega arith };
+pub histories-empty : (written : ℕ → List Entry) (most nodes keys : ℕ) (lists : List OwnerListView) (counts bases lasts ends : List ℕ) → 0 < most → AreSizes nodes keys
+    → AreNoWrites nodes lists → HasEach nodes (λ r n. n ≡ 0) counts → HasEach nodes (λ r n. n ≡ 0) bases → HasEach (keys * nodes) (λ r n. n ≡ 0) lasts
+    → HasEach nodes (λ r n. n ≡ 0) ends → AreHistories written most (record { lists = lists; keys = keys; rounds = 0 }) counts bases lasts ends
+histories-empty written most nodes keys lists counts bases lasts ends some sizes nothing no_counts no_bases no_lasts no_ends = record {
+  limits = record { few_nodes = omega (arith, sizes.few_nodes, nothing.count); some_key = sizes.some_key; few_keys = sizes.few_keys; few_rounds = omega arith };
   counts_size = no_counts.size ∙ sym nothing.count;
   bases_size = no_bases.size ∙ sym nothing.count;
   lasts_size = no_lasts.size ∙ ap (λ n. keys * n) (sym nothing.count);

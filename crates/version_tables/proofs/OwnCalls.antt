@@ -1,6 +1,6 @@
 -- A node's own calls on its table: its numbers lie as those of the table that the model has then.
 -- Serves the functions of `owners` and `tables` and `HistoryCalls`.
-use Rattle.version_tables.proofs.Common.{◌≡◌, ◌≢◌, ℕ, ◌+◌, ◌*◌, ◌<◌, ◌≤◌, ◌==◌, Bool, true, false, cond, List, length, get_or, set, Some, None, ◌⊎◌, refl, same_from_place, inl, inr, sym, ap, ◌∙◌, subst, arith, mul-le-mul_right, cases_eq, eq-eqb, ne_eqb, get_or-set_same, get_or-set_other, length-set, same_Some, Entry, MOST_NODES, LEAST_KEYS, MOST_KEYS, Held, Table, entry_at, empty_table, empty, with_own_write, without_others, without_all, IsProper, entry_at-own_write, entry_at-own_write_other, entry_at-without_others, entry_at-without_all, entry_at-empty_table, proper-empty_table, proper-with_own_write, proper-without_others, proper-without_all, Cells, cell, ArePlanesChanged, HasEach, HasEachPlace, AreChanged, numbered-within, VersionTableView, table_in, IsKept, IsNextWrite, HasOwnWrite, IsGreatest}
+use Rattle.version_tables.proofs.Common.{◌≡◌, ◌≢◌, ℕ, ◌+◌, ◌*◌, ◌<◌, ◌≤◌, ◌==◌, Bool, true, false, cond, List, length, get_or, set, Some, None, ◌⊎◌, refl, same_from_place, inl, inr, sym, ap, ◌∙◌, subst, arith, mul-le-mul_right, cases_eq, eq-eqb, ne_eqb, get_or-set_same, get_or-set_other, length-set, same_Some, Entry, AreSizes, Held, Table, entry_at, empty_table, empty, with_own_write, without_others, without_all, IsProper, entry_at-own_write, entry_at-own_write_other, entry_at-without_others, entry_at-without_all, entry_at-empty_table, proper-empty_table, proper-with_own_write, proper-without_others, proper-without_all, Cells, cell, ArePlanesChanged, HasEach, HasEachPlace, AreChanged, numbered-within, VersionTableView, table_in, IsKept, IsNextWrite, HasOwnWrite, IsGreatest}
 use Rattle.version_tables.proofs.Laid.{HoldsNumber, LiesAs, holds-same, kept-number, lies-table, no-number}
 
 -- numbers of which all but an owner's are put to 0
@@ -57,12 +57,12 @@ place-set is xs nodes keys owner key n size in_nodes in_keys own others = record
     elsewhere r k lt in_key other = subst (is r k) (sym (get_or-set_other xs index (k * nodes + r) n 0 (other-place nodes r k owner key lt in_nodes other))) (others r k lt in_key other)
 
 -- a table that starts
-pub starts : (written : ℕ → List Entry) (node nodes keys : ℕ) {cells greatest : List ℕ} → node < nodes → nodes ≤ MOST_NODES → LEAST_KEYS ≤ keys → keys ≤ MOST_KEYS
+pub starts : (written : ℕ → List Entry) (node nodes keys : ℕ) {cells greatest : List ℕ} → node < nodes → AreSizes nodes keys
     → HasEach (keys * nodes) (λ r n. n ≡ 0) cells → HasEach nodes (λ r n. n ≡ 0) greatest
     → LiesAs written (record { node = node; nodes = nodes; keys = keys; generation = 0; cells = cells; greatest = greatest }) (empty_table node nodes keys)
-starts written node nodes keys {cells = cells} in_nodes few some many no_cells no_greatest = record {
+starts written node nodes keys {cells = cells} in_nodes sizes no_cells no_greatest = record {
   frame = record { node = refl; nodes = refl; keys = refl; generation = refl };
-  proper = proper-empty_table node nodes keys in_nodes few some many;
+  proper = proper-empty_table node nodes keys in_nodes sizes.few_nodes sizes.some_key sizes.few_keys;
   numbers = record {
     size = no_cells.size;
     each = λ owner key lt in_keys. holds-same (entry_at-empty_table node nodes keys owner key) (none owner key lt in_keys) (no-number (written owner) key);

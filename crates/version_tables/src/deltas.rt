@@ -7,7 +7,7 @@ ghost use Rattle.delta_plans.specs.LevelMarks.{first_sent};
 ghost use Rattle.version_tables.specs.Views.{table_in};
 ghost use Rattle.version_tables.specs.inner.Deltas.{AreMarksOf, MaySend};
 ghost use Rattle.version_tables.specs.inner.Histories.{FitsHistories};
-ghost use Rattle.version_tables.specs.inner.Offered.{AreMarksBy, AreTold, IsOffered, IsPlanned};
+ghost use Rattle.version_tables.specs.inner.Offered.{AreMarksBy, AreTold, IsOffered, IsPlanned, MaySendTold};
 
 use crate::histories::Histories;
 use crate::tables::{VersionTable, Written};
@@ -67,10 +67,8 @@ fn marks_above<N: Number, H: Written>(
     low: &[N],
     course: &Course<N, H>,
 ) -> Result<Marked<N>, Fault>
-    requires may { MaySend course.now.rules.now course.now.plan.now.rotation H.lists course.now.histories.now
-        sender.now receiver.now }
-    requires low { AreTold N.number N.most H.lists (digest_kind course.now.rules.now.mode) receiver.now
-        course.now.histories.now low.now }
+    requires { MaySendTold N.number N.most H.lists course.now.rules.now course.now.plan.now.rotation
+        course.now.histories.now sender.now receiver.now low.now }
     ensures marks { IfOk result (IsPlanned N.number H.lists course.now.rules.now course.now.plan.now.rotation
         sender.now receiver.now low.now) }
     ensures only { IsOkUnless result OutOfMemory }
@@ -104,10 +102,8 @@ fn marks_sent<N: Number, H: Written>(
     offered: Offered<N>,
     course: &Course<N, H>,
 ) -> Result<Marked<N>, Fault>
-    requires may { MaySend course.now.rules.now course.now.plan.now.rotation H.lists course.now.histories.now
-        sender.now receiver.now }
-    requires low { AreTold N.number N.most H.lists (digest_kind course.now.rules.now.mode) receiver.now
-        course.now.histories.now offered.low.now }
+    requires told { MaySendTold N.number N.most H.lists course.now.rules.now course.now.plan.now.rotation
+        course.now.histories.now sender.now receiver.now offered.low.now }
     requires offered { IsOffered N.number (digest_kind course.now.rules.now.mode) sender.now receiver.now offered }
     ensures marks { IfOk result (IsPlanned N.number H.lists course.now.rules.now course.now.plan.now.rotation
         sender.now receiver.now offered.entry.low.now) }
@@ -116,7 +112,7 @@ fn marks_sent<N: Number, H: Written>(
     let histories = course.histories;
     let rules = course.rules;
     let cells = offered.cells;
-    let size = sender.size();
+    let size = sender.grid().size;
     let offer = Offer {
         grid: Grid { cells, size },
         low: offered.low,

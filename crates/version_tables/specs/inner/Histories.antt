@@ -1,5 +1,5 @@
 -- What the owners wrote so far, beside all that they write in the run. Source: this project.
-use Rattle.std.specs.Prelude.{◌≡◌, ℕ, ◌+◌, ◌*◌, ◌<◌, ◌≤◌, List, length, map, slice_index, Contains, Some}
+use Rattle.std.specs.Prelude.{◌≡◌, ℕ, ◌+◌, ◌*◌, ◌^◌, ◌<◌, ◌≤◌, List, length, map, slice_index, Contains, Some}
 use Rattle.bench_types.specs.declared.entries.Entry.{Entry}
 use Rattle.bench_types.specs.declared.exchanges.Exchange.{Exchange}
 use Rattle.bench_types.specs.declared.exchanges.Rules.{Rules}
@@ -7,7 +7,7 @@ use Rattle.bench_types.specs.calls.Budget.{IsLawfulBudget}
 use Rattle.bench_types.specs.Mark.{mark_of}
 use Rattle.model.specs.calls.Exchanging.{MayBeExchanged}
 use Rattle.model.specs.Table.{Table, entry_at, IsProper}
-use Rattle.model.specs.calls.OwnerListView.{OwnerListView, all_writes, entries_of, AreWrites, list_of_owner, no_writes}
+use Rattle.model.specs.calls.OwnerListView.{OwnerListView, all_writes, entries_of, AreWrites, list_of_owner, next_entry, no_writes}
 use Rattle.model.specs.calls.Numbers.{write_numbered}
 use Rattle.planes.specs.Planes.{HasEach, cell}
 use Rattle.planes.specs.declared.ends.Ends.{Ends}
@@ -54,7 +54,8 @@ pub record IsCounted (list : OwnerListView) (keys rounds count base : ℕ) (last
   pub reached : (round : ℕ) → round ≤ rounds → ends round ≤ length (entries_of list)
 
 -- and so of all owners
-pub record AreHistories (written : ℕ → List Entry) (most : ℕ) (h : HistoriesView) (counts bases lasts ends : List ℕ) : Type 0 where
+pub record AreHistories (written : ℕ → List Entry) (most : ℕ) (h : HistoriesView)
+    (counts bases lasts ends : List ℕ) : Type 0 where
   pub limits : KeepLimits h
   pub counts_size : length counts ≡ length h.lists
   pub bases_size : length bases ≡ length h.lists
@@ -103,4 +104,13 @@ pub record IsReadyExchange (written : ℕ → List Entry) (most : ℕ) (rules : 
 pub record IsWriteUnder (written : ℕ → List Entry) (most owner number : ℕ) (e : Entry) : Type 0 where
   pub is : write_numbered (written owner) number ≡ Some e
   pub below : number < most
-  pub apart : (m n : ℕ) (d c : Entry) → write_numbered (written owner) m ≡ Some d → write_numbered (written owner) n ≡ Some c → mark_of d ≡ mark_of c → d ≡ c
+  pub apart : (m n : ℕ) (d c : Entry) → write_numbered (written owner) m ≡ Some d
+      → write_numbered (written owner) n ≡ Some c → mark_of d ≡ mark_of c → d ≡ c
+
+-- an owner may write this next
+pub record MayAddWrite (written : ℕ → List Entry) (most : ℕ) (h : HistoriesView) (owner key value : ℕ) : Type 0 where
+  pub owner_below : owner < length h.lists
+  pub key_below : key < h.keys
+  pub few : length (list_of_owner h.lists owner).current + 1 < 2 ^ 32
+  pub under : IsWriteUnder written most owner (length (all_writes h.lists owner) + 1)
+      (next_entry (list_of_owner h.lists owner) key value (h.rounds + 1))

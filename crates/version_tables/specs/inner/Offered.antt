@@ -3,13 +3,14 @@ use Rattle.std.specs.Prelude.{◌≡◌, ◌≢◌, ℕ, ◌<◌, ◌≤◌, Lis
 use Rattle.bench_types.specs.declared.entries.Entry.{Entry}
 use Rattle.bench_types.specs.declared.exchanges.DigestKind.{DigestKind}
 use Rattle.bench_types.specs.declared.exchanges.Rules.{Rules}
+use Rattle.bench_types.specs.Mode.{digest_kind}
 use Rattle.model.specs.calls.OwnerListView.{all_writes}
 use Rattle.planes.specs.Planes.{cell, total_above, HasEach, HasEachPlace}
 use Rattle.round_tables.specs.Histories.{HistoriesView}
 use Rattle.version_tables.specs.Views.{VersionTableView, IsKept}
 use Rattle.version_tables.specs.declared.deltas.DeltaMarks.{DeltaMarks}
 use Rattle.version_tables.specs.declared.deltas.Offered.{Offered}
-use Rattle.version_tables.specs.inner.Deltas.{AreMarksOf}
+use Rattle.version_tables.specs.inner.Deltas.{AreMarksOf, MaySend}
 use Rattle.delta_plans.specs.declared.marked.First.{First}
 use Rattle.delta_plans.specs.declared.marked.Marked.{Marked}
 use Rattle.delta_plans.specs.Firsts.{by_first}
@@ -22,6 +23,12 @@ pub record AreTold {N : Type 0} (number : N → ℕ) (most : ℕ) (written : ℕ
   pub kept : IsKept written to
   pub told : HasEach (length h.lists)
       (λ r n. n ≡ told_number kind most to.node (all_writes h.lists) (slice_index to.greatest) r) (map number low)
+
+-- and a sender may send it a delta by them
+pub record MaySendTold {N : Type 0} (number : N → ℕ) (most : ℕ) (written : ℕ → List Entry) (rules : Rules) (turn : ℕ)
+    (h : HistoriesView) (from to : VersionTableView) (low : List N) : Type 0 where
+  pub may : MaySend rules turn written h from to
+  pub told : AreTold number most written (digest_kind rules.mode) to h low
 
 -- low marks above which a receiver lacks what a sender has: what is told of other owners, and of itself no less than
 -- both have

@@ -7,13 +7,13 @@ module _ (g : given.Over) (c : goal.After-ends g) where
   two : AreLaidBoth g.H.Written.lists g.N.Number.most c.args.course.now.histories.now c.args.sender.now c.args.receiver.now
   two = record {
     known = record { so_far = c.lists.ensures.so_far; writes = c.lists.ensures.writes };
-    both = c.requires.may.both;
-    first = c.size-size.ensures.kept;
-    second = c.requires.low.kept;
+    both = c.requires.told.may.both;
+    first = c.grid.ensures.kept;
+    second = c.requires.told.told.kept;
   }
 
   of-both : IsOfferOf g.N.Number.number c.args.course.now.rules.now c.args.course.now.histories.now c.args.sender.now c.args.receiver.now (record {
-    grid = record { cells = c.args.offered.cells; size = c.size-size.result };
+    grid = record { cells = c.args.offered.cells; size = c.grid.result.size };
     low = c.args.offered.low;
     high = c.greatest.result;
     lists = c.lists.result;
@@ -21,12 +21,12 @@ module _ (g : given.Over) (c : goal.After-ends g) where
     found = c.args.offered.found;
   })
   of-both = record {
-    nodes = c.size-size.ensures.size.nodes;
-    keys = c.size-size.ensures.size.keys;
+    nodes = c.grid.ensures.nodes;
+    keys = c.grid.ensures.keys;
     lists = c.lists.ensures.value;
     budget = refl;
     high = c.greatest.ensures.value;
-    low = told-low two (digest_kind c.args.course.now.rules.now.mode) (map g.N.Number.number c.args.offered.low.now) c.requires.low.told;
+    low = told-low two (digest_kind c.args.course.now.rules.now.mode) (map g.N.Number.number c.args.offered.low.now) c.requires.told.told.told;
     offered = c.requires.offered.cells;
     found = c.requires.offered.found;
   }
@@ -39,6 +39,6 @@ returns-clause-marks g c =
     let number = g.N.Number.number in
     let marked = c.in_ok-marked.marked in
     let before = c.before.before.before in
-    rw c.greatest.ensures.value at (delta-marks number (two g before) c.args.course.now.rules.now _ (of-both g before) c.args.course.now.plan.now.rotation c.requires.may.rotation
+    rw c.greatest.ensures.value at (delta-marks number (two g before) c.args.course.now.rules.now _ (of-both g before) c.args.course.now.plan.now.rotation c.requires.told.may.rotation
     (map number marked.mark.items) marked.counts.sent marked.counts.cut c.in_ok-marked.ensures.marked
-    (length-map marked.mark.items number ∙ c.in_ok-marked.ensures.size ∙ c.size-size.ensures.size.nodes))
+    (length-map marked.mark.items number ∙ c.in_ok-marked.ensures.size ∙ c.grid.ensures.nodes))

@@ -1,4 +1,4 @@
-use Rattle.version_tables.proofs.Common.{◌≡◌, refl, subst, arith, map, ap, length-map, nat_tests, all_writes, number-at, owners-next, owners-all, IsNumberedHistory, all_writes-here, drop_starts, number_kept}
+use Rattle.version_tables.proofs.Common.{◌≡◌, subst, arith, map, ap, length-map, all_writes, number-at, owners-next, owners-all, IsNumberedHistory, all_writes-here, drop_starts, number_kept}
 use Rattle.version_tables.proofs.taking.drop_older.Given as given
 use Rattle.version_tables.proofs.taking.drop_older.Goals as goal
 

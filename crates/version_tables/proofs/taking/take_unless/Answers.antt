@@ -1,4 +1,4 @@
-use Rattle.version_tables.proofs.Common.{◌≡◌, ℕ, ◌<◌, length, map, slice_index, ap, arith, refl, subst, sym, ◌∙◌, with_items, length-map, with_items_is, all_writes, bases_in, VersionTableView, drop_start, number_kept, HasTaken, StaysOne, Entry, IsGrid, IsKept, List}
+use Rattle.version_tables.proofs.Common.{◌≡◌, length, map, slice_index, ap, arith, refl, subst, sym, ◌∙◌, with_items, with_items_is, all_writes, VersionTableView, drop_start, number_kept, HasTaken, StaysOne}
 use Rattle.version_tables.proofs.Laid.{seen}
 use Rattle.version_tables.proofs.taking.take_unless.Given as given
 use Rattle.version_tables.proofs.taking.take_unless.Goals as goal

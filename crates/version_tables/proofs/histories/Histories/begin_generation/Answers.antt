@@ -1,4 +1,4 @@
-use Rattle.version_tables.proofs.Common.{rules, ℕ, ◌≡◌, ◌<◌, ◌==◌, cond, length, set, map, refl, subst, sym, transport, ◌∙◌, with_items_is, begun_generation, list_of_owner, ListBecomes, ArePlanesChanged, HistoriesView, HistoryBecomes, number_kept}
+use Rattle.version_tables.proofs.Common.{rules, ◌≡◌, ◌<◌, ◌==◌, cond, length, set, map, subst, sym, transport, ◌∙◌, with_items_is, begun_generation, list_of_owner, ListBecomes, ArePlanesChanged, HistoriesView, number_kept}
 use Rattle.version_tables.proofs.HistoryCalls.{count-read, histories-begun, list-becomes, numbers-set}
 use Rattle.version_tables.proofs.histories.Histories.begin_generation.Given as given
 use Rattle.version_tables.proofs.histories.Histories.begin_generation.Goals as goal

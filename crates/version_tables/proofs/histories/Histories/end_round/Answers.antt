@@ -1,4 +1,4 @@
-use Rattle.version_tables.proofs.Common.{◌<◌, ap, subst, sym, MOST_ROUNDS, HistoriesView, round_ended}
+use Rattle.version_tables.proofs.Common.{◌<◌, subst, sym, MOST_ROUNDS, HistoriesView}
 use Rattle.version_tables.proofs.HistoryCalls.{histories-ended, numbers-appended}
 use Rattle.version_tables.proofs.histories.Histories.end_round.Goals as goal
 

@@ -1,11 +1,11 @@
-use Rattle.version_tables.proofs.Common.{rules, ◌≡◌, ◌+◌, ◌*◌, ◌<◌, length, map, refl, set, ap, subst, sym, ◌∙◌, arith, set-get_or, all_writes, list_of_owner, next_entry, with_write, ListBecomes, HistoriesView, HistoryBecomes, IsWriteUnder}
+use Rattle.version_tables.proofs.Common.{rules, ◌≡◌, ◌+◌, ◌*◌, ◌<◌, length, map, set, ap, subst, sym, ◌∙◌, all_writes, list_of_owner, next_entry, with_write, ListBecomes, HistoriesView, IsWriteUnder}
 use Rattle.version_tables.proofs.HistoryCalls.{count-read, histories-written, list-becomes, numbers-set}
 use Rattle.version_tables.proofs.histories.Histories.write.Given as given
 use Rattle.version_tables.proofs.histories.Histories.write.Goals as goal
 
 module _ (g : given.Over) (c : goal.After-self-3-1 g) where
   in_range : c.args.owner < length c.self.inside.lists.items
-  in_range = subst (λ (h : HistoriesView). c.args.owner < length h.lists) (sym c.self.view_is) c.requires.owner
+  in_range = subst (λ (h : HistoriesView). c.args.owner < length h.lists) (sym c.self.view_is) c.requires.owner_below
 
   counted : g.N.Number.number c.plus-number.result ≡ length (all_writes c.self.inside.lists.items c.args.owner) + 1
   counted = c.plus-number.ensures ∙ ap (λ n. n + 1) (count-read g.N.Number.number c.self.inside.counts.items c.self.invariant c.args.owner c.index.result.now in_range c.index.ensures)
@@ -20,7 +20,7 @@ invariant_of-self-2 g c =
     let count : c.len-nodes.result ≡ length lists = search rules in
     histories-written c.self.invariant (set lists owner c.write.new.self) owner (in_range g c) c.args.key c.args.value _ _ (becomes g c)
     (subst (λ (h : HistoriesView). IsWriteUnder g.H.Written.lists g.N.Number.most owner (length (all_writes h.lists owner) + 1) (next_entry (list_of_owner h.lists owner) c.args.key c.args.value (h.rounds + 1))) (sym c.self.view_is) c.requires.under)
-    (subst (λ (h : HistoriesView). c.args.key < h.keys) (sym c.self.view_is) c.requires.key)
+    (subst (λ (h : HistoriesView). c.args.key < h.keys) (sym c.self.view_is) c.requires.key_below)
     (numbers-set g.N.Number.number _ owner c.plus-number.result _ (counted g c))
     (numbers-set g.N.Number.number _ (c.args.key * c.len-nodes.result + owner) c.plus-number.result _ (counted g c)
     ∙ ap (λ n. set (map g.N.Number.number c.self.inside.lasts.items) (c.args.key * n + owner) (length (all_writes lists owner) + 1)) count)

@@ -52,6 +52,7 @@ pub use Rattle.planes.proofs.Places.{grid-within, planes-written, total-places}
 pub use Rattle.planes.specs.Planes.{ArePlanesChanged, ArePlanesChangedUpto, Cells, HasEach, HasEachPlace, HasNoneAbove, IsGrid, IsRaised, cell, count_between, most_ahead, numbers_taken, total_above}
 pub use Rattle.grids.specs.declared.merges.BothCounts.{BothCounts}
 pub use Rattle.round_tables.specs.Histories.{AreWrittenBy, HistoriesView, HistoryBecomes, KeepLimits, round_ended}
+pub use Rattle.version_lags.proofs.Missed.{current-numbered}
 pub use Rattle.version_lags.specs.Pieces.{AreNumbersAt, AreNumbersOf, AreRoundNumbers, MayBeCounted, StandTogether, numbers_at, numbers_in}
 pub use Rattle.version_tables.specs.Views.{AreSizes, HasOwnWrite, IsNextWrite, IsFirst, IsGreatest, IsKept, IsNumberOf, VersionTableView, entries_below, table_in, with_entry}
 pub use Rattle.version_tables.specs.inner.Beside.{AreAtRoundEnd, AreCellsOf, AreCellsUpto, tables_of_views, view_at}

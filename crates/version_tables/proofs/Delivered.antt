@@ -29,7 +29,8 @@ pub record IsOfferOf {N : Type 0} (number : N → ℕ) (rules : Rules) (h : Hist
   pub offered : AreOffered (digest_kind rules.mode) from to (map number given.low.now) (map number given.grid.cells.now)
   pub found : given.found ≡ total_above from.nodes from.keys (map number given.grid.cells.now) (map number given.low.now)
 
-module _ {N : Type 0} (number : N → ℕ) {written : ℕ → List Entry} {most : ℕ} {h : HistoriesView} {from to : VersionTableView} (two : AreLaidBoth written most h from to)
+module _ {N : Type 0} (number : N → ℕ) {written : ℕ → List Entry} {most : ℕ} {h : HistoriesView} {from to : VersionTableView}
+    (two : AreLaidBoth written most h from to)
     (rules : Rules) (given : Offer N) (is : IsOfferOf number rules h from to given) where
   -- the offer, of the sender's owners and keys and the lists so far
   abbrev offer : Offer N
@@ -90,7 +91,8 @@ module _ {N : Type 0} (number : N → ℕ) {written : ℕ → List Entry} {most 
 
   at : (owner key : ℕ) → owner < from.nodes → key < from.keys → 0 < cells owner key → cells owner key ≡ sender owner key
   at owner key in_nodes in_keys some =
-      is.offered.each owner key in_nodes in_keys ∙ offered-is kind sender receiver low owner key (omega (arith, some, is.offered.each owner key in_nodes in_keys))
+      is.offered.each owner key in_nodes in_keys ∙ offered-is kind sender receiver low owner key
+      (omega (arith, some, is.offered.each owner key in_nodes in_keys))
 
   differ : (owner : ℕ) → owner < from.nodes → NumbersDiffer cells from.keys owner
   differ owner in_nodes k l in_k in_l some same =
@@ -112,7 +114,12 @@ module _ {N : Type 0} (number : N → ℕ) {written : ℕ → List Entry} {most 
     high = sym (length-map given.high.now number) ∙ ap length is.high ∙ two.first.most.size;
     lists = sym two.both.first.nodes;
     written = λ owner key in_nodes in_keys. omega (arith, cells-upto owner key in_nodes in_keys, first-upto two owner key in_nodes in_keys);
-    below = λ owner key in_nodes in_keys. omega (arith, cells-upto owner key in_nodes in_keys, first-upto two owner key in_nodes in_keys, (two.known.so_far owner).few);
+    below = λ owner key in_nodes in_keys. omega (
+      arith,
+      cells-upto owner key in_nodes in_keys,
+      first-upto two owner key in_nodes in_keys,
+      (two.known.so_far owner).few,
+    );
     differ = differ;
     covered = covered;
     found = is.found ∙ count-above cells from.nodes from.keys high covered low;
@@ -144,7 +151,12 @@ module _ {N : Type 0} (number : N → ℕ) {written : ℕ → List Entry} {most 
     told-upto : (owner key : ℕ) → owner < to.nodes → key < to.keys → kind ≡ Scuttle → receiver owner key ≤ low owner
     told-upto owner key in_to in_keys is_scuttle = elim (cases_eq owner to.node) [
       | inl own ↦ subst (λ o. receiver o key ≤ low o) (sym own) (is.low.held key in_keys)
-      | inr other ↦ omega (arith, is.low.others owner in_to other, ap (λ k. told_by k (lists owner) (get_or to.greatest owner 0)) is_scuttle, (two.second.most.each owner in_to).upto key in_keys)
+      | inr other ↦ omega (
+        arith,
+        is.low.others owner in_to other,
+        ap (λ k. told_by k (lists owner) (get_or to.greatest owner 0)) is_scuttle,
+        (two.second.most.each owner in_to).upto key in_keys,
+      )
     ]
 
     taken-is : (owner key : ℕ) → owner < from.nodes → key < from.keys
@@ -152,7 +164,8 @@ module _ {N : Type 0} (number : N → ℕ) {written : ℕ → List Entry} {most 
     taken-is owner key lt in_keys =
         taken-by kind first sender receiver (map number given.low.now) mark (map number given.high.now) owner key (told-upto owner key (omega (arith, lt, two.both.size.nodes)) (omega (arith, in_keys, two.both.size.keys)))
         (λ is_newest. subst (λ f. KeepsLow f from.nodes low m) is_newest marked.above owner lt) (sender-high owner key lt in_keys)
-        ∙ (λ i. nat_lt (low owner) (sym (is.offered.each owner key lt in_keys) i) && lets_through first (m owner) (sym (is.offered.each owner key lt in_keys) i))
+        ∙ (λ i. nat_lt (low owner) (sym (is.offered.each owner key lt in_keys) i) && lets_through first (m owner)
+        (sym (is.offered.each owner key lt in_keys) i))
 
     pub delta-marks : length mark ≡ from.nodes
         → AreMarksOf rules rotation written from to (by_first first (map number given.low.now) mark) (by_first first mark (map number given.high.now)) sent cut
@@ -173,7 +186,12 @@ pub told-low : {written : ℕ → List Entry} {most : ℕ} {h : HistoriesView} {
 told-low {most = most} {h = h} {from = from} {to = to} two kind low told = record {
   count = told.size ∙ sym two.both.second.nodes;
   others = λ owner lt other. let is = told.each owner (omega (arith, lt, two.both.second.nodes)) in grind (arith, nat_tests);
-  sent = λ key in_keys. omega (arith, own, first-upto two to.node key (omega (arith, two.second.proper.node_below, two.both.size.nodes)) in_keys, (two.known.so_far to.node).few);
+  sent = λ key in_keys. omega (
+    arith,
+    own,
+    first-upto two to.node key (omega (arith, two.second.proper.node_below, two.both.size.nodes)) in_keys,
+    (two.known.so_far to.node).few,
+  );
   held = λ key in_keys. omega (arith, own, first-upto (turned two) to.node key two.second.proper.node_below in_keys, (two.known.so_far to.node).few);
 }
   where

@@ -21,7 +21,8 @@ module _ (written : ℕ → List Entry) (v : VersionTableView) (kept : IsKept wr
   has = has_cells written v kept.numbers
 
   one_here : (owner key : ℕ) → owner < v.nodes → key < v.keys → number_there (λ _. 1) t owner key ≡ cond (nat_lt 0 (number owner key)) 1 0
-  one_here owner key in_nodes in_keys = ap (number_here (λ _. 1) owner) (has owner key in_nodes in_keys) ∙ counted (number owner key) ((kept.numbers.each owner key in_nodes in_keys).written)
+  one_here owner key in_nodes in_keys = ap (number_here (λ _. 1) owner) (has owner key in_nodes in_keys)
+      ∙ counted (number owner key) ((kept.numbers.each owner key in_nodes in_keys).written)
     where
       counted : (n : ℕ) → n ≤ length (written owner) → number_here (λ _. 1) owner (write_numbered (written owner) n) ≡ cond (nat_lt 0 n) 1 0
       counted zero le = refl
@@ -43,7 +44,12 @@ module _ (written : ℕ → List Entry) (v : VersionTableView) (kept : IsKept wr
   owner_here r in_nodes = elim (cases_lt 0 (slice_index v.greatest r)) [
     | inr not_some ↦
         le-ltb 0 (slice_index v.greatest r) (omega (arith, not_some))
-        ∙ sym (le-ltb 0 (greatest_version t r) (omega (arith, ap (λ (m : Mark). m.version) (greatest_mark-none t r (λ key lt. has r key in_nodes lt ∙ ap (write_numbered (written r)) {x = number r key} {y = 0} (omega (arith, not_some, (kept.most.each r in_nodes).upto key lt)))))))
+        ∙ sym (le-ltb 0 (greatest_version t r) (omega (
+          arith,
+          ap (λ (m : Mark). m.version) (greatest_mark-none t r
+              (λ key lt. has r key in_nodes lt ∙ ap (write_numbered (written r)) {x = number r key} {y = 0}
+              (omega (arith, not_some, (kept.most.each r in_nodes).upto key lt)))),
+        )))
     | inl some ↦ elim (kept.most.each r in_nodes).held [
       | inl none ↦ absurd (omega (arith, none, some))
       | inr (key, lt, is) ↦

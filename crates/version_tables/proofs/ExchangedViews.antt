@@ -36,7 +36,8 @@ module _ {rules : Rules} {written : ℕ → List Entry} {most : ℕ} {h : Histor
   same_after : (nothing : Bool) (after : VersionTableView) → TakesBack nothing after → (owner key : ℕ) → owner < q.nodes → key < q.keys
       → numbers_taken q.nodes q.cells after.cells flow fhigh owner key ≡ numbers_taken q.nodes q.cells p.cells flow fhigh owner key
   same_after true after is owner key _ _ = ap (λ (v : VersionTableView). numbers_taken q.nodes q.cells v.cells flow fhigh owner key) is
-  same_after false after took owner key in_nodes in_keys = same_taken two forth low high after.cells (are_taken (turned two) back (λ _ _ _ _. refl) took) owner key in_nodes in_keys
+  same_after false after took owner key in_nodes in_keys = same_taken two forth low high after.cells
+      (are_taken (turned two) back (λ _ _ _ _. refl) took) owner key in_nodes in_keys
 
   back_is : (nothing : Bool) → nothing ≡ eqb back_sent 0 → (after : VersionTableView) → TakesBack nothing after → table_in written after ≡ applied (table_in written p) back_of.items
   back_is true none after is = ap (table_in written) is ∙ sym (nothing_applied (table_in written p) back_of.items (sym back.count ∙ eqb-true back_sent 0 (sym none)))

@@ -56,7 +56,8 @@ module _ {written : ℕ → List Entry} {most : ℕ} {h : HistoriesView} {from t
       has_cells written from two.first.numbers owner key in_nodes in_keys
       ∙ sym ((two.known.so_far owner).begins (numbers owner key) (first-upto owner key in_nodes in_keys))
 
-  pub first-keyed : (owner key : ℕ) (e : Entry) → owner < from.nodes → key < from.keys → write_numbered (all_writes h.lists owner) (numbers owner key) ≡ Some e → e.key ≡ key
+  pub first-keyed : (owner key : ℕ) (e : Entry) → owner < from.nodes → key < from.keys
+      → write_numbered (all_writes h.lists owner) (numbers owner key) ≡ Some e → e.key ≡ key
   first-keyed owner key e in_nodes in_keys is = (two.first.proper.in_place owner key e (first-cells owner key in_nodes in_keys ∙ is)).keyed
 
   -- one that isn't 0 is of a write that it holds, of its copy's generation

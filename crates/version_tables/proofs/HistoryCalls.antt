@@ -1,12 +1,13 @@
 -- What the calls of the histories make of all that is kept of the owners' writes.
 -- Serves `Histories::begin_generation`, `Histories::end_round`, `Histories::lasts`, `Histories::new` and
 -- `Histories::write`.
-use Rattle.version_tables.proofs.Common.{◌≡◌, ◌≢◌, ℕ, zero, suc, ◌+◌, ◌*◌, ◌<◌, ◌≤◌, ◌==◌, cond, List, [], ◌∷◌, ◌++◌, length, get_or, set, map, Some, inl, inr, refl, sym, ap, ◌∙◌, subst, transport, arith, length-append, cases_lt, cases_eq, eq-eqb, ne_eqb, get_or-set_same, get_or-set_other, get_or_append_left, get_or_push, length-set, get_or-append-add, get_or_default, length-map, map-append, map-set, append_assoc, append-nil, same_Some, number-at, Entry, AreSizes, MOST_ROUNDS, write_numbered, OwnerListView, all_writes, entries_of, list_of_owner, no_writes, next_entry, with_write, begun_generation, AreWrites, ListBecomes, writes_more, writes_begun, HasEach, HasEachPlace, ArePlanesChanged, cell, nat_tests, number_kept, AreMadeBy, IsHistory, IsNumberedHistory, IsRoundMark, IsLastNumber, numbered-within, write_from-here, HistoriesView, round_ended, AreHistories, AreNoWrites, IsCounted, IsWrittenSoFar, IsWriteUnder}
-use Rattle.version_tables.proofs.Generations.{current-at, earlier-at}
+use Rattle.version_tables.proofs.Common.{◌≡◌, ◌≢◌, ℕ, zero, suc, ◌+◌, ◌*◌, ◌<◌, ◌≤◌, ◌==◌, cond, List, [], ◌∷◌, ◌++◌, length, get_or, set, map, Some, inl, inr, refl, sym, ap, ◌∙◌, subst, transport, arith, length-append, cases_lt, cases_eq, current-numbered, eq-eqb, ne_eqb, get_or-set_same, get_or-set_other, get_or_append_left, get_or_push, length-set, get_or-append-add, get_or_default, length-map, map-append, map-set, append_assoc, append-nil, same_Some, number-at, Entry, AreSizes, MOST_ROUNDS, write_numbered, OwnerListView, all_writes, entries_of, list_of_owner, no_writes, next_entry, with_write, begun_generation, AreWrites, ListBecomes, writes_more, writes_begun, HasEach, HasEachPlace, ArePlanesChanged, cell, nat_tests, number_kept, AreMadeBy, IsHistory, IsNumberedHistory, IsRoundMark, IsLastNumber, numbered-within, write_from-here, HistoriesView, round_ended, AreHistories, AreNoWrites, IsCounted, IsWrittenSoFar, IsWriteUnder}
+use Rattle.version_tables.proofs.Generations.{earlier-at}
 use Rattle.version_tables.proofs.OwnCalls.{other-place, place-within}
 
 -- one more write, in the round that comes next
-module _ {all : List Entry} {most rounds : ℕ} {v : OwnerListView} (key value : ℕ) (are : AreWrites v) (so_far : IsWrittenSoFar all most rounds (entries_of v)) where
+module _ {all : List Entry} {most rounds : ℕ} {v : OwnerListView} (key value : ℕ) (are : AreWrites v)
+    (so_far : IsWrittenSoFar all most rounds (entries_of v)) where
   abbrev w : List Entry
   w = entries_of v
 
@@ -87,7 +88,7 @@ module _ {all : List Entry} {most rounds : ℕ} {v : OwnerListView} (key value :
     alike = λ m n c d is_c is_d. each (λ n d. m ≤ n → n < m + d.version → c.generation ≡ d.generation)
         (λ n d upto is le. so_far.numbered.alike m n c d (back m c (omega (arith, upto, le)) is_c) is le)
         (λ _ lt. each (λ m c. length v.earlier < m → c.generation ≡ v.generation)
-        (λ m c _ is behind. (current-at v are m c is behind).0) (λ _. refl) m c is_c (omega (arith, lt, split)))
+        (λ m c _ is behind. (current-numbered v are m c is behind).generation) (λ _. refl) m c is_c (omega (arith, lt, split)))
         n d is_d;
   }
 
@@ -171,41 +172,45 @@ module _ {written : ℕ → List Entry} {most : ℕ} {h : HistoriesView} {counts
 
     -- the others' stay as they are
     histories-changed : {list' : OwnerListView} {counts' bases' lasts' : List ℕ} → ListBecomes owner list' lists new
-        → length counts' ≡ length counts → length bases' ≡ length bases → length lasts' ≡ length lasts → AreWrites list' → IsWrittenSoFar (written owner) most rounds (entries_of list')
+        → length counts' ≡ length counts → length bases' ≡ length bases → length lasts' ≡ length lasts → AreWrites list'
+        → IsWrittenSoFar (written owner) most rounds (entries_of list')
         → ((r : ℕ) → r < nodes → r ≢ owner → (get_or counts' r 0 ≡ get_or counts r 0) × (get_or bases' r 0 ≡ get_or bases r 0)
         × ((k : ℕ) → k < keys → cell lasts' nodes r k ≡ cell lasts nodes r k))
         → IsCounted list' keys rounds (get_or counts' owner 0) (get_or bases' owner 0) (cell lasts' nodes owner) (cell ends nodes owner)
         → AreHistories written most after-call counts' bases' lasts' ends
-    histories-changed {list' = list'} {counts' = counts'} {bases' = bases'} {lasts' = lasts'} changes same_counts same_bases same_lasts are so_far others own = record {
-      limits = record {
-        few_nodes = omega (arith, kept.limits.few_nodes, changes.count);
-        some_key = kept.limits.some_key;
-        few_keys = kept.limits.few_keys;
-        few_rounds = kept.limits.few_rounds;
-      };
-      counts_size = same_counts ∙ kept.counts_size ∙ sym changes.count;
-      bases_size = same_bases ∙ kept.bases_size ∙ sym changes.count;
-      lasts_size = same_lasts ∙ kept.lasts_size ∙ ap (λ m. keys * m) (sym changes.count);
-      ends_size = kept.ends_size ∙ ap (λ m. (rounds + 1) * m) (sym changes.count);
-      known = record {
-        so_far = each-list (λ r v. IsWrittenSoFar (written r) most rounds (entries_of v)) (λ r _. kept.known.so_far r) so_far;
-        writes = each-list (λ _ v. AreWrites v) (λ r _. kept.known.writes r) are;
-      };
-      each = subst (λ m. (r : ℕ) → r < m → IsCounted (list_of_owner new r) keys rounds (get_or counts' r 0) (get_or bases' r 0) (cell lasts' m r) (cell ends m r))
-          (sym changes.count)
-          (each-list (λ r v. r < nodes → IsCounted v keys rounds (get_or counts' r 0) (get_or bases' r 0) (cell lasts' nodes r) (cell ends nodes r)) (λ r other lt.
-          let stays = kept.each r lt in
-          let same = others r lt other in
-          record {
-            counted = same.0 ∙ stays.counted;
-            based = same.1 ∙ stays.based;
-            last = λ k in_keys. subst (IsLastNumber (list_of_owner lists r) k) (sym (same.2 k in_keys)) (stays.last k in_keys);
-            none = stays.none;
-            rise = stays.rise;
-            parts = stays.parts;
-            reached = stays.reached;
-          }) (λ _. own));
-    }
+    histories-changed {list' = list'} {counts' = counts'} {bases' = bases'}
+        {lasts' = lasts'} changes same_counts same_bases same_lasts are so_far others own = record {
+          limits = record {
+            few_nodes = omega (arith, kept.limits.few_nodes, changes.count);
+            some_key = kept.limits.some_key;
+            few_keys = kept.limits.few_keys;
+            few_rounds = kept.limits.few_rounds;
+          };
+          counts_size = same_counts ∙ kept.counts_size ∙ sym changes.count;
+          bases_size = same_bases ∙ kept.bases_size ∙ sym changes.count;
+          lasts_size = same_lasts ∙ kept.lasts_size ∙ ap (λ m. keys * m) (sym changes.count);
+          ends_size = kept.ends_size ∙ ap (λ m. (rounds + 1) * m) (sym changes.count);
+          known = record {
+            so_far = each-list (λ r v. IsWrittenSoFar (written r) most rounds (entries_of v)) (λ r _. kept.known.so_far r) so_far;
+            writes = each-list (λ _ v. AreWrites v) (λ r _. kept.known.writes r) are;
+          };
+          each = subst (λ m. (r : ℕ) → r < m → IsCounted (list_of_owner new r) keys rounds (get_or counts' r 0) (get_or bases' r 0) (cell lasts' m r)
+              (cell ends m r))
+              (sym changes.count)
+              (each-list (λ r v. r < nodes → IsCounted v keys rounds (get_or counts' r 0) (get_or bases' r 0) (cell lasts' nodes r) (cell ends nodes r))
+              (λ r other lt.
+              let stays = kept.each r lt in
+              let same = others r lt other in
+              record {
+                counted = same.0 ∙ stays.counted;
+                based = same.1 ∙ stays.based;
+                last = λ k in_keys. subst (IsLastNumber (list_of_owner lists r) k) (sym (same.2 k in_keys)) (stays.last k in_keys);
+                none = stays.none;
+                rise = stays.rise;
+                parts = stays.parts;
+                reached = stays.reached;
+              }) (λ _. own));
+        }
       where
         each-list : (P : ℕ → OwnerListView → Type 0) → ((r : ℕ) → r ≢ owner → P r (list_of_owner lists r)) → P owner list' → (r : ℕ) → P r (list_of_owner new r)
         each-list P before here r = elim (cases_eq r owner) [
@@ -224,8 +229,12 @@ module _ {written : ℕ → List Entry} {most : ℕ} {h : HistoriesView} {counts
         transport (λ i. AreHistories written most after-call (sym is i) bases (sym last_is i) ends)
         (histories-changed changes (length-set counts owner (n + 1)) refl (length-set lasts index (n + 1)) (writes_more list are key value (rounds + 1))
         (so_far-more key value are so_far under.is under.below)
-        (λ r lt other.
-        (get_or-set_other counts owner r (n + 1) 0 other, refl, λ k _. get_or-set_other lasts index (k * nodes + r) (n + 1) 0 (other-place nodes r k owner key lt in_nodes (inl other))))
+        (λ r lt other. (
+          get_or-set_other counts owner r (n + 1) 0 other,
+          refl,
+          λ k _. get_or-set_other lasts index (k * nodes + r) (n + 1) 0
+              (other-place nodes r k owner key lt in_nodes (inl other)),
+        ))
         (subst (λ m. IsCounted (with_write list key value (rounds + 1)) keys rounds m (get_or bases owner 0) (cell (set lasts index (n + 1)) nodes owner) (cell ends nodes owner))
         (sym number) (counted-more key value are so_far old last
         (λ k _ other. get_or-set_other lasts index (k * nodes + owner) (n + 1) 0 (other-place nodes owner k owner key in_nodes in_nodes (inr other))))))
@@ -234,7 +243,8 @@ module _ {written : ℕ → List Entry} {most : ℕ} {h : HistoriesView} {counts
         index = key * nodes + owner
 
     pub histories-begun : (bases' lasts' : List ℕ) → ListBecomes owner (begun_generation list) lists new → bases' ≡ set bases owner n
-        → ArePlanesChanged (λ r k x y. y ≡ cond (r == owner) (number_kept n x) x) nodes keys lasts lasts' → AreHistories written most after-call counts bases' lasts' ends
+        → ArePlanesChanged (λ r k x y. y ≡ cond (r == owner) (number_kept n x) x) nodes keys lasts lasts'
+        → AreHistories written most after-call counts bases' lasts' ends
     histories-begun bases' lasts' changes is cleared =
         subst (λ bs. AreHistories written most after-call counts bs lasts' ends) (sym is)
         (histories-changed changes refl (length-set bases owner n) cleared.size (writes_begun list (kept.known.writes owner))
@@ -339,7 +349,8 @@ so_far-none all most some = record {
 }
 
 -- before the first round
-pub histories-empty : (written : ℕ → List Entry) (most nodes keys : ℕ) (lists : List OwnerListView) (counts bases lasts ends : List ℕ) → 0 < most → AreSizes nodes keys
+pub histories-empty : (written : ℕ → List Entry) (most nodes keys : ℕ) (lists : List OwnerListView) (counts bases lasts ends : List ℕ) → 0 < most
+    → AreSizes nodes keys
     → AreNoWrites nodes lists → HasEach nodes (λ r n. n ≡ 0) counts → HasEach nodes (λ r n. n ≡ 0) bases → HasEach (keys * nodes) (λ r n. n ≡ 0) lasts
     → HasEach nodes (λ r n. n ≡ 0) ends → AreHistories written most (record { lists = lists; keys = keys; rounds = 0 }) counts bases lasts ends
 histories-empty written most nodes keys lists counts bases lasts ends some sizes nothing no_counts no_bases no_lasts no_ends = record {

@@ -48,11 +48,17 @@ module _ (written : ℕ → List Entry) (v : VersionTableView) (are : HasEachPla
   outside owner key past = elim (cases_lt owner v.nodes) [
     | inr beyond ↦
         get-held_by_lists (map entries (range_with_len 0 v.nodes)) owner key
-        ∙ ap (λ r. entry_in r key) (get_or_past (map entries (range_with_len 0 v.nodes)) owner [] (omega (arith, beyond, length-map-range_with_len entries 0 v.nodes)))
+        ∙ ap (λ r. entry_in r key) (get_or_past (map entries (range_with_len 0 v.nodes)) owner []
+        (omega (arith, beyond, length-map-range_with_len entries 0 v.nodes)))
     | inl in_nodes ↦
         let over : v.keys ≤ key = elim past [ inl beyond ↦ absurd (omega (arith, beyond, in_nodes)) | inr over ↦ over ] in
         of_owner owner key in_nodes ∙ rw (le-ltb key v.keys over)
   ]
+
+-- what can't be an entry is none
+pub none-unless : (o : Option Entry) → ((e : Entry) → o ≡ Some e → ⊥) → o ≡ None
+none-unless None never = refl
+none-unless (Some e) never = absurd (never e refl)
 
 -- a number is that of the write that is held, or 0
 pub record HoldsNumber (writes : List Entry) (key : ℕ) (held : Option Entry) (number : ℕ) : Type 0 where
@@ -97,12 +103,12 @@ module _ {written : ℕ → List Entry} {v : VersionTableView} {is : Table} (lie
       ])
     where
       none : (owner key : ℕ) → (v.nodes ≤ owner) ⊎ (v.keys ≤ key) → entry_at (table_in written v) owner key ≡ entry_at is owner key
-      none owner key past = outside written v numbers owner key past ∙ elim (entry_at is owner key) as (λ o. entry_at is owner key ≡ o → None ≡ o) [
-        | None ↦ λ _. refl
-        | Some e ↦ λ held.
-            let place = lies.proper.in_place owner key e held in
-            absurd (elim past [ inl over ↦ omega (arith, over, place.owner_below, lies.frame.nodes) | inr over ↦ omega (arith, over, place.key_below, lies.frame.keys) ])
-      ] refl
+      none owner key past = outside written v numbers owner key past ∙ sym (none-unless (entry_at is owner key) (λ e held.
+          let place = lies.proper.in_place owner key e held in
+          elim past [
+            | inl over ↦ omega (arith, over, place.owner_below, lies.frame.nodes)
+            | inr over ↦ omega (arith, over, place.key_below, lies.frame.keys)
+          ]))
 
   pub lies-kept : IsKept written v
   lies-kept = record { proper = subst IsProper (sym lies-table) lies.proper; numbers = numbers; most = lies.most }

@@ -129,7 +129,8 @@ module _ (rules : Rules) (rotation : ℕ) {written : ℕ → List Entry} {most :
             let is : get_or new.greatest owner 0 ≡ max (low owner) (high owner) = merged.most.each owner (omega (arith, lt, two.second.most.size)) in
             record {
               rises = omega (arith, is);
-              upto = λ key in_keys. let held = (two.second.most.each owner lt).upto key in_keys in let sent = here-sent owner key lt in_keys in grind (arith, nat_tests);
+              upto = λ key in_keys. let held = (two.second.most.each owner lt).upto key in_keys in let sent = here-sent owner key lt in_keys in grind
+                  (arith, nat_tests);
               from = elim (cases_lt (low owner) (high owner)) [
                 | inr not_below ↦ inl (omega (arith, is, not_below))
                 | inl below ↦ elim (two.first.most.each owner (omega (arith, lt, two.both.size.nodes))).held [

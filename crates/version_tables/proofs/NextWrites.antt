@@ -1,8 +1,8 @@
 -- What an owner writes next stands under the number behind all that it wrote, above what its table holds of it.
 -- Serves `write`.
-use Rattle.version_tables.proofs.Common.{◌≡◌, ℕ, zero, suc, ◌+◌, ◌<◌, ◌≤◌, List, length, Some, inl, inr, sym, ◌∙◌, subst, arith, Contains, cases_lt, length-append, none-some, Entry, mark_of, mark_held, IsUpTo, Table, entry_at, greatest_mark, greatest_version, mark_at-up_to_greatest, write_numbered, OwnerListView, AreWrites, entries_of, next_entry, cell, numbered-placed, numbered-some, VersionTableView, table_in, IsKept, IsNextWrite, IsBeginning, IsWriteUnder, IsFirst}
+use Rattle.version_tables.proofs.Common.{◌≡◌, ℕ, zero, suc, ◌+◌, ◌<◌, ◌≤◌, List, length, Some, inl, inr, sym, ◌∙◌, subst, arith, Contains, cases_lt, current-numbered, length-append, none-some, Entry, mark_of, mark_held, IsUpTo, Table, entry_at, greatest_mark, greatest_version, mark_at-up_to_greatest, write_numbered, OwnerListView, AreWrites, entries_of, next_entry, cell, numbered-placed, numbered-some, VersionTableView, table_in, IsKept, IsNextWrite, IsBeginning, IsWriteUnder, IsFirst}
 use Rattle.version_tables.proofs.Fitting.{so-far-upto}
-use Rattle.version_tables.proofs.Generations.{current-at, earlier-at}
+use Rattle.version_tables.proofs.Generations.{earlier-at}
 use Rattle.version_tables.proofs.Laid.{has_cells}
 
 module _ (written : ℕ → List Entry) (v : VersionTableView) (kept : IsKept written v) (list : OwnerListView) (are : AreWrites list) (begins : IsBeginning (entries_of list) (written v.node)) (generation : v.generation ≡ list.generation)
@@ -24,11 +24,11 @@ module _ (written : ℕ → List Entry) (v : VersionTableView) (kept : IsKept wr
       let low : e.version ≤ length list.current = omega (arith, most.version (kept.proper.copies v.node k e holds), greatest) in
       let own = length list.earlier + e.version in
       let there = numbered-some (entries_of list) own (omega (arith, here.written)) (omega (arith, low, length-append list.earlier list.current)) in
-      let at = current-at list are own there.0 there.1 (omega (arith, here.written)) in
+      let at = current-numbered list are own there.0 there.1 (omega (arith, here.written)) in
       let is : write_numbered (written v.node) (cell v.cells v.nodes v.node k) ≡ Some e =
       sym (has_cells written v kept.numbers v.node k in_nodes here.key_below) ∙ holds in
-      let one : there.0.generation ≡ e.generation = at.0 ∙ sym generation ∙ sym (kept.proper.own k e holds) in
-      let two : there.0.version ≡ e.version = omega (arith, at.1) in
+      let one : there.0.generation ≡ e.generation = at.generation ∙ sym generation ∙ sym (kept.proper.own k e holds) in
+      let two : there.0.version ≡ e.version = omega (arith, at.version) in
       let same = under.apart own (cell v.cells v.nodes v.node k) there.0 e (sym (begins own (omega (arith, low, length-append list.earlier list.current))) ∙ there.1) is (λ i. record { generation = one i; version = two i }) in
       let placed = numbered-placed (entries_of list) own there.0 there.1 in
       (placed.place, placed.within, placed.there e ∙ same)
@@ -42,7 +42,12 @@ module _ (written : ℕ → List Entry) (v : VersionTableView) (kept : IsKept wr
   first (suc place) lt same =
       let is = begins (suc place) (omega (arith, lt)) ∙ same ∙ under.is in
       elim (cases_lt (length list.earlier) (suc place)) [
-        | inl behind ↦ omega (arith, (current-at list are (suc place) (next_entry list key value born) is behind).1, lt, length-append list.earlier list.current)
+        | inl behind ↦ omega (
+          arith,
+          (current-numbered list are (suc place) (next_entry list key value born) is behind).version,
+          lt,
+          length-append list.earlier list.current,
+        )
         | inr early ↦ omega (arith, earlier-at list are (suc place) (next_entry list key value born) is (omega (arith, early)))
       ]
 

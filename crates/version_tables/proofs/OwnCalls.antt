@@ -29,7 +29,8 @@ pub each-set : (is : ℕ → ℕ → Type 0) (xs : List ℕ) (nodes owner n : �
 each-set is xs nodes owner n size in_nodes own others = record {
   size = length-set xs owner n ∙ size;
   each = λ r lt. elim (cases_eq r owner) [
-    | inl same ↦ subst (λ o. is o (get_or (set xs owner n) o 0)) (sym same) (subst (is owner) (sym (get_or-set_same xs owner n 0 (omega (arith, in_nodes, size)))) own)
+    | inl same ↦ subst (λ o. is o (get_or (set xs owner n) o 0)) (sym same)
+        (subst (is owner) (sym (get_or-set_same xs owner n 0 (omega (arith, in_nodes, size)))) own)
     | inr other ↦ subst (is r) (sym (get_or-set_other xs owner r n 0 other)) (others r lt other)
   ];
 }
@@ -54,7 +55,8 @@ place-set is xs nodes keys owner key n size in_nodes in_keys own others = record
     index = key * nodes + owner
 
     elsewhere : (r k : ℕ) → r < nodes → k < keys → (r ≢ owner) ⊎ (k ≢ key) → is r k (cell (set xs index n) nodes r k)
-    elsewhere r k lt in_key other = subst (is r k) (sym (get_or-set_other xs index (k * nodes + r) n 0 (other-place nodes r k owner key lt in_nodes other))) (others r k lt in_key other)
+    elsewhere r k lt in_key other = subst (is r k) (sym (get_or-set_other xs index (k * nodes + r) n 0 (other-place nodes r k owner key lt in_nodes other)))
+        (others r k lt in_key other)
 
 -- a table that starts
 pub starts : (written : ℕ → List Entry) (node nodes keys : ℕ) {cells greatest : List ℕ} → node < nodes → AreSizes nodes keys
@@ -99,11 +101,13 @@ module _ (written : ℕ → List Entry) (v : VersionTableView) (kept : IsKept wr
     proper = proper;
     numbers = record {
       size = own_cells.size ∙ kept.numbers.size;
-      each = λ owner key lt in_keys. holds-same (same owner key) (own_cells.each owner key lt in_keys) (either owner key (keep owner) (kept-number kept owner key lt in_keys));
+      each = λ owner key lt in_keys. holds-same (same owner key) (own_cells.each owner key lt in_keys)
+          (either owner key (keep owner) (kept-number kept owner key lt in_keys));
     };
     most = record {
       size = own_greatest.size ∙ kept.most.size;
-      each = λ owner lt. kept-greatest (keep owner) (kept.most.each owner lt) (λ key. own_cells.each owner key lt) (own_greatest.each owner (omega (arith, lt, kept.most.size)));
+      each = λ owner lt. kept-greatest (keep owner) (kept.most.each owner lt) (λ key. own_cells.each owner key lt)
+          (own_greatest.each owner (omega (arith, lt, kept.most.size)));
     };
   }
     where
@@ -117,12 +121,17 @@ module _ (written : ℕ → List Entry) (v : VersionTableView) (kept : IsKept wr
       → LiesAs written (record v { generation = v.generation + 1; cells = cells; greatest = greatest }) (without_all t)
   forgets no_cells no_greatest =
       keeps (λ _. false) (v.generation + 1) empty (proper-without_all t kept.proper) (entry_at-without_all t)
-      (record { size = no_cells.size; each = λ r k lt in_keys. no_cells.each (k * v.nodes + r) (omega (arith, kept.numbers.size, place-within v.nodes v.keys r k lt in_keys)) })
+      (record {
+        size = no_cells.size;
+        each = λ r k lt in_keys. no_cells.each (k * v.nodes + r)
+            (omega (arith, kept.numbers.size, place-within v.nodes v.keys r k lt in_keys));
+      })
       (record { size = no_greatest.size; each = no_greatest.each })
 
   -- one that restarts
   pub restarts : {cells greatest : List ℕ} → ArePlanesChanged (λ r k x y. y ≡ cond (r == v.node) x 0) v.nodes v.keys v.cells cells
-      → AreChanged (λ r x y. y ≡ cond (r == v.node) x 0) v.greatest greatest → LiesAs written (record v { cells = cells; greatest = greatest }) (without_others t)
+      → AreChanged (λ r x y. y ≡ cond (r == v.node) x 0) v.greatest greatest
+      → LiesAs written (record v { cells = cells; greatest = greatest }) (without_others t)
   restarts = keeps (λ r. r == v.node) v.generation (without_others t).held (proper-without_others t kept.proper) (entry_at-without_others t)
 
   -- one that writes
@@ -163,7 +172,13 @@ module _ (written : ℕ → List Entry) (v : VersionTableView) (kept : IsKept wr
       most = each-set (λ r n. IsGreatest (cell cells v.nodes) v.keys r n) v.greatest v.nodes v.node number kept.most.size in_nodes
           (record {
             upto = λ k lt. (each-now (λ r _ n. r ≡ v.node → n ≤ number) (λ _. omega arith)
-                (λ r k lt lt' _ own. omega (arith, (kept.most.each r lt).upto k lt', ap (λ o. get_or v.greatest o 0) own, write.above))).each v.node k in_nodes lt refl;
+                (λ r k lt lt' _ own. omega (
+                  arith,
+                  (kept.most.each r lt).upto k lt',
+                  ap
+                      (λ o. get_or v.greatest o 0) own,
+                  write.above,
+                ))).each v.node k in_nodes lt refl;
             held = inr (
               key,
               in_keys,

@@ -1,8 +1,8 @@
 -- One owner's numbers once what was sent is taken and what is of older generations is dropped.
 -- Serves `TakenViews`.
-use Rattle.version_tables.proofs.Common.{◌≡◌, ℕ, ◌<◌, ◌≤◌, Bool, true, false, List, length, Some, ◌⊎◌, inl, inr, refl, sym, ap, ◌∙◌, subst, get_or, arith, cases_lt, nat_tests, Entry, mark_held, Table, entry_at, generation_held, write_numbered, OwnerListView, all_writes, entries_of, list_of_owner, AreWrites, cell, numbers_taken, IsRaised, start_before, start_of, numbered-some, numbered-within, numbers-up_to, IsGreatest, VersionTableView, HistoriesView, table_in, is_taken_at, AreLaidBoth, bases_in, IsWrittenSoFar, SendsNoNewer, SendsNewer, drop_start, number_kept, HasTaken}
+use Rattle.version_tables.proofs.Common.{◌≡◌, ℕ, ◌<◌, ◌≤◌, Bool, true, false, List, length, Some, ◌⊎◌, inl, inr, refl, sym, ap, ◌∙◌, subst, get_or, arith, cases_lt, current-numbered, nat_tests, Entry, mark_held, Table, entry_at, generation_held, write_numbered, OwnerListView, all_writes, entries_of, list_of_owner, AreWrites, cell, numbers_taken, IsRaised, start_before, start_of, numbered-some, numbered-within, numbers-up_to, IsGreatest, VersionTableView, HistoriesView, table_in, is_taken_at, AreLaidBoth, bases_in, IsWrittenSoFar, SendsNoNewer, SendsNewer, drop_start, number_kept, HasTaken}
 use Rattle.version_tables.proofs.Fitting.{generation_of, turned, first-held}
-use Rattle.version_tables.proofs.Generations.{current-at, generation-upto}
+use Rattle.version_tables.proofs.Generations.{generation-upto}
 
 module _ {all writes : List Entry} {most rounds : ℕ} (so_far : IsWrittenSoFar all most rounds writes) (m n : ℕ) (some : 0 < m) (le : m ≤ n) (within : n ≤ length writes) where
   write-of : (number : ℕ) → 0 < number → number ≤ n → (e : Entry) × (write_numbered writes number ≡ Some e) × (generation_of writes number ≡ e.generation)
@@ -31,10 +31,11 @@ module _ {all writes : List Entry} {most rounds : ℕ} (so_far : IsWrittenSoFar 
   newest list are is over =
       let list_first = ap (λ ws. write_numbered ws m) is ∙ first.1 in
       let list_second = ap (λ ws. write_numbered ws n) is ∙ second.1 in
-      omega (arith, first.2, second.2, generation-upto list are n second.0 list_second, (current-at list are m first.0 list_first over).0)
+      omega (arith, first.2, second.2, generation-upto list are n second.0 list_second, (current-numbered list are m first.0 list_first over).generation)
 
 -- by numbers that are taken from the sender as it was, or as it is now
-module _ {written : ℕ → List Entry} {most : ℕ} {h : HistoriesView} {from to : VersionTableView} {low high now : List ℕ} {after : VersionTableView} (two : AreLaidBoth written most h from to)
+module _ {written : ℕ → List Entry} {most : ℕ} {h : HistoriesView} {from to : VersionTableView} {low high now : List ℕ} {after : VersionTableView}
+    (two : AreLaidBoth written most h from to)
     (same : (owner key : ℕ) → owner < to.nodes → key < to.keys → numbers_taken to.nodes to.cells now low high owner key ≡ numbers_taken to.nodes to.cells from.cells low high owner key)
     (taken : HasTaken h.lists to now low high after) (owner : ℕ) (in_nodes : owner < to.nodes) where
   abbrev F : Table
@@ -147,7 +148,8 @@ module _ {written : ℕ → List Entry} {most : ℕ} {h : HistoriesView} {from t
 
   -- where nothing newer comes other numbers stay, and where something does they are dropped
   pub other_number : (key : ℕ) → key < to.keys → sent key ≡ false
-      → (SendsNoNewer F T (is_taken_at from to low high) owner × (cell after.cells to.nodes owner key ≡ receiver key)) ⊎ (SendsNewer F T (is_taken_at from to low high) owner × (cell after.cells to.nodes owner key ≡ 0))
+      → (SendsNoNewer F T (is_taken_at from to low high) owner × (cell after.cells to.nodes owner key ≡ receiver key)) ⊎
+      (SendsNewer F T (is_taken_at from to low high) owner × (cell after.cells to.nodes owner key ≡ 0))
   other_number key lt no' = elim newer_or_not [ inl none ↦ inl (none, stays none) | inr newer ↦ inr (newer, dropped newer) ]
     where
       is : cell after.cells to.nodes owner key ≡ number_kept start (receiver key)

@@ -1,6 +1,7 @@
 -- The entries that the model's table has once it has taken what another sent it.
 -- Serves `TakenViews`.
-use Rattle.version_tables.proofs.Common.{◌≡◌, ◌≢◌, ℕ, ◌<◌, ◌≤◌, List, Option, Some, None, inl, inr, refl, sym, ap, ◌∙◌, subst, arith, Contains, Entry, Item, Mark, DigestKind, Scuttle, Precise, Rules, mark_of, mark_held, IsBefore, IsUpTo, digest_kind, up_to-before, not_both, Table, entry_at, mark_at, greatest_mark, generation_held, IsProper, greatest_mark-from, mark_at-up_to_greatest, entry_at-applied_from, applied, frame-applied, Lacks, candidates-lacked, sent-candidate, sent-held, received-proper, kept, sent-up_to, VersionTableView, HistoriesView, table_in, delta_of_views, AreLaidBoth}
+use Rattle.version_tables.proofs.Common.{none-some, ◌≡◌, ◌≢◌, ℕ, ◌<◌, ◌≤◌, List, Option, Some, None, inl, inr, refl, sym, ap, ◌∙◌, subst, arith, Contains, Entry, Item, Mark, DigestKind, Scuttle, Precise, Rules, mark_of, mark_held, IsBefore, IsUpTo, digest_kind, up_to-before, not_both, Table, entry_at, mark_at, greatest_mark, generation_held, IsProper, greatest_mark-from, mark_at-up_to_greatest, entry_at-applied_from, applied, frame-applied, Lacks, candidates-lacked, sent-candidate, sent-held, received-proper, kept, sent-up_to, VersionTableView, HistoriesView, table_in, delta_of_views, AreLaidBoth}
+use Rattle.version_tables.proofs.Laid.{none-unless}
 
 -- nothing that a receiver lacks is before what it holds at its place, and no older than its copy
 lacks-at : (kind : DigestKind) (to : Table) (i : Item) → IsProper to → i.entry.key < to.keys → Lacks kind to i → (generation_held to i.owner ≤ i.entry.generation) × IsBefore (mark_at to i.owner i.entry.key) (mark_of i.entry)
@@ -87,10 +88,7 @@ module _ (rules : Rules) (rotation : ℕ) {written : ℕ → List Entry} {most :
   -- where nothing of the owner comes of a newer generation, what was held at other places stays
   pub after-kept : (owner key : ℕ) → ((d : Entry) → Comes owner d → d.key ≢ key) → ((d : Entry) → Comes owner d → d.generation ≤ generation_held T owner) → entry_at after owner key ≡ entry_at T owner key
   after-kept owner key others no_newer = elim (entry_at T owner key) as (λ o. entry_at T owner key ≡ o → entry_at after owner key ≡ o) [
-    | None ↦ λ none. elim (entry_at after owner key) as (λ o. entry_at after owner key ≡ o → o ≡ None) [
-      | None ↦ λ _. refl
-      | Some e ↦ λ found. sym (after-from owner key e found others) ∙ none
-    ] refl
+    | None ↦ λ none. none-unless (entry_at after owner key) (λ e found. none-some e (sym none ∙ after-from owner key e found others))
     | Some e ↦ λ held.
         let copy = two.second.proper.copies owner key e held in
         let upto = generation-upto owner e.generation (omega (arith, copy)) (λ d comes. omega (arith, copy, no_newer d comes)) in
@@ -101,11 +99,12 @@ module _ (rules : Rules) (rotation : ℕ) {written : ℕ → List Entry} {most :
 
   -- and where something does, nothing does
   pub after-dropped : (owner key : ℕ) (d : Entry) → Comes owner d → generation_held T owner < d.generation → ((d : Entry) → Comes owner d → d.key ≢ key) → entry_at after owner key ≡ None
-  after-dropped owner key d comes newer others = elim (entry_at after owner key) as (λ o. entry_at after owner key ≡ o → o ≡ None) [
-    | None ↦ λ _. refl
-    | Some e ↦ λ found.
-        let held = after-from owner key e found others in
-        let fits = (two.first.proper.in_place owner d.key d (came-held owner d comes)).key_below in
-        let same = subst (λ h. IsUpTo (mark_held h) (greatest_mark after owner)) (after-sent owner d comes) (mark_at-up_to_greatest after owner d.key (subst (λ k. d.key < k) (two.both.size.keys ∙ sym (frame-applied T sent).keys) fits)) in
-        absurd (omega (arith, newer, after_proper.copies owner key e found, two.second.proper.copies owner key e held, same.generation))
-  ] refl
+  after-dropped owner key d comes newer others = none-unless (entry_at after owner key) (λ e found.
+      let held = after-from owner key e found others in
+      omega (
+        arith,
+        newer,
+        after_proper.copies owner key e found,
+        two.second.proper.copies owner key e held,
+        after_proper.copies owner d.key d (after-sent owner d comes),
+      ))

@@ -6,7 +6,8 @@ use Rattle.version_tables.proofs.TakenByOwner.{came_number, other_number, top_nu
 use Rattle.version_tables.proofs.TakenEntries.{after, Comes, after-sent, after-kept, after-dropped, came-held, came-lacked}
 
 -- by numbers that are taken from the sender as it was, or as it is now
-module _ {rules : Rules} {rotation : ℕ} {written : ℕ → List Entry} {most : ℕ} {h : HistoriesView} {from to : VersionTableView} {low high : List ℕ} {count cut : ℕ}
+module _ {rules : Rules} {rotation : ℕ} {written : ℕ → List Entry} {most : ℕ} {h : HistoriesView} {from to : VersionTableView} {low high : List ℕ}
+    {count cut : ℕ}
     {now : List ℕ} {new : VersionTableView} (two : AreLaidBoth written most h from to) (delta : AreMarksOf rules rotation written from to low high count cut)
     (same : (owner key : ℕ) → owner < to.nodes → key < to.keys
     → numbers_taken to.nodes to.cells now low high owner key ≡ numbers_taken to.nodes to.cells from.cells low high owner key)
@@ -31,7 +32,8 @@ module _ {rules : Rules} {rotation : ℕ} {written : ℕ → List Entry} {most :
   held_there owner d comes = let held = came-held rules rotation two owner d comes in (held, (delta.marks.members owner d.key d held).1 comes)
 
   -- each number is the sender's, the receiver's or 0, and so is what the model's table holds
-  number_now : (owner key : ℕ) → owner < to.nodes → key < to.keys → HoldsNumber (written owner) key (entry_at received owner key) (cell new.cells to.nodes owner key)
+  number_now : (owner key : ℕ) → owner < to.nodes → key < to.keys
+      → HoldsNumber (written owner) key (entry_at received owner key) (cell new.cells to.nodes owner key)
   number_now owner key in_nodes in_keys = elim (is_taken_at from to low high owner key) as
       (λ b. is_taken_at from to low high owner key ≡ b → HoldsNumber (written owner) key (entry_at received owner key) (cell new.cells to.nodes owner key)) [
         | true ↦ λ yes'.
@@ -42,7 +44,8 @@ module _ {rules : Rules} {rotation : ℕ} {written : ℕ → List Entry} {most :
             (are_taken.came owner key in_nodes in_keys yes') (kept-number two.first owner key in_node in_key)
         | false ↦ λ no'. elim (are_taken.others owner key in_nodes in_keys no') [
           | inl stays ↦
-              holds-same (after-kept rules rotation two owner key (elsewhere no') (λ d comes. let there = held_there owner d comes in stays.0 d.key d there.0 there.1))
+              holds-same (after-kept rules rotation two owner key (elsewhere no')
+              (λ d comes. let there = held_there owner d comes in stays.0 d.key d there.0 there.1))
               stays.1 (kept-number two.second owner key in_nodes in_keys)
           | inr gone ↦
               let comes = (delta.marks.members owner gone.0.key gone.0.entry gone.0.held).0 gone.0.is_sent in

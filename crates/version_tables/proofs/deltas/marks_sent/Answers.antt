@@ -39,6 +39,7 @@ returns-clause-marks g c =
     let number = g.N.Number.number in
     let marked = c.in_ok-marked.marked in
     let before = c.before.before.before in
-    rw c.greatest.ensures.value at (delta-marks number (two g before) c.args.course.now.rules.now _ (of-both g before) c.args.course.now.plan.now.rotation c.requires.told.may.rotation
+    rw c.greatest.ensures.value at (delta-marks number (two g before) c.args.course.now.rules.now _
+    (of-both g before) c.args.course.now.plan.now.rotation c.requires.told.may.rotation
     (map number marked.mark.items) marked.counts.sent marked.counts.cut c.in_ok-marked.ensures.marked
     (length-map marked.mark.items number ∙ c.in_ok-marked.ensures.size ∙ c.grid.ensures.nodes))

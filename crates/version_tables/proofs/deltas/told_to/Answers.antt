@@ -17,7 +17,12 @@ told-requires-clause-known g c =
             few = so_far.few;
             within = elim (kept.most.each owner in_nodes).held [
               | inl none ↦ omega (arith, none)
-              | inr (key, in_keys, is) ↦ omega (arith, is, so-far-upto g.H.Written.lists v kept _ owner so_far.begins (c.requires.holds owner) key in_nodes in_keys)
+              | inr (key, in_keys, is) ↦ omega (
+                arith,
+                is,
+                so-far-upto g.H.Written.lists v kept _ owner so_far.begins
+                    (c.requires.holds owner) key in_nodes in_keys,
+              )
             ];
             based = c.bases.ensures.value.each owner lt;
             writes = c.bases.ensures.writes owner;

@@ -79,25 +79,16 @@ fn exchange_deltas<N: Number, H: Written>(
         return Ok(sent_back(digest1, digest2, back.counts));
     }
     let forth = delta(initiator, responder, course)?;
-    let came = Arrivals {
-        back: Arrival {
-            marks: &back,
-            nothing: back.counts.sent == 0,
-        },
-        forth: Arrival {
-            marks: &forth,
-            nothing: plan.lost3 | (forth.counts.sent == 0),
-        },
+    let came = Arrival {
+        marks: &back,
+        nothing: back.counts.sent == 0,
     };
-    take_both(course, initiator, responder, came)?;
+    let went = Arrival {
+        marks: &forth,
+        nothing: plan.lost3 | (forth.counts.sent == 0),
+    };
+    take_both(course, initiator, responder, came, went)?;
     Ok(sent_both(digest1, digest2, back.counts, forth.counts, plan.lost3))
-}
-
-// What comes to each of the two sides.
-#[derive(Clone, Copy)]
-struct Arrivals<'a, N: Number> {
-    back: Arrival<'a, N>,
-    forth: Arrival<'a, N>,
 }
 
 // Each side takes what came to it, unless that is nothing. The second delta may also be lost.
@@ -105,15 +96,15 @@ fn take_both<N: Number, H: Written>(
     course: &Course<N, H>,
     initiator: &mut VersionTable<N, H>,
     responder: &mut VersionTable<N, H>,
-    came: Arrivals<N>,
+    back: Arrival<N>,
+    forth: Arrival<N>,
 ) -> Result<(), Fault>
-    requires { MayTakeBoth N.number H.lists course.now.histories.now initiator.old responder.old came.back came.forth }
+    requires { MayTakeBoth N.number H.lists course.now.histories.now initiator.old responder.old back forth }
     ensures ok { OnOk result (HaveTakenBoth N.number course.now.histories.now initiator.old responder.old
-        came.entry.back came.entry.forth initiator.new responder.new) }
+        back.entry forth.entry initiator.new responder.new) }
     ensures stay { OnErr result (BothStay initiator.old responder.old initiator.new responder.new) }
     ensures only { IsOkUnless result OutOfMemory }
 {
-    let Arrivals { back, forth } = came;
     let histories = course.histories;
     let initiator_before = Vec::from_slice(course.alloc, initiator.greatest())?;
     let responder_before = Vec::from_slice(course.alloc, responder.greatest())?;

@@ -1,6 +1,6 @@
 -- The entries that the model's table has once it has taken what another sent it.
--- Serves `TakenViews`.
-use Rattle.version_tables.proofs.Common.{none-some, ◌≡◌, ◌≢◌, ℕ, ◌<◌, ◌≤◌, List, Option, Some, None, inl, inr, refl, sym, ap, ◌∙◌, subst, arith, Contains, Entry, Item, Mark, DigestKind, Scuttle, Precise, Rules, mark_of, mark_held, IsBefore, IsUpTo, digest_kind, up_to-before, not_both, Table, entry_at, mark_at, greatest_mark, generation_held, IsProper, greatest_mark-from, mark_at-up_to_greatest, entry_at-applied_from, applied, frame-applied, Lacks, candidates-lacked, sent-candidate, sent-held, received-proper, kept, sent-up_to, VersionTableView, HistoriesView, table_in, delta_of_views, AreLaidBoth}
+-- Serves `Merged` and `TakenViews`.
+use Rattle.version_tables.proofs.Common.{none-some, ◌≡◌, ◌≢◌, ℕ, ◌<◌, ◌≤◌, List, Option, Some, None, inl, inr, refl, sym, ap, ◌∙◌, subst, arith, Contains, Entry, Item, Mark, DigestKind, Scuttle, Precise, Rules, mark_of, mark_held, IsBefore, IsUpTo, digest_kind, up_to-before, not_both, Table, entry_at, mark_at, greatest_mark, generation_held, IsProper, greatest_mark-from, mark_at-up_to_greatest, entry_at-applied_from, applied, Lacks, candidates-lacked, sent-candidate, sent-held, received-proper, kept, sent-up_to, VersionTableView, HistoriesView, table_in, delta_of_views, AreLaidBoth}
 use Rattle.version_tables.proofs.Laid.{none-unless}
 
 -- nothing that a receiver lacks is before what it holds at its place, and no older than its copy

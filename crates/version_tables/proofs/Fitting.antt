@@ -1,7 +1,16 @@
 -- Tables beside the histories: the numbers that they hold are of writes made so far.
 -- Serves most of the crate.
-use Rattle.version_tables.proofs.Common.{◌≡◌, ℕ, suc, ◌<◌, ◌≤◌, List, length, Some, inl, inr, sym, ap, ◌∙◌, arith, Contains, cases_lt, Entry, Exchange, Rules, mark_held, entry_at, generation_held, write_from-here, write_numbered, all_writes, Cells, cell, HasCells, numbered-some, VersionTableView, HistoriesView, table_in, IsKept, AreLaidBoth, IsBeginning, IsReadyExchange}
+use Rattle.version_tables.proofs.Common.{◌≡◌, ℕ, suc, ◌<◌, ◌≤◌, List, length, Some, inl, inr, sym, ap, ◌∙◌, arith, Contains, cases_lt, Entry, Exchange, Rules, mark_held, entry_at, generation_held, write_from-here, write_numbered, all_writes, Cells, cell, HasCells, numbered-some, VersionTableView, HistoriesView, table_in, IsKept, AreLaidBoth, IsBeginning, IsReadyExchange, subst, current-numbered, get_or_append_left, OwnerListView, entries_of, AreWrites, IsPlaced, numbered-placed}
 use Rattle.version_tables.proofs.Laid.{has_cells}
+
+-- writes of earlier generations are of older ones than the owner's own
+pub earlier-at : (v : OwnerListView) → AreWrites v → (number : ℕ) (e : Entry) → write_numbered (entries_of v) number ≡ Some e
+    → number ≤ length v.earlier → e.generation < v.generation
+earlier-at v are number e is upto =
+    let at = numbered-placed (entries_of v) number e is in
+    let before : at.place < length v.earlier = omega (arith, at.is, upto) in
+    subst (λ (x : Entry). x.generation < v.generation)
+    (sym (get_or_append_left v.earlier v.current e at.place before) ∙ at.there e) (are.earlier at.place e before)
 
 module _ (written : ℕ → List Entry) (v : VersionTableView) (kept : IsKept written v) where
   abbrev cells : Cells

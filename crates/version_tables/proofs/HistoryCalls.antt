@@ -1,7 +1,7 @@
 -- What the calls of the histories make of all that is kept of the owners' writes.
 -- Serves `Histories::begin_generation`, `Histories::end_round`, `Histories::new` and `Histories::write`.
 use Rattle.version_tables.proofs.Common.{◌≡◌, ◌≢◌, ℕ, zero, suc, ◌+◌, ◌*◌, ◌<◌, ◌≤◌, ◌==◌, cond, List, [], ◌∷◌, ◌++◌, length, get_or, set, map, Some, inl, inr, refl, sym, ap, ◌∙◌, subst, transport, arith, length-append, cases_lt, cases_eq, current-numbered, eq-eqb, ne_eqb, get_or-set_same, get_or-set_other, get_or_append_left, get_or_push, length-set, get_or-append-add, get_or_default, length-map, map-append, map-set, append_assoc, append-nil, same_Some, number-at, Entry, AreSizes, MOST_ROUNDS, write_numbered, OwnerListView, all_writes, entries_of, list_of_owner, no_writes, next_entry, with_write, begun_generation, AreWrites, ListBecomes, writes_more, writes_begun, HasEach, ArePlanesChanged, cell, nat_tests, number_kept, AreMadeBy, IsHistory, IsNumberedHistory, IsRoundMark, IsLastNumber, numbered-within, write_from-here, HistoriesView, round_ended, AreHistories, AreNoWrites, IsCounted, IsWrittenSoFar, IsWriteUnder}
-use Rattle.version_tables.proofs.Generations.{earlier-at}
+use Rattle.version_tables.proofs.Fitting.{earlier-at}
 use Rattle.version_tables.proofs.OwnCalls.{other-place, place-within}
 
 -- one more write, in the round that comes next

@@ -1,8 +1,7 @@
 -- What an owner writes next stands under the number behind all that it wrote, above what its table holds of it.
 -- Serves `write`.
 use Rattle.version_tables.proofs.Common.{◌≡◌, ℕ, zero, suc, ◌+◌, ◌<◌, ◌≤◌, List, length, Some, inl, inr, sym, ◌∙◌, subst, arith, Contains, cases_lt, current-numbered, length-append, none-some, Entry, mark_of, mark_held, IsUpTo, Table, entry_at, greatest_mark, greatest_version, mark_at-up_to_greatest, write_numbered, OwnerListView, AreWrites, entries_of, next_entry, cell, numbered-placed, numbered-some, VersionTableView, table_in, IsKept, IsNextWrite, IsBeginning, IsWriteUnder, IsFirst}
-use Rattle.version_tables.proofs.Fitting.{so-far-upto}
-use Rattle.version_tables.proofs.Generations.{earlier-at}
+use Rattle.version_tables.proofs.Fitting.{earlier-at, so-far-upto}
 use Rattle.version_tables.proofs.Laid.{has_cells}
 
 module _ (written : ℕ → List Entry) (v : VersionTableView) (kept : IsKept written v) (list : OwnerListView) (are : AreWrites list) (begins : IsBeginning (entries_of list) (written v.node)) (generation : v.generation ≡ list.generation)
@@ -20,16 +19,20 @@ module _ (written : ℕ → List Entry) (v : VersionTableView) (kept : IsKept wr
   held_so_far : (k : ℕ) (e : Entry) → entry_at t v.node k ≡ Some e → Contains (entries_of list) e
   held_so_far k e holds =
       let here = kept.proper.in_place v.node k e holds in
-      let most : IsUpTo (mark_of e) (greatest_mark t v.node) = subst (λ h. IsUpTo (mark_held h) (greatest_mark t v.node)) holds (mark_at-up_to_greatest t v.node k here.key_below) in
+      let most : IsUpTo (mark_of e) (greatest_mark t v.node) =
+      subst (λ h. IsUpTo (mark_held h) (greatest_mark t v.node)) holds (mark_at-up_to_greatest t v.node k here.key_below)
+      in
       let low : e.version ≤ length list.current = omega (arith, most.version (kept.proper.copies v.node k e holds), greatest) in
       let own = length list.earlier + e.version in
-      let there = numbered-some (entries_of list) own (omega (arith, here.written)) (omega (arith, low, length-append list.earlier list.current)) in
+      let within : own ≤ length (entries_of list) = omega (arith, low, length-append list.earlier list.current) in
+      let there = numbered-some (entries_of list) own (omega (arith, here.written)) within in
       let at = current-numbered list are own there.0 there.1 (omega (arith, here.written)) in
       let is : write_numbered (written v.node) (cell v.cells v.nodes v.node k) ≡ Some e =
       sym (has_cells written v kept.numbers v.node k in_nodes here.key_below) ∙ holds in
       let one : there.0.generation ≡ e.generation = at.generation ∙ sym generation ∙ sym (kept.proper.own k e holds) in
       let two : there.0.version ≡ e.version = omega (arith, at.version) in
-      let same = under.apart own (cell v.cells v.nodes v.node k) there.0 e (sym (begins own (omega (arith, low, length-append list.earlier list.current))) ∙ there.1) is (λ i. record { generation = one i; version = two i }) in
+      let from : write_numbered (written v.node) own ≡ Some there.0 = sym (begins own within) ∙ there.1 in
+      let same = under.apart own (cell v.cells v.nodes v.node k) there.0 e from is (λ i. record { generation = one i; version = two i }) in
       let placed = numbered-placed (entries_of list) own there.0 there.1 in
       (placed.place, placed.within, placed.there e ∙ same)
 

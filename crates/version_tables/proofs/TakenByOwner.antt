@@ -2,7 +2,6 @@
 -- Serves `TakenViews`.
 use Rattle.version_tables.proofs.Common.{◌≡◌, ℕ, ◌<◌, ◌≤◌, Bool, true, false, List, length, Some, ◌⊎◌, inl, inr, refl, sym, ap, ◌∙◌, subst, get_or, arith, cases_lt, current-numbered, nat_tests, Entry, mark_held, Table, entry_at, generation_held, write_numbered, OwnerListView, all_writes, entries_of, list_of_owner, AreWrites, cell, numbers_taken, IsRaised, start_before, start_of, numbered-some, numbered-within, numbers-up_to, IsGreatest, VersionTableView, HistoriesView, table_in, is_taken_at, AreLaidBoth, bases_in, IsWrittenSoFar, SendsNoNewer, SendsNewer, drop_start, number_kept, HasTaken}
 use Rattle.version_tables.proofs.Fitting.{generation_of, turned, first-held}
-use Rattle.version_tables.proofs.Generations.{generation-upto}
 
 module _ {all writes : List Entry} {most rounds : ℕ} (so_far : IsWrittenSoFar all most rounds writes) (m n : ℕ) (some : 0 < m) (le : m ≤ n) (within : n ≤ length writes) where
   write-of : (number : ℕ) → 0 < number → number ≤ n → (e : Entry) × (write_numbered writes number ≡ Some e) × (generation_of writes number ≡ e.generation)
@@ -31,7 +30,13 @@ module _ {all writes : List Entry} {most rounds : ℕ} (so_far : IsWrittenSoFar 
   newest list are is over =
       let list_first = ap (λ ws. write_numbered ws m) is ∙ first.1 in
       let list_second = ap (λ ws. write_numbered ws n) is ∙ second.1 in
-      omega (arith, first.2, second.2, generation-upto list are n second.0 list_second, (current-numbered list are m first.0 list_first over).generation)
+      omega (
+        arith,
+        first.2,
+        second.2,
+        (current-numbered list are n second.0 list_second (omega (arith, over, le))).generation,
+        (current-numbered list are m first.0 list_first over).generation,
+      )
 
 -- by numbers that are taken from the sender as it was, or as it is now
 module _ {written : ℕ → List Entry} {most : ℕ} {h : HistoriesView} {from to : VersionTableView} {low high now : List ℕ} {after : VersionTableView}
@@ -77,11 +82,14 @@ module _ {written : ℕ → List Entry} {most : ℕ} {h : HistoriesView} {from t
   sent_above : (key : ℕ) → sent key ≡ true → receiver key < sender key
   sent_above key yes' = grind (arith, nat_tests)
 
+  there : (key : ℕ) → cell from.cells to.nodes owner key ≡ sender key
+  there key = ap (λ n. cell from.cells n owner key) (sym two.both.size.nodes)
+
   y_sent : (key : ℕ) → key < to.keys → sent key ≡ true → y key ≡ sender key
-  y_sent key lt yes' = same owner key in_nodes lt ∙ (let there : cell from.cells to.nodes owner key ≡ sender key = ap (λ n. cell from.cells n owner key) (sym two.both.size.nodes) in grind (arith, nat_tests))
+  y_sent key lt yes' = same owner key in_nodes lt ∙ (let at = there key in grind (arith, nat_tests))
 
   y_stays : (key : ℕ) → key < to.keys → sent key ≡ false → y key ≡ receiver key
-  y_stays key lt no' = same owner key in_nodes lt ∙ (let there : cell from.cells to.nodes owner key ≡ sender key = ap (λ n. cell from.cells n owner key) (sym two.both.size.nodes) in grind (arith, nat_tests))
+  y_stays key lt no' = same owner key in_nodes lt ∙ (let at = there key in grind (arith, nat_tests))
 
   of_sender : (key : ℕ) → key < to.keys → 0 < sender key → (e : Entry) × (write_numbered writes (sender key) ≡ Some e) × (entry_at F owner key ≡ Some e) × (generation_of writes (sender key) ≡ generation_held F owner)
   of_sender key lt some = first-held two owner key (omega (arith, in_nodes, two.both.size.nodes)) (omega (arith, lt, two.both.size.keys)) some

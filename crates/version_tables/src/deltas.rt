@@ -13,6 +13,7 @@ use crate::histories::Histories;
 use crate::tables::{VersionTable, Written};
 use bench_types::{DigestKind, Exchange, Fault, Rules};
 use delta_plans::{First, Marked, Offer, Owners, planned, told};
+use grids::Peer;
 use model::DeltaCounts;
 use planes::{Grid, Number};
 use std::alloc::Global;
@@ -84,8 +85,12 @@ fn marks_above<N: Number, H: Written>(
             marks_sent(sender, receiver, offered, course)
         }
         DigestKind::Precise => {
-            let own = receiver.node() as usize;
-            let ahead = grids::ahead(course.alloc, grid, receiver.cells(), low, own)?;
+            let peer = Peer {
+                cells: receiver.cells(),
+                low,
+                own: receiver.node() as usize,
+            };
+            let ahead = grids::ahead(course.alloc, grid, peer)?;
             let offered = Offered {
                 cells: &ahead.numbers,
                 low,

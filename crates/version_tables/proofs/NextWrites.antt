@@ -29,7 +29,7 @@ module _ (written : ℕ → List Entry) (v : VersionTableView) (kept : IsKept wr
       let at = current-numbered list are own there.0 there.1 (omega (arith, here.written)) in
       let is : write_numbered (written v.node) (cell v.cells v.nodes v.node k) ≡ Some e =
       sym (has_cells written v kept.numbers v.node k in_nodes here.key_below) ∙ holds in
-      let one : there.0.generation ≡ e.generation = at.generation ∙ sym generation ∙ sym (kept.proper.own k e holds) in
+      let one : there.0.generation ≡ e.generation = omega (arith, at.generation, generation, kept.proper.own k e holds) in
       let two : there.0.version ≡ e.version = omega (arith, at.version) in
       let from : write_numbered (written v.node) own ≡ Some there.0 = sym (begins own within) ∙ there.1 in
       let same = under.apart own (cell v.cells v.nodes v.node k) there.0 e from is (λ i. record { generation = one i; version = two i }) in

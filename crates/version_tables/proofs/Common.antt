@@ -57,7 +57,7 @@ pub use Rattle.version_lags.specs.Pieces.{AreNumbersAt, AreNumbersOf, AreRoundNu
 pub use Rattle.version_tables.specs.Views.{AreSizes, HasOwnWrite, IsNextWrite, IsFirst, IsGreatest, IsKept, IsNumberOf, VersionTableView, entries_below, table_in, with_entry}
 pub use Rattle.version_tables.specs.inner.Beside.{AreAtRoundEnd, AreCellsOf, AreCellsUpto, tables_of_views, view_at}
 pub use Rattle.version_tables.specs.inner.Deltas.{AreLaidBoth, AreMarksOf, AreOfOneSize, delta_of_views, is_taken_at}
-pub use Rattle.version_tables.specs.inner.Histories.{AreHistories, AreKnown, AreNoWrites, AreOwners, IsBeginning, IsCounted, IsReadyExchange, IsWriteUnder, IsWrittenSoFar, bases_in}
+pub use Rattle.version_tables.specs.inner.Histories.{AreHistories, AreKnown, AreNoWrites, AreOwners, IsBeginning, IsReadyExchange, IsWriteUnder, IsWrittenSoFar, bases_in}
 pub use Rattle.version_tables.specs.inner.Merged.{BothStayMerged, HasMerged, HaveMerged, MayMerge, MayTakeAll}
 pub use Rattle.version_tables.specs.inner.Offered.{AreLow, AreOffered}
 pub use Rattle.version_tables.specs.inner.Taken.{AreTakenCells, HasTaken, HasTakenUnless, SendsNewer, SendsNoNewer, StaysOne, drop_start, drop_starts, is_taken}

@@ -1,6 +1,6 @@
 -- Tables beside the histories: the numbers that they hold are of writes made so far.
 -- Serves most of the crate.
-use Rattle.version_tables.proofs.Common.{◌≡◌, ℕ, suc, ◌<◌, ◌≤◌, List, length, Some, inl, inr, sym, ap, ◌∙◌, arith, Contains, cases_lt, Entry, Exchange, Rules, mark_held, entry_at, generation_held, write_from-here, write_numbered, all_writes, Cells, cell, HasCells, numbered-some, VersionTableView, HistoriesView, table_in, IsKept, AreLaidBoth, IsBeginning, IsReadyExchange, subst, current-numbered, get_or_append_left, OwnerListView, entries_of, AreWrites, IsPlaced, numbered-placed}
+use Rattle.version_tables.proofs.Common.{◌≡◌, ℕ, suc, ◌<◌, ◌≤◌, List, length, Some, inl, inr, sym, ap, ◌∙◌, arith, Contains, cases_lt, Entry, Exchange, Rules, mark_held, entry_at, generation_held, write_from-here, write_numbered, all_writes, Cells, cell, HasCells, numbered-some, VersionTableView, HistoriesView, table_in, IsKept, AreLaidBoth, IsBeginning, IsReadyExchange, subst, get_or_append_left, OwnerListView, entries_of, AreWrites, numbered-placed}
 use Rattle.version_tables.proofs.Laid.{has_cells}
 
 -- writes of earlier generations are of older ones than the owner's own

@@ -28,7 +28,7 @@ pub struct Histories<N: Number, H: Written> {
 }
 
 impl<N: Number, H: Written> Model for Histories<N, H> {
-    ghost use Rattle.std.specs.Prelude.{map};
+    ghost use Rattle.std.specs.Prelude.{length, map};
     ghost use Rattle.owner_writes.specs.inner.Codes.{list_code};
     ghost use Rattle.round_tables.specs.Histories.{HistoriesView, histories_code};
     ghost use Rattle.version_tables.specs.inner.Histories.{AreHistories};
@@ -40,8 +40,9 @@ impl<N: Number, H: Written> Model for Histories<N, H> {
     ghost view = { λ h. record { lists = h.lists.items; keys = h.keys; rounds = h.rounds } };
 
     ghost invariant = { λ h. AreHistories H.lists N.most
-        (record { lists = h.lists.items; keys = h.keys; rounds = h.rounds }) (map N.number h.counts.items)
-        (map N.number h.bases.items) (map N.number h.lasts.items) (map N.number h.ends.items) };
+        (record { lists = h.lists.items; keys = h.keys; rounds = h.rounds }) (length h.lists.items)
+        (map N.number h.counts.items) (map N.number h.bases.items) (map N.number h.lasts.items)
+        (map N.number h.ends.items) };
 }
 
 impl<N: Number, H: Written> Histories<N, H> {

@@ -1,5 +1,5 @@
 use Rattle.version_tables.proofs.Common.{rules, ◌≡◌, ◌<◌, ◌==◌, cond, length, set, map, subst, sym, transport, ◌∙◌, with_items_is, begun_generation, list_of_owner, ListBecomes, ArePlanesChanged, HistoriesView, number_kept}
-use Rattle.version_tables.proofs.HistoryCalls.{count-read, histories-begun, list-becomes, numbers-set}
+use Rattle.version_tables.proofs.HistoryCalls.{count-read, histories-begun, list-becomes, nodes-are, numbers-set}
 use Rattle.version_tables.proofs.histories.Histories.begin_generation.Given as given
 use Rattle.version_tables.proofs.histories.Histories.begin_generation.Goals as goal
 
@@ -18,7 +18,7 @@ invariant_of-self g c =
     let count : c.len.result ≡ length lists = search rules in
     let n = count-read number c.self.inside.counts.items c.self.invariant owner c.index-count.result.now (in_range g c) c.index-count.ensures in
     rw (with_items_is c.self.inside.lasts c.drop_owner.new.cells (c.drop_owner.auto.cells ∙ c.deref_mut.ensures.len))
-    (histories-begun c.self.invariant (set lists owner c.begin_generation.new.self) owner (in_range g c) _ (map number c.drop_owner.new.cells)
-    (becomes g c) (numbers-set number c.self.inside.bases.items owner c.index-count.result.now _ n)
+    (nodes-are (histories-begun c.self.invariant (set lists owner c.begin_generation.new.self) owner (in_range g c) (becomes g c)
+    (numbers-set number c.self.inside.bases.items owner c.index-count.result.now _ n)
     (transport (λ i. ArePlanesChanged (λ r k x y. y ≡ cond (r == owner) (number_kept ((c.widen.ensures ∙ n) i) x) x) (count i) c.self.inside.keys
-    (map number (c.deref_mut.ensures.value i)) (map number c.drop_owner.new.cells)) c.drop_owner.ensures))
+    (map number (c.deref_mut.ensures.value i)) (map number c.drop_owner.new.cells)) c.drop_owner.ensures)))

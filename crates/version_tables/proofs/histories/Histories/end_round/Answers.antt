@@ -4,5 +4,5 @@ use Rattle.version_tables.proofs.histories.Histories.end_round.Goals as goal
 
 pub invariant_of-self-2 : goal.invariant_of-self-2
 invariant_of-self-2 g c =
-    histories-ended c.self.invariant _ (numbers-appended g.N.Number.number _ _ _ _ c.in_ok-extend_from_slice.ensures.items c.deref.ensures.value)
+    histories-ended c.self.invariant (numbers-appended g.N.Number.number _ _ _ _ c.in_ok-extend_from_slice.ensures.items c.deref.ensures.value)
     (subst (λ (h : HistoriesView). h.rounds < MOST_ROUNDS) (sym c.self.view_is) c.requires)

@@ -1,5 +1,5 @@
 use Rattle.version_tables.proofs.Common.{rules, ◌≡◌, ◌+◌, ◌*◌, ◌<◌, length, map, set, ap, subst, sym, ◌∙◌, all_writes, list_of_owner, next_entry, with_write, ListBecomes, HistoriesView, IsWriteUnder}
-use Rattle.version_tables.proofs.HistoryCalls.{count-read, histories-written, list-becomes, numbers-set}
+use Rattle.version_tables.proofs.HistoryCalls.{count-read, histories-written, list-becomes, nodes-are, numbers-set}
 use Rattle.version_tables.proofs.histories.Histories.write.Given as given
 use Rattle.version_tables.proofs.histories.Histories.write.Goals as goal
 
@@ -18,12 +18,12 @@ invariant_of-self-2 g c =
     let lists = c.self.inside.lists.items in
     let owner = c.args.owner in
     let count : c.len-nodes.result ≡ length lists = search rules in
-    histories-written c.self.invariant (set lists owner c.write.new.self) owner (in_range g c) c.args.key c.args.value _ _ (becomes g c)
+    nodes-are (histories-written c.self.invariant (set lists owner c.write.new.self) owner (in_range g c) c.args.key c.args.value (becomes g c)
     (subst (λ (h : HistoriesView). IsWriteUnder g.H.Written.lists g.N.Number.most owner (length (all_writes h.lists owner) + 1) (next_entry (list_of_owner h.lists owner) c.args.key c.args.value (h.rounds + 1))) (sym c.self.view_is) c.requires.under)
     (subst (λ (h : HistoriesView). c.args.key < h.keys) (sym c.self.view_is) c.requires.key_below)
     (numbers-set g.N.Number.number _ owner c.plus-number.result _ (counted g c))
     (numbers-set g.N.Number.number _ (c.args.key * c.len-nodes.result + owner) c.plus-number.result _ (counted g c)
-    ∙ ap (λ n. set (map g.N.Number.number c.self.inside.lasts.items) (c.args.key * n + owner) (length (all_writes lists owner) + 1)) count)
+    ∙ ap (λ n. set (map g.N.Number.number c.self.inside.lasts.items) (c.args.key * n + owner) (length (all_writes lists owner) + 1)) count))
 
 pub returns-clause-number : goal.returns-clause-number
 returns-clause-number g c = subst (λ (h : HistoriesView). g.N.Number.number c.plus-number.result ≡ length (all_writes h.lists c.args.owner) + 1) c.self.view_is (counted g c)

@@ -1,6 +1,6 @@
 -- How many owners and entries a table of versions holds.
 -- Serves `digest_size`.
-use Rattle.version_tables.proofs.Common.{◌≡◌, ℕ, zero, suc, ◌+◌, ◌<◌, ◌≤◌, Bool, cond, nat_lt, List, length, map, map-id, Some, inl, inr, refl, sym, ap, ◌∙◌, arith, count_by, slice_index, entries, len-entries, range_with_len, cases_lt, lt-ltb, le-ltb, length-map, sum_by-map-range_with_len_more, Entry, Item, Mark, Scuttle, Precise, IsUpTo, mark_held, Table, entry_at, items_of, item_of, mark_at, greatest_mark, greatest_version, greatest_mark-none, mark_at-up_to_greatest, write_numbered, cell, sum_below, sum_below-same, total-places, digest_size, sum_by-ones, number_here, number_there, items_sum, numbered-some, VersionTableView, table_in, IsKept}
+use Rattle.version_tables.proofs.Common.{nat_tests, ◌≡◌, ℕ, zero, suc, ◌+◌, ◌<◌, ◌≤◌, Bool, cond, nat_lt, List, length, map, map-id, Some, inl, inr, refl, sym, ap, ◌∙◌, arith, count_by, slice_index, entries, len-entries, range_with_len, cases_lt, lt-ltb, le-ltb, length-map, sum_by-map-range_with_len_more, Entry, Item, Mark, Scuttle, Precise, IsUpTo, mark_held, Table, entry_at, items_of, item_of, mark_at, greatest_mark, greatest_version, greatest_mark-none, mark_at-up_to_greatest, write_numbered, cell, sum_below, sum_below-same, total-places, digest_size, sum_by-ones, number_here, number_there, items_sum, numbered-some, VersionTableView, table_in, IsKept}
 use Rattle.version_tables.proofs.Laid.{has_cells}
 
 count-range : (p : ℕ → Bool) (n : ℕ) → count_by p (map (λ i. i) (range_with_len 0 n)) ≡ sum_below n (λ i. cond (p i) 1 0)
@@ -41,31 +41,30 @@ module _ (written : ℕ → List Entry) (v : VersionTableView) (kept : IsKept wr
 
   -- owners of whom something is held
   owner_here : (r : ℕ) → r < v.nodes → nat_lt 0 (slice_index v.greatest r) ≡ nat_lt 0 (greatest_version t r)
-  owner_here r in_nodes = elim (cases_lt 0 (slice_index v.greatest r)) [
-    | inr not_some ↦
-        le-ltb 0 (slice_index v.greatest r) (omega (arith, not_some))
-        ∙ sym (le-ltb 0 (greatest_version t r) (omega (
-          arith,
-          ap (λ (m : Mark). m.version) (greatest_mark-none t r
-              (λ key lt. has r key in_nodes lt ∙ ap (write_numbered (written r)) {x = number r key} {y = 0}
-              (omega (arith, not_some, (kept.most.each r in_nodes).upto key lt)))),
-        )))
-    | inl some ↦ elim (kept.most.each r in_nodes).held [
-      | inl none ↦ absurd (omega (arith, none, some))
-      | inr (key, lt, is) ↦
-          let there = numbered-some (written r) (number r key) (omega (arith, is, some)) (kept.numbers.each r key in_nodes lt).written in
-          let held : entry_at t r key ≡ Some there.0 = has r key in_nodes lt ∙ there.1 in
-          let upto : IsUpTo (mark_at t r key) (greatest_mark t r) = mark_at-up_to_greatest t r key lt in
-          let mark : mark_at t r key ≡ mark_held (Some there.0) = ap mark_held held in
-          lt-ltb 0 (slice_index v.greatest r) some
-          ∙ sym (lt-ltb 0 (greatest_version t r) (omega (
-            arith,
-            (kept.proper.in_place r key there.0 held).written,
-            ap (λ (m : Mark). m.version) mark,
-            upto.version (omega (arith, ap (λ (m : Mark). m.generation) mark, kept.proper.copies r key there.0 held)),
-          )))
-    ]
-  ]
+  owner_here r in_nodes =
+      let most = kept.most.each r in_nodes in
+      elim (cases_lt 0 (slice_index v.greatest r)) [
+        | inr not_some ↦
+            let nothing = greatest_mark-none t r (λ key lt.
+            has r key in_nodes lt ∙ ap (write_numbered (written r)) {x = number r key} {y = 0} (omega (arith, not_some, most.upto key lt))) in
+            let version = ap (λ (m : Mark). m.version) nothing in
+            grind (arith, nat_tests)
+        | inl some ↦ elim most.held [
+          | inl none ↦ absurd (omega (arith, none, some))
+          | inr (key, lt, is) ↦
+              let there = numbered-some (written r) (number r key) (omega (arith, is, some)) (kept.numbers.each r key in_nodes lt).written in
+              let held : entry_at t r key ≡ Some there.0 = has r key in_nodes lt ∙ there.1 in
+              let mark : mark_at t r key ≡ mark_held (Some there.0) = ap mark_held held in
+              let later = (mark_at-up_to_greatest t r key lt).version in
+              let version : 0 < greatest_version t r = omega (
+                arith,
+                (kept.proper.in_place r key there.0 held).written,
+                ap (λ (m : Mark). m.version) mark,
+                later (omega (arith, ap (λ (m : Mark). m.generation) mark, kept.proper.copies r key there.0 held)),
+              ) in
+              grind (arith, nat_tests)
+        ]
+      ]
 
   pub owners-size : sum_below (length v.greatest) (λ r. cond (nat_lt 0 (slice_index v.greatest r)) 1 0) ≡ digest_size Scuttle t
   owners-size =

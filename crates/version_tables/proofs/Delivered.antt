@@ -6,9 +6,11 @@ use Rattle.version_tables.proofs.Told.{told-offers, offered-is, offered-upto}
 
 -- what a receiver takes by the marks of a delta is what these let through of what is offered
 taken-by : (kind : DigestKind) (first : First) (sender receiver : Cells) (low mark high : List ℕ) (owner key : ℕ)
-    → (kind ≡ Scuttle → receiver owner key ≤ get_or low owner 0) → (first ≡ Newest → get_or low owner 0 ≤ get_or mark owner 0) → sender owner key ≤ get_or high owner 0
+    → (kind ≡ Scuttle → receiver owner key ≤ get_or low owner 0) → (first ≡ Newest → get_or low owner 0 ≤ get_or mark owner 0)
+    → sender owner key ≤ get_or high owner 0
     → is_taken (receiver owner key) (sender owner key) (get_or (by_first first low mark) owner 0) (get_or (by_first first mark high) owner 0)
-    ≡ (nat_lt (get_or low owner 0) (offered_by kind sender receiver (λ r. get_or low r 0) owner key) && lets_through first (get_or mark owner 0) (offered_by kind sender receiver (λ r. get_or low r 0) owner key))
+    ≡ (nat_lt (get_or low owner 0) (offered_by kind sender receiver (λ r. get_or low r 0) owner key) && lets_through first (get_or mark owner 0)
+    (offered_by kind sender receiver (λ r. get_or low r 0) owner key))
 taken-by Scuttle Oldest sender receiver low mark high owner key told above upto = let le = told refl in grind (arith, nat_tests)
 taken-by Scuttle Newest sender receiver low mark high owner key told above upto = let le = told refl in let keeps = above refl in grind (arith, nat_tests)
 taken-by Precise Oldest sender receiver low mark high owner key told above upto = grind (arith, nat_tests)
@@ -126,7 +128,8 @@ module _ {N : Type 0} (number : N → ℕ) {written : ℕ → List Entry} {most 
   })
 
   -- what marks let through of the offer is the delta
-  module _ (rotation : ℕ) (in_nodes : rotation < from.nodes) (mark : List ℕ) (sent cut : ℕ) (marked_is : AreMarked rules.mode rotation number given (λ r. get_or mark r 0) sent cut) where
+  module _ (rotation : ℕ) (in_nodes : rotation < from.nodes) (mark : List ℕ) (sent cut : ℕ)
+      (marked_is : AreMarked rules.mode rotation number given (λ r. get_or mark r 0) sent cut) where
     abbrev m : ℕ → ℕ
     m r = get_or mark r 0
 
@@ -143,7 +146,8 @@ module _ {N : Type 0} (number : N → ℕ) {written : ℕ → List Entry} {most 
     has = elim marked.how [
       | inl all ↦
           whole-sent given_is in_nodes covered m marked.above rules.budget
-          (λ c in_c. all.all c.owner c.entry.key (candidate-place given_is c in_c).owner_below (candidate-place given_is c in_c).key_below (candidate-number given_is c in_c).0) all.within
+          (λ c in_c. all.all c.owner c.entry.key (candidate-place given_is c in_c).owner_below (candidate-place given_is c in_c).key_below
+          (candidate-number given_is c in_c).0) all.within
       | inr level ↦ shared-sent given_is in_nodes covered m marked.above rules.budget level.shape level.shared.stop level.shared.within level.shared.beyond
     ]
 
@@ -160,9 +164,11 @@ module _ {N : Type 0} (number : N → ℕ) {written : ℕ → List Entry} {most 
     ]
 
     taken-is : (owner key : ℕ) → owner < from.nodes → key < from.keys
-        → is_taken_at from to (by_first first (map number given.low.now) mark) (by_first first mark (map number given.high.now)) owner key ≡ (nat_lt (low owner) (cells owner key) && lets_through first (m owner) (cells owner key))
+        → is_taken_at from to (by_first first (map number given.low.now) mark) (by_first first mark (map number given.high.now)) owner key ≡
+        (nat_lt (low owner) (cells owner key) && lets_through first (m owner) (cells owner key))
     taken-is owner key lt in_keys =
-        taken-by kind first sender receiver (map number given.low.now) mark (map number given.high.now) owner key (told-upto owner key (omega (arith, lt, two.both.size.nodes)) (omega (arith, in_keys, two.both.size.keys)))
+        taken-by kind first sender receiver (map number given.low.now) mark (map number given.high.now) owner key
+        (told-upto owner key (omega (arith, lt, two.both.size.nodes)) (omega (arith, in_keys, two.both.size.keys)))
         (λ is_newest. subst (λ f. KeepsLow f from.nodes low m) is_newest marked.above owner lt) (sender-high owner key lt in_keys)
         ∙ (λ i. nat_lt (low owner) (sym (is.offered.each owner key lt in_keys) i) && lets_through first (m owner)
         (sym (is.offered.each owner key lt in_keys) i))
@@ -181,7 +187,8 @@ module _ {N : Type 0} (number : N → ℕ) {written : ℕ → List Entry} {most 
         }
 
 -- what is told makes low marks: of the receiver itself the most, which no number is
-pub told-low : {written : ℕ → List Entry} {most : ℕ} {h : HistoriesView} {from to : VersionTableView} (two : AreLaidBoth written most h from to) (kind : DigestKind) (low : List ℕ)
+pub told-low : {written : ℕ → List Entry} {most : ℕ} {h : HistoriesView} {from to : VersionTableView} (two : AreLaidBoth written most h from to)
+    (kind : DigestKind) (low : List ℕ)
     → HasEach (length h.lists) (λ r n. n ≡ told_number kind most to.node (all_writes h.lists) (λ r. get_or to.greatest r 0) r) low → AreLow kind h from to low
 told-low {most = most} {h = h} {from = from} {to = to} two kind low told = record {
   count = told.size ∙ sym two.both.second.nodes;

@@ -26,7 +26,8 @@ module _ (written : ℕ → List Entry) (v : VersionTableView) (kept : IsKept wr
     where
       counted : (n : ℕ) → n ≤ length (written owner) → number_here (λ _. 1) owner (write_numbered (written owner) n) ≡ cond (nat_lt 0 n) 1 0
       counted zero le = refl
-      counted (suc place) le = ap (number_here (λ _. 1) owner) (numbered-some (written owner) (suc place) (omega arith) le).1 ∙ sym (rw (lt-ltb 0 (suc place) (omega arith)))
+      counted (suc place) le = ap (number_here (λ _. 1) owner) (numbered-some (written owner) (suc place) (omega arith) le).1
+          ∙ sym (rw (lt-ltb 0 (suc place) (omega arith)))
 
   -- entries held
   pub held-size : sum_below (length v.cells) (λ i. cond (nat_lt 0 (slice_index v.cells i)) 1 0) ≡ digest_size Precise t

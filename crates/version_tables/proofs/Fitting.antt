@@ -17,7 +17,8 @@ module _ (written : ℕ → List Entry) (v : VersionTableView) (kept : IsKept wr
   cells = cell v.cells v.nodes
 
   -- numbers of writes so far, where the table holds no others of an owner, are up to their count
-  pub so-far-upto : (so_far : List Entry) (owner : ℕ) → IsBeginning so_far (written owner) → ((key : ℕ) (e : Entry) → entry_at (table_in written v) owner key ≡ Some e → Contains so_far e)
+  pub so-far-upto : (so_far : List Entry) (owner : ℕ) → IsBeginning so_far (written owner)
+      → ((key : ℕ) (e : Entry) → entry_at (table_in written v) owner key ≡ Some e → Contains so_far e)
       → (key : ℕ) → owner < v.nodes → key < v.keys → cells owner key ≤ length so_far
   so-far-upto so_far owner begins holds key in_nodes in_keys = elim (cases_lt 0 (cells owner key)) [
     | inr none ↦ omega (arith, none)
@@ -71,7 +72,8 @@ module _ {written : ℕ → List Entry} {most : ℕ} {h : HistoriesView} {from t
 
   -- one that isn't 0 is of a write that it holds, of its copy's generation
   pub first-held : (owner key : ℕ) → owner < from.nodes → key < from.keys → 0 < numbers owner key
-      → (e : Entry) × (write_numbered (all_writes h.lists owner) (numbers owner key) ≡ Some e) × (entry_at (table_in written from) owner key ≡ Some e) × (generation_of (all_writes h.lists owner) (numbers owner key) ≡ generation_held (table_in written from) owner)
+      → (e : Entry) × (write_numbered (all_writes h.lists owner) (numbers owner key) ≡ Some e) × (entry_at (table_in written from) owner key ≡ Some e) ×
+      (generation_of (all_writes h.lists owner) (numbers owner key) ≡ generation_held (table_in written from) owner)
   first-held owner key in_nodes in_keys some =
       let there = numbered-some (all_writes h.lists owner) (numbers owner key) some (first-upto owner key in_nodes in_keys) in
       let held = first-cells owner key in_nodes in_keys ∙ there.1 in

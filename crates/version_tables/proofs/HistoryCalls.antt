@@ -136,7 +136,8 @@ module _ {all : List Entry} {most rounds : ℕ} {v : OwnerListView} (key value :
         (λ m d _ is some. parts.above m d some is) (λ _ _. omega (arith, upto)) number d is_d some;
   }
 
-module _ {written : ℕ → List Entry} {most : ℕ} {h : HistoriesView} {nodes : ℕ} {counts bases lasts ends : List ℕ} (kept : AreHistories written most h nodes counts bases lasts ends) where
+module _ {written : ℕ → List Entry} {most : ℕ} {h : HistoriesView} {nodes : ℕ} {counts bases lasts ends : List ℕ}
+    (kept : AreHistories written most h nodes counts bases lasts ends) where
   abbrev lists : List OwnerListView
   lists = h.lists
 
@@ -268,11 +269,13 @@ module _ {written : ℕ → List Entry} {most : ℕ} {h : HistoriesView} {nodes 
   module _ (owner : ℕ) (lt : owner < nodes) where
     row-before : (round : ℕ) → round ≤ rounds → cell (ends ++ counts) nodes owner round ≡ cell ends nodes owner round
     row-before round upto =
-        get_or_append_left ends counts 0 (round * nodes + owner) (omega (arith, place-within nodes (rounds + 1) owner round lt (omega (arith, upto)), kept.ends_size))
+        get_or_append_left ends counts 0 (round * nodes + owner)
+        (omega (arith, place-within nodes (rounds + 1) owner round lt (omega (arith, upto)), kept.ends_size))
 
     row-last : (round : ℕ) → round ≡ rounds + 1 → cell (ends ++ counts) nodes owner round ≡ length (all_writes lists owner)
     row-last round last =
-        ap (λ i. get_or (ends ++ counts) i 0) {x = round * nodes + owner} {y = length ends + owner} (omega (arith, ap (λ (n : ℕ). n * nodes) last, kept.ends_size))
+        ap (λ i. get_or (ends ++ counts) i 0) {x = round * nodes + owner} {y = length ends + owner}
+        (omega (arith, ap (λ (n : ℕ). n * nodes) last, kept.ends_size))
         ∙ get_or-append-add ends counts owner 0 ∙ kept.counted.each owner lt
 
     each-round : (P : ℕ → ℕ → Type 0) → ((round : ℕ) → round ≤ rounds → P round (cell ends nodes owner round))
@@ -292,12 +295,14 @@ module _ {written : ℕ → List Entry} {most : ℕ} {h : HistoriesView} {nodes 
     ]
 
     parts-ended : (round : ℕ) → round ≤ rounds + 1 → IsRoundMark (all_writes lists owner) 0 round (cell (ends ++ counts) nodes owner round)
-    parts-ended = each-round (λ round mark. IsRoundMark (all_writes lists owner) 0 round mark) (λ round. kept.ended.parts owner round lt) (λ round last. record {
-      upto = λ number d some is le. omega (arith, (kept.known.so_far owner).made.last number d is, last);
-      above = λ number d some is behind. absurd (omega (arith, behind, (numbered-within (all_writes lists owner) number d is).1));
-    })
+    parts-ended = each-round (λ round mark. IsRoundMark (all_writes lists owner) 0 round mark) (λ round. kept.ended.parts owner round lt)
+        (λ round last. record {
+          upto = λ number d some is le. omega (arith, (kept.known.so_far owner).made.last number d is, last);
+          above = λ number d some is behind. absurd (omega (arith, behind, (numbered-within (all_writes lists owner) number d is).1));
+        })
 
-  pub histories-ended : {ends' : List ℕ} → ends' ≡ ends ++ counts → rounds < MOST_ROUNDS → AreHistories written most (round_ended h) nodes counts bases lasts ends'
+  pub histories-ended : {ends' : List ℕ} → ends' ≡ ends ++ counts → rounds < MOST_ROUNDS
+      → AreHistories written most (round_ended h) nodes counts bases lasts ends'
   histories-ended is left = subst (AreHistories written most (round_ended h) nodes counts bases lasts) (sym is) (record {
     count = kept.count;
     limits = record { few_nodes = kept.limits.few_nodes; some_key = kept.limits.some_key; few_keys = kept.limits.few_keys; few_rounds = omega (arith, left) };
@@ -322,7 +327,8 @@ module _ {written : ℕ → List Entry} {most : ℕ} {h : HistoriesView} {nodes 
       rise = λ owner round lt. rise-ended owner lt round;
       parts = λ owner round lt. parts-ended owner lt round;
     };
-    reached = λ owner round lt. each-round owner lt (λ _ mark. mark ≤ length (all_writes lists owner)) (λ round. kept.reached owner round lt) (λ _ _. omega arith) round;
+    reached = λ owner round lt. each-round owner lt (λ _ mark. mark ≤ length (all_writes lists owner)) (λ round. kept.reached owner round lt)
+        (λ _ _. omega arith) round;
   })
 
 -- there are as many lists as nodes
@@ -356,37 +362,43 @@ pub histories-empty : (written : ℕ → List Entry) (most nodes keys : ℕ) (li
     → AreSizes nodes keys → AreNoWrites nodes lists → HasEach nodes (λ r n. n ≡ 0) counts → HasEach nodes (λ r n. n ≡ 0) bases
     → HasEach (keys * nodes) (λ r n. n ≡ 0) lasts → HasEach nodes (λ r n. n ≡ 0) ends
     → AreHistories written most (record { lists = lists; keys = keys; rounds = 0 }) nodes counts bases lasts ends
-histories-empty written most nodes keys lists {counts = counts} {bases = bases} {lasts = lasts} {ends = ends} some sizes nothing no_counts no_bases no_lasts no_ends = record {
-  count = nothing.count;
-  limits = record { few_nodes = omega (arith, sizes.few_nodes, nothing.count); some_key = sizes.some_key; few_keys = sizes.few_keys; few_rounds = omega arith };
-  known = record {
-    so_far = λ r. of-none (λ v. IsWrittenSoFar (written r) most 0 (entries_of v)) r (so_far-none (written r) most some);
-    writes = λ r. of-none AreWrites r (record {
-      current = λ i d lt. absurd (omega (arith, lt));
-      earlier = λ i d lt. absurd (omega (arith, lt));
-      rising = λ i j d lt in_range. absurd (omega (arith, in_range));
-    });
-  };
-  counted = record { size = no_counts.size; each = λ r lt. of-none (λ v. get_or counts r 0 ≡ length (entries_of v)) r (no_counts.each r lt) };
-  based = record { size = no_bases.size; each = λ r lt. of-none (λ v. get_or bases r 0 ≡ length v.earlier) r (no_bases.each r lt) };
-  last = record {
-    size = no_lasts.size;
-    each = λ r k lt in_keys. of-none (λ v. IsLastNumber v k (cell lasts nodes r k)) r
-        (subst (IsLastNumber no_writes k) (sym (no_lasts.each (k * nodes + r) (place-within nodes keys r k lt in_keys))) (record {
-          written = omega arith;
-          last = λ m d missed. none-written m d missed.written;
-          there = λ below under. absurd (omega (arith, under));
-        }));
-  };
-  ends_size = omega (arith, no_ends.size);
-  ended = record {
-    none = λ r lt. row r 0 lt (omega arith);
-    rise = λ r round lt before. absurd (omega (arith, before));
-    parts = λ r round lt upto. of-none (λ v. IsRoundMark (entries_of v) 0 round (cell ends nodes r round)) r
-        (record { upto = λ n e _ is _. none-written n e is; above = λ n e _ is _. none-written n e is });
-  };
-  reached = λ r round lt upto. omega (arith, row r round lt upto);
-}
+histories-empty written most nodes keys lists {counts = counts} {bases = bases} {lasts = lasts}
+    {ends = ends} some sizes nothing no_counts no_bases no_lasts no_ends = record {
+      count = nothing.count;
+      limits = record {
+        few_nodes = omega (arith, sizes.few_nodes, nothing.count);
+        some_key = sizes.some_key;
+        few_keys = sizes.few_keys;
+        few_rounds = omega arith;
+      };
+      known = record {
+        so_far = λ r. of-none (λ v. IsWrittenSoFar (written r) most 0 (entries_of v)) r (so_far-none (written r) most some);
+        writes = λ r. of-none AreWrites r (record {
+          current = λ i d lt. absurd (omega (arith, lt));
+          earlier = λ i d lt. absurd (omega (arith, lt));
+          rising = λ i j d lt in_range. absurd (omega (arith, in_range));
+        });
+      };
+      counted = record { size = no_counts.size; each = λ r lt. of-none (λ v. get_or counts r 0 ≡ length (entries_of v)) r (no_counts.each r lt) };
+      based = record { size = no_bases.size; each = λ r lt. of-none (λ v. get_or bases r 0 ≡ length v.earlier) r (no_bases.each r lt) };
+      last = record {
+        size = no_lasts.size;
+        each = λ r k lt in_keys. of-none (λ v. IsLastNumber v k (cell lasts nodes r k)) r
+            (subst (IsLastNumber no_writes k) (sym (no_lasts.each (k * nodes + r) (place-within nodes keys r k lt in_keys))) (record {
+              written = omega arith;
+              last = λ m d missed. none-written m d missed.written;
+              there = λ below under. absurd (omega (arith, under));
+            }));
+      };
+      ends_size = omega (arith, no_ends.size);
+      ended = record {
+        none = λ r lt. row r 0 lt (omega arith);
+        rise = λ r round lt before. absurd (omega (arith, before));
+        parts = λ r round lt upto. of-none (λ v. IsRoundMark (entries_of v) 0 round (cell ends nodes r round)) r
+            (record { upto = λ n e _ is _. none-written n e is; above = λ n e _ is _. none-written n e is });
+      };
+      reached = λ r round lt upto. omega (arith, row r round lt upto);
+    }
   where
     of-none : (P : OwnerListView → Type 0) (r : ℕ) → P no_writes → P (list_of_owner lists r)
     of-none P r = subst P (sym (nothing.empty r))
@@ -396,7 +408,8 @@ histories-empty written most nodes keys lists {counts = counts} {bases = bases} 
         (omega (arith, ap (λ (n : ℕ). n * nodes) {x = round} {y = 0} (omega (arith, upto)))) (no_ends.each r lt)
 
 -- what is read at an owner's place is its list, and to set it changes that alone
-pub list-becomes : (lists : List OwnerListView) (owner : ℕ) (held list : OwnerListView) (f : OwnerListView → OwnerListView) → owner < length lists → held ≡ get_or lists owner held → list ≡ f held
+pub list-becomes : (lists : List OwnerListView) (owner : ℕ) (held list : OwnerListView) (f : OwnerListView → OwnerListView) → owner < length lists
+    → held ≡ get_or lists owner held → list ≡ f held
     → ListBecomes owner (f (list_of_owner lists owner)) lists (set lists owner list)
 list-becomes lists owner held list f lt here is = record {
   count = length-set lists owner list;
@@ -405,9 +418,11 @@ list-becomes lists owner held list f lt here is = record {
 }
 
 -- one number is set
-pub numbers-set : {A : Type 0} (number : A → ℕ) (xs : List A) (owner : ℕ) (x : A) (n : ℕ) → number x ≡ n → map number (set xs owner x) ≡ set (map number xs) owner n
+pub numbers-set : {A : Type 0} (number : A → ℕ) (xs : List A) (owner : ℕ) (x : A) (n : ℕ) → number x ≡ n
+    → map number (set xs owner x) ≡ set (map number xs) owner n
 numbers-set number xs owner x n is = map-set number xs owner x ∙ ap (set (map number xs) owner) is
 
 -- numbers behind others
-pub numbers-appended : {A : Type 0} (number : A → ℕ) (old held more new : List A) → new ≡ old ++ held → held ≡ more → map number new ≡ map number old ++ map number more
+pub numbers-appended : {A : Type 0} (number : A → ℕ) (old held more new : List A) → new ≡ old ++ held → held ≡ more
+    → map number new ≡ map number old ++ map number more
 numbers-appended number old held more new is same = ap (map number) (is ∙ ap (λ xs. old ++ xs) same) ∙ map-append number old more

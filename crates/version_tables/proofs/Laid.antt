@@ -2,7 +2,8 @@
 -- Serves most of the crate.
 use Rattle.version_tables.proofs.Common.{◌≡◌, ◌≢◌, ℕ, zero, suc, ◌<◌, ◌≤◌, cond, nat_tests, eqb, ltb, List, [], length, map, Vec, Option, Some, None, ◌⊎◌, inl, inr, refl, sym, ap, ◌∙◌, subst, transport, arith, range_with_len, with_items, cases_lt, cases_eq, eq-eqb, ne_eqb, lt-ltb, le-ltb, get_or_past, with_items_is, none-some, get_or-map-range_with_len, length-map-range_with_len, Entry, Table, entry_at, IsProper, KeepsFrame, same_table, entry_in, get-held_by_lists, HasCells, write_numbered, cell, HasEach, HasEachPlace, with_entry, entries_below, VersionTableView, table_in, IsNumberOf, IsGreatest, IsKept}
 
-module _ (writes : List Entry) (numbers : ℕ → ℕ) (keys : ℕ) (keyed : (key : ℕ) (e : Entry) → key < keys → write_numbered writes (numbers key) ≡ Some e → e.key ≡ key) where
+module _ (writes : List Entry) (numbers : ℕ → ℕ) (keys : ℕ)
+    (keyed : (key : ℕ) (e : Entry) → key < keys → write_numbered writes (numbers key) ≡ Some e → e.key ≡ key) where
   abbrev held : ℕ → Option Entry
   held key = write_numbered writes (numbers key)
 

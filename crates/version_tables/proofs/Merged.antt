@@ -8,7 +8,8 @@ use Rattle.version_tables.proofs.TakenEntries.{after}
 use Rattle.version_tables.proofs.TakenViews.{becomes}
 
 -- marks that let all through are the high ones, or from the newest on the low ones, beside which are the others
-whole-marks : (first : First) (low high : List ℕ) (P : List ℕ → List ℕ → Type 0) → P (by_first first low (by_first first high low)) (by_first first (by_first first high low) high) → P low high
+whole-marks : (first : First) (low high : List ℕ) (P : List ℕ → List ℕ → Type 0)
+    → P (by_first first low (by_first first high low)) (by_first first (by_first first high low) high) → P low high
 whole-marks Oldest low high P are = are
 whole-marks Newest low high P are = are
 
@@ -19,7 +20,12 @@ module _ (cells : Cells) (owner : ℕ) where
   one-between (suc keys) low high le differ = elim (part-cases (λ _. 1) low high (cells owner keys)) [
     | inr none ↦ omega (arith, none, one-between keys low high le (λ k l k_lt l_lt. differ k l (omega (arith, k_lt)) (omega (arith, l_lt))))
     | inl here ↦
-        omega (arith, here.2, sum_below-none keys (λ key. part (λ _. 1) low high (cells owner key)) (λ key lt. let apart = differ key keys (omega (arith, lt)) (omega arith) in grind (arith, nat_tests)))
+        omega (
+          arith,
+          here.2,
+          sum_below-none keys (λ key. part (λ _. 1) low high (cells owner key))
+              (λ key lt. let apart = differ key keys (omega (arith, lt)) (omega arith) in grind (arith, nat_tests)),
+        )
   ]
 
   few-upto : (keys apart low high : ℕ) → high ≤ low + apart → NumbersDiffer cells keys owner → count_between cells keys owner low high ≤ apart
@@ -38,7 +44,8 @@ largest-share (Entries n) (Some e) = omega arith
 largest-share (Bytes n) None = omega arith
 largest-share (Bytes n) (Some e) = omega arith
 
-module _ (rules : Rules) (rotation : ℕ) {written : ℕ → List Entry} {most : ℕ} {h : HistoriesView} {from to : VersionTableView} (two : AreLaidBoth written most h from to)
+module _ (rules : Rules) (rotation : ℕ) {written : ℕ → List Entry} {most : ℕ} {h : HistoriesView} {from to : VersionTableView}
+    (two : AreLaidBoth written most h from to)
     (in_nodes : rotation < from.nodes) (scuttle : digest_kind rules.mode ≡ Scuttle) (may : MayTakeAll rules.budget (bases_in h.lists) from to) where
   abbrev id : ℕ → ℕ
   id n = n
@@ -90,7 +97,12 @@ module _ (rules : Rules) (rotation : ℕ) {written : ℕ → List Entry} {most :
   count = count_all_between cells from.nodes from.keys low high
 
   count-few : count ≤ most_ahead from.nodes from.keys from.greatest to.greatest
-  count-few = sum_below-le from.nodes _ _ (λ r lt. omega (arith, few-upto cells r from.keys (high r - low r) (low r) (high r) (omega arith) (simp map-id at (is-offer.differ r lt)), count_between-most cells from.keys r (low r) (high r)))
+  count-few = sum_below-le from.nodes _ _ (λ r lt. omega (
+    arith,
+    few-upto cells r from.keys (high r - low r) (low r) (high r) (omega arith)
+        (simp map-id at (is-offer.differ r lt)),
+    count_between-most cells from.keys r (low r) (high r),
+  ))
 
   same-total : total_above from.nodes from.keys from.cells to.greatest ≡ count
   same-total = simp map-id at is-offer.found
@@ -98,16 +110,24 @@ module _ (rules : Rules) (rotation : ℕ) {written : ℕ → List Entry} {most :
   -- so all of it fits
   within : weight_between (number_shares rules.budget (all_writes h.lists)) cells from.nodes from.keys low high ≤ amount_of rules.budget
   within =
-      let weighs = weight_between-most (number_shares rules.budget (all_writes h.lists)) (largest_share rules.budget) cells from.nodes from.keys low high (λ owner number. largest-share rules.budget (write_numbered (all_writes h.lists owner) number)) in
+      let weighs = weight_between-most (number_shares rules.budget (all_writes h.lists)) (largest_share rules.budget) cells from.nodes from.keys low high
+      (λ owner number. largest-share rules.budget (write_numbered (all_writes h.lists owner) number)) in
       elim may.fits [
-        | inl apart ↦ omega (arith, weighs, mul-le-mul_right {m = count} {n = most_ahead from.nodes from.keys from.greatest to.greatest} (largest_share rules.budget) count-few, apart)
+        | inl apart ↦ omega (
+          arith,
+          weighs,
+          mul-le-mul_right {m = count} {n = most_ahead from.nodes from.keys from.greatest to.greatest}
+              (largest_share rules.budget) count-few,
+          apart,
+        )
         | inr counted ↦ omega (arith, weighs, rw same-total at counted)
       ]
 
   pub marks-of : AreMarksOf rules rotation written from to to.greatest from.greatest (total_above from.nodes from.keys from.cells to.greatest) 0
   marks-of =
       let whole = by_first (first_sent rules.mode) from.greatest to.greatest in
-      whole-marks (first_sent rules.mode) to.greatest from.greatest (λ xs ys. AreMarksOf rules rotation written from to xs ys (total_above from.nodes from.keys from.cells to.greatest) 0)
+      whole-marks (first_sent rules.mode) to.greatest from.greatest
+      (λ xs ys. AreMarksOf rules rotation written from to xs ys (total_above from.nodes from.keys from.cells to.greatest) 0)
       (simp map-id at (delta-marks id two rules all of-all rotation in_nodes (map id whole) (total_above from.nodes from.keys from.cells to.greatest) 0
       (whole-marked id most all is-offer rotation (simp map-id within) rules.mode whole refl)
       (whole-size id most all is-offer (first_sent rules.mode) (map id whole) (simp map-id))))
@@ -159,7 +179,8 @@ module _ (rules : Rules) (rotation : ℕ) {written : ℕ → List Entry} {most :
     merged-lies = becomes two marks-of (λ _ _ _ _. refl) taken
 
 -- both tables take all
-module _ (rules : Rules) (e : Exchange) {written : ℕ → List Entry} {most : ℕ} {h : HistoriesView} {p q : VersionTableView} (two : AreLaidBoth written most h p q) (in_nodes : e.rotation < p.nodes) (may : MayMerge rules h p q) where
+module _ (rules : Rules) (e : Exchange) {written : ℕ → List Entry} {most : ℕ} {h : HistoriesView} {p q : VersionTableView}
+    (two : AreLaidBoth written most h p q) (in_nodes : e.rotation < p.nodes) (may : MayMerge rules h p q) where
   turns : e.rotation < q.nodes
   turns = omega (arith, in_nodes, two.both.size.nodes)
 
@@ -172,12 +193,14 @@ module _ (rules : Rules) (e : Exchange) {written : ℕ → List Entry} {most : �
 
   pub merged-whole : {p' q' : VersionTableView} {came : BothCounts} → HaveMerged p q p' q' came
       → (d1 d2 : ℕ) → d1 ≡ digest_size (digest_kind rules.mode) (table_in written p) → d2 ≡ digest_size (digest_kind rules.mode) (table_in written q)
-      → e.lost1 ≡ false → e.lost2 ≡ false → e.lost3 ≡ false → (r : Record) → ((b f : DeltaView) → came.first ≡ length b.items → 0 ≡ b.cut → came.second ≡ length f.items → 0 ≡ f.cut → r ≡ sent_until (last_fate false) d1 d2 b f)
+      → e.lost1 ≡ false → e.lost2 ≡ false → e.lost3 ≡ false → (r : Record)
+      → ((b f : DeltaView) → came.first ≡ length b.items → 0 ≡ b.cut → came.second ≡ length f.items → 0 ≡ f.cut → r ≡ sent_until (last_fate false) d1 d2 b f)
       → MakesOf (table_in written) rules e p q p' q' r
   merged-whole have d1 d2 d1_is d2_is first second third r sent =
       let back = marks-of rules e.rotation (turned two) turns may.kind may.back in
       let forth = marks-of rules e.rotation two in_nodes may.kind may.forth in
       let p_is = lies-table (merged-lies rules e.rotation (turned two) turns may.kind may.back have.first) in
       let q_is = lies-table (merged-lies rules e.rotation two in_nodes may.kind may.forth have.second) in
-      let is = sent (delta_of_views rules e.rotation written q p) (delta_of_views rules e.rotation written p q) (have.back ∙ back.count) back.left (have.forth ∙ forth.count) forth.left in
+      let is = sent (delta_of_views rules e.rotation written q p) (delta_of_views rules e.rotation written p q) (have.back ∙ back.count) back.left
+      (have.forth ∙ forth.count) forth.left in
       rw (first, second, third) cc

@@ -4,8 +4,10 @@ use Rattle.version_tables.proofs.Common.{◌≡◌, ℕ, zero, suc, ◌+◌, ◌
 use Rattle.version_tables.proofs.Fitting.{earlier-at, so-far-upto}
 use Rattle.version_tables.proofs.Laid.{has_cells}
 
-module _ (written : ℕ → List Entry) (v : VersionTableView) (kept : IsKept written v) (list : OwnerListView) (are : AreWrites list) (begins : IsBeginning (entries_of list) (written v.node)) (generation : v.generation ≡ list.generation)
-    (greatest : greatest_version (table_in written v) v.node ≡ length list.current) (most key value born : ℕ) (under : IsWriteUnder written most v.node (length (entries_of list) + 1) (next_entry list key value born)) where
+module _ (written : ℕ → List Entry) (v : VersionTableView) (kept : IsKept written v) (list : OwnerListView) (are : AreWrites list)
+    (begins : IsBeginning (entries_of list) (written v.node)) (generation : v.generation ≡ list.generation)
+    (greatest : greatest_version (table_in written v) v.node ≡ length list.current) (most key value born : ℕ)
+    (under : IsWriteUnder written most v.node (length (entries_of list) + 1) (next_entry list key value born)) where
   abbrev t : Table
   t = table_in written v
 

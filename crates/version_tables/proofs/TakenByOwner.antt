@@ -3,7 +3,8 @@
 use Rattle.version_tables.proofs.Common.{◌≡◌, ℕ, ◌<◌, ◌≤◌, Bool, true, false, List, length, Some, ◌⊎◌, inl, inr, refl, sym, ap, ◌∙◌, subst, get_or, arith, cases_lt, current-numbered, nat_tests, Entry, mark_held, Table, entry_at, generation_held, write_numbered, OwnerListView, all_writes, entries_of, list_of_owner, AreWrites, cell, numbers_taken, IsRaised, start_before, start_of, numbered-some, numbered-within, numbers-up_to, IsGreatest, VersionTableView, HistoriesView, table_in, is_taken_at, AreLaidBoth, bases_in, IsWrittenSoFar, SendsNoNewer, SendsNewer, drop_start, number_kept, HasTaken}
 use Rattle.version_tables.proofs.Fitting.{generation_of, turned, first-held}
 
-module _ {all writes : List Entry} {most rounds : ℕ} (so_far : IsWrittenSoFar all most rounds writes) (m n : ℕ) (some : 0 < m) (le : m ≤ n) (within : n ≤ length writes) where
+module _ {all writes : List Entry} {most rounds : ℕ} (so_far : IsWrittenSoFar all most rounds writes) (m n : ℕ) (some : 0 < m) (le : m ≤ n)
+    (within : n ≤ length writes) where
   write-of : (number : ℕ) → 0 < number → number ≤ n → (e : Entry) × (write_numbered writes number ≡ Some e) × (generation_of writes number ≡ e.generation)
   write-of number some' le' =
       let there = numbered-some writes number some' (omega (arith, le', within)) in
@@ -20,10 +21,22 @@ module _ {all writes : List Entry} {most rounds : ℕ} (so_far : IsWrittenSoFar 
 
   -- up to where a generation starts numbers are of older ones, and the others aren't
   older : m ≤ start_of writes n → generation_of writes m < generation_of writes n
-  older upto = omega (arith, first.2, second.2, so_far.numbered.older m n first.0 second.0 first.1 second.1 (omega (arith, upto, ap (start_before n) second.1, (so_far.numbered.counted n second.0 second.1).1)))
+  older upto = omega (
+    arith,
+    first.2,
+    second.2,
+    so_far.numbered.older m n first.0 second.0 first.1 second.1
+        (omega (arith, upto, ap (start_before n) second.1, (so_far.numbered.counted n second.0 second.1).1)),
+  )
 
   alike : start_of writes n < m → generation_of writes m ≡ generation_of writes n
-  alike above = omega (arith, first.2, second.2, so_far.numbered.alike m n first.0 second.0 first.1 second.1 le (omega (arith, above, ap (start_before n) second.1)))
+  alike above = omega (
+    arith,
+    first.2,
+    second.2,
+    so_far.numbered.alike m n first.0 second.0 first.1 second.1 le
+        (omega (arith, above, ap (start_before n) second.1)),
+  )
 
   -- numbers above those of earlier generations are of the newest one
   newest : (list : OwnerListView) → AreWrites list → entries_of list ≡ writes → length list.earlier < m → generation_of writes n ≤ generation_of writes m
@@ -41,7 +54,8 @@ module _ {all writes : List Entry} {most rounds : ℕ} (so_far : IsWrittenSoFar 
 -- by numbers that are taken from the sender as it was, or as it is now
 module _ {written : ℕ → List Entry} {most : ℕ} {h : HistoriesView} {from to : VersionTableView} {low high now : List ℕ} {after : VersionTableView}
     (two : AreLaidBoth written most h from to)
-    (same : (owner key : ℕ) → owner < to.nodes → key < to.keys → numbers_taken to.nodes to.cells now low high owner key ≡ numbers_taken to.nodes to.cells from.cells low high owner key)
+    (same : (owner key : ℕ) → owner < to.nodes → key < to.keys
+    → numbers_taken to.nodes to.cells now low high owner key ≡ numbers_taken to.nodes to.cells from.cells low high owner key)
     (taken : HasTaken h.lists to now low high after) (owner : ℕ) (in_nodes : owner < to.nodes) where
   abbrev F : Table
   F = table_in written from
@@ -91,7 +105,8 @@ module _ {written : ℕ → List Entry} {most : ℕ} {h : HistoriesView} {from t
   y_stays : (key : ℕ) → key < to.keys → sent key ≡ false → y key ≡ receiver key
   y_stays key lt no' = same owner key in_nodes lt ∙ (let at = there key in grind (arith, nat_tests))
 
-  of_sender : (key : ℕ) → key < to.keys → 0 < sender key → (e : Entry) × (write_numbered writes (sender key) ≡ Some e) × (entry_at F owner key ≡ Some e) × (generation_of writes (sender key) ≡ generation_held F owner)
+  of_sender : (key : ℕ) → key < to.keys → 0 < sender key → (e : Entry) × (write_numbered writes (sender key) ≡ Some e) × (entry_at F owner key ≡ Some e)
+      × (generation_of writes (sender key) ≡ generation_held F owner)
   of_sender key lt some = first-held two owner key (omega (arith, in_nodes, two.both.size.nodes)) (omega (arith, lt, two.both.size.keys)) some
 
   of_old : 0 < old → (generation_of writes old ≡ generation_held T owner) × (old ≤ length writes)
@@ -102,15 +117,22 @@ module _ {written : ℕ → List Entry} {most : ℕ} {h : HistoriesView} {from t
         (subst (λ n. generation_of writes n ≡ generation_held T owner) is e.3, omega (arith, is, numbered-within writes (receiver key) e.0 e.1))
   ]
 
-  -- where the greatest number was raised it is a sent one
-  of_new : old < new → (key : ℕ) × (e : Entry) × (sent key ≡ true) × (entry_at F owner key ≡ Some e) × (generation_of writes new ≡ generation_held F owner) × (new ≤ length writes)
+  -- the greatest number is a sent one
+  abbrev IsSent : Type 0
+  IsSent =
+      (key : ℕ) × (e : Entry) × (sent key ≡ true) × (entry_at F owner key ≡ Some e)
+      × (generation_of writes new ≡ generation_held F owner) × (new ≤ length writes)
+
+  -- so it is where it was raised
+  of_new : old < new → IsSent
   of_new lt = elim raised.from [
     | inl stays ↦ absurd (omega (arith, lt, stays))
-    | inr (key, in_keys, is) ↦ elim (sent key) as (λ b. sent key ≡ b → (key : ℕ) × (e : Entry) × (sent key ≡ true) × (entry_at F owner key ≡ Some e) × (generation_of writes new ≡ generation_held F owner) × (new ≤ length writes)) [
+    | inr (key, in_keys, is) ↦ elim (sent key) as (λ b. sent key ≡ b → IsSent) [
       | true ↦ λ yes'.
           let at : sender key ≡ new = sym (y_sent key in_keys yes') ∙ is in
           let e = of_sender key in_keys (omega (arith, at, lt)) in
-          (key, e.0, yes', e.2, subst (λ n. generation_of writes n ≡ generation_held F owner) at e.3, omega (arith, at, numbered-within writes (sender key) e.0 e.1))
+          let generation = subst (λ n. generation_of writes n ≡ generation_held F owner) at e.3 in
+          (key, e.0, yes', e.2, generation, omega (arith, at, numbered-within writes (sender key) e.0 e.1))
       | false ↦ λ no'. absurd (omega (arith, lt, is, y_stays key in_keys no', before.upto key in_keys))
     ] refl
   ]
@@ -150,7 +172,8 @@ module _ {written : ℕ → List Entry} {most : ℕ} {h : HistoriesView} {from t
     | inr not_newer ↦ inl (λ key e held _. omega (arith, not_newer, two.first.proper.copies owner key e held))
     | inl newer ↦ elim (cases_lt old new) [
       | inr stays ↦ inl (λ key e held yes'. absurd (omega (arith, stays, rises key e held yes' newer)))
-      | inl lt ↦ let at = of_new lt in inr (record { key = at.0; entry = at.1; held = at.3; is_sent = at.2; newer = omega (arith, newer, two.first.proper.copies owner at.0 at.1 at.3) })
+      | inl lt ↦ let at = of_new lt in inr (record
+          { key = at.0; entry = at.1; held = at.3; is_sent = at.2; newer = omega (arith, newer, two.first.proper.copies owner at.0 at.1 at.3) })
     ]
   ]
 
@@ -180,7 +203,8 @@ module _ {written : ℕ → List Entry} {most : ℕ} {h : HistoriesView} {from t
           let copy = two.first.proper.copies owner newer.key newer.entry newer.held in
           let raises = rises newer.key newer.entry newer.held newer.is_sent (omega (arith, is_newer, copy)) in
           let at = of_new raises in
-          let current = λ (some : 0 < old). newest (two.known.so_far owner) old new some (omega (arith, raises)) at.5 (list_of_owner h.lists owner) (two.known.writes owner) refl in
+          let current = λ (some : 0 < old). newest (two.known.so_far owner) old new some (omega (arith, raises)) at.5 (list_of_owner h.lists owner)
+          (two.known.writes owner) refl in
           let behind = λ (some : 0 < receiver key). alike (two.known.so_far owner) (receiver key) new some (omega (arith, le, raises)) at.5 in
           is ∙ grind (arith, nat_tests, of_old, here)
 
@@ -193,7 +217,11 @@ module _ {written : ℕ → List Entry} {most : ℕ} {h : HistoriesView} {from t
       | inl some ↦
           let at : (key : ℕ) × (key < to.keys) × (y key ≡ new) = elim raised.from [
             | inr raises ↦ raises
-            | inl stays ↦ elim before.held [ inl none ↦ absurd (omega (arith, none, stays, some)) | inr (key, lt, is) ↦ (key, lt, omega (arith, is, stays, raised.upto key lt)) ]
+            | inl stays ↦ elim before.held [
+              | inl none ↦ absurd (omega (arith, none, stays, some))
+              | inr (key, lt, is) ↦
+                  (key, lt, omega (arith, is, stays, raised.upto key lt))
+            ]
           ] in
           let same_number = at.2 in
           let is = taken.kept.each owner at.0 in_nodes at.1 in

@@ -28,7 +28,8 @@ module _ {rules : Rules} {rotation : ℕ} {written : ℕ → List Entry} {most :
   }
 
   -- what comes is held by the sender, and marked
-  held_there : (owner : ℕ) (d : Entry) → Comes rules rotation two owner d → (entry_at F owner d.key ≡ Some d) × (is_taken_at from to low high owner d.key ≡ true)
+  held_there : (owner : ℕ) (d : Entry) → Comes rules rotation two owner d
+      → (entry_at F owner d.key ≡ Some d) × (is_taken_at from to low high owner d.key ≡ true)
   held_there owner d comes = let held = came-held rules rotation two owner d comes in (held, (delta.marks.members owner d.key d held).1 comes)
 
   -- each number is the sender's, the receiver's or 0, and so is what the model's table holds
@@ -77,23 +78,28 @@ module _ {rules : Rules} {rotation : ℕ} {written : ℕ → List Entry} {most :
 -- what came back to the sender changes nothing of what is taken of it: q sent p, and p sends q
 module _ {rules : Rules} {rotation : ℕ} {written : ℕ → List Entry} {most : ℕ} {h : HistoriesView} {p q : VersionTableView} {low high : List ℕ} {count cut : ℕ}
     (two : AreLaidBoth written most h p q) (delta : AreMarksOf rules rotation written p q low high count cut) (low' high' now : List ℕ)
-    (came : AreTakenCells (table_in written q) (table_in written p) (is_taken_at q p low' high') (cell q.cells q.nodes) (cell p.cells p.nodes) (cell now p.nodes)) where
-  not_sent : (owner key : ℕ) → SendsNewer (table_in written q) (table_in written p) (is_taken_at q p low' high') owner → owner < p.nodes → key < p.keys → is_taken_at p q low high owner key ≡ false
+    (came : AreTakenCells (table_in written q) (table_in written p) (is_taken_at q p low' high') (cell q.cells q.nodes) (cell p.cells p.nodes)
+    (cell now p.nodes)) where
+  not_sent : (owner key : ℕ) → SendsNewer (table_in written q) (table_in written p) (is_taken_at q p low' high') owner → owner < p.nodes → key < p.keys
+      → is_taken_at p q low high owner key ≡ false
   not_sent owner key newer in_nodes in_keys = elim (is_taken_at p q low high owner key) as (λ b. is_taken_at p q low high owner key ≡ b → b ≡ false) [
     | false ↦ λ _. refl
     | true ↦ λ yes'.
         let there = delta.marks.held owner key in_nodes in_keys yes' in
         let lacked = came-lacked rules rotation two owner there.0 ((delta.marks.members owner key there.0 there.1).0 yes') in
-        absurd (omega (arith, lacked.0, two.first.proper.copies owner key there.0 there.1, newer.newer, two.second.proper.copies owner newer.key newer.entry newer.held))
+        let copy = two.first.proper.copies owner key there.0 there.1 in
+        absurd (omega (arith, lacked.0, copy, newer.newer, two.second.proper.copies owner newer.key newer.entry newer.held))
   ] refl
 
-  pub same_taken : (owner key : ℕ) → owner < q.nodes → key < q.keys → numbers_taken q.nodes q.cells now low high owner key ≡ numbers_taken q.nodes q.cells p.cells low high owner key
+  pub same_taken : (owner key : ℕ) → owner < q.nodes → key < q.keys
+      → numbers_taken q.nodes q.cells now low high owner key ≡ numbers_taken q.nodes q.cells p.cells low high owner key
   same_taken owner key in_nodes in_keys =
       let now_at : cell now q.nodes owner key ≡ cell now p.nodes owner key = ap (λ n. cell now n owner key) (sym two.both.size.nodes) in
       let then_at : cell p.cells q.nodes owner key ≡ cell p.cells p.nodes owner key = ap (λ n. cell p.cells n owner key) (sym two.both.size.nodes) in
       let in_node : owner < p.nodes = omega (arith, in_nodes, two.both.size.nodes) in
       let in_key : key < p.keys = omega (arith, in_keys, two.both.size.keys) in
-      elim (is_taken_at q p low' high' owner key) as (λ b. is_taken_at q p low' high' owner key ≡ b → numbers_taken q.nodes q.cells now low high owner key ≡ numbers_taken q.nodes q.cells p.cells low high owner key) [
+      elim (is_taken_at q p low' high' owner key) as (λ b. is_taken_at q p low' high' owner key ≡ b
+      → numbers_taken q.nodes q.cells now low high owner key ≡ numbers_taken q.nodes q.cells p.cells low high owner key) [
         | true ↦ λ yes'. let is = came.came owner key in_node in_key yes' in grind (arith, nat_tests)
         | false ↦ λ no'. elim (came.others owner key in_node in_key no') [
           | inl stays ↦ let is = stays.1 in grind (arith, nat_tests)

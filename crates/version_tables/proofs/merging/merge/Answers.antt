@@ -17,10 +17,18 @@ module _ (g : given.Over) (c : goal.After-responder-2-1 g) where
   size = rw (c.initiator.view_is, c.responder.view_is) c.requires.size
 
   abbrev p' : VersionTableView
-  p' = record p { cells = map number (with_items c.initiator.inside.cells c.merge-came.new.first).items; greatest = map number (with_items c.initiator.inside.greatest c.raise_both.new.first).items }
+  p' = record p {
+    cells = map number (with_items c.initiator.inside.cells c.merge-came.new.first).items;
+    greatest = map number
+        (with_items c.initiator.inside.greatest c.raise_both.new.first).items;
+  }
 
   abbrev q' : VersionTableView
-  q' = record q { cells = map number (with_items c.responder.inside.cells c.merge-came.new.second).items; greatest = map number (with_items c.responder.inside.greatest c.raise_both.new.second).items }
+  q' = record q {
+    cells = map number (with_items c.responder.inside.cells c.merge-came.new.second).items;
+    greatest = map number
+        (with_items c.responder.inside.greatest c.raise_both.new.second).items;
+  }
 
   came : HasMerged q p p'
   came =
@@ -37,7 +45,9 @@ module _ (g : given.Over) (c : goal.After-responder-2-1 g) where
       let cells = with_items_is c.responder.inside.cells c.merge-came.new.second (c.merge-came.auto.second ∙ c.deref_mut-2.ensures.len) in
       let greatest = with_items_is c.responder.inside.greatest c.raise_both.new.second (c.raise_both.auto.second ∙ c.deref_mut-4.ensures.len) in
       record {
-        numbers = rw (c.deref_mut.ensures.value, c.deref-2.ensures.value, c.deref_mut-2.ensures.value, ← cells, size.nodes, size.keys) at c.merge-came.ensures.second;
+        numbers =
+            rw (c.deref_mut.ensures.value, c.deref-2.ensures.value, c.deref_mut-2.ensures.value, ← cells, size.nodes, size.keys)
+            at c.merge-came.ensures.second;
         most = rw (c.deref_mut-3.ensures.value, c.deref_mut-4.ensures.value, ← greatest) at c.raise_both.ensures.second;
         rest = refl;
       }

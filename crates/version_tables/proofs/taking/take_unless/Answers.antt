@@ -22,7 +22,9 @@ module _ (g : given.Over) (c : goal.After-table-3-1 g) where
       let cells = with_items_is inside.cells c.take.new.cells (c.take.auto.cells ∙ c.deref_mut.ensures.len) in
       let kept = with_items_is (with_items inside.cells c.take.new.cells) c.drop_older.new.cells (c.drop_older.auto.cells ∙ c.deref_mut-3.ensures.len) in
       let came = rw (c.deref.ensures.value, c.deref-2.ensures.value, c.deref_mut.ensures.value) at c.take.ensures.cells in
-      let raises = rw (c.deref.ensures.value, c.deref-2.ensures.value, c.deref_mut.ensures.value, c.deref_mut-2.ensures.value, ← greatest) at c.take.ensures.greatest in
+      let raises =
+      rw (c.deref.ensures.value, c.deref-2.ensures.value, c.deref_mut.ensures.value, c.deref_mut-2.ensures.value, ← greatest)
+      at c.take.ensures.greatest in
       let dropped = rw (c.deref-3.ensures.value, c.deref_mut-3.ensures.value, c.lists.ensures.value, cells, ← kept) at c.drop_older.ensures in
       let before = c.requires.before ∙ sym (ap (λ (v : VersionTableView). v.greatest) c.table.view_is) in
       record {

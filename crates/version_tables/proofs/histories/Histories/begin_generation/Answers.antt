@@ -7,8 +7,10 @@ module _ (g : given.Over) (c : goal.After-self-3-1 g) where
   in_range : c.args.owner < length c.self.inside.lists.items
   in_range = subst (λ (h : HistoriesView). c.args.owner < length h.lists) (sym c.self.view_is) c.requires.owner
 
-  becomes : ListBecomes c.args.owner (begun_generation (list_of_owner c.self.inside.lists.items c.args.owner)) c.self.inside.lists.items (set c.self.inside.lists.items c.args.owner c.begin_generation.new.self)
-  becomes = list-becomes c.self.inside.lists.items c.args.owner c.index_mut.result.now c.begin_generation.new.self begun_generation in_range c.index_mut.ensures.value c.begin_generation.ensures
+  becomes : ListBecomes c.args.owner (begun_generation (list_of_owner c.self.inside.lists.items c.args.owner)) c.self.inside.lists.items
+      (set c.self.inside.lists.items c.args.owner c.begin_generation.new.self)
+  becomes = list-becomes c.self.inside.lists.items c.args.owner c.index_mut.result.now c.begin_generation.new.self begun_generation in_range
+      c.index_mut.ensures.value c.begin_generation.ensures
 
 pub invariant_of-self : goal.invariant_of-self
 invariant_of-self g c =

@@ -20,23 +20,24 @@ module _ (written : ℕ → List Entry) (v : VersionTableView) (kept : IsKept wr
   -- what the table holds of the node is a write so far
   held_so_far : (k : ℕ) (e : Entry) → entry_at t v.node k ≡ Some e → Contains (entries_of list) e
   held_so_far k e holds =
-      let here = kept.proper.in_place v.node k e holds in
+      let in_place = kept.proper.in_place v.node k e holds in
       let most : IsUpTo (mark_of e) (greatest_mark t v.node) =
-      subst (λ h. IsUpTo (mark_held h) (greatest_mark t v.node)) holds (mark_at-up_to_greatest t v.node k here.key_below)
+      subst (λ h. IsUpTo (mark_held h) (greatest_mark t v.node)) holds (mark_at-up_to_greatest t v.node k in_place.key_below)
       in
       let low : e.version ≤ length list.current = omega (arith, most.version (kept.proper.copies v.node k e holds), greatest) in
       let own = length list.earlier + e.version in
       let within : own ≤ length (entries_of list) = omega (arith, low, length-append list.earlier list.current) in
-      let there = numbered-some (entries_of list) own (omega (arith, here.written)) within in
-      let at = current-numbered list are own there.0 there.1 (omega (arith, here.written)) in
+      let there = numbered-some (entries_of list) own (omega (arith, in_place.written)) within in
+      let at = current-numbered list are own there.0 there.1 (omega (arith, in_place.written)) in
       let is : write_numbered (written v.node) (cell v.cells v.nodes v.node k) ≡ Some e =
-      sym (has_cells written v kept.numbers v.node k in_nodes here.key_below) ∙ holds in
+      sym (has_cells written v kept.numbers v.node k in_nodes in_place.key_below) ∙ holds in
       let one : there.0.generation ≡ e.generation = omega (arith, at.generation, generation, kept.proper.own k e holds) in
       let two : there.0.version ≡ e.version = omega (arith, at.version) in
       let from : write_numbered (written v.node) own ≡ Some there.0 = sym (begins own within) ∙ there.1 in
       let same = under.apart own (cell v.cells v.nodes v.node k) there.0 e from is (λ i. record { generation = one i; version = two i }) in
       let placed = numbered-placed (entries_of list) own there.0 there.1 in
-      (placed.place, placed.within, placed.there e ∙ same)
+      let here = placed.there e in
+      (placed.place, placed.within, cc)
 
   upto : (k : ℕ) → k < v.keys → cell v.cells v.nodes v.node k < number
   upto k in_keys = omega (arith, so-far-upto written v kept (entries_of list) v.node begins held_so_far k in_nodes in_keys)

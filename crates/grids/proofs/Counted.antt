@@ -70,13 +70,10 @@ places-counted changed test nodes keys old new size passed grid is = (
   is.count ∙ ap (λ n. count_passing n test) grid.whole ∙ total-places nodes keys test,
 )
 
-pub above-alone : (mark x : ℕ) → cond (nat_lt mark x) x 0 ≡ number_ahead x 0 mark
-above-alone mark x = grind (arith, nat_tests)
-
 -- numbers are kept that are above the peer's and the marks, where only one owner has a mark, up to which its own were
 -- dropped before
 module _ (nodes keys own mark : ℕ) (peer : ℕ → ℕ → ℕ) (low old mid new : List ℕ) (size : length low ≡ nodes) (none : HasNoOtherMark low own)
-    (is : mark ≡ get_or low own 0) (dropped : ArePlanesChanged (λ r k x y. y ≡ cond (r == own) (number_ahead x 0 mark) x) nodes keys old mid) where
+    (is : mark ≡ get_or low own 0) (dropped : ArePlanesChanged (λ r k x y. y ≡ cond (r == own) (cond (nat_lt mark x) x 0) x) nodes keys old mid) where
   above_mark : (r k : ℕ) → r < nodes → k < keys → cell mid nodes r k ≡ number_ahead (cell old nodes r k) 0 (get_or low r 0)
   above_mark r k in_nodes in_keys =
       let now = dropped.each r k in_nodes in_keys in

@@ -1,11 +1,13 @@
 -- What loops over all planes of a table do to its numbers. Source: this project.
-use Rattle.std.specs.Prelude.{◌≡◌, ℕ, ◌≤◌, List, length, map, max, slice_index}
+use Rattle.std.specs.Prelude.{◌≡◌, ℕ, ◌<◌, ◌≤◌, ◌==◌, List, length, map, max, nat_lt, slice_index, if◌then◌else◌}
 use Rattle.bench_types.specs.declared.limits.TheConstants.{MOST_KEYS, MOST_NODES}
 use Rattle.planes.specs.declared.sizes.Grid.{Grid}
+use Rattle.planes.specs.declared.sizes.Size.{Size}
 use Rattle.planes.specs.Elementwise.{AreChanged}
 use Rattle.planes.specs.Grids.{cells_in, HasMarkOfEach}
 use Rattle.planes.specs.Planes.{cell, most_ahead, number_ahead, number_raised, total_above, AreCovered, AreRaised, AreTaken, ArePlanesChanged, HasEachPlace, IsGrid}
 use Rattle.grids.specs.declared.grids.Masked.{Masked}
+use Rattle.grids.specs.declared.grids.Peer.{Peer}
 use Rattle.grids.specs.declared.grids.Sent.{Sent}
 use Rattle.grids.specs.declared.merges.BothCounts.{BothCounts}
 use Rattle.grids.specs.declared.merges.BothMarks.{BothMarks}
@@ -15,16 +17,34 @@ pub record IsBeside {N : Type 0} (grid : Grid N) (others : List N) : Type 0 wher
   pub shape : IsGrid grid.size.nodes grid.size.keys (length others)
   pub count : length grid.cells.now ≡ length others
 
--- a table, a peer's numbers and a mark for each owner
-pub record HasPeer {N : Type 0} (grid : Grid N) (peer low : List N) : Type 0 where
-  pub marks : HasMarkOfEach grid low
-  pub peer_count : length peer ≡ length grid.cells.now
+-- an owner's numbers are among those of a table of a size
+pub record HasColumn {N : Type 0} (size : Size) (cells : List N) (owner : ℕ) : Type 0 where
+  pub grid : IsGrid size.nodes size.keys (length cells)
+  pub among : owner < size.nodes
+
+-- a number that is above a mark, else 0
+abbrev pub number_kept : ℕ → ℕ → ℕ
+number_kept mark number = if nat_lt mark number then number else 0
+
+-- so it is of those, and the others stay
+abbrev pub IsOwnerKept : {N : Type 0} → (N → ℕ) → Size → ℕ → ℕ → List N → List N → Type 0
+IsOwnerKept number size owner mark old new =
+    ArePlanesChanged (λ r k x y. y ≡ (if r == owner then number_kept mark x else x)) size.nodes size.keys
+    (map number old) (map number new)
+
+-- a table, and a peer's numbers and a mark for each owner, of which it is one
+pub record HasPeer {N : Type 0} (grid : Grid N) (peer : Peer N) : Type 0 where
+  pub marks : HasMarkOfEach grid peer.low.now
+  pub peer_count : length peer.cells.now ≡ length grid.cells.now
+  pub among : peer.own < grid.size.nodes
 
 -- the table's numbers that are above both the peer's and the mark, and 0 in place of the others
-pub record IsAhead {N : Type 0} (number : N → ℕ) (grid : Grid N) (peer low : List N) (ahead : Masked N) : Type 0 where
+pub record IsAhead {N : Type 0} (number : N → ℕ) (grid : Grid N) (peer : Peer N) (ahead : Masked N) : Type 0 where
   pub numbers : HasEachPlace grid.size.nodes grid.size.keys (λ r k n. n ≡ number_ahead (cells_in number grid r k)
-      (cell (map number peer) grid.size.nodes r k) (slice_index (map number low) r)) (map number ahead.numbers.items)
-  pub count : ahead.count ≡ total_above grid.size.nodes grid.size.keys (map number ahead.numbers.items) (map number low)
+      (cell (map number peer.cells.now) grid.size.nodes r k) (slice_index (map number peer.low.now) r))
+      (map number ahead.numbers.items)
+  pub count : ahead.count
+      ≡ total_above grid.size.nodes grid.size.keys (map number ahead.numbers.items) (map number peer.low.now)
 
 -- a table's numbers, of which none is above its owner's greatest one, may take what is sent
 pub record MayTake {N : Type 0} (number : N → ℕ) (cells greatest : List N) (sent : Sent N) : Type 0 where

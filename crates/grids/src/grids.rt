@@ -4,7 +4,7 @@
 ghost use Rattle.std.specs.Prelude.{◌≡◌, ℕ, ◌<◌, ◌≤◌, ◌==◌, ◌↔◌, Bool, IsTrue, length, map, max, nat_lt, slice_index, IfOk, IsOkUnless, if◌then◌else◌};
 ghost use Rattle.bench_types.specs.declared.faults.Fault.TheVariants.{OutOfMemory};
 ghost use Rattle.planes.specs.Planes.{cell, number_ahead, total_of, ArePlanesChanged, IsGrid};
-ghost use Rattle.grids.specs.Grids.{AreSentTaken, HasPeer, IsAhead, MayTake};
+ghost use Rattle.grids.specs.Grids.{AreSentTaken, HasColumn, HasPeer, IsAhead, IsOwnerKept, MayTake};
 ghost use Rattle.bench_types.specs.declared.limits.TheConstants.{MOST_NODES};
 ghost use Rattle.grids.specs.inner.Loops.{IsPlaneTaken, MakesAs, MayTakePlane};
 ghost use Rattle.grids.specs.inner.Masks.{AreKeptAhead, HasNoOtherMark};
@@ -29,6 +29,14 @@ pub struct Sent<'a, N: Number> {
     pub grid: Grid<'a, N>,
     pub low: &'a [N],
     pub high: &'a [N],
+}
+
+/// What a peer has: its numbers, a mark for each owner that it told, and which owner it is itself.
+#[derive(Clone, Copy)]
+pub struct Peer<'a, N: Number> {
+    pub cells: &'a [N],
+    pub low: &'a [N],
+    pub own: usize,
 }
 
 // Changes each number to the one that the closure of its key makes of owner and number. It answers how many times these
@@ -86,17 +94,15 @@ fn has_no_other_mark<N: Number>(low: &[N], own: usize) -> bool
     ) == 0
 }
 
-// Puts 0 in place of an owner's numbers up to a mark.
-fn drop_owner<N: Number>(cells: &mut [N], size: Size, owner: usize, mark: N)
-    requires grid { IsGrid size.nodes size.keys (length cells.old) }
-    requires owner { owner < size.nodes }
-    ensures { ArePlanesChanged (λ r k x y. y ≡ (if r == owner then number_ahead x 0 (N.number mark) else x))
-        size.nodes size.keys (map N.number cells.old) (map N.number cells.new) }
+/// Puts 0 in place of an owner's numbers up to a mark.
+pub fn drop_owner<N: Number>(cells: &mut [N], size: Size, owner: usize, mark: u32)
+    requires { HasColumn size cells.old owner }
+    ensures { IsOwnerKept N.number size owner mark cells.old cells.new }
 {
     for key in 0..size.keys {
         let cell = &mut cells[key * size.nodes + owner];
         let number = *cell;
-        *cell = planes::pick(number.is_above(mark), number, N::zero());
+        *cell = planes::pick(number.widen() > mark, number, N::zero());
     }
 }
 
@@ -122,42 +128,34 @@ fn keep_ahead<N: Number>(numbers: &mut [N], size: Size, peer: &[N]) -> u32
 
 // The numbers ahead, where no owner but one has a mark. That owner's numbers up to it are dropped first, so all planes
 // are gone over as one, without marks.
-fn ahead_of_peer<N: Number>(
-    alloc: Global,
-    grid: Grid<N>,
-    peer: &[N],
-    low: &[N],
-    own: usize,
-) -> Result<Masked<N>, Fault>
-    requires peer { HasPeer grid peer.now low.now }
-    requires own { own < grid.size.nodes }
-    requires none { HasNoOtherMark (map N.number low.now) own }
-    ensures ahead { IfOk result (IsAhead N.number grid.entry peer.now low.now) }
+fn ahead_of_peer<N: Number>(alloc: Global, grid: Grid<N>, peer: Peer<N>) -> Result<Masked<N>, Fault>
+    requires peer { HasPeer grid peer }
+    requires none { HasNoOtherMark (map N.number peer.low.now) peer.own }
+    ensures ahead { IfOk result (IsAhead N.number grid.entry peer.entry) }
     ensures only { IsOkUnless result OutOfMemory }
 {
     let Grid { cells, size } = grid;
+    let low = peer.low;
+    let own = peer.own;
     let mut numbers = copied(alloc, cells)?;
     let all: &mut [N] = &mut numbers;
-    drop_owner(all, size, own, low[own]);
-    let count = keep_ahead(all, size, peer);
+    drop_owner(all, size, own, low[own].widen());
+    let count = keep_ahead(all, size, peer.cells);
     Ok(Masked { numbers, count })
 }
 
 // The numbers ahead, plane by plane.
-fn ahead_of_both<N: Number>(
-    alloc: Global,
-    grid: Grid<N>,
-    peer: &[N],
-    low: &[N],
-) -> Result<Masked<N>, Fault>
-    requires peer { HasPeer grid peer.now low.now }
-    ensures ahead { IfOk result (IsAhead N.number grid.entry peer.now low.now) }
+fn ahead_of_both<N: Number>(alloc: Global, grid: Grid<N>, peer: Peer<N>) -> Result<Masked<N>, Fault>
+    requires peer { HasPeer grid peer }
+    ensures ahead { IfOk result (IsAhead N.number grid.entry peer.entry) }
     ensures only { IsOkUnless result OutOfMemory }
 {
     let Grid { cells, size } = grid;
+    let other = peer.cells;
+    let low = peer.low;
     let mut numbers = copied(alloc, cells)?;
     let count = change_all_counting(&mut numbers, size, |key| {
-        let of_peer = plane_of(peer, size.nodes, key);
+        let of_peer = plane_of(other, size.nodes, key);
         move |r, number| -> (N, bool)
             requires { (r < length of_peer.now) × (r < length low.now) }
             ensures number { N.number result.0 ≡ number_ahead (N.number number)
@@ -175,22 +173,15 @@ fn ahead_of_both<N: Number>(
 /// The numbers that are above both the peer's and their owner's mark, and 0 in place of the others. One pass masks them
 /// and counts those that it keeps. It is faster where no owner has a mark but the one told, as most often. An error is
 /// lack of memory (`OutOfMemory`).
-pub fn ahead<N: Number>(
-    alloc: Global,
-    grid: Grid<N>,
-    peer: &[N],
-    low: &[N],
-    own: usize,
-) -> Result<Masked<N>, Fault>
-    requires peer { HasPeer grid peer.now low.now }
-    requires own { own < grid.size.nodes }
-    ensures ahead { IfOk result (IsAhead N.number grid.entry peer.now low.now) }
+pub fn ahead<N: Number>(alloc: Global, grid: Grid<N>, peer: Peer<N>) -> Result<Masked<N>, Fault>
+    requires { HasPeer grid peer }
+    ensures ahead { IfOk result (IsAhead N.number grid.entry peer.entry) }
     ensures only { IsOkUnless result OutOfMemory }
 {
-    if has_no_other_mark(low, own) {
-        return ahead_of_peer(alloc, grid, peer, low, own);
+    if has_no_other_mark(peer.low, peer.own) {
+        return ahead_of_peer(alloc, grid, peer);
     }
-    ahead_of_both(alloc, grid, peer, low)
+    ahead_of_both(alloc, grid, peer)
 }
 
 // Raises the numbers of a key's plane to those sent that are above one mark and up to another, and each owner's

@@ -26,6 +26,6 @@ mod lags;
 mod merges;
 mod owners;
 
-pub use grids::{Masked, Sent, ahead, take};
+pub use grids::{Masked, Peer, Sent, ahead, drop_owner, take};
 pub use lags::{count_behind, least_behind, lower_all};
 pub use merges::{BothCounts, BothMarks, merge, most_ahead, raise_both};

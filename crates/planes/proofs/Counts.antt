@@ -1,6 +1,5 @@
 -- Sums that a loop counts.
--- Serves the functions of `grids`, `owners` and `planes`, `Elementwise`, `delta_plans`, `grids`, `version_lags` and
--- `version_tables`.
+-- Serves the functions of `grids`, `owners` and `planes`, `Elementwise`, `delta_plans`, `grids` and `version_lags`.
 use Rattle.planes.proofs.Common.{◌≡◌, ℕ, suc, Fits, w32, ◌+◌, ◌-◌, ◌<◌, ◌≤◌, ◌==◌, ◌↔◌, Bool, true, false, cond, nat_lt, refl, ap, ◌∙◌, arith, IsTrue, le-ltb, eq-eqb, eqb-true, fold_below-join, sums, sum_below, sum_below-most, count_passing, MOST_KEYS, Cells, count_above, HasNoneAbove, IsGrid}
 
 pub one_le : (b : Bool) → cond b 1 0 ≤ 1

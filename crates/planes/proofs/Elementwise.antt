@@ -1,6 +1,5 @@
 -- Lists that are changed element by element.
--- Serves the functions of `grids`, `owners` and `planes`, `delta_plans`, `grids`, `version_lags` and
--- `version_tables`.
+-- Serves the functions of `grids`, `owners` and `planes`, `delta_plans`, `grids` and `version_lags`.
 use Rattle.planes.proofs.Common.{◌≡◌, ℕ, ◌+◌, ◌<◌, ◌≤◌, List, length, get_or, set, map, refl, sym, ap, ◌∙◌, subst, arith, below_more, get_or-set_same, get_or-set_other, length-set, get_or-map, length-map, map-set, Bool, cond, AreChangedUpto, AreChanged, IsMade, AreCountedUpto}
 use Rattle.planes.proofs.Counts.{count_next, count_same}
 

@@ -1,5 +1,5 @@
 -- The first write that a copy misses, by numbers.
--- Serves `Lagging` and `Walks`.
+-- Serves `Lagging`, `Walks` and `version_tables`.
 use Rattle.version_lags.proofs.Common.{◌≡◌, ℕ, zero, suc, ◌+◌, ◌-◌, ◌<◌, ◌≤◌, Bool, eqb, ltb, ◌&&◌, List, length, get_or, Some, None, ◌⊎◌, option_map, inl, inr, refl, sym, ap, ◌∙◌, arith, length-append, position_or_len, find_at, fails_before_first, passes_at_first, slice_get_cases, cases_lt, lt-ltb, ltb-true, eq-eqb, eqb-true, and_parts, both_ways, get_or-append_right, get_or-map, length-map, Entry, absent, mark_of, mark_held, is_before, before-yes, Write, write_of_entry, OwnerListView, entries_of, written, AreWrites, write_numbered, write_from-here, BirthsRise, numbered-placed, numbered-within, numbers-compare, base_of, number_staleness, IsMissed, IsFirstMissed, HasNoneMissed}
 
 -- births don't fall with the numbers

@@ -1,6 +1,6 @@
 -- How many owners and entries a table of versions holds.
 -- Serves `digest_size`.
-use Rattle.version_tables.proofs.Common.{◌≡◌, ℕ, zero, suc, ◌+◌, ◌*◌, ◌<◌, ◌≤◌, Bool, cond, nat_lt, List, length, map, map-id, Some, inl, inr, refl, sym, ap, ◌∙◌, arith, count_by, slice_index, entries, len-entries, range_with_len, cases_lt, lt-ltb, le-ltb, length-map, sum_by-map-range_with_len_more, Entry, Item, Mark, Scuttle, Precise, IsUpTo, mark_held, Table, entry_at, items_of, item_of, mark_at, greatest_mark, greatest_version, greatest_mark-none, mark_at-up_to_greatest, write_numbered, cell, sum_below, sum_below-same, total-places, digest_size, sum_by-ones, number_here, number_there, items_sum, numbered-some, VersionTableView, table_in, IsKept}
+use Rattle.version_tables.proofs.Common.{nat_tests, ◌≡◌, ℕ, zero, suc, ◌+◌, ◌<◌, ◌≤◌, Bool, cond, nat_lt, List, length, map, map-id, Some, inl, inr, refl, sym, ap, ◌∙◌, arith, count_by, slice_index, entries, len-entries, range_with_len, cases_lt, lt-ltb, le-ltb, length-map, sum_by-map-range_with_len_more, Entry, Item, Mark, Scuttle, Precise, IsUpTo, mark_held, Table, entry_at, items_of, item_of, mark_at, greatest_mark, greatest_version, greatest_mark-none, mark_at-up_to_greatest, write_numbered, cell, sum_below, sum_below-same, total-places, digest_size, sum_by-ones, number_here, number_there, items_sum, numbered-some, VersionTableView, table_in, IsKept}
 use Rattle.version_tables.proofs.Laid.{has_cells}
 
 count-range : (p : ℕ → Bool) (n : ℕ) → count_by p (map (λ i. i) (range_with_len 0 n)) ≡ sum_below n (λ i. cond (p i) 1 0)
@@ -18,19 +18,21 @@ module _ (written : ℕ → List Entry) (v : VersionTableView) (kept : IsKept wr
   number = cell v.cells v.nodes
 
   has : (owner key : ℕ) → owner < v.nodes → key < v.keys → entry_at t owner key ≡ write_numbered (written owner) (number owner key)
-  has = has_cells written v.node v.nodes v.keys v.generation number kept.numbers
+  has = has_cells written v kept.numbers
 
   one_here : (owner key : ℕ) → owner < v.nodes → key < v.keys → number_there (λ _. 1) t owner key ≡ cond (nat_lt 0 (number owner key)) 1 0
-  one_here owner key in_nodes in_keys = ap (number_here (λ _. 1) owner) (has owner key in_nodes in_keys) ∙ counted (number owner key) (kept.numbers.written owner key in_nodes in_keys)
+  one_here owner key in_nodes in_keys = ap (number_here (λ _. 1) owner) (has owner key in_nodes in_keys)
+      ∙ counted (number owner key) ((kept.numbers.each owner key in_nodes in_keys).written)
     where
       counted : (n : ℕ) → n ≤ length (written owner) → number_here (λ _. 1) owner (write_numbered (written owner) n) ≡ cond (nat_lt 0 n) 1 0
       counted zero le = refl
-      counted (suc place) le = ap (number_here (λ _. 1) owner) (numbered-some (written owner) (suc place) (omega arith) le).1 ∙ sym (rw (lt-ltb 0 (suc place) (omega arith)))
+      counted (suc place) le = ap (number_here (λ _. 1) owner) (numbered-some (written owner) (suc place) (omega arith) le).1
+          ∙ sym (rw (lt-ltb 0 (suc place) (omega arith)))
 
   -- entries held
   pub held-size : sum_below (length v.cells) (λ i. cond (nat_lt 0 (slice_index v.cells i)) 1 0) ≡ digest_size Precise t
   held-size =
-      ap (λ n. sum_below n (λ i. cond (nat_lt 0 (slice_index v.cells i)) 1 0)) kept.cell_count
+      ap (λ n. sum_below n (λ i. cond (nat_lt 0 (slice_index v.cells i)) 1 0)) kept.numbers.size
       ∙ total-places v.nodes v.keys (λ i. nat_lt 0 (slice_index v.cells i))
       ∙ sym (sum_below-same v.nodes _ _ (λ owner in_nodes. sum_below-same v.keys _ _ (λ key in_keys. one_here owner key in_nodes in_keys)))
       ∙ sym (items_sum t kept.proper (λ _. 1))
@@ -40,30 +42,34 @@ module _ (written : ℕ → List Entry) (v : VersionTableView) (kept : IsKept wr
 
   -- owners of whom something is held
   owner_here : (r : ℕ) → r < v.nodes → nat_lt 0 (slice_index v.greatest r) ≡ nat_lt 0 (greatest_version t r)
-  owner_here r in_nodes = elim (cases_lt 0 (slice_index v.greatest r)) [
-    | inr not_some ↦
-        le-ltb 0 (slice_index v.greatest r) (omega (arith, not_some))
-        ∙ sym (le-ltb 0 (greatest_version t r) (omega (arith, ap (λ (m : Mark). m.version) (greatest_mark-none t r (λ key lt. has r key in_nodes lt ∙ ap (write_numbered (written r)) {x = number r key} {y = 0} (omega (arith, not_some, (kept.most r in_nodes).upto key lt)))))))
-    | inl some ↦ elim (kept.most r in_nodes).held [
-      | inl none ↦ absurd (omega (arith, none, some))
-      | inr (key, lt, is) ↦
-          let there = numbered-some (written r) (number r key) (omega (arith, is, some)) (kept.numbers.written r key in_nodes lt) in
-          let held : entry_at t r key ≡ Some there.0 = has r key in_nodes lt ∙ there.1 in
-          let upto : IsUpTo (mark_at t r key) (greatest_mark t r) = mark_at-up_to_greatest t r key lt in
-          let mark : mark_at t r key ≡ mark_held (Some there.0) = ap mark_held held in
-          lt-ltb 0 (slice_index v.greatest r) some
-          ∙ sym (lt-ltb 0 (greatest_version t r) (omega (
-            arith,
-            (kept.proper.in_place r key there.0 held).written,
-            ap (λ (m : Mark). m.version) mark,
-            upto.version (omega (arith, ap (λ (m : Mark). m.generation) mark, kept.proper.copies r key there.0 held)),
-          )))
-    ]
-  ]
+  owner_here r in_nodes =
+      let most = kept.most.each r in_nodes in
+      elim (cases_lt 0 (slice_index v.greatest r)) [
+        | inr not_some ↦
+            let nothing = greatest_mark-none t r (λ key lt.
+            has r key in_nodes lt ∙ ap (write_numbered (written r)) {x = number r key} {y = 0} (omega (arith, not_some, most.upto key lt))) in
+            let version = ap (λ (m : Mark). m.version) nothing in
+            grind (arith, nat_tests)
+        | inl some ↦ elim most.held [
+          | inl none ↦ absurd (omega (arith, none, some))
+          | inr (key, lt, is) ↦
+              let there = numbered-some (written r) (number r key) (omega (arith, is, some)) (kept.numbers.each r key in_nodes lt).written in
+              let held : entry_at t r key ≡ Some there.0 = has r key in_nodes lt ∙ there.1 in
+              let mark : mark_at t r key ≡ mark_held (Some there.0) = ap mark_held held in
+              let later = (mark_at-up_to_greatest t r key lt).version in
+              let version : 0 < greatest_version t r = omega (
+                arith,
+                (kept.proper.in_place r key there.0 held).written,
+                ap (λ (m : Mark). m.version) mark,
+                later (omega (arith, ap (λ (m : Mark). m.generation) mark, kept.proper.copies r key there.0 held)),
+              ) in
+              grind (arith, nat_tests)
+        ]
+      ]
 
   pub owners-size : sum_below (length v.greatest) (λ r. cond (nat_lt 0 (slice_index v.greatest r)) 1 0) ≡ digest_size Scuttle t
   owners-size =
-      ap (λ n. sum_below n (λ r. cond (nat_lt 0 (slice_index v.greatest r)) 1 0)) kept.greatest_count
+      ap (λ n. sum_below n (λ r. cond (nat_lt 0 (slice_index v.greatest r)) 1 0)) kept.most.size
       ∙ sum_below-same v.nodes _ (λ r. cond (nat_lt 0 (greatest_version t r)) 1 0) (λ r lt. ap (λ b. cond b 1 0) (owner_here r lt))
       ∙ sym (count-range (λ r. nat_lt 0 (greatest_version t r)) v.nodes)
       ∙ ap (count_by (λ r. nat_lt 0 (greatest_version t r))) (map-id (range_with_len 0 v.nodes))

@@ -1,25 +1,36 @@
 -- Tables beside the histories: the numbers that they hold are of writes made so far.
 -- Serves most of the crate.
-use Rattle.version_tables.proofs.Common.{◌≡◌, ℕ, suc, ◌<◌, ◌≤◌, List, length, Some, inl, inr, sym, ap, ◌∙◌, arith, Contains, cases_lt, Entry, Exchange, Rules, mark_held, entry_at, generation_held, write_from-here, write_numbered, all_writes, Cells, cell, HasCells, numbered-some, VersionTableView, HistoriesView, table_in, IsKept, AreLaidBoth, IsBeginning, IsReadyExchange, AreNumbers}
+use Rattle.version_tables.proofs.Common.{◌≡◌, ℕ, suc, ◌<◌, ◌≤◌, List, length, Some, inl, inr, sym, ap, ◌∙◌, arith, Contains, cases_lt, Entry, Exchange, Rules, mark_held, entry_at, generation_held, write_from-here, write_numbered, all_writes, Cells, cell, HasCells, numbered-some, VersionTableView, HistoriesView, table_in, IsKept, AreLaidBoth, IsBeginning, IsReadyExchange, subst, get_or_append_left, OwnerListView, entries_of, AreWrites, numbered-placed}
 use Rattle.version_tables.proofs.Laid.{has_cells}
+
+-- writes of earlier generations are of older ones than the owner's own
+pub earlier-at : (v : OwnerListView) → AreWrites v → (number : ℕ) (e : Entry) → write_numbered (entries_of v) number ≡ Some e
+    → number ≤ length v.earlier → e.generation < v.generation
+earlier-at v are number e is upto =
+    let at = numbered-placed (entries_of v) number e is in
+    let before : at.place < length v.earlier = omega (arith, at.is, upto) in
+    subst (λ (x : Entry). x.generation < v.generation)
+    (sym (get_or_append_left v.earlier v.current e at.place before) ∙ at.there e) (are.earlier at.place e before)
 
 module _ (written : ℕ → List Entry) (v : VersionTableView) (kept : IsKept written v) where
   abbrev cells : Cells
   cells = cell v.cells v.nodes
 
   -- numbers of writes so far, where the table holds no others of an owner, are up to their count
-  pub so-far-upto : (so_far : List Entry) (owner : ℕ) → IsBeginning so_far (written owner) → ((key : ℕ) (e : Entry) → entry_at (table_in written v) owner key ≡ Some e → Contains so_far e)
+  pub so-far-upto : (so_far : List Entry) (owner : ℕ) → IsBeginning so_far (written owner)
+      → ((key : ℕ) (e : Entry) → entry_at (table_in written v) owner key ≡ Some e → Contains so_far e)
       → (key : ℕ) → owner < v.nodes → key < v.keys → cells owner key ≤ length so_far
   so-far-upto so_far owner begins holds key in_nodes in_keys = elim (cases_lt 0 (cells owner key)) [
     | inr none ↦ omega (arith, none)
     | inl some ↦
-        let there = numbered-some (written owner) (cells owner key) some (kept.numbers.written owner key in_nodes in_keys) in
-        let held : entry_at (table_in written v) owner key ≡ Some there.0 = has_cells written v.node v.nodes v.keys v.generation cells kept.numbers owner key in_nodes in_keys ∙ there.1 in
+        let number = kept.numbers.each owner key in_nodes in_keys in
+        let there = numbered-some (written owner) (cells owner key) some number.written in
+        let held : entry_at (table_in written v) owner key ≡ Some there.0 = has_cells written v kept.numbers owner key in_nodes in_keys ∙ there.1 in
         let (place, lt, at) = holds key there.0 held in
         elim (cases_lt (suc place) (cells owner key)) [
           | inl before ↦
               let same = sym (begins (suc place) (omega (arith, lt))) ∙ write_from-here so_far place there.0 lt ∙ ap Some at ∙ sym there.1 in
-              absurd (kept.first owner key in_nodes in_keys (suc place) before same)
+              absurd (number.first (suc place) before same)
           | inr not_before ↦ omega (arith, not_before, lt)
         ]
   ]
@@ -45,25 +56,24 @@ module _ {written : ℕ → List Entry} {most : ℕ} {h : HistoriesView} {from t
   abbrev numbers : Cells
   numbers = cell from.cells from.nodes
 
-  first-upto : (owner key : ℕ) → owner < from.nodes → key < from.keys → numbers owner key ≤ length (all_writes h.lists owner)
+  -- these are of writes so far
+  pub first-upto : (owner key : ℕ) → owner < from.nodes → key < from.keys → numbers owner key ≤ length (all_writes h.lists owner)
   first-upto owner = so-far-upto written from two.first (all_writes h.lists owner) owner (two.known.so_far owner).begins (two.both.first.holds owner)
 
   -- the first one holds the writes of its numbers
   pub first-cells : HasCells (all_writes h.lists) numbers (table_in written from)
   first-cells owner key in_nodes in_keys =
-      has_cells written from.node from.nodes from.keys from.generation numbers two.first.numbers owner key in_nodes in_keys
+      has_cells written from two.first.numbers owner key in_nodes in_keys
       ∙ sym ((two.known.so_far owner).begins (numbers owner key) (first-upto owner key in_nodes in_keys))
 
-  -- these are of writes so far
-  pub first-numbers : AreNumbers (all_writes h.lists) from.nodes from.keys numbers
-  first-numbers = record {
-    written = first-upto;
-    keyed = λ owner key e in_nodes in_keys is. (two.first.proper.in_place owner key e (first-cells owner key in_nodes in_keys ∙ is)).keyed;
-  }
+  pub first-keyed : (owner key : ℕ) (e : Entry) → owner < from.nodes → key < from.keys
+      → write_numbered (all_writes h.lists owner) (numbers owner key) ≡ Some e → e.key ≡ key
+  first-keyed owner key e in_nodes in_keys is = (two.first.proper.in_place owner key e (first-cells owner key in_nodes in_keys ∙ is)).keyed
 
   -- one that isn't 0 is of a write that it holds, of its copy's generation
   pub first-held : (owner key : ℕ) → owner < from.nodes → key < from.keys → 0 < numbers owner key
-      → (e : Entry) × (write_numbered (all_writes h.lists owner) (numbers owner key) ≡ Some e) × (entry_at (table_in written from) owner key ≡ Some e) × (generation_of (all_writes h.lists owner) (numbers owner key) ≡ generation_held (table_in written from) owner)
+      → (e : Entry) × (write_numbered (all_writes h.lists owner) (numbers owner key) ≡ Some e) × (entry_at (table_in written from) owner key ≡ Some e) ×
+      (generation_of (all_writes h.lists owner) (numbers owner key) ≡ generation_held (table_in written from) owner)
   first-held owner key in_nodes in_keys some =
       let there = numbered-some (all_writes h.lists owner) (numbers owner key) some (first-upto owner key in_nodes in_keys) in
       let held = first-cells owner key in_nodes in_keys ∙ there.1 in

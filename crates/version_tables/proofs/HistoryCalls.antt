@@ -1,12 +1,12 @@
 -- What the calls of the histories make of all that is kept of the owners' writes.
--- Serves `Histories::begin_generation`, `Histories::end_round`, `Histories::lasts`, `Histories::new` and
--- `Histories::write`.
-use Rattle.version_tables.proofs.Common.{◌≡◌, ◌≢◌, ℕ, zero, suc, ◌+◌, ◌*◌, ◌<◌, ◌≤◌, ◌==◌, cond, List, [], ◌∷◌, ◌++◌, length, get_or, set, map, Some, inl, inr, refl, sym, ap, ◌∙◌, subst, transport, arith, length-append, cases_lt, cases_eq, eq-eqb, ne_eqb, get_or-set_same, get_or-set_other, get_or_append_left, get_or_push, length-set, get_or-append-add, get_or_default, length-map, map-append, map-set, append_assoc, append-nil, same_Some, number-at, Entry, LEAST_KEYS, MOST_KEYS, MOST_NODES, MOST_ROUNDS, write_numbered, OwnerListView, all_writes, entries_of, list_of_owner, no_writes, next_entry, with_write, begun_generation, AreWrites, ListBecomes, writes_more, writes_begun, HasEach, HasEachPlace, ArePlanesChanged, cell, AreMadeBy, IsHistory, IsNumberedHistory, IsRoundMark, IsLastNumber, numbered-within, write_from-here, HistoriesView, round_ended, AreHistories, AreNoWrites, IsCounted, IsWrittenSoFar, IsWriteUnder}
-use Rattle.version_tables.proofs.Generations.{current-at, earlier-at}
-use Rattle.version_tables.proofs.OwnCalls.{other-place, place-within}
+-- Serves `Histories::begin_generation`, `Histories::end_round`, `Histories::new` and `Histories::write`.
+use Rattle.version_tables.proofs.Common.{◌≡◌, ◌≢◌, ℕ, zero, suc, ◌+◌, ◌*◌, ◌<◌, ◌≤◌, ◌==◌, cond, List, [], ◌∷◌, ◌++◌, length, get_or, set, map, Some, ◌⊎◌, inl, inr, refl, sym, ap, ◌∙◌, subst, transport, arith, length-append, cases_lt, cases_eq, current-numbered, eq-eqb, ne_eqb, get_or-set_same, get_or-set_other, get_or_append_left, get_or_push, length-set, get_or-append-add, get_or_default, length-map, map-append, map-set, append_assoc, append-nil, same_Some, number-at, Entry, AreSizes, MOST_ROUNDS, write_numbered, OwnerListView, all_writes, entries_of, list_of_owner, no_writes, next_entry, with_write, begun_generation, AreWrites, ListBecomes, writes_more, writes_begun, HasEach, HasEachPlace, ArePlanesChanged, cell, nat_tests, number_kept, AreMadeBy, IsHistory, IsNumberedHistory, IsRoundMark, IsLastNumber, numbered-within, write_from-here, HistoriesView, round_ended, AreHistories, AreNoWrites, bases_in, IsWrittenSoFar, IsWriteUnder}
+use Rattle.version_tables.proofs.Fitting.{earlier-at}
+use Rattle.version_tables.proofs.OwnCalls.{each-set, place-set, place-within}
 
 -- one more write, in the round that comes next
-module _ (all : List Entry) (most rounds : ℕ) (v : OwnerListView) (key value : ℕ) (are : AreWrites v) (so_far : IsWrittenSoFar all most rounds (entries_of v)) where
+module _ {all : List Entry} {most rounds : ℕ} {v : OwnerListView} (key value : ℕ) (are : AreWrites v)
+    (so_far : IsWrittenSoFar all most rounds (entries_of v)) where
   abbrev w : List Entry
   w = entries_of v
 
@@ -25,7 +25,7 @@ module _ (all : List Entry) (most rounds : ℕ) (v : OwnerListView) (key value :
   split : length w ≡ length v.earlier + length v.current
   split = length-append v.earlier v.current
 
-  longer : length more ≡ length w + 1
+  pub longer : length more ≡ length w + 1
   longer = omega (arith, ap (λ (es : List Entry). length es) whole, length-append w (e ∷ []))
 
   -- it has the number after theirs, and they keep their own
@@ -46,7 +46,8 @@ module _ (all : List Entry) (most rounds : ℕ) (v : OwnerListView) (key value :
       ∙ ap Some (ap (λ es. get_or es (length w) e) whole ∙ get_or_push w e e (length w) refl)
 
   -- what holds of each write before, and of the one more
-  each : (P : ℕ → Entry → Type 0) → ((number : ℕ) (d : Entry) → number ≤ length w → write_numbered w number ≡ Some d → P number d) → P (length w + 1) e → (number : ℕ) (d : Entry) → write_numbered more number ≡ Some d → P number d
+  each : (P : ℕ → Entry → Type 0) → ((number : ℕ) (d : Entry) → number ≤ length w → write_numbered w number ≡ Some d → P number d)
+      → P (length w + 1) e → (number : ℕ) (d : Entry) → write_numbered more number ≡ Some d → P number d
   each P before last number d is = elim (cases_lt (length w) number) [
     | inl behind ↦
         let here : length w + 1 ≡ number = omega (arith, behind, (numbered-within more number d is).1, longer) in
@@ -85,7 +86,8 @@ module _ (all : List Entry) (most rounds : ℕ) (v : OwnerListView) (key value :
         n d is_d;
     alike = λ m n c d is_c is_d. each (λ n d. m ≤ n → n < m + d.version → c.generation ≡ d.generation)
         (λ n d upto is le. so_far.numbered.alike m n c d (back m c (omega (arith, upto, le)) is_c) is le)
-        (λ _ lt. each (λ m c. length v.earlier < m → c.generation ≡ v.generation) (λ m c _ is behind. (current-at v are m c is behind).0) (λ _. refl) m c is_c (omega (arith, lt, split)))
+        (λ _ lt. each (λ m c. length v.earlier < m → c.generation ≡ v.generation)
+        (λ m c _ is behind. (current-numbered v are m c is behind).generation) (λ _. refl) m c is_c (omega (arith, lt, split)))
         n d is_d;
   }
 
@@ -105,39 +107,37 @@ module _ (all : List Entry) (most rounds : ℕ) (v : OwnerListView) (key value :
     made = made-more;
   }
 
-  -- its number is the last one of its key, and those of other keys stay; where the rounds before end doesn't change
-  pub counted-more : (keys count base : ℕ) (lasts lasts' ends : ℕ → ℕ) → IsCounted v keys rounds count base lasts ends → lasts' key ≡ length w + 1 → ((k : ℕ) → k < keys → k ≢ key → lasts' k ≡ lasts k)
-      → IsCounted after keys rounds (length w + 1) base lasts' ends
-  counted-more keys count base lasts lasts' ends kept here others = record {
-    counted = sym (longer);
-    based = kept.based;
-    last = λ k in_keys. elim (cases_eq k key) [
-      | inl same ↦ subst (λ j. IsLastNumber after j (lasts' j)) (sym same) (subst (IsLastNumber after key) (sym here) (record {
-        written = omega (arith, longer);
-        last = λ m d missed. omega (arith, missed.over, (numbered-within more m d missed.written).1, longer);
-        there = λ below lt. (e, record { written = numbered-last; current = omega (arith, split); keyed = refl; over = lt });
-      }))
-      | inr other ↦
-          let last = kept.last k in_keys in
-          subst (IsLastNumber after k) (sym (others k in_keys other)) (record {
-            written = omega (arith, last.written, longer);
-            last = λ m d missed. each (λ m d. length v.earlier < m → d.key ≡ k → lasts k < m → ⊥) (λ m d _ is current keyed over. last.last m d (record { written = is; current = current; keyed = keyed; over = over }))
-                (λ _ keyed _. other (sym keyed)) m d missed.written missed.current missed.keyed missed.over;
-            there = λ below lt.
-                let old = last.there below lt in
-                (old.0, record { written = numbered-before (lasts k) last.written ∙ old.1.written; current = old.1.current; keyed = old.1.keyed; over = old.1.over });
-          })
-    ];
-    none = kept.none;
-    rise = kept.rise;
-    parts = λ round upto. record {
-      upto = λ number d some is_d. each (λ n d. 0 < n → n ≤ ends round → d.born ≤ round) (λ n d _ is some. (kept.parts round upto).upto n d some is) (λ _ le. absurd (omega (arith, le, kept.reached round upto))) number d is_d some;
-      above = λ number d some is_d. each (λ n d. 0 < n → ends round < n → round < d.born) (λ n d _ is some. (kept.parts round upto).above n d some is) (λ _ _. omega (arith, upto)) number d is_d some;
-    };
-    reached = λ round upto. omega (arith, kept.reached round upto, longer);
+  -- its number is the last one of its key
+  pub last-own : IsLastNumber after key (length w + 1)
+  last-own = record {
+    written = omega (arith, longer);
+    last = λ m d missed. omega (arith, missed.over, (numbered-within more m d missed.written).1, longer);
+    there = λ below lt. (e, record { written = numbered-last; current = omega (arith, split); keyed = refl; over = lt });
   }
 
-module _ {written : ℕ → List Entry} {most : ℕ} {h : HistoriesView} {counts bases lasts ends : List ℕ} (kept : AreHistories written most h counts bases lasts ends) where
+  -- those of other keys stay
+  pub last-other : (k n : ℕ) → k ≢ key → IsLastNumber v k n → IsLastNumber after k n
+  last-other k n other last = record {
+    written = omega (arith, last.written, longer);
+    last = λ m d missed. each (λ m d. length v.earlier < m → d.key ≡ k → n < m → ⊥)
+        (λ m d _ is current keyed over. last.last m d (record { written = is; current = current; keyed = keyed; over = over }))
+        (λ _ keyed _. other (sym keyed)) m d missed.written missed.current missed.keyed missed.over;
+    there = λ below lt.
+        let old = last.there below lt in
+        (old.0, record { written = numbered-before n last.written ∙ old.1.written; current = old.1.current; keyed = old.1.keyed; over = old.1.over });
+  }
+
+  -- and where the rounds before end doesn't change
+  pub parts-more : (round n : ℕ) → round ≤ rounds → n ≤ length w → IsRoundMark w 0 round n → IsRoundMark more 0 round n
+  parts-more round n upto within parts = record {
+    upto = λ number d some is_d. each (λ m d. 0 < m → m ≤ n → d.born ≤ round)
+        (λ m d _ is some. parts.upto m d some is) (λ _ le. absurd (omega (arith, le, within))) number d is_d some;
+    above = λ number d some is_d. each (λ m d. 0 < m → n < m → round < d.born)
+        (λ m d _ is some. parts.above m d some is) (λ _ _. omega (arith, upto)) number d is_d some;
+  }
+
+module _ {written : ℕ → List Entry} {most : ℕ} {h : HistoriesView} {nodes : ℕ} {counts bases lasts ends : List ℕ}
+    (kept : AreHistories written most h nodes counts bases lasts ends) where
   abbrev lists : List OwnerListView
   lists = h.lists
 
@@ -147,16 +147,10 @@ module _ {written : ℕ → List Entry} {most : ℕ} {h : HistoriesView} {counts
   abbrev rounds : ℕ
   rounds = h.rounds
 
-  abbrev nodes : ℕ
-  nodes = length lists
-
   -- a call that changes one owner's list
   module _ (new : List OwnerListView) (owner : ℕ) (in_nodes : owner < nodes) where
     abbrev list : OwnerListView
     list = list_of_owner lists owner
-
-    abbrev old : IsCounted list keys rounds (get_or counts owner 0) (get_or bases owner 0) (cell lasts nodes owner) (cell ends nodes owner)
-    old = kept.each owner in_nodes
 
     abbrev n : ℕ
     n = length (all_writes lists owner)
@@ -164,135 +158,154 @@ module _ {written : ℕ → List Entry} {most : ℕ} {h : HistoriesView} {counts
     abbrev after-call : HistoriesView
     after-call = record h { lists = new }
 
-    -- the others' stay as they are
-    histories-changed : (list' : OwnerListView) (counts' bases' lasts' : List ℕ) → ListBecomes owner list' lists new → length counts' ≡ length counts → length bases' ≡ length bases → length lasts' ≡ length lasts
-        → AreWrites list' → IsWrittenSoFar (written owner) most rounds (entries_of list')
-        → ((r : ℕ) → r < nodes → r ≢ owner → IsCounted (list_of_owner lists r) keys rounds (get_or counts' r 0) (get_or bases' r 0) (cell lasts' nodes r) (cell ends nodes r))
-        → IsCounted list' keys rounds (get_or counts' owner 0) (get_or bases' owner 0) (cell lasts' nodes owner) (cell ends nodes owner) → AreHistories written most after-call counts' bases' lasts' ends
-    histories-changed list' counts' bases' lasts' changes same_counts same_bases same_lasts are so_far others own = record {
-      limits = record {
-        few_nodes = omega (arith, kept.limits.few_nodes, changes.count);
-        some_key = kept.limits.some_key;
-        few_keys = kept.limits.few_keys;
-        few_rounds = kept.limits.few_rounds;
-      };
-      counts_size = same_counts ∙ kept.counts_size ∙ sym changes.count;
-      bases_size = same_bases ∙ kept.bases_size ∙ sym changes.count;
-      lasts_size = same_lasts ∙ kept.lasts_size ∙ ap (λ m. keys * m) (sym changes.count);
-      ends_size = kept.ends_size ∙ ap (λ m. (rounds + 1) * m) (sym changes.count);
-      known = record {
-        so_far = each-list (λ r v. IsWrittenSoFar (written r) most rounds (entries_of v)) (λ r _. kept.known.so_far r) so_far;
-        writes = each-list (λ _ v. AreWrites v) (λ r _. kept.known.writes r) are;
-      };
-      each = subst (λ m. (r : ℕ) → r < m → IsCounted (list_of_owner new r) keys rounds (get_or counts' r 0) (get_or bases' r 0) (cell lasts' m r) (cell ends m r)) (sym changes.count)
-          (each-list (λ r v. r < nodes → IsCounted v keys rounds (get_or counts' r 0) (get_or bases' r 0) (cell lasts' nodes r) (cell ends nodes r)) (λ r other lt. others r lt other) (λ _. own));
-    }
-      where
-        each-list : (P : ℕ → OwnerListView → Type 0) → ((r : ℕ) → r ≢ owner → P r (list_of_owner lists r)) → P owner list' → (r : ℕ) → P r (list_of_owner new r)
-        each-list P before here r = elim (cases_eq r owner) [
-          | inl same ↦ subst (λ k. P k (list_of_owner new k)) (sym same) (subst (P owner) (sym changes.changed) here)
-          | inr other ↦ subst (P r) (sym (changes.others r other)) (before r other)
-        ]
+    are : AreWrites list
+    are = kept.known.writes owner
 
-    pub histories-written : (key value : ℕ) (counts' lasts' : List ℕ) → ListBecomes owner (with_write list key value (rounds + 1)) lists new → IsWriteUnder written most owner (n + 1) (next_entry list key value (rounds + 1)) → key < keys
-        → counts' ≡ set counts owner (n + 1) → lasts' ≡ set lasts (key * nodes + owner) (n + 1) → AreHistories written most after-call counts' bases lasts' ends
-    histories-written key value counts' lasts' changes under in_keys is last_is =
-        transport (λ i. AreHistories written most after-call (sym is i) bases (sym last_is i) ends)
-        (histories-changed (with_write list key value (rounds + 1)) (set counts owner (n + 1)) bases (set lasts index (n + 1)) changes (length-set counts owner (n + 1)) refl (length-set lasts index (n + 1))
-        (writes_more list (kept.known.writes owner) key value (rounds + 1)) (so_far-more (written owner) most rounds list key value (kept.known.writes owner) (kept.known.so_far owner) under.is under.below)
-        (λ r lt other. transport (λ i. IsCounted (list_of_owner lists r) keys rounds (sym (get_or-set_other counts owner r (n + 1) 0 other) i) (get_or bases r 0)
-        (λ k. sym (get_or-set_other lasts index (k * nodes + r) (n + 1) 0 (other-place nodes r k owner key lt in_nodes (inl other))) i) (cell ends nodes r)) (kept.each r lt))
-        (subst (λ m. IsCounted (with_write list key value (rounds + 1)) keys rounds m (get_or bases owner 0) (cell (set lasts index (n + 1)) nodes owner) (cell ends nodes owner))
-        (sym (get_or-set_same counts owner (n + 1) 0 (omega (arith, in_nodes, kept.counts_size))))
-        (counted-more (written owner) most rounds list key value (kept.known.writes owner) (kept.known.so_far owner) keys (get_or counts owner 0) (get_or bases owner 0) (cell lasts nodes owner) (cell (set lasts index (n + 1)) nodes owner) (cell ends nodes owner) old
-        (get_or-set_same lasts index (n + 1) 0 (omega (arith, kept.lasts_size, place-within nodes keys owner key in_nodes in_keys)))
-        (λ k _ other. get_or-set_other lasts index (k * nodes + owner) (n + 1) 0 (other-place nodes owner k owner key in_nodes in_nodes (inr other))))))
-      where
-        index : ℕ
-        index = key * nodes + owner
+    so_far : IsWrittenSoFar (written owner) most rounds (entries_of list)
+    so_far = kept.known.so_far owner
 
-    pub histories-begun : (bases' lasts' : List ℕ) → ListBecomes owner (begun_generation list) lists new → bases' ≡ set bases owner n → ArePlanesChanged (λ r k x y. y ≡ cond (r == owner) 0 x) nodes keys lasts lasts'
-        → AreHistories written most after-call counts bases' lasts' ends
-    histories-begun bases' lasts' changes is cleared =
-        subst (λ bs. AreHistories written most after-call counts bs lasts' ends) (sym is)
-        (histories-changed (begun_generation list) counts (set bases owner n) lasts' changes refl (length-set bases owner n) cleared.size
-        (writes_begun list (kept.known.writes owner)) (subst (IsWrittenSoFar (written owner) most rounds) (sym whole) (kept.known.so_far owner))
-        (λ r lt other.
-        let stays = kept.each r lt in
-        record {
-          counted = stays.counted;
-          based = get_or-set_other bases owner r n 0 other ∙ stays.based;
-          last = λ k in_keys. subst (IsLastNumber (list_of_owner lists r) k) (sym (rw (ne_eqb r owner other) at (cleared.each r k lt in_keys))) (stays.last k in_keys);
-          none = stays.none;
-          rise = stays.rise;
-          parts = stays.parts;
-          reached = stays.reached;
-        })
+    module _ {list' : OwnerListView} (changes : ListBecomes owner list' lists new) where
+      -- what holds of the others' lists, which stay, and of this one holds of all
+      each-list : (P : ℕ → OwnerListView → Type 0) → ((r : ℕ) → r ≢ owner → P r (list_of_owner lists r)) → P owner list' → (r : ℕ) → P r (list_of_owner new r)
+      each-list P before here r = elim (cases_eq r owner) [
+        | inl same ↦ subst (λ k. P k (list_of_owner new k)) (sym same) (subst (P owner) (sym changes.changed) here)
+        | inr other ↦ subst (P r) (sym (changes.others r other)) (before r other)
+      ]
+
+      histories-changed : {counts' bases' lasts' : List ℕ} → AreWrites list' → IsWrittenSoFar (written owner) most rounds (entries_of list')
+          → HasEach nodes (λ r m. m ≡ length (all_writes new r)) counts' → HasEach nodes (λ r m. m ≡ bases_in new r) bases'
+          → HasEachPlace nodes keys (λ r k m. IsLastNumber (list_of_owner new r) k m) lasts' → n ≤ length (entries_of list')
+          → ((round m : ℕ) → round ≤ rounds → m ≤ n → IsRoundMark (entries_of list) 0 round m → IsRoundMark (entries_of list') 0 round m)
+          → AreHistories written most after-call nodes counts' bases' lasts' ends
+      histories-changed now now_so_far counted based last longer parts = record {
+        count = changes.count ∙ kept.count;
+        limits = record {
+          few_nodes = omega (arith, kept.limits.few_nodes, changes.count);
+          some_key = kept.limits.some_key;
+          few_keys = kept.limits.few_keys;
+          few_rounds = kept.limits.few_rounds;
+        };
+        known = record {
+          so_far = each-list (λ r v. IsWrittenSoFar (written r) most rounds (entries_of v)) (λ r _. kept.known.so_far r) now_so_far;
+          writes = each-list (λ _ v. AreWrites v) (λ r _. kept.known.writes r) now;
+        };
+        counted = counted;
+        based = based;
+        last = last;
+        ends_size = kept.ends_size;
+        ended = record {
+          none = kept.ended.none;
+          rise = kept.ended.rise;
+          parts = λ r round lt upto. each-list (λ r v. r < nodes → IsRoundMark (entries_of v) 0 round (cell ends nodes r round))
+              (λ r _ lt. kept.ended.parts r round lt upto)
+              (λ lt. parts round (cell ends nodes owner round) upto (kept.reached owner round lt upto) (kept.ended.parts owner round lt upto)) r lt;
+        };
+        reached = λ r round lt upto. each-list (λ r v. r < nodes → cell ends nodes r round ≤ length (entries_of v))
+            (λ r _ lt. kept.reached r round lt upto) (λ lt. omega (arith, kept.reached owner round lt upto, longer)) r lt;
+      }
+
+    pub histories-written : (key value : ℕ) {counts' lasts' : List ℕ} → ListBecomes owner (with_write list key value (rounds + 1)) lists new
+        → IsWriteUnder written most owner (n + 1) (next_entry list key value (rounds + 1)) → key < keys
+        → counts' ≡ set counts owner (n + 1) → lasts' ≡ set lasts (key * nodes + owner) (n + 1)
+        → AreHistories written most after-call nodes counts' bases lasts' ends
+    histories-written key value changes under in_keys is last_is =
+        let more = longer key value are so_far in
+        transport (λ i. AreHistories written most after-call nodes (sym is i) bases (sym last_is i) ends)
+        (histories-changed changes (writes_more list are key value (rounds + 1)) (so_far-more key value are so_far under.is under.below)
+        (each-set (λ r m. m ≡ length (all_writes new r)) counts nodes owner (n + 1) kept.counted.size in_nodes
+        (sym (ap (λ (v : OwnerListView). length (entries_of v)) changes.changed ∙ more))
+        (λ r lt other. kept.counted.each r lt ∙ ap (λ (v : OwnerListView). length (entries_of v)) (sym (changes.others r other))))
         (record {
-          counted = old.counted ∙ sym (ap (λ (es : List Entry). length es) whole);
-          based = get_or-set_same bases owner n 0 (omega (arith, in_nodes, kept.bases_size));
-          last = λ k in_keys. subst (IsLastNumber (begun_generation list) k) (sym (rw (eq-eqb owner owner refl) at (cleared.each owner k in_nodes in_keys))) (record {
-            written = omega arith;
-            last = λ m d missed. omega (arith, missed.current, (numbered-within (entries_of (begun_generation list)) m d missed.written).1, ap (λ (es : List Entry). length es) whole);
-            there = λ below lt. absurd (omega (arith, lt));
-          });
-          none = old.none;
-          rise = old.rise;
-          parts = λ round upto. subst (λ es. IsRoundMark es 0 round (cell ends nodes owner round)) (sym whole) (old.parts round upto);
-          reached = λ round upto. subst (λ es. cell ends nodes owner round ≤ length es) (sym whole) (old.reached round upto);
-        }))
+          size = kept.based.size;
+          each = λ r lt. kept.based.each r lt ∙ each-list changes (λ r v. bases_in lists r ≡ length v.earlier) (λ _ _. refl) refl r;
+        })
+        (place-set (λ r k m. IsLastNumber (list_of_owner new r) k m) lasts nodes keys owner key (n + 1) kept.last.size in_nodes in_keys
+        (subst (λ v. IsLastNumber v key (n + 1)) (sym changes.changed) (last-own key value are so_far))
+        (λ r k lt in_key. each-list changes (λ r v. r < nodes → (r ≢ owner) ⊎ (k ≢ key) → IsLastNumber v k (cell lasts nodes r k))
+        (λ r _ lt _. kept.last.each r k lt in_key)
+        (λ lt other. last-other key value are so_far k (cell lasts nodes owner k) (elim other [ inl ne ↦ absurd (ne refl) | inr ne ↦ ne ])
+        (kept.last.each owner k lt in_key)) r lt))
+        (omega (arith, more)) (parts-more key value are so_far))
+
+    pub histories-begun : {bases' lasts' : List ℕ} → ListBecomes owner (begun_generation list) lists new → bases' ≡ set bases owner n
+        → ArePlanesChanged (λ r k x y. y ≡ cond (r == owner) (number_kept n x) x) nodes keys lasts lasts'
+        → AreHistories written most after-call nodes counts bases' lasts' ends
+    histories-begun {lasts' = lasts'} changes is cleared =
+        subst (λ bs. AreHistories written most after-call nodes counts bs lasts' ends) (sym is)
+        (histories-changed changes (writes_begun list are) (subst (IsWrittenSoFar (written owner) most rounds) (sym whole) so_far)
+        (record {
+          size = kept.counted.size;
+          each = λ r lt. kept.counted.each r lt
+              ∙ each-list changes (λ r v. length (all_writes lists r) ≡ length (entries_of v)) (λ _ _. refl) (sym same) r;
+        })
+        (each-set (λ r m. m ≡ bases_in new r) bases nodes owner n kept.based.size in_nodes
+        (sym (ap (λ (v : OwnerListView). length v.earlier) changes.changed))
+        (λ r lt other. kept.based.each r lt ∙ ap (λ (v : OwnerListView). length v.earlier) (sym (changes.others r other))))
+        (record {
+          size = cleared.size ∙ kept.last.size;
+          each = λ r k lt in_key. each-list changes (λ r v. r < nodes → IsLastNumber v k (cell lasts' nodes r k))
+              (λ r other lt. subst (IsLastNumber (list_of_owner lists r) k) (sym (rw (ne_eqb r owner other) at (cleared.each r k lt in_key)))
+              (kept.last.each r k lt in_key))
+              (λ lt. subst (IsLastNumber (begun_generation list) k) (sym (dropped k in_key)) (record {
+                written = omega arith;
+                last = λ m d missed. omega (arith, missed.current, (numbered-within (entries_of (begun_generation list)) m d missed.written).1, same);
+                there = λ below lt. absurd (omega (arith, lt));
+              })) r lt;
+        })
+        (omega (arith, same)) (λ round m _ _ parts. subst (λ es. IsRoundMark es 0 round m) (sym whole) parts))
       where
         whole : entries_of (begun_generation list) ≡ entries_of list
         whole = append-nil (entries_of list)
 
+        same : length (entries_of (begun_generation list)) ≡ n
+        same = ap (λ (es : List Entry). length es) whole
+
+        dropped : (k : ℕ) → k < keys → cell lasts' nodes owner k ≡ 0
+        dropped k in_keys =
+            let upto = (kept.last.each owner k in_nodes in_keys).written in
+            (rw (eq-eqb owner owner refl) at (cleared.each owner k in_nodes in_keys)) ∙ grind (arith, nat_tests)
+
   -- one more round's end
   module _ (owner : ℕ) (lt : owner < nodes) where
     row-before : (round : ℕ) → round ≤ rounds → cell (ends ++ counts) nodes owner round ≡ cell ends nodes owner round
-    row-before round upto = get_or_append_left ends counts 0 (round * nodes + owner) (omega (arith, place-within nodes (rounds + 1) owner round lt (omega (arith, upto)), kept.ends_size))
+    row-before round upto =
+        get_or_append_left ends counts 0 (round * nodes + owner)
+        (omega (arith, place-within nodes (rounds + 1) owner round lt (omega (arith, upto)), kept.ends_size))
 
     row-last : (round : ℕ) → round ≡ rounds + 1 → cell (ends ++ counts) nodes owner round ≡ length (all_writes lists owner)
     row-last round last =
-        ap (λ i. get_or (ends ++ counts) i 0) {x = round * nodes + owner} {y = length ends + owner} (omega (arith, ap (λ (n : ℕ). n * nodes) last, kept.ends_size))
-        ∙ get_or-append-add ends counts owner 0 ∙ (kept.each owner lt).counted
+        ap (λ i. get_or (ends ++ counts) i 0) {x = round * nodes + owner} {y = length ends + owner}
+        (omega (arith, ap (λ (n : ℕ). n * nodes) last, kept.ends_size))
+        ∙ get_or-append-add ends counts owner 0 ∙ kept.counted.each owner lt
 
-    each-round : (P : ℕ → ℕ → Type 0) → ((round : ℕ) → round ≤ rounds → P round (cell ends nodes owner round)) → ((round : ℕ) → round ≡ rounds + 1 → P round (length (all_writes lists owner)))
+    each-round : (P : ℕ → ℕ → Type 0) → ((round : ℕ) → round ≤ rounds → P round (cell ends nodes owner round))
+        → ((round : ℕ) → round ≡ rounds + 1 → P round (length (all_writes lists owner)))
         → (round : ℕ) → round ≤ rounds + 1 → P round (cell (ends ++ counts) nodes owner round)
     each-round P before after round upto = elim (cases_lt rounds round) [
       | inl new ↦ let last : round ≡ rounds + 1 = omega (arith, new, upto) in subst (P round) (sym (row-last round last)) (after round last)
       | inr not_new ↦ let old : round ≤ rounds = omega (arith, not_new) in subst (P round) (sym (row-before round old)) (before round old)
     ]
 
-    counted-ended : IsCounted (list_of_owner lists owner) keys (rounds + 1) (get_or counts owner 0) (get_or bases owner 0) (cell lasts nodes owner) (cell (ends ++ counts) nodes owner)
-    counted-ended =
-        let old = kept.each owner lt in
-        record {
-          counted = old.counted;
-          based = old.based;
-          last = old.last;
-          none = row-before 0 (omega arith) ∙ old.none;
-          rise = λ round before. elim (cases_lt round rounds) [
-            | inl early ↦ omega (arith, row-before round (omega (arith, early)), row-before (round + 1) (omega (arith, early)), old.rise round early)
-            | inr late ↦ omega (arith, row-before round (omega (arith, before)), row-last (round + 1) (omega (arith, before, late)), old.reached round (omega (arith, before)))
-          ];
-          parts = each-round (λ round mark. IsRoundMark (all_writes lists owner) 0 round mark) old.parts (λ round last. record {
-            upto = λ number d some is le. omega (arith, (kept.known.so_far owner).made.last number d is, last);
-            above = λ number d some is behind. absurd (omega (arith, behind, (numbered-within (all_writes lists owner) number d is).1));
-          });
-          reached = each-round (λ _ mark. mark ≤ length (all_writes lists owner)) old.reached (λ _ _. omega arith);
-        }
+    rise-ended : (round : ℕ) → round < rounds + 1 → cell (ends ++ counts) nodes owner round ≤ cell (ends ++ counts) nodes owner (round + 1)
+    rise-ended round before = elim (cases_lt round rounds) [
+      | inl early ↦ omega (arith, row-before round (omega (arith, early)), row-before (round + 1) (omega (arith, early)), kept.ended.rise owner round lt early)
+      | inr late ↦
+          let upto : round ≤ rounds = omega (arith, before) in
+          omega (arith, row-before round upto, row-last (round + 1) (omega (arith, before, late)), kept.reached owner round lt upto)
+    ]
 
-  pub histories-ended : (ends' : List ℕ) → ends' ≡ ends ++ counts → rounds < MOST_ROUNDS → AreHistories written most (round_ended h) counts bases lasts ends'
-  histories-ended ends' is left = subst (AreHistories written most (round_ended h) counts bases lasts) (sym is) (record {
-    limits = record {
-      few_nodes = kept.limits.few_nodes;
-      some_key = kept.limits.some_key;
-      few_keys = kept.limits.few_keys;
-      few_rounds = omega (arith, left);
-    };
-    counts_size = kept.counts_size;
-    bases_size = kept.bases_size;
-    lasts_size = kept.lasts_size;
-    ends_size = grind (arith, length-append ends counts, kept.ends_size, kept.counts_size);
+    parts-ended : (round : ℕ) → round ≤ rounds + 1 → IsRoundMark (all_writes lists owner) 0 round (cell (ends ++ counts) nodes owner round)
+    parts-ended = each-round (λ round mark. IsRoundMark (all_writes lists owner) 0 round mark) (λ round. kept.ended.parts owner round lt)
+        (λ round last. record {
+          upto = λ number d some is le. omega (arith, (kept.known.so_far owner).made.last number d is, last);
+          above = λ number d some is behind. absurd (omega (arith, behind, (numbered-within (all_writes lists owner) number d is).1));
+        })
+
+  pub histories-ended : {ends' : List ℕ} → ends' ≡ ends ++ counts → rounds < MOST_ROUNDS
+      → AreHistories written most (round_ended h) nodes counts bases lasts ends'
+  histories-ended is left = subst (AreHistories written most (round_ended h) nodes counts bases lasts) (sym is) (record {
+    count = kept.count;
+    limits = record { few_nodes = kept.limits.few_nodes; some_key = kept.limits.some_key; few_keys = kept.limits.few_keys; few_rounds = omega (arith, left) };
     known = record {
       so_far = λ owner.
           let old = kept.known.so_far owner in
@@ -305,20 +318,31 @@ module _ {written : ℕ → List Entry} {most : ℕ} {h : HistoriesView} {counts
           };
       writes = kept.known.writes;
     };
-    each = counted-ended;
+    counted = kept.counted;
+    based = kept.based;
+    last = kept.last;
+    ends_size = grind (arith, length-append ends counts, kept.ends_size, kept.counted.size);
+    ended = record {
+      none = λ owner lt. row-before owner lt 0 (omega arith) ∙ kept.ended.none owner lt;
+      rise = λ owner round lt. rise-ended owner lt round;
+      parts = λ owner round lt. parts-ended owner lt round;
+    };
+    reached = λ owner round lt. each-round owner lt (λ _ mark. mark ≤ length (all_writes lists owner)) (λ round. kept.reached owner round lt)
+        (λ _ _. omega arith) round;
   })
 
+-- there are as many lists as nodes
+pub nodes-are : {written : ℕ → List Entry} {most : ℕ} {h : HistoriesView} {nodes : ℕ} {counts bases lasts ends : List ℕ}
+    → AreHistories written most h nodes counts bases lasts ends → AreHistories written most h (length h.lists) counts bases lasts ends
+nodes-are {written = written} {most = most} {h = h} {counts = counts} {bases = bases} {lasts = lasts} {ends = ends} kept =
+    subst (λ m. AreHistories written most h m counts bases lasts ends) (sym kept.count) kept
+
 -- what code reads of counts is how much the owner wrote
-pub count-read : {N : Type 0} {written : ℕ → List Entry} {most : ℕ} {h : HistoriesView} {bases lasts ends : List ℕ} (number : N → ℕ) (counts : List N) → AreHistories written most h (map number counts) bases lasts ends
-    → (owner : ℕ) (x : N) → owner < length h.lists → x ≡ get_or counts owner x → number x ≡ length (all_writes h.lists owner)
-count-read number counts kept owner x lt is = number-at number counts owner x (omega (arith, lt, kept.counts_size, length-map counts number)) is ∙ (kept.each owner lt).counted
-
--- what is kept of last numbers
-abbrev pub AreLasts : HistoriesView → List ℕ → Type 0
-AreLasts h lasts = HasEachPlace (length h.lists) h.keys (λ r k n. IsLastNumber (list_of_owner h.lists r) k n) lasts
-
-pub lasts-kept : {written : ℕ → List Entry} {most : ℕ} {h : HistoriesView} {counts bases lasts ends : List ℕ} → AreHistories written most h counts bases lasts ends → AreLasts h lasts
-lasts-kept kept = record { size = kept.lasts_size; each = λ r k lt in_keys. (kept.each r lt).last k in_keys }
+pub count-read : {N : Type 0} {written : ℕ → List Entry} {most nodes : ℕ} {h : HistoriesView} {bases lasts ends : List ℕ} (number : N → ℕ) (counts : List N)
+    → AreHistories written most h nodes (map number counts) bases lasts ends
+    → (owner : ℕ) (x : N) → owner < nodes → x ≡ get_or counts owner x → number x ≡ length (all_writes h.lists owner)
+count-read number counts kept owner x lt is =
+    number-at number counts owner x (omega (arith, lt, kept.counted.size, length-map counts number)) is ∙ kept.counted.each owner lt
 
 -- no number is that of a write where nothing was written
 none-written : {P : Type 0} (number : ℕ) (e : Entry) → write_numbered [] number ≡ Some e → P
@@ -334,44 +358,58 @@ so_far-none all most some = record {
 }
 
 -- before the first round
-pub histories-empty : (written : ℕ → List Entry) (most nodes keys : ℕ) (lists : List OwnerListView) (counts bases lasts ends : List ℕ) → 0 < most → nodes ≤ MOST_NODES → LEAST_KEYS ≤ keys → keys ≤ MOST_KEYS → AreNoWrites nodes lists
-    → HasEach nodes (λ r n. n ≡ 0) counts → HasEach nodes (λ r n. n ≡ 0) bases → HasEach (keys * nodes) (λ r n. n ≡ 0) lasts → HasEach nodes (λ r n. n ≡ 0) ends
-    → AreHistories written most (record { lists = lists; keys = keys; rounds = 0 }) counts bases lasts ends
-histories-empty written most nodes keys lists counts bases lasts ends some few some_key few_keys nothing no_counts no_bases no_lasts no_ends = record {
-  limits = record { few_nodes = omega (arith, few, nothing.count); some_key = some_key; few_keys = few_keys; few_rounds = omega arith };
-  counts_size = no_counts.size ∙ sym nothing.count;
-  bases_size = no_bases.size ∙ sym nothing.count;
-  lasts_size = no_lasts.size ∙ ap (λ n. keys * n) (sym nothing.count);
-  ends_size = omega (arith, no_ends.size, nothing.count);
-  known = record {
-    so_far = λ r. subst (λ v. IsWrittenSoFar (written r) most 0 (entries_of v)) (sym (nothing.empty r)) (so_far-none (written r) most some);
-    writes = λ r. subst AreWrites (sym (nothing.empty r)) (record {
-      current = λ i d lt. absurd (omega (arith, lt));
-      earlier = λ i d lt. absurd (omega (arith, lt));
-      rising = λ i j d lt in_range. absurd (omega (arith, in_range));
-    });
-  };
-  each = subst (λ m. (r : ℕ) → r < m → IsCounted (list_of_owner lists r) keys 0 (get_or counts r 0) (get_or bases r 0) (cell lasts m r) (cell ends m r)) (sym nothing.count)
-      (λ r lt. subst (λ v. IsCounted v keys 0 (get_or counts r 0) (get_or bases r 0) (cell lasts nodes r) (cell ends nodes r)) (sym (nothing.empty r)) (record {
-        counted = no_counts.each r lt;
-        based = no_bases.each r lt;
-        last = λ k in_keys. subst (IsLastNumber no_writes k) (sym (no_lasts.each (k * nodes + r) (place-within nodes keys r k lt in_keys))) (record {
-          written = omega arith;
-          last = λ m d missed. none-written m d missed.written;
-          there = λ below under. absurd (omega (arith, under));
+pub histories-empty : (written : ℕ → List Entry) (most nodes keys : ℕ) (lists : List OwnerListView) {counts bases lasts ends : List ℕ} → 0 < most
+    → AreSizes nodes keys → AreNoWrites nodes lists → HasEach nodes (λ r n. n ≡ 0) counts → HasEach nodes (λ r n. n ≡ 0) bases
+    → HasEach (keys * nodes) (λ r n. n ≡ 0) lasts → HasEach nodes (λ r n. n ≡ 0) ends
+    → AreHistories written most (record { lists = lists; keys = keys; rounds = 0 }) nodes counts bases lasts ends
+histories-empty written most nodes keys lists {counts = counts} {bases = bases} {lasts = lasts}
+    {ends = ends} some sizes nothing no_counts no_bases no_lasts no_ends = record {
+      count = nothing.count;
+      limits = record {
+        few_nodes = omega (arith, sizes.few_nodes, nothing.count);
+        some_key = sizes.some_key;
+        few_keys = sizes.few_keys;
+        few_rounds = omega arith;
+      };
+      known = record {
+        so_far = λ r. of-none (λ v. IsWrittenSoFar (written r) most 0 (entries_of v)) r (so_far-none (written r) most some);
+        writes = λ r. of-none AreWrites r (record {
+          current = λ i d lt. absurd (omega (arith, lt));
+          earlier = λ i d lt. absurd (omega (arith, lt));
+          rising = λ i j d lt in_range. absurd (omega (arith, in_range));
         });
-        none = row r 0 lt (omega arith);
-        rise = λ round before. absurd (omega (arith, before));
-        parts = λ round upto. record { upto = λ n e _ is _. none-written n e is; above = λ n e _ is _. none-written n e is };
-        reached = λ round upto. omega (arith, row r round lt upto);
-      }));
-}
+      };
+      counted = record { size = no_counts.size; each = λ r lt. of-none (λ v. get_or counts r 0 ≡ length (entries_of v)) r (no_counts.each r lt) };
+      based = record { size = no_bases.size; each = λ r lt. of-none (λ v. get_or bases r 0 ≡ length v.earlier) r (no_bases.each r lt) };
+      last = record {
+        size = no_lasts.size;
+        each = λ r k lt in_keys. of-none (λ v. IsLastNumber v k (cell lasts nodes r k)) r
+            (subst (IsLastNumber no_writes k) (sym (no_lasts.each (k * nodes + r) (place-within nodes keys r k lt in_keys))) (record {
+              written = omega arith;
+              last = λ m d missed. none-written m d missed.written;
+              there = λ below under. absurd (omega (arith, under));
+            }));
+      };
+      ends_size = omega (arith, no_ends.size);
+      ended = record {
+        none = λ r lt. row r 0 lt (omega arith);
+        rise = λ r round lt before. absurd (omega (arith, before));
+        parts = λ r round lt upto. of-none (λ v. IsRoundMark (entries_of v) 0 round (cell ends nodes r round)) r
+            (record { upto = λ n e _ is _. none-written n e is; above = λ n e _ is _. none-written n e is });
+      };
+      reached = λ r round lt upto. omega (arith, row r round lt upto);
+    }
   where
+    of-none : (P : OwnerListView → Type 0) (r : ℕ) → P no_writes → P (list_of_owner lists r)
+    of-none P r = subst P (sym (nothing.empty r))
+
     row : (r round : ℕ) → r < nodes → round ≤ 0 → cell ends nodes r round ≡ 0
-    row r round lt upto = subst (λ i. get_or ends i 0 ≡ 0) {x = r} {y = round * nodes + r} (omega (arith, ap (λ (n : ℕ). n * nodes) {x = round} {y = 0} (omega (arith, upto)))) (no_ends.each r lt)
+    row r round lt upto = subst (λ i. get_or ends i 0 ≡ 0) {x = r} {y = round * nodes + r}
+        (omega (arith, ap (λ (n : ℕ). n * nodes) {x = round} {y = 0} (omega (arith, upto)))) (no_ends.each r lt)
 
 -- what is read at an owner's place is its list, and to set it changes that alone
-pub list-becomes : (lists : List OwnerListView) (owner : ℕ) (held list : OwnerListView) (f : OwnerListView → OwnerListView) → owner < length lists → held ≡ get_or lists owner held → list ≡ f held
+pub list-becomes : (lists : List OwnerListView) (owner : ℕ) (held list : OwnerListView) (f : OwnerListView → OwnerListView) → owner < length lists
+    → held ≡ get_or lists owner held → list ≡ f held
     → ListBecomes owner (f (list_of_owner lists owner)) lists (set lists owner list)
 list-becomes lists owner held list f lt here is = record {
   count = length-set lists owner list;
@@ -380,9 +418,11 @@ list-becomes lists owner held list f lt here is = record {
 }
 
 -- one number is set
-pub numbers-set : {A : Type 0} (number : A → ℕ) (xs : List A) (owner : ℕ) (x : A) (n : ℕ) → number x ≡ n → map number (set xs owner x) ≡ set (map number xs) owner n
+pub numbers-set : {A : Type 0} (number : A → ℕ) (xs : List A) (owner : ℕ) (x : A) (n : ℕ) → number x ≡ n
+    → map number (set xs owner x) ≡ set (map number xs) owner n
 numbers-set number xs owner x n is = map-set number xs owner x ∙ ap (set (map number xs) owner) is
 
 -- numbers behind others
-pub numbers-appended : {A : Type 0} (number : A → ℕ) (old held more new : List A) → new ≡ old ++ held → held ≡ more → map number new ≡ map number old ++ map number more
+pub numbers-appended : {A : Type 0} (number : A → ℕ) (old held more new : List A) → new ≡ old ++ held → held ≡ more
+    → map number new ≡ map number old ++ map number more
 numbers-appended number old held more new is same = ap (map number) (is ∙ ap (λ xs. old ++ xs) same) ∙ map-append number old more

@@ -3,7 +3,6 @@ pub mod Told
 pub mod Delivered
 pub mod Laid
 pub mod Fitting
-pub mod Generations
 pub mod OwnCalls
 pub mod NextWrites
 pub mod Standing

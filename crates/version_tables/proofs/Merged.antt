@@ -1,12 +1,15 @@
 -- Tables that take all that the other has above their own greatest numbers exchange as the model's do.
 -- Serves `exchange`.
-use Rattle.version_tables.proofs.Common.{◌≡◌, ℕ, zero, suc, ◌+◌, ◌-◌, ◌<◌, ◌≤◌, false, max, List, get_or, length, map, inl, inr, refl, sym, ap, ◌∙◌, arith, Option, Some, None, mul-le-mul_right, cases_lt, map-id, nat_tests, Entry, Budget, Entries, Bytes, Scuttle, Exchange, First, Oldest, Newest, Record, Rules, amount_of, largest_share, digest_kind, first_sent, sum_below-le, DeltaView, digest_size, last_fate, sent_until, MakesOf, write_numbered, all_writes, applied, Cells, cell, count_between, most_ahead, total_above, BothCounts, Offer, NumbersDiffer, by_first, IsOffer, share_or_none, number_shares, count_all_between, weight_between, sum_below-none, whole-size, whole-marked, part, part-cases, weight_of-none, weight_of-split, weight_between-most, count_between-most, IsVersionTable, VersionTableView, HistoriesView, table_in, delta_of_views, AreLaidBoth, AreMarksOf, bases_in, AreLow, AreOffered, BothStayMerged, HaveMerged, IsMerged, MayMerge, MayTakeAll, IsTaken}
-use Rattle.version_tables.proofs.Delivered.{offer-is, delta-marks}
+use Rattle.version_tables.proofs.Common.{◌≡◌, ℕ, zero, suc, ◌+◌, ◌-◌, ◌<◌, ◌≤◌, false, max, List, get_or, length, map, inl, inr, refl, sym, ap, ◌∙◌, arith, Option, Some, None, mul-le-mul_right, cases_lt, map-id, nat_tests, Entry, Budget, Entries, Bytes, Scuttle, Exchange, First, Oldest, Newest, Record, Rules, amount_of, largest_share, digest_kind, first_sent, sum_below-le, DeltaView, digest_size, last_fate, sent_until, MakesOf, write_numbered, all_writes, Cells, cell, count_between, most_ahead, total_above, BothCounts, Offer, NumbersDiffer, by_first, IsOffer, share_or_none, number_shares, count_all_between, weight_between, sum_below-none, whole-size, whole-marked, part, part-cases, weight_of-none, weight_of-split, weight_between-most, count_between-most, VersionTableView, HistoriesView, table_in, delta_of_views, AreLaidBoth, AreMarksOf, bases_in, BothStayMerged, HasMerged, HaveMerged, MayMerge, MayTakeAll, HasTaken}
+use Rattle.version_tables.proofs.Delivered.{IsOfferOf, offer-is, delta-marks}
 use Rattle.version_tables.proofs.Fitting.{turned}
-use Rattle.version_tables.proofs.TakenViews.{becomes_applied, becomes_one}
+use Rattle.version_tables.proofs.Laid.{LiesAs, lies-kept, lies-table}
+use Rattle.version_tables.proofs.TakenEntries.{after}
+use Rattle.version_tables.proofs.TakenViews.{becomes}
 
 -- marks that let all through are the high ones, or from the newest on the low ones, beside which are the others
-whole-marks : (first : First) (low high : List ℕ) (P : List ℕ → List ℕ → Type 0) → P (by_first first low (by_first first high low)) (by_first first (by_first first high low) high) → P low high
+whole-marks : (first : First) (low high : List ℕ) (P : List ℕ → List ℕ → Type 0)
+    → P (by_first first low (by_first first high low)) (by_first first (by_first first high low) high) → P low high
 whole-marks Oldest low high P are = are
 whole-marks Newest low high P are = are
 
@@ -17,7 +20,12 @@ module _ (cells : Cells) (owner : ℕ) where
   one-between (suc keys) low high le differ = elim (part-cases (λ _. 1) low high (cells owner keys)) [
     | inr none ↦ omega (arith, none, one-between keys low high le (λ k l k_lt l_lt. differ k l (omega (arith, k_lt)) (omega (arith, l_lt))))
     | inl here ↦
-        omega (arith, here.2, sum_below-none keys (λ key. part (λ _. 1) low high (cells owner key)) (λ key lt. let apart = differ key keys (omega (arith, lt)) (omega arith) in grind (arith, nat_tests)))
+        omega (
+          arith,
+          here.2,
+          sum_below-none keys (λ key. part (λ _. 1) low high (cells owner key))
+              (λ key lt. let apart = differ key keys (omega (arith, lt)) (omega arith) in grind (arith, nat_tests)),
+        )
   ]
 
   few-upto : (keys apart low high : ℕ) → high ≤ low + apart → NumbersDiffer cells keys owner → count_between cells keys owner low high ≤ apart
@@ -36,7 +44,8 @@ largest-share (Entries n) (Some e) = omega arith
 largest-share (Bytes n) None = omega arith
 largest-share (Bytes n) (Some e) = omega arith
 
-module _ (rules : Rules) (rotation : ℕ) {written : ℕ → List Entry} {most : ℕ} {h : HistoriesView} {from to : VersionTableView} (two : AreLaidBoth written most h from to)
+module _ (rules : Rules) (rotation : ℕ) {written : ℕ → List Entry} {most : ℕ} {h : HistoriesView} {from to : VersionTableView}
+    (two : AreLaidBoth written most h from to)
     (in_nodes : rotation < from.nodes) (scuttle : digest_kind rules.mode ≡ Scuttle) (may : MayTakeAll rules.budget (bases_in h.lists) from to) where
   abbrev id : ℕ → ℕ
   id n = n
@@ -61,28 +70,39 @@ module _ (rules : Rules) (rotation : ℕ) {written : ℕ → List Entry} {most :
   cells = cell from.cells from.nodes
 
   sender-upto : (owner key : ℕ) → owner < from.nodes → key < from.keys → cells owner key ≤ high owner
-  sender-upto owner key in_owners in_keys = (two.first.most owner in_owners).upto key in_keys
+  sender-upto owner key in_owners in_keys = (two.first.most.each owner in_owners).upto key in_keys
 
-  low-is : AreLow (digest_kind rules.mode) h from to (map id to.greatest)
-  low-is = simp (scuttle, map-id) (record {
-    count = two.second.greatest_count;
-    others = λ _ _ _. refl;
-    sent = λ key in_keys. omega (arith, may.own, sender-upto to.node key (omega (arith, two.second.proper.node_below, two.both.size.nodes)) in_keys);
-    held = (two.second.most to.node two.second.proper.node_below).upto;
-  })
-
-  cells-are : AreOffered (digest_kind rules.mode) from to (map id to.greatest) (map id from.cells)
-  cells-are = simp (scuttle, map-id) (record { size = two.first.cell_count; each = λ _ _ _ _. refl })
+  of-all : IsOfferOf id rules h from to all
+  of-all = record {
+    nodes = refl;
+    keys = refl;
+    lists = refl;
+    budget = refl;
+    high = map-id from.greatest;
+    low = simp (scuttle, map-id) (record {
+      count = two.second.most.size;
+      others = λ _ _ _. refl;
+      sent = λ key in_keys. omega (arith, may.own, sender-upto to.node key (omega (arith, two.second.proper.node_below, two.both.size.nodes)) in_keys);
+      held = (two.second.most.each to.node two.second.proper.node_below).upto;
+    });
+    offered = simp (scuttle, map-id) (record { size = two.first.numbers.size; each = λ _ _ _ _. refl });
+    found = simp map-id;
+  }
 
   is-offer : IsOffer id most all
-  is-offer = offer-is id two rules all refl refl refl refl (map-id from.greatest) low-is cells-are (simp map-id)
+  is-offer = offer-is id two rules all of-all
 
   -- so many, which are no more than the greatest numbers are apart
   abbrev count : ℕ
   count = count_all_between cells from.nodes from.keys low high
 
   count-few : count ≤ most_ahead from.nodes from.keys from.greatest to.greatest
-  count-few = sum_below-le from.nodes _ _ (λ r lt. omega (arith, few-upto cells r from.keys (high r - low r) (low r) (high r) (omega arith) (simp map-id at (is-offer.differ r lt)), count_between-most cells from.keys r (low r) (high r)))
+  count-few = sum_below-le from.nodes _ _ (λ r lt. omega (
+    arith,
+    few-upto cells r from.keys (high r - low r) (low r) (high r) (omega arith)
+        (simp map-id at (is-offer.differ r lt)),
+    count_between-most cells from.keys r (low r) (high r),
+  ))
 
   same-total : total_above from.nodes from.keys from.cells to.greatest ≡ count
   same-total = simp map-id at is-offer.found
@@ -90,83 +110,97 @@ module _ (rules : Rules) (rotation : ℕ) {written : ℕ → List Entry} {most :
   -- so all of it fits
   within : weight_between (number_shares rules.budget (all_writes h.lists)) cells from.nodes from.keys low high ≤ amount_of rules.budget
   within =
-      let weighs = weight_between-most (number_shares rules.budget (all_writes h.lists)) (largest_share rules.budget) cells from.nodes from.keys low high (λ owner number. largest-share rules.budget (write_numbered (all_writes h.lists owner) number)) in
+      let weighs = weight_between-most (number_shares rules.budget (all_writes h.lists)) (largest_share rules.budget) cells from.nodes from.keys low high
+      (λ owner number. largest-share rules.budget (write_numbered (all_writes h.lists owner) number)) in
       elim may.fits [
-        | inl apart ↦ omega (arith, weighs, mul-le-mul_right {m = count} {n = most_ahead from.nodes from.keys from.greatest to.greatest} (largest_share rules.budget) count-few, apart)
+        | inl apart ↦ omega (
+          arith,
+          weighs,
+          mul-le-mul_right {m = count} {n = most_ahead from.nodes from.keys from.greatest to.greatest}
+              (largest_share rules.budget) count-few,
+          apart,
+        )
         | inr counted ↦ omega (arith, weighs, rw same-total at counted)
       ]
 
   pub marks-of : AreMarksOf rules rotation written from to to.greatest from.greatest (total_above from.nodes from.keys from.cells to.greatest) 0
   marks-of =
       let whole = by_first (first_sent rules.mode) from.greatest to.greatest in
-      whole-marks (first_sent rules.mode) to.greatest from.greatest (λ xs ys. AreMarksOf rules rotation written from to xs ys (total_above from.nodes from.keys from.cells to.greatest) 0)
-      (simp map-id at (delta-marks id two rules all refl refl refl refl (map-id from.greatest) low-is cells-are (simp map-id) rotation in_nodes (map id whole) (total_above from.nodes from.keys from.cells to.greatest) 0
+      whole-marks (first_sent rules.mode) to.greatest from.greatest
+      (λ xs ys. AreMarksOf rules rotation written from to xs ys (total_above from.nodes from.keys from.cells to.greatest) 0)
+      (simp map-id at (delta-marks id two rules all of-all rotation in_nodes (map id whole) (total_above from.nodes from.keys from.cells to.greatest) 0
       (whole-marked id most all is-offer rotation (simp map-id within) rules.mode whole refl)
       (whole-size id most all is-offer (first_sent rules.mode) (map id whole) (simp map-id))))
 
   -- what it then has was taken
-  module _ {new_cells new_greatest : List ℕ} (merged : IsMerged to.nodes to.keys to.cells to.greatest from.cells from.greatest new_cells new_greatest) where
+  module _ {new : VersionTableView} (merged : HasMerged from to new) where
     here-sent : (owner key : ℕ) → owner < to.nodes → key < to.keys → cell from.cells to.nodes owner key ≤ high owner
-    here-sent owner key in_owners in_keys =
-        omega (arith, ap (λ n. cell from.cells n owner key) two.both.size.nodes, sender-upto owner key (omega (arith, in_owners, two.both.size.nodes)) (omega (arith, in_keys, two.both.size.keys)))
+    here-sent owner key in_owners in_keys = omega (
+      arith,
+      ap (λ n. cell from.cells n owner key) two.both.size.nodes,
+      sender-upto owner key (omega (arith, in_owners, two.both.size.nodes)) (omega (arith, in_keys, two.both.size.keys)),
+    )
 
-    raised-at : (owner : ℕ) → owner < to.nodes → get_or new_greatest owner 0 ≡ max (low owner) (high owner)
-    raised-at owner lt = merged.most.each owner (omega (arith, lt, two.second.greatest_count))
-
-    taken : IsTaken (all_writes h.lists) (bases_in h.lists) to.nodes to.keys to.cells to.greatest from.cells to.greatest from.greatest new_cells new_greatest
+    taken : HasTaken h.lists to from.cells to.greatest from.greatest new
     taken = record {
-      cell_count = merged.numbers.size;
-      greatest_count = merged.most.size ∙ two.second.greatest_count;
-      raised = λ owner lt.
-          let is = raised-at owner lt in
-          record {
-            rises = omega (arith, is);
-            upto = λ key in_keys. let held = (two.second.most owner lt).upto key in_keys in let sent = here-sent owner key lt in_keys in grind (arith, nat_tests);
-            from = elim (cases_lt (low owner) (high owner)) [
-              | inr not_below ↦ inl (omega (arith, is, not_below))
-              | inl below ↦ elim (two.first.most owner (omega (arith, lt, two.both.size.nodes))).held [
-                | inl none ↦ absurd (omega (arith, none, below))
-                | inr (key, in_keys, top) ↦
-                    let in_key : key < to.keys = omega (arith, in_keys, two.both.size.keys) in
-                    let there : cell from.cells to.nodes owner key ≡ high owner = ap (λ n. cell from.cells n owner key) (sym two.both.size.nodes) ∙ top in
-                    let held = (two.second.most owner lt).upto key in_key in
-                    inr (key, in_key, grind (arith, nat_tests))
-              ]
-            ];
-          };
-      kept = λ owner key lt in_keys.
-          let is = merged.numbers.each owner key lt in_keys in
-          let sent = here-sent owner key lt in_keys in
-          let current = may.current owner lt in
-          grind (arith, nat_tests);
+      raised = record {
+        size = merged.most.size ∙ two.second.most.size;
+        each = λ owner lt.
+            let is : get_or new.greatest owner 0 ≡ max (low owner) (high owner) = merged.most.each owner (omega (arith, lt, two.second.most.size)) in
+            record {
+              rises = omega (arith, is);
+              upto = λ key in_keys. let held = (two.second.most.each owner lt).upto key in_keys in let sent = here-sent owner key lt in_keys in grind
+                  (arith, nat_tests);
+              from = elim (cases_lt (low owner) (high owner)) [
+                | inr not_below ↦ inl (omega (arith, is, not_below))
+                | inl below ↦ elim (two.first.most.each owner (omega (arith, lt, two.both.size.nodes))).held [
+                  | inl none ↦ absurd (omega (arith, none, below))
+                  | inr (key, in_keys, top) ↦
+                      let in_key : key < to.keys = omega (arith, in_keys, two.both.size.keys) in
+                      let there : cell from.cells to.nodes owner key ≡ high owner = ap (λ n. cell from.cells n owner key) (sym two.both.size.nodes) ∙ top in
+                      let held = (two.second.most.each owner lt).upto key in_key in
+                      inr (key, in_key, grind (arith, nat_tests))
+                ]
+              ];
+            };
+      };
+      kept = record {
+        size = merged.numbers.size;
+        each = λ owner key lt in_keys.
+            let is = merged.numbers.each owner key lt in_keys in
+            let sent = here-sent owner key lt in_keys in
+            let current = may.current owner lt in
+            grind (arith, nat_tests);
+      };
+      rest = merged.rest;
     }
 
-    pub merged-stays : IsVersionTable written to.node to.nodes to.keys to.generation new_cells new_greatest
-    merged-stays = becomes_one two marks-of (λ _ _ _ _. refl) taken
-
-    pub merged-applied : table_in written (record to { cells = new_cells; greatest = new_greatest }) ≡ applied (table_in written to) (delta_of_views rules rotation written from to).items
-    merged-applied = becomes_applied two marks-of (λ _ _ _ _. refl) taken
+    pub merged-lies : LiesAs written new (after rules rotation two)
+    merged-lies = becomes two marks-of (λ _ _ _ _. refl) taken
 
 -- both tables take all
-module _ (rules : Rules) (e : Exchange) {written : ℕ → List Entry} {most : ℕ} {h : HistoriesView} {p q : VersionTableView} (two : AreLaidBoth written most h p q) (in_nodes : e.rotation < p.nodes) (may : MayMerge rules h p q) where
+module _ (rules : Rules) (e : Exchange) {written : ℕ → List Entry} {most : ℕ} {h : HistoriesView} {p q : VersionTableView}
+    (two : AreLaidBoth written most h p q) (in_nodes : e.rotation < p.nodes) (may : MayMerge rules h p q) where
   turns : e.rotation < q.nodes
   turns = omega (arith, in_nodes, two.both.size.nodes)
 
   pub both-stay : BothStayMerged written p q
   both-stay = record {
     size = two.both.size;
-    first = λ cells greatest merged. merged-stays rules e.rotation (turned two) turns may.kind may.back merged;
-    second = λ cells greatest merged. merged-stays rules e.rotation two in_nodes may.kind may.forth merged;
+    first = λ new merged. lies-kept (merged-lies rules e.rotation (turned two) turns may.kind may.back merged);
+    second = λ new merged. lies-kept (merged-lies rules e.rotation two in_nodes may.kind may.forth merged);
   }
 
   pub merged-whole : {p' q' : VersionTableView} {came : BothCounts} → HaveMerged p q p' q' came
       → (d1 d2 : ℕ) → d1 ≡ digest_size (digest_kind rules.mode) (table_in written p) → d2 ≡ digest_size (digest_kind rules.mode) (table_in written q)
-      → e.lost1 ≡ false → e.lost2 ≡ false → e.lost3 ≡ false → (r : Record) → ((b f : DeltaView) → came.first ≡ length b.items → 0 ≡ b.cut → came.second ≡ length f.items → 0 ≡ f.cut → r ≡ sent_until (last_fate false) d1 d2 b f)
+      → e.lost1 ≡ false → e.lost2 ≡ false → e.lost3 ≡ false → (r : Record)
+      → ((b f : DeltaView) → came.first ≡ length b.items → 0 ≡ b.cut → came.second ≡ length f.items → 0 ≡ f.cut → r ≡ sent_until (last_fate false) d1 d2 b f)
       → MakesOf (table_in written) rules e p q p' q' r
   merged-whole have d1 d2 d1_is d2_is first second third r sent =
       let back = marks-of rules e.rotation (turned two) turns may.kind may.back in
       let forth = marks-of rules e.rotation two in_nodes may.kind may.forth in
-      let p_is = ap (table_in written) have.first.rest ∙ merged-applied rules e.rotation (turned two) turns may.kind may.back have.first.merged in
-      let q_is = ap (table_in written) have.second.rest ∙ merged-applied rules e.rotation two in_nodes may.kind may.forth have.second.merged in
-      let is = sent (delta_of_views rules e.rotation written q p) (delta_of_views rules e.rotation written p q) (have.back ∙ back.count) back.left (have.forth ∙ forth.count) forth.left in
+      let p_is = lies-table (merged-lies rules e.rotation (turned two) turns may.kind may.back have.first) in
+      let q_is = lies-table (merged-lies rules e.rotation two in_nodes may.kind may.forth have.second) in
+      let is = sent (delta_of_views rules e.rotation written q p) (delta_of_views rules e.rotation written p q) (have.back ∙ back.count) back.left
+      (have.forth ∙ forth.count) forth.left in
       rw (first, second, third) cc

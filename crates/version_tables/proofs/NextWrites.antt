@@ -1,12 +1,13 @@
 -- What an owner writes next stands under the number behind all that it wrote, above what its table holds of it.
 -- Serves `write`.
-use Rattle.version_tables.proofs.Common.{◌≡◌, ℕ, zero, suc, ◌+◌, ◌<◌, ◌≤◌, List, length, Some, inl, inr, sym, ◌∙◌, subst, arith, Contains, cases_lt, length-append, none-some, Entry, mark_of, mark_held, IsUpTo, Table, entry_at, greatest_mark, greatest_version, mark_at-up_to_greatest, write_numbered, OwnerListView, AreWrites, entries_of, next_entry, cell, numbered-placed, numbered-some, VersionTableView, table_in, IsKept, IsNextWrite, IsBeginning, IsWriteUnder, IsFirst}
-use Rattle.version_tables.proofs.Fitting.{so-far-upto}
-use Rattle.version_tables.proofs.Generations.{current-at, earlier-at}
+use Rattle.version_tables.proofs.Common.{◌≡◌, ℕ, zero, suc, ◌+◌, ◌<◌, ◌≤◌, List, length, Some, inl, inr, sym, ◌∙◌, subst, arith, Contains, cases_lt, current-numbered, length-append, none-some, Entry, mark_of, mark_held, IsUpTo, Table, entry_at, greatest_mark, greatest_version, mark_at-up_to_greatest, write_numbered, OwnerListView, AreWrites, entries_of, next_entry, cell, numbered-placed, numbered-some, VersionTableView, table_in, IsKept, IsNextWrite, IsBeginning, IsWriteUnder, IsFirst}
+use Rattle.version_tables.proofs.Fitting.{earlier-at, so-far-upto}
 use Rattle.version_tables.proofs.Laid.{has_cells}
 
-module _ (written : ℕ → List Entry) (v : VersionTableView) (kept : IsKept written v) (list : OwnerListView) (are : AreWrites list) (begins : IsBeginning (entries_of list) (written v.node)) (generation : v.generation ≡ list.generation)
-    (greatest : greatest_version (table_in written v) v.node ≡ length list.current) (most key value born : ℕ) (under : IsWriteUnder written most v.node (length (entries_of list) + 1) (next_entry list key value born)) where
+module _ (written : ℕ → List Entry) (v : VersionTableView) (kept : IsKept written v) (list : OwnerListView) (are : AreWrites list)
+    (begins : IsBeginning (entries_of list) (written v.node)) (generation : v.generation ≡ list.generation)
+    (greatest : greatest_version (table_in written v) v.node ≡ length list.current) (most key value born : ℕ)
+    (under : IsWriteUnder written most v.node (length (entries_of list) + 1) (next_entry list key value born)) where
   abbrev t : Table
   t = table_in written v
 
@@ -19,19 +20,24 @@ module _ (written : ℕ → List Entry) (v : VersionTableView) (kept : IsKept wr
   -- what the table holds of the node is a write so far
   held_so_far : (k : ℕ) (e : Entry) → entry_at t v.node k ≡ Some e → Contains (entries_of list) e
   held_so_far k e holds =
-      let here = kept.proper.in_place v.node k e holds in
-      let most : IsUpTo (mark_of e) (greatest_mark t v.node) = subst (λ h. IsUpTo (mark_held h) (greatest_mark t v.node)) holds (mark_at-up_to_greatest t v.node k here.key_below) in
+      let in_place = kept.proper.in_place v.node k e holds in
+      let most : IsUpTo (mark_of e) (greatest_mark t v.node) =
+      subst (λ h. IsUpTo (mark_held h) (greatest_mark t v.node)) holds (mark_at-up_to_greatest t v.node k in_place.key_below)
+      in
       let low : e.version ≤ length list.current = omega (arith, most.version (kept.proper.copies v.node k e holds), greatest) in
       let own = length list.earlier + e.version in
-      let there = numbered-some (entries_of list) own (omega (arith, here.written)) (omega (arith, low, length-append list.earlier list.current)) in
-      let at = current-at list are own there.0 there.1 (omega (arith, here.written)) in
+      let within : own ≤ length (entries_of list) = omega (arith, low, length-append list.earlier list.current) in
+      let there = numbered-some (entries_of list) own (omega (arith, in_place.written)) within in
+      let at = current-numbered list are own there.0 there.1 (omega (arith, in_place.written)) in
       let is : write_numbered (written v.node) (cell v.cells v.nodes v.node k) ≡ Some e =
-      sym (has_cells written v.node v.nodes v.keys v.generation (cell v.cells v.nodes) kept.numbers v.node k in_nodes here.key_below) ∙ holds in
-      let one : there.0.generation ≡ e.generation = at.0 ∙ sym generation ∙ sym (kept.proper.own k e holds) in
-      let two : there.0.version ≡ e.version = omega (arith, at.1) in
-      let same = under.apart own (cell v.cells v.nodes v.node k) there.0 e (sym (begins own (omega (arith, low, length-append list.earlier list.current))) ∙ there.1) is (λ i. record { generation = one i; version = two i }) in
+      sym (has_cells written v kept.numbers v.node k in_nodes in_place.key_below) ∙ holds in
+      let one : there.0.generation ≡ e.generation = omega (arith, at.generation, generation, kept.proper.own k e holds) in
+      let two : there.0.version ≡ e.version = omega (arith, at.version) in
+      let from : write_numbered (written v.node) own ≡ Some there.0 = sym (begins own within) ∙ there.1 in
+      let same = under.apart own (cell v.cells v.nodes v.node k) there.0 e from is (λ i. record { generation = one i; version = two i }) in
       let placed = numbered-placed (entries_of list) own there.0 there.1 in
-      (placed.place, placed.within, placed.there e ∙ same)
+      let here = placed.there e in
+      (placed.place, placed.within, cc)
 
   upto : (k : ℕ) → k < v.keys → cell v.cells v.nodes v.node k < number
   upto k in_keys = omega (arith, so-far-upto written v kept (entries_of list) v.node begins held_so_far k in_nodes in_keys)
@@ -42,7 +48,12 @@ module _ (written : ℕ → List Entry) (v : VersionTableView) (kept : IsKept wr
   first (suc place) lt same =
       let is = begins (suc place) (omega (arith, lt)) ∙ same ∙ under.is in
       elim (cases_lt (length list.earlier) (suc place)) [
-        | inl behind ↦ omega (arith, (current-at list are (suc place) (next_entry list key value born) is behind).1, lt, length-append list.earlier list.current)
+        | inl behind ↦ omega (
+          arith,
+          (current-numbered list are (suc place) (next_entry list key value born) is behind).version,
+          lt,
+          length-append list.earlier list.current,
+        )
         | inr early ↦ omega (arith, earlier-at list are (suc place) (next_entry list key value born) is (omega (arith, early)))
       ]
 
@@ -51,6 +62,6 @@ module _ (written : ℕ → List Entry) (v : VersionTableView) (kept : IsKept wr
     entry = next_entry list key value born;
     is = under.is;
     next = λ i. record { key = key; generation = sym generation i; version = sym greatest i + 1; value = value; born = born };
-    above = elim (kept.most v.node in_nodes).held [ inl none ↦ omega (arith, none) | inr (k, in_keys, is) ↦ omega (arith, is, upto k in_keys) ];
+    above = elim (kept.most.each v.node in_nodes).held [ inl none ↦ omega (arith, none) | inr (k, in_keys, is) ↦ omega (arith, is, upto k in_keys) ];
     first = first;
   }

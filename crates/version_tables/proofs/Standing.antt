@@ -47,11 +47,11 @@ module _ (written : ℕ → List Entry) (views : List VersionTableView) where
 
       numbers-here : AreNumbersAt tables h p v.cells
       numbers-here = transport (λ i. HasEachPlace (nodes_are i) (keys_are i) (IsNumberAt lists (sym read i)) v.cells) (record {
-        size = kept.cell_count;
+        size = kept.numbers.size;
         each = λ r k in_r in_k.
             let upto = so-far-upto written v kept (all_writes lists r) r (begins r) (λ j e h. ((together.standing p in_tables).holds r j e (ap (λ t. entry_at t r j) read ∙ h)).0) k in_r in_k in
             record {
-              held = has_cells written v.node v.nodes v.keys v.generation (cell v.cells v.nodes) kept.numbers r k in_r in_k ∙ sym (begins r (cell v.cells v.nodes r k) upto);
+              held = has_cells written v kept.numbers r k in_r in_k ∙ sym (begins r (cell v.cells v.nodes r k) upto);
               written = upto;
             };
       })

@@ -1,4 +1,2 @@
-pub mod Laid
 pub mod Views
-pub mod Writes
 pub mod inner

@@ -2,7 +2,6 @@ pub mod Taken
 pub mod Merged
 pub mod Histories
 pub mod Codes
-pub mod Columns
 pub mod Deltas
 pub mod Offered
 pub mod FitsKept

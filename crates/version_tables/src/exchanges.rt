@@ -1,6 +1,6 @@
 //! The exchange of an initiator and a responder whose tables keep versions alone.
 
-ghost use Rattle.std.specs.Prelude.{◌≡◌, ◌==◌, IfOk, OnOk, OnErr, IsOkUnless};
+ghost use Rattle.std.specs.Prelude.{◌≡◌, IfOk, OnOk, OnErr, IsOkUnless};
 ghost use Rattle.bench_types.specs.declared.faults.Fault.TheVariants.{OutOfMemory};
 ghost use Rattle.model.specs.calls.Exchanging.{MakesOf};
 ghost use Rattle.version_tables.specs.Views.{table_in};
@@ -14,15 +14,12 @@ use crate::merging::{may_merge, merge};
 use crate::tables::{VersionTable, Written};
 use crate::taking::{Arrival, take_unless};
 use bench_types::{Fault, Record};
-use delta_plans::Owners;
 use model::{DeltaCounts, sent_back, sent_before_an_answer, sent_both};
 use planes::Number;
-use std::alloc::Global;
 
 /// Carries out one exchange. The first table is the initiator's. An error is lack of memory, all of which is taken
 /// before either table changes.
 pub(crate) fn exchange<N: Number, H: Written>(
-    alloc: Global,
     course: &Course<N, H>,
     initiator: &mut VersionTable<N, H>,
     responder: &mut VersionTable<N, H>,
@@ -48,7 +45,7 @@ pub(crate) fn exchange<N: Number, H: Written>(
         let forth = all_sent(came.second);
         return Ok(sent_both(digest1, digest2, back, forth, false));
     }
-    exchange_deltas(alloc, course, initiator, responder, digest1)
+    exchange_deltas(course, initiator, responder, digest1)
 }
 
 fn all_sent(count: u32) -> DeltaCounts
@@ -62,7 +59,6 @@ fn all_sent(count: u32) -> DeltaCounts
 
 // The exchange from the second message on. The first one came.
 fn exchange_deltas<N: Number, H: Written>(
-    alloc: Global,
     course: &Course<N, H>,
     initiator: &mut VersionTable<N, H>,
     responder: &mut VersionTable<N, H>,
@@ -77,63 +73,44 @@ fn exchange_deltas<N: Number, H: Written>(
     ensures only { IsOkUnless result OutOfMemory }
 {
     let plan = course.plan;
-    let back = delta(alloc, responder, initiator, course)?;
+    let back = delta(responder, initiator, course)?;
     let digest2 = digest_size(responder, course.rules.mode);
     if plan.lost2 {
         return Ok(sent_back(digest1, digest2, back.counts));
     }
-    let forth = delta(alloc, initiator, responder, course)?;
-    let owners = Owners {
-        lists: course.histories.lists(),
-        bases: course.histories.bases(),
+    let forth = delta(initiator, responder, course)?;
+    let came = Arrival {
+        marks: &back,
+        nothing: back.counts.sent == 0,
     };
-    let came = Arrivals {
-        back: Arrival {
-            marks: &back,
-            nothing: is_nothing(back.counts.sent),
-        },
-        forth: Arrival {
-            marks: &forth,
-            nothing: plan.lost3 | is_nothing(forth.counts.sent),
-        },
+    let went = Arrival {
+        marks: &forth,
+        nothing: plan.lost3 | (forth.counts.sent == 0),
     };
-    take_both(alloc, initiator, responder, came, owners)?;
+    take_both(course, initiator, responder, came, went)?;
     Ok(sent_both(digest1, digest2, back.counts, forth.counts, plan.lost3))
-}
-
-fn is_nothing(sent: u32) -> bool
-    ensures { result ≡ (sent == 0) }
-{
-    sent == 0
-}
-
-// What comes to each of the two sides.
-#[derive(Clone, Copy)]
-struct Arrivals<'a, N: Number> {
-    back: Arrival<'a, N>,
-    forth: Arrival<'a, N>,
 }
 
 // Each side takes what came to it, unless that is nothing. The second delta may also be lost.
 fn take_both<N: Number, H: Written>(
-    alloc: Global,
+    course: &Course<N, H>,
     initiator: &mut VersionTable<N, H>,
     responder: &mut VersionTable<N, H>,
-    came: Arrivals<N>,
-    owners: Owners<N>,
+    back: Arrival<N>,
+    forth: Arrival<N>,
 ) -> Result<(), Fault>
-    requires may { MayTakeBoth N.number H.lists owners initiator.old responder.old came.back came.forth }
-    ensures ok { OnOk result (HaveTakenBoth N.number owners.entry initiator.old responder.old
-        came.entry.back came.entry.forth initiator.new responder.new) }
+    requires { MayTakeBoth N.number H.lists course.now.histories.now initiator.old responder.old back forth }
+    ensures ok { OnOk result (HaveTakenBoth N.number course.now.histories.now initiator.old responder.old
+        back.entry forth.entry initiator.new responder.new) }
     ensures stay { OnErr result (BothStay initiator.old responder.old initiator.new responder.new) }
     ensures only { IsOkUnless result OutOfMemory }
 {
-    let Arrivals { back, forth } = came;
-    let initiator_before = Vec::from_slice(alloc, initiator.greatest())?;
-    let responder_before = Vec::from_slice(alloc, responder.greatest())?;
+    let histories = course.histories;
+    let initiator_before = Vec::from_slice(course.alloc, initiator.greatest())?;
+    let responder_before = Vec::from_slice(course.alloc, responder.greatest())?;
     let came_back = responder.cells();
-    take_unless(initiator, came_back, back, &initiator_before, owners);
+    take_unless(initiator, came_back, back, &initiator_before, histories);
     let came_forth = initiator.cells();
-    take_unless(responder, came_forth, forth, &responder_before, owners);
+    take_unless(responder, came_forth, forth, &responder_before, histories);
     Ok(())
 }

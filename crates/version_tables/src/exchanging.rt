@@ -33,10 +33,11 @@ impl<N: Number + Send + Sync, H: Written + Send + Sync> Exchanging<VersionTable<
         rules: &Rules,
     ) -> Result<Record, Fault> {
         let course = Course {
+            alloc,
             histories: self,
             rules,
             plan,
         };
-        exchange(alloc, &course, initiator, responder)
+        exchange(&course, initiator, responder)
     }
 }

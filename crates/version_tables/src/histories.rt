@@ -4,11 +4,10 @@ ghost use Rattle.std.specs.Prelude.{◌≡◌, IfOk, IsOkUnless};
 ghost use Rattle.bench_types.specs.declared.faults.Fault.TheVariants.{OutOfMemory};
 ghost use Rattle.version_tables.specs.inner.Histories.{AreNoWrites};
 
-use crate::owners::clear_owner;
 use crate::tables::Written;
 use bench_types::Fault;
 use owner_writes::OwnerWrites;
-use planes::{Ends, Number, zeros};
+use planes::{Ends, Number, Size, zeros};
 use std::alloc::Global;
 use std::marker::{Model, PhantomData};
 
@@ -29,7 +28,7 @@ pub struct Histories<N: Number, H: Written> {
 }
 
 impl<N: Number, H: Written> Model for Histories<N, H> {
-    ghost use Rattle.std.specs.Prelude.{map};
+    ghost use Rattle.std.specs.Prelude.{length, map};
     ghost use Rattle.owner_writes.specs.inner.Codes.{list_code};
     ghost use Rattle.round_tables.specs.Histories.{HistoriesView, histories_code};
     ghost use Rattle.version_tables.specs.inner.Histories.{AreHistories};
@@ -41,25 +40,25 @@ impl<N: Number, H: Written> Model for Histories<N, H> {
     ghost view = { λ h. record { lists = h.lists.items; keys = h.keys; rounds = h.rounds } };
 
     ghost invariant = { λ h. AreHistories H.lists N.most
-        (record { lists = h.lists.items; keys = h.keys; rounds = h.rounds }) (map N.number h.counts.items)
-        (map N.number h.bases.items) (map N.number h.lasts.items) (map N.number h.ends.items) };
+        (record { lists = h.lists.items; keys = h.keys; rounds = h.rounds }) (length h.lists.items)
+        (map N.number h.counts.items) (map N.number h.bases.items) (map N.number h.lasts.items)
+        (map N.number h.ends.items) };
 }
 
 impl<N: Number, H: Written> Histories<N, H> {
-    ghost use Rattle.std.specs.Prelude.{ℕ, ◌+◌, ◌^◌, ◌<◌, ◌≤◌, map, length, IfOk, OnOk, OnErr};
-    ghost use Rattle.bench_types.specs.declared.limits.TheConstants.{LEAST_KEYS, MOST_KEYS, MOST_NODES, MOST_ROUNDS};
-    ghost use Rattle.model.specs.calls.OwnerListView.{all_writes, list_of_owner, next_entry, with_write, begun_generation, AreWrites};
+    ghost use Rattle.std.specs.Prelude.{ℕ, ◌+◌, ◌^◌, ◌<◌, map, length, IfOk, OnOk, OnErr};
+    ghost use Rattle.bench_types.specs.declared.limits.TheConstants.{MOST_ROUNDS};
+    ghost use Rattle.model.specs.calls.OwnerListView.{all_writes, list_of_owner, with_write, begun_generation, AreWrites};
     ghost use Rattle.planes.specs.Planes.{HasEach, HasEachPlace};
     ghost use Rattle.round_tables.specs.Histories.{round_ended, AreNewHistories, HistoryBecomes, KeepLimits};
-    ghost use Rattle.version_tables.specs.inner.Histories.{AreEndsOf, AreKnown, IsWrittenSoFar, IsWriteUnder};
+    ghost use Rattle.version_tables.specs.Views.{AreSizes};
+    ghost use Rattle.version_tables.specs.inner.Histories.{AreEndsOf, AreKnown, IsWrittenSoFar, MayAddWrite};
     ghost use Rattle.version_lags.specs.Missed.{IsLastNumber};
 
     /// Where so many owners with so many keys each have written nothing, before the first round. An error is lack of
     /// memory (`OutOfMemory`).
     pub fn new(alloc: Global, nodes: u32, keys: u32) -> Result<Self, Fault>
-        requires nodes { nodes ≤ MOST_NODES }
-        requires some_key { LEAST_KEYS ≤ keys }
-        requires keys { keys ≤ MOST_KEYS }
+        requires { AreSizes nodes keys }
         ensures begun { IfOk result (AreNewHistories nodes keys) }
         ensures only { IsOkUnless result OutOfMemory }
     {
@@ -79,12 +78,7 @@ impl<N: Number, H: Written> Histories<N, H> {
     /// An owner writes one of its keys in the round that comes next, and the number of the write is answered. An
     /// error is lack of memory (`OutOfMemory`), and then nothing was added.
     pub fn write(&mut self, owner: u32, key: u32, value: u32) -> Result<N, Fault>
-        requires owner { owner < length self.old.lists }
-        requires key { key < self.old.keys }
-        requires few { length (list_of_owner self.old.lists owner).current + 1 < 2 ^ 32 }
-        requires under { IsWriteUnder H.lists N.most owner
-            (length (all_writes self.old.lists owner) + 1)
-            (next_entry (list_of_owner self.old.lists owner) key value (self.old.rounds + 1)) }
+        requires { MayAddWrite H.lists N.most self.old owner key value }
         ensures number { IfOk result
             (λ n. N.number n ≡ length (all_writes self.old.lists owner) + 1) }
         ensures ok { OnOk result (HistoryBecomes owner
@@ -111,9 +105,13 @@ impl<N: Number, H: Written> Histories<N, H> {
     {
         let owner = owner as usize;
         self.lists[owner].begin_generation();
-        self.bases[owner] = self.counts[owner];
-        let nodes = self.lists.len();
-        clear_owner(&mut self.lasts, nodes, self.keys as usize, owner);
+        let count = self.counts[owner];
+        self.bases[owner] = count;
+        let size = Size {
+            nodes: self.lists.len(),
+            keys: self.keys as usize,
+        };
+        grids::drop_owner(&mut self.lasts, size, owner, count.widen());
     }
 
     /// The writes of the next round are made. An error is lack of memory (`OutOfMemory`), and then the round has

@@ -3,12 +3,10 @@
 
 ghost use Rattle.std.specs.Prelude.{◌≡◌, ◌*◌, ◌≤◌, ◌↔◌, IsTrue};
 ghost use Rattle.bench_types.specs.Budget.{amount_of, largest_share};
-ghost use Rattle.bench_types.specs.declared.limits.TheConstants.{MOST_NODES, MOST_KEYS};
-ghost use Rattle.planes.specs.Planes.{most_ahead};
 ghost use Rattle.version_tables.specs.Views.{table_in};
 ghost use Rattle.version_tables.specs.inner.Deltas.{AreOfOneSize, FitBoth};
 ghost use Rattle.version_tables.specs.inner.Histories.{bases_in, FitsHistories};
-ghost use Rattle.version_tables.specs.inner.Merged.{AreCurrent, BothStayMerged, HasNoNewer, HaveMerged, MayMerge, SurelyFits};
+ghost use Rattle.version_tables.specs.inner.Merged.{AreCurrent, BothStayMerged, HasNoNewer, HaveMerged, IsMostAhead, MayMerge, SurelyFits};
 
 use crate::histories::Histories;
 use crate::tables::{VersionTable, Written};
@@ -18,12 +16,13 @@ use grids::{BothCounts, BothMarks};
 use planes::{Number, Size};
 
 fn surely_fit(budget: Budget, count: u32) -> bool
-    requires { count ≤ MOST_NODES * MOST_KEYS }
     ensures { IsTrue result ↔ (count * largest_share budget ≤ amount_of budget) }
 {
     match budget {
         Budget::Entries(amount) => count <= amount,
-        Budget::Bytes(amount) => count * MOST_ENTRY_SIZE <= amount,
+        Budget::Bytes(amount) => {
+            u64::from(count) * u64::from(MOST_ENTRY_SIZE) <= u64::from(amount)
+        }
     }
 }
 
@@ -35,9 +34,7 @@ fn all_ahead_fits<N: Number, H: Written>(
     budget: Budget,
     most: u32,
 ) -> bool
-    requires nodes { from.now.nodes ≡ to.now.nodes }
-    requires most { most
-        ≡ most_ahead from.now.nodes from.now.keys from.now.greatest to.now.greatest }
+    requires { IsMostAhead from.now to.now most }
     ensures { IsTrue result ↔ SurelyFits budget from.now to.now }
 {
     let grid = from.grid();

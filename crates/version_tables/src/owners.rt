@@ -1,11 +1,11 @@
-//! What is dropped of numbers, all or an owner's.
+//! What is dropped of numbers: all, or those of all owners but one.
 
 ghost use Rattle.std.specs.Prelude.{◌≡◌, ◌<◌, ◌==◌, length, map, if◌then◌else◌};
+ghost use Rattle.grids.specs.Grids.{HasColumn};
 ghost use Rattle.planes.specs.Planes.{ArePlanesChanged};
 ghost use Rattle.planes.specs.Elementwise.{AreChanged};
-ghost use Rattle.version_tables.specs.inner.Columns.{HasColumn};
 
-use planes::Number;
+use planes::{Number, Size};
 
 pub(crate) fn clear<N: Number>(numbers: &mut [N])
     ensures { AreChanged (λ r x y. y ≡ 0) (map N.number numbers.old) (map N.number numbers.new) }
@@ -23,26 +23,14 @@ pub(crate) fn keep_one<N: Number>(numbers: &mut [N], owner: usize)
     numbers[owner] = own;
 }
 
-pub(crate) fn keep_owner<N: Number>(cells: &mut [N], nodes: usize, keys: usize, owner: usize)
-    requires { HasColumn nodes keys (length cells.old) owner }
-    ensures { ArePlanesChanged (λ r k x y. y ≡ (if r == owner then x else 0)) nodes keys
-        (map N.number cells.old)
-        (map N.number cells.new) }
+pub(crate) fn keep_owner<N: Number>(cells: &mut [N], size: Size, owner: usize)
+    requires { HasColumn size cells.old owner }
+    ensures { ArePlanesChanged (λ r k x y. y ≡ (if r == owner then x else 0)) size.nodes size.keys
+        (map N.number cells.old) (map N.number cells.new) }
 {
-    for key in 0..keys {
-        let start = key * nodes;
-        let plane = &mut cells[start..start + nodes];
+    for key in 0..size.keys {
+        let start = key * size.nodes;
+        let plane = &mut cells[start..start + size.nodes];
         keep_one(plane, owner);
-    }
-}
-
-pub(crate) fn clear_owner<N: Number>(cells: &mut [N], nodes: usize, keys: usize, owner: usize)
-    requires { HasColumn nodes keys (length cells.old) owner }
-    ensures { ArePlanesChanged (λ r k x y. y ≡ (if r == owner then 0 else x)) nodes keys
-        (map N.number cells.old)
-        (map N.number cells.new) }
-{
-    for key in 0..keys {
-        cells[key * nodes + owner] = N::zero();
     }
 }

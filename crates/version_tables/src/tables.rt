@@ -32,9 +32,8 @@ pub struct VersionTable<N: Number, H: Written> {
 
 impl<N: Number, H: Written> Model for VersionTable<N, H> {
     ghost use Rattle.std.specs.Prelude.{map};
-    ghost use Rattle.version_tables.specs.Views.{VersionTableView};
+    ghost use Rattle.version_tables.specs.Views.{VersionTableView, IsKept};
     ghost use Rattle.version_tables.specs.inner.Codes.{table_view_code};
-    ghost use Rattle.version_tables.specs.Laid.{IsVersionTable};
 
     ghost Value = { VersionTableView };
 
@@ -49,26 +48,27 @@ impl<N: Number, H: Written> Model for VersionTable<N, H> {
       greatest = map N.number t.greatest.items;
     } };
 
-    ghost invariant = { λ t. IsVersionTable H.lists t.node t.nodes t.keys t.generation (map N.number t.cells.items)
-        (map N.number t.greatest.items) };
+    ghost invariant = { λ t. IsKept H.lists (record {
+      node = t.node;
+      nodes = t.nodes;
+      keys = t.keys;
+      generation = t.generation;
+      cells = map N.number t.cells.items;
+      greatest = map N.number t.greatest.items;
+    }) };
 }
 
 impl<N: Number, H: Written> VersionTable<N, H> {
-    ghost use Rattle.std.specs.Prelude.{◌+◌, ◌^◌, ◌<◌, ◌≤◌, map, IfOk, IsOkUnless};
+    ghost use Rattle.std.specs.Prelude.{◌+◌, ◌^◌, ◌<◌, map, IfOk, IsOkUnless};
     ghost use Rattle.bench_types.specs.declared.faults.Fault.TheVariants.{OutOfMemory};
-    ghost use Rattle.bench_types.specs.declared.limits.TheConstants.{LEAST_KEYS, MOST_NODES, MOST_KEYS};
     ghost use Rattle.model.specs.Table.{empty_table, without_others, without_all};
-    ghost use Rattle.version_tables.specs.Views.{table_in, IsKept};
-    ghost use Rattle.version_tables.specs.Writes.{IsNextWrite, HasOwnWrite};
-    ghost use Rattle.version_tables.specs.inner.Columns.{IsGridIn, IsSizeOf};
+    ghost use Rattle.version_tables.specs.Views.{table_in, AreSizes, HasOwnWrite, IsGridIn, IsKept, IsNextWrite};
 
     /// The empty table of a node, in its generation 0. It has a number for each owner and key. An error is lack of
     /// memory (`OutOfMemory`).
     pub fn new(alloc: Global, node: u32, nodes: u32, keys: u32) -> Result<VersionTable<N, H>, Fault>
         requires node { node < nodes }
-        requires nodes { nodes ≤ MOST_NODES }
-        requires some_key { LEAST_KEYS ≤ keys }
-        requires keys { keys ≤ MOST_KEYS }
+        requires sizes { AreSizes nodes keys }
         ensures empty { IfOk result (λ t. table_in H.lists t ≡ empty_table node nodes keys) }
         ensures only { IsOkUnless result OutOfMemory }
     {
@@ -101,10 +101,12 @@ impl<N: Number, H: Written> VersionTable<N, H> {
     pub fn forget_others(&mut self)
         ensures { table_in H.lists self.new ≡ without_others (table_in H.lists self.old) }
     {
-        let nodes = self.nodes as usize;
-        let keys = self.keys as usize;
+        let size = Size {
+            nodes: self.nodes as usize,
+            keys: self.keys as usize,
+        };
         let owner = self.node as usize;
-        keep_owner(&mut self.cells, nodes, keys, owner);
+        keep_owner(&mut self.cells, size, owner);
         keep_one(&mut self.greatest, owner);
     }
 
@@ -143,23 +145,15 @@ impl<N: Number, H: Written> VersionTable<N, H> {
         self.keys
     }
 
-    pub(crate) fn size(&self) -> Size
-        ensures size { IsSizeOf self.now result }
-        ensures kept { IsKept H.lists self.now }
-    {
-        Size {
-            nodes: self.nodes as usize,
-            keys: self.keys as usize,
-        }
-    }
-
     pub(crate) fn grid(&self) -> Grid<N>
-        ensures grid { IsGridIn N.number self.now result }
-        ensures kept { IsKept H.lists self.now }
+        ensures { IsGridIn N.number H.lists self.now result }
     {
         Grid {
             cells: &self.cells,
-            size: self.size(),
+            size: Size {
+                nodes: self.nodes as usize,
+                keys: self.keys as usize,
+            },
         }
     }
 

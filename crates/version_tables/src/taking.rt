@@ -2,37 +2,18 @@
 
 ghost use Rattle.std.specs.Prelude.{◌≡◌, length, map};
 ghost use Rattle.model.specs.calls.OwnerListView.{all_writes, entries_of};
+ghost use Rattle.grids.specs.Grids.{number_kept, HasColumn, IsOwnerKept};
 ghost use Rattle.planes.specs.Planes.{ArePlanesChanged};
 ghost use Rattle.owner_writes.specs.Numbered.{IsNumberedHistory};
-ghost use Rattle.version_tables.specs.inner.Columns.{HasColumn};
-ghost use Rattle.version_tables.specs.inner.Taken.{drop_start, drop_starts, number_kept, HasArrived, IsOwnerKept, MayArrive, MayDrop};
+ghost use Rattle.version_tables.specs.inner.Taken.{drop_start, drop_starts, HasArrived, MayArrive, MayDrop};
 
 use crate::deltas::DeltaMarks;
+use crate::histories::Histories;
 use crate::tables::{VersionTable, Written};
 use delta_plans::Owners;
 use grids::Sent;
 use owner_writes::OwnerWrites;
 use planes::{Grid, Number, Size};
-
-fn clear_column<N: Number>(cells: &mut [N], nodes: usize, keys: usize, owner: usize, start: u32)
-    requires { HasColumn nodes keys (length cells.old) owner }
-    ensures { IsOwnerKept N.number nodes keys owner start cells.old cells.new }
-{
-    for key in 0..keys {
-        let cell = &mut cells[key * nodes + owner];
-        *cell = kept_above(*cell, start);
-    }
-}
-
-fn kept_above<N: Number>(number: N, start: u32) -> N
-    ensures { N.number result ≡ number_kept start (N.number number) }
-{
-    if number.widen() <= start {
-        N::zero()
-    } else {
-        number
-    }
-}
 
 // Up to where an owner's numbers are dropped, where its greatest one was raised.
 fn drop_from<N: Number>(list: &OwnerWrites, old: N, base: N, new: N) -> u32
@@ -47,12 +28,12 @@ fn drop_from<N: Number>(list: &OwnerWrites, old: N, base: N, new: N) -> u32
     }
 }
 
-fn drop_owner<N: Number>(cells: &mut [N], nodes: usize, keys: usize, owner: usize, start: u32)
-    requires { HasColumn nodes keys (length cells.old) owner }
-    ensures { IsOwnerKept N.number nodes keys owner start cells.old cells.new }
+fn drop_owner<N: Number>(cells: &mut [N], size: Size, owner: usize, start: u32)
+    requires { HasColumn size cells.old owner }
+    ensures { IsOwnerKept N.number size owner start cells.old cells.new }
 {
     if start > 0 {
-        clear_column(cells, nodes, keys, owner, start);
+        grids::drop_owner(cells, size, owner, start);
     }
 }
 
@@ -76,7 +57,7 @@ fn drop_older<N: Number>(
     }
     for owner in 0..size.nodes {
         let start = drop_from(&lists[owner], before[owner], bases[owner], greatest[owner]);
-        drop_owner(cells, size.nodes, size.keys, owner, start);
+        drop_owner(cells, size, owner, start);
     }
 }
 
@@ -94,12 +75,11 @@ pub(crate) fn take_unless<N: Number, H: Written>(
     cells: &[N],
     arrival: Arrival<N>,
     before: &[N],
-    owners: Owners<N>,
+    histories: &Histories<N, H>,
 )
-    requires may { MayArrive N.number H.lists owners table.old (map N.number cells.now) arrival }
+    requires may { MayArrive N.number H.lists histories.now table.old (map N.number cells.now) arrival }
     requires before { map N.number before.now ≡ table.old.greatest }
-    ensures { HasArrived N.number owners.entry table.old
-        (map N.number cells.now) arrival.entry table.new }
+    ensures { HasArrived N.number histories.now table.old (map N.number cells.now) arrival.entry table.new }
 {
     if arrival.nothing {
         return;
@@ -114,5 +94,9 @@ pub(crate) fn take_unless<N: Number, H: Written>(
         high: &arrival.marks.high,
     };
     grids::take(&mut table.cells, &mut table.greatest, sent);
+    let owners = Owners {
+        lists: histories.lists(),
+        bases: histories.bases(),
+    };
     drop_older(&mut table.cells, size, before, &table.greatest, owners);
 }

@@ -16,12 +16,14 @@ use Rattle.version_tables.specs.inner.Taken.{is_taken}
 
 -- the delta from one table to another, where this is what the owners write
 abbrev pub delta_of_views : Rules → ℕ → (ℕ → List Entry) → VersionTableView → VersionTableView → DeltaView
-delta_of_views rules rotation written from to = delta_between rules.mode rotation rules.budget (table_in written from) (table_in written to)
+delta_of_views rules rotation written from to =
+    delta_between rules.mode rotation rules.budget (table_in written from) (table_in written to)
 
 -- what marks let a receiver take of a sender's numbers
 abbrev pub is_taken_at : VersionTableView → VersionTableView → List ℕ → List ℕ → ℕ → ℕ → Bool
 is_taken_at from to low high owner key =
-    is_taken (cell to.cells to.nodes owner key) (cell from.cells from.nodes owner key) (slice_index low owner) (slice_index high owner)
+    is_taken (cell to.cells to.nodes owner key) (cell from.cells from.nodes owner key)
+    (slice_index low owner) (slice_index high owner)
 
 -- two tables with as many nodes and keys
 pub record AreOfOneSize (one other : VersionTableView) : Type 0 where
@@ -35,23 +37,27 @@ pub record FitBoth (written : ℕ → List Entry) (h : HistoriesView) (from to :
   pub second : FitsHistories h (table_in written to)
 
 -- and of which one may send the other a delta
-pub record MaySend (rules : Rules) (turn : ℕ) (written : ℕ → List Entry) (h : HistoriesView) (from to : VersionTableView) : Type 0 where
+pub record MaySend (rules : Rules) (turn : ℕ) (written : ℕ → List Entry) (h : HistoriesView)
+    (from to : VersionTableView) : Type 0 where
   pub budget : IsLawfulBudget rules.budget
   pub rotation : turn < from.nodes
   pub both : FitBoth written h from to
 
 -- what is known of both, beside what is known of all owners' writes
-pub record AreLaidBoth (written : ℕ → List Entry) (most : ℕ) (h : HistoriesView) (from to : VersionTableView) : Type 0 where
+pub record AreLaidBoth (written : ℕ → List Entry) (most : ℕ) (h : HistoriesView)
+    (from to : VersionTableView) : Type 0 where
   pub known : AreKnown written most h
   pub both : FitBoth written h from to
   pub first : IsKept written from
   pub second : IsKept written to
 
 -- marks that let the receiver take what a delta has
-pub record AreMarksOf (rules : Rules) (rotation : ℕ) (written : ℕ → List Entry) (from to : VersionTableView) (low high : List ℕ) (sent cut : ℕ) : Type 0 where
+pub record AreMarksOf (rules : Rules) (rotation : ℕ) (written : ℕ → List Entry) (from to : VersionTableView)
+    (low high : List ℕ) (sent cut : ℕ) : Type 0 where
   pub low_count : length low ≡ from.nodes
   pub high_count : length high ≡ from.nodes
-  pub marks : AreSent (table_in written from) (delta_of_views rules rotation written from to).items (is_taken_at from to low high)
+  pub marks : AreSent (table_in written from) (delta_of_views rules rotation written from to).items
+      (is_taken_at from to low high)
   pub count : sent ≡ length (delta_of_views rules rotation written from to).items
   pub left : cut ≡ (delta_of_views rules rotation written from to).cut
 

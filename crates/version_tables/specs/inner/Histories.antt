@@ -1,5 +1,5 @@
 -- What the owners wrote so far, beside all that they write in the run. Source: this project.
-use Rattle.std.specs.Prelude.{◌≡◌, ℕ, ◌+◌, ◌*◌, ◌<◌, ◌≤◌, List, length, map, slice_index, Contains, Some}
+use Rattle.std.specs.Prelude.{◌≡◌, ℕ, ◌+◌, ◌*◌, ◌^◌, ◌<◌, ◌≤◌, List, length, map, Contains, Some}
 use Rattle.bench_types.specs.declared.entries.Entry.{Entry}
 use Rattle.bench_types.specs.declared.exchanges.Exchange.{Exchange}
 use Rattle.bench_types.specs.declared.exchanges.Rules.{Rules}
@@ -7,14 +7,14 @@ use Rattle.bench_types.specs.calls.Budget.{IsLawfulBudget}
 use Rattle.bench_types.specs.Mark.{mark_of}
 use Rattle.model.specs.calls.Exchanging.{MayBeExchanged}
 use Rattle.model.specs.Table.{Table, entry_at, IsProper}
-use Rattle.model.specs.calls.OwnerListView.{OwnerListView, all_writes, entries_of, AreWrites, list_of_owner, no_writes}
+use Rattle.model.specs.calls.OwnerListView.{OwnerListView, all_writes, AreWrites, list_of_owner, next_entry, no_writes}
 use Rattle.model.specs.calls.Numbers.{write_numbered}
-use Rattle.planes.specs.Planes.{HasEach, cell}
+use Rattle.planes.specs.Planes.{HasEach, HasEachPlace, cell}
 use Rattle.planes.specs.declared.ends.Ends.{Ends}
 use Rattle.round_tables.specs.Histories.{HistoriesView, KeepLimits}
 use Rattle.delta_plans.specs.declared.told_marks.Owners.{Owners}
 use Rattle.version_lags.specs.Missed.{IsLastNumber}
-use Rattle.owner_writes.specs.Numbered.{IsHistory, IsNumberedHistory, IsRoundMark, AreEnds, AreMadeBy}
+use Rattle.owner_writes.specs.Numbered.{IsHistory, IsNumberedHistory, AreEnds, AreMadeBy}
 
 -- some writes are the first of all
 abbrev pub IsBeginning : List Entry → List Entry → Type 0
@@ -42,28 +42,20 @@ pub record AreNoWrites (nodes : ℕ) (lists : List OwnerListView) : Type 0 where
   pub count : length lists ≡ nodes
   pub empty : (owner : ℕ) → list_of_owner lists owner ≡ no_writes
 
--- what is kept of an owner's writes: counts of all and of those of earlier generations, the last number of each key,
--- and where the rounds end
-pub record IsCounted (list : OwnerListView) (keys rounds count base : ℕ) (lasts ends : ℕ → ℕ) : Type 0 where
-  pub counted : count ≡ length (entries_of list)
-  pub based : base ≡ length list.earlier
-  pub last : (key : ℕ) → key < keys → IsLastNumber list key (lasts key)
-  pub none : ends 0 ≡ 0
-  pub rise : (round : ℕ) → round < rounds → ends round ≤ ends (round + 1)
-  pub parts : (round : ℕ) → round ≤ rounds → IsRoundMark (entries_of list) 0 round (ends round)
-  pub reached : (round : ℕ) → round ≤ rounds → ends round ≤ length (entries_of list)
-
--- and so of all owners
-pub record AreHistories (written : ℕ → List Entry) (most : ℕ) (h : HistoriesView) (counts bases lasts ends : List ℕ) : Type 0 where
+-- what is kept of the writes of so many owners: counts of all and of those of earlier generations, the last number of
+-- each key, and where the rounds end
+pub record AreHistories (written : ℕ → List Entry) (most : ℕ) (h : HistoriesView) (nodes : ℕ)
+    (counts bases lasts ends : List ℕ) : Type 0 where
+  pub count : length h.lists ≡ nodes
   pub limits : KeepLimits h
-  pub counts_size : length counts ≡ length h.lists
-  pub bases_size : length bases ≡ length h.lists
-  pub lasts_size : length lasts ≡ h.keys * length h.lists
-  pub ends_size : length ends ≡ (h.rounds + 1) * length h.lists
   pub known : AreKnown written most h
-  pub each : (owner : ℕ) → owner < length h.lists
-      → IsCounted (list_of_owner h.lists owner) h.keys h.rounds (slice_index counts owner) (slice_index bases owner)
-      (cell lasts (length h.lists) owner) (cell ends (length h.lists) owner)
+  pub counted : HasEach nodes (λ r n. n ≡ length (all_writes h.lists r)) counts
+  pub based : HasEach nodes (λ r n. n ≡ bases_in h.lists r) bases
+  pub last : HasEachPlace nodes h.keys (λ r k n. IsLastNumber (list_of_owner h.lists r) k n) lasts
+  pub ends_size : length ends ≡ (h.rounds + 1) * nodes
+  pub ended : AreEnds (all_writes h.lists) nodes h.rounds (cell ends nodes)
+  pub reached : (owner round : ℕ) → owner < nodes → round ≤ h.rounds
+      → cell ends nodes owner round ≤ length (all_writes h.lists owner)
 
 -- how many writes each owner had made up to the end of each round, in memory
 pub record AreEndsOf {N : Type 0} (number : N → ℕ) (h : HistoriesView) (ends : Ends N) : Type 0 where
@@ -103,4 +95,13 @@ pub record IsReadyExchange (written : ℕ → List Entry) (most : ℕ) (rules : 
 pub record IsWriteUnder (written : ℕ → List Entry) (most owner number : ℕ) (e : Entry) : Type 0 where
   pub is : write_numbered (written owner) number ≡ Some e
   pub below : number < most
-  pub apart : (m n : ℕ) (d c : Entry) → write_numbered (written owner) m ≡ Some d → write_numbered (written owner) n ≡ Some c → mark_of d ≡ mark_of c → d ≡ c
+  pub apart : (m n : ℕ) (d c : Entry) → write_numbered (written owner) m ≡ Some d
+      → write_numbered (written owner) n ≡ Some c → mark_of d ≡ mark_of c → d ≡ c
+
+-- an owner may write this next
+pub record MayAddWrite (written : ℕ → List Entry) (most : ℕ) (h : HistoriesView) (owner key value : ℕ) : Type 0 where
+  pub owner_below : owner < length h.lists
+  pub key_below : key < h.keys
+  pub few : length (list_of_owner h.lists owner).current + 1 < 2 ^ 32
+  pub under : IsWriteUnder written most owner (length (all_writes h.lists owner) + 1)
+      (next_entry (list_of_owner h.lists owner) key value (h.rounds + 1))

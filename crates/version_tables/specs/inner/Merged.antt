@@ -10,8 +10,7 @@ use Rattle.planes.specs.Elementwise.{AreChanged}
 use Rattle.grids.specs.declared.merges.BothCounts.{BothCounts}
 use Rattle.planes.specs.Planes.{cell, most_ahead, number_raised, total_above, ArePlanesChanged}
 use Rattle.round_tables.specs.Histories.{HistoriesView}
-use Rattle.version_tables.specs.Views.{VersionTableView}
-use Rattle.version_tables.specs.Laid.{IsVersionTable}
+use Rattle.version_tables.specs.Views.{VersionTableView, IsKept}
 use Rattle.version_tables.specs.inner.Histories.{bases_in}
 use Rattle.version_tables.specs.inner.Deltas.{AreOfOneSize}
 
@@ -24,6 +23,11 @@ AreCurrent bases v =
 -- how many numbers one table has above the other's greatest ones
 abbrev pub count_ahead : VersionTableView → VersionTableView → ℕ
 count_ahead from to = total_above from.nodes from.keys from.cells to.greatest
+
+-- no more than these, as the greatest numbers of two tables of one size are apart
+pub record IsMostAhead (from to : VersionTableView) (most : ℕ) : Type 0 where
+  pub nodes : from.nodes ≡ to.nodes
+  pub is : most ≡ most_ahead from.nodes from.keys from.greatest to.greatest
 
 -- these surely fit, as few as the greatest numbers are apart, or as they are counted
 abbrev pub SurelyFits : Budget → VersionTableView → VersionTableView → Type 0
@@ -47,28 +51,18 @@ pub record MayMerge (rules : Rules) (h : HistoriesView) (initiator responder : V
   pub back : MayTakeAll rules.budget (bases_in h.lists) responder initiator
   pub forth : MayTakeAll rules.budget (bases_in h.lists) initiator responder
 
--- a table's numbers and greatest ones once it took all above these of another table
-pub record IsMerged (nodes keys : ℕ) (cells greatest sent sent_greatest new_cells new_greatest : List ℕ) : Type 0 where
-  pub numbers : ArePlanesChanged (λ r k x y. y ≡ number_raised x (cell sent nodes r k) (slice_index greatest r))
-      nodes keys cells new_cells
-  pub most : AreChanged (λ r x y. y ≡ max x (slice_index sent_greatest r)) greatest new_greatest
-
--- the table stays one then
-abbrev pub StaysMerged : (ℕ → List Entry) → VersionTableView → List ℕ → List ℕ → Type 0
-StaysMerged written to sent sent_greatest =
-    (cells greatest : List ℕ) → IsMerged to.nodes to.keys to.cells to.greatest sent sent_greatest cells greatest
-    → IsVersionTable written to.node to.nodes to.keys to.generation cells greatest
-
--- a table has taken all: its numbers alone have changed
+-- a table has taken all that another has above its own greatest numbers: its numbers alone have changed
 pub record HasMerged (from to new : VersionTableView) : Type 0 where
-  pub merged : IsMerged to.nodes to.keys to.cells to.greatest from.cells from.greatest new.cells new.greatest
+  pub numbers : ArePlanesChanged (λ r k x y. y ≡ number_raised x (cell from.cells to.nodes r k)
+      (slice_index to.greatest r)) to.nodes to.keys to.cells new.cells
+  pub most : AreChanged (λ r x y. y ≡ max x (slice_index from.greatest r)) to.greatest new.greatest
   pub rest : new ≡ record to { cells = new.cells; greatest = new.greatest }
 
 -- both tables stay tables where each takes all of the other
 pub record BothStayMerged (written : ℕ → List Entry) (initiator responder : VersionTableView) : Type 0 where
   pub size : AreOfOneSize initiator responder
-  pub first : StaysMerged written initiator responder.cells responder.greatest
-  pub second : StaysMerged written responder initiator.cells initiator.greatest
+  pub first : (new : VersionTableView) → HasMerged responder initiator new → IsKept written new
+  pub second : (new : VersionTableView) → HasMerged initiator responder new → IsKept written new
 
 -- and each has taken it, so many numbers
 pub record HaveMerged (initiator responder new_initiator new_responder : VersionTableView) (came : BothCounts) : Type 0 where

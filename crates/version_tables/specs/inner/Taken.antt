@@ -1,13 +1,14 @@
 -- The cells of a table that has taken a delta. Source: this project.
-use Rattle.std.specs.Prelude.{◌≡◌, ℕ, ◌<◌, ◌≤◌, ◌⊎◌, ◌==◌, ◌&&◌, Bool, true, false, max, nat_lt, nat_le, List, length, map, slice_index, Some, if◌then◌else◌}
+use Rattle.std.specs.Prelude.{◌≡◌, ℕ, ◌<◌, ◌≤◌, ◌⊎◌, ◌&&◌, Bool, true, false, max, nat_lt, nat_le, List, length, map, slice_index, Some, if◌then◌else◌}
 use Rattle.bench_types.specs.declared.entries.Entry.{Entry}
 use Rattle.model.specs.Table.{Table, entry_at, generation_held}
-use Rattle.planes.specs.Planes.{Cells, cell, numbers_taken, ArePlanesChanged, IsGrid, IsRaised}
-use Rattle.version_tables.specs.Views.{VersionTableView}
-use Rattle.version_tables.specs.Laid.{IsVersionTable}
-use Rattle.model.specs.calls.OwnerListView.{all_writes}
+use Rattle.grids.specs.Grids.{number_kept}
+use Rattle.planes.specs.Planes.{Cells, numbers_taken, ArePlanesChanged, AreRaised, IsGrid}
+use Rattle.version_tables.specs.Views.{VersionTableView, IsKept}
+use Rattle.model.specs.calls.OwnerListView.{OwnerListView, all_writes}
 use Rattle.delta_plans.specs.declared.told_marks.Owners.{Owners}
 use Rattle.version_tables.specs.declared.taking.Arrival.{Arrival}
+use Rattle.round_tables.specs.Histories.{HistoriesView}
 use Rattle.version_tables.specs.inner.Histories.{bases_in, AreOwners}
 use Rattle.owner_writes.specs.Numbered.{start_of}
 
@@ -18,7 +19,8 @@ is_taken number sent low high = nat_lt (max number low) sent && nat_le sent high
 -- nothing of the owner that is sent is of a newer generation than the receiver's copy
 abbrev pub SendsNoNewer : Table → Table → (ℕ → ℕ → Bool) → ℕ → Type 0
 SendsNoNewer from to sent owner =
-    (key : ℕ) (e : Entry) → entry_at from owner key ≡ Some e → sent owner key ≡ true → e.generation ≤ generation_held to owner
+    (key : ℕ) (e : Entry) → entry_at from owner key ≡ Some e → sent owner key ≡ true
+    → e.generation ≤ generation_held to owner
 
 -- something is
 pub record SendsNewer (from to : Table) (sent : ℕ → ℕ → Bool) (owner : ℕ) : Type 0 where
@@ -30,19 +32,17 @@ pub record SendsNewer (from to : Table) (sent : ℕ → ℕ → Bool) (owner : �
 
 -- what is sent is put in; the rest of a copy stays, or is dropped where something newer came
 pub record AreTakenCells (from to : Table) (sent : ℕ → ℕ → Bool) (sender receiver taken : Cells) : Type 0 where
-  pub came : (owner key : ℕ) → owner < to.nodes → key < to.keys → sent owner key ≡ true → taken owner key ≡ sender owner key
+  pub came : (owner key : ℕ) → owner < to.nodes → key < to.keys → sent owner key ≡ true
+      → taken owner key ≡ sender owner key
   pub others : (owner key : ℕ) → owner < to.nodes → key < to.keys → sent owner key ≡ false
-      → (SendsNoNewer from to sent owner × (taken owner key ≡ receiver owner key)) ⊎ (SendsNewer from to sent owner × (taken owner key ≡ 0))
+      → (SendsNoNewer from to sent owner × (taken owner key ≡ receiver owner key))
+      ⊎ (SendsNewer from to sent owner × (taken owner key ≡ 0))
 
--- up to where an owner's numbers are dropped, where its greatest one was raised: to where the newest generation starts, if
--- the old one is of an earlier generation than the owner's, which has so many writes before it
+-- up to where an owner's numbers are dropped, where its greatest one was raised: to where the newest generation starts,
+-- if the old one is of an earlier generation than the owner's, which has so many writes before it
 abbrev pub drop_start : List Entry → ℕ → ℕ → ℕ → ℕ
 drop_start writes old base new =
     if (nat_lt 0 old && nat_le old base) && nat_lt old new then start_of writes new else 0
-
--- a number that is above a mark, else 0
-abbrev pub number_kept : ℕ → ℕ → ℕ
-number_kept start number = if nat_le number start then 0 else number
 
 -- up to where the numbers of each owner are dropped
 abbrev pub drop_starts : (ℕ → List Entry) → List ℕ → List ℕ → List ℕ → ℕ → ℕ
@@ -50,77 +50,65 @@ drop_starts lists before bases greatest owner =
     drop_start (lists owner) (slice_index before owner) (slice_index bases owner) (slice_index greatest owner)
 
 -- as many numbers before, and greatest ones, as there are owners, whose planes these are
-pub record MayDrop {N : Type 0} (number : N → ℕ) (nodes keys : ℕ) (cells before greatest : List N) (owners : Owners N) : Type 0 where
+pub record MayDrop {N : Type 0} (number : N → ℕ) (nodes keys : ℕ) (cells before greatest : List N)
+    (owners : Owners N) : Type 0 where
   pub grid : IsGrid nodes keys (length cells)
   pub before_count : length before ≡ nodes
   pub greatest_count : length greatest ≡ nodes
   pub known : AreOwners number nodes owners
 
--- so it is of an owner's numbers, and the others stay
-abbrev pub IsOwnerKept : {N : Type 0} → (N → ℕ) → ℕ → ℕ → ℕ → ℕ → List N → List N → Type 0
-IsOwnerKept number nodes keys owner start old new =
-    ArePlanesChanged (λ r k x y. y ≡ (if r == owner then number_kept start x else x)) nodes keys
-    (map number old) (map number new)
-
--- a receiver's numbers and greatest ones once it took them, and dropped what is of older generations
-pub record IsTaken (lists : ℕ → List Entry) (bases : ℕ → ℕ) (nodes keys : ℕ) (cells greatest sent low high new_cells new_greatest : List ℕ) : Type 0 where
-  pub cell_count : length new_cells ≡ length cells
-  pub greatest_count : length new_greatest ≡ nodes
-  pub raised : (owner : ℕ) → owner < nodes
-      → IsRaised (numbers_taken nodes cells sent low high) keys owner (slice_index greatest owner) (slice_index new_greatest owner)
-  pub kept : (owner key : ℕ) → owner < nodes → key < keys
-      → cell new_cells nodes owner key
-      ≡ number_kept (drop_start (lists owner) (slice_index greatest owner) (bases owner) (slice_index new_greatest owner))
-      (numbers_taken nodes cells sent low high owner key)
-
--- the table stays one whatever numbers it has then
-abbrev pub StaysOne : (ℕ → List Entry) → (ℕ → List Entry) → (ℕ → ℕ) → VersionTableView → List ℕ → List ℕ → List ℕ → Type 0
-StaysOne written lists bases to sent low high =
-    (cells greatest : List ℕ) → IsTaken lists bases to.nodes to.keys to.cells to.greatest sent low high cells greatest
-    → IsVersionTable written to.node to.nodes to.keys to.generation cells greatest
-
--- a table has taken a delta: its numbers alone have changed
-pub record HasTaken (lists : ℕ → List Entry) (bases : ℕ → ℕ) (to : VersionTableView) (sent low high : List ℕ) (new : VersionTableView) : Type 0 where
-  pub taken : IsTaken lists bases to.nodes to.keys to.cells to.greatest sent low high new.cells new.greatest
+-- a table has taken numbers that are sent, and dropped what is of older generations: its numbers alone have changed
+pub record HasTaken (lists : List OwnerListView) (to : VersionTableView) (sent low high : List ℕ)
+    (new : VersionTableView) : Type 0 where
+  pub raised : AreRaised to.nodes to.keys to.cells sent low high to.greatest new.greatest
+  pub kept : ArePlanesChanged (λ r k x y. y ≡ number_kept (drop_start (all_writes lists r) (slice_index to.greatest r)
+      (bases_in lists r) (slice_index new.greatest r)) (numbers_taken to.nodes to.cells sent low high r k))
+      to.nodes to.keys to.cells new.cells
   pub rest : new ≡ record to { cells = new.cells; greatest = new.greatest }
 
--- or nothing, where the message that has the delta was lost
-abbrev pub HasTakenUnless : Bool → (ℕ → List Entry) → (ℕ → ℕ) → VersionTableView → List ℕ → List ℕ → List ℕ → VersionTableView → Type 0
-HasTakenUnless true lists bases to sent low high new = new ≡ to
-HasTakenUnless false lists bases to sent low high new = HasTaken lists bases to sent low high new
+-- the table stays one whatever numbers it has then
+abbrev pub StaysOne :
+    (ℕ → List Entry) → List OwnerListView → VersionTableView → List ℕ → List ℕ → List ℕ → Type 0
+StaysOne written lists to sent low high =
+    (new : VersionTableView) → HasTaken lists to sent low high new → IsKept written new
 
--- a table may take what comes of a sender's numbers: these are as many as its own, there are marks and owners for each
--- node, and it stays one
-pub record MayArrive {N : Type 0} (number : N → ℕ) (written : ℕ → List Entry) (owners : Owners N)
+-- or nothing, where the message that has the delta was lost
+abbrev pub HasTakenUnless :
+    Bool → List OwnerListView → VersionTableView → List ℕ → List ℕ → List ℕ → VersionTableView → Type 0
+HasTakenUnless true lists to sent low high new = new ≡ to
+HasTakenUnless false lists to sent low high new = HasTaken lists to sent low high new
+
+-- a table may take what comes of a sender's numbers: these are as many as its own, there are marks for each node, which
+-- the histories have, and it stays one
+pub record MayArrive {N : Type 0} (number : N → ℕ) (written : ℕ → List Entry) (h : HistoriesView)
     (to : VersionTableView) (sent : List ℕ) (arrival : Arrival N) : Type 0 where
+  pub nodes : to.nodes ≡ length h.lists
   pub cells : length sent ≡ length to.cells
   pub low_count : length arrival.marks.now.low.items ≡ to.nodes
   pub high_count : length arrival.marks.now.high.items ≡ to.nodes
-  pub known : AreOwners number to.nodes owners
-  pub stays : StaysOne written (all_writes owners.lists.now) (bases_in owners.lists.now) to sent
+  pub stays : StaysOne written h.lists to sent
       (map number arrival.marks.now.low.items) (map number arrival.marks.now.high.items)
 
 -- and it has taken that
-abbrev pub HasArrived : {N : Type 0} → (N → ℕ) → Owners N → VersionTableView → List ℕ → Arrival N → VersionTableView → Type 0
-HasArrived number owners to sent arrival new =
-    HasTakenUnless arrival.nothing (all_writes owners.lists.now) (bases_in owners.lists.now) to sent
+abbrev pub HasArrived :
+    {N : Type 0} → (N → ℕ) → HistoriesView → VersionTableView → List ℕ → Arrival N → VersionTableView → Type 0
+HasArrived number h to sent arrival new =
+    HasTakenUnless arrival.nothing h.lists to sent
     (map number arrival.marks.now.low.items) (map number arrival.marks.now.high.items) new
 
 -- the first of two tables may take what comes of the second one's numbers, and then the second one of the first one's
-pub record MayTakeBoth {N : Type 0} (number : N → ℕ) (written : ℕ → List Entry) (owners : Owners N)
+pub record MayTakeBoth {N : Type 0} (number : N → ℕ) (written : ℕ → List Entry) (h : HistoriesView)
     (initiator responder : VersionTableView) (back forth : Arrival N) : Type 0 where
-  pub first : MayArrive number written owners initiator responder.cells back
-  pub second : (after : VersionTableView)
-      → HasArrived number owners initiator responder.cells back after
-      → MayArrive number written owners responder after.cells forth
+  pub first : MayArrive number written h initiator responder.cells back
+  pub second : (after : VersionTableView) → HasArrived number h initiator responder.cells back after
+      → MayArrive number written h responder after.cells forth
 
 -- or neither has changed
 abbrev pub BothStay : VersionTableView → VersionTableView → VersionTableView → VersionTableView → Type 0
 BothStay initiator responder new_initiator new_responder = (new_initiator ≡ initiator) × (new_responder ≡ responder)
 
 -- and they have taken that
-pub record HaveTakenBoth {N : Type 0} (number : N → ℕ) (owners : Owners N)
-    (initiator responder : VersionTableView) (back forth : Arrival N)
-    (new_initiator new_responder : VersionTableView) : Type 0 where
-  pub first : HasArrived number owners initiator responder.cells back new_initiator
-  pub second : HasArrived number owners responder new_initiator.cells forth new_responder
+pub record HaveTakenBoth {N : Type 0} (number : N → ℕ) (h : HistoriesView) (initiator responder : VersionTableView)
+    (back forth : Arrival N) (new_initiator new_responder : VersionTableView) : Type 0 where
+  pub first : HasArrived number h initiator responder.cells back new_initiator
+  pub second : HasArrived number h responder new_initiator.cells forth new_responder

@@ -5,12 +5,12 @@ use Rattle.grids.proofs.grids.ahead_of_both.Goals as goal
 pub returns-clause-ahead : goal.returns-clause-ahead
 returns-clause-ahead g c =
     let number = g.N.Number.number in
-    let low = slice_index (map number c.args.low.now) in
-    let peer = cell (map number c.args.peer.now) c.args.grid.size.nodes in
+    let low = slice_index (map number c.args.peer.low.now) in
+    let peer = cell (map number c.args.peer.cells.now) c.args.grid.size.nodes in
     let all = c.change_all_counting-count.ensures (λ k r x. number_ahead x (peer r k) (low r)) (λ k r x. nat_lt (max (peer r k) (low r)) x)
     (λ k to in_keys given r n both lt call.
     let plane : HasEach c.args.grid.size.nodes (λ r n. n ≡ peer r k) (map number to.0.now) = search rules in
-    let marks : to.1.now ≡ c.args.low.now = search rules in
+    let marks : to.1.now ≡ c.args.peer.low.now = search rules in
     rw (← plane.each r lt, ← marks) call) in
     let items = with_items_is c.in_ok-numbers.numbers c.change_all_counting-count.new.numbers (c.change_all_counting-count.auto.numbers ∙ c.deref_mut.ensures.len) in
     record {
@@ -18,5 +18,5 @@ returns-clause-ahead g c =
         size = all.0.size ∙ length-map c.deref_mut.result.now number ∙ rw (c.deref_mut.ensures.value, c.in_ok-numbers.ensures.copy) c.requires.peer.marks.shape.whole;
         each = all.0.each;
       });
-      count = rw items (total-kept c.args.grid.size.nodes c.args.grid.size.keys (cell (map number c.args.peer.now) c.args.grid.size.nodes) (map number c.args.low.now) _ _ c.change_all_counting-count.result all.1 all.0);
+      count = rw items (total-kept c.args.grid.size.nodes c.args.grid.size.keys peer (map number c.args.peer.low.now) _ _ c.change_all_counting-count.result all.1 all.0);
     }

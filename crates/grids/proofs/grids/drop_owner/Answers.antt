@@ -1,7 +1,7 @@
-use Rattle.grids.proofs.Common.{◌≡◌, ◌+◌, ◌*◌, ◌<◌, arith, rules, sym, map, length, ◌∙◌, cond, nat_lt, length-map, get_or-map, number_ahead}
+use Rattle.grids.proofs.Common.{◌+◌, ◌*◌, ◌<◌, arith, rules, sym, map, length, ◌∙◌, ap, length-map, get_or-map}
+use Rattle.grids.specs.Grids.{number_kept}
 use Rattle.planes.proofs.Places.{plane-within, planes-none, planes-all}
 use Rattle.grids.proofs.ByOwner.{owner-next}
-use Rattle.grids.proofs.Counted.{above-alone}
 use Rattle.grids.proofs.grids.drop_owner.Goals as goal
 
 pub loop-key-init : goal.loop-key-init
@@ -11,22 +11,21 @@ pub offset_bounds-cells-key : goal.offset_bounds-cells-key
 offset_bounds-cells-key g c =
     let plane = plane-within c.args.size.nodes c.args.size.keys (length c.args.cells.now) c.loop-key.key c.requires.grid c.loop-key-test.true in
     let inside : c.loop-key.key * c.args.size.nodes + c.args.owner < length c.loop-key.cells =
-    omega (arith, c.requires.owner, c.loop-key.auto.cells, plane) in
+    omega (arith, c.requires.among, c.loop-key.auto.cells, plane) in
     search rules
 
 pub loop-key-preserved : goal.loop-key-preserved
 loop-key-preserved g c =
     let number = g.N.Number.number in
-    let mark = number c.args.mark in
     let place = c.loop-key.key * c.args.size.nodes + c.args.owner in
     let within = plane-within c.args.size.nodes c.args.size.keys (length c.args.cells.now) c.loop-key.key c.requires.grid c.loop-key-test.true in
     let was =
-    sym (get_or-map number c.loop-key.cells place c.index-cells-key.result 0 (omega (arith, within, c.requires.owner, c.loop-key.auto.cells)))
+    sym (get_or-map number c.loop-key.cells place c.index-cells-key.result 0 (omega (arith, within, c.requires.among, c.loop-key.auto.cells)))
     ∙ c.loop-key.invariant.from place (omega arith) in
-    owner-next (λ r k x. number_ahead x 0 mark) c.args.owner c.args.size.nodes (map number c.args.cells.now) c.requires.owner
+    owner-next (λ r k x. number_kept c.args.mark x) c.args.owner c.args.size.nodes (map number c.args.cells.now) c.requires.among
     number c.loop-key.cells c.loop-key.key c.pick.result
     c.loop-key.invariant (omega (arith, within, length-map c.args.cells.now number))
-    (c.pick.ensures ∙ (λ i. cond ((c.is_above.ensures ∙ (λ j. nat_lt mark (was j))) i) (was i) (c.zero.ensures i)) ∙ above-alone mark _)
+    (rw (c.pick.ensures, c.widen.ensures, c.zero.ensures) (ap (number_kept c.args.mark) was))
 
 pub returns : goal.returns
 returns g c = planes-all _ _ _ _ c.args.size.keys c.loop-key.key c.loop-key.invariant c.loop-key-test.false

@@ -6,5 +6,6 @@ pub write_own-requires-clause-next : goal.write_own-requires-clause-next
 write_own-requires-clause-next g c =
     let table = c.args.table.now in
     let known = c.in_ok-number.ensures.known in
-    rw (c.in_ok-number.ensures.number, c.node-node.ensures.value) (next-write g.H.Written.lists table c.node-node.ensures.kept (list_of_owner c.args.histories.now.lists table.node) (known.writes table.node) (known.so_far table.node).begins
+    rw (c.in_ok-number.ensures.number, c.node-node.ensures.value) (next-write g.H.Written.lists table c.node-node.ensures.kept
+    (list_of_owner c.args.histories.now.lists table.node) (known.writes table.node) (known.so_far table.node).begins
     c.requires.beside.generation c.requires.beside.greatest g.N.Number.most c.args.key c.args.value (c.args.histories.now.rounds + 1) c.requires.may)

@@ -1,20 +1,45 @@
 use Rattle.version_tables.proofs.Common.{refl, ◌∙◌, map, length-map, digest_kind, AreLaidBoth}
-use Rattle.version_tables.proofs.Delivered.{offer-is, delta-marks, told-low}
+use Rattle.version_tables.proofs.Delivered.{IsOfferOf, offer-is, delta-marks, told-low}
+use Rattle.version_tables.proofs.deltas.marks_sent.Given as given
 use Rattle.version_tables.proofs.deltas.marks_sent.Goals as goal
 
+module _ (g : given.Over) (c : goal.After-ends g) where
+  two : AreLaidBoth g.H.Written.lists g.N.Number.most c.args.course.now.histories.now c.args.sender.now c.args.receiver.now
+  two = record {
+    known = record { so_far = c.lists.ensures.so_far; writes = c.lists.ensures.writes };
+    both = c.requires.told.may.both;
+    first = c.grid.ensures.kept;
+    second = c.requires.told.told.kept;
+  }
+
+  of-both : IsOfferOf g.N.Number.number c.args.course.now.rules.now c.args.course.now.histories.now c.args.sender.now c.args.receiver.now (record {
+    grid = record { cells = c.args.offered.cells; size = c.grid.result.size };
+    low = c.args.offered.low;
+    high = c.greatest.result;
+    lists = c.lists.result;
+    budget = c.args.course.now.rules.now.budget;
+    found = c.args.offered.found;
+  })
+  of-both = record {
+    nodes = c.grid.ensures.nodes;
+    keys = c.grid.ensures.keys;
+    lists = c.lists.ensures.value;
+    budget = refl;
+    high = c.greatest.ensures.value;
+    low = told-low two (digest_kind c.args.course.now.rules.now.mode) (map g.N.Number.number c.args.offered.low.now) c.requires.told.told.told;
+    offered = c.requires.offered.cells;
+    found = c.requires.offered.found;
+  }
+
 pub planned-requires-clause-offer : goal.planned-requires-clause-offer
-planned-requires-clause-offer g c =
-    let two : AreLaidBoth g.H.Written.lists g.N.Number.most c.args.course.now.histories.now c.args.sender.now c.args.receiver.now =
-    record { known = record { so_far = c.lists.ensures.so_far; writes = c.lists.ensures.writes }; both = c.requires.may.both; first = c.size-size.ensures.kept; second = c.requires.low.kept } in
-    offer-is g.N.Number.number two c.args.course.now.rules.now _ c.size-size.ensures.size.nodes c.size-size.ensures.size.keys c.lists.ensures.value refl c.greatest.ensures.value
-    (told-low two (digest_kind c.args.course.now.rules.now.mode) (map g.N.Number.number c.args.offered.low.now) c.requires.low.told) c.requires.offered.cells c.requires.offered.found
+planned-requires-clause-offer g c = offer-is g.N.Number.number (two g c) c.args.course.now.rules.now _ (of-both g c)
 
 pub returns-clause-marks : goal.returns-clause-marks
 returns-clause-marks g c =
-    let two : AreLaidBoth g.H.Written.lists g.N.Number.most c.args.course.now.histories.now c.args.sender.now c.args.receiver.now =
-    record { known = record { so_far = c.lists.ensures.so_far; writes = c.lists.ensures.writes }; both = c.requires.may.both; first = c.size-size.ensures.kept; second = c.requires.low.kept } in
     let number = g.N.Number.number in
     let marked = c.in_ok-marked.marked in
-    rw c.greatest.ensures.value at (delta-marks number two c.args.course.now.rules.now _ c.size-size.ensures.size.nodes c.size-size.ensures.size.keys c.lists.ensures.value refl c.greatest.ensures.value
-    (told-low two (digest_kind c.args.course.now.rules.now.mode) (map number c.args.offered.low.now) c.requires.low.told) c.requires.offered.cells c.requires.offered.found c.args.course.now.plan.now.rotation c.requires.may.rotation
-    (map number marked.mark.items) marked.counts.sent marked.counts.cut c.in_ok-marked.ensures.marked (length-map marked.mark.items number ∙ c.in_ok-marked.ensures.size ∙ c.size-size.ensures.size.nodes))
+    let before = c.before.before.before in
+    rw c.greatest.ensures.value at (delta-marks number (two g before) c.args.course.now.rules.now _
+    (of-both g before) c.args.course.now.plan.now.rotation c.requires.told.may.rotation
+    (map number marked.mark.items) marked.counts.sent marked.counts.cut c.in_ok-marked.ensures.marked
+    (length-map marked.mark.items number ∙ c.in_ok-marked.ensures.size ∙ c.grid.ensures.nodes))

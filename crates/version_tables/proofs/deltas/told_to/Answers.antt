@@ -5,20 +5,24 @@ use Rattle.version_tables.proofs.deltas.told_to.Goals as goal
 pub told-requires-clause-known : goal.told-requires-clause-known
 told-requires-clause-known g c =
     let v = c.args.receiver.now in
-    let h = c.args.histories.now in
     let kept = c.greatest.ensures.kept in
     rw (c.lists.ensures.value, c.greatest.ensures.value) (record {
-      count = kept.greatest_count ∙ c.requires.receiver.nodes;
+      count = kept.most.size ∙ c.requires.nodes;
       base_count = c.bases.ensures.value.size;
-      few_nodes = omega (arith, c.requires.receiver.nodes, kept.proper.nodes_limit);
+      few_nodes = omega (arith, c.requires.nodes, kept.proper.nodes_limit);
       each = λ owner lt.
-          let in_nodes : owner < v.nodes = omega (arith, lt, c.requires.receiver.nodes) in
+          let in_nodes : owner < v.nodes = omega (arith, lt, c.requires.nodes) in
           let so_far = c.lists.ensures.so_far owner in
           record {
             few = so_far.few;
-            within = elim ((kept.most owner in_nodes).held) [
+            within = elim (kept.most.each owner in_nodes).held [
               | inl none ↦ omega (arith, none)
-              | inr (key, in_keys, is) ↦ omega (arith, is, so-far-upto g.H.Written.lists v kept _ owner so_far.begins (c.requires.receiver.holds owner) key in_nodes in_keys)
+              | inr (key, in_keys, is) ↦ omega (
+                arith,
+                is,
+                so-far-upto g.H.Written.lists v kept _ owner so_far.begins
+                    (c.requires.holds owner) key in_nodes in_keys,
+              )
             ];
             based = c.bases.ensures.value.each owner lt;
             writes = c.bases.ensures.writes owner;

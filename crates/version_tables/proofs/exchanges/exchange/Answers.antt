@@ -8,14 +8,20 @@ returns-then-plan-clause-ok g c =
     let table = table_in g.H.Written.lists in
     let none : DeltaView = record { items = []; cut = 0 } in
     rw (c.if-plan.true, ← c.digest_size-digest1.ensures.size)
-    (ap {B = Exchanged} (λ (s : Record). record { initiator = table c.args.initiator.now; responder = table c.args.responder.now; sent = s }) (sym (c.sent_before_an_answer.ensures 0 none none)))
+    (ap {B = Exchanged} (λ (s : Record). record { initiator = table c.args.initiator.now; responder = table c.args.responder.now; sent = s })
+    (sym (c.sent_before_an_answer.ensures 0 none none)))
 
 pub merge-came-requires : goal.merge-came-requires
 merge-came-requires g c =
-    both-stay c.args.course.now.rules.now c.args.course.now.plan.now (ready c.requires c.digest_size-digest1.ensures.kept c.digest_size-digest2.ensures.kept) c.requires.tables.rotation (c.may_merge.ensures.0 c.if-may_merge.true)
+    both-stay c.args.course.now.rules.now c.args.course.now.plan.now
+    (ready c.requires c.digest_size-digest1.ensures.kept c.digest_size-digest2.ensures.kept) c.requires.tables.rotation
+    (c.may_merge.ensures.0 c.if-may_merge.true)
 
 pub returns-then-may_merge-clause-ok : goal.returns-then-may_merge-clause-ok
 returns-then-may_merge-clause-ok g c =
-    merged-whole c.args.course.now.rules.now c.args.course.now.plan.now (ready c.requires c.digest_size-digest1.ensures.kept c.digest_size-digest2.ensures.kept) c.requires.tables.rotation (c.may_merge.ensures.0 c.if-may_merge.true)
-    c.merge-came.ensures c.digest_size-digest1.result c.digest_size-digest2.result c.digest_size-digest1.ensures.size c.digest_size-digest2.ensures.size c.if-plan.false c.if-not-plan.true c.if-not-plan-2.true
+    merged-whole c.args.course.now.rules.now c.args.course.now.plan.now
+    (ready c.requires c.digest_size-digest1.ensures.kept c.digest_size-digest2.ensures.kept) c.requires.tables.rotation
+    (c.may_merge.ensures.0 c.if-may_merge.true)
+    c.merge-came.ensures c.digest_size-digest1.result c.digest_size-digest2.result c.digest_size-digest1.ensures.size
+    c.digest_size-digest2.ensures.size c.if-plan.false c.if-not-plan.true c.if-not-plan-2.true
     c.sent_both.result (rw (c.all_sent-back.ensures, c.all_sent-forth.ensures) at c.sent_both.ensures)

@@ -1,4 +1,4 @@
-use Rattle.version_tables.proofs.Common.{ℕ, map, refl, sym, ◌∙◌, transport, with_items, with_items_is, VersionTableView, AreOfOneSize, IsMerged, StaysMerged}
+use Rattle.version_tables.proofs.Common.{ℕ, map, refl, sym, ◌∙◌, transport, with_items, with_items_is, VersionTableView, AreOfOneSize, HasMerged, IsKept}
 use Rattle.version_tables.proofs.Laid.{seen}
 use Rattle.version_tables.proofs.merging.merge.Given as given
 use Rattle.version_tables.proofs.merging.merge.Goals as goal
@@ -17,43 +17,57 @@ module _ (g : given.Over) (c : goal.After-responder-2-1 g) where
   size = rw (c.initiator.view_is, c.responder.view_is) c.requires.size
 
   abbrev p' : VersionTableView
-  p' = record p { cells = map number (with_items c.initiator.inside.cells c.merge-came.new.first).items; greatest = map number (with_items c.initiator.inside.greatest c.raise_both.new.first).items }
+  p' = record p {
+    cells = map number (with_items c.initiator.inside.cells c.merge-came.new.first).items;
+    greatest = map number
+        (with_items c.initiator.inside.greatest c.raise_both.new.first).items;
+  }
 
   abbrev q' : VersionTableView
-  q' = record q { cells = map number (with_items c.responder.inside.cells c.merge-came.new.second).items; greatest = map number (with_items c.responder.inside.greatest c.raise_both.new.second).items }
+  q' = record q {
+    cells = map number (with_items c.responder.inside.cells c.merge-came.new.second).items;
+    greatest = map number
+        (with_items c.responder.inside.greatest c.raise_both.new.second).items;
+  }
 
-  came : IsMerged p.nodes p.keys p.cells p.greatest q.cells q.greatest p'.cells p'.greatest
+  came : HasMerged q p p'
   came =
       let cells = with_items_is c.initiator.inside.cells c.merge-came.new.first (c.merge-came.auto.first ∙ c.deref_mut.ensures.len) in
       let greatest = with_items_is c.initiator.inside.greatest c.raise_both.new.first (c.raise_both.auto.first ∙ c.deref_mut-3.ensures.len) in
       record {
         numbers = rw (c.deref_mut-2.ensures.value, c.deref.ensures.value, c.deref_mut.ensures.value, ← cells) at c.merge-came.ensures.first;
         most = rw (c.deref_mut-4.ensures.value, c.deref_mut-3.ensures.value, ← greatest) at c.raise_both.ensures.first;
+        rest = refl;
       }
 
-  went : IsMerged q.nodes q.keys q.cells q.greatest p.cells p.greatest q'.cells q'.greatest
+  went : HasMerged p q q'
   went =
       let cells = with_items_is c.responder.inside.cells c.merge-came.new.second (c.merge-came.auto.second ∙ c.deref_mut-2.ensures.len) in
       let greatest = with_items_is c.responder.inside.greatest c.raise_both.new.second (c.raise_both.auto.second ∙ c.deref_mut-4.ensures.len) in
       record {
-        numbers = rw (c.deref_mut.ensures.value, c.deref-2.ensures.value, c.deref_mut-2.ensures.value, ← cells, size.nodes, size.keys) at c.merge-came.ensures.second;
+        numbers =
+            rw (c.deref_mut.ensures.value, c.deref-2.ensures.value, c.deref_mut-2.ensures.value, ← cells, size.nodes, size.keys)
+            at c.merge-came.ensures.second;
         most = rw (c.deref_mut-3.ensures.value, c.deref_mut-4.ensures.value, ← greatest) at c.raise_both.ensures.second;
+        rest = refl;
       }
 
 pub invariant_of-initiator : goal.invariant_of-initiator
 invariant_of-initiator g c =
-    transport (λ i. StaysMerged g.H.Written.lists (sym c.initiator.view_is i) (sym c.responder.view_is i).cells (sym c.responder.view_is i).greatest) c.requires.first _ _ (came g c)
+    transport (λ i. (new : VersionTableView) → HasMerged (sym c.responder.view_is i) (sym c.initiator.view_is i) new → IsKept g.H.Written.lists new)
+    c.requires.first _ (came g c)
 
 pub invariant_of-responder : goal.invariant_of-responder
 invariant_of-responder g c =
-    transport (λ i. StaysMerged g.H.Written.lists (sym c.responder.view_is i) (sym c.initiator.view_is i).cells (sym c.initiator.view_is i).greatest) c.requires.second _ _ (went g c)
+    transport (λ i. (new : VersionTableView) → HasMerged (sym c.initiator.view_is i) (sym c.responder.view_is i) new → IsKept g.H.Written.lists new)
+    c.requires.second _ (went g c)
 
 pub returns : goal.returns
 returns g c =
     let size = size g c in
     rw (← c.initiator.view_is, ← c.responder.view_is) (record {
-      first = record { merged = came g c; rest = refl };
-      second = record { merged = went g c; rest = refl };
+      first = came g c;
+      second = went g c;
       back = rw (c.deref_mut-2.ensures.value, c.deref.ensures.value, size.nodes, size.keys) at c.merge-came.ensures.first_count;
       forth = rw (c.deref_mut.ensures.value, c.deref-2.ensures.value) at c.merge-came.ensures.second_count;
     })

@@ -2,4 +2,6 @@ use Rattle.version_tables.proofs.Common.{◌≡◌, ◌==◌, map, if◌then◌e
 use Rattle.version_tables.proofs.owners.keep_owner.Given as goal
 
 abbrev pub invariant-loop-key : goal.invariant-loop-key
-invariant-loop-key g l = ArePlanesChangedUpto (λ r k x y. y ≡ (if r == l.owner then x else 0)) l.nodes (map g.N.Number.number l.initial.cells) (map g.N.Number.number l.cells) l.key
+invariant-loop-key g l =
+    ArePlanesChangedUpto (λ r k x y. y ≡ (if r == l.owner then x else 0)) l.size.nodes
+    (map g.N.Number.number l.initial.cells) (map g.N.Number.number l.cells) l.key

@@ -1,4 +1,4 @@
-use Rattle.version_tables.proofs.Common.{◌≡◌, ℕ, List, length, map, slice_index, ap, refl, subst, sym, ◌∙◌, with_items, length-map, with_items_is, all_writes, VersionTableView, bases_in, AreOwners, drop_start, number_kept, IsTaken, StaysOne, Entry, IsGrid, IsVersionTable}
+use Rattle.version_tables.proofs.Common.{◌≡◌, length, map, slice_index, ap, arith, refl, subst, sym, ◌∙◌, with_items, with_items_is, all_writes, VersionTableView, drop_start, number_kept, HasTaken, StaysOne}
 use Rattle.version_tables.proofs.Laid.{seen}
 use Rattle.version_tables.proofs.taking.take_unless.Given as given
 use Rattle.version_tables.proofs.taking.take_unless.Goals as goal
@@ -7,71 +7,44 @@ module _ (g : given.Over) (c : goal.After-table-3-1 g) where
   abbrev old : VersionTableView
   old = seen c.table.view_is
 
-  taken : IsTaken (all_writes c.args.owners.lists.now) (bases_in c.args.owners.lists.now) old.nodes old.keys old.cells old.greatest
-      (map g.N.Number.number c.args.cells.now) (map g.N.Number.number c.args.arrival.marks.now.low.items) (map g.N.Number.number c.args.arrival.marks.now.high.items)
-      (map g.N.Number.number (with_items (with_items c.table.inside.cells c.take.new.cells) c.drop_older.new.cells).items) (map g.N.Number.number (with_items c.table.inside.greatest c.take.new.greatest).items)
+  nodes : old.nodes ≡ length c.args.histories.now.lists
+  nodes = ap (λ (v : VersionTableView). v.nodes) c.table.view_is ∙ c.requires.may.nodes
+
+  taken : HasTaken c.args.histories.now.lists old (map g.N.Number.number c.args.cells.now)
+      (map g.N.Number.number c.args.arrival.marks.now.low.items) (map g.N.Number.number c.args.arrival.marks.now.high.items) (record old {
+        cells = map g.N.Number.number (with_items (with_items c.table.inside.cells c.take.new.cells) c.drop_older.new.cells).items;
+        greatest = map g.N.Number.number (with_items c.table.inside.greatest c.take.new.greatest).items;
+      })
   taken =
       let inside = c.table.inside in
+      let lists = c.args.histories.now.lists in
       let greatest = with_items_is inside.greatest c.take.new.greatest (c.take.auto.greatest ∙ c.deref_mut-2.ensures.len) in
       let cells = with_items_is inside.cells c.take.new.cells (c.take.auto.cells ∙ c.deref_mut.ensures.len) in
       let kept = with_items_is (with_items inside.cells c.take.new.cells) c.drop_older.new.cells (c.drop_older.auto.cells ∙ c.deref_mut-3.ensures.len) in
       let came = rw (c.deref.ensures.value, c.deref-2.ensures.value, c.deref_mut.ensures.value) at c.take.ensures.cells in
-      let raises = rw (c.deref.ensures.value, c.deref-2.ensures.value, c.deref_mut.ensures.value, c.deref_mut-2.ensures.value, ← greatest) at c.take.ensures.greatest in
-      let dropped = rw (c.deref-3.ensures.value, c.deref_mut-3.ensures.value, cells, ← kept) at c.drop_older.ensures in
+      let raises =
+      rw (c.deref.ensures.value, c.deref-2.ensures.value, c.deref_mut.ensures.value, c.deref_mut-2.ensures.value, ← greatest)
+      at c.take.ensures.greatest in
+      let dropped = rw (c.deref-3.ensures.value, c.deref_mut-3.ensures.value, c.lists.ensures.value, cells, ← kept) at c.drop_older.ensures in
       let before = c.requires.before ∙ sym (ap (λ (v : VersionTableView). v.greatest) c.table.view_is) in
-      let known = subst (λ nodes. AreOwners g.N.Number.number nodes c.args.owners) (sym (ap (λ (v : VersionTableView). v.nodes) c.table.view_is)) c.requires.may.known in
       record {
-        cell_count = dropped.size ∙ came.size;
-        greatest_count = raises.size;
-        raised = raises.each;
-        kept = λ owner key in_nodes in_keys.
-            dropped.each owner key in_nodes in_keys
-            ∙ (λ i. number_kept (drop_start (all_writes c.args.owners.lists.now owner) (slice_index (before i) owner) (known.bases.each owner in_nodes i)
-            (slice_index (map g.N.Number.number (with_items inside.greatest c.take.new.greatest).items) owner)) (came.each owner key in_nodes in_keys i));
+        raised = raises;
+        kept = record {
+          size = dropped.size ∙ came.size;
+          each = λ owner key in_nodes in_keys.
+              let based = c.bases.ensures.value.each owner (omega (arith, in_nodes, nodes)) in
+              dropped.each owner key in_nodes in_keys
+              ∙ (λ i. number_kept (drop_start (all_writes lists owner) (slice_index (before i) owner) (based i)
+              (slice_index (map g.N.Number.number (with_items inside.greatest c.take.new.greatest).items) owner)) (came.each owner key in_nodes in_keys i));
+        };
+        rest = refl;
       }
 
 pub invariant_of-table : goal.invariant_of-table
 invariant_of-table g c =
-    let lists = c.args.owners.lists.now in
-    subst (λ v. StaysOne g.H.Written.lists (all_writes lists) (bases_in lists) v (map g.N.Number.number c.args.cells.now) (map g.N.Number.number c.args.arrival.marks.now.low.items) (map g.N.Number.number c.args.arrival.marks.now.high.items))
-    (sym c.table.view_is) c.requires.may.stays _ _ (taken g c)
+    subst (λ v. StaysOne g.H.Written.lists c.args.histories.now.lists v (map g.N.Number.number c.args.cells.now)
+    (map g.N.Number.number c.args.arrival.marks.now.low.items) (map g.N.Number.number c.args.arrival.marks.now.high.items))
+    (sym c.table.view_is) c.requires.may.stays _ (taken g c)
 
 pub returns : goal.returns
-returns g c =
-    rw (c.if-arrival.false, ← c.table.view_is) (record { taken = taken g c; rest = refl })
-
--- its numbers are a grid
-is_grid : {written : ℕ → List Entry} {node nodes keys generation : ℕ} {cells greatest : List ℕ}
-    → IsVersionTable written node nodes keys generation cells greatest → (size : ℕ) → size ≡ length cells → IsGrid nodes keys size
-is_grid kept size is = record { whole = is ∙ kept.cell_count; few_nodes = kept.proper.nodes_limit; few_keys = kept.proper.keys_limit }
-
-pub take-requires : goal.take-requires
-take-requires g c = record {
-  may =
-      let number = g.N.Number.number in
-      let inside = c.table.inside in
-      let nodes = sym (ap (λ (v : VersionTableView). v.nodes) c.table.view_is) in
-      record {
-        beside = record {
-          shape = is_grid c.table.invariant _ (ap length c.deref_mut.ensures.value ∙ sym (length-map inside.cells.items number));
-          count = sym (length-map c.args.cells.now number) ∙ c.requires.may.cells ∙ sym (ap (λ (v : VersionTableView). length v.cells) c.table.view_is) ∙ length-map inside.cells.items number ∙ sym (ap length c.deref_mut.ensures.value);
-        };
-        greatest_count = ap length c.deref_mut-2.ensures.value ∙ sym (length-map inside.greatest.items number) ∙ c.table.invariant.greatest_count;
-        low_count = ap length c.deref.ensures.value ∙ c.requires.may.low_count ∙ nodes;
-        high_count = ap length c.deref-2.ensures.value ∙ c.requires.may.high_count ∙ nodes;
-        covered = rw (c.deref_mut.ensures.value, c.deref_mut-2.ensures.value) (λ owner lt. (c.table.invariant.most owner lt).upto);
-      };
-}
-
-pub drop_older-requires : goal.drop_older-requires
-drop_older-requires g c =
-    let number = g.N.Number.number in
-    let inside = c.table.inside in
-    let cells = with_items_is inside.cells c.take.new.cells (c.take.auto.cells ∙ c.deref_mut.ensures.len) in
-    let greatest = with_items_is inside.greatest c.take.new.greatest (c.take.auto.greatest ∙ c.deref_mut-2.ensures.len) in
-    record {
-      grid = is_grid c.table.invariant _ (ap length (c.deref_mut-3.ensures.value ∙ cells) ∙ c.take.auto.cells ∙ ap length c.deref_mut.ensures.value ∙ sym (length-map inside.cells.items number));
-      before_count = sym (length-map c.args.before.now number) ∙ ap length c.requires.before ∙ sym (ap (λ (v : VersionTableView). length v.greatest) c.table.view_is) ∙ c.table.invariant.greatest_count;
-      greatest_count = ap length (c.deref-3.ensures.value ∙ greatest) ∙ sym (length-map c.take.new.greatest number) ∙ c.take.ensures.greatest.size;
-      known = subst (λ nodes. AreOwners number nodes c.args.owners) (sym (ap (λ (v : VersionTableView). v.nodes) c.table.view_is)) c.requires.may.known;
-    }
+returns g c = rw (c.if-arrival.false, ← c.table.view_is) (taken g c)

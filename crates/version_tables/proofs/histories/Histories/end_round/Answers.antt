@@ -1,11 +1,8 @@
-use Rattle.version_tables.proofs.Common.{◌<◌, ap, subst, sym, MOST_ROUNDS, HistoriesView, round_ended}
+use Rattle.version_tables.proofs.Common.{◌<◌, subst, sym, MOST_ROUNDS, HistoriesView}
 use Rattle.version_tables.proofs.HistoryCalls.{histories-ended, numbers-appended}
 use Rattle.version_tables.proofs.histories.Histories.end_round.Goals as goal
 
 pub invariant_of-self-2 : goal.invariant_of-self-2
 invariant_of-self-2 g c =
-    histories-ended c.self.invariant _ (numbers-appended g.N.Number.number _ _ _ _ c.in_ok-extend_from_slice.ensures.items c.deref.ensures.value)
+    histories-ended c.self.invariant (numbers-appended g.N.Number.number _ _ _ _ c.in_ok-extend_from_slice.ensures.items c.deref.ensures.value)
     (subst (λ (h : HistoriesView). h.rounds < MOST_ROUNDS) (sym c.self.view_is) c.requires)
-
-pub returns-clause-ok : goal.returns-clause-ok
-returns-clause-ok g c = ap round_ended c.self.view_is

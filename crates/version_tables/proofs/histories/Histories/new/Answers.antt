@@ -1,14 +1,10 @@
-use Rattle.version_tables.proofs.Common.{arith, refl}
-use Rattle.version_tables.proofs.HistoryCalls.{histories-empty}
+use Rattle.version_tables.proofs.Common.{arith}
+use Rattle.version_tables.proofs.HistoryCalls.{histories-empty, nodes-are}
 use Rattle.version_tables.proofs.histories.Histories.new.Goals as goal
 
 pub invariant_of-result : goal.invariant_of-result
 invariant_of-result g c =
-    histories-empty g.H.Written.lists g.N.Number.most c.args.nodes c.args.keys c.in_ok-no_lists.field-0.items _ _ _ _ (omega (arith, g.met.N.Number.counts_keys))
-    c.requires.nodes c.requires.some_key c.requires.keys
-    c.in_ok-no_lists.ensures.lists c.in_ok-zeros.ensures.zeros c.in_ok-zeros-2.ensures.zeros c.in_ok-zeros-3.ensures.zeros c.in_ok-zeros-4.ensures.zeros
-
-pub returns-clause-begun : goal.returns-clause-begun
-returns-clause-begun g c =
-    let lists = c.in_ok-no_lists.ensures.lists in
-    record { count = lists.count; empty = lists.empty; keys_are = refl; none_ended = refl }
+    nodes-are (histories-empty g.H.Written.lists g.N.Number.most c.args.nodes c.args.keys c.in_ok-no_lists.field-0.items
+    (omega (arith, g.met.N.Number.counts_keys))
+    c.requires c.in_ok-no_lists.ensures.lists c.in_ok-zeros.ensures.zeros
+    c.in_ok-zeros-2.ensures.zeros c.in_ok-zeros-3.ensures.zeros c.in_ok-zeros-4.ensures.zeros)

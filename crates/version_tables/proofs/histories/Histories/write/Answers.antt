@@ -1,46 +1,34 @@
-use Rattle.version_tables.proofs.Common.{rules, ◌≡◌, ◌+◌, ◌*◌, ◌<◌, length, map, refl, set, ap, subst, sym, ◌∙◌, arith, set-get_or, all_writes, list_of_owner, next_entry, with_write, ListBecomes, HistoriesView, HistoryBecomes, IsWriteUnder}
-use Rattle.version_tables.proofs.HistoryCalls.{count-read, histories-written, list-becomes, numbers-set}
+use Rattle.version_tables.proofs.Common.{rules, ◌≡◌, ◌+◌, ◌*◌, ◌<◌, length, map, set, ap, subst, sym, ◌∙◌, all_writes, list_of_owner, next_entry, with_write, ListBecomes, HistoriesView, IsWriteUnder}
+use Rattle.version_tables.proofs.HistoryCalls.{count-read, histories-written, list-becomes, nodes-are, numbers-set}
 use Rattle.version_tables.proofs.histories.Histories.write.Given as given
 use Rattle.version_tables.proofs.histories.Histories.write.Goals as goal
 
 module _ (g : given.Over) (c : goal.After-self-3-1 g) where
   in_range : c.args.owner < length c.self.inside.lists.items
-  in_range = subst (λ (h : HistoriesView). c.args.owner < length h.lists) (sym c.self.view_is) c.requires.owner
+  in_range = subst (λ (h : HistoriesView). c.args.owner < length h.lists) (sym c.self.view_is) c.requires.owner_below
 
   counted : g.N.Number.number c.plus-number.result ≡ length (all_writes c.self.inside.lists.items c.args.owner) + 1
-  counted = c.plus-number.ensures ∙ ap (λ n. n + 1) (count-read g.N.Number.number c.self.inside.counts.items c.self.invariant c.args.owner c.index.result.now in_range c.index.ensures)
+  counted = c.plus-number.ensures
+      ∙ ap (λ n. n + 1) (count-read g.N.Number.number c.self.inside.counts.items c.self.invariant c.args.owner c.index.result.now in_range c.index.ensures)
 
-  becomes : ListBecomes c.args.owner (with_write (list_of_owner c.self.inside.lists.items c.args.owner) c.args.key c.args.value (c.self.inside.rounds + 1)) c.self.inside.lists.items (set c.self.inside.lists.items c.args.owner c.write.new.self)
-  becomes = list-becomes c.self.inside.lists.items c.args.owner c.index_mut.result.now c.write.new.self (λ v. with_write v c.args.key c.args.value (c.self.inside.rounds + 1)) in_range c.index_mut.ensures.value c.in_ok-write.ensures.ok
+  becomes : ListBecomes c.args.owner (with_write (list_of_owner c.self.inside.lists.items c.args.owner) c.args.key c.args.value (c.self.inside.rounds + 1))
+      c.self.inside.lists.items (set c.self.inside.lists.items c.args.owner c.write.new.self)
+  becomes = list-becomes c.self.inside.lists.items c.args.owner c.index_mut.result.now c.write.new.self
+      (λ v. with_write v c.args.key c.args.value (c.self.inside.rounds + 1)) in_range c.index_mut.ensures.value c.in_ok-write.ensures.ok
 
 pub invariant_of-self-2 : goal.invariant_of-self-2
 invariant_of-self-2 g c =
     let lists = c.self.inside.lists.items in
     let owner = c.args.owner in
     let count : c.len-nodes.result ≡ length lists = search rules in
-    histories-written c.self.invariant (set lists owner c.write.new.self) owner (in_range g c) c.args.key c.args.value _ _ (becomes g c)
-    (subst (λ (h : HistoriesView). IsWriteUnder g.H.Written.lists g.N.Number.most owner (length (all_writes h.lists owner) + 1) (next_entry (list_of_owner h.lists owner) c.args.key c.args.value (h.rounds + 1))) (sym c.self.view_is) c.requires.under)
-    (subst (λ (h : HistoriesView). c.args.key < h.keys) (sym c.self.view_is) c.requires.key)
+    nodes-are (histories-written c.self.invariant (set lists owner c.write.new.self) owner (in_range g c) c.args.key c.args.value (becomes g c)
+    (subst (λ (h : HistoriesView). IsWriteUnder g.H.Written.lists g.N.Number.most owner (length (all_writes h.lists owner) + 1)
+    (next_entry (list_of_owner h.lists owner) c.args.key c.args.value (h.rounds + 1))) (sym c.self.view_is) c.requires.under)
+    (subst (λ (h : HistoriesView). c.args.key < h.keys) (sym c.self.view_is) c.requires.key_below)
     (numbers-set g.N.Number.number _ owner c.plus-number.result _ (counted g c))
     (numbers-set g.N.Number.number _ (c.args.key * c.len-nodes.result + owner) c.plus-number.result _ (counted g c)
-    ∙ ap (λ n. set (map g.N.Number.number c.self.inside.lasts.items) (c.args.key * n + owner) (length (all_writes lists owner) + 1)) count)
+    ∙ ap (λ n. set (map g.N.Number.number c.self.inside.lasts.items) (c.args.key * n + owner) (length (all_writes lists owner) + 1)) count))
 
 pub returns-clause-number : goal.returns-clause-number
-returns-clause-number g c = subst (λ (h : HistoriesView). g.N.Number.number c.plus-number.result ≡ length (all_writes h.lists c.args.owner) + 1) c.self.view_is (counted g c)
-
-pub returns-clause-ok : goal.returns-clause-ok
-returns-clause-ok g c =
-    subst (λ (h : HistoriesView). HistoryBecomes c.args.owner (with_write (list_of_owner h.lists c.args.owner) c.args.key c.args.value (h.rounds + 1)) h (record { lists = set c.self.inside.lists.items c.args.owner c.write.new.self; keys = c.self.inside.keys; rounds = c.self.inside.rounds })) c.self.view_is
-    (record { lists = becomes g c; beside = record { keys = refl; rounds = refl } })
-
-pub plus-number-requires : goal.plus-number-requires
-plus-number-requires g c =
-    let in_range = subst (λ (h : HistoriesView). c.args.owner < length h.lists) (sym c.self.view_is) c.requires.owner in
-    let count = count-read g.N.Number.number c.self.inside.counts.items c.self.invariant c.args.owner c.index.result.now in_range c.index.ensures in
-    omega (arith, count, (c.self.invariant.known.so_far c.args.owner).few)
-
-pub invariant_of-self : goal.invariant_of-self
-invariant_of-self g c =
-    let lists = c.self.inside.lists.items in
-    let stays : set lists c.args.owner c.write.new.self ≡ lists = ap (set lists c.args.owner) (c.in_err-write.ensures.err ∙ c.index_mut.ensures.value) ∙ set-get_or lists c.args.owner c.index_mut.result.now in
-    rw stays c.self.invariant
+returns-clause-number g c = subst (λ (h : HistoriesView). g.N.Number.number c.plus-number.result ≡ length
+    (all_writes h.lists c.args.owner) + 1) c.self.view_is (counted g c)

@@ -1,6 +1,6 @@
-use Rattle.version_tables.proofs.Common.{◌≡◌, map, ap, ◌∙◌, with_items, without_all, AreChanged, VersionTableView, table_in}
-use Rattle.version_tables.proofs.Laid.{put-back, seen}
-use Rattle.version_tables.proofs.OwnCalls.{LiesAs, forgets, lies-kept, lies-table}
+use Rattle.version_tables.proofs.Common.{◌≡◌, ◌+◌, map, ap, ◌∙◌, with_items, without_all, AreChanged, VersionTableView, table_in}
+use Rattle.version_tables.proofs.Laid.{LiesAs, lies-kept, lies-table, put-back, seen}
+use Rattle.version_tables.proofs.OwnCalls.{forgets}
 use Rattle.version_tables.proofs.tables.VersionTable.forget_all.Given as given
 use Rattle.version_tables.proofs.tables.VersionTable.forget_all.Goals as goal
 
@@ -8,11 +8,17 @@ module _ (g : given.Over) (c : goal.After-self-3-1 g) where
   abbrev old : VersionTableView
   old = seen c.self.view_is
 
-  after : LiesAs g.H.Written.lists (without_all (table_in g.H.Written.lists old)) (map g.N.Number.number (with_items c.self.inside.cells c.clear.new.numbers).items) (map g.N.Number.number (with_items c.self.inside.greatest c.clear-2.new.numbers).items)
+  after : LiesAs g.H.Written.lists (record old {
+    generation = old.generation + 1;
+    cells = map g.N.Number.number (with_items c.self.inside.cells c.clear.new.numbers).items;
+    greatest = map g.N.Number.number (with_items c.self.inside.greatest c.clear-2.new.numbers).items;
+  }) (without_all (table_in g.H.Written.lists old))
   after =
-      forgets g.H.Written.lists old c.self.invariant _ _
-      (put-back (AreChanged (λ r x y. y ≡ 0)) g.N.Number.number c.self.inside.cells _ _ (c.clear.auto.numbers ∙ c.deref_mut.ensures.len) c.deref_mut.ensures.value c.clear.ensures)
-      (put-back (AreChanged (λ r x y. y ≡ 0)) g.N.Number.number c.self.inside.greatest _ _ (c.clear-2.auto.numbers ∙ c.deref_mut-2.ensures.len) c.deref_mut-2.ensures.value c.clear-2.ensures)
+      let zeros = AreChanged (λ r x y. y ≡ 0) in
+      forgets g.H.Written.lists old c.self.invariant
+      (put-back zeros g.N.Number.number c.self.inside.cells _ _ (c.clear.auto.numbers ∙ c.deref_mut.ensures.len) c.deref_mut.ensures.value c.clear.ensures)
+      (put-back zeros g.N.Number.number c.self.inside.greatest _ _
+      (c.clear-2.auto.numbers ∙ c.deref_mut-2.ensures.len) c.deref_mut-2.ensures.value c.clear-2.ensures)
 
 pub invariant_of-self : goal.invariant_of-self
 invariant_of-self g c = lies-kept (after g c)

@@ -1,6 +1,6 @@
 use Rattle.version_tables.proofs.Common.{◌≡◌, ◌==◌, if◌then◌else◌, map, ap, ◌∙◌, with_items, without_others, ArePlanesChanged, AreChanged, VersionTableView, table_in}
-use Rattle.version_tables.proofs.Laid.{put-back, seen}
-use Rattle.version_tables.proofs.OwnCalls.{LiesAs, lies-kept, lies-table, restarts}
+use Rattle.version_tables.proofs.Laid.{LiesAs, lies-kept, lies-table, put-back, seen}
+use Rattle.version_tables.proofs.OwnCalls.{restarts}
 use Rattle.version_tables.proofs.tables.VersionTable.forget_others.Given as given
 use Rattle.version_tables.proofs.tables.VersionTable.forget_others.Goals as goal
 
@@ -8,11 +8,16 @@ module _ (g : given.Over) (c : goal.After-self-2-1 g) where
   abbrev old : VersionTableView
   old = seen c.self.view_is
 
-  after : LiesAs g.H.Written.lists (without_others (table_in g.H.Written.lists old)) (map g.N.Number.number (with_items c.self.inside.cells c.keep_owner.new.cells).items) (map g.N.Number.number (with_items c.self.inside.greatest c.keep_one.new.numbers).items)
+  after : LiesAs g.H.Written.lists (record old {
+    cells = map g.N.Number.number (with_items c.self.inside.cells c.keep_owner.new.cells).items;
+    greatest = map g.N.Number.number (with_items c.self.inside.greatest c.keep_one.new.numbers).items;
+  }) (without_others (table_in g.H.Written.lists old))
   after =
-      restarts g.H.Written.lists old c.self.invariant _ _
-      (put-back (ArePlanesChanged (λ r k x y. y ≡ (if r == old.node then x else 0)) old.nodes old.keys) g.N.Number.number c.self.inside.cells _ _ (c.keep_owner.auto.cells ∙ c.deref_mut.ensures.len) c.deref_mut.ensures.value c.keep_owner.ensures)
-      (put-back (AreChanged (λ r x y. y ≡ (if r == old.node then x else 0))) g.N.Number.number c.self.inside.greatest _ _ (c.keep_one.auto.numbers ∙ c.deref_mut-2.ensures.len) c.deref_mut-2.ensures.value c.keep_one.ensures)
+      restarts g.H.Written.lists old c.self.invariant
+      (put-back (ArePlanesChanged (λ r k x y. y ≡ (if r == old.node then x else 0)) old.nodes old.keys) g.N.Number.number c.self.inside.cells _ _
+      (c.keep_owner.auto.cells ∙ c.deref_mut.ensures.len) c.deref_mut.ensures.value c.keep_owner.ensures)
+      (put-back (AreChanged (λ r x y. y ≡ (if r == old.node then x else 0))) g.N.Number.number c.self.inside.greatest _ _
+      (c.keep_one.auto.numbers ∙ c.deref_mut-2.ensures.len) c.deref_mut-2.ensures.value c.keep_one.ensures)
 
 pub invariant_of-self : goal.invariant_of-self
 invariant_of-self g c = lies-kept (after g c)

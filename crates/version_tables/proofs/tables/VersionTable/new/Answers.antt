@@ -1,10 +1,11 @@
-use Rattle.version_tables.proofs.OwnCalls.{lies-table, lies-kept, starts}
+use Rattle.version_tables.proofs.Laid.{lies-kept, lies-table}
+use Rattle.version_tables.proofs.OwnCalls.{starts}
 use Rattle.version_tables.proofs.tables.VersionTable.new.Goals as goal
 
 pub invariant_of-result : goal.invariant_of-result
 invariant_of-result g c =
-    lies-kept (starts g.H.Written.lists c.args.node c.args.nodes c.args.keys c.requires.node c.requires.nodes c.requires.some_key c.requires.keys c.in_ok-cells.ensures.zeros c.in_ok-greatest.ensures.zeros)
+    lies-kept (starts g.H.Written.lists _ _ _ c.requires.node c.requires.sizes c.in_ok-cells.ensures.zeros c.in_ok-greatest.ensures.zeros)
 
 pub returns-clause-empty : goal.returns-clause-empty
 returns-clause-empty g c =
-    lies-table (starts g.H.Written.lists c.args.node c.args.nodes c.args.keys c.requires.node c.requires.nodes c.requires.some_key c.requires.keys c.in_ok-cells.ensures.zeros c.in_ok-greatest.ensures.zeros)
+    lies-table (starts g.H.Written.lists _ _ _ c.requires.node c.requires.sizes c.in_ok-cells.ensures.zeros c.in_ok-greatest.ensures.zeros)

@@ -1,6 +1,6 @@
 use Rattle.version_tables.proofs.Common.{◌+◌, ◌*◌, ◌<◌, sym, subst, transport, map-set, VersionTableView, IsNextWrite, HasOwnWrite}
-use Rattle.version_tables.proofs.Laid.{seen}
-use Rattle.version_tables.proofs.OwnCalls.{lies-kept, writes, writes-table}
+use Rattle.version_tables.proofs.Laid.{lies-kept, seen}
+use Rattle.version_tables.proofs.OwnCalls.{writes, writes-table}
 use Rattle.version_tables.proofs.tables.VersionTable.write_own.Given as given
 use Rattle.version_tables.proofs.tables.VersionTable.write_own.Goals as goal
 

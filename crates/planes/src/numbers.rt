@@ -31,10 +31,7 @@ pub trait Number: Copy {
         ensures { result ≡ nat_lt (number other) (number self) };
 
     fn is_upto(self, other: Self) -> bool
-        ensures { result ≡ nat_le (number self) (number other) }
-    {
-        !self.is_above(other)
-    }
+        ensures { result ≡ nat_le (number self) (number other) };
 
     fn max_with(self, other: Self) -> Self
         ensures { number result ≡ max (number self) (number other) };
@@ -84,6 +81,10 @@ impl Number for u8 {
 
     fn is_above(self, other: u8) -> bool {
         self > other
+    }
+
+    fn is_upto(self, other: u8) -> bool {
+        self <= other
     }
 
     fn max_with(self, other: u8) -> u8 {
@@ -155,6 +156,10 @@ impl Number for Short {
         self.number > other.number
     }
 
+    fn is_upto(self, other: Short) -> bool {
+        self.number <= other.number
+    }
+
     fn max_with(self, other: Short) -> Short {
         Short {
             number: self.number.max(other.number),
@@ -205,6 +210,10 @@ impl Number for u32 {
 
     fn is_above(self, other: u32) -> bool {
         self > other
+    }
+
+    fn is_upto(self, other: u32) -> bool {
+        self <= other
     }
 
     fn max_with(self, other: u32) -> u32 {

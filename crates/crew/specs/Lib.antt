@@ -1,2 +1,4 @@
 pub mod Trays
 pub mod Named
+pub mod Parts
+pub mod inner

@@ -42,8 +42,11 @@ impl<D: Drop> Post<D> {
     }
 
     fn give<R: Wait>(&self, rt: &R, order: Order<D>) {
-        *self.order.lock(rt) = order;
+        let mut place = self.order.lock(rt);
+        *place = order;
+        // (before the lock is let go, or the thread might take the order and put its own sign first)
         self.sign.store(ORDER, Ordering::SeqCst);
+        drop(place);
         self.given.notify_one();
     }
 

@@ -4,4 +4,4 @@
 mod lists;
 
 pub use lists::run_list;
-pub use workers::{Batch, Done, FreeGate, Gate, Posts, Work, run_list_with};
+pub use workers::{Batch, Done, FreeGate, Gate, NoJob, Posts, Work, run_list_with};

@@ -21,6 +21,7 @@ mod shifts;
 mod tasks;
 mod workers;
 
+pub use crew::NoJob;
 pub use list_order::{Batch, Done, FreeGate, Gate, Work};
 pub use posts::Posts;
 pub use runs::run_list_with;

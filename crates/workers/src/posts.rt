@@ -13,7 +13,7 @@ ghost use Rattle.workers.specs.inner.Starts.{MayStart};
 use crate::shifts::{Start, close, hand_out, open};
 use crate::tasks::{Shift, Task};
 use bench_types::Fault;
-use crew::Yard;
+use crew::{Crew, Job, Yard};
 use list_order::{Batch, Done, Gate, Work, exchange_all};
 use model::{Exchanging, MemoryTable};
 use std::alloc::Global;
@@ -26,17 +26,34 @@ use std::thread::{Scope, Threads, available_parallelism};
 // So many looks take some 20 to 100 microseconds, about as long as it takes to wake a thread.
 const LOOKS: u64 = 2000;
 
-/// Where workers are given lists to carry out. Each has a thread of its own, but that the caller's thread may be one.
+// What a thread is given to do.
 #[derive(Drop)]
-pub struct Posts<T: MemoryTable, X: Exchanging<T>, G> {
+enum Duty<T: MemoryTable, X: Exchanging<T>, G, J> {
+    List(Task<T, X, G>),
+    Job(J),
+}
+
+impl<T: MemoryTable, X: Exchanging<T> + Drop, G: Gate + Drop, J: Job> Duty<T, X, G, J> {
+    fn carry_out<R: Wait>(self, rt: &R) {
+        match self {
+            Duty::List(task) => task.carry_out(rt),
+            Duty::Job(job) => job.carry_out(rt),
+        }
+    }
+}
+
+/// Where workers are given lists to carry out, or jobs of another kind. Each has a thread of its own, but that the
+/// caller's thread may be one.
+#[derive(Drop)]
+pub struct Posts<T: MemoryTable, X: Exchanging<T>, G, J> {
     alloc: Global,
-    yard: Yard<Task<T, X, G>>,
+    yard: Yard<Duty<T, X, G, J>>,
     workers: u32,
     threads: u32,
 }
 
 // Callers see how many workers there are.
-impl<T: MemoryTable, X: Exchanging<T>, G> Model for Posts<T, X, G> {
+impl<T: MemoryTable, X: Exchanging<T>, G, J> Model for Posts<T, X, G, J> {
     ghost use Rattle.std.specs.Prelude.{◌≡◌, ℕ};
     ghost use Rattle.crew.specs.Named.{post_count};
     ghost use Rattle.model.specs.Runs.{AreWorkers};
@@ -48,9 +65,9 @@ impl<T: MemoryTable, X: Exchanging<T>, G> Model for Posts<T, X, G> {
     ghost invariant = { λ p. AreWorkers p.workers × (post_count p.yard ≡ p.threads) };
 }
 
-impl<T: MemoryTable, X: Exchanging<T> + Drop, G: Gate + Drop> Posts<T, X, G> {
+impl<T: MemoryTable, X: Exchanging<T> + Drop, G: Gate + Drop, J: Job> Posts<T, X, G, J> {
     /// Posts for so many workers, of which the caller's thread is one. No thread is started yet.
-    pub fn new(alloc: Global, workers: u32) -> Result<Posts<T, X, G>, Fault>
+    pub fn new(alloc: Global, workers: u32) -> Result<Posts<T, X, G, J>, Fault>
         requires workers { AreWorkers workers }
         ensures workers { IfOk result (λ posts. posts ≡ workers) }
         ensures only { IsOkUnless result OutOfMemory }
@@ -59,7 +76,7 @@ impl<T: MemoryTable, X: Exchanging<T> + Drop, G: Gate + Drop> Posts<T, X, G> {
     }
 
     /// Posts for so many workers, each of which has a thread of its own.
-    pub(crate) fn apart(alloc: Global, workers: u32) -> Result<Posts<T, X, G>, Fault>
+    pub(crate) fn apart(alloc: Global, workers: u32) -> Result<Posts<T, X, G, J>, Fault>
         requires workers { AreWorkers workers }
         ensures workers { IfOk result (λ posts. posts ≡ workers) }
         ensures only { IsOkUnless result OutOfMemory }
@@ -67,7 +84,7 @@ impl<T: MemoryTable, X: Exchanging<T> + Drop, G: Gate + Drop> Posts<T, X, G> {
         Posts::with(alloc, workers, workers)
     }
 
-    fn with(alloc: Global, workers: u32, threads: u32) -> Result<Posts<T, X, G>, Fault>
+    fn with(alloc: Global, workers: u32, threads: u32) -> Result<Posts<T, X, G, J>, Fault>
         requires workers { AreWorkers workers }
         ensures workers { IfOk result (λ posts. posts ≡ workers) }
         ensures only { IsOkUnless result OutOfMemory }
@@ -92,7 +109,7 @@ impl<T: MemoryTable, X: Exchanging<T> + Drop, G: Gate + Drop> Posts<T, X, G> {
     /// Carries out the exchanges of a list by threads that were started before. It calls `meanwhile` once they have
     /// what they need, works on the list too if the caller's thread is one of the workers, and waits for the others
     /// then. With one worker it calls `meanwhile` first. An error is lack of memory
-    /// (`OutOfMemory`): the tables, and what was shared, are then given up, and all threads wait for the next list.
+    /// (`OutOfMemory`): the tables, and what was shared, are then given up, and all threads wait for what comes next.
     ///
     /// With several workers it never ends outside `with_threads`, nor where another list is under way at these posts.
     pub fn carry_out<R: Wait, F: FnOnce() -> M + Drop, M: Drop>(
@@ -189,10 +206,28 @@ impl<T: MemoryTable, X: Exchanging<T> + Drop, G: Gate + Drop> Posts<T, X, G> {
     fn give_all<R: Wait>(&self, rt: &R, mut tasks: Vec<Task<T, X, G>>) -> Vec<Task<T, X, G>> {
         for i in 0..self.threads as usize {
             if let Some(task) = tasks.pop() {
-                self.yard.give(rt, i, task);
+                self.yard.give(rt, i, Duty::List(task));
             }
         }
         tasks
+    }
+}
+
+/// The caller's thread does what the others have no post for. With several workers it never ends outside
+/// `with_threads`, nor where a list or other jobs are under way at these posts.
+impl<T: MemoryTable, X: Exchanging<T> + Drop, G: Gate + Drop, J: Job> Crew<J>
+    for Posts<T, X, G, J> {
+    fn carry_out_jobs<R: Wait>(&self, rt: &R, mut jobs: Vec<J>) {
+        let own = jobs.pop();
+        for i in 0..self.threads as usize {
+            if let Some(job) = jobs.pop() {
+                self.yard.give(rt, i, Duty::Job(job));
+            }
+        }
+        for job in own.into_iter().chain(jobs) {
+            job.carry_out(rt);
+        }
+        self.yard.wait(rt);
     }
 }
 
@@ -200,7 +235,8 @@ impl<
     T: MemoryTable + Send + Sync,
     X: Exchanging<T> + Send + Drop,
     G: Gate + Send + Sync + Drop,
-> Posts<T, X, G> {
+    J: Job + Send,
+> Posts<T, X, G, J> {
     /// Starts the threads, if there are several workers, has one list carried out and sends them home.
     pub(crate) fn carry_out_once<R: Threads + Wait + Sync, F: FnOnce() -> M + Drop, M: Drop>(
         self,
@@ -305,18 +341,18 @@ impl<
 }
 
 // What the thread of a worker does until it is sent home.
-fn serve<T: MemoryTable, X: Exchanging<T> + Drop, G: Gate + Drop, R: Wait>(
+fn serve<T: MemoryTable, X: Exchanging<T> + Drop, G: Gate + Drop, J: Job, R: Wait>(
     rt: &R,
-    yard: &Yard<Task<T, X, G>>,
+    yard: &Yard<Duty<T, X, G, J>>,
     i: usize,
 )
     requires { i < post_count yard.now }
 {
     for _ in rt.forever() {
-        let Some(task) = yard.next(rt, i) else {
+        let Some(duty) = yard.next(rt, i) else {
             return;
         };
-        task.carry_out(rt);
+        duty.carry_out(rt);
         yard.finish();
     }
     unreachable!()

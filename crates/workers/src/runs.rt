@@ -6,6 +6,7 @@ ghost use Rattle.list_order.specs.Carrying.{MayCarryOut, AreExchanged};
 
 use crate::posts::Posts;
 use bench_types::{Fault, Record};
+use crew::NoJob;
 use list_order::{Batch, Gate, Lent, Work};
 use model::{Exchanging, MemoryTable};
 use std::alloc::Global;
@@ -47,7 +48,7 @@ pub fn run_list_with<
     ensures made { IfOk result (λ p. F.post meanwhile p.2) }
     ensures fault { IfErr result (IsFaultOfWorkers work.entry.workers) }
 {
-    let posts = Posts::apart(alloc, work.workers)?;
+    let posts: Posts<T, Lent<X>, &G, NoJob> = Posts::apart(alloc, work.workers)?;
     let batch = Batch {
         shared: Lent {
             shared: work.shared,

@@ -1,14 +1,16 @@
 //! What a simulation keeps beside tables that have their entries themselves: the owners' lists.
 
 use bench_types::{Exchange, Fault, Figures, Record, Rules};
+use crew::{Crew, NoJob};
 use exchange::exchange;
 use model::Exchanging;
 use node_table::NodeTable;
 use owner_lists::OwnerList;
-use round_tables::{Resources, RoundHistories, TakesAll};
+use round_tables::{Counted, Resources, RoundHistories, TakesAll};
 use staleness::figures;
 use std::alloc::Global;
 use std::marker::Model;
+use std::sync::Wait;
 use std::thread::Threads;
 
 /// The lists of all owners, beside tables with entries, how many keys each has, and how many rounds were ended.
@@ -50,6 +52,13 @@ impl Exchanging<NodeTable> for EntryHistories {
 }
 
 impl RoundHistories<NodeTable> for EntryHistories {
+    ghost use Rattle.std.specs.Prelude.{IfOk, IsOkUnless};
+    ghost use denote.Param.Send.{IsSync};
+    ghost use Rattle.bench_types.specs.declared.faults.Fault.TheVariants.{OutOfMemory};
+    ghost use Rattle.round_tables.specs.Histories.{AreFiguresCounted, StandAtRoundEnd};
+
+    type Job = NoJob;
+
     ghost kept = { λ h. h };
 
     ghost may_write = { λ _ _ _. Unit {0} };
@@ -108,6 +117,26 @@ impl RoundHistories<NodeTable> for EntryHistories {
             &self.lists,
             self.rounds,
         )
+    }
+
+    // (the threads of `figures` do that)
+    fn figures_by<R: Threads + Wait + Sync, C: Crew<NoJob>>(
+        self,
+        resources: &Resources<R>,
+        _crew: &C,
+        tables: Vec<NodeTable>,
+    ) -> Result<Counted<NodeTable, EntryHistories>, Fault>
+        requires sync { IsSync R.row }
+        requires ended { StandAtRoundEnd (λ t. t) tables.items self }
+        ensures counted { IfOk result (AreFiguresCounted (λ t. t) (λ h. h) self tables.items) }
+        ensures only { IsOkUnless result OutOfMemory }
+    {
+        let figures = RoundHistories::figures(&self, resources, &tables)?;
+        Ok(Counted {
+            figures,
+            tables,
+            histories: self,
+        })
     }
 }
 

@@ -1,13 +1,17 @@
 -- What the owners have written, beside a node's table, and what a table may ask where it stands in a round.
 -- Source: this project.
-use Rattle.std.specs.Prelude.{◌≡◌, ℕ, ◌+◌, ◌^◌, ◌<◌, ◌≤◌, List, length, slice_index_or, All, refl}
+use Rattle.std.specs.Prelude.{◌≡◌, ℕ, ◌+◌, ◌^◌, ◌<◌, ◌≤◌, List, length, map, slice_index_or, All, refl}
 use Rattle.std.specs.Coded.{Coded, code_by, coded×, coded_ℕ, coded_list}
 use Rattle.bench_types.specs.declared.entries.Entry.{Entry}
 use Rattle.bench_types.specs.declared.limits.TheConstants.{LEAST_KEYS, MOST_NODES, MOST_KEYS, MOST_ROUNDS}
 use Rattle.model.specs.Table.{Table, greatest_version, IsProper}
-use Rattle.model.specs.calls.OwnerListView.{OwnerListView, all_writes, written, next_entry, with_write, begun_generation, no_writes, list_of_owner, ListBecomes}
+use Rattle.model.specs.Tables.{HoldsOfEach}
+use Rattle.model.specs.calls.Tables.{IsCluster}
+use Rattle.model.specs.calls.OwnerListView.{OwnerListView, all_writes, written, next_entry, with_write, begun_generation, no_writes, list_of_owner, lists_in, ListBecomes}
 use Rattle.model.specs.Copies.{HoldsWrites}
+use Rattle.model.specs.Figures.{figures_of}
 use Rattle.model.specs.calls.OwnParts.{OwnPartIsLastWrites}
+use Rattle.round_tables.specs.declared.round_tables.Counted.{Counted}
 
 -- what contracts see of histories: what the owners wrote so far, how many keys each has, and how many rounds' writes
 -- were ended
@@ -80,6 +84,20 @@ pub record StandsAmong (h : HistoriesView) (t : Table) : Type 0 where
   pub proper : IsProper t
   pub own : StandsBeside t (own_list t h.lists)
   pub holds : HoldsWrites (all_writes h.lists) t
+
+-- all nodes' tables and the histories at the end of a round
+pub record StandAtRoundEnd {T : Type 0} (table : T → Table) (tables : List T) (h : HistoriesView) : Type 0 where
+  pub cluster : IsCluster (length tables) (map table tables)
+  pub one_list_each : length h.lists ≡ length tables
+  pub written_by : AreWrittenBy h.rounds h.lists
+  pub standing : HoldsOfEach (StandsAmong h) (map table tables)
+
+-- the figures of that were counted, and the tables and the histories are as they were
+pub record AreFiguresCounted {T K : Type 0} (table : T → Table) (kept : K → HistoriesView) (histories : K) (tables : List T)
+    (counted : Counted T K) : Type 0 where
+  pub figures_are : counted.figures ≡ figures_of (kept histories).rounds (map table tables) (lists_in (kept histories).lists)
+  pub same_tables : counted.tables.items ≡ tables
+  pub same_histories : counted.histories ≡ histories
 
 -- a node may forget
 pub record MayForget (t : Table) (h : HistoriesView) : Type 0 where

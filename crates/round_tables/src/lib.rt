@@ -13,4 +13,4 @@ mod resources;
 mod round_tables;
 
 pub use resources::{Hands, Resources};
-pub use round_tables::{RoundHistories, TakesAll};
+pub use round_tables::{Counted, RoundHistories, TakesAll};

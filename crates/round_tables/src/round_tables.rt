@@ -2,9 +2,19 @@
 
 use crate::resources::Resources;
 use bench_types::{Fault, Figures};
+use crew::{Crew, Job};
 use model::{Exchanging, MemoryTable};
 use std::alloc::Global;
+use std::sync::Wait;
 use std::thread::Threads;
+
+/// The figures of a round, with the tables and the histories that they are of.
+#[derive(Drop)]
+pub struct Counted<T, K> {
+    pub figures: Figures,
+    pub tables: Vec<T>,
+    pub histories: K,
+}
 
 /// The histories of all owners, which a simulation keeps beside its nodes' tables of one representation: what
 /// they have written, and what tables need of it. Its calls carry both through the rounds. Where a call answers
@@ -17,10 +27,11 @@ pub trait RoundHistories<T: MemoryTable>: Exchanging<T> + Drop {
     ghost use Rattle.bench_types.specs.declared.limits.TheConstants.{LEAST_KEYS, MOST_NODES, MOST_KEYS, MOST_ROUNDS};
     ghost use Rattle.model.specs.Table.{Table, empty_table, with_own_write, without_others, without_all};
     ghost use Rattle.model.specs.calls.OwnerListView.{list_of_owner, lists_in};
-    ghost use Rattle.model.specs.Tables.{HoldsOfEach};
-    ghost use Rattle.model.specs.calls.Tables.{IsCluster};
     ghost use Rattle.model.specs.Figures.{figures_of};
-    ghost use Rattle.round_tables.specs.Histories.{HistoriesView, round_ended, AreNewHistories, AreWrittenBy, StandsAmong, MayWrite, MayForget, AddsWrite, BeginsGeneration};
+    ghost use Rattle.round_tables.specs.Histories.{HistoriesView, round_ended, AreNewHistories, AreWrittenBy, StandsAmong, MayWrite, MayForget, AddsWrite, BeginsGeneration, AreFiguresCounted, StandAtRoundEnd};
+
+    /// What a thread is given that counts a part of the figures.
+    type Job: Job + Send;
 
     // What the owners wrote so far, how many keys each has, and how many rounds were ended.
     ghost kept: { Self → HistoriesView };
@@ -83,12 +94,22 @@ pub trait RoundHistories<T: MemoryTable>: Exchanging<T> + Drop {
         tables: &[T],
     ) -> Result<Figures, Fault>
         requires sync { IsSync R.row }
-        requires cluster { IsCluster (length tables.now) (map T.table tables.now) }
-        requires one_list_each { length (kept self.now).lists ≡ length tables.now }
-        requires written { AreWrittenBy (kept self.now).rounds (kept self.now).lists }
-        requires standing { HoldsOfEach (StandsAmong (kept self.now)) (map T.table tables.now) }
+        requires ended { StandAtRoundEnd T.table tables.now (kept self.now) }
         ensures figures { IfOk result
             (λ f. f ≡ figures_of (kept self.now).rounds (map T.table tables.now) (lists_in (kept self.now).lists)) }
+        ensures only { IsOkUnless result OutOfMemory };
+
+    /// The same figures, counted by a crew, for which it waits, where that has enough to do, or else as by `figures`.
+    /// Tables and histories come back; after an error they are given up.
+    fn figures_by<R: Threads + Wait + Sync, C: Crew<Self::Job>>(
+        self,
+        resources: &Resources<R>,
+        crew: &C,
+        tables: Vec<T>,
+    ) -> Result<Counted<T, Self>, Fault>
+        requires sync { IsSync R.row }
+        requires ended { StandAtRoundEnd T.table tables.items (kept self) }
+        ensures counted { IfOk result (AreFiguresCounted T.table kept self tables.items) }
         ensures only { IsOkUnless result OutOfMemory };
 }
 

@@ -112,7 +112,7 @@ fn write_all<
     O: RoundWriter,
 >(
     rt: &H,
-    posts: &Posts<T, K, FreeGate>,
+    posts: &Posts<T, K, FreeGate, K::Job>,
     mut sim: Sim<T, K>,
     output: &mut O,
 ) -> Result<Scenario, Fault>

@@ -1,20 +1,23 @@
-//! Who carries out the exchanges of a round.
+//! Who carries out the exchanges of a round and counts its figures.
 
-ghost use Rattle.std.specs.Prelude.{◌≡◌, map, IfOk, IfErr};
+ghost use Rattle.std.specs.Prelude.{◌≡◌, map, IfOk, IfErr, IsOkUnless};
+ghost use Rattle.bench_types.specs.declared.faults.Fault.TheVariants.{OutOfMemory};
 ghost use Rattle.model.specs.Runs.{IsFaultOfWorkers};
 ghost use Rattle.list_order.specs.Carrying.{AreExchanged, MayCarryOut};
+ghost use Rattle.round_tables.specs.Histories.{AreFiguresCounted, StandAtRoundEnd};
 
 use bench_types::{Fault, Rules};
+use crew::Job;
 use model::{Exchanging, MemoryTable, RoundList};
-use round_tables::Resources;
+use round_tables::{Counted, Resources, RoundHistories};
 use std::sync::Wait;
 use std::thread::Threads;
 use workers::{Batch, Done, Gate, Posts, Work, run_list_with};
 
 /// Workers that wait at posts, or else some that are started for a round, and what they tell of exchanges.
 #[derive(Drop)]
-pub(crate) struct Carriers<'a, T: MemoryTable, K: Exchanging<T>, G> {
-    pub(crate) posts: Option<&'a Posts<T, K, G>>,
+pub(crate) struct Carriers<'a, T: MemoryTable, K: Exchanging<T>, G, J> {
+    pub(crate) posts: Option<&'a Posts<T, K, G, J>>,
     pub(crate) gate: G,
 }
 
@@ -25,12 +28,13 @@ pub(crate) struct Orders {
     pub(crate) rules: Rules,
 }
 
-impl<'a, T: MemoryTable + Send + Sync, K: Exchanging<T> + Drop, G: Gate + Sync + Drop> Carriers<
+impl<
     'a,
-    T,
-    K,
-    G,
-> {
+    T: MemoryTable + Send + Sync,
+    K: Exchanging<T> + Drop,
+    G: Gate + Sync + Drop,
+    J: Job,
+> Carriers<'a, T, K, G, J> {
     /// Carries out the exchanges of a list on tables, beside which the histories lie.
     pub(crate) fn carry_out<H: Threads + Wait + Sync, F: FnOnce() -> M + Drop, M: Drop>(
         self,
@@ -80,4 +84,31 @@ impl<'a, T: MemoryTable + Send + Sync, K: Exchanging<T> + Drop, G: Gate + Sync +
             made,
         })
     }
+}
+
+/// The figures at the end of a round, by the workers that wait at posts, if there are any.
+pub(crate) fn count_figures<
+    T: MemoryTable + Send + Sync,
+    K: RoundHistories<T>,
+    G: Gate + Sync + Drop,
+    H: Threads + Wait + Sync,
+>(
+    resources: &Resources<H>,
+    posts: Option<&Posts<T, K, G, K::Job>>,
+    tables: Vec<T>,
+    histories: K,
+) -> Result<Counted<T, K>, Fault>
+    requires ended { StandAtRoundEnd T.table tables.items (K.kept histories) }
+    ensures counted { IfOk result (AreFiguresCounted T.table K.kept histories tables.items) }
+    ensures only { IsOkUnless result OutOfMemory }
+{
+    if let Some(posts) = posts {
+        return histories.figures_by(resources, posts, tables);
+    }
+    let figures = histories.figures(resources, &tables)?;
+    Ok(Counted {
+        figures,
+        tables,
+        histories,
+    })
 }

@@ -13,13 +13,13 @@ ghost use Rattle.simulation.specs.inner.Insides.{HasPlayed, IsAfterRound};
 ghost use Rattle.simulation.specs.inner.Plans.{IsDrawnAfter, MayDraw};
 ghost use Rattle.simulation.specs.inner.Steps.{HaveEnded, IsRoundOf, LeavesOthers, MayWriteOwn};
 
-use crate::carriers::{Carriers, Orders};
+use crate::carriers::{Carriers, Orders, count_figures};
 use crate::plans::{Drawn, Plan, drawn_after};
 use crate::rounds::Round;
 use bench_types::{Fault, Rules};
 use model::MemoryTable;
 use round_plan::{OwnWrite, ROUND_WORDS, RunWords, forgets_now, restarts_now, writes_by};
-use round_tables::{Resources, RoundHistories};
+use round_tables::{Counted, Resources, RoundHistories};
 use scenario::Scenario;
 use std::alloc::Global;
 use std::sync::Wait;
@@ -28,7 +28,7 @@ use workers::{Done, Gate};
 
 /// What all nodes hold, what each has written, and what is drawn of the rounds.
 #[derive(Drop)]
-pub(crate) struct Cluster<T: MemoryTable, K: RoundHistories<T>> {
+pub(crate) struct Cluster<T, K> {
     pub(crate) tables: Vec<T>,
     histories: K,
     drawn: Drawn,
@@ -53,7 +53,7 @@ impl<T: MemoryTable + Send + Sync, K: RoundHistories<T>> Cluster<T, K> {
         resources: &Resources<H>,
         scenario: &Scenario,
         round: u32,
-        carriers: Carriers<T, K, G>,
+        carriers: Carriers<T, K, G, K::Job>,
     ) -> Result<(Cluster<T, K>, Round), Fault>
         requires lawful { IsLawfulScenario scenario.now }
         requires round { IsRoundOf K.may_write scenario.now round }
@@ -86,6 +86,7 @@ impl<T: MemoryTable + Send + Sync, K: RoundHistories<T>> Cluster<T, K> {
                 drawn_after(words, rt, alloc, scenario, round)
             }
         };
+        let posts = carriers.posts;
         let Done {
             tables,
             records,
@@ -93,8 +94,12 @@ impl<T: MemoryTable + Send + Sync, K: RoundHistories<T>> Cluster<T, K> {
             made,
         } = carriers.carry_out(resources, &orders, begun, histories, draw)?;
         let drawn = made?;
-        let lag = histories.figures(resources, &tables)?;
-        let played = Round::of(round, orders.list, records, lag);
+        let Counted {
+            figures,
+            tables,
+            histories,
+        } = count_figures(resources, posts, tables, histories)?;
+        let played = Round::of(round, orders.list, records, figures);
         Ok((
             Cluster {
                 tables,

@@ -105,12 +105,12 @@ impl<T: MemoryTable + Send + Sync, K: RoundHistories<T>> Sim<T, K> {
         self.step_with(rt, workers, carriers)
     }
 
-    /// As `step`, by workers that were started before. No thread is started for the exchanges. With several workers it
+    /// As `step`, by workers that were started before, who count the figures too. No thread is started for the exchanges. With several workers it
     /// is to be called within `Posts::with_threads`, and else never ends.
     pub fn step_by<H: Threads + Wait + Sync, G: Gate + Sync + Drop>(
         &mut self,
         rt: &H,
-        posts: &Posts<T, K, G>,
+        posts: &Posts<T, K, G, K::Job>,
         gate: G,
     ) -> Result<Round, Fault>
         ensures played { IfOk result (PlaysNext T.table self.old self.new) }
@@ -127,7 +127,7 @@ impl<T: MemoryTable + Send + Sync, K: RoundHistories<T>> Sim<T, K> {
         &mut self,
         rt: &H,
         workers: u32,
-        carriers: Carriers<T, K, G>,
+        carriers: Carriers<T, K, G, K::Job>,
     ) -> Result<Round, Fault>
         requires workers { AreWorkers workers }
         ensures played { IfOk result (PlaysNext T.table self.old self.new) }

@@ -1,3 +1,4 @@
+pub mod Alike
 pub mod Missed
 pub mod Lagging
 pub mod Pieces

@@ -1,5 +1,5 @@
 -- Pieces of tables as code counts them, table by table and part by part.
--- Serves `+rest`, `Numbers::piece_of`, `figures` and `Whole`.
+-- Serves the functions of `lags` and `Whole`.
 use Rattle.version_lags.proofs.Common.{◌≡◌, ℕ, zero, suc, ◌+◌, ◌*◌, ◌<◌, ◌≤◌, min, Bool, cond, List, [], length, get_or, map, slice_index, sym, ap, ◌∙◌, arith, Bor, get_or-map, length-map, MOST_NODES, MOST_KEYS, Table, sum_below, total_of, ArePlanesChanged, sum_below-most, count_le, sum_next, RoundNumbers, histories_of, StandTogether, numbers_in, table_at, cells_in, last_cells, is_stale, is_left, total_below, AreGrids, AreNumbersOf, IsTotal, least_below, CountsPiece}
 use Rattle.version_lags.proofs.Pieces.{none_upto}
 

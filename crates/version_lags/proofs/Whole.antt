@@ -1,5 +1,5 @@
 -- What is counted of all tables comes to the figures of a round.
--- Serves `figures`.
+-- Serves `Piece::figures`.
 use Rattle.version_lags.proofs.Common.{◌≡◌, ℕ, ◌<◌, Bool, cond, ◌&&◌, List, length, map, nat_lt, nat_le, sym, ap, ◌∙◌, arith, Figures, Table, HistoriesView, OwnerListView, list_of_owner, lists_in, sum_below, most_below, total_of, sum_below-same, most_below-same, leftover_at, stale_count, staleness_at, rounds_behind, figures_of, most_by_owner, table_of_node, length-map, number_staleness, IsNumberAt, IsLastNumber, Lags, cells_in, histories_of, last_cells, table_at, is_stale, is_left, least_below, AreGrids, AreRoundNumbers, CountsPiece, IsTotal, MayWalk, most_lag}
 use Rattle.version_lags.proofs.Lagging.{lag-least_below}
 use Rattle.version_lags.proofs.Parts.{grids-of, least_below-le}

@@ -1,5 +1,5 @@
 -- What is counted of some of the tables at the end of a round. Source: this project.
-use Rattle.std.specs.Prelude.{◌≡◌, ℕ, zero, suc, ◌+◌, ◌*◌, ◌<◌, ◌≤◌, ◌&&◌, min, max, All, Bool, List, [], length, map, slice_index, slice_index_or, nat_lt, nat_le, IfOk, IsFalse, IsOkUnless, Result, Some}
+use Rattle.std.specs.Prelude.{◌≡◌, ℕ, zero, suc, ◌+◌, ◌*◌, ◌<◌, ◌≤◌, ◌&&◌, min, max, All, Bool, List, [], length, map, slice_get, slice_index, slice_index_or, nat_lt, nat_le, IfOk, IsFalse, IsOkUnless, Result, Some}
 use Rattle.std.specs.Borrow.{Bor}
 use Rattle.bench_types.specs.declared.entries.Entry.{Entry}
 use Rattle.bench_types.specs.declared.faults.Fault.{Fault}
@@ -14,6 +14,7 @@ use Rattle.bench_types.specs.Sums.{sum_below, most_below}
 use Rattle.planes.specs.Planes.{cell, total_of, Cells, HasEach, HasEachPlace, IsGrid}
 use Rattle.round_tables.specs.Histories.{HistoriesView, BirthsRise, AreWrittenBy, KeepLimits, StandsAmong}
 use Rattle.model.specs.Figures.{rounds_behind}
+use Rattle.version_lags.specs.Bounds.{AreBounds, IsStretchOf}
 use Rattle.version_lags.specs.declared.lags.Lags.{Lags}
 use Rattle.version_lags.specs.declared.lags.Numbers.{Numbers}
 use Rattle.version_lags.specs.declared.lags.Piece.{Piece}
@@ -105,10 +106,36 @@ pub record CountsPiece {N : Type 0} (number : N → ℕ) (numbers : RoundNumbers
   pub least_is : HasEachPlace (length numbers.lists.now) numbers.keys
       (λ r k. IsLeastOf (λ p. cells_in numbers (table_at number numbers p) r k) (last_cells number numbers r k) from to) least
 
+abbrev pub HasCounted : {N : Type 0} → (N → ℕ) → RoundNumbers N → ℕ → ℕ → Piece N → Type 0
+HasCounted number numbers from to piece =
+    CountsPiece number numbers from to piece.stale piece.leftover (map number piece.least.items)
+
 -- it is counted, unless memory is refused
 abbrev pub Counts : {N : Type 0} → (N → ℕ) → RoundNumbers N → ℕ → ℕ → Result (Piece N) Fault → Type 0
-Counts number numbers from to result =
-    IfOk result (λ piece. CountsPiece number numbers from to piece.stale piece.leftover (map number piece.least.items)) × IsOkUnless result OutOfMemory
+Counts number numbers from to result = IfOk result (HasCounted number numbers from to) × IsOkUnless result OutOfMemory
+
+-- one is of the tables behind those of another
+pub record AreBehindEachOther {N : Type 0} (number : N → ℕ) (numbers : RoundNumbers N) (piece others : Piece N) : Type 0 where
+  pub from : ℕ
+  pub mid : ℕ
+  pub to : ℕ
+  pub part : IsStretchOf (length numbers.lists.now) mid to
+  pub first : HasCounted number numbers from mid piece
+  pub second : HasCounted number numbers mid to others
+
+-- and it is taken in
+abbrev pub HasTakenIn : {N : Type 0} → (N → ℕ) → RoundNumbers N → Piece N → Piece N → Piece N → Type 0
+HasTakenIn number numbers old others new =
+    (from mid to : ℕ) → HasCounted number numbers from mid old → HasCounted number numbers mid to others
+    → HasCounted number numbers from to new
+
+-- all tables are counted, in parts
+pub record ArePieces {N : Type 0} (number : N → ℕ) (numbers : RoundNumbers N) (pieces : List (Result (Piece N) Fault)) : Type 0 where
+  pub bounds : List ℕ
+  pub are : AreBounds (length numbers.lists.now) bounds
+  pub one_each : length pieces + 1 ≡ length bounds
+  pub each : (i : ℕ) (piece : Result (Piece N) Fault) → slice_get pieces i ≡ Some piece
+      → Counts number numbers (slice_index bounds i) (slice_index bounds (i + 1)) piece
 
 -- the tables from one on up to another are counted: grids, and no write is of an earlier generation where no node has
 -- forgotten
@@ -116,8 +143,7 @@ pub record MayCount {N : Type 0} (number : N → ℕ) (count : Numbers N) (from 
   pub grids : AreGrids number count.numbers
   pub forgot : IsFalse count.forgot → (r : ℕ) → r < length count.numbers.lists.now → slice_index (map number count.numbers.bases.now) r ≡ 0
   pub some : 1 ≤ count.size
-  pub rises : from ≤ to
-  pub within : to ≤ length count.numbers.lists.now
+  pub part : IsStretchOf (length count.numbers.lists.now) from to
 
 -- where rounds end in the owners' lists
 pub record AreRoundEnds {N : Type 0} (number : N → ℕ) (numbers : RoundNumbers N) : Type 0 where

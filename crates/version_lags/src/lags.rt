@@ -8,8 +8,10 @@ ghost use Rattle.grids.specs.Lags.{IsLeastBehind};
 ghost use Rattle.planes.specs.Planes.{HasEach};
 ghost use Rattle.bench_types.specs.Sums.{most_below};
 ghost use Rattle.model.specs.Figures.{figures_of};
-ghost use Rattle.version_lags.specs.Pieces.{AreGrids, AreRoundNumbers, Counts, MayCount, MayWalk, WalksFrom, most_lag};
+ghost use Rattle.version_lags.specs.Bounds.{IsStretchOf};
+ghost use Rattle.version_lags.specs.Pieces.{AreBehindEachOther, AreGrids, ArePieces, AreRoundNumbers, Counts, HasCounted, HasTakenIn, MayCount, MayWalk, WalksFrom, most_lag};
 
+use crate::bounds::{LEAST_BYTES_OF_A_THREAD, threads_for};
 use bench_types::{Fault, Figures};
 use grids::{count_behind, least_behind, lower_all};
 use owner_writes::OwnerWrites;
@@ -32,13 +34,67 @@ pub struct RoundNumbers<'a, N: Number> {
     pub ends: Ends<'a, N>,
 }
 
-// What some of the tables say.
+/// What some of the tables say.
 #[derive(Drop)]
-struct Piece<N: Number> {
+pub struct Piece<N: Number> {
     stale: u64,
     leftover: u64,
     // Of each owner's key the least number that one of them holds, or the last one where none is below it.
     least: Vec<N>,
+}
+
+impl<N: Number> Piece<N> {
+    // What no table says.
+    fn none(alloc: Global, numbers: &RoundNumbers<N>) -> Result<Piece<N>, Fault>
+        requires grids { AreGrids N.number numbers.now }
+        ensures none { IfOk result (λ piece. (at : ℕ) → HasCounted N.number numbers.now at at piece) }
+        ensures only { IsOkUnless result OutOfMemory }
+    {
+        Ok(Piece {
+            stale: 0,
+            leftover: 0,
+            least: Vec::from_slice(alloc, numbers.last)?,
+        })
+    }
+
+    // Takes in what the tables behind these say.
+    fn take_in(&mut self, others: &Piece<N>, numbers: &RoundNumbers<N>)
+        requires grids { AreGrids N.number numbers.now }
+        requires both { AreBehindEachOther N.number numbers.now self.old others.now }
+        ensures { HasTakenIn N.number numbers.entry.now self.old others.entry.now self.new }
+    {
+        self.stale += others.stale;
+        self.leftover += others.leftover;
+        let grid = Grid {
+            cells: &others.least,
+            size: Size {
+                nodes: numbers.lists.len(),
+                keys: numbers.keys,
+            },
+        };
+        lower_all(&mut self.least, grid);
+    }
+
+    // The figures, where all tables say this.
+    fn figures(&self, alloc: Global, numbers: &RoundNumbers<N>) -> Result<Figures, Fault>
+        requires are { (tables : List Table) × AreRoundNumbers N.number N.most numbers.now tables }
+        requires whole { HasCounted N.number numbers.now 0 (length numbers.now.lists.now) self.now }
+        ensures figures { IfOk result (λ f. (tables : List Table)
+            → AreRoundNumbers N.number N.most numbers.now tables
+            → f ≡ figures_of numbers.now.ends.rounds tables (lists_in numbers.now.lists.now)) }
+        ensures only { IsOkUnless result OutOfMemory }
+    {
+        let lags = Lags {
+            numbers: *numbers,
+            least: &self.least,
+        };
+        let greatest = lags.greatest(alloc)?;
+        Ok(Figures {
+            stale: self.stale,
+            greatest,
+            leftover: self.leftover,
+        })
+    }
 }
 
 // The numbers of all tables, whether a node has forgotten, and how many tables a thread gets.
@@ -49,7 +105,21 @@ struct Numbers<'a, N: Number> {
     size: usize,
 }
 
-impl<'a, N: Number + Send + Sync> Numbers<'a, N> {
+impl<'a, N: Number> Numbers<'a, N> {
+    fn of(numbers: &RoundNumbers<'a, N>, size: usize) -> Numbers<'a, N>
+        requires grids { AreGrids N.number numbers.now }
+        requires some { 1 ≤ size }
+        ensures numbers { result.numbers ≡ numbers.now }
+        ensures may { (from to : ℕ) → IsStretchOf (length numbers.now.lists.now) from to
+            → MayCount N.number result from to }
+    {
+        Numbers {
+            numbers: *numbers,
+            forgot: planes::count_held(numbers.bases) > 0,
+            size,
+        }
+    }
+
     fn piece_of(&self, alloc: Global, from: usize, to: usize) -> Result<Piece<N>, Fault>
         requires { MayCount N.number self.now from to }
         ensures { Counts N.number self.now.numbers from to result }
@@ -59,9 +129,11 @@ impl<'a, N: Number + Send + Sync> Numbers<'a, N> {
             nodes: numbers.lists.len(),
             keys: numbers.keys,
         };
-        let mut stale = 0;
-        let mut leftover = 0;
-        let mut least = Vec::from_slice(alloc, numbers.last)?;
+        let Piece {
+            mut stale,
+            mut leftover,
+            mut least,
+        } = Piece::none(alloc, &numbers)?;
         for at in from..to {
             let here = numbers.cells[at];
             let grid = Grid { cells: here, size };
@@ -77,7 +149,9 @@ impl<'a, N: Number + Send + Sync> Numbers<'a, N> {
             least,
         })
     }
+}
 
+impl<'a, N: Number + Send + Sync> Numbers<'a, N> {
     // What all tables from one on say, so many in each thread. This thread starts all others: where a new thread starts
     // another one, the system may put both on one processor.
     #[cycle(rest)]
@@ -105,17 +179,7 @@ impl<'a, N: Number + Send + Sync> Numbers<'a, N> {
         { self.rest_from(rt, alloc, to) };
         let (first, others) = join(rt, first, others);
         let mut piece = first?;
-        let others = others?;
-        piece.stale += others.stale;
-        piece.leftover += others.leftover;
-        let grid = Grid {
-            cells: &others.least,
-            size: Size {
-                nodes,
-                keys: self.numbers.keys,
-            },
-        };
-        lower_all(&mut piece.least, grid);
+        piece.take_in(&others?, &self.numbers);
         Ok(piece)
     }
 }
@@ -184,9 +248,6 @@ impl<'a, N: Number> Lags<'a, N> {
     }
 }
 
-// To start a thread for fewer bytes of numbers takes longer than it saves.
-const LEAST_BYTES_OF_A_THREAD: usize = 524_288;
-
 // So many bytes are gone over by one thread where one worker has made the exchanges: the tables are near its thread
 // alone, and others are slower at them.
 const FEW_BYTES_OF_ONE_WORKER: usize = 2_097_152;
@@ -201,8 +262,7 @@ fn tables_of_a_thread<N: Number>(numbers: &RoundNumbers<N>, hands: Hands) -> usi
     if hands.workers == 1 && bytes <= FEW_BYTES_OF_ONE_WORKER {
         return tables.saturating_add(1);
     }
-    let worth = bytes / LEAST_BYTES_OF_A_THREAD;
-    let threads = hands.processors.get().min(worth).max(1);
+    let threads = threads_for(bytes, LEAST_BYTES_OF_A_THREAD, hands);
     (tables / threads).saturating_add(1)
 }
 
@@ -216,13 +276,22 @@ fn counted<N: Number + Send + Sync>(
     ensures { Counts N.number numbers.now 0 (length numbers.now.lists.now) result }
 {
     let size = tables_of_a_thread(numbers, hands);
-    let forgot = planes::count_held(numbers.bases) > 0;
-    let numbers = Numbers {
-        numbers: *numbers,
-        forgot,
-        size,
-    };
-    numbers.rest_from(rt, alloc, 0)
+    Numbers::of(numbers, size).rest_from(rt, alloc, 0)
+}
+
+/// What the tables from one on up to another say, as one of several threads counts it. It takes memory for the numbers
+/// of a table. An error is lack of that memory (`OutOfMemory`).
+pub fn piece_of<N: Number>(
+    alloc: Global,
+    numbers: &RoundNumbers<N>,
+    from: usize,
+    to: usize,
+) -> Result<Piece<N>, Fault>
+    requires grids { AreGrids N.number numbers.now }
+    requires part { IsStretchOf (length numbers.now.lists.now) from to }
+    ensures { Counts N.number numbers.now from to result }
+{
+    Numbers::of(numbers, 1).piece_of(alloc, from, to)
 }
 
 /// The figures of the tables at the end of the last round, down nodes included: how many keys of copies are below the
@@ -230,8 +299,8 @@ fn counted<N: Number + Send + Sync>(
 /// the first write that one of them missed, that round included; and how many entries of copies are of an older
 /// generation than their owner's.
 ///
-/// It works in threads where there are enough nodes, of which it takes fewer if several workers have carried out
-/// the round's exchanges; what it answers does not depend on how. Each thread goes once over the numbers of some of
+/// It works in threads where there is enough to count, and leaves up to 2 MiB to the caller's thread if one worker has
+/// carried out the round's exchanges; what it answers does not depend on how. Each thread goes once over the numbers of some of
 /// the tables. Then an owner's list is walked over from the first write that some copy misses, if any, to the next
 /// one, where that may be older than what was found so far. It takes memory for the numbers of a table for each
 /// part of the tables. An error is lack of that memory (`OutOfMemory`).
@@ -247,14 +316,29 @@ pub fn figures<N: Number + Send + Sync>(
 {
     let alloc = resources.alloc;
     let whole = counted(resources.rt, alloc, numbers, resources.hands)?;
-    let lags = Lags {
-        numbers: *numbers,
-        least: &whole.least,
-    };
-    let greatest = lags.greatest(alloc)?;
-    Ok(Figures {
-        stale: whole.stale,
-        greatest,
-        leftover: whole.leftover,
-    })
+    whole.figures(alloc, numbers)
+}
+
+/// The same figures, by what several threads have counted, each a part of the tables. It takes memory for the numbers of
+/// a table. An error is lack of memory (`OutOfMemory`), also of a thread's.
+pub fn figures_of_pieces<N: Number>(
+    alloc: Global,
+    numbers: &RoundNumbers<N>,
+    pieces: &[Result<Piece<N>, Fault>],
+) -> Result<Figures, Fault>
+    requires are { (tables : List Table) × AreRoundNumbers N.number N.most numbers.now tables }
+    requires pieces { ArePieces N.number numbers.now pieces.now }
+    ensures figures { IfOk result (λ f. (tables : List Table)
+        → AreRoundNumbers N.number N.most numbers.now tables
+        → f ≡ figures_of numbers.now.ends.rounds tables (lists_in numbers.now.lists.now)) }
+    ensures only { IsOkUnless result OutOfMemory }
+{
+    let mut whole = Piece::none(alloc, numbers)?;
+    for counted in pieces {
+        let Ok(piece) = counted else {
+            return Err(Fault::OutOfMemory);
+        };
+        whole.take_in(piece, numbers);
+    }
+    whole.figures(alloc, numbers)
 }

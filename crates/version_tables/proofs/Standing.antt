@@ -1,6 +1,7 @@
 -- Tables of versions beside the owners' lists so far: what their numbers are.
--- Serves `cells_of` and `figures`.
+-- Serves `EndedParted::look`, `cells_of` and `numbers_of`.
 use Rattle.version_tables.proofs.Common.{◌≡◌, ℕ, ◌+◌, ◌<◌, List, [], ◌∷◌, ◌++◌, length, get_or, map, inl, inr, sym, ap, ◌∙◌, subst, arith, Bor, cases_lt, get_or-map, get_or_default, get_or_append_left, get_or_at, length-append, length-map, map-append, transport, Entry, Table, entry_at, empty_table, table_of_node, IsCluster, OwnerListView, all_writes, list_of_owner, AreWrites, cell, HasEach, HasEachPlace, HistoriesView, KeepLimits, base_of, IsLastNumber, IsNumberAt, numbers_at, numbers_in, AreNumbersAt, AreNumbersOf, MayBeCounted, StandTogether, VersionTableView, table_in, IsKept, tables_of_views, view_at, AreAtRoundEnd, AreCellsOf, AreCellsUpto, IsBeginning}
+use Rattle.std.proofs.lemmas.List.{same_lists}
 use Rattle.version_tables.proofs.Fitting.{so-far-upto}
 use Rattle.version_tables.proofs.Laid.{has_cells}
 
@@ -86,3 +87,12 @@ cells-more written views number cells at x v before lt is kept same = rw (map-ap
         (get_or_at (numbers_in number cells) (map number x.now) [] [] at before.count ∙ same ∙ ap (λ (y : VersionTableView). y.cells) view, subst (IsKept written) view kept)
   ];
 })
+
+-- the numbers of tables are one list
+pub same_cells : (written : ℕ → List Entry) (views : List VersionTableView) (xs ys : List (List ℕ)) → AreCellsOf written views xs → AreCellsOf written views ys → xs ≡ ys
+same_cells written views xs ys one two =
+    same_lists xs ys (one.count ∙ sym two.count) (λ p d lt.
+    get_or_default xs p d [] lt
+    ∙ (one.each p (omega (arith, lt, one.count))).0
+    ∙ sym (two.each p (omega (arith, lt, one.count))).0
+    ∙ sym (get_or_default ys p d [] (omega (arith, lt, one.count, two.count))))

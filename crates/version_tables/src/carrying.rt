@@ -1,21 +1,26 @@
 //! Tables of versions as tables that a simulation carries through its rounds.
 
-ghost use Rattle.std.specs.Prelude.{◌≡◌, ◌+◌, OnOk, OnErr, IsOkUnless};
+ghost use Rattle.std.specs.Prelude.{◌≡◌, ◌+◌, OnOk, OnErr, IfOk, IsOkUnless};
+ghost use denote.Param.Send.{IsSync};
 ghost use Rattle.bench_types.specs.declared.faults.Fault.TheVariants.{OutOfMemory};
 ghost use Rattle.model.specs.Table.{with_own_write};
-ghost use Rattle.round_tables.specs.Histories.{AddsWrite, MayWrite};
+ghost use Rattle.round_tables.specs.Histories.{AddsWrite, AreFiguresCounted, MayWrite, StandAtRoundEnd};
 ghost use Rattle.version_tables.specs.Views.{table_in};
 ghost use Rattle.version_tables.specs.inner.Histories.{IsWriteUnder};
 
+use crate::ended::{Ended, figures_in_parts};
 use crate::histories::Histories;
 use crate::lags::SharedNumber;
 use crate::tables::{VersionTable, Written};
 use bench_types::{Fault, Figures};
+use crew::{Crew, LookJob};
 use planes::Number;
-use round_tables::{Resources, RoundHistories};
+use round_tables::{Counted, Resources, RoundHistories};
 use std::alloc::Global;
 use std::marker::Brand;
+use std::sync::Wait;
 use std::thread::Threads;
+use version_lags::bounds_for;
 
 impl Written for Brand {
     ghost use Rattle.std.specs.Prelude.{[]};
@@ -46,6 +51,8 @@ fn write<N: Number, H: Written>(
 impl<N: SharedNumber + Send + Sync, H: Written + Send + Sync> RoundHistories<VersionTable<N, H>>
     for Histories<N, H> {
     ghost use Rattle.version_tables.specs.inner.Histories.{IsWriteUnder};
+
+    type Job = LookJob<Ended<N, H>>;
 
     ghost kept = { λ h. h };
 
@@ -88,5 +95,33 @@ impl<N: SharedNumber + Send + Sync, H: Written + Send + Sync> RoundHistories<Ver
         tables: &[VersionTable<N, H>],
     ) -> Result<Figures, Fault> {
         N::figures(resources, tables, self)
+    }
+
+    fn figures_by<R: Threads + Wait + Sync, C: Crew<LookJob<Ended<N, H>>>>(
+        self,
+        resources: &Resources<R>,
+        crew: &C,
+        tables: Vec<VersionTable<N, H>>,
+    ) -> Result<Counted<VersionTable<N, H>, Histories<N, H>>, Fault>
+        requires sync { IsSync R.row }
+        requires ended { StandAtRoundEnd (table_in H.lists) tables.items self }
+        ensures counted { IfOk result (AreFiguresCounted (table_in H.lists) (λ h. h) self tables.items) }
+        ensures only { IsOkUnless result OutOfMemory }
+    {
+        let alloc = resources.alloc;
+        if let Some(bounds) = bounds_for(alloc, self.lasts(), tables.len(), resources.hands)? {
+            let ended = Ended {
+                alloc,
+                tables,
+                histories: self,
+            };
+            return figures_in_parts(resources.rt, crew, ended, bounds);
+        }
+        let figures = N::figures(resources, &tables, &self)?;
+        Ok(Counted {
+            figures,
+            tables,
+            histories: self,
+        })
     }
 }

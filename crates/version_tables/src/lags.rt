@@ -1,11 +1,12 @@
 //! The figures of a round, where tables keep versions alone.
 
-ghost use Rattle.std.specs.Prelude.{◌≡◌, IfOk, IsOkUnless};
+ghost use Rattle.std.specs.Prelude.{◌≡◌, List, IfOk, IsOkUnless};
 ghost use Rattle.bench_types.specs.declared.faults.Fault.TheVariants.{OutOfMemory};
 ghost use Rattle.model.specs.Figures.{figures_of};
 ghost use Rattle.model.specs.calls.OwnerListView.{lists_in};
 ghost use Rattle.version_lags.specs.Pieces.{numbers_in};
-ghost use Rattle.version_tables.specs.inner.Beside.{tables_of_views, AreAtRoundEnd, AreCellsOf};
+ghost use Rattle.version_tables.specs.Views.{VersionTableView};
+ghost use Rattle.version_tables.specs.inner.Beside.{tables_of_views, AreAtRoundEnd, AreCellsOf, AreNumbersBeside};
 
 use crate::histories::Histories;
 use crate::tables::{VersionTable, Written};
@@ -16,7 +17,8 @@ use std::alloc::Global;
 use std::thread::Threads;
 use version_lags::RoundNumbers;
 
-fn cells_of<'a, N: Number, H: Written>(
+/// The cells of each table.
+pub(crate) fn cells_of<'a, N: Number, H: Written>(
     alloc: Global,
     tables: &'a [VersionTable<N, H>],
 ) -> Result<Vec<&'a [N]>, Fault>
@@ -28,6 +30,25 @@ fn cells_of<'a, N: Number, H: Written>(
         cells.push(table.cells())?;
     }
     Ok(cells)
+}
+
+/// The numbers of tables that have these cells.
+pub(crate) fn numbers_of<'a, N: Number, H: Written>(
+    cells: &'a [&'a [N]],
+    histories: &'a Histories<N, H>,
+) -> RoundNumbers<'a, N>
+    ensures { (views : List VersionTableView) → AreAtRoundEnd H.lists views histories.now
+        → AreCellsOf H.lists views (numbers_in N.number cells.now)
+        → AreNumbersBeside N.number N.most H.lists views histories.now result }
+{
+    RoundNumbers {
+        cells,
+        keys: histories.keys() as usize,
+        lists: histories.lists(),
+        bases: histories.bases(),
+        last: histories.lasts(),
+        ends: histories.ends(),
+    }
 }
 
 /// The figures at the end of a round, as `version_lags` counts them. An error is lack of memory (`OutOfMemory`).
@@ -42,15 +63,7 @@ pub(crate) fn figures<N: Number + Send + Sync, H: Written>(
     ensures only { IsOkUnless result OutOfMemory }
 {
     let cells = cells_of(resources.alloc, tables)?;
-    let numbers = RoundNumbers {
-        cells: &cells,
-        keys: histories.keys() as usize,
-        lists: histories.lists(),
-        bases: histories.bases(),
-        last: histories.lasts(),
-        ends: histories.ends(),
-    };
-    version_lags::figures(resources, &numbers)
+    version_lags::figures(resources, &numbers_of(&cells, histories))
 }
 
 /// Numbers that threads may share. What starts threads is written for each type of them, since no proof is had of what

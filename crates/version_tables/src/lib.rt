@@ -22,6 +22,7 @@
 mod carrying;
 mod deltas;
 mod digests;
+mod ended;
 mod exchanges;
 mod exchanging;
 mod histories;
@@ -32,6 +33,7 @@ mod tables;
 mod taking;
 
 pub use delta_plans::deltas_have_their_sets;
+pub use ended::Ended;
 pub use histories::Histories;
 pub use planes::{Number, Short};
 pub use tables::{VersionTable, Written};

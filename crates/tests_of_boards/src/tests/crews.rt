@@ -4,6 +4,7 @@ use crate::tests::comparing::expect;
 use crate::tests::pools::run_fresh;
 use crate::tests::small_boards::{CROSSING, ONE_ENTRY, list_of};
 use bench_types::{Exchange, Fault, Record, Rules};
+use crew::{Answered, Divided, LookJob, Parted, look_in_parts};
 use exchange::Entries;
 use fixtures::{Writers, tables_of};
 use model::Exchanging;
@@ -40,10 +41,32 @@ impl Exchanging<NodeTable> for Fickle {
     }
 }
 
+// Numbers of which threads add some up.
+#[derive(Drop)]
+struct Numbers {
+    all: Vec<u32>,
+}
+
+impl Parted for Numbers {
+    ghost use Rattle.std.specs.Prelude.{◌≤◌, vec_len};
+
+    type Answer = u64;
+
+    ghost may = { λ numbers from to. (from ≤ to) × (to ≤ vec_len numbers.all) };
+
+    ghost tells = { λ _ _ _ _. Unit {0} };
+
+    fn look(&self, from: usize, to: usize) -> u64 {
+        self.all[from..to].iter().map(|n| u64::from(*n)).sum()
+    }
+}
+
+type Crewed = Posts<NodeTable, Fickle, FreeGate, LookJob<Numbers>>;
+
 // The records of a list that begins with fresh tables.
 fn records_of<R: Abort + AllocGlobal + Wait>(
     rt: &R,
-    posts: &Posts<NodeTable, Fickle, FreeGate>,
+    posts: &Crewed,
     list: &RoundList,
     lacks_memory: bool,
 ) -> Result<Vec<Record>, Fault> {
@@ -78,5 +101,29 @@ fn lists_by_the_same_threads(rt: HostRuntime) -> Result<(), Fault> {
     expect(&rt, second.err(), Some(Fault::OutOfMemory));
     expect(&rt, first?.as_slice() == wanted.as_slice(), true);
     expect(&rt, third?.as_slice() == wanted.as_slice(), true);
+    Ok(())
+}
+
+// Parts of numbers by three workers, more than they are, between two lists.
+#[test]
+fn parts_by_the_same_threads(rt: HostRuntime) -> Result<(), Fault> {
+    let list = list_of(&rt, 8, CROSSING);
+    let posts: Crewed = Posts::new(rt.alloc(), 3)?;
+    let done = posts.with_threads(&rt, (), |_| -> Result<Vec<u64>, Fault> {
+        records_of(&rt, &posts, &list, false)?;
+        let divided = Divided {
+            whole: Numbers {
+                all: Vec::from_array(rt.alloc(), [5, 1, 4, 2, 8, 7])?,
+            },
+            bounds: Vec::from_array(rt.alloc(), [0, 2, 3, 3, 5, 6])?,
+        };
+        let Answered { answers, .. } = look_in_parts(&rt, rt.alloc(), &posts, divided)?;
+        records_of(&rt, &posts, &list, false)?;
+        Ok(answers)
+    });
+    let Ok(answers) = done else {
+        return Err(Fault::NoThread);
+    };
+    expect(&rt, answers?.as_slice() == [6, 4, 0, 10, 7], true);
     Ok(())
 }

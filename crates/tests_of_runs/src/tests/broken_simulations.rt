@@ -3,10 +3,11 @@
 use crate::tests::comparing::expect;
 use bench::{EntryHistories, FreeGate};
 use bench_types::{Exchange, Fault, Figures, Record, Rules};
+use crew::{Crew, NoJob};
 use fixtures::{FOUR_MODES, Team};
 use model::{Exchanging, MemoryTable};
 use node_table::NodeTable;
-use round_tables::{Resources, RoundHistories, TakesAll};
+use round_tables::{Counted, Resources, RoundHistories, TakesAll};
 use scenario::read;
 use simulation::Sim as SimOf;
 use std::alloc::Global;
@@ -43,6 +44,13 @@ impl<T: MemoryTable, H: RoundHistories<T>> Exchanging<T> for Refusing<H> {
 }
 
 impl<T: MemoryTable, H: RoundHistories<T>> RoundHistories<T> for Refusing<H> {
+    ghost use Rattle.std.specs.Prelude.{IfOk, IsOkUnless};
+    ghost use denote.Param.Send.{IsSync};
+    ghost use Rattle.bench_types.specs.declared.faults.Fault.TheVariants.{OutOfMemory};
+    ghost use Rattle.round_tables.specs.Histories.{AreFiguresCounted, StandAtRoundEnd};
+
+    type Job = NoJob;
+
     ghost kept = { λ histories. H.kept histories.inner };
 
     ghost may_write = { λ owner number e. H.may_write owner number e };
@@ -83,6 +91,26 @@ impl<T: MemoryTable, H: RoundHistories<T>> RoundHistories<T> for Refusing<H> {
         tables: &[T],
     ) -> Result<Figures, Fault> {
         self.inner.figures(resources, tables)
+    }
+
+    fn figures_by<R: Threads + Wait + Sync, C: Crew<NoJob>>(
+        self,
+        resources: &Resources<R>,
+        _crew: &C,
+        tables: Vec<T>,
+    ) -> Result<Counted<T, Refusing<H>>, Fault>
+        requires sync { IsSync R.row }
+        requires ended { StandAtRoundEnd T.table tables.items (H.kept self.inner) }
+        ensures counted { IfOk result
+            (AreFiguresCounted T.table (λ histories. H.kept histories.inner) self tables.items) }
+        ensures only { IsOkUnless result OutOfMemory }
+    {
+        let figures = self.inner.figures(resources, &tables)?;
+        Ok(Counted {
+            figures,
+            tables,
+            histories: self,
+        })
     }
 }
 

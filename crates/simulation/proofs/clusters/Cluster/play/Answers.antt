@@ -2,6 +2,9 @@ use Rattle.simulation.proofs.Common.{rules, ◌≡◌, ℕ, List, map, subst, sy
 use Rattle.list_order.specs.Carrying.{AreExchanged}
 use Rattle.simulation.specs.inner.InMemory.{HasBegun}
 use Rattle.simulation.specs.inner.Plans.{IsDrawnAfter}
+use Rattle.simulation.specs.inner.Steps.{HaveEnded, IsPlayedFrom}
+use Rattle.round_tables.specs.Histories.{AreFiguresCounted}
+use Rattle.round_tables.specs.declared.round_tables.Counted.{Counted}
 use Rattle.simulation.proofs.Playing.{IsLeft, lawful_budget, is_left, each_begun, nodes_cluster, standing_cluster, one_list_each, one_record_each, round_is, played_is}
 use Rattle.simulation.proofs.Standing.{written_by}
 use Rattle.simulation.proofs.clusters.Cluster.play.Given as given
@@ -27,34 +30,23 @@ carry_out-requires-clause-tables g c _ _ = record {
       (lawful_budget c.args.scenario.now.format c.args.scenario.now.budget c.requires.lawful.budget);
 }
 
--- the tables as the figures read them, and the lists
-read : (g : given.Over) (c : goal.After-deref g) → IsLeft g.T.MemoryTable.table c.args.scenario.now c.args.round c.deref.result.now
-    (g.K.RoundHistories.kept c.in_ok-tables.field-0.shared)
-read g c =
+pub count_figures-requires-clause-ended : goal.count_figures-requires-clause-ended
+count_figures-requires-clause-ended g c _ _ =
     let begun = back c.in_ok-tables.ensures.shared c.in_ok-begun.ensures.begun in
     let ended : AreExchanged g.T.MemoryTable.table c.rules_of-rules.result c.in_ok-words.field-0.list.exchanges c.in_ok-begun.begun.items
     c.in_ok-tables.field-0.tables.items c.in_ok-tables.field-0.records.items = search rules in
-    subst (λ ts. IsLeft g.T.MemoryTable.table c.args.scenario.now c.args.round ts (g.K.RoundHistories.kept c.in_ok-tables.field-0.shared))
-    (sym c.deref.ensures.value)
-    (is_left g.T.MemoryTable.table c.args.scenario.now c.args.round c.in_ok-words.field-0.list _ _ _ c.in_ok-tables.field-0.tables.items
+    let is = is_left g.T.MemoryTable.table c.args.scenario.now c.args.round c.in_ok-words.field-0.list _ _ _ c.in_ok-tables.field-0.tables.items
     c.in_ok-tables.field-0.records.items _ c.requires.lawful c.requires.round.first (subst IsRoundPlan c.list.view_is c.list.invariant)
     c.in_ok-words.ensures.plan.list c.rules_of-rules.ensures c.requires.before.tables begun.tables
-    begun.ended.keys begun.standing ended)
-
-pub figures-requires-clause-cluster : goal.figures-requires-clause-cluster
-figures-requires-clause-cluster g c = standing_cluster g.T.MemoryTable.table c.args.scenario.now c.args.round c.deref.result.now _ (read g c).standing
-
-pub figures-requires-clause-one_list_each : goal.figures-requires-clause-one_list_each
-figures-requires-clause-one_list_each g c = one_list_each g.T.MemoryTable.table c.args.scenario.now c.args.round c.deref.result.now _ (read g c).standing
-
-pub figures-requires-clause-written : goal.figures-requires-clause-written
-figures-requires-clause-written g c =
-    let begun = back c.in_ok-tables.ensures.shared c.in_ok-begun.ensures.begun in
-    subst (λ r. AreWrittenBy r (g.K.RoundHistories.kept c.in_ok-tables.field-0.shared).lists) (sym begun.ended.rounds)
-    (written_by c.args.scenario.now c.args.round _ _ begun.standing)
-
-pub figures-requires-clause-standing : goal.figures-requires-clause-standing
-figures-requires-clause-standing g c = (read g c).each
+    begun.ended.keys begun.standing ended in
+    let tables = c.in_ok-tables.field-0.tables.items in
+    record {
+      cluster = standing_cluster g.T.MemoryTable.table c.args.scenario.now c.args.round tables _ is.standing;
+      one_list_each = one_list_each g.T.MemoryTable.table c.args.scenario.now c.args.round tables _ is.standing;
+      written_by = subst (λ r. AreWrittenBy r (g.K.RoundHistories.kept c.in_ok-tables.field-0.shared).lists) (sym begun.ended.rounds)
+          (written_by c.args.scenario.now c.args.round _ _ begun.standing);
+      standing = is.each;
+    }
 
 pub of-played-requires : goal.of-played-requires
 of-played-requires g c =
@@ -75,13 +67,21 @@ left g c =
     c.in_ok-words.ensures.plan.list c.rules_of-rules.ensures c.requires.before.tables begun.tables
     begun.ended.keys begun.standing ended
 
+-- tables and histories of which the figures were counted are as they were
+as_before : {T K : Type 0} {table : T → Table} {kept : K → HistoriesView} {histories : K} {tables : List T} {counted : Counted T K}
+    (Holds : List T → HistoriesView → Type 0) → AreFiguresCounted table kept histories tables counted → Holds tables (kept histories)
+    → Holds counted.tables.items (kept counted.histories)
+as_before {kept} {tables} {counted} Holds is holds =
+    subst (λ ts. Holds ts (kept counted.histories)) (sym is.same_tables) (subst (λ k. Holds tables (kept k)) (sym is.same_histories) holds)
+
 pub returns-clause-after : goal.returns-clause-after
 returns-clause-after g c =
-    let is = left g c in
+    let counted = c.in_ok-figures.ensures.counted in
+    let is = as_before (IsLeft g.T.MemoryTable.table c.args.scenario.now c.args.round) counted (left g c) in
     record {
       standing = is.standing;
       tables = is.after;
-      ended = (back c.in_ok-tables.ensures.shared c.in_ok-begun.ensures.begun).ended;
+      ended = as_before (λ _. HaveEnded c.args.scenario.now c.args.round) counted (back c.in_ok-tables.ensures.shared c.in_ok-begun.ensures.begun).ended;
       drawn = subst
           (λ r. IfOk r (IsDrawnAfter c.args.scenario.now c.args.round)) c.in_ok-drawn.was c.in_ok-tables.ensures.made.0;
     }
@@ -90,13 +90,15 @@ pub returns-clause-played : goal.returns-clause-played
 returns-clause-played g c =
     let ended : AreExchanged g.T.MemoryTable.table c.rules_of-rules.result c.in_ok-words.field-0.list.exchanges c.in_ok-begun.begun.items
     c.in_ok-tables.field-0.tables.items c.in_ok-tables.field-0.records.items = search rules in
+    let counted = c.in_ok-figures.ensures.counted in
     let lists = (g.K.RoundHistories.kept c.in_ok-tables.field-0.shared).lists in
-    played_is c.args.scenario.now c.args.round (map g.T.MemoryTable.table c.args.self.tables.items)
-    (map g.T.MemoryTable.table c.in_ok-tables.field-0.tables.items) lists c.in_ok-words.field-0.list c.in_ok-tables.field-0.records.items c.in_ok-lag.lag
-    c.of-played.result c.in_ok-words.ensures.plan.list
+    let before = map g.T.MemoryTable.table c.args.self.tables.items in
+    let after = map g.T.MemoryTable.table c.in_ok-tables.field-0.tables.items in
+    as_before (λ ts (h : HistoriesView). IsPlayedFrom c.args.scenario.now c.args.round before (map g.T.MemoryTable.table ts) h.lists c.of-played.result) counted
+    (played_is c.args.scenario.now c.args.round before after lists c.in_ok-words.field-0.list c.in_ok-tables.field-0.records.items
+    c.in_ok-figures.field-0.figures c.of-played.result c.in_ok-words.ensures.plan.list
     (round_is c.args.scenario.now c.args.round c.in_ok-words.field-0.list (subst IsRoundPlan c.list.view_is c.list.invariant)
     c.in_ok-words.ensures.plan.list _ _ _ c.in_ok-tables.field-0.records.items ended
-    (map g.T.MemoryTable.table c.args.self.tables.items) (back c.in_ok-tables.ensures.shared c.in_ok-begun.ensures.begun).tables c.rules_of-rules.ensures)
-    (c.in_ok-lag.ensures.figures
-    ∙ (λ i. figures_of ((back c.in_ok-tables.ensures.shared c.in_ok-begun.ensures.begun).ended.rounds i) (map g.T.MemoryTable.table (c.deref.ensures.value i)) (lists_in lists)))
-    c.of-played.ensures
+    before (back c.in_ok-tables.ensures.shared c.in_ok-begun.ensures.begun).tables c.rules_of-rules.ensures)
+    (counted.figures_are ∙ ap (λ r. figures_of r after (lists_in lists)) (back c.in_ok-tables.ensures.shared c.in_ok-begun.ensures.begun).ended.rounds)
+    c.of-played.ensures)

@@ -1,17 +1,15 @@
 use Rattle.version_lags.proofs.Common.{◌≡◌, ◌+◌, min, get_or, map, length, sym, ap, ◌∙◌, subst, arith, length-map, with_items_is, ArePlanesChanged, IsGrid, total_of, cells_in, is_left, CountsPiece}
-use Rattle.version_lags.proofs.Parts.{counts-none, counts-more, none_left, table-read}
+use Rattle.version_lags.proofs.Parts.{counts-more, none_left, table-read}
 use Rattle.version_lags.proofs.lags.Numbers.piece_of.Goals as goal
 use Rattle.version_lags.proofs.lags.Numbers.piece_of.Goals.{then-self, else-self}
 
 pub loop-at-init : goal.loop-at-init
-loop-at-init g c =
-    let numbers = c.args.self.now.numbers in
-    subst (λ xs. CountsPiece g.N.Number.number numbers c.args.from c.args.from 0 0 (map g.N.Number.number xs)) (sym c.in_ok-least.ensures.items) (counts-none g.N.Number.number numbers c.requires.grids c.args.from)
+loop-at-init g c = c.in_ok-stale.ensures.none c.args.from
 
 pub count_behind-behind-requires : goal.count_behind-behind-requires
 count_behind-behind-requires g c =
     let grids = c.requires.grids in
-    let read = table-read g.N.Number.number c.args.self.now.numbers grids c.loop-at.at c.index-numbers-at.result (omega (arith, c.loop-at-test.true, c.requires.within)) in
+    let read = table-read g.N.Number.number c.args.self.now.numbers grids c.loop-at.at c.index-numbers-at.result (omega (arith, c.loop-at-test.true, c.requires.part.within)) in
     let count : length c.args.self.now.numbers.last.now ≡ length c.deref_mut.result.now = omega (arith, length-map c.loop-at.least.items g.N.Number.number, c.loop-at.invariant.least_is.size, grids.grid.whole, ap length c.deref_mut.ensures.value) in
     record {
       beside = record {
@@ -23,7 +21,7 @@ count_behind-behind-requires g c =
 pub total_upto-requires : goal.total_upto-requires
 total_upto-requires g c = record {
   marked =
-      let read = table-read g.N.Number.number c.args.self.now.numbers c.requires.grids c.loop-at.at c.index-numbers-at.result (omega (arith, c.loop-at-test.true, c.requires.within)) in
+      let read = table-read g.N.Number.number c.args.self.now.numbers c.requires.grids c.loop-at.at c.index-numbers-at.result (omega (arith, c.loop-at-test.true, c.requires.part.within)) in
       record {
         shape = subst (IsGrid (length c.args.self.now.numbers.lists.now) c.args.self.now.numbers.keys) (sym read.1) c.requires.grids.grid;
         count = c.requires.grids.based;
@@ -37,7 +35,7 @@ loop-at-preserved g c =
     let grids = c.requires.grids in
     let at = c.loop-at.at in
     let here = get_or numbers.cells.now at c.index-numbers-at.result in
-    let read = table-read number numbers grids at c.index-numbers-at.result (omega (arith, c.loop-at-test.true, c.requires.within)) in
+    let read = table-read number numbers grids at c.index-numbers-at.result (omega (arith, c.loop-at-test.true, c.requires.part.within)) in
     let new = c.count_behind-behind.new.least in
     let changed = subst (λ xs. ArePlanesChanged (λ r k x y. y ≡ min x (cells_in numbers (map number here.now) r k)) (length numbers.lists.now) numbers.keys (map number xs) (map number new)) c.deref_mut.ensures.value c.count_behind-behind.ensures.least in
     let stale = ap (λ n. c.loop-at.stale + n) (c.from-stale.ensures ∙ c.count_behind-behind.ensures.count) in

@@ -55,6 +55,7 @@ impl RoundHistories<NodeTable> for EntryHistories {
     ghost use Rattle.std.specs.Prelude.{IfOk, IsOkUnless};
     ghost use denote.Param.Send.{IsSync};
     ghost use Rattle.bench_types.specs.declared.faults.Fault.TheVariants.{OutOfMemory};
+    ghost use Rattle.node_table.specs.NodeTableView.{kept_table};
     ghost use Rattle.round_tables.specs.Histories.{AreFiguresCounted, StandAtRoundEnd};
 
     type Job = NoJob;
@@ -127,8 +128,8 @@ impl RoundHistories<NodeTable> for EntryHistories {
         tables: Vec<NodeTable>,
     ) -> Result<Counted<NodeTable, EntryHistories>, Fault>
         requires sync { IsSync R.row }
-        requires ended { StandAtRoundEnd (λ t. t) tables.items self }
-        ensures counted { IfOk result (AreFiguresCounted (λ t. t) (λ h. h) self tables.items) }
+        requires ended { StandAtRoundEnd kept_table tables.items self }
+        ensures counted { IfOk result (AreFiguresCounted kept_table (λ h. h) self tables.items) }
         ensures only { IsOkUnless result OutOfMemory }
     {
         let figures = RoundHistories::figures(&self, resources, &tables)?;

@@ -124,6 +124,10 @@ fn parts_by_the_same_threads(rt: HostRuntime) -> Result<(), Fault> {
     let Ok(answers) = done else {
         return Err(Fault::NoThread);
     };
-    expect(&rt, answers?.as_slice() == [6, 4, 0, 10, 7].as_slice(), true);
+    expect(
+        &rt,
+        answers?.as_slice() == [6, 4, 0, 10, 7].as_slice(),
+        true,
+    );
     Ok(())
 }

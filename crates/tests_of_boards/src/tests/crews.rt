@@ -57,7 +57,11 @@ impl Parted for Numbers {
     ghost tells = { λ _ _ _ _. Unit {0} };
 
     fn look(&self, from: usize, to: usize) -> u64 {
-        self.all[from..to].iter().map(|n| u64::from(*n)).sum()
+        let mut sum = 0u64;
+        for number in &self.all[from..to] {
+            sum = sum.saturating_add(u64::from(*number));
+        }
+        sum
     }
 }
 

@@ -1,6 +1,6 @@
 -- How far the rounds of a scenario have been carried out and written.
 -- Serves `write_all`, `write_each`, `write_rounds`, `Comparison` and `Reporting`.
-use Rattle.runs.proofs.Common.{◌≡◌, ℕ, ◌+◌, ◌<◌, Result, Ok, Err, inl, inr, refl, sym, ap, ◌∙◌, subst, arith, add-one, false, IsErrAnd, Fault, Table, IsFaultOfWorkers, Settings, RoundView, SimView, PlaysNext, IsStepFault, played_of}
+use Rattle.runs.proofs.Common.{◌≡◌, ℕ, ◌+◌, ◌<◌, ◌≤◌, Result, Ok, Err, inl, inr, refl, sym, ap, ◌∙◌, subst, arith, add-one, false, IsErrAnd, Fault, Table, IsFaultOfWorkers, Settings, RoundView, SimView, PlaysNext, IsStepFault, played_of}
 use Rattle.runs.specs.Runs.{IsFaultInRounds}
 use Rattle.runs.specs.inner.Rounds.{AreWrittenInTurn, IsFaultInTurn, AnswersRounds}
 
@@ -25,6 +25,21 @@ fault_told wrote stops found = record {
   stops = elim found.stops [
     | inl lost ↦ inl (lost.0, wrote found.rounds lost.1)
     | inr stop ↦ inr (stops found.rounds stop)
+  ];
+}
+
+-- the fault of fewer workers is one of more
+fault_of_fewer : {s : Settings} (fewer workers : ℕ) (fault : Fault) {Wrote Stops : ℕ → Type 0} → fewer ≤ workers
+    → IsFaultInRounds s fewer fault Wrote Stops → IsFaultInRounds s workers fault Wrote Stops
+fault_of_fewer fewer workers fault within found = record {
+  rounds = found.rounds;
+  within = found.within;
+  stops = elim found.stops [
+    | inl lost ↦ inl (elim lost.0 [
+      | inl memory ↦ inl memory
+      | inr thread ↦ inr (thread.0, omega (arith, thread.1, within))
+    ], lost.1)
+    | inr stop ↦ inr stop
   ];
 }
 
@@ -81,6 +96,13 @@ module _ {O : Type 0} (Wrote : O → O → RoundView → Type 0) (Stops : O → 
       → back ≡ sim.settings → AnswersRounds Wrote Stops s old now workers (Ok back)
   all_written now sim rounds workers back so_far all is =
       record { same = is ∙ so_far.settings; written = subst (AreWrittenInTurn Wrote s old now) all so_far.written; fault = tt }
+
+  -- what fewer workers answer
+  pub answers_of_fewer : (now : O) (fewer workers : ℕ) (answer : Result Settings Fault) → fewer ≤ workers
+      → AnswersRounds Wrote Stops s old now fewer answer → AnswersRounds Wrote Stops s old now workers answer
+  answers_of_fewer now fewer workers (Ok back) within all = record { same = all.same; written = all.written; fault = tt }
+  answers_of_fewer now fewer workers (Err fault) within all =
+      record { same = tt; written = tt; fault = fault_of_fewer fewer workers fault within all.fault }
 
   -- what is answered where a fault is handed on
   pub answers_fault : (now : O) (workers : ℕ) (answer : Result Settings Fault) (fault : Fault) → IsErrAnd answer (λ handed. handed ≡ fault)

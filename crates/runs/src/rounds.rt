@@ -1,9 +1,10 @@
 //! All rounds of a scenario, each carried out and then written.
 
-ghost use Rattle.std.specs.Prelude.{◌≡◌, ◌<◌};
+ghost use Rattle.std.specs.Prelude.{◌≡◌, ◌<◌, ◌≤◌};
+ghost use Rattle.model.specs.Runs.{AreWorkers};
 ghost use Rattle.runs.specs.inner.Writes.{AreWrittenIn};
 ghost use Rattle.runs.specs.inner.Starts.{IsAtStart};
-ghost use Rattle.runs.specs.inner.Rounds.{AnswersRounds};
+ghost use Rattle.runs.specs.inner.Rounds.{AnswersRounds, workers_worth};
 
 use crate::openings::{Opened, begin};
 use crate::resources::Resources;
@@ -34,6 +35,24 @@ pub(crate) trait RoundWriter {
         ensures fault { IfErr result (stops self.old self.new round.now) };
 }
 
+// So few numbers in all tables are gone over by one thread: to hand out their exchanges takes longer than it saves.
+const FEW_NUMBERS: u64 = 524_288;
+
+// How many of the workers that are asked for are worth their threads.
+fn workers_worth(scenario: &Scenario, asked: u32) -> u32
+    requires asked { AreWorkers asked }
+    ensures worth { result ≡ workers_worth scenario.now FEW_NUMBERS asked }
+    ensures lawful { AreWorkers result }
+    ensures within { result ≤ asked }
+{
+    let nodes = u64::from(scenario.nodes());
+    if nodes * nodes * u64::from(scenario.keys()) < FEW_NUMBERS {
+        1
+    } else {
+        asked
+    }
+}
+
 /// Carries out each round of a scenario, and writes it. The scenario comes back.
 pub(crate) fn write_rounds<L: Written + Send + Sync, H: Threads + Wait + Sync, O: RoundWriter>(
     resources: &Resources<H>,
@@ -43,7 +62,13 @@ pub(crate) fn write_rounds<L: Written + Send + Sync, H: Threads + Wait + Sync, O
     requires { AreWrittenIn L.lists scenario }
     ensures { AnswersRounds O.wrote O.stops scenario output.old output.new resources.now.workers result }
 {
-    match begin::<L>(resources.alloc, scenario)? {
+    let Resources { rt, alloc, workers } = *resources;
+    let resources = &Resources {
+        rt,
+        alloc,
+        workers: workers_worth(&scenario, workers),
+    };
+    match begin::<L>(alloc, scenario)? {
         Opened::Byte(sim) => write_each(resources, sim, output),
         Opened::Narrow(sim) => write_each(resources, sim, output),
         Opened::Wide(sim) => write_each(resources, sim, output),

@@ -1,12 +1,16 @@
 -- The rounds of a scenario and what they are written to, of whatever kind that is: `Wrote` says what it is once a round
 -- was written, from what it was before, and `Stops` what it is where writing a round came to a fault.
 -- Source: this project.
-use Rattle.std.specs.Prelude.{◌≡◌, ℕ, zero, suc, ◌+◌, Result, OnOk, IfOk, IfErr}
+use Rattle.std.specs.Prelude.{◌≡◌, ℕ, zero, suc, ◌+◌, ◌*◌, Result, OnOk, IfOk, IfErr, nat_lt, if◌then◌else◌}
 use Rattle.bench_types.specs.declared.faults.Fault.{Fault}
 use Rattle.runs.specs.Runs.{IsFaultInRounds}
 use Rattle.scenario.specs.Settings.{Settings}
 use Rattle.simulation.specs.calls.Outcomes.{played_of}
 use Rattle.simulation.specs.calls.RoundView.{RoundView}
+
+-- of the workers that are asked for, one where all tables together have fewer numbers than so many, else all
+abbrev pub workers_worth : Settings → ℕ → ℕ → ℕ
+workers_worth s few asked = if nat_lt (s.nodes * s.nodes * s.keys) few then 1 else asked
 
 module _ {O : Type 0} (Wrote : O → O → RoundView → Type 0) (s : Settings) (old : O) where
   -- the first so many rounds were written, one after another

@@ -1,7 +1,6 @@
-use Rattle.runs.proofs.Common.{◌≡◌, ◌<◌, inl, inr, refl, sym, ap, ◌∙◌, rules, subst, arith}
+use Rattle.runs.proofs.Common.{inl, inr, refl, rules, subst, arith}
 use Rattle.runs.specs.inner.Rounds.{IsFaultInTurn}
 use Rattle.runs.proofs.Turns.{answers_fault, stops_at_first}
-use Rattle.runs.proofs.rounds.write_each.Given as given
 use Rattle.runs.proofs.rounds.write_each.Goals as goal
 use Rattle.bench_types.specs.declared.faults.Fault.TheVariants.{NoThread}
 

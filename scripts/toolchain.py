@@ -5,6 +5,7 @@ import importlib.machinery
 import importlib.util
 import os
 import shutil
+import signal
 import subprocess
 import sys
 from operator import attrgetter
@@ -13,8 +14,14 @@ from pathlib import Path
 sys.dont_write_bytecode = True
 # The kinds of x86-64 processor that programs are built for: by rt, and where the processor has what the newer one has.
 OLDER, NEWER = "x86-64-v2", "x86-64-v3"
-USED = ("KIT", "Crate.ci", "Crate.link", "Crate.prove", "Crate.words", "checked", "edited", "free", "handles_of",
-        "processors", "rtlib.PARTS", "rtlib.crates_below", "rtlib.files_of", "rtlib.guarded", "unread")
+# What scripts use of rt and of its crates, and of what reads a crate's text and of what that finds.
+USED = {
+    "rt": "KIT Crate.allowed Crate.cuts_libraries checked edited free handles_of processors rtlib.Crate rtlib.PARTS "
+          "rtlib.crates_below rtlib.files_of rtlib.guarded unread",
+    "Crate": "below ci deps folder is_program link name of_kit out prove rlib said words",
+    "rt-plant-bodies": "Source named", "Source": "data declared functions read",
+    "Function": "block end file first has_body in_cycle module name opens start", "Block": "is_trait trait ty",
+}
 LOADER = "/lib64/ld-linux-x86-64.so.2"
 
 
@@ -31,17 +38,19 @@ def imported(path):
     return made
 
 
-def loaded(path, used):
-    """A script of the toolchain, which must have these names."""
+def need(module, kind, *those):
+    """The first of these things of a script of the toolchain must have what is used of its kind."""
+    try:
+        list(map(attrgetter(*USED[kind].split()), those[:1]))
+    except AttributeError as lacks:
+        raise Lacking(f"{module.__file__} is of another toolchain than these scripts: it lacks {lacks.name}") from None
+
+
+def loaded(path):
     if not path.is_file():
         raise Lacking(f"the toolchain has no {path}")
     module = imported(path)
-    for name in used:
-        try:
-            attrgetter(name)(module)
-        except AttributeError:
-            raise Lacking(f"{path} is of another toolchain than the scripts were written for: it lacks {name}"
-                          ) from None
+    need(module, path.name, module)
     return module
 
 
@@ -50,17 +59,27 @@ def load_rt(top):
     path = shutil.which("rt")
     if path is None:
         raise Lacking("the command rt of the Rattle toolchain is not found")
-    rt = loaded(Path(path).resolve(), USED)
+    rt = loaded(Path(path).resolve())
     os.chdir(top)
     rt.Crate.allowed = rt.handles_of(str(top))
     rt.rtlib.Crate = rt.Crate
     # (its first call sets handlers of signals, which only the main thread may)
     rt.rtlib.guarded()
+    # (where the caller ignores how processes end each proof would seem to have gone well)
+    signal.signal(signal.SIGCHLD, signal.SIG_DFL)
+    need(rt, "Crate", *rt.rtlib.crates_below(str(top)))
     return rt
 
 
-def load_reader(rt):
-    return loaded(Path(rt.KIT, "bin", "rt-plant-bodies"), ("Source", "named"))
+def read_by(rt, crate):
+    """The functions, types and texts of a crate, and what tells the name of a type."""
+    reader = loaded(Path(rt.KIT, "bin", "rt-plant-bodies"))
+    source = reader.Source(crate.folder)
+    need(reader, "Source", source)
+    source.read("src/main.rt" if crate.is_program else "src/lib.rt")
+    need(reader, "Function", *source.functions)
+    need(reader, "Block", *(it.block for it in source.functions if it.block))
+    return source, reader.named
 
 
 def has_newer():

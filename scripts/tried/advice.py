@@ -11,11 +11,12 @@ import tomllib
 from collections import Counter
 
 from tried.calls import program_that, refuse, refuses, run, started, stopped, tells, times_of, waits_for
-from shared import PROGRAM, Text, holds
+from shared import PROGRAM, Text, holds, text_of
 from gossip_tools.measures import span
 from gossip_tools.rules import is_better, seed_by_seed
 
 
+SAID = tomllib.loads(text_of("advice.toml"))
 # The seeds that choose, the first of them, and those that bound how old a copy gets and what heals.
 CHOOSE, FIRST, BOUND, HEAL = range(1, 21), range(1, 7), range(21, 41), range(21, 83)
 
@@ -86,10 +87,7 @@ def try_advice(room):
     for name in ("a split", "a restart", "a forgotten state", "a rolling restart"):
         lines, last = ([it for it in part.splitlines() if it.startswith(f"  {name} ")] for part in (first, said))
         holds(f"{name} is told at once", (1, lines), (len(lines), last))
-    holds("the budget", "Take scuttle-depth with room for 8 entries in a delta, 320 bytes (nodes * keys, above which "
-          "nothing changes; nodes * writes); packet=320.", said.partition("\n")[0])
-    tells("nothing is cut", said, "  share cut           0.00 % of what was lacking\n",
-          "; the chosen one had that under the same 20 seeds\n")
+    holds("the budget, with which nothing is cut", Text(*SAID["eight_nodes"]), said)
     holds("so no other run is made for the floor", 8,
           max(budgets_of(advice / "many") + budgets_of(advice / "many-bound")))
     # (what is counted is told with the first answer alone, and kept with the last)
@@ -98,9 +96,8 @@ def try_advice(room):
     holds("the answer is kept", (said.rpartition("\n\n")[0].splitlines(), True, 1),
           (told, counted[0].strip().startswith("Healed after N rounds: "), kept.count("\n".join(counted))))
     stages = [f"gossip_sweep -o {it} budget" for it in ("many", "many-bound", "split", "forgotten", "restart")]
-    page = page_of(advice, hashlib.sha256(pathlib.Path(PROGRAM).read_bytes()).hexdigest(), *stages[:4],
-                   "</thead><tbody>", "a rolling restart<b>wait ", "the oldest write that some copy lacked was for the "
-                   "first time no older than usual: at most one")
+    sum_of_program = hashlib.sha256(pathlib.Path(PROGRAM).read_bytes()).hexdigest()
+    page = page_of(advice, sum_of_program, *stages[:4], *SAID["page_of_eight_nodes"])
     # (a restart is told of nodes that forget)
     holds("a restart has no scenario of its own", False, stages[4] in page)
     others = re.findall(r'(?:src|href)="(?!data:image/svg\+xml;base64,)(.*?)"', page)
@@ -134,9 +131,7 @@ def try_reserve(room):
     taken = min(budget for budget, it in figures.items()
                 if not any(is_better(other, it) for other in (*figures.values(), *others)))
     less, more, _ = seed_by_seed(figures[48], figures[taken])
-    reserve = (f"With 48 entries (2 times nodes * writes) it is {span(figures[48])} rounds in the runs that chose, "
-               f"where the budget has {span(figures[taken])}: no better (less under {less} of 20 seeds, more under "
-               f"{more}). So packet={40 * taken} is enough, and what is above that is a reserve")
+    reserve = SAID["reserve"].format(span(figures[48]), span(figures[taken]), less, more, 40 * taken)
     for name, told in (("first", first), ("last", said)):
         tells(f"the {name} answer", told, reserve,
               f"scuttle-depth with room for {taken} entries in a delta, {40 * taken} bytes ")
@@ -223,19 +218,11 @@ def try_calls(room):
 def try_hopeless_advice(room):
     """Two entries for 24 nodes that write one of 20 keys each: some write is missing for more than 400 rounds, by a sum
     23 * 20 / (2 * 2) - 20 at least. So it ends after 800, and names the 24 * 40 bytes and the call for what heals."""
-    words = ("nodes=24 keys=20 writes=1 entry=40 packet={} digest=10 shared=no restarts=4 mode=scuttle-depth "
-             "count=entries hours=0.1")
+    words = SAID["hopeless"]["words"]
     first, said, _ = advised(room, *words.format(80).split(), "-o", "no hope")
-    holds("a sum is told at once", [
-        "By a sum, of the worst staleness: each node has 460 copies to renew and gets about two deltas of 2 entries in "
-        "a round, so it is at least 95 rounds; room for nodes * writes = 24 entries takes packet=960.",
-        "First answer, from 200 rounds: no budget that fits is seen to be enough, as none has a level of at most 100 "
-        "rounds within 200."], first.splitlines()[:2])
-    no_level = "none has a level of at most 400 rounds within 800"
+    holds("a sum is told at once", SAID["hopeless"]["first"], first.splitlines()[:2])
     holds("none is enough", True, max(worst(room / "no hope" / "longest", 2, 401, 800)) > 400)
-    tells("none is enough", said, f"No budget that fits is enough: {no_level}. The most that fits: room for 2 entries "
-          "in a delta, 80 bytes", f"  worst staleness     not known: {no_level}; by a sum at least 95",
-          "  enough              packet=960 has room for nodes * writes = 24 entries, and ")
+    tells("none is enough", said, *SAID["hopeless"]["last"])
     holds("nothing is run that heals, or bounds", ["longer", "longest", "many"],
           sorted(it.name for it in (room / "no hope").iterdir() if (it / "scenario").exists()))
     call = f"gossip_advise -o 'no hope-enough' {words.format(960)}"
@@ -250,24 +237,16 @@ def try_hopeless_advice(room):
 def try_longer_runs(room):
     """Five entries for 24 nodes that write one of 6 keys each: a level above 100, which 200 rounds can't tell from
     none, and of 200 at most, which 400 rounds can. 24 are better, so it says that the packet is too small."""
-    cluster = ("nodes=24 keys=6 writes=1 entry=40 packet=200 count=entries loss=1 split=0 restarts=2 "
-               "mode=scuttle-depth hours=0.1")
-    first, said, _ = advised(room, "-o", "longer", *cluster.split())
+    first, said, _ = advised(room, "-o", "longer", *SAID["longer"]["words"].split())
     short, long = worst(room / "longer" / "many", 5, 101, 200), worst(room / "longer" / "longer", 5, 201, 400)
     at_knee, bound = (worst(room / "longer" / "longer", 24, 201, 400),
                       worst(room / "longer" / "longer-bound", 5, 201, 560, BOUND))
     holds("200 rounds can't show the level, 400 can", (True, True, True),
           (max(short) > 100, max(long + bound) <= 200, is_better(at_knee, long)))
-    tells("the first answer says how far is looked", first,
-          "\nWhether it levels off later is seen from 400 and then 800 rounds, and no more.\n")
-    tells("what the longer runs say", said, "Take scuttle-depth, but packet=200 is too small: with room for 5 entries "
-          "in a delta, 200 bytes (what fits; 0.21 times nodes * writes), the worst copy was "
-          f"{span(long)} rounds, {span(long)} s, behind, and with packet=960 {span(at_knee)} rounds.\n",
-          "\n  worst staleness     in 20 of 21 runs of 360 rounds (360 s) no copy is older than "
-          f"{max(bound)} rounds, {max(bound)} s: ", " in rounds 201 to 560 under 20 seeds, others ",
-          "\n  a rolling restart   ")
-    page_of(room / "longer", "In rounds 201 to 400, by budget", "<h1>24 nodes: scuttle-depth with 5 entries, which are "
-            "too few</h1>", '<div class="first">enough<b>960 bytes</b>')
+    tells("the first answer says how far is looked", first, SAID["longer"]["first"])
+    figures = {"long": span(long), "knee": span(at_knee), "bound": max(bound)}
+    tells("what the longer runs say", said, *(it.format(**figures) for it in SAID["longer"]["last"]))
+    page_of(room / "longer", *SAID["longer"]["page"])
 
 
 def try_advice_below_the_knee(room):

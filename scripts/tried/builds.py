@@ -1,5 +1,6 @@
 """Trials of scripts/build and ./gossip_bench, by a toolchain that proves nothing: what is proved, what is kept, what is
-made anew, and that what is called is the program."""
+made anew, and that what is called is the program; and of what scripts/try_edits leaves to rt must-fail."""
+import functools
 import os
 import re
 import shutil
@@ -12,7 +13,7 @@ from shared import TOP, Text, holds, small_files
 
 # The crates, with those that each stands on, and what is needed of scripts.
 CRATES = {"low": "", "left": "low", "right": "low", "gossip_bench": "left right"}
-COPIED = ("gossip_bench", "scripts/build", "scripts/toolchain.py", "scripts/shared.py")
+COPIED = "gossip_bench", *(f"scripts/{it}" for it in ("build", "shared.py", "toolchain.py", "try_edits"))
 COMMANDS = ("sh", "env", "python3", "find", "cksum", "sort", "cat", "dirname", "readlink", "mv", "rm", "sleep")
 LONG_AGO = 1_000_000_000
 # What is said of a proof that takes long, as each may on a busy machine.
@@ -59,14 +60,10 @@ class Toy:
             note.unlink()
         return names
 
-    def call_and_hear(self, name, *words, with_rt=True, room=None, **how):
+    def call(self, name, *words, with_rt=True, progress=False, **how):
         how = {"text": "", "PATH": self.path if with_rt else str(self.bare), **how}
-        return run(room or self.top, self.top / name, *words, **how)
-
-    def call(self, name, *words, **how):
-        """The same without lines of progress."""
-        status, out, err = self.call_and_hear(name, *words, **how)
-        return status, out, PROGRESS.sub("", err)
+        status, out, err = run(self.top, self.top / name, *words, **how)
+        return status, out, err if progress else PROGRESS.sub("", err)
 
     def left(self):
         return [*self.top.glob("crates/*/out/rooms-*"), *self.top.glob("crates/*/out/**/*.part")]
@@ -75,13 +72,6 @@ class Toy:
         """The status, the lines on standard error, and what was proved."""
         status, out, err = self.call("scripts/build", *words, **how)
         return status, out + err, self.proved()
-
-    def copy(self, to):
-        """Moves on to a copy, all of whose files have older times than any before."""
-        shutil.copytree(self.top, to, copy_function=shutil.copy)
-        for path in to.rglob("*"):
-            os.utime(path, (LONG_AGO, LONG_AGO))
-        self.top = to
 
 
 def starts(name, toy, *words, builds=False, **how):
@@ -108,18 +98,15 @@ def builds(name, toy, wanted, *words, **how):
 def try_kept(room):
     """A crate is proved again where what its proof reads has changed, and else it is kept."""
     toy = Toy(room / "kept")
-    order = builds("a first build", toy, CRATES)
-    places = {name: order.index(name) for name in CRATES}
-    holds("each crate comes after those below", True,
-          all(places[below] < places[name] for name in CRATES for below in CRATES[name].split()))
+    builds("a first build", toy, CRATES)
     lines = [f"{name}: pub fn {name}()\n" for name in ("low", "left", "low", "right", "gossip_bench")]
     holds("the program", (0, f"{''.join(lines)}run \nthe scenario", ""),
           run(room, toy.program, "run", text="the scenario", GLIBC_TUNABLES=""))
     holds("what is kept isn't said to be proved, however long the look at it takes", (0, "", Text(lines=1), []),
-          (*toy.call_and_hear("scripts/build", READING="1.5"), toy.proved()))
+          (*toy.call("scripts/build", progress=True, READING="1.5"), toy.proved()))
     toy.add("low", "// a remark")
     holds("a remark", (0, "", Text("gossip_bench: proving low, 1 of 4 crates\n"), ["low"]),
-          (*toy.call_and_hear("scripts/build", PROVING="sleep 2.5"), toy.proved()))
+          (*toy.call("scripts/build", progress=True, PROVING="sleep 2.5"), toy.proved()))
     toy.add("left", "pub fn another()")
     builds("another statement", toy, ["left", "gossip_bench"])
     toy.add("low", "pub fn another()")
@@ -134,6 +121,18 @@ def try_kept(room):
     builds("a program that was written over", toy, ["gossip_bench"])
     (toy.top / "crates/left/out/proved/left.rlib/statements").write_text("pub fn others()\n")
     builds("a library that was written over", toy, ["left"])
+
+
+def try_order(room):
+    """Those come first from which the way up to the program is longest, by the seconds of their last proofs."""
+    toy = Toy(room / "order")
+    (toy.top / "crates.txt").write_text("low:\nright:\nleft: low\ngossip_bench: left right\n")
+    builds("a first build", toy, CRATES)
+    for order, seconds in ("low left right", (1, 5, 3)), ("right low left", (9, 1, 2)):
+        for name, it in zip(order.split(), seconds):
+            (toy.top / f"crates/{name}/out/seconds").write_text(str(it))
+        (toy.kit / "WHAT").write_text(order)
+        holds(f"seconds {seconds}", f"{order} gossip_bench", " ".join(builds(order, toy, CRATES, PROCESSORS="1")))
 
 
 def try_changes_under_way(room):
@@ -173,7 +172,9 @@ def try_building(room):
     starts("another text of the same size and time", toy, "run", builds=True)
     toy.program.write_text("#!/bin/sh\necho another\n")
     starts("another program", toy, "run", builds=True)
-    toy.copy(room / "a copy")
+    toy.top = shutil.copytree(toy.top, room / "a copy", copy_function=shutil.copy)
+    for path in toy.top.rglob("*"):
+        os.utime(path, (LONG_AGO, LONG_AGO))
     starts("a copy with older times", toy, "run", with_rt=False)
     toy.add("low", "// older")
     os.utime(toy.source("low"), (LONG_AGO - 1, LONG_AGO - 1))
@@ -184,7 +185,8 @@ def try_calling(room):
     """It can be called from anywhere, by links, and passes on its words, its streams and its status."""
     toy, elsewhere = built(room / "called"), room / "elsewhere"
     elsewhere.mkdir()
-    starts("another folder", toy, "run", room=elsewhere, CDPATH=str(toy.top))
+    holds("a relative path", (0, Text("", f"\nrun {TUNABLES}\n"), ""),
+          run(room, "called/a tree/gossip_bench", "run", text="", PATH=str(toy.bare), CDPATH=str(room)))
     (elsewhere / "absolute").symlink_to(toy.top / "gossip_bench")
     (elsewhere / "link").symlink_to("absolute")
     holds("links", (0, Text("", f"\na b 'c' {TUNABLES}\n"), ""),
@@ -216,6 +218,9 @@ def try_failing(room):
     toy.source("low").write_text("// low\npub fn low()\n")
     builds("the former text", toy, [])
     starts("the former text", toy, "run", with_rt=False)
+    toy.add("low", "// a remark")
+    holds("a proof that fails where the caller ignores how processes end", (1, ["low"]),
+          toy.build(PROVING="false", before=lambda: signal.signal(signal.SIGCHLD, signal.SIG_IGN))[::2])
     holds("no toolchain", (1, "gossip_bench: the command rt of the Rattle toolchain is not found\n", []),
           toy.build(with_rt=False))
     holds("nothing else is left", [], toy.left())
@@ -228,10 +233,11 @@ def try_failing(room):
 def try_toolchains(room):
     """What the scripts use of rt is in that of the toolchain at hand, if one is; where it isn't, that is told."""
     toy = Toy(room / "toolchains")
-    rt = toy.kit / "bin/rt"
-    rt.write_text(rt.read_text().replace("handles_of = ", "handles = "))
-    why = f"gossip_bench: {rt} is of another toolchain than the scripts were written for: it lacks handles_of\n"
-    holds("another toolchain", (1, why, []), toy.build())
+    text = (rt := toy.kit / "bin/rt").read_text()
+    for name in ("handles_of", "cuts_libraries", "is_program"):  # (of rt, of the class of its crates, and of a crate)
+        rt.write_text(text.replace(name, "renamed"))
+        why = f"gossip_bench: {rt} is of another toolchain than these scripts: it lacks {name}\n"
+        holds(f"a toolchain without {name}", (1, why, []), toy.build())
     if not shutil.which("rt"):
         print("rt isn't there: that it has what the scripts use isn't tried")
         return
@@ -285,20 +291,33 @@ def try_words(room):
 def try_stopping(room):
     """A build that is stopped leaves nothing, one that is killed nothing that the next one keeps. Two build once."""
     toy = Toy(room / "stopping")
-
-    def begun():
-        return started(toy.top, toy.top / "scripts/build", PATH=toy.path,
-                       PROVING="until [ -e go ]; do sleep 0.05; done")
-
-    for number in (signal.SIGTERM, signal.SIGINT, signal.SIGHUP, signal.SIGKILL):
+    waits = {"PATH": toy.path, "PROVING": "until [ -e go ]; do sleep 0.05; done"}
+    begun = functools.partial(started, toy.top, toy.top / "scripts/build", **waits)
+    numbers = signal.SIGTERM, signal.SIGINT, signal.SIGHUP
+    for number in (*numbers, signal.SIGKILL):
         with begun() as process:
             holds("a proof begins", True, waits_for(lambda: toy.proved() == ["low"]))
             status, _, _ = stopped(process, number)
         # (what is killed leaves what the next one removes)
         if number != signal.SIGKILL:
             holds(f"{number.name} ends it, and leaves nothing", (-number, []), (status, toy.left()))
+    both = [begun(before=lambda: [signal.signal(it, signal.SIG_IGN) for it in numbers]) for _ in range(2)]
+    holds("a proof begins", True, waits_for(lambda: toy.proved() == ["low"]))
+    _ = [process.send_signal(number) for process in both for number in numbers]
     (toy.top / "go").touch()
-    both = [begun(), begun()]
-    holds("two builds at once", [0, 0], [(it.communicate(timeout=60), it.returncode)[1] for it in both])
-    holds("each crate is proved once", sorted(CRATES), sorted(toy.proved()))
+    holds("two builds at once, which ignore signals as their caller does", [0, 0],
+          [(it.communicate(timeout=60), it.returncode)[1] for it in both])
+    holds("each crate is proved once", sorted(CRATES), sorted(["low", *toy.proved()]))
     holds("what was killed is gone", [], toy.left())
+
+
+def try_must_fail(room):
+    """An edit of must-fail fails where rt must-fail doesn't refuse it, or by lost names alone, or is silent of it."""
+    toy, said = Toy(room / "must-fail"), "refused, as it must be"
+    outcomes = {"a": f"{said}: a", "b": f"{said} (only because", "c": "NOT REFUSED: c", "d": "BAD EDIT: d"}
+    for name in ("README.md", *(f"{it}.edit" for it in "abcde")):
+        written(toy.source("low").parent.parent / "must-fail" / name, "")
+    told = "\n".join(f"rt: must-fail low/{name}.edit: {it}" for name, it in outcomes.items())
+    status, out, _ = toy.call("scripts/try_edits", "low", SAYING=told)
+    holds("outcomes", (1, [*"bcde"], "1 passed, 4 failed"),
+          (status, re.findall(r"must-fail low/(.)\.edit: wanted 'refused'", out), out.splitlines()[-1]))

@@ -40,7 +40,7 @@ def started(room, call, *words, text=COMPARED, given=None, out=subprocess.PIPE, 
 def run(room, *call, **how):
     """The status, standard output and standard error of a script, run in a room of its own."""
     with started(room, *call, **how) as process:
-        out, err = process.communicate(timeout=60)
+        out, err = process.communicate(timeout=300)
     return process.returncode, out, err
 
 

@@ -4,7 +4,7 @@ import tomllib
 import types
 from pathlib import Path
 
-from toolchain import imported, load_reader
+from toolchain import imported
 from tried.calls import tells
 from shared import TOP, holds, text_of
 
@@ -33,7 +33,7 @@ def toy(room, name, said=""):
 
     rt.checked = checked
     made = types.SimpleNamespace(name="toy", folder=str(folder), is_program=False)
-    return script, script.Crate(rt, load_reader(rt), made, ("edits",), room / f"{name} kept"), read
+    return script, script.Crate(rt, made, ("edits",), room / f"{name} kept"), read
 
 
 def ran(names, status=1):

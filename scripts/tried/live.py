@@ -8,7 +8,7 @@ import statistics
 from concurrent.futures import ThreadPoolExecutor
 
 from tried.calls import fails, is_running, program_that, refuse, refuses, run, started, stopped, waits_for
-from shared import PROGRAM, Text, holds
+from shared import PROGRAM, Text, holds, text_of
 from gossip_tools import live
 from gossip_tools.live_figures import Figures
 from gossip_tools.live_node import Node, decoded
@@ -20,18 +20,11 @@ WRITES_STOP = sections("load", [{"from": 16, "to": 100000, "writes": 0}])
 RESTARTED = sections("restart", [{"node": 3, "round": 8, "down": 4}])
 HEADER = "round,entries,cut,stale,greatest\n"
 WORTHLESS = 4
-# By the format, a budget that cuts, and restarts that only that format has.
-OF_FORMAT = {1: ({"budget": 5}, []), 2: ({"budget_bytes": 1023}, [{"node": 9, "round": 14, "down": 1, "forget": True}])}
 
 
 def mishaps(mode, form):
     """A scenario with all kinds of mishaps, and no chance but who meets whom and what is lost, which the trace has."""
-    budget, more = OF_FORMAT[form]
-    fields = {"format": form, "mode": mode, **budget, "nodes": 12, "keys": 3, "rounds": 24, "seed": 5,
-              "peers": "random", "rotation": "none", "choice": "cycle", "loss_ppm": 100000, "writes": 2}
-    restarts = [{"node": 2, "round": 5, "down": 2}, {"node": 7, "round": 12, "down": 0}, *more]
-    return (written(fields) + sections("partition", [{"from": 6, "to": 9, "apart": [0, 1, 2, 3, 4]}]) +
-            sections("restart", restarts) + sections("load", [{"from": 20, "to": 22, "writes": 0}]))
+    return text_of("mishaps.toml").replace("MODE", mode).replace(f"#{form} ", "")
 
 
 def columns(entry):

@@ -5,7 +5,6 @@ from tried.calls import gives, refuse, run
 from shared import PROGRAM, holds, text_of
 
 
-
 def try_fields(room):
     tables = tomllib.loads(text_of("scenarios.toml"))
     for case in tables["cases"]:

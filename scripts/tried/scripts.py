@@ -9,15 +9,7 @@ from toolchain import imported
 from tried.calls import run, written
 from shared import TOP, Text, holds, text_of
 
-ENDINGS = {
-    ("3 passed, 0 failed", 0): (3, 0), ("3 passed, 2 failed", 1): (3, 2), ("3 passed, 0 failed", 3): (3, 1),
-    ("3 passed, 0 failed", -9): (3, 1), ("", 0): (1, 0), ("", 1): (0, 1), ("no program", 3): (0, 1),
-    ("a: 3 passed, 0 failed", 0): (1, 0), ("0 passed, 0 failed", 0): (0, 0),
-}
-MARKED = {
-    "A<!--clone--> b<!--/clone--> C.": "A C.", "A.<!--clone-->\n- b\n<!--/clone-->": "A.", "A (`b`).": "A (`b`).",
-    "\n## What is proved\nA (`b` of `c`) d (e).\n## F\nG (`h`).": "\n## What is proved\nA d (e).\n## F\nG (`h`).",
-}
+TABLES = tomllib.loads(text_of("scripts.toml"))
 
 
 def try_words(room):
@@ -33,7 +25,8 @@ def try_words(room):
 
 def try_parts(room):
     """A part counts by its last line, and one that ends in another way has failed."""
-    holds("endings", ENDINGS, {it: outcome_of("a part", *it, 0, 0)[1:3] for it in ENDINGS})
+    for last, status, *counts in TABLES["endings"]:
+        holds(f"a last line '{last}' and status {status}", counts, [*outcome_of("a part", last, status, 0, 0)[1:3]])
     written(room / "three", "#!/bin/sh\necho 1 passed, 1 failed\necho 3 passed, 0 failed\n")
     written(room / "none", "#!/bin/sh\necho 3 passed\nkill -9 $$\n")
     parts, said = Parts(room), []
@@ -44,8 +37,9 @@ def try_parts(room):
 
 def try_marks(_):
     """What a page has between marks is no part of it in a package, or is said otherwise there, whatever it is."""
-    holds("marks", MARKED, {it: without_marks(it, "docs/model.md") for it in MARKED})
-    for text in ("A<!--clone--> b.", "A b<!--/clone-->.", "A<!--clone:other--> b<!--/clone-->."):
+    for text, wanted in TABLES["marked"]:
+        holds(text, wanted, without_marks(text, "docs/model.md"))
+    for text in TABLES["wrong"]:
         try:
             holds(text, "a refusal", without_marks(text, "docs/model.md"))
         except Missing as why:

@@ -17,13 +17,12 @@ def numbers_of(words, limits):
 
 
 def restarts(words):
-    numbers = [word for word in words if word != "forget" and "=" not in word]
+    numbers, forget = [word for word in words if word != "forget" and "=" not in word], words.count("forget")
     named = [word.partition("=")[::2] for word in words if "=" in word]
-    names = [name for name, _ in named] + [word for word in words if word == "forget"]
-    if len(numbers) != 5 or len(set(names)) != len(names) or set(names) - {*NAMED, "forget"}:
+    if len(numbers) != 5 or forget > 1 or len(dict(named)) != len(named) or dict(named).keys() - NAMED.keys():
         raise Refused(f"usage: {tool('gossip_restarts').calls[0]}")
     placed = {name: number(text, name, NAMED[name]) for name, text in named}
-    print(scenario.restarts(*numbers_of(numbers, OF_RESTARTS), forget="forget" in names, **placed), end="")
+    print(scenario.restarts(*numbers_of(numbers, OF_RESTARTS), forget=bool(forget), **placed), end="")
 
 
 def apart(words):

@@ -26,7 +26,7 @@ from gossip_tools.texts import speaker
 
 # What heals begins after so many intervals, of which the last ones tell the level; later with a budget below the knee.
 FILLING, LEVEL = 30, 20
-USUAL_SPLIT = 30
+USUAL_SPLIT = int(cluster.SPLIT.default)
 RESTARTING = 10
 LEAST = 2  # mean entries the format that counts bytes takes at least
 # How much more processor time a round takes, about: in bytes, in a precise mode, and with less than nodes * writes.
@@ -109,7 +109,7 @@ class Study:
         if not self.shares:
             return say("none_fits", self, **values)
         digest, alone = self.digest_bytes(self.usual), int(given / entry)
-        too_large = f", and the digest still fits no packet of {given}" if digest > given else ""
+        too_large = say("too_large", self) if digest > given else ""
         values |= {"digest": digest, "alone": alone, "part": alone / self.knee_of_all, "too_large": too_large}
         return say("none_fits_with_digest", self, **values)
 

@@ -6,7 +6,6 @@ import tomllib
 from fractions import Fraction
 
 from gossip_tools import answer, choice, cluster, files, folders, page, rules, running, scenario, study, sweep, target
-from gossip_tools.cluster import ADVISE, SPLIT
 from gossip_tools.healing import Healing
 from gossip_tools.commands import Refused, folder_of, refuse_if, the_program, workers
 from gossip_tools.progress import Progress, in_words
@@ -24,16 +23,15 @@ def numbers_of(words, file):
         except (tomllib.TOMLDecodeError, UnicodeDecodeError):
             raise Refused(say("unreadable", file=file)) from None
     if not words:
-        refuse_if(kept is None, say("no_numbers", folder=file.parent, call=ADVISE.example))
+        refuse_if(kept is None, say("no_numbers", folder=file.parent, call=cluster.ADVISE.example))
         words = [f"{name}={value}" for name, value in kept.items() if name != "program"]
-    told = cluster.told(ADVISE, words)
+    told = cluster.told(cluster.ADVISE, words)
     cluster.check_limits(told)
-    cluster.check_fanout(told["fanout"])
     refuse_if(not told["writes"], say("no_writes"))
     refuse_if(told["loss"] == 100, say("all_is_lost"))
     refuse_if(not told["interval"], say("no_interval"))
     refuse_if(told["target"] == 0, say("target_of_0"))
-    refuse_if(told["split"] > SPLIT.most, say("long_split", SPLIT))
+    refuse_if(told["split"] > cluster.SPLIT.most, say("long_split", cluster.SPLIT))
     refuse_if(told["restarts"] and told["restarts"] > told["nodes"], say("too_many_restarts", **told))
     return told, kept
 
@@ -184,8 +182,8 @@ def call_with_enough(decision, folder):
 
 def call_with(it, packet, folder):
     told = it.told | {"packet": packet}
-    words = {name: str(as_text(told[name])) for name in ADVISE.named if told[name] is not None}
-    asked = [f"{name}={text}" for name, text in words.items() if text != ADVISE.usual[name]]
+    words = {name: str(as_text(told[name])) for name in cluster.ADVISE.named if told[name] is not None}
+    asked = [f"{name}={text}" for name, text in words.items() if text != cluster.ADVISE.usual[name]]
     return shlex.join(["gossip_advise", "-o", folder, *asked])
 
 
@@ -275,7 +273,7 @@ def study_of(it, folder, program, check_sum):
 
 
 def main(words):
-    folder, words = folder_of(words, ADVISE.folder)
+    folder, words = folder_of(words, cluster.ADVISE.folder)
     hosts = running.hosts()
     look(folder)
     it = study.Study(numbers_of(words, folder / "cluster.toml")[0])

@@ -47,7 +47,7 @@ def not_run(decision, call, was_enough=False):
     if not was_enough and not it.asks_for_healing:
         return sentences(call and say("nor_run", packet=it.packet(decision.mode)))
     why = say("was_run" if was_enough else "not_run")
-    return [f"{why} {say('to_see_them')}", f"  {call}"] if call else [why]
+    return [f"{why} " + say("to_see_them"), f"  {call}"] if call else [why]
 
 
 def warnings(decision):

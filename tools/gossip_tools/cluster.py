@@ -85,6 +85,7 @@ def check_limits(it):
     refuse_if(not it["entry"], say("no_bytes"))
     for name in ("keys", "writes"):
         limited(name, it[name], say("as_one_key"))
+    refuse_if(not FANOUT.least <= it["fanout"] <= FANOUT.most, say("fanout", FANOUT, fanout=it["fanout"]))
 
 
 def is_too_large(nodes, keys):
@@ -95,10 +96,6 @@ def check_size(it):
     tenth = say("tenth", nodes=it["nodes"] // 10, packet=it["packet"] // 10)
     limited("nodes", it["nodes"], tenth)
     refuse_if(is_too_large(it["nodes"], it["keys"]), say("too_large", most=scenario.MOST_TRIPLES, tenth=tenth))
-
-
-def check_fanout(fanout):
-    refuse_if(not FANOUT.least <= fanout <= FANOUT.most, say("fanout", FANOUT, fanout=fanout))
 
 
 def counts_bytes(it, room):
@@ -128,7 +125,6 @@ def main(words):
     check_limits(it)
     check_size(it)
     fanout = int(it["fanout"])
-    check_fanout(fanout)
     rounds, seed = (int(limited(name, it[name])) for name in ("rounds", "seed"))
     loads = without_writes(rounds, fanout)
     taken = it["digest"] * scenario.digest_numbers(it["nodes"], it["keys"], it["mode"])

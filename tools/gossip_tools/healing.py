@@ -102,9 +102,8 @@ class Healing:
         said = []
         for stage in self.study.heals():
             taken = self.taken(stage, decision.most)
-            values = {"what": HEALED[stage], "ends": ENDS[stage]}
-            said.append(say("is_not_over", **values) if None in taken else
-                        say("is_over", **values, rounds=briefly(self.study, taken)))
+            over = say("not_over") if None in taken else say("over", ends=ENDS[stage], time=briefly(self.study, taken))
+            said.append(say("is_over", what=HEALED[stage], over=over))
         return say("with_reserve", self.study, said="; ".join(said), seeds=len(taken))
 
 

@@ -93,9 +93,8 @@ class Runs:
             except NotWhole as why:
                 self.missing[file.stem] = str(why)
         others = "" if self.fields else ", ".join(sorted({it.parent.name for it in folder.glob("*/*-*.toml")}))
-        why = "no_runs_but" if others else "no_runs"
-        if not folder.is_dir():
-            why = "no_folder" if folder.exists() else "nowhere"
+        there = "no_folder" if folder.exists() else "nowhere"
+        why = there if not folder.is_dir() else "no_runs_but" if others else "no_runs"
         refuse_if(not self.fields, say(why, folder=folder, others=others))
 
     def what_is_missing(self):

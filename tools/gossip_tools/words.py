@@ -84,8 +84,8 @@ class Tool(NamedTuple):
         for word in words:
             name, sign, text = word.partition("=")
             name = also.get(name, name)
-            twice = sign and name in given
-            refuse_if(twice, say("twice", name=name, text=shown(given.get(name, "")), word=shown(word)))
+            if sign and name in given:
+                raise Refused(say("twice", name=name, text=shown(given[name]), word=shown(word)))
             if not sign or name not in named:
                 raise Refused(say("unknown", word=shown(word), names=", ".join(named)) + more(word, name))
             given[name] = text

@@ -12,7 +12,7 @@ SCENARIO, ADVISE = tool("gossip_scenario"), tool("gossip_advise")
 WORDS = SCENARIO.named | ADVISE.named
 FANOUT, LOSS, SPLIT = (WORDS[name] for name in ("fanout", "loss", "split"))
 say = speaker("cluster")
-JOBS = "--jobs", "-j", "jobs", "JOBS"  # what others call that
+JOBS = "--jobs", "-j", "jobs", "JOBS"  # how it is asked for in other tools
 # How a number looks, how one that is taken, and what to say of the others.
 SHAPES = {
     "whole": ("[0-9]+", "[0-9]{1,19}", "19 are the most"),

@@ -80,7 +80,7 @@ class Tool(NamedTuple):
     def given(self, words, more):
         """The texts of NAME=VALUE by their names, as they were given; `more` is what is said of a word that is none."""
         given, named = {}, self.named
-        also = {it.also: name for name, it in named.items()}
+        also = {it.also: name for name, it in named.items() if it.also}
         for word in words:
             name, sign, text = word.partition("=")
             name = also.get(name, name)

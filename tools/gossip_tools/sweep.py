@@ -7,7 +7,7 @@ import shlex
 import subprocess
 import sys
 
-from gossip_tools import files, folders, running, scenario
+from gossip_tools import commands, files, folders, running, scenario
 from gossip_tools.commands import Refused, fault_of, folder_of, refuse_if, remark, shown, the_program, workers
 from gossip_tools.progress import Progress
 from gossip_tools.texts import speaker
@@ -120,7 +120,7 @@ def carry_out(path, text, runs, program, progress, hosts):
 
 def main(words):
     path, words = folder_of(words, TOOL.folder)
-    refuse_if(not words, f"usage: {TOOL.calls[0]}")
+    refuse_if(not words, commands.say("usage", TOOL))
     choices = choices_of(words)
     hosts = running.hosts()
     workers()

@@ -5,8 +5,8 @@ Pictures need gnuplot, and a sweep over several machines GNU parallel.
 
   starting   how a tool starts and ends, whatever streams are closed and signals come
   commands   how a tool answers its caller: help, refusals, faults, the program
-  words      what words.toml declares of a tool's words: from that come its help, its page for man and completion
-  texts      the texts beside the modules, and what said.toml has of answers, refusals and pages
+  words      what words.toml declares of a tool's words: by it calls are read, and help, page for man, completion made
+  texts      the texts beside the modules, and what said.toml has of answers, refusals, notes and pages
   scenario   scenarios and their sections; `cluster` has the numbers that they are made of, `sections` two tools
   sweep      runs of one scenario with other values of its fields, over `files`, `folders`, `running` and `progress`
   read       reports and what they say of some rounds

@@ -5,16 +5,13 @@ import sys
 import tomllib
 from fractions import Fraction
 
-from gossip_tools import answer, choice, cluster, files, page, rules, running, scenario, study, sweep, target
+from gossip_tools import answer, choice, cluster, files, folders, page, rules, running, scenario, study, sweep, target
 from gossip_tools.healing import Healing
 from gossip_tools.commands import Refused, folder_of, refuse_if, the_program, workers
 from gossip_tools.progress import Progress, in_words
 from gossip_tools.texts import speaker
 
-USUAL = {"digest": "0", "shared": "yes", "fanout": "1", "loss": "0", "interval": "1", "restarts": None, "forget": "no",
-         "split": str(study.USUAL_SPLIT), "mode": None, "count": None, "hours": None, "target": None}
 say = speaker("advise")
-CALL = "gossip_advise nodes=1000 keys=4 writes=1 entry=40 packet=64000 digest=20 loss=1"
 
 
 def numbers_of(words, file):
@@ -24,18 +21,17 @@ def numbers_of(words, file):
         try:
             kept = tomllib.loads(file.read_bytes().decode())
         except (tomllib.TOMLDecodeError, UnicodeDecodeError):
-            raise Refused(f"{file} can't be read: name a new folder by -o.") from None
+            raise Refused(say("unreadable", file=file)) from None
     if not words:
-        refuse_if(kept is None, say("no_numbers", folder=file.parent, call=CALL))
+        refuse_if(kept is None, say("no_numbers", folder=file.parent, call=cluster.ADVISE.example))
         words = [f"{name}={value}" for name, value in kept.items() if name != "program"]
-    told = cluster.told(words, USUAL, CALL, {"packet": "target"})
+    told = cluster.told(cluster.ADVISE, words)
     cluster.check_limits(told)
-    cluster.check_fanout(told["fanout"])
     refuse_if(not told["writes"], say("no_writes"))
     refuse_if(told["loss"] == 100, say("all_is_lost"))
-    refuse_if(not told["interval"], "an interval has seconds.")
-    refuse_if(told["target"] == 0, "target is in seconds, and above 0.")
-    refuse_if(told["split"] > 100000, "split is a number of intervals up to 100000.")
+    refuse_if(not told["interval"], say("no_interval"))
+    refuse_if(told["target"] == 0, say("target_of_0"))
+    refuse_if(told["split"] > cluster.SPLIT.most, say("long_split", cluster.SPLIT))
     refuse_if(told["restarts"] and told["restarts"] > told["nodes"], say("too_many_restarts", **told))
     return told, kept
 
@@ -53,7 +49,7 @@ def keep(folder, told, kept, program):
     if kept is None:
         files.put(folder / "cluster.toml", scenario.written(fields))
     elif differ := sorted(it for it in fields.keys() | kept.keys() if fields.get(it) != kept.get(it)):
-        raise Refused(f"{folder} has the answer for another {', '.join(differ)}: name a new folder by -o.")
+        raise Refused(say("another", folder=folder, differ=", ".join(differ)))
     return check_sum
 
 
@@ -98,9 +94,9 @@ class Stages:
         seeds = {pair: made[pair] for pair in pairs}
         text, runs = self.runs(stage, seeds)
         if to_do := [name for name in runs if f"{stage}/{name}" not in self.progress.over]:
-            left = f", {in_words(self.progress.left())} in all" if self.progress.left() else ""
-            rounds = f"{self.study.rounds(stage)} rounds{self.study.shorter(stage)}"
-            print(f"{stage}: {len(to_do)} runs of {rounds}{left}", file=sys.stderr, flush=True)
+            left, it = self.progress.left(), self.study
+            said = say("runs", stage=stage, runs=len(to_do), rounds=it.rounds(stage), shorter=it.shorter(stage))
+            print(said + (say("left", left=in_words(left)) if left else ""), file=sys.stderr, flush=True)
         sweep.carry_out(self.folder / stage, text, runs, self.program, self.progress, os.environ.get("HOSTS"))
         return study.Found(self.study, stage, self.folder / stage, seeds)
 
@@ -173,9 +169,9 @@ def look(folder):
     """Refuses a folder with other things in it, what is no folder, and a name that an answer can't have in UTF-8."""
     name = str(folder)
     refuse_if(name != name.encode(errors="ignore").decode(), say("not_utf8", name=ascii(name)))
-    refuse_if(folder.exists() and not folder.is_dir(), f"{folder} isn't a folder: name another one.")
+    refuse_if(folder.exists() and not folder.is_dir(), folders.say("no_folder", path=folder))
     if folder.exists() and not (folder / "cluster.toml").exists() and {it.name for it in folder.iterdir()} - {"lock"}:
-        raise Refused(f"{folder} isn't empty and has no answer: name a new folder by -o.")
+        raise Refused(say("no_answer", folder=folder))
 
 
 def call_with_enough(decision, folder):
@@ -186,8 +182,8 @@ def call_with_enough(decision, folder):
 
 def call_with(it, packet, folder):
     told = it.told | {"packet": packet}
-    words = {name: str(as_text(told[name])) for name in (*cluster.NEEDED, *USUAL) if told[name] is not None}
-    asked = [f"{name}={text}" for name, text in words.items() if text != USUAL.get(name)]
+    words = {name: str(as_text(told[name])) for name in cluster.ADVISE.named if told[name] is not None}
+    asked = [f"{name}={text}" for name, text in words.items() if text != cluster.ADVISE.usual[name]]
     return shlex.join(["gossip_advise", "-o", folder, *asked])
 
 
@@ -203,13 +199,13 @@ def first_answer(it, stages, check_sum):
     """The first answer, which the folder has until the last one comes: what is chosen, bounds it and heals."""
     folder, told = stages.folder, []
     if it.least_rounds:
-        told = tell(folder, [f"By a sum, of the worst staleness: {it.why_at_least()}."])
+        told = tell(folder, [say("by_sum", it)])
     first = stages.decide(it.steady_stages()[0], it.wanted(it.usual))
     told = tell(folder, answer.first_words(first, call_with_enough(first, folder)), told)
     if not first.suffices:
         return first
     is_level = stages.is_level(first)
-    about_target = [f"The target is {target.judged(first)[1]}."] if it.target and is_level else []
+    about_target = [say("target", judged=target.judged(first)[1])] if it.target and is_level else []
     told = tell(folder, [first.bound.added(), *about_target], told)
     if not is_level:
         return first
@@ -219,7 +215,7 @@ def first_answer(it, stages, check_sum):
         healed |= {stage: stages.carry_out(stage, {(first.budget, first.mode)}) for stage in of_these}
         healing = Healing(it, first.mode, healed)
         told = tell(folder, healing.lines(tells, first.budget), told)
-    page.make(folder, first, healing, stages.made, check_sum, head="First answer. ")
+    page.make(folder, first, healing, stages.made, check_sum, head=say("first"))
     tell(folder, answer.last_of_first_words(first, folder), told)
     return first
 
@@ -277,7 +273,7 @@ def study_of(it, folder, program, check_sum):
 
 
 def main(words):
-    folder, words = folder_of(words, "advice")
+    folder, words = folder_of(words, cluster.ADVISE.folder)
     hosts = running.hosts()
     look(folder)
     it = study.Study(numbers_of(words, folder / "cluster.toml")[0])
@@ -294,4 +290,4 @@ def main(words):
                 running.start(program, hosts)
             study_of(study.Study(told), folder, program, keep(folder, told, kept, program))
     except running.Stopped as stopped:
-        raise Refused(f"stopped by {stopped}; the same command goes on.", stopped.status) from None
+        raise Refused(say("stopped", by=stopped), stopped.status) from None

@@ -4,7 +4,6 @@ from gossip_tools.measures import lasting, rows, sentences, span
 from gossip_tools.texts import speaker
 
 FLOOR = "the floor"
-WHAT_HEALS = "A split, a restart and a rolling restart"
 SUPPOSED = 20  # the bytes of a number in a sum that shows what a digest that wasn't told would take
 say = speaker("answer")
 
@@ -16,7 +15,7 @@ def ended(said):
 def first_words(decision, call=""):
     """The first answer, from few intervals: what is chosen, and what it can't say yet."""
     it, to_knee = decision.study, decision.to_knee()
-    since = f"{it.intervals(decision.stage)} {it.unit}{f' of {it.fanout} rounds' if it.fanout > 1 else ''}"
+    since = say("intervals" if it.fanout > 1 else "rounds", it, intervals=it.intervals(decision.stage))
     if decision.suffices:
         return sentences(
             say("first", decision, since=since), ended(decision.tells_all()), say("first_staleness", decision),
@@ -26,16 +25,17 @@ def first_words(decision, call=""):
     longer = " and then ".join(str(it.rounds(stage)) for stage in it.later_stages(decision.stage))
     return sentences(
         say("first_without", decision, since=since), decision.most_that_fits(), decision.forgetful(),
-        to_knee and f"{to_knee}. {else_helps(decision)}", *limits(decision),
+        to_knee and f"{ended(to_knee)} {else_helps(decision)}", *limits(decision),
         longer and say("seen_later", longer=longer),
-        *([say("run_if_enough", what=WHAT_HEALS), f"  {call}"] if call and it.asks_for_healing else []))
+        *([say("run_if_enough"), f"  {call}"] if call and it.asks_for_healing else []))
 
 
 def last_of_first_words(decision, folder):
     """What to know where one stops at the first answer, a budget being enough."""
     it = decision.study
     return sentences(
-        it.leaves() and rules.DOWN_FOR_LONGER, it.heals() and decision.reserve() and say("for_packet", decision),
+        it.leaves() and healing.say("down_for_longer"),
+        it.heals() and decision.reserve() and say("for_packet", decision),
         say("until_then", answer=folder / "answer.txt", page=folder / "report.html"))
 
 
@@ -46,13 +46,13 @@ def not_run(decision, call, was_enough=False):
         return []
     if not was_enough and not it.asks_for_healing:
         return sentences(call and say("nor_run", packet=it.packet(decision.mode)))
-    why = say("was_run" if was_enough else "not_run", what=WHAT_HEALS)
-    return [f"{why} To see them with a budget that is:", f"  {call}"] if call else [why]
+    why = say("was_run" if was_enough else "not_run")
+    return [f"{why} " + say("to_see_them"), f"  {call}"] if call else [why]
 
 
 def warnings(decision):
     it, to_knee = decision.study, decision.to_knee()
-    helps = say("larger_packet", way_out=way_out(decision)) if to_knee else "Less loss or fewer writes"
+    helps = say("larger_packet", way_out=way_out(decision)) if to_knee else say("less_loss")
     return sentences(
         not decision.suffices and say("not_level", helps=helps),
         decision.suffices and to_knee and say("lags", decision, else_helps=else_helps(decision)),
@@ -65,10 +65,10 @@ def warnings(decision):
 def way_out(decision):
     """What helps where the packet can't grow."""
     it = decision.study
-    own = "a delta in packets of its own (shared=no), " if it.shares else ""
+    own = say("own_packets") if it.shares else ""
     enough = -(-rules.knee(it.all_nodes, it.keys, it.writes) // decision.whole_budget())
     product = it.knee_name.partition(" / ")[0]
-    calls = f"fanout={enough}, as {product} / {enough} entries fit" if enough <= cluster.MOST_CALLS else "fanout="
+    calls = say("calls" if enough <= cluster.FANOUT.most else "more_calls", enough=enough, product=product)
     return own + say("way_out", calls=calls)
 
 
@@ -82,7 +82,7 @@ def limits(decision):
     numbers = it.digest_numbers(decision.mode)
     fits = it.told["shared"] == "yes" or it.digest_bytes(decision.mode) <= given
     largest = max(given, it.packet(decision.mode)) if decision.to_knee() else given
-    in_one = f", and packet={packet} fits in one" if decision.suffices and packet <= rules.DATAGRAM < given else ""
+    in_one = say("in_one", packet=packet) if decision.suffices and packet <= rules.DATAGRAM < given else ""
     no_room = [mode for mode in scenario.MODES if it.rooms[mode] < 1]
     return sentences(
         not size and say("no_digest", numbers=numbers, bytes=numbers * SUPPOSED),
@@ -115,8 +115,8 @@ def left_out(decision):
 
 
 def heads(decision):
-    return [line for head, said in (("Mind", warnings(decision)), ("Too close to call", decision.too_close()),
-                                    ("Left out for this cluster", left_out(decision))) if said
+    return [line for head, said in ((say("mind"), warnings(decision)), (say("too_close"), decision.too_close()),
+                                    (say("not_looked_at"), left_out(decision))) if said
             for line in ("", f"{head}:", *(f"  - {one}" for one in said))]
 
 
@@ -131,11 +131,11 @@ def in_words(decision, heals, missing=(), more=()):
     it, in_mode = decision.study, "" if decision.suffices else f", in {decision.mode}"
     lines = [say("none_is_enough", decision)]
     if decision.suffices:
-        lines = sentences(f"Take {decision.takes()}.", ended(decision.tells_all()))
+        lines = sentences(say("take", decision), ended(decision.tells_all()))
     lines += ["", *of_staleness(decision, more), *rows(
         ("more than that" if decision.more_is_worse() else "a reserve", decision.reserve()),
         (it.knee_name, decision.why_not_knee()),
-        ("share cut", f"{span(decision.cut, 2)} % of what was lacking{in_mode}"))]
+        ("share cut", say("cut", cut=span(decision.cut, 2), in_mode=in_mode)))]
     if heals:
         lines += heals.lines(it.heals(), decision.budget)
         lines += rows(("with the reserve", heals.with_reserve(decision)))

@@ -10,7 +10,7 @@ say = speaker("choice")
 
 def by_seeds(one, other):
     less, more, seeds = rules.seed_by_seed(one, other)
-    return f"less under {less} of {seeds} seeds, more under {more}"
+    return say("by_seeds", less=less, more=more, seeds=seeds)
 
 
 class Bound:
@@ -27,7 +27,7 @@ class Bound:
     def runs(self):
         first, last = self.window
         rounds, _, time = lasting(self.study, [last - first + 1]).partition(", ")
-        return f"runs of {rounds} ({time})"
+        return say("runs", rounds=rounds, time=time)
 
     def holds_in(self):
         return f"{rules.IN_MOST} {self.runs()}"
@@ -43,7 +43,7 @@ class Bound:
 
 class Decision:
     """The mode and the budget that follow from the runs of a stage."""
-    why_empty = "smaller budgets are run with the chosen mode, down to the first that is worse, for the last answer"
+    why_empty = say("why_empty")
     bound_of_most = None  # what bounds all that fits, where a target asks for that
     floor = None  # what nothing goes below, for each seed: empty where no run shows it, None where none was made
     is_met = True  # whether it is what was looked for: with a target and no packet, a budget that keeps to it
@@ -139,8 +139,7 @@ class Decision:
         return self.suffices and self.study.has_packet
 
     def times(self):
-        of_knee = "" if self.budget == self.study.knee else f"{self.of_knee():.2g} times "
-        return of_knee + self.study.knee_name
+        return self.study.knee_name if self.budget == self.study.knee else say("times", self)
 
     def whole_budget(self):
         return self.study.whole(self.budget)
@@ -158,26 +157,23 @@ class Decision:
     def room(self):
         it, entries, why = self.study, self.whole_budget(), [self.times()]
         if self.budget == it.nodes * it.keys:
-            why = ["nodes * keys, above which nothing changes", *(name for name in why if name != "nodes * keys")]
+            why = [say("all_keys_fit"), *(name for name in why if name != "nodes * keys")]
         elif entries == it.fits_of_all[self.mode]:
-            why = ["what fits", *why]
+            why = [say("what_fits"), *why]
         return say("room", self, why="; ".join(why))
 
     def all_that_fits(self):
         it, entries = self.study, self.study.whole(self.most)
-        if entries == it.fits_of_all[self.mode]:
-            return f"the {entries} entries that fit"
-        return f"{entries} entries ({self.most / it.knee:.2g} times {it.knee_name})"
+        name = "all_that_fits" if entries == it.fits_of_all[self.mode] else "all_of_use"
+        return say(name, self, entries=entries, times=self.most / it.knee)
 
     def headline(self):
-        few = ", which are too few" if self.is_too_small() else ""
-        return f"{self.mode} with {self.whole_budget()} entries{few}" if self.suffices else \
-            f"no budget that fits is enough: {self.no_level()}"
+        return say("not_enough" if not self.suffices else "too_few" if self.is_too_small() else "headline", self)
 
     def takes(self):
         it = self.study
         if not self.is_too_small():
-            return say("takes", self, digest="with the digest " if it.shares else "")
+            return say("takes_with_digest" if it.shares else "takes", self)
         at_knee = briefly(it, self.worst_with(it.knee, self.mode))
         return say("too_small", self, worst=lasting(it, self.worst), packet=it.packet(self.mode), at_knee=at_knee)
 
@@ -186,10 +182,10 @@ class Decision:
         it, last, modes = self.study, self.window[1], " and ".join(", ".join(self.contenders).rsplit(", ", 1))
         has_left = any(rules.has_left_the_diagonal(figure, last) for figure in self.figures.values())
         why = say("none_is_ahead", modes=modes) if has_left else say("on_the_diagonal")
-        mode = f" No mode can be preferred with that: {why}"
+        mode = say("no_mode", why=why)
         if self.ahead or self.against and len(self.contenders) == 1:
             mode = say("is_ahead", self, most=briefly(it, self.figures[self.mode]), last=last)
-        return f"The most that fits: {self.room()}.{mode if len(it.fits) > 1 else ''}"
+        return say("most_that_fits", self, mode=mode if len(it.fits) > 1 else "")
 
     def why_dropped(self):
         kept = self.contenders
@@ -200,25 +196,23 @@ class Decision:
 
     def no_level(self):
         """That no budget that fits has a level that the longest runs can show, of those that choose or bound."""
-        keeps, within = ("keeps", f"in {self.bound.runs()}") if self.bound else ("has", f"within {self.window[1]}")
         level = rules.highest_level((self.bound or self).window)
-        return f"none {keeps} a level of at most {level} rounds {within}"
+        return say("keeps_no_level" if self.bound else "has_no_level", self, level=level)
 
     def at_most(self):
         """The worst staleness to reckon with for the whole cluster, of which a tenth was run."""
-        more = "up to" if rules.tenth_holds(self.of_knee()) else "more than"
-        return f"{more} {lasting(self.study, [self.most_rounds()])}, for {self.study.all_nodes} nodes"
+        name = "up_to" if rules.tenth_holds(self.of_knee()) else "more_than"
+        return say(name, self, rounds=lasting(self.study, [self.most_rounds()]))
 
     def staleness(self):
         it = self.study
         if not self.suffices:
-            by_sum = f"; by a sum at least {it.least_rounds}" if it.least_rounds else ""
-            return f"not known: {self.no_level()}{by_sum}"
+            return say("known_by_sum" if it.least_rounds else "not_known", self)
         if self.bound is None:
-            return f"{lasting(it, self.worst)} so far{it.nodes_run}"
+            return say("so_far", self, had=lasting(it, self.worst))
         if it.parts > 1:
             return say("of_a_tenth", self, oldest=in_rounds([max(self.bound.worst)]))
-        return f"{self.bound.holds_in()} no copy is older than {lasting(it, [self.most_rounds()])}"
+        return say("bounded", self, oldest=lasting(it, [self.most_rounds()]))
 
     def above_floor(self):
         """What no mode and no budget goes below; empty where it wasn't looked at."""
@@ -238,11 +232,11 @@ class Decision:
         if self.budget >= it.knee:
             return ""
         if self.knee_suffices():
-            brings = f", and {briefly(it, self.worst_with(it.knee, self.mode))} in the runs that chose"
+            brings = say("brings", had=briefly(it, self.worst_with(it.knee, self.mode)))
         elif (it.knee, self.mode) in self.found.rows:
-            brings = ", where `greatest` isn't level either"
+            brings = say("knee_rises_too")
         return say("to_knee", self, packet=it.packet(self.mode), entries=it.whole(it.knee),
-                   digest=" and the digest" if it.shares else "", brings=brings)
+                   digest=say("and_digest") if it.shares else "", brings=brings)
 
     def tells_all(self):
         """What to reckon with where a node tells all its keys as it starts; empty where no groups forget."""
@@ -251,10 +245,9 @@ class Decision:
             return ""
         entries, name = it.tells_all()
         needed = it.packet(self.mode, entries)
-        more = ", more than yours" if it.has_packet and needed > it.told["packet"] else ""
-        if entries <= self.whole_budget():
-            more = "; this budget has room for them"
-        return say("all_keys", name=name, entries=entries, packet=needed, more=more)
+        more = "more_than_yours" if it.has_packet and needed > it.told["packet"] else ""
+        more = "has_room" if entries <= self.whole_budget() else more
+        return say("all_keys", name=name, entries=entries, packet=needed, more=more and say(more))
 
     def forgetful(self):
         """What counts where nodes forget and the budget is short; empty where that isn't so."""
@@ -278,7 +271,7 @@ class Decision:
             return ""
         at_knee = say("at_knee", self, entries=it.whole(it.knee))
         if not self.knee_suffices():
-            return f"{at_knee} `greatest` isn't level"
+            return say("knee_rises", at_knee=at_knee)
         worst, figure = self.worst_with(it.knee, self.mode), self.figures[self.mode]
         said = {"at_knee": at_knee, "had": briefly(it, worst)}
         if rules.is_better(self.worst, worst):
@@ -294,13 +287,12 @@ class Decision:
             return []
         close = [("", it.most(mode), mode) for mode, figure in self.figures.items()
                  if mode != self.mode and rules.are_close(figure, self.worst)]
-        close += [("as few as ", smaller, self.mode)] if (smaller := self.smaller()) else []
+        close += [(say("as_few_as"), smaller, self.mode)] if (smaller := self.smaller()) else []
         for few, budget, mode in close:
             worst = self.worst_with(budget, mode)
             more = say("still_not_taken", self) if few and self.budget >= it.knee else ""
             said.append(say("close", mode=mode, few=few, entries=it.whole(budget), had=briefly(it, worst),
                             has=span(self.worst), seeds=by_seeds(worst, self.worst), more=more))
-        others = "other mode and smaller budget" if len(self.figures) > 1 else "smaller budget"
         below = [self.worst_with(budget, self.mode) for budget in self.of_mode() if budget < self.budget]
-        than = "" if all(rules.is_better(self.worst, worst) for worst in below) else " than this one or another one"
-        return said or [f"none: each {others} that was run is worse{than}"]
+        than = "" if all(rules.is_better(self.worst, worst) for worst in below) else say("than_another")
+        return said or [say("none_is_close" if len(self.figures) > 1 else "no_budget_is_close", than=than)]

@@ -4,27 +4,20 @@ from fractions import Fraction
 
 from gossip_tools import rules, scenario
 from gossip_tools.commands import Refused, refuse_if
-from gossip_tools.scenario import USUAL_MODE, limited
+from gossip_tools.scenario import limited
 from gossip_tools.texts import speaker
-from gossip_tools.words import TEXTS, values_of
+from gossip_tools.words import tool
 
-DECIMALS = ("entry", "loss", "interval", "hours", "target")
-BYTES = ("entry", "packet", "digest")
-USUAL = {"digest": "0", "loss": "0", "fanout": "1", "rounds": None, "seed": "1", "mode": USUAL_MODE, "count": None}
-USUAL_ROUNDS = 60
+SCENARIO, ADVISE = tool("gossip_scenario"), tool("gossip_advise")
+WORDS = SCENARIO.named | ADVISE.named
+FANOUT, LOSS, SPLIT = (WORDS[name] for name in ("fanout", "loss", "split"))
 say = speaker("cluster")
-MOST_CALLS = 16  # others that a node calls in an interval
-# What is asked of the wrong tool, or in another way.
-ELSEWHERE = {name: f" {said}" for said, names in {
-    "For {}= there is gossip_scenario, and gossip_sweep runs what that prints.": ("rounds", "seed"),
-    "For {}= there is gossip_advise.": ("shared", "interval", "restarts", "forget", "split", "hours", "target"),
-    "How many runs go at once is said in front of the call, as JOBS=2.": ("--jobs", "-j", "jobs", "JOBS"),
-}.items() for name in names}
-NEEDED = ("nodes", "keys", "writes", "entry", "packet")
-ALIASES = {"delta": "packet"}  # names that are taken for others
+JOBS = "--jobs", "-j", "jobs", "JOBS"  # how it is asked for in other tools
 # How a number looks, how one that is taken, and what to say of the others.
-WHOLE = "[0-9]+", "[0-9]{1,19}", "19 are the most"
-DECIMAL = r"[0-9]+(\.[0-9]+)?", r"[0-9]{1,18}(\.[0-9]{1,9})?", "18 are the most, and 9 behind the point"
+SHAPES = {
+    "whole": ("[0-9]+", "[0-9]{1,19}", "19 are the most"),
+    "decimal": (r"[0-9]+(\.[0-9]+)?", r"[0-9]{1,18}(\.[0-9]{1,9})?", "18 are the most, and 9 behind the point"),
+}
 
 
 def plain(number):
@@ -32,72 +25,67 @@ def plain(number):
     return str(int(number)) if number == int(number) else f"{float(number):.9f}".rstrip("0")
 
 
-def instead(name, text):
+def instead(it, text):
     """What to write instead of a text that isn't the number it should be; empty where nothing is known."""
-    decimal = re.fullmatch(r"[0-9]+\.[0-9]+", text)
-    unit = re.fullmatch(r"([0-9]+) ?([kKmM])i?[bB]?", text)
-    if name == "writes" and decimal and Fraction(text).denominator > 1:
+    decimal, time = re.fullmatch(r"[0-9]+\.[0-9]+", text), re.fullmatch(r"([0-9]+) ?(ms|s|sec|m|min)", text)
+    many, thousands = re.fullmatch(r"([0-9]+) ?([kKmM])i?[bB]?", text), re.fullmatch("([0-9]+)[kK]", text)
+    if it.name == "writes" and decimal and Fraction(text).denominator > 1:
         whole, part = divmod(Fraction(text), 1)
         return say("part_of_writes", whole=whole, part=part.limit_denominator(20), more=whole + 1)
-    if name in BYTES and unit:
-        thousands, kibi = (int(unit[1]) * it**(1 if unit[2] in "kK" else 2) for it in (1000, 1024))
-        return f"write {name}={thousands}, or {name}={kibi} where K is 1024"
-    if name not in DECIMALS and (thousands := re.fullmatch("([0-9]+)[kK]", text)):
-        return f"write {name}={int(thousands[1]) * 1000}"
-    if name == "loss" and text.endswith("%"):
-        return f"it is in per cent already, so write {name}={text[:-1]}"
-    if name in ("interval", "target") and (time := re.fullmatch(r"([0-9]+) ?(ms|s|sec|m|min)", text)):
+    if it.unit == "bytes" and many:
+        values = (int(many[1]) * step**(1 if many[2] in "kK" else 2) for step in (1000, 1024))
+        return say("thousands", it, thousands=next(values), kibi=next(values))
+    if it.kind == "whole" and thousands:
+        return say("number", it, number=int(thousands[1]) * 1000)
+    if it.unit == "per cent" and text.endswith("%"):
+        return say("in_unit", it, number=text[:-1])
+    if it.unit == "seconds" and time:
         seconds = int(time[1]) * {"ms": Fraction(1, 1000), "m": 60, "min": 60}.get(time[2], 1)
-        return f"it is in seconds, so write {name}={plain(seconds)}"
-    if name == "split" and re.fullmatch(r"[0-9.]+ ?[a-z]+", text):
-        return "it is in intervals, so divide the time by the seconds of an interval"
+        return say("in_seconds", it, number=plain(seconds))
+    if it.unit == "intervals" and re.fullmatch(r"[0-9.]+ ?[a-z]+", text):
+        return say("in_intervals")
     if re.fullmatch("[0-9]{1,3}([,_' ][0-9]{3})+", text):
-        return f"write {name}={re.sub('[^0-9]', '', text)}"
+        return say("number", it, number=re.sub("[^0-9]", "", text))
     return ""
 
 
 def number_of(name, text):
-    shape, taken, most = DECIMAL if name in DECIMALS else WHOLE
+    it = WORDS[name]
+    shape, taken, most = SHAPES[it.kind]
     if re.fullmatch(taken, text):
         return Fraction(text)
-    refuse_if(re.fullmatch(shape, text), f"{name} has too many digits in '{text}': {most}.")
-    kind = f"{'' if name in DECIMALS else 'whole '}number{' of bytes' if name in BYTES else ''}"
-    advice = instead(name, text)
-    raise Refused(f"{name} is a {kind} from 0 on, which '{text}' isn't{': ' if advice else ''}{advice}.")
+    refuse_if(re.fullmatch(shape, text), say("digits", it, text=text, most=most))
+    advice, whole = instead(it, text), "whole " if it.kind == "whole" else ""
+    unit = " of bytes" if it.unit == "bytes" else ""
+    raise Refused(say("no_number", it, whole=whole, unit=unit, text=text, advice=f": {advice}" if advice else ""))
 
 
-def told(words, usual, call, instead_of=None):
-    """The values of the words by their names, numbers as such. A whole call is shown where a name is missing that is
-    needed, and isn't one that another may stand for, as `instead_of` has them."""
-    names = dict.fromkeys((*NEEDED, *usual))
-
+def told(tool, words):
+    """The values of the words of a tool by their names, numbers as such. What isn't given is as usual."""
     def more(word, name):
-        if name in names:
-            return f" Write {word}=VALUE, without a space."
-        return ELSEWHERE.get(name, " See --help." if word.startswith("-") else "").format(name)
+        where = {"no_value": tool.named, "for_scenario": SCENARIO.named, "for_advise": ADVISE.named, "jobs": JOBS}
+        why = next((why for why, names in where.items() if name in names), "help" if word.startswith("-") else "")
+        return why and say(why, word=word, name=name)
 
-    values = values_of(words, names, more, ALIASES)
-    for name in NEEDED:
-        if name not in values and (instead_of or {}).get(name) not in values:
-            raise Refused(f"{name}= is missing; {call} is a whole call.")
-    values = {**dict.fromkeys(NEEDED), **usual, **values}
-    for name, text in values.items():
-        if name not in TEXTS:
-            values[name] = None if text is None else number_of(name, text)
-        elif text not in (None, *TEXTS[name]):
-            raise Refused(f"{name} is one of {', '.join(TEXTS[name])}.")
+    given = tool.given(words, more)
+    values = tool.usual | given
+    for name, it in tool.named.items():
+        if it.values:
+            refuse_if(values[name] not in (None, *it.values), say("one_of", it, values=", ".join(it.values)))
+        elif values[name] is not None:
+            values[name] = number_of(name, values[name])
+            values[name] *= values[it.times] if it.times and name not in given else 1
     return values
 
 
 def check_limits(it):
     """Refuses numbers of which no scenario can be made, and says what to do instead. The size is no part of it."""
-    refuse_if(it["loss"] > 100, f"loss is in per cent, so from 0 to 100, and not {plain(it['loss'])}.")
-    refuse_if((it["loss"] * 10000).denominator != 1, "loss has at most four decimals.")
-    refuse_if(not it["entry"], "an entry has bytes.")
+    refuse_if(it["loss"] > LOSS.most, say("per_cent", LOSS, loss=plain(it["loss"])))
+    refuse_if((it["loss"] * 10000).denominator != 1, say("decimals"))
+    refuse_if(not it["entry"], say("no_bytes"))
     for name in ("keys", "writes"):
-        least, most = scenario.LIMITS[name]
-        refuse_if(it[name] > most, say("over_the_limit", label=name, number=it[name], least=least, most=most))
-        limited(name, it[name])
+        limited(name, it[name], say("as_one_key"))
+    refuse_if(not FANOUT.least <= it["fanout"] <= FANOUT.most, say("fanout", FANOUT, fanout=it["fanout"]))
 
 
 def is_too_large(nodes, keys):
@@ -105,16 +93,9 @@ def is_too_large(nodes, keys):
 
 
 def check_size(it):
-    why = f"nodes would be {it['nodes']}, and a scenario takes 2 to 4096"
-    if it["nodes"] <= scenario.LIMITS["nodes"][1]:
-        why = f"nodes * nodes * keys is above {scenario.MOST_TRIPLES}, the most that a scenario takes"
-    refuse_if(is_too_large(it["nodes"], it["keys"]),
-              say("too_large", why=why, nodes=it["nodes"] // 10, packet=it["packet"] // 10))
-    limited("nodes", it["nodes"])
-
-
-def check_fanout(fanout):
-    refuse_if(not 1 <= fanout <= MOST_CALLS, f"a node calls 1 to {MOST_CALLS} peers in an interval, not {fanout}.")
+    tenth = say("tenth", nodes=it["nodes"] // 10, packet=it["packet"] // 10)
+    limited("nodes", it["nodes"], tenth)
+    refuse_if(is_too_large(it["nodes"], it["keys"]), say("too_large", most=scenario.MOST_TRIPLES, tenth=tenth))
 
 
 def counts_bytes(it, room):
@@ -140,13 +121,12 @@ def remarks(it, room, in_bytes, loads):
 
 
 def main(words):
-    it = told(words, USUAL, "gossip_scenario nodes=300 keys=4 writes=1 entry=40 packet=60000")
+    it = told(SCENARIO, words)
     check_limits(it)
     check_size(it)
     fanout = int(it["fanout"])
-    check_fanout(fanout)
-    rounds = limited("rounds", USUAL_ROUNDS * fanout if it["rounds"] is None else int(it["rounds"]))
-    seed, loads = limited("seed", it["seed"]), without_writes(rounds, fanout)
+    rounds, seed = (int(limited(name, it[name])) for name in ("rounds", "seed"))
+    loads = without_writes(rounds, fanout)
     taken = it["digest"] * scenario.digest_numbers(it["nodes"], it["keys"], it["mode"])
     room = it["packet"] - taken
     refuse_if(it["packet"] < it["entry"], say("packet_is_too_small", packet=it["packet"], entry=plain(it["entry"])))

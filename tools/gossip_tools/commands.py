@@ -8,9 +8,10 @@ import signal
 import sys
 
 from gossip_tools import VERSION
+from gossip_tools.texts import speaker
 
-MOST_DIGITS = 18
 MOST_LETTERS = 60  # of a word that are told
+say = speaker("commands")
 
 
 class Refused(Exception):
@@ -38,23 +39,13 @@ def shown(word):
     return word if len(word) <= MOST_LETTERS else f"{word[:MOST_LETTERS]}.."
 
 
-def number(text, what, least=0, most=None):
-    """The whole number that a word has, from the least to the most, where there is a most."""
-    is_whole, bounds = re.fullmatch("[0-9]+", text), f"from {least} {'on' if most is None else f'to {most}'}"
-    refuse_if(is_whole and len(text) > MOST_DIGITS,
-              f"{what} has at most {MOST_DIGITS} digits, which '{shown(text)}' hasn't.")
-    refuse_if(not is_whole or int(text) < least or most is not None and int(text) > most,
-              f"{what} is a whole number {bounds}, which '{shown(text)}' isn't.")
-    return int(text)
-
-
 def folder_of(words, usual):
     """The folder that a call names by -o, or the usual one, and the other words."""
     if "-o" not in words:
         return pathlib.Path(usual), words
     at = words.index("-o")
     named, others = words[at + 1:at + 2], words[:at] + words[at + 2:]
-    refuse_if(not any(named) or "-o" in named + others, "-o needs a folder, and comes once.")
+    refuse_if(not any(named) or "-o" in named + others, say("folder"))
     return pathlib.Path(*named), others
 
 
@@ -65,16 +56,15 @@ def the_program():
     choices = [named] if named else [beside / "gossip_bench", top / "crates/gossip_bench/out/gossip_bench"]
     if found := next(filter(None, map(shutil.which, choices)), None):
         return os.path.abspath(found)
-    refuse_if(named, f"GOSSIP_BENCH names '{shown(named or '')}', which is no program that can be started.")
-    refuse_if((top / "crates").is_dir(), f"the program isn't built: {top / 'gossip_bench'} --help builds it.")
-    raise Refused(f"the program isn't beside this tool, in {beside}: install both again, or name it in GOSSIP_BENCH.")
+    refuse_if(named, say("no_program", named=shown(named or "")))
+    refuse_if((top / "crates").is_dir(), say("not_built", builds=top / "gossip_bench"))
+    raise Refused(say("not_beside", beside=beside))
 
 
 def workers():
     """How many runs may go at once: JOBS, else as many as there are cores for this process."""
     told = os.environ.get("JOBS", "")
-    refuse_if(told and not re.fullmatch("[1-9][0-9]{0,3}", told),
-              f"JOBS is a whole number from 1 to 9999, which '{shown(told)}' isn't.")
+    refuse_if(told and not re.fullmatch("[1-9][0-9]{0,3}", told), say("jobs", told=shown(told)))
     return int(told or len(os.sched_getaffinity(0)))
 
 

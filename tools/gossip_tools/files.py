@@ -6,6 +6,9 @@ import os
 import socket
 
 from gossip_tools.commands import Refused
+from gossip_tools.texts import speaker
+
+say = speaker("files")
 
 
 @contextlib.contextmanager
@@ -56,7 +59,7 @@ def locked(folder):
             except BlockingIOError:
                 lock.seek(0)
                 who = lock.read().decode(errors="replace").strip() or "another process"
-                raise Refused(f"{folder} is in use by {who}: wait until it ends, or name another by -o.") from None
+                raise Refused(say("in_use", folder=folder, who=who)) from None
             lock.truncate(0)
             lock.write(f"process {os.getpid()} on {socket.gethostname()}\n".encode())
         yield

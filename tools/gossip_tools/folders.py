@@ -42,7 +42,7 @@ class Folder:
         """Refuses a folder with other things, or runs of another scenario, other fields or another program."""
         if not self.path.exists():
             return
-        refuse_if(not self.path.is_dir(), f"{self.path} isn't a folder: name another one.")
+        refuse_if(not self.path.is_dir(), say("no_folder", path=self.path))
         names, wanted = {it.name for it in self.path.iterdir()}, {fields_of(name) for name in self.runs}
         if "scenario" in names:
             refuse_if((self.path / "scenario").read_bytes() != self.scenario.encode(), say("another_scenario", self))
@@ -84,7 +84,7 @@ class Folder:
             read.report(self.path / f"{name}.csv", *self.lengths[name])
         except read.NotWhole as why:
             return str(why)
-        return "its scenario was another" if name in self.changed else ""
+        return say("was_another") if name in self.changed else ""
 
     def part(self, name):
         return files.part_of(self.path / f"{name}.csv")

@@ -22,8 +22,8 @@ def latest(times):
 def fewer(study, asked):
     """That fewer nodes restart at once than were asked for, in words; empty where that isn't so."""
     each = study.restarting()[0]
-    why = "half of the nodes stay up" if each == study.nodes // 2 else f"a scenario takes {each} restarts"
-    return "" if each == study.restarts else f", in place of {asked}, as {why}"
+    why = "half_stays_up" if each == study.nodes // 2 else "most_restarts"
+    return "" if each == study.restarts else say(why, asked=asked, each=each)
 
 
 class Healing:
@@ -47,31 +47,29 @@ class Healing:
         """At most how long it takes in most cases, or that it took longer than was run; the time, and the seeds."""
         taken = self.taken(stage, budget)
         bound, over = rules.bound_of(taken), [it for it in taken if it is not None]
-        never = f"not within {self.study.rounds(stage) - self.study.ends(stage)} rounds under {taken.count(None)}"
+        never = say("never", rounds=self.study.rounds(stage) - self.study.ends(stage), seeds=taken.count(None))
         if bound is None:
-            return f"{never} of {len(taken)} seeds", ""
+            return say("of_seeds", never=never, seeds=len(taken)), ""
         rounds, _, time = lasting(self.study, [bound]).partition(", ")
-        others = f", {never}" if None in taken else ""
-        return f"at most {rounds}", f"{time}, {rules.IN_MOST} cases ({span(over)} under {len(over)} seeds{others})"
+        values = {"time": time, "in_most": rules.IN_MOST, "span": span(over), "seeds": len(over)}
+        return say("at_most", rounds=rounds), say("cases", **values, others=f", {never}" if None in taken else "")
 
     def what(self, stage):
         it = self.study
         if stage == "split":
             return say("split_for_all" if it.split < it.told["split"] else "split", it)
-        (each, groups), alone = it.restarting(), ""
+        each, groups = it.restarting()
         nodes = f"{each} node{'s' if each != 1 else ''}" if it.restarts else "one node"
-        if groups > 1:
-            nodes, alone = f"{nodes} in each of {groups} {it.unit}", ", and of such a group alone"
-        few = fewer(it, it.restarts) if it.restarts else ""
-        down = f"{'each down' if each * groups > 1 else 'down'} for one {it.unit[:-1]}"
-        return f"of {nodes}{few}, {down}{', and then without its own state' if it.forgets else ''}{alone}"
+        return say("of_groups" if groups > 1 else "of_nodes", it, nodes=nodes, groups=groups, one=it.unit[:-1],
+                   few=fewer(it, it.restarts) if it.restarts else "", each="each " if each * groups > 1 else "",
+                   then=say("without_state") if it.forgets else "")
 
     def lines(self, heals, budget):
         """The lines of what heals, with what is counted below the first of all, and the wait of a rolling restart."""
         lines = []
         for stage in heals:
             rounds, time = self.in_words(stage, budget)
-            took = f"{ENDS[stage]} after {rounds}, {time}" if time else rounds
+            took = say("took", ends=ENDS[stage], rounds=rounds, time=time) if time else rounds
             lines += rows((HEALED[stage], f"{self.what(stage)}: {took}{self.study.nodes_run}"))
             if stage == self.study.heals()[0]:
                 lines += self.counted_lines()
@@ -81,7 +79,7 @@ class Healing:
 
     def counted(self):
         after = ", or after ".join(LAST_ROUNDS[it] for it in self.study.heals() if it in LAST_ROUNDS)
-        return f"Healed after N rounds: N rounds after {after}, {rules.HEALED.format(*self.study.before)}"
+        return say("counted", after=after, healed=rules.HEALED.format(*self.study.before))
 
     def counted_lines(self):
         return rows(*(("", it) for it in textwrap.wrap(self.counted(), IN_A_ROW)))
@@ -92,8 +90,8 @@ class Healing:
         rounds = rules.bound_of(latest(self.taken(stage, budget) for stage in it.leaves()))
         if rounds is None:
             return say("no_wait")
-        gone = " and its forgotten state was gone" if it.forgets else ""
-        who = f"a group of {it.group()} nodes" if it.told["restarts"] and it.group() > 1 else "a node"
+        gone = say("and_gone") if it.forgets else ""
+        who = say("group", it) if it.told["restarts"] and it.group() > 1 else "a node"
         return say("wait", rounds=lasting(it, [rounds]), who=who, in_most=rules.IN_MOST, gone=gone)
 
     def with_reserve(self, decision):
@@ -104,8 +102,8 @@ class Healing:
         said = []
         for stage in self.study.heals():
             taken = self.taken(stage, decision.most)
-            after = "not over in time" if None in taken else f"{ENDS[stage]} after {briefly(self.study, taken)}"
-            said.append(f"{HEALED[stage]} is {after}")
+            over = say("not_over") if None in taken else say("over", ends=ENDS[stage], time=briefly(self.study, taken))
+            said.append(say("is_over", what=HEALED[stage], over=over))
         return say("with_reserve", self.study, said="; ".join(said), seeds=len(taken))
 
 
@@ -116,4 +114,4 @@ def to_mind(it):
     return sentences(
         it.split < it.told["split"] and say("shorter_split", it),
         it.restarts and say("size_of_group", it, fewer=fewer(it, it.told["restarts"]), run=run),
-        it.leaves() and rules.DOWN_FOR_LONGER)
+        it.leaves() and say("down_for_longer"))

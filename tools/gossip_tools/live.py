@@ -5,37 +5,36 @@ import statistics
 import subprocess
 
 from gossip_tools import cluster, live_worker, read, running, scenario, sweep
-from gossip_tools.commands import Refused, number, refuse_if, remark, shown, the_program
-from gossip_tools.live_figures import Figures
+from gossip_tools.commands import Refused, refuse_if, remark, shown, the_program
+from gossip_tools.live_figures import Figures, say
 from gossip_tools.live_plan import LARGEST, Plan
-from gossip_tools.texts import speaker
-from gossip_tools.words import values_of
+from gossip_tools.words import Word, tool
 
-USUAL = {"interval": "1", "latency": "0", "fanout": "1", "beside": None, "window": "10"}
-MOST = {"interval": 3600, "latency": 100, "fanout": 4095, "beside": 100, "window": 100000}
-LEAST_INTERVAL = 0.01
-say = speaker("live")
+LIVE = tool("gossip_live")
 # The columns of the bench that a live cluster lacks, behind that of the round.
 LACKING = ("exchanges", "unreached", "lost")
 WORTHLESS = 4  # the status
 
 
-def decimal(name, text):
-    if not re.fullmatch(r"[0-9]{1,6}(\.[0-9]{1,6})?", text) or float(text) > MOST[name]:
-        raise Refused(f"{name} is a number up to {MOST[name]}, which '{shown(text)}' isn't.")
+def decimal(word, text):
+    if not re.fullmatch(r"[0-9]{1,6}(\.[0-9]{1,6})?", text) or float(text) > word.most:
+        raise Refused(say("decimal", word, text=shown(text)))
+    refuse_if(float(text) < word.least, say("too_short", word))
     return float(text)
 
 
+def decimals(word, text):
+    bounds = [decimal(word, it) for it in text.split(",")]
+    refuse_if(len(bounds) > 2 or bounds != sorted(bounds), say("bounds", word))
+    return bounds[0], bounds[-1]
+
+
+READ = {"whole": Word.whole, "decimal": decimal, "decimals": decimals}
+
+
 def told(words):
-    values = {**USUAL, **values_of(words, USUAL, lambda *_: " See --help.")}
-    for name in ("fanout", "beside", "window"):
-        values[name] = values[name] and number(values[name], name, 1, MOST[name])
-    values["interval"] = decimal("interval", values["interval"])
-    refuse_if(values["interval"] < LEAST_INTERVAL, f"an interval has at least {LEAST_INTERVAL} seconds.")
-    bounds = [decimal("latency", it) for it in values["latency"].split(",")]
-    if len(bounds) > 2 or bounds != sorted(bounds):
-        raise Refused("latency is one number, or two with a comma, the least first.")
-    return {**values, "latency": (bounds[0], bounds[-1])}
+    texts = LIVE.usual | LIVE.given(words, lambda *_: cluster.say("help"))
+    return {name: None if texts[name] is None else READ[it.kind](it, texts[name]) for name, it in LIVE.named.items()}
 
 
 def plan_of(text, asked):
@@ -74,7 +73,7 @@ def intervals(rows, fanout):
 def scenarios(text, fanout, seeds):
     if fanout > 1:
         text = stretched(read.settings(text), fanout)
-    return {f"the scenario under seed {seed}": scenario.set_field(text, "seed", seed) for seed in range(1, seeds + 1)}
+    return {say("of_seed", seed=seed): scenario.set_field(text, "seed", seed) for seed in range(1, seeds + 1)}
 
 
 def reports(runs, program, fanout):
@@ -87,7 +86,7 @@ def reports(runs, program, fanout):
         try:
             rows = read.rows_of(answer.stdout, top["format"], top["rounds"])
         except read.NotWhole as lacks:
-            raise Refused(f"{name}: the program printed no whole report: {lacks}.", 1) from None
+            raise Refused(say("no_report", label=name, lacks=lacks), 1) from None
         found.append(intervals(rows, fanout))
     return found
 

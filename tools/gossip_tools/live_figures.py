@@ -2,9 +2,12 @@
 import bisect
 from collections import defaultdict
 
+from gossip_tools.texts import speaker
+
 LATE = 0.1  # a timer is late that goes off by more than so much of an interval after its time
 MOST_LATE = 1 / 20  # of the timers
 MOST_LOST = 1 / 1000  # of the datagrams
+say = speaker("live")
 
 
 class Figures:
@@ -54,7 +57,4 @@ class Figures:
         return self.late > MOST_LATE * self.timers or self.lost > MOST_LOST * self.sent
 
     def how_fast(self):
-        said = (f"{self.late} of {self.timers} timers were late by more than {LATE:g} intervals, the latest by "
-                f"{self.lag:.3f}, and {self.lost} of {self.sent} datagrams didn't come")
-        return f"{said}: the figures are worthless; take fewer nodes or a longer interval." \
-            if self.is_worthless() else f"{said}."
+        return say("how_fast", self, limit=LATE, so=say("worthless") if self.is_worthless() else "")

@@ -17,14 +17,13 @@ from concurrent.futures import ThreadPoolExecutor
 
 from gossip_tools import running
 from gossip_tools.commands import Refused, workers
-from gossip_tools.live_figures import LATE
+from gossip_tools.live_figures import LATE, say
 from gossip_tools.live_node import Node
 
 NODES_OF_A_PROCESS = 16  # fewer aren't worth a process more
 MESSAGES = 3  # of an exchange
 TIME_TO_BEGIN = 0.2  # seconds, in which each process hears when the cluster begins
 TIME_TO_END = 0.2  # seconds, in which what is under way comes
-
 
 # What a process tells at the end of an interval: counts of all intervals so far; the greatest lag, in intervals, and
 # the writes since the last time; and of each node its generation and the marks that it holds.
@@ -194,12 +193,12 @@ def talk():
     try:
         yield
     except (EOFError, OSError):
-        raise Refused("a process with nodes has ended, and with it the cluster.", 1) from None
+        raise Refused(say("ended"), 1) from None
 
 
 def heard(pipes):
     with talk():
         found = [it.recv() for it in pipes]
     if failed := [it for it in found if isinstance(it, str)]:
-        raise Refused(f"a process with nodes failed: {failed[0]}.", 1)
+        raise Refused(say("failed", why=failed[0]), 1)
     return found

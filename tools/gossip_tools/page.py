@@ -29,15 +29,15 @@ def chosen_cards(decision):
     it, of_budget = decision.study, f"{decision.bytes()} bytes, {decision.times()}"
     entries = f"{decision.whole_budget()} entries"
     if not decision.suffices:
-        return [("budget", "none that fits is enough", f"tried: {entries}, {of_budget}", "none"),
-                ("worst staleness", "not known", decision.no_level(), "none")]
+        return [("budget", say("none_fits"), say("tried", entries=entries, of_budget=of_budget), "none"),
+                ("worst staleness", say("not_known"), decision.no_level(), "none")]
     kind = "first" if decision.is_met and not decision.is_too_small() else "none"
     rounds, _, time = lasting(it, [decision.most_rounds()]).partition(", ")
     of_worst = sentences(time, decision.bound and decision.bound.holds_in(),
-                         it.parts > 1 and f"{it.nodes} nodes run; reckon with {decision.at_most()}")
+                         it.parts > 1 and say("reckon", decision))
     return [("mode", decision.mode, "", kind),
             ("budget", entries, f"{of_budget}; packet={decision.packet()}", kind),
-            ("worst staleness", f"at most {rounds}", "; ".join(of_worst), "")]
+            ("worst staleness", say("at_most", rounds=rounds), "; ".join(of_worst), "")]
 
 
 def cards(decision, healing, more):
@@ -47,7 +47,7 @@ def cards(decision, healing, more):
     if decision.floor:
         rows.append((answer.FLOOR, in_rounds(decision.floor), decision.above_floor(), ""))
     rows += [(name, *said.partition(": ")[::2], "none" if said.startswith("not met") else "") for name, said in more]
-    rows.append(("share cut", f"{span(decision.cut, 2)}\u00a0%", "of what was lacking", ""))
+    rows.append(("share cut", f"{span(decision.cut, 2)}\u00a0%", say("of_lacking"), ""))
     rows += [(f"{HEALED[stage]} is {ENDS[stage]} after", *healing.in_words(stage, decision.budget), "")
              for stage in it.heals() if healing]
     if healing and it.leaves():
@@ -67,7 +67,7 @@ def below_the_cards(decision, healing):
     reserve = healing and healing.with_reserve(decision)
     said = sentences(
         decision.suffices and decision.tells_all(), no_floor, decision.reserve(), decision.why_not_knee(),
-        reserve and f"With the reserve: {reserve}", healing and healing.counted())
+        reserve and say("reserve", reserve=reserve), healing and healing.counted())
     return "".join(f"<p><small>{told(it)}</small></p>" for it in said)
 
 
@@ -82,7 +82,7 @@ def captions(decision):
     values = {
         "same": say("same", entries=it.whole(same)) if same else "", "most": say("most") if it.fanout > 1 else "",
         "nodes": f"{each if it.restarts else 'one'} node{'s' if each > 1 else ''}",
-        "each": f" in each of some {it.unit}" if it.restarts else "", "band": say("band"),
+        "each": say("each", it) if it.restarts else "", "band": say("band"),
     }
     return {name: say(name, decision, **values) for name in (
         "worst", "cut", "greatest", "stale", "split", "restart", "forgotten")}
@@ -119,9 +119,9 @@ def table(decision):
     text = "".join(f"<tr><th>{it.whole(budget)}</th>"
                    f"{''.join(field(decision, budget, mode) for mode in decision.figures)}</tr>"
                    for budget in decision.budgets())
-    not_level = " Not level: this budget isn't enough." if " not level" in text else ""
-    return f"""<p class="before-table">In rounds {first} to {last}, by budget in entries and mode.{not_level} A field is
-empty where its runs could change nothing: {decision.why_empty}.</p>
+    not_level = say("not_level") if " not level" in text else ""
+    above = say("table", decision, first=first, last=last, not_level=not_level)
+    return f"""<p class="before-table">{above}</p>
 <div class="wide"><table><thead><tr><th>budget</th>{head}</tr></thead><tbody>{text}</tbody></table></div>"""
 
 
@@ -142,16 +142,15 @@ def make(folder, decision, healing, made, check_sum, missing=(), more=(), head="
     """Writes the page, and says where it is. `made` are the runs by stage, `missing` lines on what didn't heal, `more`
     names and words beside the worst staleness; the head of a first answer says so."""
     it = decision.study
-    tenth = f", of which {it.nodes} were run; budgets are those of all" if it.parts > 1 else ""
+    tenth = say("tenth", it) if it.parts > 1 else ""
     text = text_of("page.html").format(
         title=told(f"{head}{it.all_nodes} nodes: {decision.headline()}"), style=STYLE, it=it, tenth=tenth,
         interval=cluster.plain(it.told["interval"]), lost=cluster.plain(it.told["loss"]), choosing=len(rules.CHOOSING),
         in_most=rules.IN_MOST, cards=cards(decision, healing, more), below_the_cards=below_the_cards(decision, healing),
-        missing=paragraphs(missing), mind=listed("Mind", answer.warnings(decision), "mind"),
+        missing=paragraphs(missing), mind=listed(answer.say("mind"), answer.warnings(decision), "mind"),
         pictures=pictures(folder, decision, healing), table=table(decision),
-        too_close=listed("Too close to call", decision.too_close()),
-        left_out=listed("Left out for this cluster", answer.left_out(decision)),
+        too_close=listed(answer.say("too_close"), decision.too_close()),
+        left_out=listed(answer.say("not_looked_at"), answer.left_out(decision)),
         made_of=made_of(folder, it, made, check_sum))
     files.put(folder / "report.html", text)
-    missing = "" if plots.IS_THERE else " without pictures, as gnuplot isn't there"
-    return f"The page is {folder / 'report.html'}{missing}."
+    return say("made" if plots.IS_THERE else "made_without", page=folder / "report.html")

@@ -8,7 +8,7 @@ import statistics
 import subprocess
 
 from gossip_tools import files, read, rules, scenario
-from gossip_tools.texts import text_of
+from gossip_tools.texts import speaker, text_of
 
 # Colours that the colour-blind tell apart; widths and points also tell them apart in black and white.
 COLOURS = dict(zip(scenario.MODES, (("#e69f00", 5), ("#00407a", 7), ("#009e73", 9), ("#cc79a7", 13))))
@@ -18,6 +18,7 @@ STYLES = {mode: (COLOURS[mode][0], width, COLOURS[mode][1]) for mode, width in z
 BUDGETS = (("#e69f00", 8, 5), ("#56b4e9", 5.5, 9), ("#009e73", 3.5, 13), ("#00407a", 1.5, 7))
 IS_THERE = shutil.which("gnuplot") is not None
 HEAD = text_of("picture.gnuplot")
+say = speaker("page")
 LINE = 'nohead linewidth 1.5 linecolor "#555555" dashtype'
 LEAST_SHOWN = 20
 # A budget has bars at so many rounds at most, the next one's so far beside them, of the way to the next round.
@@ -32,8 +33,8 @@ def draw(folder, name, script):
     picture.unlink(missing_ok=True)
     done = subprocess.run(["gnuplot", source.name], cwd=folder, capture_output=True, text=True)
     if done.returncode or not picture.exists() or not picture.read_text().rstrip().endswith("</svg>"):
-        said = "".join(done.stderr.strip().splitlines()[-1:]) or "perhaps the disk is full"
-        raise OSError(0, f"gnuplot wrote no whole picture: {said}", str(picture))
+        why = "".join(done.stderr.strip().splitlines()[-1:]) or say("full_disk")
+        raise OSError(0, say("no_picture", why=why), str(picture))
     return picture.read_text()
 
 

@@ -4,8 +4,11 @@ import statistics
 import sys
 import time
 
+from gossip_tools.texts import speaker
+
 LAST = 8  # runs that ended tell what share of a processor a run has now
 LEAST = 0.001  # seconds are told apart
+say = speaker("progress")
 
 
 class Progress:
@@ -61,8 +64,7 @@ class Progress:
 
     def show(self):
         if self.shown and self.total:
-            print(f"\r\033[K{self.what}: {self.count} of {self.total} runs, {in_words(self.left())}", end="",
-                  file=sys.stderr, flush=True)
+            print("\r\033[K" + say("runs", self, left=in_words(self.left())), end="", file=sys.stderr, flush=True)
 
     def end(self):
         if self.shown:
@@ -71,6 +73,6 @@ class Progress:
 
 def in_words(seconds):
     if seconds is None:
-        return "no end known yet"
+        return say("no_end")
     unit, length = ("s", 1) if seconds < 100 else ("min", 60) if seconds < 6000 else ("h", 3600)
-    return f"some {seconds / length:.0f} {unit} left"
+    return say("left", time=seconds / length, unit=unit)

@@ -4,10 +4,12 @@ import re
 import tomllib
 
 from gossip_tools import files, scenario
-from gossip_tools.commands import Refused, folder_of, number, refuse_if, remark, shown
+from gossip_tools.commands import Refused, folder_of, refuse_if, remark, shown
 from gossip_tools.texts import speaker
+from gossip_tools.words import tool
 
 OF_FORMAT_1 = ["round", "exchanges", "unreached", "lost", "entries", "cut", "stale", "greatest"]
+READ = tool("gossip_read")
 say = speaker("read")
 COLUMNS = {1: OF_FORMAT_1, 2: [*OF_FORMAT_1, "leftover"]}  # by the format
 
@@ -16,9 +18,9 @@ class NotWhole(Exception):
     """What a report lacks."""
 
     @classmethod
-    def where(cls, is_so, why):
+    def where(cls, is_so, why, **values):
         if is_so:
-            raise cls(why)
+            raise cls(say(why, **values))
 
 
 def settings(text):
@@ -26,22 +28,21 @@ def settings(text):
     try:
         return tomllib.loads(text.removeprefix("\ufeff"))
     except tomllib.TOMLDecodeError as error:
-        raise Refused(f"the tools read TOML 1.0 alone, and the scenario isn't that: {error}.") from None
+        raise Refused(say("not_toml", error=error)) from None
 
 
 def rows_of(content, form, rounds):
     """The rows of a report, in numbers, where it is that of a scenario of this format with so many rounds."""
-    NotWhole.where(not content, "it is empty")
-    NotWhole.where(not content.isascii(), "it has other bytes than those of a report")
+    NotWhole.where(not content, "empty")
+    NotWhole.where(not content.isascii(), "other_bytes")
     header, (first, _, rest) = COLUMNS[form], content.decode().partition("\n")
     *lines, last = rest.split("\n")
-    NotWhole.where(first.split(",") != header, "its header is another")
-    NotWhole.where(len(lines) < rounds, f"it is cut short after {len(lines)} of {rounds} rounds")
-    NotWhole.where(len(lines) > rounds or last, f"it goes on after its {rounds} rounds")
+    NotWhole.where(first.split(",") != header, "header")
+    NotWhole.where(len(lines) < rounds, "short", lines=len(lines), rounds=rounds)
+    NotWhole.where(len(lines) > rounds or last, "long", rounds=rounds)
     line = re.compile(",".join(["[0-9]{1,18}"] * len(header)))
     for at, it in enumerate(lines, 1):
-        if not line.fullmatch(it) or int(it.partition(",")[0]) != at:
-            raise NotWhole(f"its line of round {at} is another")
+        NotWhole.where(not line.fullmatch(it) or int(it.partition(",")[0]) != at, "line", round=at)
     return [dict(zip(header, map(int, it.split(",")))) for it in lines]
 
 
@@ -51,24 +52,22 @@ def report(path, form, rounds):
     try:
         content = path.read_bytes()
     except FileNotFoundError:
-        raise NotWhole("it isn't there") from None
+        raise NotWhole(say("not_there")) from None
     rows, beside = rows_of(content, form, rounds), path.with_suffix(".sum")
     if beside.exists():
         scenario = path.with_suffix(".toml")
         contents = {scenario.name: scenario.read_bytes(), path.name: content}
         compare(beside.name, beside.read_bytes(), files.check_sums(contents).encode())
-    elif path.with_name("program").exists():
-        raise NotWhole(f"{beside.name}, which has its check sum, isn't there")
+    NotWhole.where(not beside.exists() and path.with_name("program").exists(), "no_sum", name=beside.name)
     return rows
 
 
 def compare(name, there, wanted):
     """Says what is another of the check sums that a file has, of a scenario and its report."""
     is_older = re.fullmatch(rb"[0-9]+ [0-9a-f]{64}\n", there)
-    NotWhole.where(is_older, f"{name} is of an earlier version, which left its scenario out")
-    is_another = there.splitlines()[:1] != wanted.splitlines()[:1]
-    NotWhole.where(is_another, f"its scenario's check sum isn't that of {name}")
-    NotWhole.where(there != wanted, f"its check sum isn't that of {name}")
+    NotWhole.where(is_older, "older_sum", name=name)
+    NotWhole.where(there.splitlines()[:1] != wanted.splitlines()[:1], "another_sum", whose="its scenario's", name=name)
+    NotWhole.where(there != wanted, "another_sum", whose="its", name=name)
 
 
 class Runs:
@@ -81,36 +80,33 @@ class Runs:
         for file in sorted(folder.glob("*-*.toml")):
             names, _, values = zip(*(part.partition("-") for part in file.stem.split(".")))
             self.fields = self.fields or names
-            refuse_if(names != self.fields, f"the runs in {folder} differ in their fields.")
+            refuse_if(names != self.fields, say("fields", folder=folder))
             if wanted is not None and values not in wanted:
                 continue
             with open(file, "rb") as text:
                 top = settings(scenario.read(text, file))
-            if top.get("format") not in scenario.FORMATS or "rounds" not in top:
-                raise Refused(f"{file} isn't the scenario of a run.")
-            refuse_if(top["format"] != (form := form or top["format"]), f"the runs in {folder} are of two formats.")
+            refuse_if(top.get("format") not in scenario.FORMATS or "rounds" not in top, say("no_scenario", file=file))
+            refuse_if(top["format"] != (form := form or top["format"]), say("formats", folder=folder))
             try:
                 self.rows[values] = report(file.with_suffix(".csv"), form, top["rounds"])
                 self.without_sum += not file.with_suffix(".sum").exists()
             except NotWhole as why:
                 self.missing[file.stem] = str(why)
         others = "" if self.fields else ", ".join(sorted({it.parent.name for it in folder.glob("*/*-*.toml")}))
-        below = f", but in its {others}" if others else ""
-        if not folder.is_dir():
-            below = ", which isn't a folder" if folder.exists() else ", which isn't there"
-        refuse_if(not self.fields, f"there are no runs in {folder}{below}.")
+        there = "no_folder" if folder.exists() else "nowhere"
+        why = there if not folder.is_dir() else "no_runs_but" if others else "no_runs"
+        refuse_if(not self.fields, say(why, folder=folder, others=others))
 
     def what_is_missing(self):
         said = [f"{name} ({why})" for name, why in self.missing.items()]
         said[5:] = [f"{len(said) - 5} more"] if len(said) > 5 else []
-        runs = len(self.missing) + len(self.rows)
-        return f"{len(self.missing)} of {runs} runs are missing: {', '.join(said)}."
+        count, runs = len(self.missing), len(self.missing) + len(self.rows)
+        return say("are_missing", count=count, runs=runs, said=", ".join(said))
 
 
 def told_without_sum(count, folder):
     """A sentence on the reports that nothing shows to be as they were made."""
-    reports = "1 report has no check sum and is" if count == 1 else f"{count} reports have no check sum and are"
-    return f"in {folder} {reports} taken as {'it is' if count == 1 else 'they are'}."
+    return say("one_without_sum" if count == 1 else "without_sum", folder=folder, count=count)
 
 
 def place(values):
@@ -180,19 +176,18 @@ def figures(runs, folder, what, first, second):
 
 def main(words):
     partial, seeds = "--partial" in words, "--seeds" in words
-    words = [word for word in words if word not in ("--partial", "--seeds")]
+    words = [word for word in words if word not in READ.options]
     is_named = "-o" in words
-    folder, words = folder_of(words, "runs")
+    folder, words = folder_of(words, READ.folder)
     for word in words:
         refuse_if(re.match("-[^0-9]", word), say("no_option", word=shown(word)))
     if len(words) == 4 and not is_named:
         folder, words = pathlib.Path(words[3]), words[:3]
-    if len(words) != 3 or words[0] not in ("window", "level", "leftover"):
-        raise Refused("usage: gossip_read window FROM TO [FOLDER], or level FROM LEVEL [FOLDER], or leftover likewise")
-    what, first = words[0], number(words[1], "FROM", 1)
-    second = number(words[2], "TO", 1) if what == "window" else number(words[2], "LEVEL")
+    refuse_if(len(words) != 3 or words[0] not in [it.name for it in READ.words], say("usage"))
+    what, first = words[0], READ.numbers["FROM"].whole(words[1])
+    second = READ.numbers["TO" if what == "window" else "LEVEL"].whole(words[2])
     runs = Runs(folder)
-    refuse_if(seeds and "seed" not in runs.fields, f"the runs in {folder} have no field seed of their own.")
+    refuse_if(seeds and "seed" not in runs.fields, say("no_seed", folder=folder))
     refuse_if(runs.missing and not (partial and runs.rows), say("missing", runs))
     if runs.missing:
         remark(runs.what_is_missing())

@@ -168,8 +168,6 @@ def counts_bytes(room):
 # When a split and a restart count as healed, and what counts where nodes forget below `nodes * writes`.
 HEALED, FORGETFUL = (sentence("rules", it) for it in ("healed", "forgetful"))
 DATAGRAM = 65507  # bytes at most of a packet that is one datagram of UDP
-# What a restart takes where nodes are down for longer than the one round of the test.
-DOWN_FOR_LONGER = "Nodes that are down for longer may take some rounds more, which no time above has."
 
 
 def healed_level(most_before):

@@ -10,6 +10,7 @@ import tempfile
 import time
 
 from gossip_tools.commands import Refused, Stopped, refuse_if, shown
+from gossip_tools.texts import speaker
 
 # In large pages the C library gives memory faster. What the caller says to it goes before that.
 LARGE_PAGES = {"GLIBC_TUNABLES": "glibc.malloc.hugetlb=1"}
@@ -20,6 +21,7 @@ HOST = f"([1-9][0-9]{{0,3}}/)?(:|({NAME}@)?{NAME})"
 ENDINGS = signal.SIGINT, signal.SIGTERM, signal.SIGHUP
 # How GNU parallel ends, and in how many seconds: its first TERM lets none begin, its second ends what runs anywhere.
 GENTLY = (signal.SIGTERM, 1), (signal.SIGTERM, 10)
+say = speaker("running")
 
 
 class Failed(Exception):
@@ -61,9 +63,9 @@ class Signals:
 
 
 def reason(status, told):
-    ended = f"it was ended by {signal.Signals(-status).name}" if status < 0 else f"status {status}"
+    ended = say("status", status=status) if status >= 0 else say("ended_by", signal=signal.Signals(-status).name)
     last = "".join(told.strip().splitlines()[-1:]).strip()
-    more = ", as on a full disk" if last.startswith("fault 13:") else ""
+    more = say("full_disk") if last.startswith("fault 13:") else ""
     return f"{ended}: {last}{more}" if last else ended
 
 
@@ -75,7 +77,7 @@ def close(folder, name, process, program):
         folder.part(name).unlink(missing_ok=True)
         return f"{name}: {reason(process.returncode, told)}"
     lacks = folder.keep(name)
-    return f"{name}: {program} printed no report of it: {lacks}" if lacks else ""
+    return say("no_report", name=name, program=program, lacks=lacks) if lacks else ""
 
 
 @contextlib.contextmanager
@@ -184,13 +186,11 @@ def hosts():
     """The machines of HOSTS, divided by commas; empty where there are none."""
     told, version = os.environ.get("HOSTS", ""), ""
     for host in told.split(",") if told else []:
-        refuse_if(not host.strip(), f"HOSTS is '{shown(told)}', which lacks the name of a machine: write them as in "
-                  "HOSTS=:,alpha,8/beta.")
-        refuse_if(not re.fullmatch(HOST, host), f"'{shown(host)}' in HOSTS isn't the name of a machine: write them as "
-                  "in HOSTS=:,alpha,8/beta, or with a user, as 8/me@beta.")
+        refuse_if(not host.strip(), say("no_host", told=shown(told)))
+        refuse_if(not re.fullmatch(HOST, host), say("host", host=shown(host)))
     with contextlib.suppress(OSError):
         version = told and subprocess.run(["parallel", "--version"], capture_output=True, text=True).stdout
-    refuse_if(told and not version.startswith("GNU parallel"), "other machines need GNU parallel, which isn't there.")
+    refuse_if(told and not version.startswith("GNU parallel"), say("no_parallel"))
     return told
 
 
@@ -229,7 +229,7 @@ def start(program, hosts):
             lines += told
         if process.returncode:
             line = next(filter(None, map(str.strip, lines)), "it says nothing")
-            raise Refused(f"not each of HOSTS runs the program. {shown(host)}: {line}")
+            raise Refused(say("not_on_all", host=shown(host), line=line))
 
 
 def far(folder, names, program, hosts, jobs, done):

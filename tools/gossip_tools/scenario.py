@@ -3,12 +3,13 @@ import re
 from fractions import Fraction
 
 from gossip_tools.commands import Refused, refuse_if, shown
+from gossip_tools.texts import speaker, table_of
 
 FORMATS = (1, 2)
 MODES = ("scuttle-breadth", "scuttle-depth", "precise-oldest", "precise-newest")
 # What the fields of words take.
 WORDS = {"mode": MODES, "peers": ("random", "ring"), "rotation": ("random", "none"), "choice": ("random", "cycle")}
-USUAL_MODE = "scuttle-depth"
+USUAL_MODE = table_of("words.toml")["shared"]["mode"]["default"]
 LIMITS = {
     "nodes": (2, 4096), "keys": (1, 64), "writes": (0, 8), "rounds": (1, 100000), "seed": (0, 2**63 - 1),
     "loss_ppm": (0, 1000000), "budget": (1, 65535), "budget_bytes": (1023, 67108864),
@@ -18,11 +19,14 @@ MOST_SECTIONS = 1000
 MOST_BYTES = 1048576
 MEAN = Fraction("523.5")  # bytes of an entry of format 2, which has 24 + value mod 1000
 LARGEST = 1023  # of these bytes at most
+say = speaker("scenario")
 
 
-def limited(name, number):
+def limited(name, number, instead=""):
+    """A number that a field takes. What to do instead is said of one above the most."""
     least, most = LIMITS[name]
-    refuse_if(not least <= number <= most, f"{name} would be {number}, and a scenario takes {least} to {most}.")
+    more = instead if number > most else ""
+    refuse_if(not least <= number <= most, say("limits", name=name, number=number, least=least, most=most, more=more))
     return number
 
 
@@ -59,42 +63,40 @@ def top(nodes, keys, rounds, writes, loss_ppm, entries, in_bytes, mode=USUAL_MOD
 def read(file, what="the scenario"):
     """The text of a scenario, from a file that is open for its bytes. No more is read than a scenario has."""
     given = file.read(MOST_BYTES + 1)
-    refuse_if(len(given) > MOST_BYTES, f"{what} is longer than {MOST_BYTES} bytes, the most that a scenario has.")
+    refuse_if(len(given) > MOST_BYTES, say("too_long", what=what, most=MOST_BYTES))
     try:
         return given.decode()
     except UnicodeDecodeError:
-        raise Refused(f"{what} isn't UTF-8, as scenarios are.") from None
+        raise Refused(say("not_utf8", what=what)) from None
 
 
 def set_field(text, field, value):
     """The scenario with another value in the one line that the field has above all sections."""
-    refuse_if(not text.strip(), "the scenario is empty: it comes by standard input, as < SCENARIO.")
+    refuse_if(not text.strip(), say("empty"))
     begins = re.search(r"^[ \t]*\[|\Z", text, re.MULTILINE).start()
     line = re.compile(rf"^[ \t]*{re.escape(field)}[ \t]*=[ \t]*([\"']?).*\n?", re.MULTILINE)
     quotes = line.findall(text, 0, begins)
-    those = f"{len(quotes)} lines of the scenario above all sections set" if quotes else \
-        "no line of the scenario above all sections sets"
-    refuse_if(len(quotes) != 1, f"{those} the field {shown(field)}, where one has to.")
+    refuse_if(len(quotes) != 1, say("lines" if quotes else "no_line", lines=len(quotes), field=shown(field)))
     quote = '"' if quotes[0] else ""
     return line.sub(lambda _: f"{field} = {quote}{value}{quote}\n", text, 1)
 
 
 def restarts(nodes, each, first_round, last_round, down, forget=False, first=0, every=1):
     """Restarts: in every `every`-th of these rounds the next `each` nodes, by ascending number from `first` on."""
-    refuse_if(not 1 <= first_round <= last_round, f"{first_round} to {last_round} aren't rounds.")
-    refuse_if(each > nodes, f"{each} nodes can't restart in a round, of {nodes}.")
-    refuse_if(first >= nodes, f"{first} can't be the first node, of {nodes} that are numbered from 0.")
+    refuse_if(not 1 <= first_round <= last_round, say("no_rounds", first=first_round, last=last_round))
+    refuse_if(each > nodes, say("each", each=each, nodes=nodes))
+    refuse_if(first >= nodes, say("first", first=first, nodes=nodes))
     rounds = range(first_round, last_round + 1, every)
-    refuse_if(each * len(rounds) > MOST_SECTIONS, f"that makes {each * len(rounds)} restarts, where a scenario takes "
-              f"{MOST_SECTIONS}: run half of it.")
+    refuse_if(each * len(rounds) > MOST_SECTIONS, say("restarts", made=each * len(rounds), most=MOST_SECTIONS))
     more = {"forget": True} if forget else {}
     return sections("restart", ({"node": (first + at * each + i) % nodes, "round": number, "down": down, **more}
                                 for at, number in enumerate(rounds) for i in range(each)))
 
 
 def partition(first, last, first_round, last_round):
-    refuse_if(not first <= last <= 4095, f"{first} to {last} aren't nodes, which are 0 to 4095.")
-    refuse_if(not 1 <= first_round <= last_round, f"{first_round} to {last_round} aren't rounds.")
+    most = LIMITS["nodes"][1] - 1
+    refuse_if(not first <= last <= most, say("no_nodes", first=first, last=last, most=most))
+    refuse_if(not 1 <= first_round <= last_round, say("no_rounds", first=first_round, last=last_round))
     nodes = [str(it) for it in range(first, last + 1)]
     lines = "".join("    " + ", ".join(nodes[at:at + 20]) + ",\n" for at in range(0, len(nodes), 20))
     return f"[[partition]]\nfrom = {first_round}\nto = {last_round}\napart = [\n{lines}]\n"

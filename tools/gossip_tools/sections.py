@@ -1,31 +1,21 @@
 """The tools gossip_restarts and gossip_apart, which print sections of a scenario."""
-from gossip_tools import scenario
-from gossip_tools.commands import Refused, number, refuse_if
-from gossip_tools.scenario import LIMITS
-from gossip_tools.words import tool
+from gossip_tools import commands, scenario
+from gossip_tools.commands import refuse_if
+from gossip_tools.words import Word, tool
 
-ROUND = LIMITS["rounds"]
-NODE = 0, LIMITS["nodes"][1] - 1
-# Of each number its name, its least and its most.
-OF_RESTARTS = (("NODES", *LIMITS["nodes"]), ("EACH", 1), ("FROM", *ROUND), ("TO", *ROUND), ("DOWN", 0, ROUND[1]))
-OF_APART = (("FIRST", *NODE), ("LAST", *NODE), ("FROM", *ROUND), ("TO", *ROUND))
-NAMED = {"first": 0, "every": 1}
-
-
-def numbers_of(words, limits):
-    return [number(word, *it) for word, it in zip(words, limits)]
+RESTARTS, APART = tool("gossip_restarts"), tool("gossip_apart")
 
 
 def restarts(words):
-    numbers = [word for word in words if word != "forget" and "=" not in word]
-    named = [word.partition("=")[::2] for word in words if "=" in word]
-    names = [name for name, _ in named] + [word for word in words if word == "forget"]
-    if len(numbers) != 5 or len(set(names)) != len(names) or set(names) - {*NAMED, "forget"}:
-        raise Refused(f"usage: {tool('gossip_restarts').calls[0]}")
-    placed = {name: number(text, name, NAMED[name]) for name, text in named}
-    print(scenario.restarts(*numbers_of(numbers, OF_RESTARTS), forget="forget" in names, **placed), end="")
+    numbers, forget = [word for word in words if word != "forget" and "=" not in word], words.count("forget")
+    texts = [word.partition("=")[::2] for word in words if "=" in word]
+    are_known = len(dict(texts)) == len(texts) and dict(texts).keys() <= RESTARTS.named.keys()
+    refuse_if(len(numbers) != len(RESTARTS.numbers) or forget > 1 or not are_known, commands.say("usage", RESTARTS))
+    named = {name: RESTARTS.named[name].whole(text) for name, text in (RESTARTS.usual | dict(texts)).items()}
+    placed = map(Word.whole, RESTARTS.numbers.values(), numbers)
+    print(scenario.restarts(*placed, forget=bool(forget), **named), end="")
 
 
 def apart(words):
-    refuse_if(len(words) != 4, f"usage: {tool('gossip_apart').calls[0]}")
-    print(scenario.partition(*numbers_of(words, OF_APART)), end="")
+    refuse_if(len(words) != len(APART.numbers), commands.say("usage", APART))
+    print(scenario.partition(*map(Word.whole, APART.numbers.values(), words)), end="")

@@ -26,7 +26,6 @@ from gossip_tools.texts import speaker
 
 # What heals begins after so many intervals, of which the last ones tell the level; later with a budget below the knee.
 FILLING, LEVEL = 30, 20
-USUAL_SPLIT = 30
 RESTARTING = 10
 LEAST = 2  # mean entries the format that counts bytes takes at least
 # How much more processor time a round takes, about: in bytes, in a precise mode, and with less than nodes * writes.
@@ -86,7 +85,7 @@ class Study:
         # (after a hundred intervals in which each key was written four times no more is left to catch up with)
         self.split = min(int(told["split"]), max(100, 4 * math.ceil(self.keys / self.writes)))
         self.restarts = None if told["restarts"] is None else -(-int(told["restarts"]) // self.parts)
-        self.asks_for_healing = bool(told["restarts"]) or told["split"] not in (0, USUAL_SPLIT)
+        self.asks_for_healing = bool(told["restarts"]) or told["split"] not in (0, int(cluster.SPLIT.default))
         self.forgets, self.loss = told["forget"] == "yes", int(told["loss"] * 10000)
         self.place_healing()
 
@@ -109,7 +108,7 @@ class Study:
         if not self.shares:
             return say("none_fits", self, **values)
         digest, alone = self.digest_bytes(self.usual), int(given / entry)
-        too_large = f", and the digest still fits no packet of {given}" if digest > given else ""
+        too_large = say("too_large", self) if digest > given else ""
         values |= {"digest": digest, "alone": alone, "part": alone / self.knee_of_all, "too_large": too_large}
         return say("none_fits_with_digest", self, **values)
 

@@ -7,12 +7,14 @@ import shlex
 import subprocess
 import sys
 
-from gossip_tools import files, folders, running, scenario
+from gossip_tools import commands, files, folders, running, scenario
 from gossip_tools.commands import Refused, fault_of, folder_of, refuse_if, remark, shown, the_program, workers
 from gossip_tools.progress import Progress
+from gossip_tools.texts import speaker
 from gossip_tools.words import tool
 
 TOOL = tool("gossip_sweep")
+say = speaker("sweep")
 # Faults of files that are there again where the same command is given: something else has to be done first.
 LASTING = {errno.EACCES, errno.EPERM, errno.EROFS, errno.EISDIR, errno.ENOTDIR, errno.ENOENT, errno.ELOOP,
            errno.ENAMETOOLONG}
@@ -21,13 +23,12 @@ LASTING = {errno.EACCES, errno.EPERM, errno.EROFS, errno.EISDIR, errno.ENOTDIR, 
 def choices_of(words):
     choices = {}
     for word in words:
-        more = "" if "=" in word else f" A scenario comes by standard input, as < {shlex.quote(shown(word))}."
-        if word.startswith("-"):
-            more = " The options are -o FOLDER and --help; how many runs go at once is said in front, as JOBS=2."
+        more = "" if "=" in word else say("by_input", file=shlex.quote(shown(word)))
+        more = say("options") if word.startswith("-") else more
         refuse_if(not re.fullmatch("[a-z_]+=[A-Za-z0-9_-]+(,[A-Za-z0-9_-]+)*", word),
-                  f"'{shown(word)}' isn't FIELD=VALUE,VALUE.., with letters, digits, - and _ in the values.{more}")
+                  say("no_field", word=shown(word), more=more))
         field, _, values = word.partition("=")
-        refuse_if(field in choices, f"the field {shown(field)} comes twice.")
+        refuse_if(field in choices, say("twice", what=f"the field {shown(field)}"))
         choices[field] = values.split(",")
     return choices if "mode" in choices else {**choices, "mode": list(scenario.MODES)}
 
@@ -41,14 +42,14 @@ def spread(text, choices, name=""):
     for value in values:
         more = spread(scenario.set_field(text, field, value), dict(rest), f"{name}{'.' if name else ''}{field}-{value}")
         twice = runs.keys() & more.keys()
-        refuse_if(twice, f"{shown(min(twice, default=''))} comes twice.")
+        refuse_if(twice, say("twice", what=shown(min(twice, default=""))))
         runs |= more
     return runs
 
 
 def given_scenario():
     if sys.stdin.isatty():
-        remark("the scenario is read from here, as none comes by < SCENARIO.")
+        remark(say("read_from_here"))
     with files.named("standard input"):
         return scenario.read(sys.stdin.buffer)
 
@@ -59,14 +60,14 @@ def check(runs, program):
         try:
             answer = subprocess.run([program, "check"], input=text.encode(), capture_output=True)
         except OSError as error:
-            raise Refused(f"{program} can't be started: {error.strerror}.") from None
+            raise Refused(say("not_started", program=program, why=error.strerror)) from None
         if (answer.returncode, answer.stdout) != (0, b"ok\n"):
             told = answer.stderr.decode(errors="replace")
             ended = f" ({shown(running.reason(answer.returncode, told))})" if answer.returncode else ""
-            refuse_if(answer.returncode != 1 or not told.startswith("fault "),
-                      f"{program} doesn't answer as gossip_bench does{ended}: what does GOSSIP_BENCH name?")
+            is_answer = answer.returncode == 1 and told.startswith("fault ")
+            refuse_if(not is_answer, say("another_program", program=program, ended=ended))
             sys.stderr.write(told)
-            raise Refused(f"that is the program's answer to {shown(name)}, so nothing was run.", 1)
+            raise Refused(say("not_accepted", name=shown(name)), 1)
 
 
 def make(folder, program, progress, hosts):
@@ -75,7 +76,7 @@ def make(folder, program, progress, hosts):
     lacking = {name: lacks for name in folder.runs if (lacks := folder.lacks(name))}
     for name, lacks in lacking.items():
         if (folder.path / f"{name}.csv").exists():
-            remark(f"{name} is run again, as its report isn't whole: {lacks}.")
+            remark(say("again", name=name, lacks=lacks))
     progress.begin(folder.path.name, list(lacking), folder.runs.keys() - lacking.keys(), 1 if hosts else workers())
     try:
         if lacking and hosts:
@@ -94,7 +95,7 @@ def what_stands(folder):
         # (a report that can't be read doesn't stand)
         with contextlib.suppress(OSError):
             count += not folder.lacks(name)
-    return f"{count} of {len(folder.runs)} runs stand in {folder.path}"
+    return say("stands", folder, count=count, runs=len(folder.runs))
 
 
 def carry_out(path, text, runs, program, progress, hosts):
@@ -104,9 +105,9 @@ def carry_out(path, text, runs, program, progress, hosts):
         with folder.held():
             make(folder, program, progress, hosts)
     except running.Stopped as stopped:
-        why, status = f"stopped by {stopped}, which loses the runs under way", stopped.status
+        why, status = say("stopped", by=stopped), stopped.status
     except running.Failed as failed:
-        why, status = f"a run failed: {failed}", 1
+        why, status = say("failed", why=failed), 1
     except OSError as error:
         error.filename = error.filename or path
         why, status = fault_of(error), 1
@@ -114,12 +115,12 @@ def carry_out(path, text, runs, program, progress, hosts):
             raise Refused(f"{why} {what_stands(folder)}." if os.path.isdir(path) else why, status) from None
     else:
         return
-    raise Refused(f"{why.rstrip('.')}. {what_stands(folder)}; the same command goes on from there.", status)
+    raise Refused(say("goes_on", why=why.rstrip("."), stands=what_stands(folder)), status)
 
 
 def main(words):
-    path, words = folder_of(words, "runs")
-    refuse_if(not words, f"usage: {TOOL.calls[0]}")
+    path, words = folder_of(words, TOOL.folder)
+    refuse_if(not words, commands.say("usage", TOOL))
     choices = choices_of(words)
     hosts = running.hosts()
     workers()
@@ -129,4 +130,4 @@ def main(words):
     runs = spread(text, choices)
     check(runs, program)
     carry_out(path, text, runs, program, Progress({f"{path.name}/{name}": 1 for name in runs}), hosts)
-    print(f"{len(runs)} runs in {path}")
+    print(say("made", runs=len(runs), path=path))

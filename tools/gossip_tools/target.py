@@ -20,7 +20,7 @@ say = speaker("target")
 
 
 def in_time(it):
-    return f"{cluster.plain(it.told['target'])} s, or {in_rounds([it.target])}"
+    return say("in_time", seconds=cluster.plain(it.told["target"]), rounds=in_rounds([it.target]))
 
 
 def above_target(it, worst):
@@ -67,7 +67,7 @@ class Ages:
 
     def at_most(self, budget, mode):
         it, rounds = self.study, self.typical(budget, mode)
-        return f"more than {in_rounds([it.target])}" if rounds is None else lasting(it, rounds)
+        return say("more_than", rounds=in_rounds([it.target])) if rounds is None else lasting(it, rounds)
 
     def told(self, budget, mode):
         why = say("not_yet" if self.typical(budget, mode) is None else "no_older")
@@ -161,7 +161,7 @@ class Search:
 
 class Met(choice.Decision):
     """The smallest packet that keeps to the target; or, where none does, what is the best that can be had."""
-    why_empty = "in each mode budgets are halved until the smallest that keeps to the target is known"
+    why_empty = say("why_empty")
 
     def __init__(self, search, is_met, ages):
         self.study, self.found, self.stage, self.window = search.study, search.found, search.stage, ages.window
@@ -179,8 +179,8 @@ class Met(choice.Decision):
         return (self.budget, mode) if mode == self.mode else self.search.run_of(mode)
 
     def headline(self):
-        within = f"the worst staleness within {cluster.plain(self.study.told['target'])} s"
-        return f"{super().headline()} keeps {within}" if self.is_met else f"no budget keeps {within}"
+        what, seconds = super().headline() if self.is_met else "no budget", cluster.plain(self.study.told["target"])
+        return say("keeps", what=what, seconds=seconds)
 
     def smaller_one(self):
         """What the next smaller budget has that was run; empty where there is none."""
@@ -190,7 +190,7 @@ class Met(choice.Decision):
             return say("smaller_bound", entries=it.whole(max(bounded)), above=above_target(it, worst),
                        seeds=len(worst), most=briefly(it, [max(worst)]))
         if (below, self.mode) in self.found.rows:
-            level = "" if self.is_enough(below, self.mode) else ", not level"
+            level = "" if self.is_enough(below, self.mode) else say("not_level")
             had = briefly(it, self.worst_with(below, self.mode))
             return say("smaller", entries=it.whole(below), had=had, level=level)
         return say("smaller_tenth", self) if it.parts > 1 else ""
@@ -215,5 +215,5 @@ class Met(choice.Decision):
         if not self.is_met:
             return [say("best", self, within=within), *staleness, *answer.heads(self)]
         modes = rows(*((mode, self.of_mode_in_words(mode)) for mode in self.figures))
-        return [say("each_mode", within=within, seeds=len(rules.FIRST)), *modes, "", f"Take {self.takes()}.",
+        return [say("each_mode", within=within, seeds=len(rules.FIRST)), *modes, "", answer.say("take", self),
                 *staleness, "", say("see_more"), f"  {call}", *answer.heads(self)]

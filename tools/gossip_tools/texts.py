@@ -30,9 +30,10 @@ def sentence(part, name):
     return re.sub(r"\s*\n\s*", " ", table_of("said.toml")[part][name])
 
 
-def speaker(part):
-    """Says the sentences of a part, by their names: of something, as `it`, and of further values."""
-    def say(name, it=None, /, **values):
-        return Sentence().format(sentence(part, name), it=it, **values)
+def said(part, name, it=None, /, **values):
+    """A sentence of a part, filled: of something, as `it`, and of further values."""
+    return Sentence().format(sentence(part, name), it=it, **values)
 
-    return say
+
+def speaker(part):
+    return functools.partial(said, part)

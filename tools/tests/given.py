@@ -2,7 +2,7 @@
 import pathlib
 import tomllib
 
-from gossip_tools import advise, answer, choice, cluster, study
+from gossip_tools import answer, choice, cluster, study
 from gossip_tools.commands import Refused
 from gossip_tools.live_plan import Plan
 
@@ -12,7 +12,7 @@ ROOMY = "nodes=300 keys=4 writes=2 entry=40 packet=40000"
 
 def of(words):
     """The cluster that words tell."""
-    return study.Study(cluster.told(words.split(), advise.USUAL, advise.CALL, {"packet": "target"}))
+    return study.Study(cluster.told(cluster.ADVISE, words.split()))
 
 
 class Figures:

@@ -1,9 +1,10 @@
 """The tables of tables.toml: what functions of the tools make of their arguments, by hand."""
 import importlib
 import pathlib
+import re
 import unittest
 
-from gossip_tools import rules, study
+from gossip_tools import rules, study, texts
 from given import of, outcome, plain, plan, table_of, value_of
 
 
@@ -49,3 +50,12 @@ class Tables(unittest.TestCase):
         guide = " ".join((pathlib.Path(__file__).resolve().parents[2] / "docs/guide.md").read_text().split())
         self.assertIn(rules.HEALED.format(31, 50), guide)
         self.assertIn(rules.FORGETFUL, guide)
+
+    def test_sentences_are_said(self):
+        """What modules say by a name is in their part of said.toml, and they name all that is there."""
+        table, modules = texts.table_of("said.toml"), {it.stem: it.read_text() for it in texts.FOLDER.glob("*.py")}
+        for module, text in modules.items():
+            for other, name in re.findall(r'(?:(\w+)\.)?say\("(\w+)"', text):
+                self.assertIn(name, table[importlib.import_module(f"gossip_tools.{other or module}").say.args[0]])
+        named = set(re.findall(r'"(\w+)"', "".join(modules.values())))
+        self.assertEqual(set(), {name for sentences in table.values() for name in sentences} - named)

@@ -158,8 +158,7 @@ module _ {N : Type 0} {number : N → ℕ} {most : ℕ} {turns : Turns N} (are :
       }
         where
           tells : IsStopTold turns.first (weights_in offer owner) cells keys owner (low owner) (near owner) (far owner) (number to) stop.left
-          tells = stop-tells (weights_in offer owner) cells keys owner (near owner) (far owner) reached.left (low owner) (number to) stop.beyond stop.left
-              (are.offer.differ owner in_nodes) stop.below stop.above turns.first (are.level.farther owner in_nodes) stop.so_far
+          tells = stop-tells stop.so_far (are.offer.differ owner in_nodes) stop.below stop.above (are.level.farther owner in_nodes)
 
           ordered : AreFarther turns.first (low owner) (near owner) (number to)
           ordered = ((are.level.farther owner in_nodes).0, tells.stops.above, stop.so_far.on)

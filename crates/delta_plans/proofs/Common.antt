@@ -19,6 +19,7 @@ pub use Rattle.std.specs.Vec.{with_items}
 pub use Rattle.std.specs.declared.alloc.Global.{Global}
 pub use Rattle.std.specs.declared.cmp.Ordering.{Ordering}
 pub use Rattle.std.specs.declared.cmp.Ordering.TheVariants.{Equal, Greater, Less}
+pub use borrow.Author.Count.{below_more}
 pub use borrow.Rule.Slice.PartMut.{put_mid}
 pub use Rattle.bench_types.proofs.Sums.{fold_below-join, sum_below-most, sum_below-plus, sum_below-same, sums}
 pub use Rattle.bench_types.specs.Budget.{largest_share}
@@ -46,19 +47,20 @@ pub use Rattle.model.specs.inner.Applied.{items_at, stands_at}
 pub use Rattle.owner_writes.proofs.Numbers.{number-of_version, numbered-some, versions-rise, write_from-at}
 pub use Rattle.owner_writes.specs.Numbered.{IsHistory, start_before, start_of}
 pub use Rattle.planes.proofs.Counts.{count_le, number_next, one_le, sum_next, sum_whole}
-pub use Rattle.planes.proofs.Elementwise.{changed_all, changed_none, made-as, number-at, number-waits, written_next}
+pub use Rattle.planes.proofs.Elementwise.{changed_all, made-as, number-at, number-waits, written_next}
 pub use Rattle.planes.proofs.Places.{each-next, part-here, part-written}
 pub use Rattle.planes.specs.Elementwise.{AreChanged, AreChangedUpto}
+pub use Rattle.planes.specs.Loops.{AreCountedUpto}
 pub use Rattle.planes.specs.Planes.{Cells, HasEach, HasNoneAbove, IsLeastAbove, IsNextAbove, cell, count_above, count_between, total_of}
 pub use Rattle.delta_plans.specs.Granted.{IfGranted}
 pub use Rattle.delta_plans.specs.LevelMarks.{by_first, comes_first, item_number, AreLevelMarks, NumbersDiffer, first_level, first_sent, level_number, lets_through, rank_above, round_of}
 pub use Rattle.delta_plans.specs.Offers.{number_here, number_there, sum_over, AreSent, Offers, is_lacked, offered_sum, told_by, told_number}
 pub use Rattle.delta_plans.specs.Marked.{AreMarked, IsLevelOf, KeepsLow}
 pub use Rattle.delta_plans.specs.OfferInMemory.{AreCounted, IsLeftOf, IsOffer, cells_in, count_in, high_in, low_in, marks, owner_count_in, weight_in, weights_in}
-pub use Rattle.delta_plans.specs.Plans.{AreFarther, AreMarksFrom, AreNextRuns, AreRunsFrom, IsLevel, IsLevelBy, IsNextLayer, IsNextMark, IsStep, count_on, weight_on}
+pub use Rattle.delta_plans.specs.Plans.{AreFarther, AreMarksFrom, AreNextRuns, AreRunsFrom, HasLevels, IsLevel, IsLevelBy, IsNextLayer, IsNextMark, IsStep, count_on, weight_on}
 pub use Rattle.delta_plans.specs.RoundLevels.{AreFewAndEnough, AreRaised, AreRoundMarks, HasRounds, IsFound, IsLevelOfRounds, end_mark, mark_of_rounds}
 pub use Rattle.delta_plans.specs.SentSets.{DeltasHaveTheirSets, HasSet, IsKeptOut, IsSentSet, size_in}
-pub use Rattle.delta_plans.specs.Turns.{AreShared, StopAt, StopsBefore, AreKnownFor, ArePassing, AreSharedBy, AreTurns, HadTurns, HasPart, HasReached, HaveParts, HaveTurns, IsStopOf, IsTooHeavy, KnowParts, KnowsPart, part_weight, parts_count, weight_to}
+pub use Rattle.delta_plans.specs.Turns.{AreShared, StopAt, StopsBefore, AreKnownFor, ArePassing, AreSharedBy, AreTurns, HadTurns, HasPart, HasReached, HaveParts, HaveTurns, IsStopOf, IsTooHeavy, KnowParts, KnowsPart, part_weight, parts_count, reached_after, weight_to}
 pub use Rattle.delta_plans.specs.Stops.{IsOn, IsStopBetween, IsStopFrom}
 pub use Rattle.delta_plans.specs.Told.{IsKnown}
 pub use Rattle.delta_plans.specs.Weights.{count_all_between, number_share, number_shares, one_each, share_or_none, weight_between, weight_from, weight_of, weight_through}

@@ -44,10 +44,8 @@ turn-lt t u o apart = grind (arith, nat_tests)
 level-tells : (way : First) (l m next : ℕ) (near far : Bool) → near ≡ comes_first way l next → far ≡ not (comes_first way next l)
     → comes_first way m next ≡ false → not (comes_first way next m) ≡ true
     → (near ≡ is_lt (age_cmp way l m)) × (far ≡ is_lt (ordering_then (age_cmp way l m) Less))
-level-tells Oldest l m next near far before upto outside inside =
-    let its : m ≡ next = grind (arith, nat_tests) in (grind (arith, nat_tests), grind (arith, nat_tests))
-level-tells Newest l m next near far before upto outside inside =
-    let its : m ≡ next = grind (arith, nat_tests) in (grind (arith, nat_tests), grind (arith, nat_tests))
+level-tells Oldest l m next near far before upto outside inside = grind (arith, nat_tests)
+level-tells Newest l m next near far before upto outside inside = grind (arith, nat_tests)
 
 -- an owner's versions rise with its numbers, so its candidates of one level stand as these do
 own-order : (first : First) (m n v w k l : ℕ) → (m < n → v < w) → (n < m → w < v) → (m ≡ n → (v ≡ w) × (k ≡ l))

@@ -33,14 +33,17 @@ on-start : (first : First) (near : ℕ) → IsOn first near near
 on-start Oldest near = omega arith
 on-start Newest near = omega arith
 
-on-through : (first : First) (a b c : ℕ) → IsOn first a b → IsOn first b c → IsOn first a c
-on-through Oldest a b c ab bc = omega (arith, ab, bc)
-on-through Newest a b c ab bc = omega (arith, ab, bc)
+-- halfway between two marks on the way from a near to a far one
+record IsHalfway (first : First) (near mark middle beyond far : ℕ) : Type 0 where
+  on : IsOn first near middle
+  from : IsOn first mark middle
+  to : IsOn first middle beyond
+  upto : IsOn first middle far
 
--- halfway between two marks
-on-middle : (first : First) (a b middle : ℕ) → IsOn first a b → min a b ≤ middle → middle ≤ max a b → IsOn first a middle × IsOn first middle b
-on-middle Oldest a b middle on above upto = (omega (arith, on, above), omega (arith, on, upto))
-on-middle Newest a b middle on above upto = (omega (arith, on, upto), omega (arith, on, above))
+halfway : (first : First) (near mark middle beyond far : ℕ) → IsOn first near mark → IsOn first mark beyond → IsOn first beyond far
+    → min mark beyond ≤ middle → middle ≤ max mark beyond → IsHalfway first near mark middle beyond far
+halfway Oldest near mark middle beyond far on between upto above below = omega arith
+halfway Newest near mark middle beyond far on between upto above below = omega arith
 
 -- where a part stops: what its number that doesn't fit tells
 pub record IsStopTold (first : First) (weight : ℕ → ℕ) (cells : Cells) (keys owner low near far mark left : ℕ) : Type 0 where
@@ -79,26 +82,14 @@ from-split Newest weight cells keys owner a b c ab bc = omega (arith, weight_of-
 module _ {first : First} {weight : ℕ → ℕ} {cells : Cells} {keys owner near far room mark beyond left : ℕ}
     (so_far : IsStopBetween first weight cells keys owner near far room mark beyond left) where
   -- a mark halfway: either all up to it fits, or it is beyond what does
-  pub stop-halved : (middle : ℕ) {taken : ℕ} → min mark beyond ≤ middle → middle ≤ max mark beyond → taken ≡ weight_from first weight cells keys owner mark middle
-      → (taken ≤ left → IsStopBetween first weight cells keys owner near far room middle beyond (left - taken))
+  pub stop-halved : (middle : ℕ) {taken : ℕ} → min mark beyond ≤ middle → middle ≤ max mark beyond
+      → taken ≡ weight_from first weight cells keys owner mark middle → (taken ≤ left → IsStopBetween first weight cells keys owner near far room middle beyond (left - taken))
       × (left < taken → IsStopBetween first weight cells keys owner near far room mark middle left)
   stop-halved middle above below takes =
-      let on = on-middle first mark beyond middle so_far.between above below in (
-        (λ fits. record {
-          on = on-through first near mark middle so_far.on on.0;
-          between = on.1;
-          upto = so_far.upto;
-          rest = omega (arith, from-split first weight cells keys owner near mark middle so_far.on on.0, so_far.rest, takes, fits);
-          more = omega (arith, from-split first weight cells keys owner mark middle beyond on.0 on.1, so_far.more, takes, fits);
-        }),
-        (λ more. record {
-          on = so_far.on;
-          between = on.0;
-          upto = on-through first middle beyond far on.1 so_far.upto;
-          rest = so_far.rest;
-          more = omega (arith, more, takes);
-        }),
-      )
+      let is = halfway first near mark middle beyond far so_far.on so_far.between so_far.upto above below in
+      let taken = from-split first weight cells keys owner near mark middle so_far.on is.from in
+      let rest = from-split first weight cells keys owner mark middle beyond is.from is.to in
+      ((λ fits. search (arith, takes, taken, rest)), (λ more. search (arith, takes)))
 
   -- in the end there is one number between
   pub stop-tells : {low : ℕ} → NumbersDiffer cells keys owner → mark ≤ beyond + 1 → beyond ≤ mark + 1 → AreFarther first low near far

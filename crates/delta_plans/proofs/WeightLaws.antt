@@ -1,6 +1,6 @@
 -- Sums below a bound, and what numbers weigh between marks.
 -- Serves most of the crate and `version_tables`.
-use Rattle.delta_plans.proofs.Common.{◌≡◌, ◌≢◌, ℕ, zero, suc, ◌+◌, ◌-◌, ◌*◌, ◌<◌, ◌≤◌, Bool, cond, ltb, leb, Option, Some, None, ◌⊎◌, inl, inr, ap, ◌∙◌, subst, arith, nat_tests, cases_lt, mul-le-mul_right, Entry, Budget, Entries, Bytes, MOST_NODES, MOST_KEYS, MOST_ENTRY_SIZE, write_numbered, numbered-some, all_writes, Cells, count_between, HasNoneAbove, sum_below, sum_below-most, sum_below-same, sum_below-le, sum_below-plus, fold_below-join, sums, Offer, cells_in, weights_in, weight_in, count_in, IsOffer, number_share, share_or_none, weight_of, weight_between, count_all_between}
+use Rattle.delta_plans.proofs.Common.{◌≡◌, ◌≢◌, ℕ, zero, suc, ◌+◌, ◌-◌, ◌*◌, ◌<◌, ◌≤◌, Bool, cond, ltb, leb, Option, Some, None, ◌⊎◌, inl, inr, ap, ◌∙◌, subst, arith, nat_tests, cases_lt, mul-le-mul_right, Entry, Budget, Entries, Bytes, MOST_NODES, MOST_KEYS, MOST_ENTRY_SIZE, write_numbered, numbered-some, all_writes, Cells, count_between, HasNoneAbove, sum_below, sum_below-most, sum_below-same, sum_below-le, sum_below-plus, fold_below-join, sums, Offer, cells_in, low_in, high_in, weights_in, weight_in, count_in, IsOffer, number_share, share_or_none, weight_of, weight_between, count_all_between}
 
 -- a number where a test passes
 abbrev pub where_true : Bool → ℕ → ℕ
@@ -94,15 +94,18 @@ share-most budget None = omega arith
 share-most (Entries n) (Some e) = omega arith
 share-most (Bytes n) (Some e) = omega arith
 
+-- what lemmas name of an offer
+pub record Parts : Type 0 where
+  pub cells : Cells
+  pub low : ℕ → ℕ
+  pub high : ℕ → ℕ
+
+abbrev pub parts_of : {N : Type 0} → (N → ℕ) → Offer N → Parts
+parts_of number offer = record { cells = cells_in number offer; low = low_in number offer; high = high_in number offer }
+
 module _ {N : Type 0} (number : N → ℕ) (offer : Offer N) where
-  abbrev cells : Cells
-  cells = cells_in number offer
-
-  abbrev nodes : ℕ
-  nodes = offer.grid.size.nodes
-
-  abbrev keys : ℕ
-  keys = offer.grid.size.keys
+  open parts_of number offer use {cells}
+  open offer.grid.size use {nodes, keys}
 
   most : (owner n : ℕ) → weights_in offer owner n ≤ MOST_ENTRY_SIZE
   most owner n = share-most offer.budget (write_numbered (all_writes offer.lists.now owner) n)

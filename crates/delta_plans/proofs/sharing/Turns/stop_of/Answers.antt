@@ -1,4 +1,4 @@
-use Rattle.delta_plans.proofs.Common.{List, ◌≡◌, ◌+◌, ◌/◌, ap, ◌∙◌, arith, marks, weights_in, weight_to}
+use Rattle.delta_plans.proofs.Common.{◌≡◌, ◌+◌, ◌/◌, ap, ◌∙◌, arith, marks, weights_in, weight_to}
 use Rattle.delta_plans.proofs.StopSteps.{stop-first, stop-halved}
 use Rattle.delta_plans.proofs.sharing.Turns.stop_of.Goals as goal
 
@@ -17,10 +17,8 @@ loop-middle-init g c =
 
 pub loop-middle-preserved-then-weight-left : goal.loop-middle-preserved-then-weight-left
 loop-middle-preserved-then-weight-left g c =
-    let turns = c.args.self.now in
-    let takes = c.weight_from-weight.ensures
-    ∙ (λ i. weight_to g.N.Number.number (weights_in turns.offer.now c.args.owner) turns c.args.owner (c.narrow.ensures i) (c.narrow-in-loop-middle.ensures i)) in
-    let halved = stop-halved c.loop-middle.invariant.so_far (c.min.result + c.abs_diff-in-loop-middle.result / 2) (omega (arith, c.min.ensures))
+    let takes = rw (c.narrow.ensures, c.narrow-in-loop-middle.ensures) at c.weight_from-weight.ensures in
+    let halved = stop-halved c.loop-middle.invariant.so_far _ (omega (arith, c.min.ensures))
     (omega (arith, c.min.ensures, c.abs_diff-in-loop-middle.ensures)) takes in
     record {
       so_far = halved.0 c.if-weight-left.true;
@@ -30,10 +28,8 @@ loop-middle-preserved-then-weight-left g c =
 
 pub loop-middle-preserved : goal.loop-middle-preserved
 loop-middle-preserved g c =
-    let turns = c.args.self.now in
-    let takes = c.weight_from-weight.ensures
-    ∙ (λ i. weight_to g.N.Number.number (weights_in turns.offer.now c.args.owner) turns c.args.owner (c.narrow.ensures i) (c.narrow-in-loop-middle.ensures i)) in
-    let halved = stop-halved c.loop-middle.invariant.so_far (c.min.result + c.abs_diff-in-loop-middle.result / 2) (omega (arith, c.min.ensures))
+    let takes = rw (c.narrow.ensures, c.narrow-in-loop-middle.ensures) at c.weight_from-weight.ensures in
+    let halved = stop-halved c.loop-middle.invariant.so_far _ (omega (arith, c.min.ensures))
     (omega (arith, c.min.ensures, c.abs_diff-in-loop-middle.ensures)) takes in
     record {
       so_far = halved.1 c.if-weight-left.false;

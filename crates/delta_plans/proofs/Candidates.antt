@@ -194,17 +194,13 @@ module _ {mode : Mode} {from to : Table} {lists : ℕ → List Entry} {cells : C
     pub rank_among-is : rank_among cs c ≡ rank_above cells from.keys c.owner (low c.owner) (item_number cells c)
     rank_among-is =
         offered-sum (λ d. where_true (eqb d.owner c.owner && ltb d.entry.version c.entry.version) 1)
-        (λ owner key. where_true (eqb owner c.owner) (where_true (ltb (cells c.owner key) (item_number cells c)) 1)) told
-        ∙ of_owner (λ key. where_true (ltb (cells c.owner key) (item_number cells c)) 1)
-      where
-        told : (d : Item) → Contains cs d
-            → where_true (eqb d.owner c.owner && ltb d.entry.version c.entry.version) 1
-            ≡ where_true (eqb d.owner c.owner) (where_true (ltb (cells c.owner d.entry.key) (item_number cells c)) 1)
-        told d in_d = elim (cases_eq d.owner c.owner) [
+        (λ owner key. where_true (eqb owner c.owner) (where_true (ltb (cells c.owner key) (item_number cells c)) 1))
+        (λ d in_d. elim (cases_eq d.owner c.owner) [
           | inr other ↦ grind (arith, nat_tests)
           | inl same ↦
               let its = ap (λ o. cells o d.entry.key) same in
               let rise = older d c in_d in_c same in
               let fall = newer d c in_d in_c same in
               grind (arith, nat_tests)
-        ]
+        ])
+        ∙ of_owner (λ key. where_true (ltb (cells c.owner key) (item_number cells c)) 1)

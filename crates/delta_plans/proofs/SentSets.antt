@@ -34,7 +34,7 @@ not_less Less e = absurd (e refl)
 not_less Equal e = refl
 not_less Greater e = refl
 
-module _ {X : Type 0} (order : X → X → Ordering) (total : IsTotalOrder order) (cs : List X) (size : X → ℕ) (is_in : X → Bool) (budget : ℕ)
+module _ {X : Type 0} {order : X → X → Ordering} {cs : List X} {size : X → ℕ} {is_in : X → Bool} {budget : ℕ} (total : IsTotalOrder order)
     (strict : (c d : X) → Contains cs c → Contains cs d → order c d ≡ Equal → c ≡ d) (is : IsSentSet order cs size is_in budget) where
   abbrev term : X → ℕ
   term d = cond (is_in d) (size d) 0
@@ -102,11 +102,11 @@ module _ {X : Type 0} (order : X → X → Ordering) (total : IsTotalOrder order
   cut-is = sum_by-same (λ c. cond (not (fits order cs size budget c)) 1 0) (λ c. cond (not (is_in c)) 1 0) cs
       (λ c at_c. ap (λ b. cond (not b) 1 0) (fits-is c at_c))
 
-module _ {X : Type 0} (order : X → X → Ordering) (total : IsTotalOrder order) (cs : List X) (size : X → ℕ) (is_in : X → Bool) (budget : ℕ) where
+module _ {X : Type 0} {order : X → X → Ordering} {cs : List X} {size : X → ℕ} {is_in : X → Bool} {budget : ℕ} where
   -- what comes before a candidate that doesn't fit beside it
-  pub stops_sent : (next : X) → Contains cs next → ((c : X) → Contains cs c → is_in c ≡ is_lt (order c next))
+  pub stops_sent : IsTotalOrder order → (next : X) → Contains cs next → ((c : X) → Contains cs c → is_in c ≡ is_lt (order c next))
       → size_in order cs size is_in ≤ budget → budget < size_in order cs size is_in + size next → IsSentSet order cs size is_in budget
-  stops_sent next candidate set within beyond = record {
+  stops_sent total next candidate set within beyond = record {
     closed = λ c d at_c at_d before yes'. set c at_c ∙ ap is_lt (total.trans c d next before (is_less (order d next) (sym (set d at_d) ∙ yes')));
     within = within;
     tight = λ c at_c no'. record {
@@ -130,43 +130,35 @@ pub set_sent : DeltasHaveTheirSets
 set_sent mode rotation budget from to is_in proper in_nodes is = record {
   members = λ c. (sent_in c, (λ both. in_sent c both.0 both.1));
   count = sym (length_permutation delta.items (filter is_in cs) same_items) ∙ length-filter is_in cs;
-  cut = cut-is order total cs size is_in (amount_of budget) strict is;
+  cut = cut-is total strict is;
 }
   where
     cs : List Item
     cs = candidates mode from to
 
-    order : Item → Item → Ordering
-    order = sending_order mode from.nodes rotation cs
-
-    total : IsTotalOrder order
+    total : IsTotalOrder (sending_order mode from.nodes rotation cs)
     total = sending_order-total mode from.nodes rotation cs
 
-    strict : (c d : Item) → Contains cs c → Contains cs d → order c d ≡ Equal → c ≡ d
+    strict : (c d : Item) → Contains cs c → Contains cs d → sending_order mode from.nodes rotation cs c d ≡ Equal → c ≡ d
     strict = sending_order-strict mode from to rotation proper in_nodes
-
-    size : Item → ℕ
-    size = item_share budget
 
     delta : DeltaView
     delta = delta_between mode rotation budget from to
 
     sent_in : (c : Item) → Contains delta.items c → Contains cs c × (is_in c ≡ true)
-    sent_in = sent-in_set order total cs size is_in (amount_of budget) strict is
+    sent_in = sent-in_set total strict is
 
     in_sent : (c : Item) → Contains cs c → is_in c ≡ true → Contains delta.items c
-    in_sent = in_set-sent order total cs size is_in (amount_of budget) strict is
+    in_sent = in_set-sent total strict is
 
     is_apart : Item → Item → Type 0
     is_apart i j = stands_at i.owner i.entry.key j ≡ false
-
-    held : (c : Item) → Contains cs c → Contains (items_of from) c
-    held c there = (Contains-kept (is_lacked mode to) (items_of from) c there).0
 
     filtered_apart : IsApart (filter is_in cs)
     filtered_apart = AllPairs-filter is_apart is_in cs (AllPairs-filter is_apart (is_lacked mode to) (items_of from) (table_apart from proper))
 
     same_items : IsPermutation delta.items (filter is_in cs)
-    same_items = same_members delta.items (filter is_in cs) (sent_apart order total from proper cs held _) filtered_apart
+    same_items = same_members delta.items (filter is_in cs)
+        (sent_apart _ total from proper cs (λ c there. (Contains-kept (is_lacked mode to) (items_of from) c there).0) _) filtered_apart
         (λ c there. Contains-filter is_in cs c (sent_in c there).0 (sent_in c there).1)
         (λ c there. let at = Contains-kept is_in cs c there in in_sent c at.0 at.1)

@@ -83,7 +83,8 @@ module _ {first : First} {weight : ℕ → ℕ} {cells : Cells} {keys owner near
     (so_far : IsStopBetween first weight cells keys owner near far room mark beyond left) where
   -- a mark halfway: either all up to it fits, or it is beyond what does
   pub stop-halved : (middle : ℕ) {taken : ℕ} → min mark beyond ≤ middle → middle ≤ max mark beyond
-      → taken ≡ weight_from first weight cells keys owner mark middle → (taken ≤ left → IsStopBetween first weight cells keys owner near far room middle beyond (left - taken))
+      → taken ≡ weight_from first weight cells keys owner mark middle
+      → (taken ≤ left → IsStopBetween first weight cells keys owner near far room middle beyond (left - taken))
       × (left < taken → IsStopBetween first weight cells keys owner near far room mark middle left)
   stop-halved middle above below takes =
       let is = halfway first near mark middle beyond far so_far.on so_far.between so_far.upto above below in

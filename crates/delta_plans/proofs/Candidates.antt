@@ -46,15 +46,7 @@ module _ (t : Table) (proper : IsProper t) where
 
   -- the items of a place
   none_at : (owner key : ℕ) → entry_at t owner key ≡ None → (i : Item) → Contains (items_of t) i → stands_at owner key i ≡ false
-  none_at owner key none i there = elim (stands_at owner key i) as (λ b. stands_at owner key i ≡ b → b ≡ false) [
-    | false ↦ λ _. refl
-    | true ↦ λ is.
-        let parts = and_parts (eqb i.owner owner) (eqb i.entry.key key) is in
-        let same : entry_at t i.owner i.entry.key ≡ entry_at t owner key =
-        λ j. entry_at t (eqb-true i.owner owner parts.0 j) (eqb-true i.entry.key key parts.1 j) in
-        let no : None ≡ Some i.entry = sym none ∙ sym same ∙ entry_at-items_of t i proper there in
-        absurd (cc)
-  ] refl
+  none_at owner key none i there = grind (arith, nat_tests, entry_at-items_of t i proper there)
 
   at_place : (f : Item → ℕ) (owner key : ℕ) → sum_at f (items_of t) owner key ≡ number_there f t owner key
   at_place f owner key =
@@ -106,16 +98,13 @@ module _ {mode : Mode} {from to : Table} {lists : ℕ → List Entry} {cells : C
   -- it is the write of its number, which is above the owner's mark
   pub candidate-number : (c : Item) → Contains cs c
       → (low c.owner < item_number cells c) × (write_numbered (lists c.owner) (item_number cells c) ≡ Some c.entry)
-  candidate-number c there = elim (cases_lt (low c.owner) (item_number cells c)) [
+  candidate-number c there = let held = candidate-held c there in elim (cases_lt (low c.owner) (item_number cells c)) [
     | inl above ↦
         let place = candidate-place c there in
         let offered = given.offers.above c.owner c.entry.key place.owner_below place.key_below above in
         (above, offered.2 ∙ ap Some (same_Some offered.0 c.entry (sym offered.1 ∙ held.0)))
     | inr not_above ↦ absurd (both_ways (is_lacked mode to c) (given.offers.below c.owner c.entry.key c.entry held.0 (omega (arith, not_above))) held.1)
   ]
-    where
-      held : (entry_at from c.owner c.entry.key ≡ Some c.entry) × (is_lacked mode to c ≡ true)
-      held = candidate-held c there
 
   -- each number above its owner's mark is that of a candidate
   pub candidate-at : (owner key : ℕ) → owner < from.nodes → key < from.keys → low owner < cells owner key
@@ -158,11 +147,7 @@ module _ {mode : Mode} {from to : Table} {lists : ℕ → List Entry} {cells : C
   pub offered-sum : (f : Item → ℕ) (g : ℕ → ℕ → ℕ) → ((c : Item) → Contains cs c → f c ≡ g c.owner c.entry.key) → sum_by f cs ≡ offered_sum from cells low g
   offered-sum f g told =
       candidates_sum mode from to given.proper f
-      ∙ sum_below-same from.nodes _ _ (λ owner in_nodes. sum_below-same from.keys _ _ (λ key in_keys. at owner key in_nodes in_keys))
-    where
-      at : (owner key : ℕ) → owner < from.nodes → key < from.keys
-          → number_there (λ i. cond (is_lacked mode to i) (f i) 0) from owner key ≡ cond (ltb (low owner) (cells owner key)) (g owner key) 0
-      at owner key in_nodes in_keys = elim (cases_lt (low owner) (cells owner key)) [
+      ∙ sum_below-same from.nodes _ _ (λ owner in_nodes. sum_below-same from.keys _ _ (λ key in_keys. elim (cases_lt (low owner) (cells owner key)) [
         | inl above ↦
             let there = candidate-at owner key in_nodes in_keys above in
             let i : Item = record { owner = owner; entry = there.0 } in
@@ -175,7 +160,7 @@ module _ {mode : Mode} {from to : Table} {lists : ℕ → List Entry} {cells : C
               | Some e ↦ λ held. ap (λ b. cond b (f (record { owner = owner; entry = e })) 0) (given.offers.below owner key e held (omega (arith, not_above)))
             ] refl
             ∙ ap (λ b. cond b (g owner key) 0) (sym (le-ltb (low owner) (cells owner key) (omega (arith, not_above))))
-      ]
+      ]))
 
   module _ (c : Item) (in_c : Contains cs c) where
     -- a number of one owner's places alone

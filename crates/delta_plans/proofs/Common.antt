@@ -63,7 +63,7 @@ pub use Rattle.delta_plans.specs.SentSets.{DeltasHaveTheirSets, HasSet, IsKeptOu
 pub use Rattle.delta_plans.specs.Turns.{AreShared, StopAt, StopsBefore, AreKnownFor, ArePassing, AreSharedBy, AreTurns, HadTurns, HasPart, HasReached, HaveParts, HaveTurns, IsStopOf, IsTooHeavy, KnowParts, KnowsPart, part_weight, parts_count, reached_after, weight_to}
 pub use Rattle.delta_plans.specs.Stops.{IsOn, IsStopBetween, IsStopFrom}
 pub use Rattle.delta_plans.specs.Told.{IsKnown}
-pub use Rattle.delta_plans.specs.Weights.{count_all_between, number_share, number_shares, one_each, share_or_none, weight_between, weight_from, weight_of, weight_through}
+pub use Rattle.delta_plans.specs.Weights.{count_all_between, number_shares, one_each, share_or_none, weight_between, weight_from, weight_of, weight_through}
 pub use Rattle.delta_plans.specs.declared.marked.First.{First}
 pub use Rattle.delta_plans.specs.declared.marked.First.TheVariants.{Newest, Oldest}
 pub use Rattle.delta_plans.specs.declared.offers.Level.{Level}

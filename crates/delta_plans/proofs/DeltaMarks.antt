@@ -197,7 +197,8 @@ module _ {mode : Mode} {from to : Table} {lists : ℕ → List Entry} {cells : C
       shared-sent shape stop within beyond =
           set_sent mode rotation budget from to (lets mode cells mark) given.proper in_nodes
           (stops_sent (sending_order-total mode from.nodes rotation cs) (next shape stop) (in_next shape stop) (marks-stop shape stop)
-          (omega (arith, sizes-weigh, within)) (omega (arith, sizes-weigh, share-is (next shape stop) (in_next shape stop), ap (weights stop.owner) (its_number shape stop), beyond)))
+          (omega (arith, sizes-weigh, within))
+          (omega (arith, sizes-weigh, share-is (next shape stop) (in_next shape stop), ap (weights stop.owner) (its_number shape stop), beyond)))
 
       -- and marks that let all through, where it fits
       pub whole-sent : ((c : Item) → Contains cs c → lets mode cells mark c ≡ true) → through weights ≤ amount_of budget

@@ -167,28 +167,19 @@ module _ {N : Type 0} {number : N → ℕ} {most : ℕ} (rounds : Rounds N) (is 
     shape = shape rounds.first near.each far.each;
   }
     where
-      near_marks : ℕ → ℕ
-      near_marks = marks number level.near.items
-
-      far_marks : ℕ → ℕ
-      far_marks = marks number level.far.items
-
-      shape : (f : First) → ((owner : ℕ) → owner < nodes → near_marks owner ≡ mark f (enough - 1) owner)
-          → ((owner : ℕ) → owner < nodes → far_marks owner ≡ mark f enough owner) → AreLevelMarks f f born cells nodes keys low near_marks far_marks
+      shape : (f : First) → ((owner : ℕ) → owner < nodes → marks number level.near.items owner ≡ mark f (enough - 1) owner)
+          → ((owner : ℕ) → owner < nodes → marks number level.far.items owner ≡ mark f enough owner)
+          → AreLevelMarks f f born cells nodes keys low (marks number level.near.items) (marks number level.far.items)
       shape Oldest nears fars = record {
         next = enough;
         near_is = λ r key lt in_keys over.
-            let by_then = written-by r key lt in_keys (enough - 1) (omega (arith, found.bound)) over in let at = nears r lt in let some = found.below in
-            grind (arith, nat_tests);
-        far_is = λ r key lt in_keys over.
-            let by_then = written-by r key lt in_keys enough found.bound over in let at = fars r lt in grind (arith, nat_tests);
+            grind (arith, nat_tests, written-by r key lt in_keys (enough - 1) (omega (arith, found.bound)) over, nears r lt, found.below);
+        far_is = λ r key lt in_keys over. grind (arith, nat_tests, written-by r key lt in_keys enough found.bound over, fars r lt);
       }
       shape Newest nears fars = record {
         next = last - (enough - 1);
-        near_is = λ r key lt in_keys over.
-            let by_then = written-by r key lt in_keys (last - (enough - 1)) (omega arith) over in let at = nears r lt in grind (arith, nat_tests);
+        near_is = λ r key lt in_keys over. grind (arith, nat_tests, written-by r key lt in_keys (last - (enough - 1)) (omega arith) over, nears r lt);
         far_is = λ r key lt in_keys over.
-            let by_then = written-by r key lt in_keys (last - enough) (omega arith) over in let at = fars r lt in
             let one : last - (enough - 1) ≡ last - enough + 1 = omega (arith, found.below, found.bound) in
-            grind (arith, nat_tests);
+            grind (arith, nat_tests, written-by r key lt in_keys (last - enough) (omega arith) over, fars r lt);
       }

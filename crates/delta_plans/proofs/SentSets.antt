@@ -84,13 +84,10 @@ module _ {X : Type 0} {order : X → X → Ordering} {cs : List X} {size : X →
       omega (arith, more)
 
   place_set : (c : X) → Contains cs c → before_count order cs c < places → is_in c ≡ true
-  place_set c at_c lt = elim (is_in c) as (λ b. is_in c ≡ b → b ≡ true) [
-    | true ↦ λ e. refl
-    | false ↦ λ e.
-        let le = sum_by-le (λ d. one (fits order cs size budget d)) (λ d. one (is_lt (order d c))) cs
-        (λ d at_d. let behind = behind_in d c at_d at_c in grind (arith, nat_tests, fits-is d at_d)) in
-        absurd (omega (arith, lt, le))
-  ] refl
+  place_set c at_c lt =
+      let le = λ (e : is_in c ≡ false). sum_by-le (λ d. one (fits order cs size budget d)) (λ d. one (is_lt (order d c))) cs
+      (λ d at_d. let behind = behind_in d c at_d at_c in grind (arith, nat_tests, fits-is d at_d)) in
+      grind (arith, nat_tests, le)
 
   pub sent-in_set : (c : X) → Contains (sent order cs size budget) c → Contains cs c × (is_in c ≡ true)
   sent-in_set c there = let at = Contains-first_places order total cs places c there in (at.0, place_set c at.0 at.1)

@@ -95,7 +95,8 @@ module _ {N : Type 0} {number : N → ℕ} {most : ℕ} {turns : Turns N} (are :
       pub turns-next : {weight count : ℕ} → weight ≤ reached.left → weight ≡ part_weight number (weights_in offer owner) turns owner
           → count ≡ part_weight number (λ _. 1) turns owner → number to ≡ far owner
           → HasReached number turns (set mark owner to) (record { turn = reached.turn + 1; left = reached.left - weight; sent = reached.sent + count })
-      turns-next fits weighs counts to_far = record {
+      turns-next fits weighs counts to_far =
+        let ordered : AreFarther turns.first (low owner) (near owner) (number to) = rw to_far (are.level.farther owner in_nodes) in record {
         size = length-set mark owner to ∙ so_far.size;
         each = λ r lt. elim (cases_eq r owner) [
           | inl same ↦
@@ -107,20 +108,19 @@ module _ {N : Type 0} {number : N → ℕ} {most : ℕ} {turns : Turns N} (are :
               let apart : turn r ≢ turn owner = λ same. other (rotated-injective nodes turns.rotation r owner are.rotation lt in_nodes same) in
               grind (arith, nat_tests, its)
         ];
-        left = omega (arith, so_far.left, fits, weighs, grown ordered (weights_in offer), part-to (weights_in offer owner));
-        count = omega (arith, so_far.count, counts, grown ordered one_each, part-to (λ _. 1));
+        left = omega (arith, so_far.left, fits, weighs, (rw to_far at (grown ordered (weights_in offer))));
+        count = omega (arith, so_far.count, counts, (rw to_far at (grown ordered one_each)));
       }
-        where
-          ordered : AreFarther turns.first (low owner) (near owner) (number to)
-          ordered = rw to_far (are.level.farther owner in_nodes)
-
-          part-to : (weight : ℕ → ℕ) → weight_from turns.first weight cells keys owner (near owner) (number to) ≡ part_weight number weight turns owner
-          part-to weight = ap (weight_from turns.first weight cells keys owner (near owner)) to_far
 
       -- or it stops at a number
       pub turns-shared : {sent : ℕ} → IsStopOf number turns owner reached.left (number to)
           → sent ≡ weight_to number (λ _. 1) turns owner (near owner) (number to) → AreSharedBy number turns (set mark owner to) (reached.sent + sent)
-      turns-shared stop counts = record {
+      turns-shared stop counts =
+        let tells = stop-tells stop.so_far (are.offer.differ owner in_nodes) stop.below stop.above (are.level.farther owner in_nodes) in
+        let ordered : AreFarther turns.first (low owner) (near owner) (number to) =
+        ((are.level.farther owner in_nodes).0, tells.stops.above, stop.so_far.on) in
+        let stays = λ (r : ℕ) (lt : r < nodes) (other : r ≢ owner).
+        others r other ∙ so_far.each r lt ∙ ap (λ t. cond (ltb (turn r) t) (far r) (near r)) (sym its) in record {
         size = length-set mark owner to ∙ so_far.size;
         shared = record {
           stop = record {
@@ -140,15 +140,6 @@ module _ {N : Type 0} {number : N → ℕ} {most : ℕ} {turns : Turns N} (are :
           beyond = omega (arith, so_far.left, stop.so_far.rest, tells.beyond, grown ordered (weights_in offer));
         };
       }
-        where
-          tells : IsStopTold turns.first (weights_in offer owner) cells keys owner (low owner) (near owner) (far owner) (number to) stop.left
-          tells = stop-tells stop.so_far (are.offer.differ owner in_nodes) stop.below stop.above (are.level.farther owner in_nodes)
-
-          ordered : AreFarther turns.first (low owner) (near owner) (number to)
-          ordered = ((are.level.farther owner in_nodes).0, tells.stops.above, stop.so_far.on)
-
-          stays : (r : ℕ) → r < nodes → r ≢ owner → next r ≡ cond (ltb (turn r) (turn owner)) (far r) (near r)
-          stays r lt other = others r other ∙ so_far.each r lt ∙ ap (λ t. cond (ltb (turn r) t) (far r) (near r)) (sym its)
 
 module _ {N : Type 0} {number : N → ℕ} {most : ℕ} {turns : Turns N} {owner count : ℕ} (has : HasPart number most turns owner count) where
   -- entries that are counted take as much as they are

@@ -1,6 +1,6 @@
 -- Sums below a bound, and what numbers weigh between marks.
 -- Serves most of the crate and `version_tables`.
-use Rattle.delta_plans.proofs.Common.{◌≡◌, ◌≢◌, ℕ, zero, suc, ◌+◌, ◌-◌, ◌*◌, ◌<◌, ◌≤◌, Bool, cond, ltb, leb, Option, Some, None, ◌⊎◌, inl, inr, ap, ◌∙◌, subst, arith, nat_tests, cases_lt, mul-le-mul_right, Entry, Budget, Entries, Bytes, MOST_NODES, MOST_KEYS, MOST_ENTRY_SIZE, write_numbered, numbered-some, all_writes, Cells, count_between, HasNoneAbove, sum_below, sum_below-most, sum_below-same, sum_below-le, sum_below-plus, fold_below-join, sums, Offer, cells_in, low_in, high_in, weights_in, weight_in, count_in, IsOffer, number_share, share_or_none, weight_of, weight_between, count_all_between}
+use Rattle.delta_plans.proofs.Common.{◌≡◌, ◌≢◌, ℕ, zero, suc, ◌+◌, ◌-◌, ◌*◌, ◌<◌, ◌≤◌, Bool, cond, ltb, leb, Option, Some, None, ◌⊎◌, inl, inr, ap, ◌∙◌, subst, arith, nat_tests, cases_lt, mul-le-mul_right, Entry, Budget, Entries, Bytes, MOST_NODES, MOST_KEYS, MOST_ENTRY_SIZE, write_numbered, numbered-some, all_writes, Cells, count_between, HasNoneAbove, sum_below, sum_below-most, sum_below-same, sum_below-le, sum_below-plus, fold_below-join, sums, Offer, cells_in, low_in, high_in, weights_in, weight_in, count_in, IsOffer, share_or_none, weight_of, weight_between, count_all_between}
 
 -- a number where a test passes
 abbrev pub where_true : Bool → ℕ → ℕ
@@ -146,7 +146,7 @@ module _ {N : Type 0} {number : N → ℕ} {most : ℕ} {offer : Offer N} (is : 
         one_each key in_keys some =
             let writes = all_writes offer.lists.now owner in
             let it = cells_in number offer owner key in
-            (λ i. number_share (counted i) writes it) ∙ ap (share_or_none (Entries n)) (numbered-some writes it some (is.written owner key in_nodes in_keys)).1
+            (λ i. share_or_none (counted i) (write_numbered writes it)) ∙ ap (share_or_none (Entries n)) (numbered-some writes it some (is.written owner key in_nodes in_keys)).1
 
     pub offer-entries : (low high : ℕ → ℕ) → weight_in number offer low high ≡ count_in number offer low high
     offer-entries low high = sum_below-same offer.grid.size.nodes _ _ (λ owner lt. owner-entries owner lt (low owner) (high owner))

@@ -22,21 +22,13 @@ by_places : (nodes keys : ℕ) (f : Item → ℕ) (xs : List Item) → ((i : Ite
 by_places nodes keys f [] within = sym (sum_below-none nodes _ (λ owner lt. sum_below-none keys _ (λ key lt'. refl)))
 by_places nodes keys f (x ∷ xs) within =
     let rest = by_places nodes keys f xs (λ i (k, lt, is). within i (suc k, omega (arith, lt), is)) in
+    let place = within x (0, omega arith, refl) in
+    let one = λ (owner key : ℕ). sum_by-cons (λ i. cond (stands_at owner key i) (f i) 0) x xs in
+    let row = sum_below-changed keys x.entry.key (f x) (sum_at f xs x.owner) (sum_at f (x ∷ xs) x.owner) place.1
+    (λ key lt other. grind (arith, nat_tests, one x.owner key)) (grind (arith, nat_tests, one x.owner x.entry.key)) in
+    let others = λ (owner : ℕ) (lt : owner < nodes) (other : owner ≢ x.owner).
+    sum_below-same keys (sum_at f (x ∷ xs) owner) (sum_at f xs owner) (λ key lt'. grind (arith, nat_tests, one owner key)) in
     omega (arith, sum_by-cons f x xs, rest, sum_below-changed nodes x.owner (f x) _ (λ owner. sum_below keys (sum_at f (x ∷ xs) owner)) place.0 others row)
-  where
-    place : (x.owner < nodes) × (x.entry.key < keys)
-    place = within x (0, omega arith, refl)
-
-    one : (owner key : ℕ) → sum_at f (x ∷ xs) owner key ≡ cond (stands_at owner key x) (f x) 0 + sum_at f xs owner key
-    one owner key = sum_by-cons (λ i. cond (stands_at owner key i) (f i) 0) x xs
-
-    others : (owner : ℕ) → owner < nodes → owner ≢ x.owner → sum_below keys (sum_at f (x ∷ xs) owner) ≡ sum_below keys (sum_at f xs owner)
-    others owner lt other = sum_below-same keys _ _ (λ key lt'. let is = one owner key in grind (arith, nat_tests))
-
-    row : sum_below keys (sum_at f (x ∷ xs) x.owner) ≡ sum_below keys (sum_at f xs x.owner) + f x
-    row = sum_below-changed keys x.entry.key (f x) (sum_at f xs x.owner) (sum_at f (x ∷ xs) x.owner) place.1
-        (λ key lt other. let is = one x.owner key in grind (arith, nat_tests))
-        (let is = one x.owner x.entry.key in grind (arith, nat_tests))
 
 module _ (t : Table) (proper : IsProper t) where
   pub table_apart : IsApart (items_of t)
@@ -110,12 +102,8 @@ module _ {mode : Mode} {from to : Table} {lists : ℕ → List Entry} {cells : C
   pub candidate-at : (owner key : ℕ) → owner < from.nodes → key < from.keys → low owner < cells owner key
       → (e : Entry) × (entry_at from owner key ≡ Some e) × Contains cs (record { owner = owner; entry = e })
   candidate-at owner key in_nodes in_keys lt =
-      let found = given.offers.above owner key in_nodes in_keys lt in (
-        found.0,
-        found.1,
-        Contains-filter (is_lacked mode to) (items_of from) (record { owner = owner; entry = found.0 })
-            (Contains-items_of from owner key found.0 found.1) found.3,
-      )
+      let found = given.offers.above owner key in_nodes in_keys lt in
+      (found.0, found.1, Contains-filter (is_lacked mode to) (items_of from) _ (Contains-items_of from owner key found.0 found.1) found.3)
 
   -- two candidates of one owner
   module _ (c d : Item) (in_c : Contains cs c) (in_d : Contains cs d) (owners : c.owner ≡ d.owner) where
@@ -124,8 +112,7 @@ module _ {mode : Mode} {from to : Table} {lists : ℕ → List Entry} {cells : C
 
     alike : c.entry.generation ≡ d.entry.generation
     alike =
-        given.proper.copies c.owner c.entry.key c.entry (candidate-held c in_c).0
-        ∙ ap (generation_held from) owners
+        given.proper.copies c.owner c.entry.key c.entry (candidate-held c in_c).0 ∙ ap (generation_held from) owners
         ∙ sym (given.proper.copies d.owner d.entry.key d.entry (candidate-held d in_d).0)
 
     pub one_item : item_number cells c ≡ item_number cells d → c ≡ d

@@ -1,7 +1,7 @@
 -- Levels of an offer, gone over as long as they fit.
 -- Serves `breadth`, `depth`, `LayerSteps` and `RunSteps`.
 use Rattle.delta_plans.proofs.Common.{◌≡◌, ℕ, ◌+◌, ◌*◌, ◌<◌, ◌≤◌, length, Some, None, Vec, Global, ap, ◌∙◌, arith, sum_below-same, sum_below-plus, sum_below-le, amount_of, MOST_NODES, MOST_KEYS, Offer, Level, Step, Oldest, cells_in, low_in, high_in, marks, weights_in, weight_in, count_in, AreCounted, IsLeftOf, IsOffer, one_each, weight_between, HasLevels, IsLevel, IsStep}
-use Rattle.delta_plans.proofs.WeightLaws.{offer-counts_none, offer-few, offer-weighs_none, weight_of-split, weight_of-upto}
+use Rattle.delta_plans.proofs.WeightLaws.{offer-few, offer-none, weight_of-split, weight_of-upto}
 
 -- levels as far as they were gone over, the oldest first, and how many numbers lie between their marks
 pub record IsLevelSoFar {N : Type 0} (number : N → ℕ) (offer : Offer N) (level : Level N) (more : ℕ) : Type 0 where
@@ -18,8 +18,8 @@ module _ {N : Type 0} {number : N → ℕ} {most : ℕ} {offer : Offer N} (is : 
       → IsLevelSoFar number offer (record { near = near; far = step.marks; whole = 0; left = amount_of offer.budget }) step.more
   level-first start step =
       let at = λ (owner : ℕ). ap (λ xs. marks number xs owner) start in
-      let counts = ap (λ xs. count_in number offer low (marks number xs)) start ∙ offer-counts_none number offer low in
-      let weighs = ap (λ xs. weight_in number offer low (marks number xs)) start ∙ offer-weighs_none number offer low in
+      let counts = ap (λ xs. count_in number offer low (marks number xs)) start ∙ offer-none number offer one_each low in
+      let weighs = ap (λ xs. weight_in number offer low (marks number xs)) start ∙ offer-none number offer (weights_in offer) low in
       let rises = rw start at step.rises in
       omega (arith, at, rises, counts, weighs, ap length start, is.low, step)
 

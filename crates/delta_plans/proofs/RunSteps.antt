@@ -1,7 +1,7 @@
 -- Runs of an offer, gone over as long as they fit.
 -- Serves `depth` and `next_runs`.
 use Rattle.delta_plans.proofs.Common.{◌≡◌, ℕ, ◌+◌, ◌-◌, ◌*◌, ◌<◌, ◌≤◌, cond, eqb, leb, ltb, List, length, get_or, map, inl, inr, Some, Vec, Global, sym, ap, ◌∙◌, subst, arith, nat_tests, cases_eq, length-map, amount_of, Cells, count_above, count_between, HasNoneAbove, HasEach, AreChanged, sum_below, sum_below-same, MOST_KEYS, Offer, Level, Step, Oldest, Newest, cells_in, low_in, high_in, owner_count_in, marks, weights_in, weight_in, IsLeftOf, IsOffer, AreMarksFrom, AreRunsFrom, AreNextRuns, AreLevelMarks, weight_of}
-use Rattle.delta_plans.proofs.WeightLaws.{parts_of, count_between-most, offer-weighs_none, sum_below-each_none, sum_below-none, weight_of-none, where_true}
+use Rattle.delta_plans.proofs.WeightLaws.{parts_of, count_between-most, offer-none, sum_below-each_none, sum_below-none, weight_of-none, where_true}
 use Rattle.delta_plans.proofs.LevelSteps.{IsLevelSoFar, level-first, level-left, level-next}
 use Rattle.delta_plans.proofs.Nodes.{step-each, step-is}
 
@@ -86,7 +86,7 @@ module _ {N : Type 0} {number : N → ℕ} {most : ℕ} {offer : Offer N} (is : 
       is_offer = is;
       counts_are = known;
       each_near = ap length start ∙ is.low;
-      some = runs-some none (omega (arith, offer-weighs_none number offer low)) beyond;
+      some = runs-some none (omega (arith, offer-none number offer (weights_in offer) low)) beyond;
       few = short;
       longer = subst (λ xs. AreMarksFrom number offer (size + 1) (marks number xs)) (sym start) none;
     }
@@ -106,7 +106,9 @@ module _ {N : Type 0} {number : N → ℕ} {most : ℕ} {offer : Offer N} (is : 
         {left : ℕ} (fits : IsLeftOf level.left (weight_in number offer (marks number level.near.items) (marks number level.far.items)) (Some left)) where
       -- and then those of one number less
       pub runs-from_next : AreRunsFrom number most offer counts level.far.items (size - 1)
-      runs-from_next = record {
+      runs-from_next =
+        let same : size - 1 + 1 ≡ size = omega (arith, has.from.some) in
+        let longer : AreMarksFrom number offer (size - 1 + 1) (marks number level.far.items) = rw same has.next in record {
         is_offer = is;
         counts_are = has.from.counts_are;
         each_near = has.so_far.far;
@@ -114,9 +116,6 @@ module _ {N : Type 0} {number : N → ℕ} {most : ℕ} {offer : Offer N} (is : 
         few = omega (arith, has.from.few);
         longer = longer;
       }
-        where
-          longer : AreMarksFrom number offer (size - 1 + 1) (marks number level.far.items)
-          longer = subst (λ n. AreMarksFrom number offer n (marks number level.far.items)) {x = size} {y = size - 1 + 1} (omega (arith, has.from.some)) has.next
 
       pub runs-next : {step : Step N} → AreNextRuns number offer (marks number level.far.items) (size - 1) step → HasRuns number most offer counts
           (record { near = level.far; far = step.marks; whole = level.whole + more; left = left }) (size - 1) step.more

@@ -111,12 +111,8 @@ module _ {N : Type 0} (number : N → ℕ) (offer : Offer N) where
   most owner n = share-most offer.budget (write_numbered (all_writes offer.lists.now owner) n)
 
   -- nothing is between marks and themselves
-  pub offer-weighs_none : (mark : ℕ → ℕ) → weight_in number offer mark mark ≡ 0
-  offer-weighs_none mark = sum_below-none nodes _
-      (λ owner lt. weight_of-none (weights_in offer owner) cells keys owner (mark owner) (mark owner) (omega arith))
-
-  pub offer-counts_none : (mark : ℕ → ℕ) → count_in number offer mark mark ≡ 0
-  offer-counts_none mark = sum_below-none nodes _ (λ owner lt. weight_of-none (λ _. 1) cells keys owner (mark owner) (mark owner) (omega arith))
+  pub offer-none : (weights : ℕ → ℕ → ℕ) (mark : ℕ → ℕ) → weight_between weights cells nodes keys mark mark ≡ 0
+  offer-none weights mark = sum_below-none nodes _ (λ owner lt. weight_of-none (weights owner) cells keys owner (mark owner) (mark owner) (omega arith))
 
   -- no more than so many times the largest size
   pub offer-most : (low high : ℕ → ℕ) → weight_in number offer low high ≤ count_in number offer low high * MOST_ENTRY_SIZE
@@ -140,13 +136,11 @@ module _ {N : Type 0} {number : N → ℕ} {most : ℕ} {offer : Offer N} (is : 
         → weight_of (weights_in offer owner) (cells_in number offer) offer.grid.size.keys owner low high
         ≡ count_between (cells_in number offer) offer.grid.size.keys owner low high
     owner-entries owner in_nodes low high = sum_below-same offer.grid.size.keys _ _ (λ key in_keys.
-        let one = one_each key in_keys in grind (arith, nat_tests))
-      where
-        one_each : (key : ℕ) → key < offer.grid.size.keys → 0 < cells_in number offer owner key → weights_in offer owner (cells_in number offer owner key) ≡ 1
-        one_each key in_keys some =
-            let writes = all_writes offer.lists.now owner in
-            let it = cells_in number offer owner key in
-            (λ i. share_or_none (counted i) (write_numbered writes it)) ∙ ap (share_or_none (Entries n)) (numbered-some writes it some (is.written owner key in_nodes in_keys)).1
+        let writes = all_writes offer.lists.now owner in
+        let it = cells_in number offer owner key in
+        let one = λ (some : 0 < it). ap (λ budget. share_or_none budget (write_numbered writes it)) counted
+        ∙ ap (share_or_none (Entries n)) (numbered-some writes it some (is.written owner key in_nodes in_keys)).1 in
+        grind (arith, nat_tests, one))
 
     pub offer-entries : (low high : ℕ → ℕ) → weight_in number offer low high ≡ count_in number offer low high
     offer-entries low high = sum_below-same offer.grid.size.nodes _ _ (λ owner lt. owner-entries owner lt (low owner) (high owner))

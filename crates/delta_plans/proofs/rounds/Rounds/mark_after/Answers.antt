@@ -2,13 +2,6 @@ use Rattle.delta_plans.proofs.Common.{◌≡◌, length, map, max, get_or, ap, �
 use Rattle.delta_plans.proofs.rounds.Rounds.mark_after.Goals as goal
 use Rattle.delta_plans.proofs.rounds.Rounds.mark_after.Goals.{in-Oldest, in-Newest}
 
-pub change-requires : goal.change-requires
-change-requires g c = record {
-  to = λ r n lt is.
-      let start = c.deref_mut.ensures.value ∙ c.in_ok-mark.ensures.items in
-      omega (arith, lt, ap length start, c.requires.rounds.too_large.is_offer.low, c.row-row.ensures.size, length-map c.row-row.result.now g.N.Number.number);
-}
-
 pub returns : goal.returns
 returns g c =
     let number = g.N.Number.number in

@@ -36,15 +36,3 @@ loop-middle-preserved g c =
       fits = c.loop-middle.invariant.fits;
       beyond = omega (arith, c.min.ensures, c.abs_diff-in-loop-middle.ensures, c.loop-middle.invariant.fits, c.loop-middle.invariant.beyond);
     }
-
-pub loop-middle-smaller : goal.loop-middle-smaller
-loop-middle-smaller g c = omega (arith, c.min.ensures, c.abs_diff.ensures, c.abs_diff-in-loop-middle.ensures, c.loop-middle-test.true)
-
-pub returns : goal.returns
-returns g c = record {
-  beyond = c.loop-middle.beyond;
-  left = c.loop-middle.left;
-  so_far = rw c.narrow-2.ensures c.loop-middle.invariant.so_far;
-  below = omega (arith, c.narrow-2.ensures, c.abs_diff.ensures, c.loop-middle-test.false);
-  above = omega (arith, c.narrow-2.ensures, c.abs_diff.ensures, c.loop-middle-test.false);
-}

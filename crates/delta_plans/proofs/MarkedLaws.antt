@@ -64,10 +64,5 @@ module _ {N : Type 0} (number : N → ℕ) (most : ℕ) (offer : Offer N) (is : 
         above = (above-tells (first_sent mode) (marks number xs) shared.above).1;
         count = shared.count;
         left = omega (arith, is.found, sent-found);
-        how = inr (record {
-          near = marks number level.near.items;
-          far = marks number level.far.items;
-          shape = is_level.shape;
-          shared = shared;
-        });
+        how = inr (record { near = marks number level.near.items; far = marks number level.far.items; shape = is_level.shape; shared = shared });
       }

@@ -119,21 +119,11 @@ module _ {N : Type 0} {number : N → ℕ} {most : ℕ} (rounds : Rounds N) (is 
       -- one more look finds more rounds that fit
       pub further : {found : Fit} → IsFound number rounds (marks number items) (Some found) → count < enough
           → AreFewAndEnough number rounds count enough found
-      further {found} look lt = record {
-        below = lt;
-        bound = so_far.bound;
-        fits = search (arith, look, let_through one_each, ← let_through (weights_in offer));
-        beyond = so_far.beyond;
-      }
+      further {found} look lt = search (arith, let_through one_each, ← let_through (weights_in offer))
 
       -- or that fewer are enough
       pub nearer : IsFound number rounds (marks number items) None → few < count → count ≤ enough → AreFewAndEnough number rounds few count fit
-      nearer no_fit lt le = record {
-        below = lt;
-        bound = omega (arith, so_far.bound, le);
-        fits = so_far.fits;
-        beyond = omega (arith, no_fit, let_through (weights_in offer));
-      }
+      nearer no_fit lt le = search (arith, let_through (weights_in offer))
 
   -- one round more lets through more
   farther : (first : First) (few enough owner : ℕ) → enough ≡ few + 1 → enough ≤ last → owner < nodes

@@ -117,11 +117,8 @@ module _ {X : Type 0} {order : X → X → Ordering} {cs : List X} {size : X →
 
   -- all, where they fit
   pub all_sent : ((c : X) → Contains cs c → is_in c ≡ true) → size_in order cs size is_in ≤ budget → IsSentSet order cs size is_in budget
-  all_sent all within = record {
-    closed = λ c d at_c at_d before yes'. all c at_c;
-    within = within;
-    tight = λ c at_c no'. absurd (both_ways (is_in c) no' (all c at_c));
-  }
+  all_sent all within =
+      record { closed = λ c d at_c at_d before yes'. all c at_c; within = within; tight = λ c at_c no'. absurd (both_ways (is_in c) no' (all c at_c)) }
 
 pub set_sent : DeltasHaveTheirSets
 set_sent mode rotation budget from to is_in proper in_nodes is = record {

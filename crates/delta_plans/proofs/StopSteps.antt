@@ -66,13 +66,9 @@ one-apart Newest a b below above = omega arith
 -- at first nothing is let through
 pub stop-first : {first : First} {weight : ℕ → ℕ} {cells : Cells} {keys owner near far room : ℕ} → IsOn first near far
     → room < weight_from first weight cells keys owner near far → IsStopBetween first weight cells keys owner near far room near far room
-stop-first {first} {weight} {cells} {keys} {owner} {near} {far} on more = record {
-  on = on-start first near;
-  between = on;
-  upto = on-start first far;
-  rest = omega (arith, weight_of-none weight cells keys owner (by_first first near near) (by_first first near near) (omega arith));
-  more = more;
-}
+stop-first {first} {weight} {cells} {keys} {owner} {near} {far} on more =
+    let none = weight_of-none weight cells keys owner (by_first first near near) (by_first first near near) (omega arith) in
+    search (arith, on-start, none)
 
 from-split : (first : First) (weight : ℕ → ℕ) (cells : Cells) (keys owner a b c : ℕ) → IsOn first a b → IsOn first b c
     → weight_from first weight cells keys owner a c ≡ weight_from first weight cells keys owner a b + weight_from first weight cells keys owner b c

@@ -123,14 +123,7 @@ module _ {N : Type 0} {number : N → ℕ} {most : ℕ} {turns : Turns N} (are :
         others r other ∙ so_far.each r lt ∙ ap (λ t. cond (ltb (turn r) t) (far r) (near r)) (sym its) in record {
         size = length-set mark owner to ∙ so_far.size;
         shared = record {
-          stop = record {
-            owner = owner;
-            key = tells.key;
-            owner_below = in_nodes;
-            key_below = tells.in_keys;
-            stops = rw here tells.stops;
-            others = stays;
-          };
+          stop = record { owner = owner; key = tells.key; owner_below = in_nodes; key_below = tells.in_keys; stops = rw here tells.stops; others = stays };
           above = λ r lt. elim (cases_eq r owner) [
             | inl same ↦ omega (arith, ap low same, ap next same, here, tells.stops.above)
             | inr other ↦ let is = stays r lt other in let farther = are.level.farther r lt in grind (arith, nat_tests, farther.0, farther.1)

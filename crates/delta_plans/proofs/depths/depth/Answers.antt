@@ -4,9 +4,8 @@ use Rattle.delta_plans.proofs.RunSteps.{counts-few, level-of_runs, runs-first, r
 use Rattle.delta_plans.proofs.depths.depth.Goals as goal
 
 pub greatest_of-size-requires : goal.greatest_of-size-requires
-greatest_of-size-requires g c = record {
-  few = rw c.deref.ensures.value (counts-few c.requires.offer.is_offer c.in_ok-counts.counts.items c.in_ok-counts.ensures.counts);
-}
+greatest_of-size-requires g c =
+    record { few = rw c.deref.ensures.value (counts-few c.requires.offer.is_offer c.in_ok-counts.counts.items c.in_ok-counts.ensures.counts) }
 
 pub next_runs-requires : goal.next_runs-requires
 next_runs-requires g c =

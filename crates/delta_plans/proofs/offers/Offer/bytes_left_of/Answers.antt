@@ -1,7 +1,6 @@
 use Rattle.delta_plans.proofs.Common.{suc, ◌+◌, ap, arith, nat_tests, cells_in, marks, weights_in, weight_of, weight_between}
 use Rattle.delta_plans.proofs.WeightLaws.{sum_below-longer, weight_of-none}
 use Rattle.delta_plans.proofs.offers.Offer.bytes_left_of.Goals as goal
-use Rattle.delta_plans.proofs.offers.Offer.bytes_left_of.Goals.{then-is_above+in_ok-left, else-is_above}
 
 pub loop-owner-preserved : goal.loop-owner-preserved
 loop-owner-preserved g c =
@@ -13,10 +12,10 @@ loop-owner-preserved g c =
     let owner = c.loop-owner.owner in
     let next = ap (λ n. weight_between (weights_in self) cells n keys low high) {x = owner + 1} {y = suc owner} (omega arith) in
     elim c.if-is_above.branch [
-      | then-is_above+in_ok-left w ↦
+      | goal.then-is_above+in_ok-left w ↦
           let weight = rw (c.number_at-from.ensures, c.number_at-to.ensures) at w.weight_of-weight.ensures in
           record { left = omega (arith, next, weight, c.loop-owner.invariant.left, w.in_ok-left.ensures.0, w.in_ok-left.ensures.1, w.left-is) }
-      | else-is_above w ↦
+      | goal.else-is_above w ↦
           let above = rw (c.number_at-from.ensures, c.number_at-to.ensures) at c.is_above.ensures in
           let none = weight_of-none (weights_in self owner) cells keys owner (low owner) (high owner) (grind (arith, nat_tests, above, w.if-is_above.false)) in
           record { left = omega (arith, next, none, c.loop-owner.invariant.left, w.left-is) }

@@ -1,7 +1,6 @@
 use Rattle.delta_plans.proofs.Common.{ℕ, ap, arith, nat_tests, number_next, all_writes, write_numbered, cells_in, weights_in}
 use Rattle.delta_plans.proofs.WeightLaws.{count_between-most, owner-most, part, share-most}
 use Rattle.delta_plans.proofs.offers.Offer.weight_of.Goals as goal
-use Rattle.delta_plans.proofs.offers.Offer.weight_of.Goals.{then-is_between, else-is_between}
 
 pub overflow_add-weight : goal.overflow_add-weight
 overflow_add-weight g c =
@@ -20,8 +19,8 @@ loop-key-preserved g c =
     let more = (λ (k : ℕ). part weight (number c.args.low) (number c.args.high) (cells_in number offer c.args.owner k)) in
     let between = rw c.cell_of-cell.ensures at c.is_between.ensures in
     elim c.if-is_between.branch [
-      | then-is_between w ↦ number_next more _ _ _ c.loop-key.invariant w.weight-is
+      | goal.then-is_between w ↦ number_next more _ _ _ c.loop-key.invariant w.weight-is
           (grind (arith, nat_tests, between, ap weight c.cell_of-cell.ensures, w.if-is_between.true, w.weight_of_number-weight.ensures))
-      | else-is_between w ↦ number_next more _ _ _ {y = 0} c.loop-key.invariant (omega (arith, w.weight-is))
+      | goal.else-is_between w ↦ number_next more _ _ _ {y = 0} c.loop-key.invariant (omega (arith, w.weight-is))
           (grind (arith, nat_tests, between, w.if-is_between.false))
     ]

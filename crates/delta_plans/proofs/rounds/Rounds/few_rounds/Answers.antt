@@ -1,7 +1,6 @@
 use Rattle.delta_plans.proofs.Common.{◌+◌, ◌-◌, ◌<◌, subst, arith, AreFewAndEnough}
 use Rattle.delta_plans.proofs.RoundMarks.{begun, further, nearer}
 use Rattle.delta_plans.proofs.rounds.Rounds.few_rounds.Goals as goal
-use Rattle.delta_plans.proofs.rounds.Rounds.few_rounds.Goals.{in-Some, in-None}
 
 pub loop-few-init : goal.loop-few-init
 loop-few-init g c = record { found = begun c.args.self.now c.requires c.amount.ensures; step = omega arith }
@@ -13,12 +12,12 @@ loop-few-preserved g c =
     let some : 0 < c.min-by.result = omega (arith, c.min-by.ensures, c.loop-few.invariant.step, c.loop-few-test.true) in
     let less : c.loop-few.few + c.min-by.result < c.loop-few.enough = omega (arith, c.min-by.ensures, c.loop-few-test.true) in
     elim c.match-look.branch [
-      | in-Some w ↦ record {
+      | goal.in-Some w ↦ record {
         found = rw (w.few-is, w.enough-is, w.fit-is)
             (further c.args.self.now c.requires _ c.in_ok-mark.mark.items c.in_ok-mark.ensures.0 so_far (rw w.in-Some.is at look) less);
         step = omega (arith, w.step-is, some);
       }
-      | in-None w ↦ record {
+      | goal.in-None w ↦ record {
         found = rw (w.few-is, w.enough-is, w.fit-is) (nearer c.args.self.now c.requires _ c.in_ok-mark.mark.items c.in_ok-mark.ensures.0 so_far
             (rw w.in-None.is at look) (omega (arith, some)) (omega (arith, less)));
         step = omega (arith, w.step-is, c.loop-few.invariant.step);

@@ -1,6 +1,6 @@
 -- A delta by marks: whole levels, and of the next one what comes before the first candidate that doesn't fit.
 -- Serves `version_tables`.
-use Rattle.delta_plans.proofs.Common.{◌≡◌, ◌≢◌, ℕ, ◌+◌, ◌<◌, ◌≤◌, Bool, true, false, cond, not, List, length, inl, inr, refl, sym, ap, ◌∙◌, subst, arith, nat_tests, nat_lt, ltb, ◌&&◌, Contains, sum_by, Ordering, Less, Equal, Greater, nat_cmp, ordering_then, is_lt, cases_eq, lt-ltb, and_parts, ltb-true, same_Some, nat_cmp-equal, Entry, Item, Budget, Mode, ScuttleBreadth, ScuttleDepth, PreciseOldest, PreciseNewest, Some, amount_of, Table, entry_at, candidates, rank_among, owner_count, DeltaView, delta_between, item_share, rotated, sending_order, rotated-injective, sending_order-total, order-levels, level_order, Cells, HasNoneAbove, sum_below-same, First, Oldest, Newest, HasSet, comes_first, item_number, KeepsLow, AreSent, first_sent, first_level, lets_through, level_number, round_of, AreLevelMarks, StopAt, share_or_none, number_shares, weight_between, weight_through, one_each, sum_below, size_in, IsInPlace, count_by-not, sum_by-ones}
+use Rattle.delta_plans.proofs.Common.{◌≡◌, ◌≢◌, ℕ, ◌+◌, ◌<◌, ◌≤◌, Bool, true, false, cond, not, List, length, inl, inr, refl, sym, ap, ◌∙◌, arith, nat_tests, nat_lt, ltb, ◌&&◌, Contains, sum_by, Ordering, Less, Equal, Greater, nat_cmp, ordering_then, is_lt, cases_eq, lt-ltb, and_parts, ltb-true, same_Some, nat_cmp-equal, Entry, Item, Budget, Mode, ScuttleBreadth, ScuttleDepth, PreciseOldest, PreciseNewest, amount_of, Table, candidates, rank_among, owner_count, DeltaView, delta_between, item_share, rotated, sending_order, rotated-injective, sending_order-total, order-levels, level_order, Cells, HasNoneAbove, sum_below-same, First, Oldest, Newest, HasSet, comes_first, item_number, KeepsLow, AreSent, first_sent, first_level, lets_through, level_number, round_of, AreLevelMarks, StopAt, share_or_none, number_shares, weight_between, weight_through, one_each, sum_below, size_in, IsInPlace, count_by-not, sum_by-ones}
 use Rattle.delta_plans.proofs.Candidates.{IsOffered, candidate-at, candidate-number, candidate-place, offered-sum, older, one_item, owner_count-is, rank_among-is}
 use Rattle.delta_plans.proofs.SentSets.{stops_sent, all_sent, set_sent}
 
@@ -112,21 +112,20 @@ module _ {mode : Mode} {from to : Table} {lists : ℕ → List Entry} {cells : C
       place : IsInPlace from.nodes from.keys c.owner c.entry.key c.entry
       place = candidate-place given c in_c
 
-      near-lets : lets mode cells near c ≡ comes_first way (level_key mode cs c) shape.next
-      near-lets =
-          shape.near_is c.owner c.entry.key place.owner_below place.key_below (candidate-number given c in_c).0
-          ∙ ap (λ l. comes_first way l shape.next) (level-is mode c in_c)
-
-      far-lets : lets mode cells far c ≡ not (comes_first way shape.next (level_key mode cs c))
-      far-lets =
-          shape.far_is c.owner c.entry.key place.owner_below place.key_below (candidate-number given c in_c).0
-          ∙ ap (λ l. not (comes_first way shape.next l)) (level-is mode c in_c)
+      level-lets : (lets mode cells near c ≡ comes_first way (level_key mode cs c) shape.next)
+          × (lets mode cells far c ≡ not (comes_first way shape.next (level_key mode cs c)))
+      level-lets =
+          let above = (candidate-number given c in_c).0 in
+          rw (← level-is mode c in_c) (
+            shape.near_is c.owner c.entry.key place.owner_below place.key_below above,
+            shape.far_is c.owner c.entry.key place.owner_below place.key_below above,
+          )
 
     -- a candidate comes before it where the far marks let it through, or the near ones if it is behind it in its level
     order-tells : (c : Item) → Contains cs c → is_lt (order c next) ≡ cond (is_lt (behind c)) (lets mode cells far c) (lets mode cells near c)
     order-tells c in_c =
-        let levels = level-tells way (level_key mode cs c) (level_key mode cs next) shape.next _ _ (near-lets c in_c) (far-lets c in_c)
-        (sym (near-lets next in_next) ∙ outside) (sym (far-lets next in_next) ∙ inside) in
+        let levels = level-tells way (level_key mode cs c) (level_key mode cs next) shape.next _ _ (level-lets c in_c).0 (level-lets c in_c).1
+        (sym (level-lets next in_next).0 ∙ outside) (sym (level-lets next in_next).1 ∙ inside) in
         ap is_lt (order-levels mode from.nodes rotation cs c next in_nodes (place c in_c).owner_below stop.owner_below in_c in_next
         ∙ order-by mode from.nodes rotation cs c next)
         ∙ then-lt (age_cmp way (level_key mode cs c) (level_key mode cs next)) (behind c)

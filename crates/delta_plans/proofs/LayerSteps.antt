@@ -1,6 +1,6 @@
 -- Layers of an offer, gone over as long as they fit.
 -- Serves `breadth` and `one_more`.
-use Rattle.delta_plans.proofs.Common.{◌≡◌, ℕ, ◌+◌, ◌-◌, ◌<◌, ◌≤◌, cond, leb, ltb, List, length, get_or, map, inl, inr, Some, Vec, Global, sym, ap, ◌∙◌, arith, nat_tests, cases_lt, le-leb, lt-leb, lt-ltb, le-ltb, length-map, amount_of, Cells, count_between, HasEach, HasNoneAbove, IsNextAbove, IsLeastAbove, AreChanged, sum_below, sum_below-same, NumbersDiffer, Oldest, Offer, Level, Step, cells_in, low_in, high_in, marks, weights_in, weight_in, count_in, IsLeftOf, IsOffer, IsNextLayer, IsNextMark, AreLevelMarks, rank_above}
+use Rattle.delta_plans.proofs.Common.{◌≡◌, ℕ, ◌+◌, ◌-◌, ◌<◌, ◌≤◌, cond, leb, ltb, List, length, get_or, map, inl, inr, Some, Vec, Global, sym, ap, ◌∙◌, arith, nat_tests, cases_lt, le-leb, lt-leb, lt-ltb, le-ltb, length-map, amount_of, Cells, count_between, HasEach, IsNextAbove, IsLeastAbove, AreChanged, sum_below, sum_below-same, NumbersDiffer, Oldest, Offer, Level, Step, cells_in, low_in, marks, weights_in, weight_in, count_in, IsLeftOf, IsOffer, IsNextLayer, IsNextMark, AreLevelMarks, rank_above}
 use Rattle.delta_plans.proofs.WeightLaws.{part, parts_of, sum_below-each_none, weight_of-all, weight_of-none, weight_of-split}
 use Rattle.delta_plans.proofs.LevelSteps.{IsLevelSoFar, level-first, level-left, level-next}
 use Rattle.delta_plans.proofs.Nodes.{step-each, step-is}
@@ -136,11 +136,9 @@ module _ {N : Type 0} {number : N → ℕ} {most : ℕ} {offer : Offer N} (is : 
         cells offer.grid.size.nodes offer.grid.size.keys low near far
     level-of_layers = record {
       next = has.layers;
-      near_is = λ r key lt in_keys over.
-          layer-lets cells offer.grid.size.keys r (low r) has.layers (near r) (has.near_is r lt) key in_keys over;
+      near_is = λ r key lt in_keys over. layer-lets cells offer.grid.size.keys r (low r) has.layers (near r) (has.near_is r lt) key in_keys over;
       far_is = λ r key lt in_keys over.
-          let lets = layer-lets cells offer.grid.size.keys r (low r) (has.layers + 1) (far r) (has.far_is r lt) key in_keys over in
-          grind (arith, nat_tests);
+          grind (arith, nat_tests, layer-lets cells offer.grid.size.keys r (low r) (has.layers + 1) (far r) (has.far_is r lt) key in_keys over);
     }
 
     module _ {left : ℕ} (fits : IsLeftOf level.left (weight_in number offer near far) (Some left)) where
@@ -148,26 +146,18 @@ module _ {N : Type 0} {number : N → ℕ} {most : ℕ} {offer : Offer N} (is : 
       pub layers-more : amount_of offer.budget < weight_in number offer low high → 0 < more
       layers-more cut = grind (arith, level-left is has.so_far fits, all, has.so_far.added)
         where
-          -- a number beyond both would be of the next layer
-          ends : count_in number offer near far ≡ 0 → (owner : ℕ) → owner < offer.grid.size.nodes
-              → HasNoneAbove cells offer.grid.size.keys owner (far owner)
-          ends none owner lt key in_keys =
+          -- (a number beyond both would be of the next layer)
+          all : count_in number offer near far ≡ 0 → weight_in number offer low far ≡ weight_in number offer low high
+          all none = sum_below-same offer.grid.size.nodes _ _ (λ owner lt.
               let farther = has.so_far.farther owner lt in
               let split = weight_of-split (λ _. 1) cells offer.grid.size.keys owner (low owner) (near owner) (far owner) farther.0 farther.2 in
               let empty = sum_below-each_none offer.grid.size.nodes _ none owner lt in
-              grind (arith, (has.near_is owner lt).count, (has.far_is owner lt).full key in_keys)
-
-          all : count_in number offer near far ≡ 0 → weight_in number offer low far ≡ weight_in number offer low high
-          all none = sum_below-same offer.grid.size.nodes _ _ (λ owner lt.
-              weight_of-all (weights_in offer owner) cells offer.grid.size.keys owner (low owner) (far owner) (high owner)
-              (is.covered owner lt) (ends none owner lt))
+              weight_of-all (weights_in offer owner) cells offer.grid.size.keys owner (low owner) (far owner) (high owner) (is.covered owner lt)
+              (λ key in_keys. grind (arith, (has.near_is owner lt).count, (has.far_is owner lt).full key in_keys)))
 
       -- one layer more
       pub layers-next : {step : Step N} → IsNextLayer number offer far step
           → HasLayers number offer (record { near = level.far; far = step.marks; whole = level.whole + more; left = left }) step.more
-      layers-next layer = record {
-        so_far = level-next is has.so_far fits layer.is_step;
-        layers = has.layers + 1;
-        near_is = has.far_is;
-        far_is = one-more has.far_is layer.next;
-      }
+      layers-next layer =
+          let far_is = one-more has.far_is layer.next in
+          record { so_far = level-next is has.so_far fits layer.is_step; layers = has.layers + 1; near_is = has.far_is; far_is = far_is }

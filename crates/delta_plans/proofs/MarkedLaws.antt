@@ -1,6 +1,6 @@
 -- Marks of all that is offered, or of a level that was shared out.
 -- Serves `planned` and `version_tables`.
-use Rattle.delta_plans.proofs.Common.{◌≡◌, ℕ, ◌-◌, ◌<◌, ◌≤◌, true, List, length, inl, inr, sym, ap, ◌∙◌, subst, arith, nat_tests, lt-ltb, le-leb, Mode, amount_of, Cells, HasNoneAbove, sum_below-le, First, Oldest, Newest, Offer, Level, by_first, first_sent, lets_through, KeepsLow, AreMarked, IsLevelOf, cells_in, low_in, high_in, marks, weights_in, weight_in, count_in, IsOffer, count_on, AreShared, weight_between, weight_through, count_all_between, one_each}
+use Rattle.delta_plans.proofs.Common.{◌≡◌, ℕ, ◌-◌, ◌<◌, ◌≤◌, true, List, length, inl, inr, sym, ap, ◌∙◌, subst, arith, nat_tests, lt-ltb, le-leb, Mode, amount_of, Cells, HasNoneAbove, sum_below-le, First, Oldest, Newest, Offer, Level, by_first, first_sent, lets_through, KeepsLow, AreMarked, IsLevelOf, cells_in, marks, weights_in, weight_in, count_in, IsOffer, count_on, AreShared, weight_between, weight_through, count_all_between, one_each}
 use Rattle.delta_plans.proofs.WeightLaws.{parts_of}
 
 -- fewer are between nearer marks

@@ -1,7 +1,7 @@
 -- What marks at the ends of rounds let through.
 -- Serves `Rounds::count`, `Rounds::few_rounds`, `Rounds::left_of_few`, `Rounds::level`, `Rounds::look` and
 -- `version_tables`.
-use Rattle.delta_plans.proofs.Common.{◌≡◌, ℕ, ◌+◌, ◌-◌, ◌*◌, ◌<◌, ◌≤◌, MOST_ENTRY_SIZE, map, ltb, leb, List, Some, None, inl, inr, sym, ap, ◌∙◌, subst, arith, nat_tests, nat_lt, length-map, cases_lt, amount_of, all_writes, Cells, cell, total_of, HasNoneAbove, sum_below-same, sum_below-plus, numbered-some, write_numbered, First, Oldest, Newest, by_first, Offer, Level, Fit, Rounds, cells_in, low_in, high_in, marks, weights_in, count_on, weight_on, AreFarther, end_mark, mark_of_rounds, AreFewAndEnough, AreRaised, AreRoundMarks, HasRounds, IsFound, IsLevelOfRounds, AreLevelMarks, round_of, IsOn, weight_through, count_all_between, one_each}
+use Rattle.delta_plans.proofs.Common.{◌≡◌, ℕ, ◌+◌, ◌-◌, ◌*◌, ◌<◌, ◌≤◌, MOST_ENTRY_SIZE, map, ltb, leb, List, Some, None, inl, inr, sym, ap, ◌∙◌, subst, arith, nat_tests, nat_lt, length-map, cases_lt, amount_of, all_writes, Cells, cell, total_of, HasNoneAbove, sum_below-same, sum_below-plus, numbered-some, write_numbered, First, Oldest, Newest, by_first, Level, Fit, Rounds, marks, weights_in, count_on, weight_on, AreFarther, end_mark, mark_of_rounds, AreFewAndEnough, AreRaised, AreRoundMarks, HasRounds, IsFound, IsLevelOfRounds, AreLevelMarks, round_of, IsOn, weight_through, count_all_between, one_each}
 use Rattle.delta_plans.proofs.WeightLaws.{offer-most, part, parts_of, sum_below-none, weight_of-all, weight_of-none, where_true}
 use Rattle.delta_plans.proofs.TurnSteps.{through-same}
 

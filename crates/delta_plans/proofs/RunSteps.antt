@@ -107,15 +107,15 @@ module _ {N : Type 0} {number : N → ℕ} {most : ℕ} {offer : Offer N} (is : 
       -- and then those of one number less
       pub runs-from_next : AreRunsFrom number most offer counts level.far.items (size - 1)
       runs-from_next =
-        let same : size - 1 + 1 ≡ size = omega (arith, has.from.some) in
-        let longer : AreMarksFrom number offer (size - 1 + 1) (marks number level.far.items) = rw same has.next in record {
-        is_offer = is;
-        counts_are = has.from.counts_are;
-        each_near = has.so_far.far;
-        some = runs-some longer (omega (arith, level-left is has.so_far fits)) beyond;
-        few = omega (arith, has.from.few);
-        longer = longer;
-      }
+          let same : size - 1 + 1 ≡ size = omega (arith, has.from.some) in
+          let longer : AreMarksFrom number offer (size - 1 + 1) (marks number level.far.items) = rw same has.next in record {
+            is_offer = is;
+            counts_are = has.from.counts_are;
+            each_near = has.so_far.far;
+            some = runs-some longer (omega (arith, level-left is has.so_far fits)) beyond;
+            few = omega (arith, has.from.few);
+            longer = longer;
+          }
 
       pub runs-next : {step : Step N} → AreNextRuns number offer (marks number level.far.items) (size - 1) step → HasRuns number most offer counts
           (record { near = level.far; far = step.marks; whole = level.whole + more; left = left }) (size - 1) step.more

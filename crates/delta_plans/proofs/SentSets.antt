@@ -1,6 +1,6 @@
 -- Any set of candidates that is closed downwards, fits, and lets nothing more in is what is sent.
 -- Serves `deltas_have_their_sets` and `DeltaMarks`.
-use Rattle.delta_plans.proofs.Common.{is_lacked, ◌≡◌, ◌≢◌, ℕ, zero, suc, ◌+◌, ◌<◌, ◌≤◌, Bool, true, false, cond, not, List, [], ◌∷◌, refl, sym, ap, ◌∙◌, subst, arith, nat_tests, count_by, filter, IsPermutation, Contains, sum_by, Ordering, Less, Equal, Greater, is_lt, ordering_reverse, IsTotalOrder, tied_itself, both_ways, le-leb, lt-leb, AllPairs-filter, length_permutation, sum_by-cons, length-filter, Item, amount_of, items_of, stands_at, IsApart, candidates, DeltaView, delta_between, item_share, sending_order, sending_order-total, sending_order-strict, Contains-filter, Contains-kept, same_members, before_count, size_through, fits, sent, cut_count, Contains-first_places, first_places-Contains, sent_apart, size_in, IsKeptOut, IsSentSet, DeltasHaveTheirSets}
+use Rattle.delta_plans.proofs.Common.{is_lacked, ◌≡◌, ◌≢◌, ℕ, zero, suc, ◌+◌, ◌<◌, ◌≤◌, Bool, true, false, cond, not, List, [], ◌∷◌, refl, sym, ap, ◌∙◌, subst, arith, nat_tests, count_by, filter, IsPermutation, Contains, sum_by, Ordering, Less, Equal, Greater, is_lt, ordering_reverse, IsTotalOrder, tied_itself, both_ways, le-leb, lt-leb, AllPairs-filter, length_permutation, sum_by-cons, length-filter, Item, items_of, stands_at, IsApart, candidates, DeltaView, delta_between, sending_order, sending_order-total, sending_order-strict, Contains-filter, Contains-kept, same_members, before_count, size_through, fits, sent, cut_count, Contains-first_places, first_places-Contains, sent_apart, size_in, IsKeptOut, IsSentSet, DeltasHaveTheirSets}
 use Rattle.delta_plans.proofs.Candidates.{table_apart}
 
 -- a sum over a list whose terms are no greater, for the elements of the list
@@ -19,10 +19,6 @@ sum_by-more f g (x ∷ xs) n y (zero, lt, is) le more =
 sum_by-more f g (x ∷ xs) n y (suc k, lt, is) le more =
     let rest = sum_by-more f g xs n y (k, omega (arith, lt), is) (λ z (j, lt, is). le z (suc j, omega (arith, lt), is)) more in
     omega (arith, sum_by-cons f x xs, sum_by-cons g x xs, le x (0, omega arith, refl), rest)
-
--- tests that agree on a list count as many
-sum_by-same : {X : Type 0} (f g : X → ℕ) (xs : List X) → ((x : X) → Contains xs x → f x ≡ g x) → sum_by f xs ≡ sum_by g xs
-sum_by-same f g xs same = omega (arith, sum_by-le f g xs (λ x there. omega (arith, same x there)), sum_by-le g f xs (λ x there. omega (arith, same x there)))
 
 is_less : (r : Ordering) → is_lt r ≡ true → r ≡ Less
 is_less Less e = refl
@@ -96,8 +92,10 @@ module _ {X : Type 0} {order : X → X → Ordering} {cs : List X} {size : X →
   in_set-sent c at_c yes' = first_places-Contains order total cs strict places c at_c (set_place c at_c yes')
 
   pub cut-is : cut_count order cs size budget ≡ count_by (λ c. not (is_in c)) cs
-  cut-is = sum_by-same (λ c. cond (not (fits order cs size budget c)) 1 0) (λ c. cond (not (is_in c)) 1 0) cs
-      (λ c at_c. ap (λ b. cond (not b) 1 0) (fits-is c at_c))
+  cut-is =
+      let le = sum_by-le (λ c. one (not (fits order cs size budget c))) (λ c. one (not (is_in c))) cs (λ c at_c. grind (arith, nat_tests, fits-is c at_c)) in
+      let ge = sum_by-le (λ c. one (not (is_in c))) (λ c. one (not (fits order cs size budget c))) cs (λ c at_c. grind (arith, nat_tests, fits-is c at_c)) in
+      omega (arith, le, ge)
 
 module _ {X : Type 0} {order : X → X → Ordering} {cs : List X} {size : X → ℕ} {is_in : X → Bool} {budget : ℕ} where
   -- what comes before a candidate that doesn't fit beside it
@@ -122,7 +120,7 @@ module _ {X : Type 0} {order : X → X → Ordering} {cs : List X} {size : X →
 
 pub set_sent : DeltasHaveTheirSets
 set_sent mode rotation budget from to is_in proper in_nodes is = record {
-  members = λ c. (sent_in c, (λ both. in_sent c both.0 both.1));
+  members = λ c. (sent-in_set total strict is c, (λ both. in_set-sent total strict is c both.0 both.1));
   count = sym (length_permutation delta.items (filter is_in cs) same_items) ∙ length-filter is_in cs;
   cut = cut-is total strict is;
 }
@@ -139,12 +137,6 @@ set_sent mode rotation budget from to is_in proper in_nodes is = record {
     delta : DeltaView
     delta = delta_between mode rotation budget from to
 
-    sent_in : (c : Item) → Contains delta.items c → Contains cs c × (is_in c ≡ true)
-    sent_in = sent-in_set total strict is
-
-    in_sent : (c : Item) → Contains cs c → is_in c ≡ true → Contains delta.items c
-    in_sent = in_set-sent total strict is
-
     is_apart : Item → Item → Type 0
     is_apart i j = stands_at i.owner i.entry.key j ≡ false
 
@@ -154,5 +146,5 @@ set_sent mode rotation budget from to is_in proper in_nodes is = record {
     same_items : IsPermutation delta.items (filter is_in cs)
     same_items = same_members delta.items (filter is_in cs)
         (sent_apart _ total from proper cs (λ c there. (Contains-kept (is_lacked mode to) (items_of from) c there).0) _) filtered_apart
-        (λ c there. Contains-filter is_in cs c (sent_in c there).0 (sent_in c there).1)
-        (λ c there. let at = Contains-kept is_in cs c there in in_sent c at.0 at.1)
+        (λ c there. let at = sent-in_set total strict is c there in Contains-filter is_in cs c at.0 at.1)
+        (λ c there. let at = Contains-kept is_in cs c there in in_set-sent total strict is c at.0 at.1)

@@ -1,8 +1,8 @@
 -- The owners' turns in a level.
 -- Serves the functions of `rounds` and `sharing` and `RoundMarks`.
-use Rattle.delta_plans.proofs.Common.{◌≡◌, ◌≢◌, ℕ, suc, ◌+◌, ◌-◌, ◌*◌, ◌<◌, ◌≤◌, cond, ltb, List, get_or, set, map, inl, inr, refl, sym, ap, ◌∙◌, transport, arith, nat_tests, get_or-set_same, get_or-set_other, length-map, map-set, Entries, MOST_NODES, MOST_KEYS, MOST_ENTRY_SIZE, cases_eq, Cells, HasNoneAbove, sum_below-same, sum_below-plus, rotated, rotated-injective, rotated-is, First, Oldest, Newest, Offer, Reached, Turns, by_first, cells_in, low_in, high_in, marks, weights_in, IsOffer, count_on, AreFarther, lt-ltb, le-ltb, IsStopOf, weight_to, part_weight, parts_count, reached_after, AreTurns, HasReached, AreSharedBy, Several, length-set, HasPart, HaveTurns, weight_of, weight_from, weight_through, one_each}
+use Rattle.delta_plans.proofs.Common.{◌≡◌, ◌≢◌, ℕ, suc, ◌+◌, ◌-◌, ◌*◌, ◌<◌, ◌≤◌, cond, ltb, List, get_or, set, map, inl, inr, refl, sym, ap, ◌∙◌, transport, arith, nat_tests, get_or-set_same, get_or-set_other, length-map, map-set, Entries, MOST_NODES, MOST_KEYS, MOST_ENTRY_SIZE, cases_eq, Cells, HasNoneAbove, sum_below-same, sum_below-plus, rotated, rotated-injective, rotated-is, First, Oldest, Newest, Offer, Reached, Turns, by_first, low_in, high_in, marks, weights_in, IsOffer, count_on, AreFarther, lt-ltb, le-ltb, IsStopOf, weight_to, part_weight, parts_count, reached_after, AreTurns, HasReached, AreSharedBy, Several, length-set, HasPart, HaveTurns, weight_of, weight_from, weight_through, one_each}
 use Rattle.delta_plans.proofs.WeightLaws.{offer-few, owner-entries, owner-most, part, parts_of, sum_below-changed, sum_below-longer, weight_of-split}
-use Rattle.delta_plans.proofs.StopSteps.{IsStopTold, few-from, stop-tells}
+use Rattle.delta_plans.proofs.StopSteps.{few-from, stop-tells}
 
 -- the weights from a lower mark on and from a higher one, which may be above all numbers
 split-covered : (weight : ℕ → ℕ) (cells : Cells) (keys owner low mark high : ℕ) → low ≤ mark → HasNoneAbove cells keys owner high
@@ -96,43 +96,43 @@ module _ {N : Type 0} {number : N → ℕ} {most : ℕ} {turns : Turns N} (are :
           → count ≡ part_weight number (λ _. 1) turns owner → number to ≡ far owner
           → HasReached number turns (set mark owner to) (record { turn = reached.turn + 1; left = reached.left - weight; sent = reached.sent + count })
       turns-next fits weighs counts to_far =
-        let ordered : AreFarther turns.first (low owner) (near owner) (number to) = rw to_far (are.level.farther owner in_nodes) in record {
-        size = length-set mark owner to ∙ so_far.size;
-        each = λ r lt. elim (cases_eq r owner) [
-          | inl same ↦
-              let passed = ap next same ∙ here ∙ to_far ∙ ap far (sym same) in
-              let now = ap turn same ∙ its in
-              grind (arith, nat_tests)
-          | inr other ↦
-              let stays = others r other ∙ so_far.each r lt in
-              let apart : turn r ≢ turn owner = λ same. other (rotated-injective nodes turns.rotation r owner are.rotation lt in_nodes same) in
-              grind (arith, nat_tests, its)
-        ];
-        left = omega (arith, so_far.left, fits, weighs, (rw to_far at (grown ordered (weights_in offer))));
-        count = omega (arith, so_far.count, counts, (rw to_far at (grown ordered one_each)));
-      }
+          let ordered : AreFarther turns.first (low owner) (near owner) (number to) = rw to_far (are.level.farther owner in_nodes) in record {
+            size = length-set mark owner to ∙ so_far.size;
+            each = λ r lt. elim (cases_eq r owner) [
+              | inl same ↦
+                  let passed = ap next same ∙ here ∙ to_far ∙ ap far (sym same) in
+                  let now = ap turn same ∙ its in
+                  grind (arith, nat_tests)
+              | inr other ↦
+                  let stays = others r other ∙ so_far.each r lt in
+                  let apart : turn r ≢ turn owner = λ same. other (rotated-injective nodes turns.rotation r owner are.rotation lt in_nodes same) in
+                  grind (arith, nat_tests, its)
+            ];
+            left = omega (arith, so_far.left, fits, weighs, (rw to_far at (grown ordered (weights_in offer))));
+            count = omega (arith, so_far.count, counts, (rw to_far at (grown ordered one_each)));
+          }
 
       -- or it stops at a number
       pub turns-shared : {sent : ℕ} → IsStopOf number turns owner reached.left (number to)
           → sent ≡ weight_to number (λ _. 1) turns owner (near owner) (number to) → AreSharedBy number turns (set mark owner to) (reached.sent + sent)
       turns-shared stop counts =
-        let tells = stop-tells stop.so_far (are.offer.differ owner in_nodes) stop.below stop.above (are.level.farther owner in_nodes) in
-        let ordered : AreFarther turns.first (low owner) (near owner) (number to) =
-        ((are.level.farther owner in_nodes).0, tells.stops.above, stop.so_far.on) in
-        let stays = λ (r : ℕ) (lt : r < nodes) (other : r ≢ owner).
-        others r other ∙ so_far.each r lt ∙ ap (λ t. cond (ltb (turn r) t) (far r) (near r)) (sym its) in record {
-        size = length-set mark owner to ∙ so_far.size;
-        shared = record {
-          stop = record { owner = owner; key = tells.key; owner_below = in_nodes; key_below = tells.in_keys; stops = rw here tells.stops; others = stays };
-          above = λ r lt. elim (cases_eq r owner) [
-            | inl same ↦ omega (arith, ap low same, ap next same, here, tells.stops.above)
-            | inr other ↦ let is = stays r lt other in let farther = are.level.farther r lt in grind (arith, nat_tests, farther.0, farther.1)
-          ];
-          count = omega (arith, so_far.count, counts, grown ordered one_each);
-          within = omega (arith, so_far.left, stop.so_far.rest, grown ordered (weights_in offer));
-          beyond = omega (arith, so_far.left, stop.so_far.rest, tells.beyond, grown ordered (weights_in offer));
-        };
-      }
+          let tells = stop-tells stop.so_far (are.offer.differ owner in_nodes) stop.below stop.above (are.level.farther owner in_nodes) in
+          let ordered : AreFarther turns.first (low owner) (near owner) (number to) =
+          ((are.level.farther owner in_nodes).0, tells.stops.above, stop.so_far.on) in
+          let stays = λ (r : ℕ) (lt : r < nodes) (other : r ≢ owner).
+          others r other ∙ so_far.each r lt ∙ ap (λ t. cond (ltb (turn r) t) (far r) (near r)) (sym its) in record {
+            size = length-set mark owner to ∙ so_far.size;
+            shared = record {
+              stop = record { owner = owner; key = tells.key; owner_below = in_nodes; key_below = tells.in_keys; stops = rw here tells.stops; others = stays };
+              above = λ r lt. elim (cases_eq r owner) [
+                | inl same ↦ omega (arith, ap low same, ap next same, here, tells.stops.above)
+                | inr other ↦ let is = stays r lt other in let farther = are.level.farther r lt in grind (arith, nat_tests, farther.0, farther.1)
+              ];
+              count = omega (arith, so_far.count, counts, grown ordered one_each);
+              within = omega (arith, so_far.left, stop.so_far.rest, grown ordered (weights_in offer));
+              beyond = omega (arith, so_far.left, stop.so_far.rest, tells.beyond, grown ordered (weights_in offer));
+            };
+          }
 
 module _ {N : Type 0} {number : N → ℕ} {most : ℕ} {turns : Turns N} {owner count : ℕ} (has : HasPart number most turns owner count) where
   -- entries that are counted take as much as they are

@@ -1,4 +1,4 @@
-use Rattle.delta_plans.proofs.Common.{◌≡◌, ◌+◌, ◌/◌, ap, ◌∙◌, arith, marks, weights_in, weight_to}
+use Rattle.delta_plans.proofs.Common.{◌≡◌, ap, ◌∙◌, arith, marks}
 use Rattle.delta_plans.proofs.StopSteps.{stop-first, stop-halved}
 use Rattle.delta_plans.proofs.sharing.Turns.stop_of.Goals as goal
 

@@ -1,7 +1,7 @@
 -- The items of a table are those of its places, so a sum over them is one over all places; candidates by their numbers,
 -- and sums over these.
 -- Serves `DeltaMarks`, `SentSets` and `version_tables`.
-use Rattle.delta_plans.proofs.Common.{◌≡◌, ◌≢◌, ℕ, suc, ◌+◌, ◌<◌, Bool, true, false, cond, eqb, List, [], ◌∷◌, get_or, Some, None, refl, sym, ap, ◌∙◌, subst, arith, nat_tests, filter, Contains, Contains-get_or, ◌&&◌, sum_by, is_eq, eqb-true, and_parts, sum_by-cons, Item, Mode, candidates, Table, entry_at, items_of, IsProper, stands_at, items_at, items_at-none, items_at-apart, IsApart, entry_at-items_of, Contains-items_of, apart-items_of, tied-stands_at, sum_below, sum_below-same, number_here, number_there, sum_over, ltb, inl, inr, cases_lt, cases_eq, le-ltb, both_ways, same_Some, Entry, generation_held, IsInPlace, Contains-filter, Contains-kept, rank_among, owner_count, IsHistory, write_numbered, Cells, count_above, versions-rise, number-of_version, Offers, is_lacked, item_number, offered_sum, rank_above}
+use Rattle.delta_plans.proofs.Common.{◌≡◌, ◌≢◌, ℕ, suc, ◌<◌, Bool, true, false, cond, eqb, List, [], ◌∷◌, get_or, Some, None, refl, sym, ap, ◌∙◌, subst, arith, nat_tests, filter, Contains, Contains-get_or, ◌&&◌, sum_by, is_eq, sum_by-cons, Item, Mode, candidates, Table, entry_at, items_of, IsProper, stands_at, items_at, items_at-none, items_at-apart, IsApart, entry_at-items_of, Contains-items_of, apart-items_of, tied-stands_at, sum_below, sum_below-same, number_here, number_there, sum_over, ltb, inl, inr, cases_lt, cases_eq, le-ltb, both_ways, same_Some, Entry, generation_held, IsInPlace, Contains-filter, Contains-kept, rank_among, owner_count, IsHistory, write_numbered, Cells, count_above, versions-rise, number-of_version, Offers, is_lacked, item_number, offered_sum, rank_above}
 use Rattle.delta_plans.proofs.WeightLaws.{sum_below-changed, sum_below-none, sum_below-one, where_true}
 
 -- a sum over those that pass a test
@@ -22,21 +22,13 @@ by_places : (nodes keys : ℕ) (f : Item → ℕ) (xs : List Item) → ((i : Ite
 by_places nodes keys f [] within = sym (sum_below-none nodes _ (λ owner lt. sum_below-none keys _ (λ key lt'. refl)))
 by_places nodes keys f (x ∷ xs) within =
     let rest = by_places nodes keys f xs (λ i (k, lt, is). within i (suc k, omega (arith, lt), is)) in
+    let place = within x (0, omega arith, refl) in
+    let one = λ (owner key : ℕ). sum_by-cons (λ i. cond (stands_at owner key i) (f i) 0) x xs in
+    let row = sum_below-changed keys x.entry.key (f x) (sum_at f xs x.owner) (sum_at f (x ∷ xs) x.owner) place.1
+    (λ key lt other. grind (arith, nat_tests, one x.owner key)) (grind (arith, nat_tests, one x.owner x.entry.key)) in
+    let others = λ (owner : ℕ) (lt : owner < nodes) (other : owner ≢ x.owner).
+    sum_below-same keys (sum_at f (x ∷ xs) owner) (sum_at f xs owner) (λ key lt'. grind (arith, nat_tests, one owner key)) in
     omega (arith, sum_by-cons f x xs, rest, sum_below-changed nodes x.owner (f x) _ (λ owner. sum_below keys (sum_at f (x ∷ xs) owner)) place.0 others row)
-  where
-    place : (x.owner < nodes) × (x.entry.key < keys)
-    place = within x (0, omega arith, refl)
-
-    one : (owner key : ℕ) → sum_at f (x ∷ xs) owner key ≡ cond (stands_at owner key x) (f x) 0 + sum_at f xs owner key
-    one owner key = sum_by-cons (λ i. cond (stands_at owner key i) (f i) 0) x xs
-
-    others : (owner : ℕ) → owner < nodes → owner ≢ x.owner → sum_below keys (sum_at f (x ∷ xs) owner) ≡ sum_below keys (sum_at f xs owner)
-    others owner lt other = sum_below-same keys _ _ (λ key lt'. let is = one owner key in grind (arith, nat_tests))
-
-    row : sum_below keys (sum_at f (x ∷ xs) x.owner) ≡ sum_below keys (sum_at f xs x.owner) + f x
-    row = sum_below-changed keys x.entry.key (f x) (sum_at f xs x.owner) (sum_at f (x ∷ xs) x.owner) place.1
-        (λ key lt other. let is = one x.owner key in grind (arith, nat_tests))
-        (let is = one x.owner x.entry.key in grind (arith, nat_tests))
 
 module _ (t : Table) (proper : IsProper t) where
   pub table_apart : IsApart (items_of t)
@@ -46,15 +38,7 @@ module _ (t : Table) (proper : IsProper t) where
 
   -- the items of a place
   none_at : (owner key : ℕ) → entry_at t owner key ≡ None → (i : Item) → Contains (items_of t) i → stands_at owner key i ≡ false
-  none_at owner key none i there = elim (stands_at owner key i) as (λ b. stands_at owner key i ≡ b → b ≡ false) [
-    | false ↦ λ _. refl
-    | true ↦ λ is.
-        let parts = and_parts (eqb i.owner owner) (eqb i.entry.key key) is in
-        let same : entry_at t i.owner i.entry.key ≡ entry_at t owner key =
-        λ j. entry_at t (eqb-true i.owner owner parts.0 j) (eqb-true i.entry.key key parts.1 j) in
-        let no : None ≡ Some i.entry = sym none ∙ sym same ∙ entry_at-items_of t i proper there in
-        absurd (cc)
-  ] refl
+  none_at owner key none i there = grind (arith, nat_tests, entry_at-items_of t i proper there)
 
   at_place : (f : Item → ℕ) (owner key : ℕ) → sum_at f (items_of t) owner key ≡ number_there f t owner key
   at_place f owner key =
@@ -106,27 +90,20 @@ module _ {mode : Mode} {from to : Table} {lists : ℕ → List Entry} {cells : C
   -- it is the write of its number, which is above the owner's mark
   pub candidate-number : (c : Item) → Contains cs c
       → (low c.owner < item_number cells c) × (write_numbered (lists c.owner) (item_number cells c) ≡ Some c.entry)
-  candidate-number c there = elim (cases_lt (low c.owner) (item_number cells c)) [
+  candidate-number c there = let held = candidate-held c there in elim (cases_lt (low c.owner) (item_number cells c)) [
     | inl above ↦
         let place = candidate-place c there in
         let offered = given.offers.above c.owner c.entry.key place.owner_below place.key_below above in
         (above, offered.2 ∙ ap Some (same_Some offered.0 c.entry (sym offered.1 ∙ held.0)))
     | inr not_above ↦ absurd (both_ways (is_lacked mode to c) (given.offers.below c.owner c.entry.key c.entry held.0 (omega (arith, not_above))) held.1)
   ]
-    where
-      held : (entry_at from c.owner c.entry.key ≡ Some c.entry) × (is_lacked mode to c ≡ true)
-      held = candidate-held c there
 
   -- each number above its owner's mark is that of a candidate
   pub candidate-at : (owner key : ℕ) → owner < from.nodes → key < from.keys → low owner < cells owner key
       → (e : Entry) × (entry_at from owner key ≡ Some e) × Contains cs (record { owner = owner; entry = e })
   candidate-at owner key in_nodes in_keys lt =
-      let found = given.offers.above owner key in_nodes in_keys lt in (
-        found.0,
-        found.1,
-        Contains-filter (is_lacked mode to) (items_of from) (record { owner = owner; entry = found.0 })
-            (Contains-items_of from owner key found.0 found.1) found.3,
-      )
+      let found = given.offers.above owner key in_nodes in_keys lt in
+      (found.0, found.1, Contains-filter (is_lacked mode to) (items_of from) _ (Contains-items_of from owner key found.0 found.1) found.3)
 
   -- two candidates of one owner
   module _ (c d : Item) (in_c : Contains cs c) (in_d : Contains cs d) (owners : c.owner ≡ d.owner) where
@@ -135,8 +112,7 @@ module _ {mode : Mode} {from to : Table} {lists : ℕ → List Entry} {cells : C
 
     alike : c.entry.generation ≡ d.entry.generation
     alike =
-        given.proper.copies c.owner c.entry.key c.entry (candidate-held c in_c).0
-        ∙ ap (generation_held from) owners
+        given.proper.copies c.owner c.entry.key c.entry (candidate-held c in_c).0 ∙ ap (generation_held from) owners
         ∙ sym (given.proper.copies d.owner d.entry.key d.entry (candidate-held d in_d).0)
 
     pub one_item : item_number cells c ≡ item_number cells d → c ≡ d
@@ -158,11 +134,7 @@ module _ {mode : Mode} {from to : Table} {lists : ℕ → List Entry} {cells : C
   pub offered-sum : (f : Item → ℕ) (g : ℕ → ℕ → ℕ) → ((c : Item) → Contains cs c → f c ≡ g c.owner c.entry.key) → sum_by f cs ≡ offered_sum from cells low g
   offered-sum f g told =
       candidates_sum mode from to given.proper f
-      ∙ sum_below-same from.nodes _ _ (λ owner in_nodes. sum_below-same from.keys _ _ (λ key in_keys. at owner key in_nodes in_keys))
-    where
-      at : (owner key : ℕ) → owner < from.nodes → key < from.keys
-          → number_there (λ i. cond (is_lacked mode to i) (f i) 0) from owner key ≡ cond (ltb (low owner) (cells owner key)) (g owner key) 0
-      at owner key in_nodes in_keys = elim (cases_lt (low owner) (cells owner key)) [
+      ∙ sum_below-same from.nodes _ _ (λ owner in_nodes. sum_below-same from.keys _ _ (λ key in_keys. elim (cases_lt (low owner) (cells owner key)) [
         | inl above ↦
             let there = candidate-at owner key in_nodes in_keys above in
             let i : Item = record { owner = owner; entry = there.0 } in
@@ -175,7 +147,7 @@ module _ {mode : Mode} {from to : Table} {lists : ℕ → List Entry} {cells : C
               | Some e ↦ λ held. ap (λ b. cond b (f (record { owner = owner; entry = e })) 0) (given.offers.below owner key e held (omega (arith, not_above)))
             ] refl
             ∙ ap (λ b. cond b (g owner key) 0) (sym (le-ltb (low owner) (cells owner key) (omega (arith, not_above))))
-      ]
+      ]))
 
   module _ (c : Item) (in_c : Contains cs c) where
     -- a number of one owner's places alone
@@ -194,17 +166,13 @@ module _ {mode : Mode} {from to : Table} {lists : ℕ → List Entry} {cells : C
     pub rank_among-is : rank_among cs c ≡ rank_above cells from.keys c.owner (low c.owner) (item_number cells c)
     rank_among-is =
         offered-sum (λ d. where_true (eqb d.owner c.owner && ltb d.entry.version c.entry.version) 1)
-        (λ owner key. where_true (eqb owner c.owner) (where_true (ltb (cells c.owner key) (item_number cells c)) 1)) told
-        ∙ of_owner (λ key. where_true (ltb (cells c.owner key) (item_number cells c)) 1)
-      where
-        told : (d : Item) → Contains cs d
-            → where_true (eqb d.owner c.owner && ltb d.entry.version c.entry.version) 1
-            ≡ where_true (eqb d.owner c.owner) (where_true (ltb (cells c.owner d.entry.key) (item_number cells c)) 1)
-        told d in_d = elim (cases_eq d.owner c.owner) [
+        (λ owner key. where_true (eqb owner c.owner) (where_true (ltb (cells c.owner key) (item_number cells c)) 1))
+        (λ d in_d. elim (cases_eq d.owner c.owner) [
           | inr other ↦ grind (arith, nat_tests)
           | inl same ↦
               let its = ap (λ o. cells o d.entry.key) same in
               let rise = older d c in_d in_c same in
               let fall = newer d c in_d in_c same in
               grind (arith, nat_tests)
-        ]
+        ])
+        ∙ of_owner (λ key. where_true (ltb (cells c.owner key) (item_number cells c)) 1)

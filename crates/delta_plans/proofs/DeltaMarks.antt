@@ -1,6 +1,6 @@
 -- A delta by marks: whole levels, and of the next one what comes before the first candidate that doesn't fit.
 -- Serves `version_tables`.
-use Rattle.delta_plans.proofs.Common.{◌≡◌, ◌≢◌, ℕ, ◌+◌, ◌<◌, ◌≤◌, Bool, true, false, cond, not, List, length, inl, inr, refl, sym, ap, ◌∙◌, subst, arith, nat_tests, nat_lt, ltb, ◌&&◌, Contains, sum_by, Ordering, Less, Equal, Greater, nat_cmp, ordering_then, is_lt, cases_eq, lt-ltb, and_parts, ltb-true, same_Some, nat_cmp-equal, Entry, Item, Budget, Mode, ScuttleBreadth, ScuttleDepth, PreciseOldest, PreciseNewest, Some, amount_of, Table, entry_at, candidates, rank_among, owner_count, DeltaView, delta_between, item_share, rotated, sending_order, rotated-injective, sending_order-total, order-levels, level_order, Cells, HasNoneAbove, sum_below-same, First, Oldest, Newest, HasSet, comes_first, item_number, KeepsLow, AreSent, first_sent, first_level, lets_through, level_number, round_of, AreLevelMarks, StopAt, share_or_none, number_shares, weight_between, weight_through, one_each, sum_below, size_in, IsInPlace, count_by-not, sum_by-ones}
+use Rattle.delta_plans.proofs.Common.{◌≡◌, ◌≢◌, ℕ, ◌+◌, ◌<◌, ◌≤◌, Bool, true, false, cond, not, List, length, inl, inr, refl, sym, ap, ◌∙◌, arith, nat_tests, nat_lt, ltb, ◌&&◌, Contains, sum_by, Ordering, Less, Equal, Greater, nat_cmp, ordering_then, is_lt, cases_eq, lt-ltb, and_parts, ltb-true, same_Some, nat_cmp-equal, Entry, Item, Budget, Mode, ScuttleBreadth, ScuttleDepth, PreciseOldest, PreciseNewest, amount_of, Table, candidates, rank_among, owner_count, DeltaView, delta_between, item_share, rotated, sending_order, rotated-injective, sending_order-total, order-levels, level_order, Cells, HasNoneAbove, sum_below-same, First, Oldest, Newest, HasSet, comes_first, item_number, KeepsLow, AreSent, first_sent, first_level, lets_through, level_number, round_of, AreLevelMarks, StopAt, share_or_none, number_shares, weight_between, weight_through, one_each, sum_below, size_in, IsInPlace, count_by-not, sum_by-ones}
 use Rattle.delta_plans.proofs.Candidates.{IsOffered, candidate-at, candidate-number, candidate-place, offered-sum, older, one_item, owner_count-is, rank_among-is}
 use Rattle.delta_plans.proofs.SentSets.{stops_sent, all_sent, set_sent}
 
@@ -44,10 +44,8 @@ turn-lt t u o apart = grind (arith, nat_tests)
 level-tells : (way : First) (l m next : ℕ) (near far : Bool) → near ≡ comes_first way l next → far ≡ not (comes_first way next l)
     → comes_first way m next ≡ false → not (comes_first way next m) ≡ true
     → (near ≡ is_lt (age_cmp way l m)) × (far ≡ is_lt (ordering_then (age_cmp way l m) Less))
-level-tells Oldest l m next near far before upto outside inside =
-    let its : m ≡ next = grind (arith, nat_tests) in (grind (arith, nat_tests), grind (arith, nat_tests))
-level-tells Newest l m next near far before upto outside inside =
-    let its : m ≡ next = grind (arith, nat_tests) in (grind (arith, nat_tests), grind (arith, nat_tests))
+level-tells Oldest l m next near far before upto outside inside = grind (arith, nat_tests)
+level-tells Newest l m next near far before upto outside inside = grind (arith, nat_tests)
 
 -- an owner's versions rise with its numbers, so its candidates of one level stand as these do
 own-order : (first : First) (m n v w k l : ℕ) → (m < n → v < w) → (n < m → w < v) → (m ≡ n → (v ≡ w) × (k ≡ l))
@@ -86,18 +84,16 @@ module _ {mode : Mode} {from to : Table} {lists : ℕ → List Entry} {cells : C
   -- marks that stop at a number let through what comes before its candidate
   module _ {near far mark : ℕ → ℕ} (shape : AreLevelMarks first way (level_number mode lists cells from.keys low) cells from.nodes from.keys low near far)
       (stop : StopAt first rotation from.nodes from.keys cells low near far mark) where
-    abbrev entry : Entry
-    entry = (candidate-at given stop.owner stop.key stop.owner_below stop.key_below stop.stops.offered).0
+    open candidate-at given stop.owner stop.key stop.owner_below stop.key_below stop.stops.offered use {0 as entry, 1 as held, 2 as there}
 
     abbrev next : Item
     next = record { owner = stop.owner; entry = entry }
 
     in_next : Contains cs next
-    in_next = (candidate-at given stop.owner stop.key stop.owner_below stop.key_below stop.stops.offered).2
+    in_next = there
 
     its_number : item_number cells next ≡ cells stop.owner stop.key
-    its_number = ap (cells stop.owner) (given.proper.in_place stop.owner stop.key entry
-        (candidate-at given stop.owner stop.key stop.owner_below stop.key_below stop.stops.offered).1).keyed
+    its_number = ap (cells stop.owner) (given.proper.in_place stop.owner stop.key entry held).keyed
 
     outside : lets mode cells near next ≡ false
     outside = ap (lets_through first (near stop.owner)) its_number ∙ stop.stops.outside
@@ -105,30 +101,31 @@ module _ {mode : Mode} {from to : Table} {lists : ℕ → List Entry} {cells : C
     inside : lets mode cells far next ≡ true
     inside = ap (lets_through first (far stop.owner)) its_number ∙ stop.stops.inside
 
-    -- what compares behind the levels
+    -- what compares behind the turns, and behind the levels
+    abbrev versions : Item → Ordering
+    versions c = ordering_then (age_cmp first c.entry.version entry.version) (nat_cmp c.entry.key entry.key)
+
     abbrev behind : Item → Ordering
-    behind c = ordering_then (nat_cmp (turn c.owner) (turn stop.owner))
-        (ordering_then (age_cmp first c.entry.version entry.version) (nat_cmp c.entry.key entry.key))
+    behind c = ordering_then (nat_cmp (turn c.owner) (turn stop.owner)) (versions c)
 
     module _ (c : Item) (in_c : Contains cs c) where
       place : IsInPlace from.nodes from.keys c.owner c.entry.key c.entry
       place = candidate-place given c in_c
 
-      near-lets : lets mode cells near c ≡ comes_first way (level_key mode cs c) shape.next
-      near-lets =
-          shape.near_is c.owner c.entry.key place.owner_below place.key_below (candidate-number given c in_c).0
-          ∙ ap (λ l. comes_first way l shape.next) (level-is mode c in_c)
-
-      far-lets : lets mode cells far c ≡ not (comes_first way shape.next (level_key mode cs c))
-      far-lets =
-          shape.far_is c.owner c.entry.key place.owner_below place.key_below (candidate-number given c in_c).0
-          ∙ ap (λ l. not (comes_first way shape.next l)) (level-is mode c in_c)
+      level-lets : (lets mode cells near c ≡ comes_first way (level_key mode cs c) shape.next)
+          × (lets mode cells far c ≡ not (comes_first way shape.next (level_key mode cs c)))
+      level-lets =
+          let above = (candidate-number given c in_c).0 in
+          rw (← level-is mode c in_c) (
+            shape.near_is c.owner c.entry.key place.owner_below place.key_below above,
+            shape.far_is c.owner c.entry.key place.owner_below place.key_below above,
+          )
 
     -- a candidate comes before it where the far marks let it through, or the near ones if it is behind it in its level
     order-tells : (c : Item) → Contains cs c → is_lt (order c next) ≡ cond (is_lt (behind c)) (lets mode cells far c) (lets mode cells near c)
     order-tells c in_c =
-        let levels = level-tells way (level_key mode cs c) (level_key mode cs next) shape.next _ _ (near-lets c in_c) (far-lets c in_c)
-        (sym (near-lets next in_next) ∙ outside) (sym (far-lets next in_next) ∙ inside) in
+        let levels = level-tells way (level_key mode cs c) (level_key mode cs next) shape.next _ _ (level-lets c in_c).0 (level-lets c in_c).1
+        (sym (level-lets next in_next).0 ∙ outside) (sym (level-lets next in_next).1 ∙ inside) in
         ap is_lt (order-levels mode from.nodes rotation cs c next in_nodes (place c in_c).owner_below stop.owner_below in_c in_next
         ∙ order-by mode from.nodes rotation cs c next)
         ∙ then-lt (age_cmp way (level_key mode cs c) (level_key mode cs next)) (behind c)
@@ -138,35 +135,20 @@ module _ {mode : Mode} {from to : Table} {lists : ℕ → List Entry} {cells : C
     marks-stop c in_c = elim (cases_eq c.owner stop.owner) [
       | inl same ↦
           let one = one_item given c next in_c in_next same in
-          let own = own-order first m n c.entry.version entry.version c.entry.key entry.key (older given c next in_c in_next same)
-          (older given next c in_next in_c (sym same)) (λ e. (ap (λ (i : Item). i.entry.version) (one e), ap (λ (i : Item). i.entry.key) (one e))) in
+          let own = own-order first (item_number cells c) (item_number cells next) c.entry.version entry.version c.entry.key entry.key
+          (older given c next in_c in_next same) (older given next c in_next in_c (sym same))
+          (λ e. (ap (λ (i : Item). i.entry.version) (one e), ap (λ (i : Item). i.entry.key) (one e))) in
           let tied = nat_cmp-equal (turn c.owner) (turn stop.owner) (ap turn same) in
-          subst (λ o. lets_through first (mark o) (cells o c.entry.key) ≡ comes_first first (cells o c.entry.key) n) (sym same)
-          (stop.stops.own c.entry.key (place c in_c).key_below ∙ ap (comes_first first (cells stop.owner c.entry.key)) (sym its_number))
-          ∙ sym (own-lets first (near c.owner) (far c.owner) m n (ap (λ o. lets_through first (near o) n) same ∙ outside)
-          (ap (λ o. lets_through first (far o) n) same ∙ inside))
-          ∙ (λ i. cond (sym own i) (lets mode cells far c) (lets mode cells near c))
-          ∙ ap (λ t. cond (is_lt (ordering_then t versions)) (lets mode cells far c) (lets mode cells near c)) (sym tied)
-          ∙ sym (order-tells c in_c)
+          let its = own-lets first (near c.owner) (far c.owner) (item_number cells c) (item_number cells next) (cc outside) (cc inside) in
+          cc (order-tells c in_c, its_number, stop.stops.own c.entry.key (place c in_c).key_below, own, tied, its)
       | inr other ↦
           let apart : turn c.owner ≢ turn stop.owner = λ e.
           other (rotated-injective from.nodes rotation c.owner stop.owner in_nodes (place c in_c).owner_below stop.owner_below e) in
-          ap (λ r. lets_through first r m) (stop.others c.owner (place c in_c).owner_below other)
-          ∙ elim (ltb (turn c.owner) (turn stop.owner)) as
-          (λ b. lets_through first (cond b (far c.owner) (near c.owner)) m ≡ cond b (lets mode cells far c) (lets mode cells near c))
-          [ true ↦ refl | false ↦ refl ]
-          ∙ ap (λ b. cond b (lets mode cells far c) (lets mode cells near c)) (sym (turn-lt (turn c.owner) (turn stop.owner) versions apart))
-          ∙ sym (order-tells c in_c)
+          rw (order-tells c in_c, turn-lt (turn c.owner) (turn stop.owner) (versions c) apart, stop.others c.owner (place c in_c).owner_below other)
+          (elim (ltb (turn c.owner) (turn stop.owner)) as
+          (λ b. lets_through first (cond b (far c.owner) (near c.owner)) (item_number cells c) ≡ cond b (lets mode cells far c) (lets mode cells near c))
+          [ true ↦ refl | false ↦ refl ])
     ]
-      where
-        m : ℕ
-        m = item_number cells c
-
-        n : ℕ
-        n = item_number cells next
-
-        versions : Ordering
-        versions = ordering_then (age_cmp first c.entry.version entry.version) (nat_cmp c.entry.key entry.key)
 
   -- sums over what marks let through are weights
   module _ {high : ℕ → ℕ} (covered : (owner : ℕ) → owner < from.nodes → HasNoneAbove cells from.keys owner (high owner)) (mark : ℕ → ℕ)
@@ -213,17 +195,15 @@ module _ {mode : Mode} {from to : Table} {lists : ℕ → List Entry} {cells : C
           → HasSet cs (lets mode cells mark) delta
       shared-sent shape stop within beyond =
           set_sent mode rotation budget from to (lets mode cells mark) given.proper in_nodes
-          (stops_sent order (sending_order-total mode from.nodes rotation cs) cs (item_share budget) (lets mode cells mark) (amount_of budget)
-          (next shape stop) (in_next shape stop) (marks-stop shape stop) (omega (arith, sizes-weigh, within))
+          (stops_sent (sending_order-total mode from.nodes rotation cs) (next shape stop) (in_next shape stop) (marks-stop shape stop)
+          (omega (arith, sizes-weigh, within))
           (omega (arith, sizes-weigh, share-is (next shape stop) (in_next shape stop), ap (weights stop.owner) (its_number shape stop), beyond)))
 
       -- and marks that let all through, where it fits
       pub whole-sent : ((c : Item) → Contains cs c → lets mode cells mark c ≡ true) → through weights ≤ amount_of budget
           → HasSet cs (lets mode cells mark) delta
       whole-sent all within =
-          set_sent mode rotation budget from to (lets mode cells mark) given.proper in_nodes
-          (all_sent order (sending_order-total mode from.nodes rotation cs) cs (item_share budget) (lets mode cells mark) (amount_of budget) all
-          (omega (arith, sizes-weigh, within)))
+          set_sent mode rotation budget from to (lets mode cells mark) given.proper in_nodes (all_sent all (omega (arith, sizes-weigh, within)))
 
       -- the delta that marks let through, as it is taken
       module _ (has : HasSet cs (lets mode cells mark) delta) where
@@ -239,7 +219,20 @@ module _ {mode : Mode} {from to : Table} {lists : ℕ → List Entry} {cells : C
             → AreSent from delta.items sent
         are-sent sent is = record {
           held = λ owner key lt lt' holds. let found = candidate-at given owner key lt lt' (parts owner key lt lt' holds).0 in (found.0, found.1);
-          members = λ owner key e held. (into owner key e held, out_of owner key e held);
+          members = λ owner key e held.
+              let place = given.proper.in_place owner key e held in
+              let same = ap (λ k. lets_through first (mark owner) (cells owner k)) place.keyed in (
+                (λ holds.
+                    let both = parts owner key place.owner_below place.key_below holds in
+                    let found = candidate-at given owner key place.owner_below place.key_below both.0 in
+                    let in_cs = rw (same_Some found.0 e (sym found.1 ∙ held)) at found.2 in
+                    (has.members (record { owner = owner; entry = e })).1 (in_cs, same ∙ both.1)),
+                (λ in_items.
+                    let both = (has.members (record { owner = owner; entry = e })).0 in_items in
+                    let lt = (candidate-number given (record { owner = owner; entry = e }) both.0).0 in
+                    let above = lt-ltb (low owner) (cells owner key) (omega (arith, lt, ap (cells owner) place.keyed)) in
+                    rw (is owner key place.owner_below place.key_below, above, sym same ∙ both.1)),
+              );
         }
           where
             parts : (owner key : ℕ) → owner < from.nodes → key < from.keys → sent owner key ≡ true
@@ -248,24 +241,3 @@ module _ {mode : Mode} {from to : Table} {lists : ℕ → List Entry} {cells : C
                 let both = and_parts (nat_lt (low owner) (cells owner key)) (lets_through first (mark owner) (cells owner key))
                 (sym (is owner key lt lt') ∙ holds) in
                 (ltb-true (low owner) (cells owner key) both.0, both.1)
-
-            into : (owner key : ℕ) (e : Entry) → entry_at from owner key ≡ Some e → sent owner key ≡ true
-                → Contains delta.items (record { owner = owner; entry = e })
-            into owner key e held holds =
-                let place = given.proper.in_place owner key e held in
-                let both = parts owner key place.owner_below place.key_below holds in
-                let found = candidate-at given owner key place.owner_below place.key_below both.0 in
-                (has.members (record { owner = owner; entry = e })).1 (
-                  subst (λ x. Contains cs (record { owner = owner; entry = x })) (same_Some found.0 e (sym found.1 ∙ held)) found.2,
-                  ap (λ k. lets_through first (mark owner) (cells owner k)) place.keyed ∙ both.1,
-                )
-
-            out_of : (owner key : ℕ) (e : Entry) → entry_at from owner key ≡ Some e → Contains delta.items (record { owner = owner; entry = e })
-                → sent owner key ≡ true
-            out_of owner key e held in_items =
-                let place = given.proper.in_place owner key e held in
-                let both = (has.members (record { owner = owner; entry = e })).0 in_items in
-                let lt = (candidate-number given (record { owner = owner; entry = e }) both.0).0 in
-                is owner key place.owner_below place.key_below
-                ∙ (λ i. (lt-ltb (low owner) (cells owner key) (omega (arith, lt, ap (cells owner) place.keyed)) i) &&
-                ((sym (ap (λ k. lets_through first (mark owner) (cells owner k)) place.keyed) ∙ both.1) i))

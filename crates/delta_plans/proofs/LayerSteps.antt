@@ -1,7 +1,7 @@
 -- Layers of an offer, gone over as long as they fit.
 -- Serves `breadth` and `one_more`.
-use Rattle.delta_plans.proofs.Common.{◌≡◌, ℕ, ◌+◌, ◌-◌, ◌<◌, ◌≤◌, cond, leb, ltb, List, length, get_or, map, inl, inr, refl, Some, Vec, Global, sym, ap, ◌∙◌, subst, arith, nat_tests, cases_lt, le-leb, lt-leb, lt-ltb, le-ltb, length-map, amount_of, Cells, count_between, HasEach, HasNoneAbove, IsNextAbove, IsLeastAbove, AreChanged, sum_below, sum_below-same, NumbersDiffer, Oldest, Offer, Level, Step, cells_in, low_in, high_in, marks, weights_in, weight_in, count_in, IsLeftOf, IsOffer, IsNextLayer, IsNextMark, AreLevelMarks, rank_above}
-use Rattle.delta_plans.proofs.WeightLaws.{part, sum_below-each_none, weight_of-all, weight_of-none, weight_of-split}
+use Rattle.delta_plans.proofs.Common.{◌≡◌, ℕ, ◌+◌, ◌-◌, ◌<◌, ◌≤◌, cond, leb, ltb, List, length, get_or, map, inl, inr, Some, Vec, Global, sym, ap, ◌∙◌, arith, nat_tests, cases_lt, le-leb, lt-leb, lt-ltb, le-ltb, length-map, amount_of, Cells, count_between, HasEach, IsNextAbove, IsLeastAbove, AreChanged, sum_below, sum_below-same, NumbersDiffer, Oldest, Offer, Level, Step, cells_in, low_in, marks, weights_in, weight_in, count_in, IsLeftOf, IsOffer, IsNextLayer, IsNextMark, AreLevelMarks, rank_above}
+use Rattle.delta_plans.proofs.WeightLaws.{part, parts_of, sum_below-each_none, weight_of-all, weight_of-none, weight_of-split}
 use Rattle.delta_plans.proofs.LevelSteps.{IsLevelSoFar, level-first, level-left, level-next}
 use Rattle.delta_plans.proofs.Nodes.{step-each, step-is}
 use Rattle.delta_plans.proofs.StopSteps.{weight_of-one}
@@ -24,12 +24,9 @@ module _ (cells : Cells) (keys owner : ℕ) where
 
   -- a number between two marks is counted
   some-between : (from to key : ℕ) → key < keys → from < cells owner key → cells owner key ≤ to → 0 < count from to
-  some-between from to key lt above upto = elim (cases_lt 0 (count from to)) [
-    | inl some ↦ some
-    | inr none ↦
-        let here = sum_below-each_none keys (λ k. part (λ _. 1) from to (cells owner k)) (omega (arith, none)) key lt in
-        grind (arith, nat_tests)
-  ]
+  some-between from to key lt above upto =
+      let here = λ (none : count from to ≡ 0). sum_below-each_none keys (λ k. part (λ _. 1) from to (cells owner k)) none key lt in
+      grind (arith, nat_tests, here)
 
   -- the next number, or else the mark itself, which is counted where it is a number
   next-told : (most mark least y : ℕ) → ((key : ℕ) → key < keys → cells owner key < most) → NumbersDiffer cells keys owner
@@ -43,11 +40,9 @@ module _ (cells : Cells) (keys owner : ℕ) where
     | inr some ↦
         let number : least < most = omega (arith, some.is, below some.key some.below) in
         let same : y ≡ least = grind (arith, nat_tests) in
-        let one = one-next mark y differ (subst (IsLeastAbove cells keys owner mark) (sym same) some) in (
-          inr (subst (IsLeastAbove cells keys owner mark) (sym same) some),
-          omega (arith, same, some.above),
-          grind (arith, nat_tests),
-        )
+        let next_is = rw (← same) at some in
+        let one = one-next mark y differ next_is in
+        (inr next_is, omega (arith, same, some.above), grind (arith, nat_tests))
   ]
 
   module _ (low layers mark : ℕ) (is : IsLayerMark cells keys owner low layers mark) where
@@ -70,16 +65,11 @@ module _ (cells : Cells) (keys owner : ℕ) where
     -- the next mark is one of a layer more
     layer-more : (next : ℕ) → NumbersDiffer cells keys owner → IsNextMark cells keys owner mark next → IsLayerMark cells keys owner low (layers + 1) next
     layer-more next differ step = elim step [
-      | inl none ↦ subst (IsLayerMark cells keys owner low (layers + 1)) (sym none.1) (record {
-        above = is.above;
-        count = omega (arith, is.count);
-        full = λ key lt over. absurd (omega (arith, over, none.0 key lt));
-      })
+      | inl none ↦ rw none.1 (omega (arith, is, none.0))
       | inr some ↦
           let split = weight_of-split (λ _. 1) cells keys owner low mark next is.above (omega (arith, some.above)) in
           let full = is.full some.key some.below (omega (arith, some.is, some.above)) in
-          let counted : count low next ≡ layers + 1 = omega (arith, split, one-next mark next differ some, full) in
-          record { above = omega (arith, is.above, some.above); count = omega (arith, counted); full = λ key lt over. counted }
+          omega (arith, is.above, some.above, split, one-next mark next differ some, full)
     ]
 
 -- what a step over the owners' next numbers writes
@@ -90,23 +80,17 @@ pub next-layer : {N : Type 0} {number : N → ℕ} {most : ℕ} {offer : Offer N
     → AreChanged (λ r x y. y ≡ cond (ltb x most) x (near r)) (map number old) (map number new)
     × (count ≡ sum_below (length old) (λ r. cond (ltb (get_or (map number old) r 0) most) 1 0))
     → IsNextLayer number offer near step
-next-layer {number = number} {most = most} {offer = offer} is near items old new count step same found whole more done = record {
-  is_step = step-is number offer near 1 _ _ old new count step long whole (omega (arith, more)) done
-      (λ r lt. ((told r lt).1, omega (arith, (told r lt).2)));
-  next = λ r lt. (told r lt).0;
-}
-  where
-    long : length old ≡ offer.grid.size.nodes
-    long = ap length same ∙ sym (length-map items number) ∙ found.size
-
-    told : (r : ℕ) → r < offer.grid.size.nodes
-        → IsNextMark (cells_in number offer) offer.grid.size.keys r (near r) (marks number step.marks.items r)
-        × (near r ≤ marks number step.marks.items r)
-        × (cond (ltb (get_or (map number old) r 0) most) 1 0
-        ≡ count_between (cells_in number offer) offer.grid.size.keys r (near r) (marks number step.marks.items r))
-    told r lt = next-told (cells_in number offer) offer.grid.size.keys r most (near r) (get_or (map number old) r 0) (marks number step.marks.items r)
-        (λ key in_keys. is.below r key lt in_keys) (is.differ r lt) (rw same (found.each r lt))
-        (step-each number offer near 1 _ _ old new count step long whole (omega (arith, more)) done r lt)
+next-layer {number = number} {most = most} {offer = offer} is near items old new count step same found whole more done =
+    let long = ap length same ∙ sym (length-map items number) ∙ found.size in
+    let told = λ (r : ℕ) (lt : r < offer.grid.size.nodes).
+    next-told (cells_in number offer) offer.grid.size.keys r most (near r) (get_or (map number old) r 0) (marks number step.marks.items r)
+    (λ key in_keys. is.below r key lt in_keys) (is.differ r lt) (rw same (found.each r lt))
+    (step-each number offer near 1 _ _ old new count step long whole (omega (arith, more)) done r lt) in
+    record {
+      is_step = step-is number offer near 1 _ _ old new count step long whole (omega (arith, more)) done
+          (λ r lt. ((told r lt).1, omega (arith, (told r lt).2)));
+      next = λ r lt. (told r lt).0;
+    }
 
 -- marks of so many layers
 abbrev pub AreLayerMarks : {N : Type 0} → (N → ℕ) → Offer N → ℕ → (ℕ → ℕ) → Type 0
@@ -121,19 +105,11 @@ pub record HasLayers {N : Type 0} (number : N → ℕ) (offer : Offer N) (level 
   far_is : AreLayerMarks number offer (layers + 1) (marks number level.far.items)
 
 module _ {N : Type 0} {number : N → ℕ} {most : ℕ} {offer : Offer N} (is : IsOffer number most offer) where
-  abbrev cells : Cells
-  cells = cells_in number offer
-
-  abbrev low : ℕ → ℕ
-  low = low_in number offer
-
-  abbrev high : ℕ → ℕ
-  high = high_in number offer
+  open parts_of number offer use {cells, low, high}
 
   none-marks : AreLayerMarks number offer 0 low
   none-marks owner lt =
-      let none = weight_of-none (λ _. 1) cells offer.grid.size.keys owner (low owner) (low owner) (omega arith) in
-      record { above = omega arith; count = omega (arith, none); full = λ key in_keys over. none }
+      let none = weight_of-none (λ _. 1) cells offer.grid.size.keys owner (low owner) (low owner) (omega arith) in omega (arith, none)
 
   one-more : {layers : ℕ} {near far : ℕ → ℕ} → AreLayerMarks number offer layers near
       → ((owner : ℕ) → owner < offer.grid.size.nodes → IsNextMark cells offer.grid.size.keys owner (near owner) (far owner))
@@ -142,12 +118,11 @@ module _ {N : Type 0} {number : N → ℕ} {most : ℕ} {offer : Offer N} (is : 
       layer-more cells offer.grid.size.keys owner (low owner) layers (near owner) (before owner lt) (far owner) (is.differ owner lt) (next owner lt)
 
   -- the first layer
-  pub layers-first : {near : Vec N Global} {step : Step N} {level : Level N}
-      → level ≡ record { near = near; far = step.marks; whole = 0; left = amount_of offer.budget }
-      → near.items ≡ offer.low.now → IsNextLayer number offer (marks number near.items) step → HasLayers number offer level step.more
-  layers-first made start layer =
-      let near_is = subst (λ xs. AreLayerMarks number offer 0 (marks number xs)) (sym start) none-marks in
-      rw made (record { so_far = level-first is refl start layer.is_step; layers = 0; near_is = near_is; far_is = one-more near_is layer.next })
+  pub layers-first : {near : Vec N Global} {step : Step N} → near.items ≡ offer.low.now → IsNextLayer number offer (marks number near.items) step
+      → HasLayers number offer (record { near = near; far = step.marks; whole = 0; left = amount_of offer.budget }) step.more
+  layers-first {near} start layer =
+      let near_is : AreLayerMarks number offer 0 (marks number near.items) = rw start none-marks in
+      record { so_far = level-first is start layer.is_step; layers = 0; near_is = near_is; far_is = one-more near_is layer.next }
 
   module _ {level : Level N} {more : ℕ} (has : HasLayers number offer level more) where
     abbrev near : ℕ → ℕ
@@ -161,44 +136,28 @@ module _ {N : Type 0} {number : N → ℕ} {most : ℕ} {offer : Offer N} (is : 
         cells offer.grid.size.nodes offer.grid.size.keys low near far
     level-of_layers = record {
       next = has.layers;
-      near_is = λ r key lt in_keys over.
-          layer-lets cells offer.grid.size.keys r (low r) has.layers (near r) (has.near_is r lt) key in_keys over;
+      near_is = λ r key lt in_keys over. layer-lets cells offer.grid.size.keys r (low r) has.layers (near r) (has.near_is r lt) key in_keys over;
       far_is = λ r key lt in_keys over.
-          let lets = layer-lets cells offer.grid.size.keys r (low r) (has.layers + 1) (far r) (has.far_is r lt) key in_keys over in
-          grind (arith, nat_tests);
+          grind (arith, nat_tests, layer-lets cells offer.grid.size.keys r (low r) (has.layers + 1) (far r) (has.far_is r lt) key in_keys over);
     }
 
     module _ {left : ℕ} (fits : IsLeftOf level.left (weight_in number offer near far) (Some left)) where
       -- where not all fits, a layer that does has something
       pub layers-more : amount_of offer.budget < weight_in number offer low high → 0 < more
-      layers-more cut = elim (cases_lt 0 more) [
-        | inl some ↦ some
-        | inr none ↦ absurd (omega (arith, level-left is has.so_far fits, cut, all (omega (arith, none, has.so_far.added))))
-      ]
+      layers-more cut = grind (arith, level-left is has.so_far fits, all, has.so_far.added)
         where
-          -- a number beyond both would be of the next layer
-          ends : count_in number offer near far ≡ 0 → (owner : ℕ) → owner < offer.grid.size.nodes
-              → HasNoneAbove cells offer.grid.size.keys owner (far owner)
-          ends none owner lt key in_keys = elim (cases_lt (far owner) (cells owner key)) [
-            | inr upto ↦ omega (arith, upto)
-            | inl over ↦
-                let farther = has.so_far.farther owner lt in
-                let split = weight_of-split (λ _. 1) cells offer.grid.size.keys owner (low owner) (near owner) (far owner) farther.0 farther.2 in
-                let empty = sum_below-each_none offer.grid.size.nodes _ none owner lt in
-                absurd (omega (arith, split, empty, (has.near_is owner lt).count, (has.far_is owner lt).full key in_keys over))
-          ]
-
+          -- (a number beyond both would be of the next layer)
           all : count_in number offer near far ≡ 0 → weight_in number offer low far ≡ weight_in number offer low high
           all none = sum_below-same offer.grid.size.nodes _ _ (λ owner lt.
-              weight_of-all (weights_in offer owner) cells offer.grid.size.keys owner (low owner) (far owner) (high owner)
-              (is.covered owner lt) (ends none owner lt))
+              let farther = has.so_far.farther owner lt in
+              let split = weight_of-split (λ _. 1) cells offer.grid.size.keys owner (low owner) (near owner) (far owner) farther.0 farther.2 in
+              let empty = sum_below-each_none offer.grid.size.nodes _ none owner lt in
+              weight_of-all (weights_in offer owner) cells offer.grid.size.keys owner (low owner) (far owner) (high owner) (is.covered owner lt)
+              (λ key in_keys. grind (arith, (has.near_is owner lt).count, (has.far_is owner lt).full key in_keys)))
 
       -- one layer more
-      pub layers-next : {step : Step N} {next : Level N} → next ≡ record { near = level.far; far = step.marks; whole = level.whole + more; left = left }
-          → IsNextLayer number offer far step → HasLayers number offer next step.more
-      layers-next made layer = rw made (record {
-        so_far = level-next is has.so_far fits refl layer.is_step;
-        layers = has.layers + 1;
-        near_is = has.far_is;
-        far_is = one-more has.far_is layer.next;
-      })
+      pub layers-next : {step : Step N} → IsNextLayer number offer far step
+          → HasLayers number offer (record { near = level.far; far = step.marks; whole = level.whole + more; left = left }) step.more
+      layers-next layer =
+          let far_is = one-more has.far_is layer.next in
+          record { so_far = level-next is has.so_far fits layer.is_step; layers = has.layers + 1; near_is = has.far_is; far_is = far_is }

@@ -1,6 +1,7 @@
 -- Marks of all that is offered, or of a level that was shared out.
 -- Serves `planned` and `version_tables`.
-use Rattle.delta_plans.proofs.Common.{◌≡◌, ℕ, ◌-◌, ◌<◌, ◌≤◌, true, List, length, inl, inr, refl, sym, ap, ◌∙◌, subst, arith, nat_tests, lt-ltb, le-leb, Mode, amount_of, Cells, HasNoneAbove, sum_below-le, First, Oldest, Newest, Offer, Level, by_first, first_sent, lets_through, KeepsLow, AreMarked, IsLevelOf, cells_in, low_in, high_in, marks, weights_in, weight_in, count_in, IsOffer, count_on, AreShared, weight_between, weight_through, count_all_between, one_each}
+use Rattle.delta_plans.proofs.Common.{◌≡◌, ℕ, ◌-◌, ◌<◌, ◌≤◌, true, List, length, inl, inr, sym, ap, ◌∙◌, subst, arith, nat_tests, lt-ltb, le-leb, Mode, amount_of, Cells, HasNoneAbove, sum_below-le, First, Oldest, Newest, Offer, Level, by_first, first_sent, lets_through, KeepsLow, AreMarked, IsLevelOf, cells_in, marks, weights_in, weight_in, count_in, IsOffer, count_on, AreShared, weight_between, weight_through, count_all_between, one_each}
+use Rattle.delta_plans.proofs.WeightLaws.{parts_of}
 
 -- fewer are between nearer marks
 count-le : (cells : Cells) (nodes keys : ℕ) (low low' high high' : ℕ → ℕ) → ((owner : ℕ) → owner < nodes → low' owner ≤ low owner)
@@ -12,11 +13,7 @@ count-le cells nodes keys low low' high high' lower covered = sum_below-le nodes
     grind (arith, nat_tests)))
 
 module _ {N : Type 0} (number : N → ℕ) (most : ℕ) (offer : Offer N) (is : IsOffer number most offer) where
-  abbrev low : ℕ → ℕ
-  low = low_in number offer
-
-  abbrev high : ℕ → ℕ
-  high = high_in number offer
+  open parts_of number offer use {low, high}
 
   -- marks above the low ones let through no more than all
   above-tells : (first : First) (mark : ℕ → ℕ) → ((r : ℕ) → r < offer.grid.size.nodes → low r ≤ mark r)
@@ -38,18 +35,8 @@ module _ {N : Type 0} (number : N → ℕ) (most : ℕ) (offer : Offer N) (is : 
       ≡ weight_between weights (cells_in number offer) offer.grid.size.nodes offer.grid.size.keys low high)
       × ((owner key : ℕ) → owner < offer.grid.size.nodes → key < offer.grid.size.keys → low owner < cells_in number offer owner key
       → lets_through first (whole first owner) (cells_in number offer owner key) ≡ true)
-  whole-tells Oldest = (
-    is.high,
-    tt,
-    (λ weights. refl),
-    (λ owner key in_nodes in_keys lt. le-leb (cells_in number offer owner key) (high owner) (is.covered owner in_nodes key in_keys)),
-  )
-  whole-tells Newest = (
-    is.low,
-    (λ r below. omega arith),
-    (λ weights. refl),
-    (λ owner key in_nodes in_keys lt. lt-ltb (low owner) (cells_in number offer owner key) lt),
-  )
+  whole-tells Oldest = search (arith, le-leb, is.high, is.covered)
+  whole-tells Newest = search (arith, lt-ltb, is.low)
 
   pub whole-size : (first : First) (xs : List N) → xs ≡ whole_marks first → length xs ≡ offer.grid.size.nodes
   whole-size first xs same = ap length same ∙ (whole-tells first).0
@@ -77,10 +64,5 @@ module _ {N : Type 0} (number : N → ℕ) (most : ℕ) (offer : Offer N) (is : 
         above = (above-tells (first_sent mode) (marks number xs) shared.above).1;
         count = shared.count;
         left = omega (arith, is.found, sent-found);
-        how = inr (record {
-          near = marks number level.near.items;
-          far = marks number level.far.items;
-          shape = is_level.shape;
-          shared = shared;
-        });
+        how = inr (record { near = marks number level.near.items; far = marks number level.far.items; shape = is_level.shape; shared = shared });
       }

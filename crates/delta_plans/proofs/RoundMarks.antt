@@ -1,52 +1,31 @@
 -- What marks at the ends of rounds let through.
 -- Serves `Rounds::count`, `Rounds::few_rounds`, `Rounds::left_of_few`, `Rounds::level`, `Rounds::look` and
 -- `version_tables`.
-use Rattle.delta_plans.proofs.Common.{◌≡◌, ℕ, ◌+◌, ◌-◌, ◌*◌, ◌<◌, ◌≤◌, IfSome, MOST_ENTRY_SIZE, map, ltb, leb, List, Some, None, inl, inr, refl, sym, ap, ◌∙◌, subst, transport, arith, nat_tests, nat_lt, length-map, cases_lt, amount_of, all_writes, Cells, cell, total_of, HasNoneAbove, sum_below-same, sum_below-plus, numbered-some, write_numbered, First, Oldest, Newest, by_first, Offer, Level, Fit, Rounds, cells_in, low_in, high_in, marks, weights_in, count_on, weight_on, AreFarther, end_mark, mark_of_rounds, AreFewAndEnough, AreRaised, AreRoundMarks, HasRounds, IsFound, IsLevelOfRounds, AreLevelMarks, round_of, IsOn, weight_through, count_all_between, one_each}
-use Rattle.delta_plans.proofs.WeightLaws.{offer-most, part, sum_below-none, weight_of-all, weight_of-none, where_true}
+use Rattle.delta_plans.proofs.Common.{◌≡◌, ℕ, ◌+◌, ◌-◌, ◌*◌, ◌<◌, ◌≤◌, MOST_ENTRY_SIZE, map, ltb, leb, List, Some, None, inl, inr, sym, ap, ◌∙◌, subst, arith, nat_tests, nat_lt, length-map, cases_lt, amount_of, all_writes, Cells, cell, total_of, HasNoneAbove, sum_below-same, sum_below-plus, numbered-some, write_numbered, First, Oldest, Newest, by_first, Level, Fit, Rounds, marks, weights_in, count_on, weight_on, AreFarther, end_mark, mark_of_rounds, AreFewAndEnough, AreRaised, AreRoundMarks, HasRounds, IsFound, IsLevelOfRounds, AreLevelMarks, round_of, IsOn, weight_through, count_all_between, one_each}
+use Rattle.delta_plans.proofs.WeightLaws.{offer-most, part, parts_of, sum_below-none, weight_of-all, weight_of-none, where_true}
 use Rattle.delta_plans.proofs.TurnSteps.{through-same}
 
-module _ (cells : Cells) (nodes keys : ℕ) (high : ℕ → ℕ)
-    (covered : (owner : ℕ) → owner < nodes → HasNoneAbove cells keys owner (high owner)) where
-  abbrev above : (ℕ → ℕ) → ℕ
-  above mark = total_of nodes keys (λ r k. nat_lt (mark r) (cells r k))
+-- how many are above marks
+pub count-above : (cells : Cells) (nodes keys : ℕ) (high : ℕ → ℕ) → ((owner : ℕ) → owner < nodes → HasNoneAbove cells keys owner (high owner))
+    → (mark : ℕ → ℕ) → total_of nodes keys (λ r k. nat_lt (mark r) (cells r k)) ≡ count_all_between cells nodes keys mark high
+count-above cells nodes keys high covered mark = sum_below-same nodes _ _ (λ owner in_nodes. sum_below-same keys _ _
+    (λ key in_keys. let le = covered owner in_nodes key in_keys in grind (arith, nat_tests)))
 
-  -- how many are above marks
-  pub count-above : (mark : ℕ → ℕ) → above mark ≡ count_all_between cells nodes keys mark high
-  count-above mark = sum_below-same nodes _ _ (λ owner in_nodes. sum_below-same keys _ _
-      (λ key in_keys. let le = covered owner in_nodes key in_keys in grind (arith, nat_tests)))
-
-  -- and so how many are up to them
-  pub count-upto : (low mark : ℕ → ℕ) → ((owner : ℕ) → owner < nodes → low owner ≤ mark owner)
-      → count_all_between cells nodes keys low high ≡ count_all_between cells nodes keys low mark + above mark
-  count-upto low mark raised =
-      sum_below-same nodes _ _ (λ owner in_nodes.
-      sum_below-same keys _
-      (λ key. part (λ _. 1) (low owner) (mark owner) (cells owner key) + where_true (ltb (mark owner) (cells owner key)) 1)
-      (λ key in_keys. let le = covered owner in_nodes key in_keys in let lower = raised owner in_nodes in grind (arith, nat_tests))
-      ∙ sum_below-plus keys _ _)
-      ∙ sum_below-plus nodes _ _
+-- and so how many are up to them
+pub count-upto : {cells : Cells} {nodes keys : ℕ} {high : ℕ → ℕ} → ((owner : ℕ) → owner < nodes → HasNoneAbove cells keys owner (high owner))
+    → (low mark : ℕ → ℕ) → ((owner : ℕ) → owner < nodes → low owner ≤ mark owner) → count_all_between cells nodes keys low high
+    ≡ count_all_between cells nodes keys low mark + total_of nodes keys (λ r k. nat_lt (mark r) (cells r k))
+count-upto {cells} {nodes} {keys} covered low mark raised =
+    sum_below-same nodes _ _ (λ owner in_nodes.
+    sum_below-same keys _ (λ key. part (λ _. 1) (low owner) (mark owner) (cells owner key) + where_true (ltb (mark owner) (cells owner key)) 1)
+    (λ key in_keys. let le = covered owner in_nodes key in_keys in let lower = raised owner in_nodes in grind (arith, nat_tests)) ∙ sum_below-plus keys _ _)
+    ∙ sum_below-plus nodes _ _
 
 module _ {N : Type 0} {number : N → ℕ} {most : ℕ} (rounds : Rounds N) (is : HasRounds number most rounds) where
-  abbrev offer : Offer N
-  offer = rounds.offer.now
-
-  abbrev nodes : ℕ
-  nodes = offer.grid.size.nodes
-
-  abbrev keys : ℕ
-  keys = offer.grid.size.keys
-
-  abbrev cells : Cells
-  cells = cells_in number offer
-
-  abbrev low : ℕ → ℕ
-  low = low_in number offer
-
-  abbrev high : ℕ → ℕ
-  high = high_in number offer
-
-  abbrev last : ℕ
-  last = rounds.ends.rounds
+  open rounds.offer use {now as offer}
+  open rounds.offer.now.grid.size use {nodes, keys}
+  open rounds.ends use {rounds as last}
+  open parts_of number rounds.offer.now use {cells, low, high}
 
   abbrev end : ℕ → ℕ → ℕ
   end round owner = end_mark (map number rounds.ends.numbers.now) nodes low round owner
@@ -80,16 +59,14 @@ module _ {N : Type 0} {number : N → ℕ} {most : ℕ} (rounds : Rounds N) (is 
     -- all were by the last one
     all-made : cells owner key ≤ end last owner
     all-made = elim (cases_lt (low owner) (cells owner key)) [
-      | inl over ↦ let by_then = written-by last (omega arith) over in let made = made_by in grind (arith, nat_tests)
+      | inl over ↦
+          let n = cells owner key in
+          let there = numbered-some (all_writes offer.lists.now owner) n (omega (arith, over)) (is.too_large.is_offer.written owner key in_nodes in_keys) in
+          let made = (is.are_ends_of.made owner).last n there.0 there.1 in
+          let by_then = written-by last (omega arith) over in
+          grind (arith, nat_tests, ap round_of there.1)
       | inr upto ↦ omega (arith, upto)
     ]
-      where
-        made_by : born owner (cells owner key) ≤ last
-        made_by = elim (write_numbered (all_writes offer.lists.now owner) (cells owner key)) as
-            (λ o. write_numbered (all_writes offer.lists.now owner) (cells owner key) ≡ o → round_of o ≤ last) [
-              | None ↦ λ _. omega arith
-              | Some e ↦ λ there. (is.are_ends_of.made owner).last (cells owner key) e there
-            ] refl
 
   none-made : (owner : ℕ) → owner < nodes → end 0 owner ≡ low owner
   none-made owner in_nodes = omega (arith, is.are_ends_of.are_ends.none owner in_nodes)
@@ -113,18 +90,11 @@ module _ {N : Type 0} {number : N → ℕ} {most : ℕ} (rounds : Rounds N) (is 
   -- the search begins with none, which fit, and all, which don't
   pub begun : {room : ℕ} → room ≡ amount_of offer.budget → AreFewAndEnough number rounds 0 last (record { count = 0; left = Some room })
   begun all = record {
-    below = elim (cases_lt 0 last) [
-      | inl some ↦ some
-      | inr none ↦
-          let same = ap (λ count. weight_on rounds.first number offer (mark rounds.first count)) {x = last} {y = 0} (omega (arith, none)) in
-          absurd (omega (arith, too_many, no_rounds rounds.first (weights_in offer), same))
-    ];
+    below =
+        let same = λ (none : last ≡ 0). ap (λ count. weight_on rounds.first number offer (mark rounds.first count)) none in
+        grind (arith, too_many, no_rounds rounds.first (weights_in offer), same);
     bound = omega arith;
-    fits = record {
-      count = sym (no_rounds rounds.first one_each);
-      within = omega (arith, no_rounds rounds.first (weights_in offer));
-      known = omega (arith, no_rounds rounds.first (weights_in offer), all);
-    };
+    fits = search (arith, no_rounds rounds.first one_each, no_rounds rounds.first (weights_in offer));
     beyond = too_many;
   }
     where
@@ -149,28 +119,11 @@ module _ {N : Type 0} {number : N → ℕ} {most : ℕ} (rounds : Rounds N) (is 
       -- one more look finds more rounds that fit
       pub further : {found : Fit} → IsFound number rounds (marks number items) (Some found) → count < enough
           → AreFewAndEnough number rounds count enough found
-      further {found} look lt = record {
-        below = lt;
-        bound = so_far.bound;
-        fits = record {
-          count = look.count ∙ let_through one_each;
-          within = omega (arith, look.within, let_through (weights_in offer));
-          known = subst (λ weight. IfSome found.left (λ rest. weight + rest ≡ amount_of offer.budget)) (let_through (weights_in offer)) look.known;
-        };
-        beyond = so_far.beyond;
-      }
+      further {found} look lt = search (arith, let_through one_each, ← let_through (weights_in offer))
 
       -- or that fewer are enough
       pub nearer : IsFound number rounds (marks number items) None → few < count → count ≤ enough → AreFewAndEnough number rounds few count fit
-      nearer no_fit lt le = record {
-        below = lt;
-        bound = omega (arith, so_far.bound, le);
-        fits = so_far.fits;
-        beyond = elim (cases_lt (amount_of offer.budget) (weight_on rounds.first number offer (marks number items))) [
-          | inl above ↦ omega (arith, above, let_through (weights_in offer))
-          | inr upto ↦ absurd (no_fit (omega (arith, upto)))
-        ];
-      }
+      nearer no_fit lt le = search (arith, let_through (weights_in offer))
 
   -- one round more lets through more
   farther : (first : First) (few enough owner : ℕ) → enough ≡ few + 1 → enough ≤ last → owner < nodes
@@ -191,40 +144,32 @@ module _ {N : Type 0} {number : N → ℕ} {most : ℕ} (rounds : Rounds N) (is 
       → IsLevelOfRounds number rounds level
   rounds-level {enough} {level} found whole near far left = record {
     is_level = record {
-      near = (rounds-raised (enough - 1) level.near.items near).size;
-      far = (rounds-raised enough level.far.items far).size;
-      farther = λ owner in_nodes.
-          transport (λ i. AreFarther rounds.first (low owner) (sym (near.each owner in_nodes) i) (sym (far.each owner in_nodes) i))
-          (farther rounds.first (enough - 1) enough owner (omega (arith, found.below)) found.bound in_nodes);
-      whole = whole ∙ found.fits.count ∙ sym (let_through (enough - 1) level.near.items near one_each);
-      left = left;
+      has_levels = record {
+        near = (rounds-raised (enough - 1) level.near.items near).size;
+        far = (rounds-raised enough level.far.items far).size;
+        farther = λ owner in_nodes. rw (near.each owner in_nodes, far.each owner in_nodes)
+            (farther rounds.first (enough - 1) enough owner (omega (arith, found.below)) found.bound in_nodes);
+        whole = whole ∙ found.fits.count ∙ sym (let_through (enough - 1) level.near.items near one_each);
+        left = left;
+      };
       beyond = omega (arith, found.beyond, let_through enough level.far.items far (weights_in offer));
     };
     shape = shape rounds.first near.each far.each;
   }
     where
-      near_marks : ℕ → ℕ
-      near_marks = marks number level.near.items
-
-      far_marks : ℕ → ℕ
-      far_marks = marks number level.far.items
-
-      shape : (f : First) → ((owner : ℕ) → owner < nodes → near_marks owner ≡ mark f (enough - 1) owner)
-          → ((owner : ℕ) → owner < nodes → far_marks owner ≡ mark f enough owner) → AreLevelMarks f f born cells nodes keys low near_marks far_marks
+      shape : (f : First) → ((owner : ℕ) → owner < nodes → marks number level.near.items owner ≡ mark f (enough - 1) owner)
+          → ((owner : ℕ) → owner < nodes → marks number level.far.items owner ≡ mark f enough owner)
+          → AreLevelMarks f f born cells nodes keys low (marks number level.near.items) (marks number level.far.items)
       shape Oldest nears fars = record {
         next = enough;
         near_is = λ r key lt in_keys over.
-            let by_then = written-by r key lt in_keys (enough - 1) (omega (arith, found.bound)) over in let at = nears r lt in let some = found.below in
-            grind (arith, nat_tests);
-        far_is = λ r key lt in_keys over.
-            let by_then = written-by r key lt in_keys enough found.bound over in let at = fars r lt in grind (arith, nat_tests);
+            grind (arith, nat_tests, written-by r key lt in_keys (enough - 1) (omega (arith, found.bound)) over, nears r lt, found.below);
+        far_is = λ r key lt in_keys over. grind (arith, nat_tests, written-by r key lt in_keys enough found.bound over, fars r lt);
       }
       shape Newest nears fars = record {
         next = last - (enough - 1);
-        near_is = λ r key lt in_keys over.
-            let by_then = written-by r key lt in_keys (last - (enough - 1)) (omega arith) over in let at = nears r lt in grind (arith, nat_tests);
+        near_is = λ r key lt in_keys over. grind (arith, nat_tests, written-by r key lt in_keys (last - (enough - 1)) (omega arith) over, nears r lt);
         far_is = λ r key lt in_keys over.
-            let by_then = written-by r key lt in_keys (last - enough) (omega arith) over in let at = fars r lt in
             let one : last - (enough - 1) ≡ last - enough + 1 = omega (arith, found.below, found.bound) in
-            grind (arith, nat_tests);
+            grind (arith, nat_tests, written-by r key lt in_keys (last - enough) (omega arith) over, fars r lt);
       }

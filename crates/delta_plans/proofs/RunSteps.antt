@@ -1,7 +1,7 @@
 -- Runs of an offer, gone over as long as they fit.
 -- Serves `depth` and `next_runs`.
-use Rattle.delta_plans.proofs.Common.{◌≡◌, ℕ, ◌+◌, ◌-◌, ◌*◌, ◌<◌, ◌≤◌, cond, eqb, leb, ltb, List, length, get_or, map, inl, inr, Some, Vec, Global, refl, sym, ap, ◌∙◌, subst, arith, nat_tests, cases_lt, cases_eq, length-map, amount_of, Cells, count_above, count_between, HasNoneAbove, HasEach, AreChanged, sum_below, sum_below-same, MOST_KEYS, Offer, Level, Step, Oldest, Newest, cells_in, low_in, high_in, owner_count_in, marks, weights_in, weight_in, IsLeftOf, IsOffer, AreMarksFrom, AreRunsFrom, AreNextRuns, AreLevelMarks, weight_of}
-use Rattle.delta_plans.proofs.WeightLaws.{count_between-most, offer-weighs_none, sum_below-each_none, sum_below-none, weight_of-none, where_true}
+use Rattle.delta_plans.proofs.Common.{◌≡◌, ℕ, ◌+◌, ◌-◌, ◌*◌, ◌<◌, ◌≤◌, cond, eqb, leb, ltb, List, length, get_or, map, inl, inr, Some, Vec, Global, sym, ap, ◌∙◌, subst, arith, nat_tests, cases_eq, length-map, amount_of, Cells, count_above, count_between, HasNoneAbove, HasEach, AreChanged, sum_below, sum_below-same, MOST_KEYS, Offer, Level, Step, Oldest, Newest, cells_in, low_in, high_in, owner_count_in, marks, weights_in, weight_in, IsLeftOf, IsOffer, AreMarksFrom, AreRunsFrom, AreNextRuns, AreLevelMarks, weight_of}
+use Rattle.delta_plans.proofs.WeightLaws.{parts_of, count_between-most, offer-none, sum_below-each_none, sum_below-none, weight_of-none, where_true}
 use Rattle.delta_plans.proofs.LevelSteps.{IsLevelSoFar, level-first, level-left, level-next}
 use Rattle.delta_plans.proofs.Nodes.{step-each, step-is}
 
@@ -26,18 +26,12 @@ module _ (cells : Cells) (keys owner low high : ℕ) (covered : HasNoneAbove cel
         let from : near ≡ low = grind (arith, nat_tests) in
         let to : next ≡ high = grind (arith, nat_tests) in
         let all = (λ i. count_between cells keys owner (from i) (to i)) ∙ count-covered in
-        let empty = weight_of-none (λ _. 1) cells keys owner low high in (
-          elim (cases_lt low high) [
-            | inl lt ↦ omega (arith, from, to, lt)
-            | inr le ↦ absurd (omega (arith, empty (omega (arith, le)), count-covered, same, some))
-          ],
-          grind (arith, nat_tests),
-          grind (arith, nat_tests),
-        )
+        let empty = weight_of-none (λ _. 1) cells keys owner low high in
+        grind (arith, nat_tests, count-covered)
     | inr other ↦
         let stays : next ≡ near = grind (arith, nat_tests) in
         let none = weight_of-none (λ _. 1) cells keys owner near next (omega (arith, stays)) in
-        (omega (arith, stays), grind (arith, nat_tests), grind (arith, nat_tests))
+        grind (arith, nat_tests)
   ]
 
 -- what a step over the owners' runs writes
@@ -47,38 +41,18 @@ pub next-runs : {N : Type 0} {number : N → ℕ} {most : ℕ} {offer : Offer N}
     → AreChanged (λ r x y. y ≡ cond (eqb (get_or (map number counts) r 0) size) (get_or (map number offer.high.now) r 0) x) (map number old) (map number new)
     × (owners ≡ sum_below (length old) (λ r. cond (eqb (get_or (map number counts) r 0) size) 1 0))
     → AreNextRuns number offer (marks number near) size step
-next-runs {number = number} {offer = offer} {counts} {near} {size} from old new owners step same whole more done = record {
-  is_step = step-is number offer (marks number near) size _ _ old new owners step long whole more done
-      (λ r lt. ((run r lt).0, ap (λ n. where_true (eqb n size) 1 * size) (from.counts_are.each r lt) ∙ (run r lt).1));
-  next = λ r lt. (run r lt).2;
-}
-  where
-    cells : Cells
-    cells = cells_in number offer
-
-    keys : ℕ
-    keys = offer.grid.size.keys
-
-    low : ℕ → ℕ
-    low = low_in number offer
-
-    high : ℕ → ℕ
-    high = high_in number offer
-
-    long : length old ≡ offer.grid.size.nodes
-    long = ap length same ∙ from.each_near
-
-    told : (r : ℕ) → r < offer.grid.size.nodes
-        → marks number step.marks.items r ≡ cond (eqb (owner_count_in number offer r) size) (high r) (marks number near r)
-    told r lt =
-        step-each number offer (marks number near) size _ _ old new owners step long whole more done r lt
-        ∙ (λ i. cond (eqb (from.counts_are.each r lt i) size) (high r) (marks number (same i) r))
-
-    run : (r : ℕ) → r < offer.grid.size.nodes → (marks number near r ≤ marks number step.marks.items r)
-        × (where_true (eqb (owner_count_in number offer r) size) 1 * size ≡ count_between cells keys r (marks number near r) (marks number step.marks.items r))
-        × (marks number step.marks.items r ≡ cond (leb size (owner_count_in number offer r)) (high r) (low r))
-    run r lt = run-told cells keys r (low r) (high r) (from.is_offer.covered r lt) size (marks number near r) (marks number step.marks.items r)
-        from.some (from.longer r lt) (told r lt)
+next-runs {number = number} {offer = offer} {counts} {near} {size} from old new owners step same whole more done =
+    let long = ap length same ∙ from.each_near in
+    let run = λ (r : ℕ) (lt : r < offer.grid.size.nodes).
+    run-told (cells_in number offer) offer.grid.size.keys r (low_in number offer r) (high_in number offer r) (from.is_offer.covered r lt) size
+    (marks number near r) (marks number step.marks.items r) from.some (from.longer r lt)
+    (step-each number offer (marks number near) size _ _ old new owners step long whole more done r lt
+    ∙ (λ i. cond (eqb (from.counts_are.each r lt i) size) (high_in number offer r) (marks number (same i) r))) in
+    record {
+      is_step = step-is number offer (marks number near) size _ _ old new owners step long whole more done
+          (λ r lt. ((run r lt).0, ap (λ n. where_true (eqb n size) 1 * size) (from.counts_are.each r lt) ∙ (run r lt).1));
+      next = λ r lt. (run r lt).2;
+    }
 
 -- runs as far as they were gone over: the longer ones fit, and those of this size are next
 pub record HasRuns {N : Type 0} (number : N → ℕ) (most : ℕ) (offer : Offer N) (counts : List N) (level : Level N) (size more : ℕ) : Type 0 where
@@ -87,37 +61,21 @@ pub record HasRuns {N : Type 0} (number : N → ℕ) (most : ℕ) (offer : Offer
   pub next : AreMarksFrom number offer size (marks number level.far.items)
 
 module _ {N : Type 0} {number : N → ℕ} {most : ℕ} {offer : Offer N} (is : IsOffer number most offer) where
-  abbrev cells : Cells
-  cells = cells_in number offer
-
-  abbrev keys : ℕ
-  keys = offer.grid.size.keys
-
-  abbrev low : ℕ → ℕ
-  low = low_in number offer
-
-  abbrev high : ℕ → ℕ
-  high = high_in number offer
+  open parts_of number offer use {cells, low, high}
+  open offer.grid.size use {keys}
 
   -- where what fits isn't all, the runs that are next have something
   runs-some : {size : ℕ} {near : ℕ → ℕ} → AreMarksFrom number offer (size + 1) near → weight_in number offer low near ≤ amount_of offer.budget
       → amount_of offer.budget < weight_in number offer low high → 0 < size
-  runs-some {size} {near} longer within cut = elim (cases_lt 0 size) [
-    | inl some ↦ some
-    | inr none ↦ absurd (omega (arith, cut, within, sum_below-same offer.grid.size.nodes _ _ (all (omega (arith, none)))))
-  ]
+  runs-some {size} {near} longer within cut = grind (arith, λ (none : size ≡ 0). sum_below-same offer.grid.size.nodes _ _ (all none))
     where
-      weigh : ℕ → ℕ → ℕ
-      weigh owner = weight_of (weights_in offer owner) cells keys owner (low owner)
-
-      all : size ≡ 0 → (owner : ℕ) → owner < offer.grid.size.nodes → weigh owner (near owner) ≡ weigh owner (high owner)
-      all none owner lt = elim (cases_lt 0 (owner_count_in number offer owner)) [
-        | inl some ↦ let here = longer owner lt in ap (weigh owner) {x = near owner} {y = high owner} (grind (arith, nat_tests))
-        | inr empty ↦
-            (let here = longer owner lt in ap (weigh owner) {x = near owner} {y = low owner} (grind (arith, nat_tests)))
-            ∙ weight_of-none (weights_in offer owner) cells keys owner (low owner) (low owner) (omega arith)
-            ∙ sym (weight-empty cells keys owner (low owner) (high owner) (is.covered owner lt) (weights_in offer owner) (omega (arith, empty)))
-      ]
+      all : size ≡ 0 → (owner : ℕ) → owner < offer.grid.size.nodes → weight_of (weights_in offer owner) cells keys owner (low owner) (near owner)
+          ≡ weight_of (weights_in offer owner) cells keys owner (low owner) (high owner)
+      all none owner lt =
+          let here = longer owner lt in
+          let nothing = weight_of-none (weights_in offer owner) cells keys owner (low owner) (low owner) (omega arith) in
+          let empty = weight-empty cells keys owner (low owner) (high owner) (is.covered owner lt) (weights_in offer owner) in
+          grind (arith, nat_tests)
 
   module _ (beyond : amount_of offer.budget < weight_in number offer low high) where
     -- the longest runs are next
@@ -128,7 +86,7 @@ module _ {N : Type 0} {number : N → ℕ} {most : ℕ} {offer : Offer N} (is : 
       is_offer = is;
       counts_are = known;
       each_near = ap length start ∙ is.low;
-      some = runs-some none (omega (arith, offer-weighs_none number offer low)) beyond;
+      some = runs-some none (omega (arith, offer-none number offer (weights_in offer) low)) beyond;
       few = short;
       longer = subst (λ xs. AreMarksFrom number offer (size + 1) (marks number xs)) (sym start) none;
     }
@@ -139,30 +97,29 @@ module _ {N : Type 0} {number : N → ℕ} {most : ℕ} {offer : Offer N} (is : 
             let its = known.each r lt in
             grind (arith, nat_tests)
 
-    pub runs-first : {counts : List N} {size : ℕ} {near : Vec N Global} {step : Step N} {level : Level N} → AreRunsFrom number most offer counts near.items size
-        → level ≡ record { near = near; far = step.marks; whole = 0; left = amount_of offer.budget } → near.items ≡ offer.low.now
-        → AreNextRuns number offer (marks number near.items) size step → HasRuns number most offer counts level size step.more
-    runs-first from made start runs = rw made (record { so_far = level-first is refl start runs.is_step; from = from; next = runs.next })
+    pub runs-first : {counts : List N} {size : ℕ} {near : Vec N Global} {step : Step N} → AreRunsFrom number most offer counts near.items size
+        → near.items ≡ offer.low.now → AreNextRuns number offer (marks number near.items) size step
+        → HasRuns number most offer counts (record { near = near; far = step.marks; whole = 0; left = amount_of offer.budget }) size step.more
+    runs-first from start runs = record { so_far = level-first is start runs.is_step; from = from; next = runs.next }
 
     module _ {counts : List N} {level : Level N} {size more : ℕ} (has : HasRuns number most offer counts level size more)
         {left : ℕ} (fits : IsLeftOf level.left (weight_in number offer (marks number level.near.items) (marks number level.far.items)) (Some left)) where
       -- and then those of one number less
       pub runs-from_next : AreRunsFrom number most offer counts level.far.items (size - 1)
-      runs-from_next = record {
-        is_offer = is;
-        counts_are = has.from.counts_are;
-        each_near = has.so_far.far;
-        some = runs-some longer (omega (arith, level-left is has.so_far fits)) beyond;
-        few = omega (arith, has.from.few);
-        longer = longer;
-      }
-        where
-          longer : AreMarksFrom number offer (size - 1 + 1) (marks number level.far.items)
-          longer = subst (λ n. AreMarksFrom number offer n (marks number level.far.items)) {x = size} {y = size - 1 + 1} (omega (arith, has.from.some)) has.next
+      runs-from_next =
+          let same : size - 1 + 1 ≡ size = omega (arith, has.from.some) in
+          let longer : AreMarksFrom number offer (size - 1 + 1) (marks number level.far.items) = rw same has.next in record {
+            is_offer = is;
+            counts_are = has.from.counts_are;
+            each_near = has.so_far.far;
+            some = runs-some longer (omega (arith, level-left is has.so_far fits)) beyond;
+            few = omega (arith, has.from.few);
+            longer = longer;
+          }
 
-      pub runs-next : {step : Step N} {next : Level N} → next ≡ record { near = level.far; far = step.marks; whole = level.whole + more; left = left }
-          → AreNextRuns number offer (marks number level.far.items) (size - 1) step → HasRuns number most offer counts next (size - 1) step.more
-      runs-next made runs = rw made (record { so_far = level-next is has.so_far fits refl runs.is_step; from = runs-from_next; next = runs.next })
+      pub runs-next : {step : Step N} → AreNextRuns number offer (marks number level.far.items) (size - 1) step → HasRuns number most offer counts
+          (record { near = level.far; far = step.marks; whole = level.whole + more; left = left }) (size - 1) step.more
+      runs-next runs = record { so_far = level-next is has.so_far fits runs.is_step; from = runs-from_next; next = runs.next }
 
   -- the level at which they end
   pub level-of_runs : {counts : List N} {level : Level N} {size more : ℕ} → HasRuns number most offer counts level size more

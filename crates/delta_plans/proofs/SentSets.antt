@@ -1,6 +1,6 @@
 -- Any set of candidates that is closed downwards, fits, and lets nothing more in is what is sent.
 -- Serves `deltas_have_their_sets` and `DeltaMarks`.
-use Rattle.delta_plans.proofs.Common.{is_lacked, ◌≡◌, ◌≢◌, ℕ, zero, suc, ◌+◌, ◌<◌, ◌≤◌, Bool, true, false, cond, not, List, [], ◌∷◌, refl, sym, ap, ◌∙◌, subst, arith, nat_tests, count_by, filter, IsPermutation, Contains, sum_by, Ordering, Less, Equal, Greater, is_lt, ordering_reverse, IsTotalOrder, tied_itself, both_ways, le-leb, lt-leb, AllPairs-filter, length_permutation, sum_by-cons, length-filter, Item, amount_of, items_of, stands_at, IsApart, candidates, DeltaView, delta_between, item_share, sending_order, sending_order-total, sending_order-strict, Contains-filter, Contains-kept, same_members, before_count, size_through, fits, sent, cut_count, Contains-first_places, first_places-Contains, sent_apart, size_in, IsKeptOut, IsSentSet, DeltasHaveTheirSets}
+use Rattle.delta_plans.proofs.Common.{is_lacked, ◌≡◌, ◌≢◌, ℕ, zero, suc, ◌+◌, ◌<◌, ◌≤◌, Bool, true, false, cond, not, List, [], ◌∷◌, refl, sym, ap, ◌∙◌, subst, arith, nat_tests, count_by, filter, IsPermutation, Contains, sum_by, Ordering, Less, Equal, Greater, is_lt, ordering_reverse, IsTotalOrder, tied_itself, both_ways, le-leb, lt-leb, AllPairs-filter, length_permutation, sum_by-cons, length-filter, Item, items_of, stands_at, IsApart, candidates, DeltaView, delta_between, sending_order, sending_order-total, sending_order-strict, Contains-filter, Contains-kept, same_members, before_count, size_through, fits, sent, cut_count, Contains-first_places, first_places-Contains, sent_apart, size_in, IsKeptOut, IsSentSet, DeltasHaveTheirSets}
 use Rattle.delta_plans.proofs.Candidates.{table_apart}
 
 -- a sum over a list whose terms are no greater, for the elements of the list
@@ -20,10 +20,6 @@ sum_by-more f g (x ∷ xs) n y (suc k, lt, is) le more =
     let rest = sum_by-more f g xs n y (k, omega (arith, lt), is) (λ z (j, lt, is). le z (suc j, omega (arith, lt), is)) more in
     omega (arith, sum_by-cons f x xs, sum_by-cons g x xs, le x (0, omega arith, refl), rest)
 
--- tests that agree on a list count as many
-sum_by-same : {X : Type 0} (f g : X → ℕ) (xs : List X) → ((x : X) → Contains xs x → f x ≡ g x) → sum_by f xs ≡ sum_by g xs
-sum_by-same f g xs same = omega (arith, sum_by-le f g xs (λ x there. omega (arith, same x there)), sum_by-le g f xs (λ x there. omega (arith, same x there)))
-
 is_less : (r : Ordering) → is_lt r ≡ true → r ≡ Less
 is_less Less e = refl
 is_less Equal e = cc
@@ -34,7 +30,7 @@ not_less Less e = absurd (e refl)
 not_less Equal e = refl
 not_less Greater e = refl
 
-module _ {X : Type 0} (order : X → X → Ordering) (total : IsTotalOrder order) (cs : List X) (size : X → ℕ) (is_in : X → Bool) (budget : ℕ)
+module _ {X : Type 0} {order : X → X → Ordering} {cs : List X} {size : X → ℕ} {is_in : X → Bool} {budget : ℕ} (total : IsTotalOrder order)
     (strict : (c d : X) → Contains cs c → Contains cs d → order c d ≡ Equal → c ≡ d) (is : IsSentSet order cs size is_in budget) where
   abbrev term : X → ℕ
   term d = cond (is_in d) (size d) 0
@@ -84,13 +80,10 @@ module _ {X : Type 0} (order : X → X → Ordering) (total : IsTotalOrder order
       omega (arith, more)
 
   place_set : (c : X) → Contains cs c → before_count order cs c < places → is_in c ≡ true
-  place_set c at_c lt = elim (is_in c) as (λ b. is_in c ≡ b → b ≡ true) [
-    | true ↦ λ e. refl
-    | false ↦ λ e.
-        let le = sum_by-le (λ d. one (fits order cs size budget d)) (λ d. one (is_lt (order d c))) cs
-        (λ d at_d. let behind = behind_in d c at_d at_c in grind (arith, nat_tests, fits-is d at_d)) in
-        absurd (omega (arith, lt, le))
-  ] refl
+  place_set c at_c lt =
+      let le = λ (e : is_in c ≡ false). sum_by-le (λ d. one (fits order cs size budget d)) (λ d. one (is_lt (order d c))) cs
+      (λ d at_d. let behind = behind_in d c at_d at_c in grind (arith, nat_tests, fits-is d at_d)) in
+      grind (arith, nat_tests, le)
 
   pub sent-in_set : (c : X) → Contains (sent order cs size budget) c → Contains cs c × (is_in c ≡ true)
   sent-in_set c there = let at = Contains-first_places order total cs places c there in (at.0, place_set c at.0 at.1)
@@ -99,14 +92,16 @@ module _ {X : Type 0} (order : X → X → Ordering) (total : IsTotalOrder order
   in_set-sent c at_c yes' = first_places-Contains order total cs strict places c at_c (set_place c at_c yes')
 
   pub cut-is : cut_count order cs size budget ≡ count_by (λ c. not (is_in c)) cs
-  cut-is = sum_by-same (λ c. cond (not (fits order cs size budget c)) 1 0) (λ c. cond (not (is_in c)) 1 0) cs
-      (λ c at_c. ap (λ b. cond (not b) 1 0) (fits-is c at_c))
+  cut-is =
+      let le = sum_by-le (λ c. one (not (fits order cs size budget c))) (λ c. one (not (is_in c))) cs (λ c at_c. grind (arith, nat_tests, fits-is c at_c)) in
+      let ge = sum_by-le (λ c. one (not (is_in c))) (λ c. one (not (fits order cs size budget c))) cs (λ c at_c. grind (arith, nat_tests, fits-is c at_c)) in
+      omega (arith, le, ge)
 
-module _ {X : Type 0} (order : X → X → Ordering) (total : IsTotalOrder order) (cs : List X) (size : X → ℕ) (is_in : X → Bool) (budget : ℕ) where
+module _ {X : Type 0} {order : X → X → Ordering} {cs : List X} {size : X → ℕ} {is_in : X → Bool} {budget : ℕ} where
   -- what comes before a candidate that doesn't fit beside it
-  pub stops_sent : (next : X) → Contains cs next → ((c : X) → Contains cs c → is_in c ≡ is_lt (order c next))
+  pub stops_sent : IsTotalOrder order → (next : X) → Contains cs next → ((c : X) → Contains cs c → is_in c ≡ is_lt (order c next))
       → size_in order cs size is_in ≤ budget → budget < size_in order cs size is_in + size next → IsSentSet order cs size is_in budget
-  stops_sent next candidate set within beyond = record {
+  stops_sent total next candidate set within beyond = record {
     closed = λ c d at_c at_d before yes'. set c at_c ∙ ap is_lt (total.trans c d next before (is_less (order d next) (sym (set d at_d) ∙ yes')));
     within = within;
     tight = λ c at_c no'. record {
@@ -120,53 +115,36 @@ module _ {X : Type 0} (order : X → X → Ordering) (total : IsTotalOrder order
 
   -- all, where they fit
   pub all_sent : ((c : X) → Contains cs c → is_in c ≡ true) → size_in order cs size is_in ≤ budget → IsSentSet order cs size is_in budget
-  all_sent all within = record {
-    closed = λ c d at_c at_d before yes'. all c at_c;
-    within = within;
-    tight = λ c at_c no'. absurd (both_ways (is_in c) no' (all c at_c));
-  }
+  all_sent all within =
+      record { closed = λ c d at_c at_d before yes'. all c at_c; within = within; tight = λ c at_c no'. absurd (both_ways (is_in c) no' (all c at_c)) }
 
 pub set_sent : DeltasHaveTheirSets
 set_sent mode rotation budget from to is_in proper in_nodes is = record {
-  members = λ c. (sent_in c, (λ both. in_sent c both.0 both.1));
+  members = λ c. (sent-in_set total strict is c, (λ both. in_set-sent total strict is c both.0 both.1));
   count = sym (length_permutation delta.items (filter is_in cs) same_items) ∙ length-filter is_in cs;
-  cut = cut-is order total cs size is_in (amount_of budget) strict is;
+  cut = cut-is total strict is;
 }
   where
     cs : List Item
     cs = candidates mode from to
 
-    order : Item → Item → Ordering
-    order = sending_order mode from.nodes rotation cs
-
-    total : IsTotalOrder order
+    total : IsTotalOrder (sending_order mode from.nodes rotation cs)
     total = sending_order-total mode from.nodes rotation cs
 
-    strict : (c d : Item) → Contains cs c → Contains cs d → order c d ≡ Equal → c ≡ d
+    strict : (c d : Item) → Contains cs c → Contains cs d → sending_order mode from.nodes rotation cs c d ≡ Equal → c ≡ d
     strict = sending_order-strict mode from to rotation proper in_nodes
-
-    size : Item → ℕ
-    size = item_share budget
 
     delta : DeltaView
     delta = delta_between mode rotation budget from to
 
-    sent_in : (c : Item) → Contains delta.items c → Contains cs c × (is_in c ≡ true)
-    sent_in = sent-in_set order total cs size is_in (amount_of budget) strict is
-
-    in_sent : (c : Item) → Contains cs c → is_in c ≡ true → Contains delta.items c
-    in_sent = in_set-sent order total cs size is_in (amount_of budget) strict is
-
     is_apart : Item → Item → Type 0
     is_apart i j = stands_at i.owner i.entry.key j ≡ false
-
-    held : (c : Item) → Contains cs c → Contains (items_of from) c
-    held c there = (Contains-kept (is_lacked mode to) (items_of from) c there).0
 
     filtered_apart : IsApart (filter is_in cs)
     filtered_apart = AllPairs-filter is_apart is_in cs (AllPairs-filter is_apart (is_lacked mode to) (items_of from) (table_apart from proper))
 
     same_items : IsPermutation delta.items (filter is_in cs)
-    same_items = same_members delta.items (filter is_in cs) (sent_apart order total from proper cs held _) filtered_apart
-        (λ c there. Contains-filter is_in cs c (sent_in c there).0 (sent_in c there).1)
-        (λ c there. let at = Contains-kept is_in cs c there in in_sent c at.0 at.1)
+    same_items = same_members delta.items (filter is_in cs)
+        (sent_apart _ total from proper cs (λ c there. (Contains-kept (is_lacked mode to) (items_of from) c there).0) _) filtered_apart
+        (λ c there. let at = sent-in_set total strict is c there in Contains-filter is_in cs c at.0 at.1)
+        (λ c there. let at = Contains-kept is_in cs c there in in_set-sent total strict is c at.0 at.1)

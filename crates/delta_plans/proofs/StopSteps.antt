@@ -33,14 +33,17 @@ on-start : (first : First) (near : ℕ) → IsOn first near near
 on-start Oldest near = omega arith
 on-start Newest near = omega arith
 
-on-through : (first : First) (a b c : ℕ) → IsOn first a b → IsOn first b c → IsOn first a c
-on-through Oldest a b c ab bc = omega (arith, ab, bc)
-on-through Newest a b c ab bc = omega (arith, ab, bc)
+-- halfway between two marks on the way from a near to a far one
+record IsHalfway (first : First) (near mark middle beyond far : ℕ) : Type 0 where
+  on : IsOn first near middle
+  from : IsOn first mark middle
+  to : IsOn first middle beyond
+  upto : IsOn first middle far
 
--- halfway between two marks
-on-middle : (first : First) (a b middle : ℕ) → IsOn first a b → min a b ≤ middle → middle ≤ max a b → IsOn first a middle × IsOn first middle b
-on-middle Oldest a b middle on above upto = (omega (arith, on, above), omega (arith, on, upto))
-on-middle Newest a b middle on above upto = (omega (arith, on, upto), omega (arith, on, above))
+halfway : (first : First) (near mark middle beyond far : ℕ) → IsOn first near mark → IsOn first mark beyond → IsOn first beyond far
+    → min mark beyond ≤ middle → middle ≤ max mark beyond → IsHalfway first near mark middle beyond far
+halfway Oldest near mark middle beyond far on between upto above below = omega arith
+halfway Newest near mark middle beyond far on between upto above below = omega arith
 
 -- where a part stops: what its number that doesn't fit tells
 pub record IsStopTold (first : First) (weight : ℕ → ℕ) (cells : Cells) (keys owner low near far mark left : ℕ) : Type 0 where
@@ -49,81 +52,56 @@ pub record IsStopTold (first : First) (weight : ℕ → ℕ) (cells : Cells) (ke
   pub stops : StopsBefore first cells keys owner low near far mark (cells owner key)
   pub beyond : left < weight (cells owner key)
 
-module _ (weight : ℕ → ℕ) (cells : Cells) (keys owner near far room : ℕ) where
-  abbrev from : First → ℕ → ℕ → ℕ
-  from first a b = weight_from first weight cells keys owner a b
+-- what a number between such marks tells, if there is no other between them
+stops-at : (first : First) (cells : Cells) (keys owner low near far mark beyond next : ℕ) → AreFarther first low near far
+    → IsOn first near mark → IsOn first mark beyond → IsOn first beyond far → mark ≤ beyond + 1 → beyond ≤ mark + 1
+    → by_first first mark beyond < next → next ≤ by_first first beyond mark → StopsBefore first cells keys owner low near far mark next
+stops-at Oldest cells keys owner low near far mark beyond next level on between upto below above over le = grind (arith, nat_tests)
+stops-at Newest cells keys owner low near far mark beyond next level on between upto below above over le = grind (arith, nat_tests)
 
-  from-split : (first : First) (a b c : ℕ) → IsOn first a b → IsOn first b c → from first a c ≡ from first a b + from first b c
-  from-split Oldest a b c ab bc = weight_of-split weight cells keys owner a b c ab bc
-  from-split Newest a b c ab bc = omega (arith, weight_of-split weight cells keys owner c b a bc ab)
+one-apart : (first : First) (a b : ℕ) → a ≤ b + 1 → b ≤ a + 1 → by_first first b a ≤ by_first first a b + 1
+one-apart Oldest a b below above = omega arith
+one-apart Newest a b below above = omega arith
 
-  abbrev Between : First → ℕ → ℕ → ℕ → Type 0
-  Between first mark beyond left = IsStopBetween first weight cells keys owner near far room mark beyond left
+-- at first nothing is let through
+pub stop-first : {first : First} {weight : ℕ → ℕ} {cells : Cells} {keys owner near far room : ℕ} → IsOn first near far
+    → room < weight_from first weight cells keys owner near far → IsStopBetween first weight cells keys owner near far room near far room
+stop-first {first} {weight} {cells} {keys} {owner} {near} {far} on more =
+    let none = weight_of-none weight cells keys owner (by_first first near near) (by_first first near near) (omega arith) in
+    search (arith, on-start, none)
 
-  -- at first nothing is let through
-  pub stop-first : (first : First) → IsOn first near far → room < from first near far → Between first near far room
-  stop-first first on more = record {
-    on = on-start first near;
-    between = on;
-    upto = on-start first far;
-    rest = omega (arith, weight_of-none weight cells keys owner (by_first first near near) (by_first first near near) (omega arith));
-    more = more;
-  }
+from-split : (first : First) (weight : ℕ → ℕ) (cells : Cells) (keys owner a b c : ℕ) → IsOn first a b → IsOn first b c
+    → weight_from first weight cells keys owner a c ≡ weight_from first weight cells keys owner a b + weight_from first weight cells keys owner b c
+from-split Oldest weight cells keys owner a b c ab bc = weight_of-split weight cells keys owner a b c ab bc
+from-split Newest weight cells keys owner a b c ab bc = omega (arith, weight_of-split weight cells keys owner c b a bc ab)
 
+module _ {first : First} {weight : ℕ → ℕ} {cells : Cells} {keys owner near far room mark beyond left : ℕ}
+    (so_far : IsStopBetween first weight cells keys owner near far room mark beyond left) where
   -- a mark halfway: either all up to it fits, or it is beyond what does
-  pub stop-halved : (first : First) (mark beyond left middle taken : ℕ) → Between first mark beyond left → min mark beyond ≤ middle → middle ≤ max mark beyond
-      → taken ≡ from first mark middle → (taken ≤ left → Between first middle beyond (left - taken)) × (left < taken → Between first mark middle left)
-  stop-halved first mark beyond left middle taken so_far above below takes =
-      let on = on-middle first mark beyond middle so_far.between above below in (
-        (λ fits. record {
-          on = on-through first near mark middle so_far.on on.0;
-          between = on.1;
-          upto = so_far.upto;
-          rest = omega (arith, from-split first near mark middle so_far.on on.0, so_far.rest, takes, fits);
-          more = omega (arith, from-split first mark middle beyond on.0 on.1, so_far.more, takes, fits);
-        }),
-        (λ more. record {
-          on = so_far.on;
-          between = on.0;
-          upto = on-through first middle beyond far on.1 so_far.upto;
-          rest = so_far.rest;
-          more = omega (arith, more, takes);
-        }),
-      )
+  pub stop-halved : (middle : ℕ) {taken : ℕ} → min mark beyond ≤ middle → middle ≤ max mark beyond
+      → taken ≡ weight_from first weight cells keys owner mark middle
+      → (taken ≤ left → IsStopBetween first weight cells keys owner near far room middle beyond (left - taken))
+      × (left < taken → IsStopBetween first weight cells keys owner near far room mark middle left)
+  stop-halved middle above below takes =
+      let is = halfway first near mark middle beyond far so_far.on so_far.between so_far.upto above below in
+      let taken = from-split first weight cells keys owner near mark middle so_far.on is.from in
+      let rest = from-split first weight cells keys owner mark middle beyond is.from is.to in
+      ((λ fits. search (arith, takes, taken, rest)), (λ more. search (arith, takes)))
 
   -- in the end there is one number between
-  module _ (low mark beyond left : ℕ) (differ : NumbersDiffer cells keys owner) (below : mark ≤ beyond + 1) (above : beyond ≤ mark + 1) where
-    pub stop-tells : (first : First) → AreFarther first low near far → Between first mark beyond left
-        → IsStopTold first weight cells keys owner low near far mark left
-    stop-tells Oldest level are =
-        let has = has-between weight cells keys owner mark beyond (omega (arith, are.more)) in
-        let one = weight_of-one weight cells keys owner mark beyond has.key has.in_keys has.above has.upto
-        (λ k lt over le. differ k has.key lt has.in_keys (omega (arith, over)) (omega (arith, over, le, has.above, has.upto, above))) in
-        record {
-          key = has.key;
-          in_keys = has.in_keys;
-          stops = record {
-            offered = omega (arith, level.0, are.on, has.above);
-            above = omega (arith, level.0, are.on);
-            outside = grind (arith, nat_tests, are.on, has.above);
-            inside = grind (arith, nat_tests, are.upto, has.upto);
-            own = λ k lt. grind (arith, nat_tests, has.above, has.upto);
-          };
-          beyond = omega (arith, are.more, one);
-        }
-    stop-tells Newest level are =
-        let has = has-between weight cells keys owner beyond mark (omega (arith, are.more)) in
-        let one = weight_of-one weight cells keys owner beyond mark has.key has.in_keys has.above has.upto
-        (λ k lt over le. differ k has.key lt has.in_keys (omega (arith, over)) (omega (arith, over, le, has.above, has.upto, below))) in
-        record {
-          key = has.key;
-          in_keys = has.in_keys;
-          stops = record {
-            offered = omega (arith, level.1, are.upto, has.above);
-            above = omega (arith, level.1, are.upto, are.between);
-            outside = grind (arith, nat_tests, are.on, has.upto);
-            inside = grind (arith, nat_tests, are.upto, has.above);
-            own = λ k lt. grind (arith, nat_tests, has.above, has.upto);
-          };
-          beyond = omega (arith, are.more, one);
-        }
+  pub stop-tells : {low : ℕ} → NumbersDiffer cells keys owner → mark ≤ beyond + 1 → beyond ≤ mark + 1 → AreFarther first low near far
+      → IsStopTold first weight cells keys owner low near far mark left
+  stop-tells {low} differ below above level = record {
+    key = has.key;
+    in_keys = has.in_keys;
+    stops = stops-at first cells keys owner low near far mark beyond _ level so_far.on so_far.between so_far.upto below above has.above has.upto;
+    beyond = omega (arith, so_far.more, one);
+  }
+    where
+      has : HasBetween cells keys owner (by_first first mark beyond) (by_first first beyond mark)
+      has = has-between weight cells keys owner _ _ (omega (arith, so_far.more))
+
+      one : weight_from first weight cells keys owner mark beyond ≡ weight (cells owner has.key)
+      one = weight_of-one weight cells keys owner _ _ has.key has.in_keys has.above has.upto (λ k lt over le.
+          let near = one-apart first mark beyond below above in
+          differ k has.key lt has.in_keys (omega (arith, over)) (omega (arith, over, le, near, has.above, has.upto)))

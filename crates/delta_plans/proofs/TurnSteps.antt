@@ -1,8 +1,8 @@
 -- The owners' turns in a level.
 -- Serves the functions of `rounds` and `sharing` and `RoundMarks`.
-use Rattle.delta_plans.proofs.Common.{◌≡◌, ◌≢◌, ℕ, suc, ◌+◌, ◌-◌, ◌*◌, ◌<◌, ◌≤◌, cond, ltb, List, get_or, set, map, inl, inr, refl, sym, ap, ◌∙◌, subst, transport, arith, nat_tests, get_or-set_same, get_or-set_other, length-map, map-set, Entries, MOST_NODES, MOST_KEYS, MOST_ENTRY_SIZE, cases_eq, Cells, HasNoneAbove, sum_below-same, sum_below-plus, rotated, rotated-injective, rotated-is, First, Oldest, Newest, Offer, Reached, Turns, by_first, cells_in, low_in, high_in, marks, weights_in, IsOffer, count_on, AreFarther, StopsBefore, lt-ltb, le-ltb, IsStopOf, weight_to, part_weight, parts_count, AreTurns, HasReached, AreSharedBy, Several, length-set, HasPart, HaveTurns, weight_of, weight_from, weight_through, one_each}
-use Rattle.delta_plans.proofs.WeightLaws.{offer-few, owner-entries, owner-most, part, sum_below-changed, sum_below-longer, weight_of-split}
-use Rattle.delta_plans.proofs.StopSteps.{IsStopTold, few-from, stop-tells}
+use Rattle.delta_plans.proofs.Common.{◌≡◌, ◌≢◌, ℕ, suc, ◌+◌, ◌-◌, ◌*◌, ◌<◌, ◌≤◌, cond, ltb, List, get_or, set, map, inl, inr, refl, sym, ap, ◌∙◌, transport, arith, nat_tests, get_or-set_same, get_or-set_other, length-map, map-set, Entries, MOST_NODES, MOST_KEYS, MOST_ENTRY_SIZE, cases_eq, Cells, HasNoneAbove, sum_below-same, sum_below-plus, rotated, rotated-injective, rotated-is, First, Oldest, Newest, Offer, Reached, Turns, by_first, low_in, high_in, marks, weights_in, IsOffer, count_on, AreFarther, lt-ltb, le-ltb, IsStopOf, weight_to, part_weight, parts_count, reached_after, AreTurns, HasReached, AreSharedBy, Several, length-set, HasPart, HaveTurns, weight_of, weight_from, weight_through, one_each}
+use Rattle.delta_plans.proofs.WeightLaws.{offer-few, owner-entries, owner-most, part, parts_of, sum_below-changed, sum_below-longer, weight_of-split}
+use Rattle.delta_plans.proofs.StopSteps.{few-from, stop-tells}
 
 -- the weights from a lower mark on and from a higher one, which may be above all numbers
 split-covered : (weight : ℕ → ℕ) (cells : Cells) (keys owner low mark high : ℕ) → low ≤ mark → HasNoneAbove cells keys owner high
@@ -38,26 +38,12 @@ count_on-few {number = number} {offer = offer} first is mark =
     offer-few is (λ owner. by_first first (low_in number offer owner) (mark owner)) (λ owner. by_first first (mark owner) (high_in number offer owner))
 
 module _ {N : Type 0} {number : N → ℕ} {most : ℕ} {turns : Turns N} (are : AreTurns number most turns) where
-  abbrev offer : Offer N
-  offer = turns.offer.now
-
-  abbrev nodes : ℕ
-  nodes = offer.grid.size.nodes
-
-  abbrev keys : ℕ
-  keys = offer.grid.size.keys
-
-  abbrev cells : Cells
-  cells = cells_in number offer
+  open turns.offer use {now as offer}
+  open turns.offer.now.grid.size use {nodes, keys}
+  open parts_of number turns.offer.now use {cells, low, high}
 
   abbrev turn : ℕ → ℕ
   turn = rotated nodes turns.rotation
-
-  abbrev low : ℕ → ℕ
-  low = low_in number offer
-
-  abbrev high : ℕ → ℕ
-  high = high_in number offer
 
   abbrev near : ℕ → ℕ
   near = marks number turns.level.now.near.items
@@ -101,87 +87,66 @@ module _ {N : Type 0} {number : N → ℕ} {most : ℕ} {turns : Turns N} (are :
           → weight_through turns.first weights cells nodes keys low high next
           ≡ weight_through turns.first weights cells nodes keys low high (marks number mark)
           + weight_from turns.first (weights owner) cells keys owner (near owner) (number to)
-      grown ordered weights =
-          through-changed weights cells nodes keys low high (marks number mark) next owner in_nodes (λ r lt. others r) turns.first
-          (are.offer.covered owner in_nodes) (transport (λ i. AreFarther turns.first (low owner) (sym waits i) (sym here i)) ordered)
-          ∙ (λ i. weight_through turns.first weights cells nodes keys low high (marks number mark)
-          + weight_from turns.first (weights owner) cells keys owner (waits i) (here i))
+      grown ordered weights = rw (← waits, ← here)
+          (through-changed weights cells nodes keys low high (marks number mark) next owner in_nodes (λ r lt. others r) turns.first
+          (are.offer.covered owner in_nodes) (rw (waits, here) ordered))
 
       -- all the way
       pub turns-next : {weight count : ℕ} → weight ≤ reached.left → weight ≡ part_weight number (weights_in offer owner) turns owner
           → count ≡ part_weight number (λ _. 1) turns owner → number to ≡ far owner
           → HasReached number turns (set mark owner to) (record { turn = reached.turn + 1; left = reached.left - weight; sent = reached.sent + count })
-      turns-next fits weighs counts to_far = record {
-        size = length-set mark owner to ∙ so_far.size;
-        each = λ r lt. elim (cases_eq r owner) [
-          | inl same ↦
-              let passed = ap next same ∙ here ∙ to_far ∙ ap far (sym same) in
-              let now = ap turn same ∙ its in
-              grind (arith, nat_tests)
-          | inr other ↦
-              let stays = others r other ∙ so_far.each r lt in
-              let apart : turn r ≢ turn owner = λ same. other (rotated-injective nodes turns.rotation r owner are.rotation lt in_nodes same) in
-              grind (arith, nat_tests, its)
-        ];
-        left = omega (arith, so_far.left, fits, weighs, grown ordered (weights_in offer), part-to (weights_in offer owner));
-        count = omega (arith, so_far.count, counts, grown ordered one_each, part-to (λ _. 1));
-      }
-        where
-          ordered : AreFarther turns.first (low owner) (near owner) (number to)
-          ordered = subst (AreFarther turns.first (low owner) (near owner)) (sym to_far) (are.level.farther owner in_nodes)
-
-          part-to : (weight : ℕ → ℕ) → weight_from turns.first weight cells keys owner (near owner) (number to) ≡ part_weight number weight turns owner
-          part-to weight = ap (weight_from turns.first weight cells keys owner (near owner)) to_far
+      turns-next fits weighs counts to_far =
+          let ordered : AreFarther turns.first (low owner) (near owner) (number to) = rw to_far (are.level.farther owner in_nodes) in record {
+            size = length-set mark owner to ∙ so_far.size;
+            each = λ r lt. elim (cases_eq r owner) [
+              | inl same ↦
+                  let passed = ap next same ∙ here ∙ to_far ∙ ap far (sym same) in
+                  let now = ap turn same ∙ its in
+                  grind (arith, nat_tests)
+              | inr other ↦
+                  let stays = others r other ∙ so_far.each r lt in
+                  let apart : turn r ≢ turn owner = λ same. other (rotated-injective nodes turns.rotation r owner are.rotation lt in_nodes same) in
+                  grind (arith, nat_tests, its)
+            ];
+            left = omega (arith, so_far.left, fits, weighs, (rw to_far at (grown ordered (weights_in offer))));
+            count = omega (arith, so_far.count, counts, (rw to_far at (grown ordered one_each)));
+          }
 
       -- or it stops at a number
       pub turns-shared : {sent : ℕ} → IsStopOf number turns owner reached.left (number to)
           → sent ≡ weight_to number (λ _. 1) turns owner (near owner) (number to) → AreSharedBy number turns (set mark owner to) (reached.sent + sent)
-      turns-shared stop counts = record {
-        size = length-set mark owner to ∙ so_far.size;
-        shared = record {
-          stop = record {
-            owner = owner;
-            key = tells.key;
-            owner_below = in_nodes;
-            key_below = tells.in_keys;
-            stops = subst (λ m. StopsBefore turns.first cells keys owner (low owner) (near owner) (far owner) m (cells owner tells.key)) (sym here) tells.stops;
-            others = stays;
-          };
-          above = λ r lt. elim (cases_eq r owner) [
-            | inl same ↦ omega (arith, ap low same, ap next same, here, tells.stops.above)
-            | inr other ↦ let is = stays r lt other in let farther = are.level.farther r lt in grind (arith, nat_tests, farther.0, farther.1)
-          ];
-          count = omega (arith, so_far.count, counts, grown ordered one_each);
-          within = omega (arith, so_far.left, stop.so_far.rest, grown ordered (weights_in offer));
-          beyond = omega (arith, so_far.left, stop.so_far.rest, tells.beyond, grown ordered (weights_in offer));
-        };
-      }
-        where
-          tells : IsStopTold turns.first (weights_in offer owner) cells keys owner (low owner) (near owner) (far owner) (number to) stop.left
-          tells = stop-tells (weights_in offer owner) cells keys owner (near owner) (far owner) reached.left (low owner) (number to) stop.beyond stop.left
-              (are.offer.differ owner in_nodes) stop.below stop.above turns.first (are.level.farther owner in_nodes) stop.so_far
-
-          ordered : AreFarther turns.first (low owner) (near owner) (number to)
-          ordered = ((are.level.farther owner in_nodes).0, tells.stops.above, stop.so_far.on)
-
-          stays : (r : ℕ) → r < nodes → r ≢ owner → next r ≡ cond (ltb (turn r) (turn owner)) (far r) (near r)
-          stays r lt other = others r other ∙ so_far.each r lt ∙ ap (λ t. cond (ltb (turn r) t) (far r) (near r)) (sym its)
+      turns-shared stop counts =
+          let tells = stop-tells stop.so_far (are.offer.differ owner in_nodes) stop.below stop.above (are.level.farther owner in_nodes) in
+          let ordered : AreFarther turns.first (low owner) (near owner) (number to) =
+          ((are.level.farther owner in_nodes).0, tells.stops.above, stop.so_far.on) in
+          let stays = λ (r : ℕ) (lt : r < nodes) (other : r ≢ owner).
+          others r other ∙ so_far.each r lt ∙ ap (λ t. cond (ltb (turn r) t) (far r) (near r)) (sym its) in record {
+            size = length-set mark owner to ∙ so_far.size;
+            shared = record {
+              stop = record { owner = owner; key = tells.key; owner_below = in_nodes; key_below = tells.in_keys; stops = rw here tells.stops; others = stays };
+              above = λ r lt. elim (cases_eq r owner) [
+                | inl same ↦ omega (arith, ap low same, ap next same, here, tells.stops.above)
+                | inr other ↦ let is = stays r lt other in let farther = are.level.farther r lt in grind (arith, nat_tests, farther.0, farther.1)
+              ];
+              count = omega (arith, so_far.count, counts, grown ordered one_each);
+              within = omega (arith, so_far.left, stop.so_far.rest, grown ordered (weights_in offer));
+              beyond = omega (arith, so_far.left, stop.so_far.rest, tells.beyond, grown ordered (weights_in offer));
+            };
+          }
 
 module _ {N : Type 0} {number : N → ℕ} {most : ℕ} {turns : Turns N} {owner count : ℕ} (has : HasPart number most turns owner count) where
-  abbrev from : ℕ
-  from = by_first turns.first (marks number turns.level.now.near.items owner) (marks number turns.level.now.far.items owner)
-
-  abbrev upto : ℕ
-  upto = by_first turns.first (marks number turns.level.now.far.items owner) (marks number turns.level.now.near.items owner)
-
   -- entries that are counted take as much as they are
   pub part-entries : (n : ℕ) → turns.offer.now.budget ≡ Entries n → count ≡ part_weight number (weights_in turns.offer.now owner) turns owner
-  part-entries n counted = has.its ∙ sym (owner-entries has.are.offer n counted owner has.in_nodes from upto)
+  part-entries n counted = has.its ∙ sym (owner-entries has.are.offer n counted owner has.in_nodes _ _)
 
   -- a part without numbers weighs nothing
   pub part-none : count ≡ 0 → 0 ≡ part_weight number (weights_in turns.offer.now owner) turns owner
   part-none none =
-      omega (arith, owner-most number turns.offer.now turns.offer.now.grid.size.keys owner from upto, ap (λ n. n * MOST_ENTRY_SIZE) (sym has.its ∙ none))
+      let first = turns.first in
+      let near = marks number turns.level.now.near.items owner in
+      let far = marks number turns.level.now.far.items owner in
+      let most = owner-most number turns.offer.now turns.offer.now.grid.size.keys owner (by_first first near far) (by_first first far near) in
+      omega (arith, most, ap (λ n. n * MOST_ENTRY_SIZE) (sym has.its ∙ none))
 
 -- owners in a row have their turns one after another
 pub turns-in_row : {N : Type 0} (turns : Turns N) (turn owner size : ℕ) → turns.rotation < turns.offer.now.grid.size.nodes
@@ -193,14 +158,6 @@ turns-in_row turns turn owner size in_rotation its in_nodes in_turns i lt =
     let first = rotated-is nodes turns.rotation owner in_rotation (omega (arith, in_nodes, lt)) in
     let here = rotated-is nodes turns.rotation (owner + i) in_rotation (omega (arith, in_nodes, lt)) in
     grind (arith, its, in_nodes, in_turns, first, here)
-
--- what is reached once so many owners more, from one on, have the far mark
-abbrev pub reached_after : {N : Type 0} → (N → ℕ) → Turns N → Reached → ℕ → ℕ → Reached
-reached_after number turns reached owner size = record {
-  turn = reached.turn + size;
-  left = reached.left - parts_count number turns owner size;
-  sent = reached.sent + parts_count number turns owner size;
-}
 
 -- what is reached, in other words
 pub turns-same : {N : Type 0} {number : N → ℕ} {turns : Turns N} {mark : List N} {reached other : Reached} → HasReached number turns mark reached

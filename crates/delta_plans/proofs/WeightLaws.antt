@@ -1,6 +1,6 @@
 -- Sums below a bound, and what numbers weigh between marks.
 -- Serves most of the crate and `version_tables`.
-use Rattle.delta_plans.proofs.Common.{◌≡◌, ◌≢◌, ℕ, zero, suc, ◌+◌, ◌-◌, ◌*◌, ◌<◌, ◌≤◌, Bool, cond, ltb, leb, Option, Some, None, ◌⊎◌, inl, inr, ap, ◌∙◌, subst, arith, nat_tests, cases_lt, mul-le-mul_right, Entry, Budget, Entries, Bytes, MOST_NODES, MOST_KEYS, MOST_ENTRY_SIZE, write_numbered, numbered-some, all_writes, Cells, count_between, HasNoneAbove, sum_below, sum_below-most, sum_below-same, sum_below-le, sum_below-plus, fold_below-join, sums, Offer, cells_in, weights_in, weight_in, count_in, IsOffer, number_share, share_or_none, weight_of, weight_between, count_all_between}
+use Rattle.delta_plans.proofs.Common.{◌≡◌, ◌≢◌, ℕ, zero, suc, ◌+◌, ◌-◌, ◌*◌, ◌<◌, ◌≤◌, Bool, cond, ltb, leb, Option, Some, None, ◌⊎◌, inl, inr, ap, ◌∙◌, subst, arith, nat_tests, cases_lt, mul-le-mul_right, Entry, Budget, Entries, Bytes, MOST_NODES, MOST_KEYS, MOST_ENTRY_SIZE, write_numbered, numbered-some, all_writes, Cells, count_between, HasNoneAbove, sum_below, sum_below-most, sum_below-same, sum_below-le, sum_below-plus, fold_below-join, sums, Offer, cells_in, low_in, high_in, weights_in, weight_in, count_in, IsOffer, share_or_none, weight_of, weight_between, count_all_between}
 
 -- a number where a test passes
 abbrev pub where_true : Bool → ℕ → ℕ
@@ -94,26 +94,25 @@ share-most budget None = omega arith
 share-most (Entries n) (Some e) = omega arith
 share-most (Bytes n) (Some e) = omega arith
 
+-- what lemmas name of an offer
+pub record Parts : Type 0 where
+  pub cells : Cells
+  pub low : ℕ → ℕ
+  pub high : ℕ → ℕ
+
+abbrev pub parts_of : {N : Type 0} → (N → ℕ) → Offer N → Parts
+parts_of number offer = record { cells = cells_in number offer; low = low_in number offer; high = high_in number offer }
+
 module _ {N : Type 0} (number : N → ℕ) (offer : Offer N) where
-  abbrev cells : Cells
-  cells = cells_in number offer
-
-  abbrev nodes : ℕ
-  nodes = offer.grid.size.nodes
-
-  abbrev keys : ℕ
-  keys = offer.grid.size.keys
+  open parts_of number offer use {cells}
+  open offer.grid.size use {nodes, keys}
 
   most : (owner n : ℕ) → weights_in offer owner n ≤ MOST_ENTRY_SIZE
   most owner n = share-most offer.budget (write_numbered (all_writes offer.lists.now owner) n)
 
   -- nothing is between marks and themselves
-  pub offer-weighs_none : (mark : ℕ → ℕ) → weight_in number offer mark mark ≡ 0
-  offer-weighs_none mark = sum_below-none nodes _
-      (λ owner lt. weight_of-none (weights_in offer owner) cells keys owner (mark owner) (mark owner) (omega arith))
-
-  pub offer-counts_none : (mark : ℕ → ℕ) → count_in number offer mark mark ≡ 0
-  offer-counts_none mark = sum_below-none nodes _ (λ owner lt. weight_of-none (λ _. 1) cells keys owner (mark owner) (mark owner) (omega arith))
+  pub offer-none : (weights : ℕ → ℕ → ℕ) (mark : ℕ → ℕ) → weight_between weights cells nodes keys mark mark ≡ 0
+  offer-none weights mark = sum_below-none nodes _ (λ owner lt. weight_of-none (weights owner) cells keys owner (mark owner) (mark owner) (omega arith))
 
   -- no more than so many times the largest size
   pub offer-most : (low high : ℕ → ℕ) → weight_in number offer low high ≤ count_in number offer low high * MOST_ENTRY_SIZE
@@ -137,13 +136,11 @@ module _ {N : Type 0} {number : N → ℕ} {most : ℕ} {offer : Offer N} (is : 
         → weight_of (weights_in offer owner) (cells_in number offer) offer.grid.size.keys owner low high
         ≡ count_between (cells_in number offer) offer.grid.size.keys owner low high
     owner-entries owner in_nodes low high = sum_below-same offer.grid.size.keys _ _ (λ key in_keys.
-        let one = one_each key in_keys in grind (arith, nat_tests))
-      where
-        one_each : (key : ℕ) → key < offer.grid.size.keys → 0 < cells_in number offer owner key → weights_in offer owner (cells_in number offer owner key) ≡ 1
-        one_each key in_keys some =
-            let writes = all_writes offer.lists.now owner in
-            let it = cells_in number offer owner key in
-            (λ i. number_share (counted i) writes it) ∙ ap (share_or_none (Entries n)) (numbered-some writes it some (is.written owner key in_nodes in_keys)).1
+        let writes = all_writes offer.lists.now owner in
+        let it = cells_in number offer owner key in
+        let one = λ (some : 0 < it). ap (λ budget. share_or_none budget (write_numbered writes it)) counted
+        ∙ ap (share_or_none (Entries n)) (numbered-some writes it some (is.written owner key in_nodes in_keys)).1 in
+        grind (arith, nat_tests, one))
 
     pub offer-entries : (low high : ℕ → ℕ) → weight_in number offer low high ≡ count_in number offer low high
     offer-entries low high = sum_below-same offer.grid.size.nodes _ _ (λ owner lt. owner-entries owner lt (low owner) (high owner))

@@ -47,8 +47,8 @@ count_on first number offer mark =
 abbrev pub AreFarther : First → ℕ → ℕ → ℕ → Type 0
 AreFarther first low near far = (low ≤ near) × (low ≤ far) × IsOn first near far
 
--- near marks, which let through so many and leave so much, and far marks, the first that let through more than fits
-pub record IsLevel {N : Type 0} (first : First) (number : N → ℕ) (offer : Offer N) (level : Level N) : Type 0 where
+-- near marks, which let through so many and leave so much, and far marks
+pub record HasLevels {N : Type 0} (first : First) (number : N → ℕ) (offer : Offer N) (level : Level N) : Type 0 where
   pub near : length level.near.items ≡ offer.grid.size.nodes
   pub far : length level.far.items ≡ offer.grid.size.nodes
   pub farther : (owner : ℕ) → owner < offer.grid.size.nodes
@@ -56,6 +56,11 @@ pub record IsLevel {N : Type 0} (first : First) (number : N → ℕ) (offer : Of
       (marks number level.far.items owner)
   pub whole : level.whole ≡ count_on first number offer (marks number level.near.items)
   pub left : weight_on first number offer (marks number level.near.items) + level.left ≡ amount_of offer.budget
+
+-- these are the first that let through more than fits
+pub record IsLevel {N : Type 0} (first : First) (number : N → ℕ) (offer : Offer N) (level : Level N) : Type 0 where
+  pub has_levels : HasLevels first number offer level
+  pub open has_levels use *
   pub beyond : amount_of offer.budget < weight_on first number offer (marks number level.far.items)
 
 -- whose marks part levels that go by these numbers

@@ -1,10 +1,9 @@
 -- What a digest tells of each owner, as a number. Source: this project.
 use Rattle.std.specs.Prelude.{◌≡◌, ℕ, ◌<◌, ◌≤◌, List, length, map, slice_index}
 use Rattle.bench_types.specs.declared.limits.TheConstants.{MOST_NODES}
-use Rattle.model.specs.calls.OwnerListView.{OwnerListView, all_writes, entries_of, AreWrites, list_of_owner}
-use Rattle.planes.specs.Elementwise.{AreChanged}
+use Rattle.model.specs.calls.OwnerListView.{OwnerListView, entries_of, AreWrites, list_of_owner}
 use Rattle.delta_plans.specs.declared.told_marks.Owners.{Owners}
-use Rattle.owner_writes.specs.Numbered.{IsNumberedHistory, start_of}
+use Rattle.owner_writes.specs.Numbered.{IsNumberedHistory}
 
 -- a number of a write of a list, or 0, where it has fewer than the most and so many of earlier generations
 pub record IsKnown (most : ℕ) (list : OwnerListView) (number base : ℕ) : Type 0 where
@@ -26,8 +25,3 @@ pub record AreKnown (most : ℕ) (lists : List OwnerListView) (numbers bases : L
 abbrev pub AreKnownOf : {N : Type 0} → (N → ℕ) → ℕ → Owners N → List N → Type 0
 AreKnownOf number most owners numbers =
     AreKnown most owners.lists.now (map number numbers) (map number owners.bases.now)
-
--- each number becomes where its generation starts
-abbrev pub AreStarts : {N : Type 0} → (N → ℕ) → Owners N → List N → List N → Type 0
-AreStarts number owners old new =
-    AreChanged (λ r x y. y ≡ start_of (all_writes owners.lists.now r) x) (map number old) (map number new)

@@ -14,13 +14,9 @@ abbrev pub share_or_none : Budget → Option Entry → ℕ
 share_or_none budget None = 0
 share_or_none budget (Some e) = share_of budget e
 
--- what the write of a number takes of it
-abbrev pub number_share : Budget → List Entry → ℕ → ℕ
-number_share budget writes number = share_or_none budget (write_numbered writes number)
-
--- and so for each owner's numbers
+-- and so what those of each owner's numbers take
 abbrev pub number_shares : Budget → (ℕ → List Entry) → ℕ → ℕ → ℕ
-number_shares budget lists owner number = number_share budget (lists owner) number
+number_shares budget lists owner number = share_or_none budget (write_numbered (lists owner) number)
 
 -- each number weighs 1
 abbrev pub one_each : ℕ → ℕ → ℕ

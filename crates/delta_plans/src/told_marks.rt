@@ -8,7 +8,7 @@ ghost use Rattle.planes.specs.Planes.{HasEach};
 ghost use Rattle.planes.specs.Elementwise.{AreChanged};
 ghost use Rattle.owner_writes.specs.Numbered.{start_of};
 ghost use Rattle.delta_plans.specs.Offers.{told_by, told_number};
-ghost use Rattle.delta_plans.specs.Told.{AreKnownOf, AreStarts, IsKnown};
+ghost use Rattle.delta_plans.specs.Told.{AreKnownOf, IsKnown};
 
 use bench_types::{DigestKind, Fault};
 use owner_writes::OwnerWrites;
@@ -61,7 +61,8 @@ fn put_marks<N: Number>(numbers: &mut [N], kind: DigestKind, owners: Owners<N>)
 // which one fast loop tells.
 fn put_starts<N: Number>(numbers: &mut [N], owners: Owners<N>)
     requires { AreKnownOf N.number N.most owners numbers.old }
-    ensures { AreStarts N.number owners.entry numbers.old numbers.new }
+    ensures { AreChanged (λ r x y. y ≡ start_of (all_writes owners.entry.lists.now r) x) (map N.number numbers.old)
+        (map N.number numbers.new) }
 {
     let Owners { lists, bases } = owners;
     if planes::none_upto(numbers, bases) {

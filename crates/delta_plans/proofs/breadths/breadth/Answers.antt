@@ -1,17 +1,16 @@
-use Rattle.delta_plans.proofs.Common.{ap, subst, arith, marks, Level, IsNextLayer}
+use Rattle.delta_plans.proofs.Common.{ap, arith, Level}
 use Rattle.delta_plans.proofs.LayerSteps.{layers-first, layers-more, layers-next, level-of_layers}
-use Rattle.delta_plans.proofs.LevelSteps.{level-asked, level-ends, level-few, level-told, level-upto}
+use Rattle.delta_plans.proofs.LevelSteps.{level-asked, level-ends, level-few, level-upto}
 use Rattle.delta_plans.proofs.breadths.breadth.Goals as goal
 
 pub loop-left-init : goal.loop-left-init
 loop-left-init g c =
-    let layer = subst (λ xs. IsNextLayer g.N.Number.number c.args.offer.now
-    (marks g.N.Number.number xs) c.in_ok-first.first) c.deref.ensures.value c.in_ok-first.ensures.0 in
-    record { has = layers-first c.requires.offer.is_offer c.first_level-level.ensures c.in_ok-near.ensures.items layer }
+    let layer = rw c.deref.ensures.value at c.in_ok-first.ensures.0 in
+    record { has = rw c.first_level-level.ensures (layers-first c.requires.offer.is_offer c.in_ok-near.ensures.items layer) }
 
 pub left_of-requires : goal.left_of-requires
-left_of-requires g c = level-asked c.requires.offer.is_offer c.loop-left.invariant.has.so_far
-    c.deref-in-loop-left.ensures.value c.deref-in-loop-left-2.ensures.value
+left_of-requires g c =
+    rw (c.deref-in-loop-left.ensures.value, c.deref-in-loop-left-2.ensures.value) (level-asked c.requires.offer.is_offer c.loop-left.invariant.has.so_far)
 
 pub next-level-requires : goal.next-level-requires
 next-level-requires g c = omega (arith, level-few c.requires.offer.is_offer c.loop-left.invariant.has.so_far)
@@ -20,22 +19,19 @@ pub loop-left-smaller : goal.loop-left-smaller
 loop-left-smaller g c =
     let is = c.requires.offer.is_offer in
     let has = c.loop-left.invariant.has in
-    let fits = level-told is has.so_far c.deref-in-loop-left.ensures.value c.deref-in-loop-left-2.ensures.value c.in-Some.is c.left_of.ensures in
+    let fits = rw (c.deref-in-loop-left.ensures.value, c.deref-in-loop-left-2.ensures.value, c.in-Some.is) at c.left_of.ensures in
     let next = ap (λ (level : Level g.row.N.Denot). level.whole) c.next-level.ensures in
     omega (arith, layers-more is has fits c.requires.offer.beyond, level-upto is has.so_far, next)
 
 pub loop-left-preserved : goal.loop-left-preserved
 loop-left-preserved g c =
-    let is = c.requires.offer.is_offer in
-    let has = c.loop-left.invariant.has in
-    let fits = level-told is has.so_far c.deref-in-loop-left.ensures.value c.deref-in-loop-left-2.ensures.value c.in-Some.is c.left_of.ensures in
-    let layer = subst (λ xs. IsNextLayer g.N.Number.number c.args.offer.now
-    (marks g.N.Number.number xs) c.in_ok-next.next) c.deref-in-Some.ensures.value c.in_ok-next.ensures.0 in
-    record { has = layers-next is has fits c.next-level.ensures layer }
+    let fits = rw (c.deref-in-loop-left.ensures.value, c.deref-in-loop-left-2.ensures.value, c.in-Some.is) at c.left_of.ensures in
+    let layer = rw c.deref-in-Some.ensures.value at c.in_ok-next.ensures.0 in
+    record { has = rw c.next-level.ensures (layers-next c.requires.offer.is_offer c.loop-left.invariant.has fits layer) }
 
 pub returns : goal.returns
 returns g c =
     let is = c.requires.offer.is_offer in
     let has = c.loop-left.invariant.has in
-    let told = level-told is has.so_far c.deref-in-loop-left.ensures.value c.deref-in-loop-left-2.ensures.value c.in_default.is c.left_of.ensures in
+    let told = rw (c.deref-in-loop-left.ensures.value, c.deref-in-loop-left-2.ensures.value, c.in_default.is) at c.left_of.ensures in
     (record { is_level = level-ends is has.so_far told; shape = level-of_layers is has }, tt)

@@ -1,5 +1,4 @@
-use Rattle.delta_plans.proofs.Common.{◌≡◌, nat_lt, slice_index, map, if◌then◌else◌}
-use Rattle.delta_plans.proofs.Nodes.{AreCountedUpto}
+use Rattle.delta_plans.proofs.Common.{◌≡◌, nat_lt, slice_index, map, if◌then◌else◌, AreCountedUpto}
 use Rattle.delta_plans.proofs.breadths.one_more.Given as goal
 
 abbrev pub invariant-loop-r : goal.invariant-loop-r

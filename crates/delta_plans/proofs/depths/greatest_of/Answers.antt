@@ -1,15 +1,11 @@
-use Rattle.delta_plans.proofs.Common.{◌≤◌, get_or, map, inl, inr, subst, arith, cases_lt, number-at}
+use Rattle.delta_plans.proofs.Common.{◌≤◌, get_or, map, arith, below_more, number-at}
 use Rattle.delta_plans.proofs.depths.greatest_of.Goals as goal
 
 pub loop-r-preserved : goal.loop-r-preserved
 loop-r-preserved g c =
     let here = number-at g.N.Number.number c.args.numbers.now c.loop-r.r c.index-numbers-r.result (omega (arith, c.loop-r-test.true)) c.index-numbers-r.is in
     record {
-      greatest = λ r lt. elim (cases_lt r c.loop-r.r) [
-        | inl before ↦ omega (arith, c.loop-r.invariant.greatest r before, c.max-greatest.ensures)
-        | inr not_before ↦
-            subst (λ k. get_or (map g.N.Number.number c.args.numbers.now) k 0 ≤ c.max-greatest.result) {x = c.loop-r.r} {y = r} (omega (arith, lt, not_before))
-            (omega (arith, here, c.widen.ensures, c.max-greatest.ensures))
-      ];
+      greatest = below_more (λ k. get_or (map g.N.Number.number c.args.numbers.now) k 0 ≤ c.max-greatest.result) c.loop-r.r
+          (λ r lt. omega (arith, c.loop-r.invariant.greatest r lt, c.max-greatest.ensures)) (omega (arith, here, c.widen.ensures, c.max-greatest.ensures));
       few = omega (arith, here, c.widen.ensures, c.max-greatest.ensures, c.loop-r.invariant.few, c.requires.few c.loop-r.r c.loop-r-test.true);
     }

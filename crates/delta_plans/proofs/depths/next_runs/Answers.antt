@@ -5,10 +5,8 @@ use Rattle.delta_plans.proofs.depths.next_runs.Goals as goal
 
 pub overflow_add-owners : goal.overflow_add-owners
 overflow_add-owners g c =
-    let all = c.deref_mut-all.result.now in
     let size = ap length c.deref_mut-all.ensures.value ∙ ap length c.in_ok-marks.ensures.items ∙ c.requires.each_near in
-    count_fits (λ r. eqb (get_or (map g.N.Number.number c.args.counts.now) r 0) c.args.size) c.loop-r.r (length all) c.loop-r.owners c.one_if-owners.result _
-    c.loop-r.invariant.counted c.one_if-owners.ensures (omega (arith, c.loop-r-test.true)) (omega (arith, size, c.requires.is_offer.grid.few_nodes))
+    count_fits _ _ c.loop-r.invariant.count c.one_if-owners.ensures c.loop-r-test.true (omega (arith, size, c.requires.is_offer.grid.few_nodes))
 
 pub loop-r-preserved : goal.loop-r-preserved
 loop-r-preserved g c =
@@ -21,8 +19,8 @@ loop-r-preserved g c =
     let high = number-at number c.args.offer.now.high.now r c.index-high-r.result
     (omega (arith, c.loop-r-test.true, size, c.requires.is_offer.high)) c.index-high-r.is in
     let mark = number-at number all r c.index-all-r.result (omega (arith, c.loop-r-test.true, c.loop-r.auto.all)) c.index-all-r.is
-    ∙ c.loop-r.invariant.written.from r (omega arith) in
-    counted_next _ _ number c.deref_mut-all.result.now all r c.loop-r.owners c.loop-r.invariant c.pick.result c.one_if-owners.result c.loop-r-test.true
+    ∙ c.loop-r.invariant.numbers.from r (omega arith) in
+    counted_next number c.deref_mut-all.result.now all c.loop-r.invariant c.pick.result c.loop-r-test.true
     (c.pick.ensures ∙ (λ i. if eqb ((c.widen.ensures ∙ count) i) c.args.size then high i else mark i))
     (c.one_if-owners.ensures ∙ (λ i. if eqb ((c.widen.ensures ∙ count) i) c.args.size then 1 else 0))
 
@@ -31,7 +29,7 @@ overflow_mul-more g c =
     let found = count_le c.loop-r.r (λ r. eqb (get_or (map g.N.Number.number c.args.counts.now) r 0) c.args.size) in
     let same = ap length c.deref_mut-all.ensures.value ∙ ap length c.in_ok-marks.ensures.items ∙ c.requires.each_near in
     let few : c.loop-r.owners ≤ MOST_NODES =
-    omega (arith, c.loop-r.invariant.counted, found, c.loop-r.auto.r-end, same, c.requires.is_offer.grid.few_nodes) in
+    omega (arith, c.loop-r.invariant.count, found, c.loop-r.auto.r-end, same, c.requires.is_offer.grid.few_nodes) in
     omega (arith, mul-le-mul_right {m = c.loop-r.owners} {n = MOST_NODES} c.args.size few, mul-le-mul_left MOST_NODES c.requires.few)
 
 pub returns : goal.returns
@@ -39,6 +37,5 @@ returns g c =
     let old = c.deref_mut-all.result.now in
     let new = c.loop-r.all in
     let whole = with_items_is c.in_ok-marks.marks new (c.loop-r.auto.all ∙ c.deref_mut-all.ensures.len) in
-    let done = counted_all _ _ g.N.Number.number old new c.loop-r.r c.loop-r.owners c.loop-r.invariant
-    (omega (arith, c.loop-r-test.false)) (omega (arith, c.loop-r.auto.r-end)) in
+    let done = counted_all g.N.Number.number old new c.loop-r.invariant c.loop-r-test.false c.loop-r.auto.r-end in
     (next-runs c.requires old new c.loop-r.owners _ (c.deref_mut-all.ensures.value ∙ c.in_ok-marks.ensures.items) whole refl done, tt)

@@ -1,5 +1,4 @@
-use Rattle.delta_plans.proofs.Common.{◌≡◌, eqb, slice_index, map, if◌then◌else◌}
-use Rattle.delta_plans.proofs.Nodes.{AreCountedUpto}
+use Rattle.delta_plans.proofs.Common.{◌≡◌, eqb, slice_index, map, if◌then◌else◌, AreCountedUpto}
 use Rattle.delta_plans.proofs.depths.next_runs.Given as goal
 
 abbrev pub invariant-loop-r : goal.invariant-loop-r

@@ -1,4 +1,4 @@
-use Rattle.delta_plans.proofs.Common.{◌<◌, length, get_or, sym, ◌∙◌, arith, map, length-map, nat_tests, entries_of, list_of_owner, start_of, number-at, number-waits, transport, written_next, IsKnown}
+use Rattle.delta_plans.proofs.Common.{◌<◌, length, get_or, sym, ◌∙◌, arith, map, length-map, nat_tests, entries_of, list_of_owner, start_of, number-at, number-waits, written_next}
 use Rattle.delta_plans.proofs.Starts.{list-here, start-lower}
 use Rattle.delta_plans.proofs.told_marks.put_starts.Goals as goal
 
@@ -28,7 +28,7 @@ start_of-requires g c =
     let here = number-waits _ (map number numbers) number c.loop-r.numbers r c.index-numbers-r.result c.loop-r.invariant
     (omega (arith, c.loop-r-test.true, c.loop-r.auto.numbers)) c.index-numbers-r.is in
     let base = number-at number bases r c.index-bases-r.result (omega (arith, lt, c.requires.base_count, length-map bases number)) c.index-bases-r.is in
-    transport (λ i. IsKnown g.N.Number.most (list-here lists r c.index-lists-r.result lt c.index-lists-r.is i) (sym here i) (sym base i)) (c.requires.each r lt)
+    rw (← list-here lists r c.index-lists-r.result lt c.index-lists-r.is, here, base) (c.requires.each r lt)
 
 pub loop-r-preserved : goal.loop-r-preserved
 loop-r-preserved g c =

@@ -1,4 +1,4 @@
-use Rattle.delta_plans.proofs.Common.{◌≡◌, length, set, map, slice_index, sym, ap, subst, ◌∙◌, arith, map-set, with_items_is, all_writes, AreChanged, HasEach, told_by, told_number}
+use Rattle.delta_plans.proofs.Common.{map, ◌∙◌, arith, map-set, with_items_is, all_writes}
 use Rattle.delta_plans.proofs.Starts.{told-set}
 use Rattle.delta_plans.proofs.told_marks.told.Goals as goal
 
@@ -10,15 +10,9 @@ returns-clause-told g c =
     let node = c.args.node in
     let lists = c.args.owners.lists.now in
     let new = c.put_marks.new.numbers in
-    let put =
-    subst (λ xs. AreChanged (λ r x y. y ≡ told_by kind (all_writes lists r) x) (map number xs) (map number new))
-    (c.deref_mut.ensures.value ∙ c.in_ok-told.ensures.items) c.put_marks.ensures
-    in
+    let put = rw (c.deref_mut.ensures.value, c.in_ok-told.ensures.items) at c.put_marks.ensures in
     let told = told-set kind most node (all_writes lists) (map number c.args.greatest.now) (map number new) put
     (omega (arith, c.requires.node, c.requires.known.count)) in
-    let whole =
-    ap (set (map number new) node) (sym c.greatest.ensures) ∙ sym (map-set number new node c.greatest.result)
-    ∙ ap (λ xs. map number (set xs node c.greatest.result)) (sym (with_items_is c.in_ok-told.told new (c.put_marks.auto.numbers ∙ c.deref_mut.ensures.len)))
-    in
-    subst (HasEach (length lists) (λ r n. n ≡ told_number kind most node (all_writes lists) (slice_index (map number c.args.greatest.now)) r)) whole
+    let whole = with_items_is c.in_ok-told.told new (c.put_marks.auto.numbers ∙ c.deref_mut.ensures.len) in
+    rw (whole, map-set number new node c.greatest.result, c.greatest.ensures)
     (record { size = told.size ∙ c.requires.known.count; each = λ r lt. told.each r (omega (arith, lt, c.requires.known.count)) })

@@ -12,5 +12,4 @@ pub loop-key-preserved : goal.loop-key-preserved
 loop-key-preserved g c =
     let number = g.N.Number.number in
     let more = (λ (k : ℕ). part (λ _. 1) (number c.args.low) (number c.args.high) (cells_in number c.args.self.now c.args.owner k)) in
-    number_next more c.loop-key.key c.loop-key.count _ {y = c.one_if-count.result} c.loop-key.invariant refl
-    (grind (arith, nat_tests, c.cell_of.ensures, c.is_between.ensures, c.one_if-count.ensures))
+    number_next more _ _ _ c.loop-key.invariant refl (grind (arith, nat_tests, c.cell_of.ensures, c.is_between.ensures, c.one_if-count.ensures))

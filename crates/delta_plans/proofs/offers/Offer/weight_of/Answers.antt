@@ -1,7 +1,6 @@
 use Rattle.delta_plans.proofs.Common.{ℕ, ap, arith, nat_tests, number_next, all_writes, write_numbered, cells_in, weights_in}
 use Rattle.delta_plans.proofs.WeightLaws.{count_between-most, owner-most, part, share-most}
 use Rattle.delta_plans.proofs.offers.Offer.weight_of.Goals as goal
-use Rattle.delta_plans.proofs.offers.Offer.weight_of.Goals.{then-is_between, else-is_between}
 
 pub overflow_add-weight : goal.overflow_add-weight
 overflow_add-weight g c =
@@ -17,14 +16,11 @@ loop-key-preserved g c =
     let number = g.N.Number.number in
     let offer = c.args.self.now in
     let weight = weights_in offer c.args.owner in
-    let cell = c.cell_of-cell.ensures in
     let more = (λ (k : ℕ). part weight (number c.args.low) (number c.args.high) (cells_in number offer c.args.owner k)) in
+    let between = rw c.cell_of-cell.ensures at c.is_between.ensures in
     elim c.if-is_between.branch [
-      | then-is_between w ↦
-          let same = ap weight cell in
-          number_next more c.loop-key.key c.loop-key.weight c.if-is_between.weight {y = w.weight_of_number-weight.result} c.loop-key.invariant w.weight-is
-          (grind (arith, nat_tests, cell, same, c.is_between.ensures, w.if-is_between.true, w.weight_of_number-weight.ensures))
-      | else-is_between w ↦
-          number_next more c.loop-key.key c.loop-key.weight c.if-is_between.weight {y = 0} c.loop-key.invariant (omega (arith, w.weight-is))
-          (grind (arith, nat_tests, cell, c.is_between.ensures, w.if-is_between.false))
+      | goal.then-is_between w ↦ number_next more _ _ _ c.loop-key.invariant w.weight-is
+          (grind (arith, nat_tests, between, ap weight c.cell_of-cell.ensures, w.if-is_between.true, w.weight_of_number-weight.ensures))
+      | goal.else-is_between w ↦ number_next more _ _ _ {y = 0} c.loop-key.invariant (omega (arith, w.weight-is))
+          (grind (arith, nat_tests, between, w.if-is_between.false))
     ]

@@ -1,4 +1,4 @@
-use Rattle.delta_plans.proofs.Common.{refl, sym, ap, ◌*◌, subst, arith, MOST_ENTRY_SIZE, marks, IsFound}
+use Rattle.delta_plans.proofs.Common.{refl, ap, ◌*◌, arith, MOST_ENTRY_SIZE, marks}
 use Rattle.delta_plans.proofs.RoundMarks.{on-most}
 use Rattle.delta_plans.proofs.TurnSteps.{count_on-few}
 use Rattle.delta_plans.proofs.rounds.Rounds.look.Goals as goal
@@ -16,14 +16,3 @@ returns-then-surely_fit g c =
       within = omega (arith, c.if-surely_fit.ensures refl, ap (λ n. n * MOST_ENTRY_SIZE) c.count-count.ensures, most);
       known = tt;
     }
-
-pub returns-in_err-weighed : goal.returns-in_err-weighed
-returns-in_err-weighed g c =
-    subst (IsFound g.N.Number.number c.args.self.now (marks g.N.Number.number c.args.mark.now)) (sym c.from_residual.ensures) c.in_err-weighed.ensures
-
-pub returns : goal.returns
-returns g c = record {
-  count = c.count-count.ensures;
-  within = c.in_ok-weighed.ensures.0;
-  known = omega (arith, c.in_ok-weighed.ensures.0, c.in_ok-weighed.ensures.1);
-}

@@ -1,40 +1,20 @@
-use Rattle.delta_plans.proofs.Common.{◌≡◌, length, map, max, get_or, ap, sym, subst, ◌∙◌, arith, with_items, length-map, with_items_is, made-as, HasEach, marks, by_first, ◌-◌, end_mark}
+use Rattle.delta_plans.proofs.Common.{◌≡◌, length, map, max, get_or, ap, ◌∙◌, arith, length-map, with_items_is, made-as, by_first, ◌-◌}
 use Rattle.delta_plans.proofs.rounds.Rounds.mark_after.Goals as goal
-use Rattle.delta_plans.proofs.rounds.Rounds.mark_after.Goals.{in-Oldest, in-Newest}
-
-pub change-requires : goal.change-requires
-change-requires g c = record {
-  to = λ r n lt is.
-      let start = c.deref_mut.ensures.value ∙ c.in_ok-mark.ensures.items in
-      omega (arith, lt, ap length start, c.requires.rounds.too_large.is_offer.low, c.row-row.ensures.size, length-map c.row-row.result.now g.N.Number.number);
-}
 
 pub returns : goal.returns
 returns g c =
     let number = g.N.Number.number in
-    let offer = c.args.self.now.offer.now in
-    let ends = map number c.args.self.now.ends.numbers.now in
-    let low = marks number offer.low.now in
     let start = c.deref_mut.ensures.value ∙ c.in_ok-mark.ensures.items in
     let size = c.requires.rounds.too_large.is_offer.low in
-    let nodes = offer.grid.size.nodes in
-    let v = with_items c.in_ok-mark.mark c.change.new.numbers in
     let round : c.match-self.round ≡ by_first c.args.self.now.first c.args.count (c.args.self.now.ends.rounds - c.args.count) =
-    elim c.match-self.branch [
-      | in-Newest w ↦ w.round-is ∙ (λ i. by_first (sym w.in-Newest.is i) c.args.count (c.args.self.now.ends.rounds - c.args.count))
-      | in-Oldest w ↦ w.round-is ∙ (λ i. by_first (sym w.in-Oldest.is i) c.args.count (c.args.self.now.ends.rounds - c.args.count))
-    ]
-    in
+    elim c.match-self.branch [ goal.in-Newest w ↦ rw w.in-Newest.is w.round-is | goal.in-Oldest w ↦ rw w.in-Oldest.is w.round-is ] in
     let whole = with_items_is c.in_ok-mark.mark c.change.new.numbers (c.change.auto.numbers ∙ c.deref_mut.ensures.len) in (
-      subst (λ at. HasEach nodes (λ r n. n ≡ end_mark ends nodes low at r) (map number v.items)) round
-          (subst (λ xs. HasEach nodes (λ r n. n ≡ end_mark ends nodes low c.match-self.round r) (map number xs)) (sym whole)
-          (record {
-            size = c.change.ensures.size ∙ length-map c.deref_mut.result.now number ∙ ap length start ∙ size;
-            each = λ r lt.
-                made-as number _ r _ _ (λ x. max x (get_or (map number c.row-row.result.now) r 0))
-                (c.change.ensures.each r (omega (arith, lt, length-map c.deref_mut.result.now number, ap length start, size)))
-                (λ n m call. call)
-                ∙ (λ i. max (get_or (map number (start i)) r 0) (c.row-row.ensures.each r lt i));
-          })),
+      rw (whole, ← round) (record {
+        size = c.change.ensures.size ∙ length-map c.deref_mut.result.now number ∙ ap length start ∙ size;
+        each = λ r lt.
+            made-as number _ r _ _ (λ x. max x (get_or (map number c.row-row.result.now) r 0))
+            (c.change.ensures.each r (omega (arith, lt, length-map c.deref_mut.result.now number, ap length start, size))) (λ n m call. call)
+            ∙ (λ i. max (get_or (map number (start i)) r 0) (c.row-row.ensures.each r lt i));
+      }),
       tt,
     )

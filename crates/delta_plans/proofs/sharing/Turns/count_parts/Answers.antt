@@ -1,4 +1,4 @@
-use Rattle.delta_plans.proofs.Common.{◌≡◌, ℕ, ◌+◌, ◌-◌, ◌<◌, ◌≤◌, List, get_or, length, map, take, drop, inr, subst, ◌∙◌, arith, transport, length-map, length-take-le, length-drop, put_mid, Cells, count_between, HasEach, part-here, part-written, First, Oldest, Newest, by_first, cells_in, marks, part_weight, weight_from}
+use Rattle.delta_plans.proofs.Common.{◌≡◌, ℕ, ◌+◌, ◌-◌, ◌<◌, ◌≤◌, List, length, map, take, drop, inr, ◌∙◌, arith, length-map, length-take-le, length-drop, Cells, count_between, HasEach, part-here, part-written, First, Oldest, Newest, by_first, cells_in, marks, weight_from}
 use Rattle.delta_plans.proofs.sharing.Turns.count_parts.Goals as goal
 
 -- a part has as many numbers as lie between the two marks that go first
@@ -8,10 +8,6 @@ counted : {N : Type 0} (number : N → ℕ) (cells : Cells) (keys size start : �
     → HasEach size (λ r n. n ≡ weight_from first (λ _. 1) cells keys (start + r) (marks number near (start + r)) (marks number far (start + r))) xs
 counted number cells keys size start Oldest near far xs has = has
 counted number cells keys size start Newest near far xs has = has
-
-size-of : {N : Type 0} (first : First) (near far : List N) (n : ℕ) → length near ≡ n → length far ≡ n → length (by_first first near far) ≡ n
-size-of Oldest near far n one other = one
-size-of Newest near far n one other = other
 
 pub returns : goal.returns
 returns g c =
@@ -27,19 +23,13 @@ returns g c =
     let parts =
     counted number (cells_in number offer) offer.grid.size.keys (length (take size (drop owner old))) owner turns.first
     turns.level.now.near.items turns.level.now.far.items (map number new)
-    (transport (λ i. HasEach (length (take size (drop owner old))) (λ r n. n ≡ count_between (cells_in number offer) offer.grid.size.keys (owner + r)
-    (marks number ((c.by_first-low.ensures ∙ (λ j. by_first turns.first (c.deref.ensures.value j) (c.deref-2.ensures.value j))) i) (owner + r))
-    (marks number ((c.by_first-high.ensures ∙ (λ j. by_first turns.first (c.deref-3.ensures.value j) (c.deref-4.ensures.value j))) i) (owner + r)))
-    (map number new)) c.count_some_between.ensures)
-    in
-    let here : (r : ℕ) → r < size → get_or (map number new) r 0 ≡ part_weight number (λ _. 1) turns (owner + r) =
-    λ r lt. parts.each r (omega (arith, lt, sized, c.count_some_between.auto.counts))
-    in
+    (rw (c.by_first-low.ensures, c.by_first-high.ensures, c.deref.ensures.value, c.deref-2.ensures.value, c.deref-3.ensures.value, c.deref-4.ensures.value)
+    at c.count_some_between.ensures) in
+    let here = λ (r : ℕ) (lt : r < size). parts.each r (omega (arith, lt, sized, c.count_some_between.auto.counts)) in
     record {
       each = λ r from upto.
           let inside : r - owner < size = omega (arith, from, upto) in
-          subst (λ j. get_or (map number (put_mid owner size old new)) j 0 ≡ part_weight number (λ _. 1) turns j)
-          {x = owner + (r - owner)} {y = r} (omega (arith, from))
-          (part-here number owner size old new within sized (r - owner) inside ∙ here (r - owner) inside);
+          let same : owner + (r - owner) ≡ r = omega (arith, from) in
+          rw same at (part-here number owner size old new within sized (r - owner) inside ∙ here (r - owner) inside);
       known = part-written number owner size old new within sized offer.grid.size.nodes _ c.requires.known (λ r lt. inr (here r lt));
     }

@@ -1,5 +1,4 @@
-use Rattle.delta_plans.proofs.Common.{HasReached}
-use Rattle.delta_plans.proofs.TurnSteps.{reached_after}
+use Rattle.delta_plans.proofs.Common.{HasReached, reached_after}
 use Rattle.delta_plans.proofs.sharing.Turns.pass_some.Given as goal
 
 abbrev pub invariant-loop-i : goal.invariant-loop-i

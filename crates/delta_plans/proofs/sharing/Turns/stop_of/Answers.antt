@@ -1,38 +1,24 @@
-use Rattle.delta_plans.proofs.Common.{◌≡◌, ◌+◌, ◌/◌, ap, ◌∙◌, sym, transport, arith, cells_in, marks, weights_in, IsStopBetween, weight_to}
+use Rattle.delta_plans.proofs.Common.{◌≡◌, ap, ◌∙◌, arith, marks}
 use Rattle.delta_plans.proofs.StopSteps.{stop-first, stop-halved}
 use Rattle.delta_plans.proofs.sharing.Turns.stop_of.Goals as goal
 
 pub loop-middle-init : goal.loop-middle-init
 loop-middle-init g c =
     let number = g.N.Number.number in
-    let turns = c.args.self.now in
-    let offer = turns.offer.now in
-    let owner = c.args.owner in
     let read_near : c.widen-fits.result ≡ number c.number_at.result = omega (arith, c.widen-fits.ensures, c.min_with.ensures, c.greatest-most.ensures) in
     let read_far : c.widen-beyond.result ≡ number c.number_at-2.result = omega (arith, c.widen-beyond.ensures, c.min_with-2.ensures, c.greatest-most.ensures) in
-    let near = read_near ∙ c.number_at.ensures ∙ ap (λ xs. marks number xs owner) c.deref.ensures.value in
-    let far = read_far ∙ c.number_at-2.ensures ∙ ap (λ xs. marks number xs owner) c.deref-2.ensures.value in
+    let near = read_near ∙ c.number_at.ensures ∙ ap (λ xs. marks number xs c.args.owner) c.deref.ensures.value in
+    let far = read_far ∙ c.number_at-2.ensures ∙ ap (λ xs. marks number xs c.args.owner) c.deref-2.ensures.value in
     record {
-      so_far = transport (λ i. IsStopBetween turns.first (weights_in offer owner) (cells_in number offer) offer.grid.size.keys owner
-          (marks number turns.level.now.near.items owner) (marks number turns.level.now.far.items owner) c.args.room (sym near i) (sym far i) c.args.room)
-          (stop-first (weights_in offer owner) (cells_in number offer) offer.grid.size.keys owner (marks number turns.level.now.near.items owner)
-          (marks number turns.level.now.far.items owner) c.args.room turns.first (c.requires.are.level.farther owner c.requires.in_nodes).2 c.requires.beyond);
+      so_far = rw (near, far) (stop-first (c.requires.are.level.farther c.args.owner c.requires.in_nodes).2 c.requires.beyond);
       fits = omega (arith, read_near, c.min_with.ensures.fits);
       beyond = omega (arith, read_far, c.min_with-2.ensures.fits);
     }
 
 pub loop-middle-preserved-then-weight-left : goal.loop-middle-preserved-then-weight-left
 loop-middle-preserved-then-weight-left g c =
-    let number = g.N.Number.number in
-    let turns = c.args.self.now in
-    let offer = turns.offer.now in
-    let owner = c.args.owner in
-    let middle = c.min.result + c.abs_diff-in-loop-middle.result / 2 in
-    let takes = c.weight_from-weight.ensures
-    ∙ (λ i. weight_to number (weights_in offer owner) turns owner (c.narrow.ensures i) (c.narrow-in-loop-middle.ensures i)) in
-    let halved = stop-halved (weights_in offer owner) (cells_in number offer) offer.grid.size.keys owner (marks number turns.level.now.near.items owner)
-    (marks number turns.level.now.far.items owner) c.args.room turns.first c.loop-middle.fits c.loop-middle.beyond c.loop-middle.left middle
-    c.weight_from-weight.result c.loop-middle.invariant.so_far (omega (arith, c.min.ensures))
+    let takes = rw (c.narrow.ensures, c.narrow-in-loop-middle.ensures) at c.weight_from-weight.ensures in
+    let halved = stop-halved c.loop-middle.invariant.so_far _ (omega (arith, c.min.ensures))
     (omega (arith, c.min.ensures, c.abs_diff-in-loop-middle.ensures)) takes in
     record {
       so_far = halved.0 c.if-weight-left.true;
@@ -42,36 +28,11 @@ loop-middle-preserved-then-weight-left g c =
 
 pub loop-middle-preserved : goal.loop-middle-preserved
 loop-middle-preserved g c =
-    let number = g.N.Number.number in
-    let turns = c.args.self.now in
-    let offer = turns.offer.now in
-    let owner = c.args.owner in
-    let middle = c.min.result + c.abs_diff-in-loop-middle.result / 2 in
-    let takes = c.weight_from-weight.ensures
-    ∙ (λ i. weight_to number (weights_in offer owner) turns owner (c.narrow.ensures i) (c.narrow-in-loop-middle.ensures i)) in
-    let halved = stop-halved (weights_in offer owner) (cells_in number offer) offer.grid.size.keys owner (marks number turns.level.now.near.items owner)
-    (marks number turns.level.now.far.items owner) c.args.room turns.first c.loop-middle.fits c.loop-middle.beyond c.loop-middle.left middle
-    c.weight_from-weight.result c.loop-middle.invariant.so_far (omega (arith, c.min.ensures))
+    let takes = rw (c.narrow.ensures, c.narrow-in-loop-middle.ensures) at c.weight_from-weight.ensures in
+    let halved = stop-halved c.loop-middle.invariant.so_far _ (omega (arith, c.min.ensures))
     (omega (arith, c.min.ensures, c.abs_diff-in-loop-middle.ensures)) takes in
     record {
       so_far = halved.1 c.if-weight-left.false;
       fits = c.loop-middle.invariant.fits;
       beyond = omega (arith, c.min.ensures, c.abs_diff-in-loop-middle.ensures, c.loop-middle.invariant.fits, c.loop-middle.invariant.beyond);
-    }
-
-pub loop-middle-smaller : goal.loop-middle-smaller
-loop-middle-smaller g c = omega (arith, c.min.ensures, c.abs_diff.ensures, c.abs_diff-in-loop-middle.ensures, c.loop-middle-test.true)
-
-pub returns : goal.returns
-returns g c =
-    let number = g.N.Number.number in
-    let turns = c.args.self.now in
-    let offer = turns.offer.now in
-    let owner = c.args.owner in
-    record {
-      beyond = c.loop-middle.beyond;
-      left = c.loop-middle.left;
-      so_far = rw c.narrow-2.ensures c.loop-middle.invariant.so_far;
-      below = omega (arith, c.narrow-2.ensures, c.abs_diff.ensures, c.loop-middle-test.false);
-      above = omega (arith, c.narrow-2.ensures, c.abs_diff.ensures, c.loop-middle-test.false);
     }

@@ -58,6 +58,6 @@ pub fn run_list_with<
         rules: work.rules,
         gate: work.gate,
     };
-    let done = posts.carry_out_once(rt, batch, tables, meanwhile)?;
+    let done = posts.carry_out_once(rt, (batch, tables, meanwhile))?;
     Ok((done.tables, done.records, done.made))
 }

@@ -242,8 +242,8 @@ impl<
             move |lent|
                 requires tables { MayShareOut T.table X.fits lent.0 lent.1.items }
                 requires meanwhile { F.pre lent.2 }
-                ensures { ComesTo result
-                    (IsBatchDone T.table lent.entry.0 lent.entry.1.items (F.post lent.entry.2)) }
+                ensures done { IfOk result (IsBatchDone T.table lent.entry.0 lent.entry.1.items (F.post lent.entry.2)) }
+                ensures only { IsOkUnless result OutOfMemory }
             {
                 let (batch, tables, meanwhile) = lent;
                 posts.carry_out(rt, batch, tables, meanwhile)

@@ -1,5 +1,6 @@
 use Rattle.workers.proofs.Common.{◌≡◌, ℕ, List, [], ◌∷◌, ◌++◌, map, All, sym, ap, ◌∙◌, subst, append_assoc, map-append, All-push, SeatView, BoardPlan, Freed, as_list, plan_of, seat_view, IsHoldOf, now_held}
 use Rattle.workers.specs.declared.gathering.Stamped.{Stamped}
+use Rattle.deques.specs.Pushes.{pushed}
 use Rattle.workers.specs.inner.Returns.{HasDone, IsRecordOf, AreRecordsOf}
 use Rattle.workers.proofs.workers.Workshop.try_one.Goals as goal
 
@@ -45,8 +46,10 @@ returns-clause-worked g c =
           (ap (λ (v : SeatView). v.made) c.in-Held.ensures.claim.1) c.in_ok-push.ensures.items c.requires.worker.records done;
       pushes = record {
         ready = first ++ second;
-        freed = both_behind _ _ _ first second (ap (λ (v : SeatView). v.freed ++ first) c.in-Held.ensures.claim.1)
+        freed = both_behind old.freed ((seat_view c.claim.new.seat).freed ++ first) (seat_view c.carry_out.new.seat).freed first second
+            (ap (λ (v : SeatView). v.freed ++ first) c.in-Held.ensures.claim.1)
             (ap (λ (v : SeatView). v.freed) done.put_back.seat);
-        pushed = both_behind _ _ _ first second c.in_ok-push_freed.ensures.pushed c.in_ok-push_freed-2.ensures.pushed;
+        pushed = both_behind (pushed c.args.worker.now.tasks) (pushed c.push_freed.new.self) (pushed c.push_freed-2.new.self) first second
+            c.in_ok-push_freed.ensures.pushed c.in_ok-push_freed-2.ensures.pushed;
       };
     }

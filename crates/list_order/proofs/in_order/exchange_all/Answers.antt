@@ -1,4 +1,4 @@
-use Rattle.list_order.proofs.Common.{◌≡◌, ◌+◌, ◌<◌, ◌++◌, ◌∷◌, [], length, map, take, get_or, false, sym, ap, subst, ◌∙◌, arith, take_all, length-map, Exchange, Folded, exchange_in, fold_of, table_of_node, HoldsOfEach, IsCluster, cluster_of, before_keeps_each}
+use Rattle.list_order.proofs.Common.{◌≡◌, length, map, take, false, sym, ap, subst, ◌∙◌, arith, take_all, length-map, Exchange, Folded, fold_of, table_of_node, HoldsOfEach, IsCluster, cluster_of, before_keeps_each}
 use Rattle.list_order.proofs.Turns.{IsTurned, turned_none, turned_more, still_tables}
 use Rattle.list_order.proofs.in_order.exchange_all.Goals as goal
 
@@ -8,17 +8,9 @@ behind = record { initiator = 0; responder = 0; lost1 = false; lost2 = false; lo
 
 pub loop-i-preserved : goal.loop-i-preserved
 loop-i-preserved g c =
-    let rules = c.args.work.rules.now in
-    let es = c.args.work.list.now.exchanges in
-    let i = c.loop-i.i in
-    let old = map g.T.MemoryTable.table c.args.tables.now in
-    let new = map g.T.MemoryTable.table c.loop-i.tables in
-    let new' = map g.T.MemoryTable.table c.exchange_pair.new.tables in
-    let r = c.in_ok-sent.sent in
-    let value = c.exchanges-plan-items.ensures.value in
-    subst (λ records. IsTurned rules es old new' records (i + 1)) (sym c.in_ok-push.ensures.items)
-    (turned_more rules es old new new' c.loop-i.records.items i behind r c.loop-i.invariant (subst (λ l. i < length l) value c.loop-i-test.true)
-    (λ before. subst (λ l. exchange_in rules (record { tables = new; records = before }) (get_or l i behind) ≡ record { tables = new'; records = before ++ r ∷ [] }) value (c.in_ok-sent.ensures.exchanged before)))
+    turned_more c.args.work.rules.now c.args.work.list.now.exchanges _ (map g.T.MemoryTable.table c.args.tables.now) (map g.T.MemoryTable.table c.loop-i.tables)
+    (map g.T.MemoryTable.table c.exchange_pair.new.tables) c.loop-i.records.items _ c.loop-i.i behind c.in_ok-sent.sent
+    c.exchanges-plan-items.ensures.value c.in_ok-push.ensures.items c.loop-i.invariant c.loop-i-test.true c.in_ok-sent.ensures.exchanged
 
 pub exchange_pair-requires-clause-tables : goal.exchange_pair-requires-clause-tables
 exchange_pair-requires-clause-tables g c =

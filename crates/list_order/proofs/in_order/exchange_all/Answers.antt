@@ -22,11 +22,15 @@ exchange_pair-requires-clause-tables g c =
     let laws = g.met.X.Exchanging g.world.𝓛 g.world.𝓜 g.world.𝓡 ((λ s x. x), (λ x. x), (λ x. x), λ x. x) in
     let may = c.requires.tables in
     let planned = c.exchanges-plan-items.ensures.kept.planned in
-    let still = still_tables c.args.work.rules.now nodes keys c.args.work.list.now.exchanges old (map g.T.MemoryTable.table new) c.loop-i.records.items planned may.cluster c.loop-i.i c.loop-i.invariant in
+    let still =
+    still_tables c.args.work.rules.now nodes keys c.args.work.list.now.exchanges old (map g.T.MemoryTable.table new) c.loop-i.records.items planned
+    may.cluster c.loop-i.i c.loop-i.invariant in
     λ _ _. record {
-      cluster = subst (λ n. IsCluster n (map g.T.MemoryTable.table new)) (sym still.size ∙ length-map new g.T.MemoryTable.table) (cluster_of nodes keys (map g.T.MemoryTable.table new) still);
+      cluster = subst (λ n. IsCluster n (map g.T.MemoryTable.table new)) (sym still.size ∙ length-map new g.T.MemoryTable.table)
+          (cluster_of nodes keys (map g.T.MemoryTable.table new) still);
       each_fits = subst (λ (s : Folded). HoldsOfEach fits s.tables) c.loop-i.invariant.folded
-          (before_keeps_each c.args.work.rules.now nodes keys c.args.work.list.now.exchanges old planned may.cluster fits (laws.stays_fit c.args.work.shared.now) may.each_fits c.loop-i.i);
+          (before_keeps_each c.args.work.rules.now nodes keys c.args.work.list.now.exchanges old planned may.cluster fits
+          (laws.stays_fit c.args.work.shared.now) may.each_fits c.loop-i.i);
       budget = may.budget;
     }
 

@@ -5,7 +5,7 @@ pub use Rattle.std.proofs.lemmas.List.{get_or-append-add, get_or_append_left, le
 pub use Rattle.std.proofs.lemmas.List.Sums.{fold_more}
 pub use Rattle.std.proofs.lemmas.Result.{IfOk-weaker}
 pub use Rattle.model.proofs.Common.{Exchange, IsPlanned, Record, Rules}
-pub use Rattle.model.proofs.FoldLaws.{before_keeps_each, before_keeps_own, before_tables}
+pub use Rattle.model.proofs.FoldLaws.{before_keeps_each, before_tables}
 pub use Rattle.model.proofs.Tables.{cluster_of}
 pub use Rattle.model.specs.Exchanged.{Exchanged, exchanged}
 pub use Rattle.model.specs.Folds.{Folded, exchange_in, fold_of}
@@ -13,4 +13,3 @@ pub use Rattle.model.specs.Table.{Table, empty_table}
 pub use Rattle.model.specs.Tables.{AreTablesInOrder, HoldsOfEach, IsTableOf, table_of_node}
 pub use Rattle.model.specs.calls.Exchanging.{MayBeExchanged}
 pub use Rattle.model.specs.calls.Tables.{IsCluster}
-pub use Rattle.model.specs.inner.Owns.{KeepOwnParts}

@@ -3,10 +3,8 @@
 
 mod gates;
 mod in_order;
-mod lent;
 mod works;
 
 pub use gates::{FreeGate, Gate};
 pub use in_order::exchange_all;
-pub use lent::Lent;
 pub use works::{Batch, Done, Work};

@@ -1,3 +1,4 @@
+pub mod Outcomes
 pub mod Stamps
 pub mod Gathering
 pub mod Joined
@@ -6,4 +7,5 @@ pub mod Returns
 pub mod AtWork
 pub mod Workshops
 pub mod Shifts
+pub mod Handed
 pub mod Works

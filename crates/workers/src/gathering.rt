@@ -1,7 +1,7 @@
 //! The records of all workers, each at the place of its exchange.
 
-ghost use Rattle.std.specs.Prelude.{◌≡◌, ◌<◌, All, length, IfOk, IsOkUnless};
-ghost use Rattle.bench_types.specs.declared.faults.Fault.TheVariants.{OutOfMemory};
+ghost use Rattle.std.specs.Prelude.{◌≡◌, ◌<◌, All, length};
+ghost use Rattle.workers.specs.inner.Outcomes.{ComesTo};
 ghost use Rattle.workers.specs.inner.Stamps.{with_records};
 
 use bench_types::{Fate, Fault, Record};
@@ -36,8 +36,7 @@ const NO_RECORD: Record = Record {
 
 /// Places for the records of a list of n exchanges. An error is lack of memory.
 pub(crate) fn places(alloc: Global, n: u32) -> Result<Vec<Record>, Fault>
-    ensures size { IfOk result (λ records. length records.items ≡ n) }
-    ensures only { IsOkUnless result OutOfMemory }
+    ensures { ComesTo result (λ records. length records.items ≡ n) }
 {
     Ok(vec![in alloc; NO_RECORD; n as usize]?)
 }

@@ -15,6 +15,7 @@
 #![tactic(auto)]
 
 mod gathering;
+mod lent;
 mod posts;
 mod runs;
 mod shifts;

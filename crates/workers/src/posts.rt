@@ -1,17 +1,18 @@
 //! Threads of workers that carry out one list after another.
 
-ghost use Rattle.std.specs.Prelude.{◌≡◌, ◌<◌, map, vec_len, IfOk, IfErr, IsOkUnless};
+ghost use Rattle.std.specs.Prelude.{◌≡◌, ◌<◌, map, vec_len, IfOk, IfErr, IsOkUnless, MatchResult};
 ghost use Rattle.std.specs.Arc.{arc_value};
 ghost use Rattle.bench_types.specs.declared.faults.Fault.TheVariants.{NoThread, OutOfMemory};
 ghost use Rattle.model.specs.Runs.{AreWorkers, IsFaultOfWorkers};
 ghost use Rattle.list_order.specs.Carrying.{MayCarryOut, IsBatchDone};
-ghost use Rattle.crew.specs.Named.{post_count, tray_count};
-ghost use Rattle.workers.specs.inner.Joined.{HasClosed};
-ghost use Rattle.workers.specs.inner.Shifts.{IsShift};
-ghost use Rattle.workers.specs.inner.Starts.{MayStart};
+ghost use Rattle.crew.specs.Named.{post_count};
+ghost use Rattle.workers.specs.inner.Handed.{MayHandOut};
+ghost use Rattle.workers.specs.inner.Joined.{HasSharedOut};
+ghost use Rattle.workers.specs.inner.Outcomes.{ComesTo};
+ghost use Rattle.workers.specs.inner.Works.{MayShareOut};
 
-use crate::shifts::{Start, close, hand_out, open};
-use crate::tasks::{Shift, Task};
+use crate::shifts::{Opened, close, hand_out, open};
+use crate::tasks::Task;
 use bench_types::Fault;
 use crew::{Crew, Job, Yard};
 use list_order::{Batch, Done, Gate, Work, exchange_all};
@@ -19,7 +20,7 @@ use model::{Exchanging, MemoryTable};
 use std::alloc::Global;
 use std::marker::Model;
 use std::num::NonZeroUsize;
-use std::sync::{Arc, Wait};
+use std::sync::Wait;
 use std::thread;
 use std::thread::{Scope, Threads, available_parallelism};
 
@@ -77,17 +78,15 @@ impl<T: MemoryTable, X: Exchanging<T> + Drop, G: Gate + Drop, J: Job> Posts<T, X
 
     /// Posts for so many workers, each of which has a thread of its own.
     pub(crate) fn apart(alloc: Global, workers: u32) -> Result<Posts<T, X, G, J>, Fault>
-        requires workers { AreWorkers workers }
-        ensures workers { IfOk result (λ posts. posts ≡ workers) }
-        ensures only { IsOkUnless result OutOfMemory }
+        requires { AreWorkers workers }
+        ensures { ComesTo result (λ posts. posts ≡ workers) }
     {
         Posts::with(alloc, workers, workers)
     }
 
     fn with(alloc: Global, workers: u32, threads: u32) -> Result<Posts<T, X, G, J>, Fault>
-        requires workers { AreWorkers workers }
-        ensures workers { IfOk result (λ posts. posts ≡ workers) }
-        ensures only { IsOkUnless result OutOfMemory }
+        requires { AreWorkers workers }
+        ensures { ComesTo result (λ posts. posts ≡ workers) }
     {
         let yard = Yard::new(alloc, threads as usize)?;
         Ok(Posts {
@@ -128,28 +127,23 @@ impl<T: MemoryTable, X: Exchanging<T> + Drop, G: Gate + Drop, J: Job> Posts<T, X
         if self.workers == 1 {
             return self.carry_out_alone(batch, tables, meanwhile);
         }
-        let (shift, start) = open(self.alloc, self.workers, batch, tables)?;
-        self.share_out(rt, shift, start, meanwhile)
+        let opened = open(self.alloc, self.workers, batch, tables)?;
+        self.share_out(rt, opened, meanwhile)
     }
 
     // The list by all workers, which are at their posts.
     fn share_out<R: Wait, F: FnOnce() -> M + Drop, M: Drop>(
         &self,
         rt: &R,
-        shift: Arc<Shift<T, X, G>>,
-        start: Start<T>,
+        opened: Opened<T, X, G>,
         meanwhile: F,
     ) -> Result<Done<T, X, M>, Fault>
-        requires shift { IsShift T.table X.fits (arc_value shift) }
-        requires start { MayStart T.table (arc_value shift).shop.board start }
-        requires one_each { vec_len start.tasks ≡ self.now }
-        requires trays { tray_count (arc_value shift).trays ≡ self.now }
+        requires start { MayHandOut T.table X.fits (arc_value opened.shift) opened.start }
+        requires one_each { vec_len opened.start.tasks ≡ self.now }
         requires meanwhile { F.pre meanwhile }
-        ensures closed { IfOk result (λ done.
-            HasClosed T.table (arc_value shift) done.tables.items done.records.items done.shared) }
-        ensures made { IfOk result (λ done. F.post meanwhile done.made) }
-        ensures only { IsOkUnless result OutOfMemory }
+        ensures { ComesTo result (HasSharedOut T.table (arc_value opened.shift) (F.post meanwhile)) }
     {
+        let Opened { shift, start } = opened;
         let (gathered, tasks) = hand_out(self.alloc, &shift, start)?;
         let own = self.give_all(rt, tasks);
         let made = meanwhile();
@@ -173,31 +167,23 @@ impl<T: MemoryTable, X: Exchanging<T> + Drop, G: Gate + Drop, J: Job> Posts<T, X
         mut tables: Vec<T>,
         meanwhile: F,
     ) -> Result<Done<T, X, M>, Fault>
-        requires tables { MayCarryOut (X.fits batch.shared) batch.rules.now batch.list.now.nodes
-            (map T.table tables.items) }
+        requires tables { MayShareOut T.table X.fits batch tables.items }
         requires meanwhile { F.pre meanwhile }
-        ensures done { IfOk result (IsBatchDone T.table batch.entry tables.items (F.post meanwhile)) }
-        ensures only { IsOkUnless result OutOfMemory }
+        ensures { ComesTo result (IsBatchDone T.table batch.entry tables.items (F.post meanwhile)) }
     {
         let made = meanwhile();
-        let Batch {
-            shared,
-            list,
-            rules,
-            gate,
-        } = batch;
         let work = Work {
-            shared: &shared,
-            list,
-            rules,
-            gate: &gate,
+            shared: &batch.shared,
+            list: batch.list,
+            rules: batch.rules,
+            gate: &batch.gate,
             workers: 1,
         };
         let records = exchange_all(self.alloc, work, &mut tables)?;
         Ok(Done {
             tables,
             records,
-            shared,
+            shared: batch.shared,
             made,
         })
     }
@@ -237,27 +223,24 @@ impl<
     G: Gate + Send + Sync + Drop,
     J: Job + Send,
 > Posts<T, X, G, J> {
-    /// Starts the threads, if there are several workers, has one list carried out and sends them home.
+    /// Starts the threads, if there are several workers, lends them one list with its tables and what is called
+    /// meanwhile, and sends them home.
     pub(crate) fn carry_out_once<R: Threads + Wait + Sync, F: FnOnce() -> M + Drop, M: Drop>(
         self,
         rt: &R,
-        batch: Batch<X, G>,
-        tables: Vec<T>,
-        meanwhile: F,
+        lent: (Batch<X, G>, Vec<T>, F),
     ) -> Result<Done<T, X, M>, Fault>
-        requires tables { MayCarryOut (X.fits batch.shared) batch.rules.now batch.list.now.nodes
-            (map T.table tables.items) }
-        requires meanwhile { F.pre meanwhile }
-        ensures done { IfOk result (IsBatchDone T.table batch.entry tables.items (F.post meanwhile)) }
-        ensures fault { IfErr result (IsFaultOfWorkers self) }
+        requires tables { MayShareOut T.table X.fits lent.0 lent.1.items }
+        requires meanwhile { F.pre lent.2 }
+        ensures { MatchResult result
+            (IsBatchDone T.table lent.entry.0 lent.entry.1.items (F.post lent.entry.2)) (IsFaultOfWorkers self) }
     {
         let posts = &self;
         let answer = posts.with_threads(
             rt,
-            (batch, tables, meanwhile),
+            lent,
             move |lent|
-                requires tables { MayCarryOut (X.fits lent.0.shared) lent.0.rules.now lent.0.list.now.nodes
-                    (map T.table lent.1.items) }
+                requires tables { MayShareOut T.table X.fits lent.0 lent.1.items }
                 requires meanwhile { F.pre lent.2 }
                 ensures done { IfOk result (IsBatchDone T.table lent.entry.0 lent.entry.1.items (F.post lent.entry.2)) }
                 ensures only { IsOkUnless result OutOfMemory }

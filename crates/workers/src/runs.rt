@@ -4,10 +4,11 @@ ghost use Rattle.std.specs.Prelude.{map, IfOk, IfErr};
 ghost use Rattle.model.specs.Runs.{AreWorkers, IsFaultOfWorkers};
 ghost use Rattle.list_order.specs.Carrying.{MayCarryOut, AreExchanged};
 
+use crate::lent::Lent;
 use crate::posts::Posts;
 use bench_types::{Fault, Record};
 use crew::NoJob;
-use list_order::{Batch, Gate, Lent, Work};
+use list_order::{Batch, Gate, Work};
 use model::{Exchanging, MemoryTable};
 use std::alloc::Global;
 use std::sync::Wait;
@@ -57,6 +58,6 @@ pub fn run_list_with<
         rules: work.rules,
         gate: work.gate,
     };
-    let done = posts.carry_out_once(rt, batch, tables, meanwhile)?;
+    let done = posts.carry_out_once(rt, (batch, tables, meanwhile))?;
     Ok((done.tables, done.records, done.made))
 }

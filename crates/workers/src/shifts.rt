@@ -1,19 +1,17 @@
 //! What several workers begin a list with, and what they come to.
 
-ghost use Rattle.std.specs.Prelude.{◌≡◌, ◌+◌, ◌<◌, ◌≤◌, length, map, IfOk, IsOkUnless, OnOk, MatchResult, vec_len};
+ghost use Rattle.std.specs.Prelude.{◌≡◌, ◌≤◌, map, IfOk, vec_len};
 ghost use Rattle.std.specs.Arc.{arc_value};
-ghost use Rattle.bench_types.specs.declared.faults.Fault.TheVariants.{OutOfMemory};
 ghost use Rattle.model.specs.calls.Tables.{IsCluster};
-ghost use Rattle.dependencies.specs.Neighbours.{first_ready_of};
 ghost use Rattle.list_order.specs.Carrying.{MayCarryOut};
-ghost use Rattle.deques.specs.Pushes.{AreDealt, pushed};
-ghost use Rattle.board.specs.Boards.{plan_of, seat_view, IsMadeOf};
-ghost use Rattle.board.specs.SeatView.{first_seat};
-ghost use Rattle.crew.specs.Named.{label_of, tray_count};
+ghost use Rattle.board.specs.Boards.{plan_of};
+ghost use Rattle.crew.specs.Named.{tray_count};
 ghost use Rattle.workers.specs.inner.Gathering.{HasGathered};
-ghost use Rattle.workers.specs.inner.Returns.{IsFreshSeat, IsReturned};
-ghost use Rattle.workers.specs.inner.Shifts.{IsShift};
-ghost use Rattle.workers.specs.inner.Starts.{HasBegun, HasHandedOut, HasOpened, IsShared, MayStart};
+ghost use Rattle.workers.specs.inner.Handed.{HasHandedOut, MayHandOut};
+ghost use Rattle.workers.specs.inner.Outcomes.{ComesTo};
+ghost use Rattle.workers.specs.inner.Returns.{IsReturned};
+ghost use Rattle.workers.specs.inner.Shifts.{HasGivenPart, IsShift, MayGivePart};
+ghost use Rattle.workers.specs.inner.Starts.{AreTraysOf, HasBegun, HasDealt, HasOpened, IsSeated, IsShared};
 ghost use Rattle.workers.specs.inner.Works.{AreSeveral, MayShareOut};
 ghost use Rattle.workers.specs.inner.Joined.{HasClosed, HasTakenIn, HasTakenOneIn, HasSeenAll, IsEndOf};
 
@@ -39,21 +37,27 @@ pub(crate) struct Start<T> {
 }
 
 /// What the workers of a list share, and what they begin with.
+#[derive(Drop)]
+pub(crate) struct Opened<T: MemoryTable, X: Exchanging<T>, G> {
+    pub shift: Arc<Shift<T, X, G>>,
+    pub start: Start<T>,
+}
+
+/// A board of the batch, which several workers share.
 pub(crate) fn open<T: MemoryTable, X: Exchanging<T> + Drop, G: Gate + Drop>(
     alloc: Global,
     workers: u32,
     batch: Batch<X, G>,
     tables: Vec<T>,
-) -> Result<(Arc<Shift<T, X, G>>, Start<T>), Fault>
+) -> Result<Opened<T, X, G>, Fault>
     requires several { AreSeveral workers }
     requires batch { MayShareOut T.table X.fits batch tables.items }
-    ensures opened { IfOk result
-        (λ p. HasOpened T.table X.fits batch.entry workers tables.items (arc_value p.0) p.1) }
-    ensures only { IsOkUnless result OutOfMemory }
+    ensures { ComesTo result (λ opened.
+        HasOpened T.table X.fits batch.entry workers tables.items (arc_value opened.shift) opened.start) }
 {
     let (board, start) = begin(alloc, workers, &batch, tables)?;
     let shift = share(alloc, workers, batch, board)?;
-    Ok((shift, start))
+    Ok(Opened { shift, start })
 }
 
 // What the workers share, over a board of the batch's tables.
@@ -66,9 +70,7 @@ fn share<T: MemoryTable, X: Exchanging<T> + Drop, G: Gate + Drop>(
     requires rules { (plan_of T.table board).rules ≡ batch.rules.now }
     requires tables { MayCarryOut (X.fits batch.shared) batch.rules.now (plan_of T.table board).list.nodes
         (plan_of T.table board).tables }
-    ensures shared { IfOk result (λ shift.
-        IsShared T.table X.fits batch.entry board workers (arc_value shift)) }
-    ensures only { IsOkUnless result OutOfMemory }
+    ensures { ComesTo result (λ shift. IsShared T.table X.fits batch.entry board workers (arc_value shift)) }
 {
     let trays = trays_of(alloc, workers, &board)?;
     let Batch {
@@ -96,9 +98,7 @@ fn trays_of<T: MemoryTable>(
     workers: u32,
     board: &Board<T>,
 ) -> Result<Trays<Returned<T>, Back<T>>, Fault>
-    ensures count { IfOk result (λ trays. tray_count trays ≡ workers) }
-    ensures label { IfOk result (λ trays. (label_of trays).0.value ≡ board.now) }
-    ensures only { IsOkUnless result OutOfMemory }
+    ensures { ComesTo result (AreTraysOf board.now workers) }
 {
     let back = Back(Snapshot::of(board));
     Ok(Trays::new(alloc, workers as usize, &back)?)
@@ -113,8 +113,7 @@ fn begin<T: MemoryTable, X, G>(
 ) -> Result<(Board<T>, Start<T>), Fault>
     requires several { AreSeveral workers }
     requires cluster { IsCluster batch.now.list.now.nodes (map T.table tables.items) }
-    ensures begun { IfOk result (λ begun. HasBegun T.table batch.now workers tables.items begun.0 begun.1) }
-    ensures only { IsOkUnless result OutOfMemory }
+    ensures { ComesTo result (λ begun. HasBegun T.table batch.now workers tables.items begun.0 begun.1) }
 {
     let (deps, tasks) = deal(alloc, workers, batch.list)?;
     let (board, gathered) = seated(alloc, deps, *batch.rules, tables)?;
@@ -124,11 +123,7 @@ fn begin<T: MemoryTable, X, G>(
 // What each exchange of a list waits for, and a deque for each worker, to which what is ready is dealt.
 fn deal(alloc: Global, workers: u32, list: &RoundList) -> Result<(Deps, Vec<Tasks>), Fault>
     requires some { 1 ≤ workers }
-    ensures deps { IfOk result (λ p. p.0 ≡ list.now) }
-    ensures one_each { IfOk result (λ p. vec_len p.1 ≡ workers) }
-    ensures dealt { IfOk result (λ p. AreDealt (first_ready_of list.now.exchanges) (map pushed p.1.items)
-        (length (first_ready_of list.now.exchanges))) }
-    ensures only { IsOkUnless result OutOfMemory }
+    ensures { ComesTo result (λ dealt. HasDealt list.now workers dealt.0 dealt.1) }
 {
     let deps = Deps::new(alloc, list)?;
     let tasks = Tasks::deal(alloc, workers, deps.first_ready())?;
@@ -143,10 +138,7 @@ fn seated<T: MemoryTable>(
     tables: Vec<T>,
 ) -> Result<(Board<T>, Gathered<T>), Fault>
     requires cluster { IsCluster deps.nodes (map T.table tables.items) }
-    ensures made { IfOk result (λ p. IsMadeOf T.table rules deps tables.items p.0) }
-    ensures gathered { IfOk result (λ p. HasGathered T.table p.0 p.1) }
-    ensures first { IfOk result (λ p. seat_view p.1.seat ≡ first_seat) }
-    ensures only { IsOkUnless result OutOfMemory }
+    ensures { ComesTo result (λ seated. IsSeated T.table rules deps tables.items seated.0 seated.1) }
 {
     let records = places(alloc, deps.len())?;
     let (board, seat) = Board::new(alloc, deps, rules, tables)?;
@@ -159,13 +151,10 @@ pub(crate) fn hand_out<T: MemoryTable, X: Exchanging<T> + Drop, G: Gate + Drop>(
     shift: &Arc<Shift<T, X, G>>,
     start: Start<T>,
 ) -> Result<(Gathered<T>, Vec<Task<T, X, G>>), Fault>
-    requires shift { IsShift T.table X.fits (arc_value shift.now) }
-    requires start { MayStart T.table (arc_value shift.now).shop.board start }
-    requires trays { vec_len start.tasks ≤ tray_count (arc_value shift.now).trays }
-    ensures handed { IfOk result
-        (λ p. HasHandedOut T.table (arc_value shift.now).shop.board (vec_len start.tasks) p.0) }
+    requires start { MayHandOut T.table X.fits (arc_value shift.now) start }
+    ensures handed { ComesTo result
+        (λ p. HasHandedOut T.table X.fits (arc_value shift.now) (vec_len start.tasks) p.0) }
     ensures one_each { IfOk result (λ p. vec_len p.1 ≡ vec_len start.tasks) }
-    ensures only { IsOkUnless result OutOfMemory }
 {
     let Start {
         gathered: Gathered { mut seat, records },
@@ -187,13 +176,8 @@ fn task_of<T: MemoryTable, X: Exchanging<T> + Drop, G: Gate + Drop>(
     own: Tasks,
     place: usize,
 ) -> Result<Task<T, X, G>, Fault>
-    requires shift { IsShift T.table X.fits (arc_value shift.now) }
-    requires seat { IsFreshSeat T.table (arc_value shift.now).shop.board seat.old }
-    requires parts { 2 ≤ (seat_view seat.old).parts }
-    requires within { place < tray_count (arc_value shift.now).trays }
-    ensures seat { OnOk result (IsFreshSeat T.table (arc_value shift.now).shop.board seat.new) }
-    ensures parts { OnOk result ((seat_view seat.new).parts + 1 ≡ (seat_view seat.old).parts) }
-    ensures only { IsOkUnless result OutOfMemory }
+    requires { MayGivePart T.table X.fits (arc_value shift.now) seat.old place }
+    ensures { ComesTo result (λ _. HasGivenPart T.table (arc_value shift.now).shop.board seat.old seat.new) }
 {
     let share = Arc::try_clone(shift)?;
     let part = shift.shop.board.split(seat);
@@ -207,12 +191,8 @@ pub(crate) fn close<T: MemoryTable, X: Exchanging<T> + Drop, G: Gate + Drop, R: 
     gathered: Gathered<T>,
     workers: usize,
 ) -> Result<(Vec<T>, Vec<Record>, X), Fault>
-    requires shift { IsShift T.table X.fits (arc_value shift) }
-    requires handed { HasHandedOut T.table (arc_value shift).shop.board workers gathered }
-    requires some { 0 < workers }
-    requires trays { workers ≤ tray_count (arc_value shift).trays }
-    ensures closed { IfOk result (λ p. HasClosed T.table (arc_value shift) p.0.items p.1.items p.2) }
-    ensures only { IsOkUnless result OutOfMemory }
+    requires { HasHandedOut T.table X.fits (arc_value shift) workers gathered }
+    ensures { ComesTo result (λ p. HasClosed T.table (arc_value shift) p.0.items p.1.items p.2) }
 {
     let mut gathered = take_all(rt, &shift, gathered, workers)?;
     // A whole seat, so it learns that all exchanges are put back.
@@ -233,8 +213,7 @@ fn take_all<T: MemoryTable, X: Exchanging<T>, G, R: Wait>(
     requires shift { IsShift T.table X.fits shift.now }
     requires gathered { HasGathered T.table shift.now.shop.board gathered }
     requires within { workers ≤ tray_count shift.now.trays }
-    ensures { MatchResult result
-        (HasTakenIn T.table shift.now.shop.board workers gathered) (λ f. f ≡ OutOfMemory) }
+    ensures { ComesTo result (HasTakenIn T.table shift.now.shop.board workers gathered) }
 {
     let mut all = Ok(gathered);
     for i in 0..workers {
@@ -250,9 +229,9 @@ fn with_more<T: MemoryTable>(
     all: Result<Gathered<T>, Fault>,
     returned: Returned<T>,
 ) -> Result<Gathered<T>, Fault>
-    requires all { MatchResult all (HasGathered T.table board.now) (λ f. f ≡ OutOfMemory) }
+    requires all { ComesTo all (HasGathered T.table board.now) }
     requires returned { IsReturned T.table board.now 1 returned }
-    ensures { MatchResult result (HasTakenOneIn T.table board.now all) (λ f. f ≡ OutOfMemory) }
+    ensures { ComesTo result (HasTakenOneIn T.table board.now all) }
 {
     let mut gathered = all?;
     let Returned { seat, outcome } = returned;

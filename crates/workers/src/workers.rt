@@ -1,8 +1,8 @@
 //! What the workers of a list share, and the body of one of them.
 
-ghost use Rattle.std.specs.Prelude.{◌≡◌, ◌<◌, length, MatchResult, OnOk, IsOkUnless};
+ghost use Rattle.std.specs.Prelude.{◌≡◌, ◌<◌, length, MatchResult};
 ghost use Rattle.bench_types.specs.declared.faults.Fault.TheVariants.{OutOfMemory};
-ghost use Rattle.board.specs.Boards.{exchanges_of, plan_of, seat_view, IsSeatOf};
+ghost use Rattle.board.specs.Boards.{exchanges_of, seat_view, IsSeatOf};
 
 use crate::gathering::Stamped;
 use bench_types::{Fault, Rules};
@@ -42,8 +42,9 @@ pub(crate) struct Returned<T> {
 
 impl<T: MemoryTable, X: Exchanging<T>, G: Gate> Workshop<T, X, G> {
     ghost use Rattle.workers.specs.inner.Workshops.{IsWorkshop};
-    ghost use Rattle.workers.specs.inner.AtWork.{HasWorked, IsWorker, StaysAtWork};
-    ghost use Rattle.workers.specs.inner.Returns.{HasCarriedOut, IsFreshSeat, IsHeldOf, IsReturned, SeesTheEnd};
+    ghost use Rattle.workers.specs.inner.AtWork.{HasWorked, HasWorkedToTheEnd, IsWorker, StaysAtWork};
+    ghost use Rattle.workers.specs.inner.Outcomes.{ComesTo};
+    ghost use Rattle.workers.specs.inner.Returns.{HasCarriedOut, IsFreshSeat, IsHeldOf, IsReturned};
 
     /// Carries out exchanges of the list until it sees that all are finished or that a stop was called. On
     /// lack of memory it calls for a stop.
@@ -76,9 +77,7 @@ impl<T: MemoryTable, X: Exchanging<T>, G: Gate> Workshop<T, X, G> {
         requires shop { IsWorkshop T.table X.fits self.now }
         requires worker { IsWorker T.table self.now.board worker.old }
         ensures stays { StaysAtWork T.table self.now.board worker.old worker.new }
-        ensures worked { OnOk result (HasWorked T.table self.now.board worker.old worker.new) }
-        ensures ends { OnOk result (SeesTheEnd (plan_of T.table self.now.board) (seat_view worker.new.seat)) }
-        ensures only { IsOkUnless result OutOfMemory }
+        ensures worked { ComesTo result (λ _. HasWorkedToTheEnd T.table self.now.board worker.old worker.new) }
     {
         let count = self.board.len();
         let backoff = Backoff::new();
@@ -105,8 +104,7 @@ impl<T: MemoryTable, X: Exchanging<T>, G: Gate> Workshop<T, X, G> {
         requires within { i < length (exchanges_of self.now.board) }
         requires worker { IsWorker T.table self.now.board worker.old }
         ensures stays { StaysAtWork T.table self.now.board worker.old worker.new }
-        ensures worked { OnOk result (HasWorked T.table self.now.board worker.old worker.new) }
-        ensures only { IsOkUnless result OutOfMemory }
+        ensures worked { ComesTo result (λ _. HasWorked T.table self.now.board worker.old worker.new) }
     {
         let Claim::Held(hold) = self.board.claim(&mut worker.seat, i) else {
             return Ok(());

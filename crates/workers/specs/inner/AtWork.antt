@@ -2,10 +2,10 @@
 use Rattle.std.specs.Prelude.{◌≡◌, ℕ, List, ◌++◌}
 use Rattle.model.specs.Table.{Table}
 use Rattle.board.specs.SeatView.{SeatView}
-use Rattle.board.specs.Boards.{seat_view, IsSeatOf}
+use Rattle.board.specs.Boards.{plan_of, seat_view, IsSeatOf}
 use Rattle.board.specs.declared.boards.Board.{Board}
 use Rattle.deques.specs.Pushes.{pushed}
-use Rattle.workers.specs.inner.Returns.{HasRecords}
+use Rattle.workers.specs.inner.Returns.{HasRecords, SeesTheEnd}
 use Rattle.workers.specs.declared.workers.Worker.{Worker}
 
 -- its seat is one of the board, and it has the records of what that has put back
@@ -29,3 +29,8 @@ pub record PushesFreed (old : SeatView) (pushes : List ℕ) (new : SeatView) (pu
 pub record HasWorked {T : Type 0} (table : T → Table) (board : Board T) (old new : Worker T) : Type 0 where
   pub records : HasRecords table board new.seat new.stamps.items
   pub pushes : PushesFreed (seat_view old.seat) (pushed old.tasks) (seat_view new.seat) (pushed new.tasks)
+
+-- and has seen that all is finished, or that a stop was called
+pub record HasWorkedToTheEnd {T : Type 0} (table : T → Table) (board : Board T) (old new : Worker T) : Type 0 where
+  pub worked : HasWorked table board old new
+  pub ends : SeesTheEnd (plan_of table board) (seat_view new.seat)

@@ -8,6 +8,7 @@ use Rattle.board.specs.SeatView.{IsWhole}
 use Rattle.board.specs.Plan.{BoardPlan}
 use Rattle.board.specs.Boards.{exchanges_of, plan_of, seat_view}
 use Rattle.board.specs.declared.boards.Board.{Board}
+use Rattle.list_order.specs.declared.works.Done.{Done}
 use Rattle.workers.specs.inner.Gathering.{HasGathered}
 use Rattle.workers.specs.declared.gathering.Gathered.{Gathered}
 use Rattle.workers.specs.declared.tasks.Shift.{Shift}
@@ -39,3 +40,8 @@ IsEndOf table plan new records = fold_of plan.rules plan.tables plan.list.exchan
 pub record HasClosed {T X G : Type 0} (table : T → Table) (shift : Shift T X G) (new : List T) (records : List Record) (left : X) : Type 0 where
   pub ended : IsEndOf table (plan_of table shift.shop.board) new records
   pub shared : left ≡ shift.shop.shared
+
+-- and what the call meanwhile gave
+pub record HasSharedOut {T X G M : Type 0} (table : T → Table) (shift : Shift T X G) (gives : M → Type 0) (done : Done T X M) : Type 0 where
+  pub closed : HasClosed table shift done.tables.items done.records.items done.shared
+  pub made : gives done.made

@@ -1,4 +1,4 @@
-use Rattle.list_order.proofs.Common.{◌≡◌, ◌+◌, ◌<◌, ◌++◌, ◌∷◌, [], length, map, take, get_or, false, sym, ap, subst, ◌∙◌, arith, take_all, length-map, Exchange, Folded, exchange_in, fold_of, table_of_node, HoldsOfEach, IsCluster, cluster_of, before_keeps_each}
+use Rattle.list_order.proofs.Common.{◌≡◌, length, map, take, false, sym, ap, subst, ◌∙◌, arith, take_all, length-map, Exchange, Folded, fold_of, table_of_node, HoldsOfEach, IsCluster, cluster_of, before_keeps_each}
 use Rattle.list_order.proofs.Turns.{IsTurned, turned_none, turned_more, still_tables}
 use Rattle.list_order.proofs.in_order.exchange_all.Goals as goal
 
@@ -8,17 +8,9 @@ behind = record { initiator = 0; responder = 0; lost1 = false; lost2 = false; lo
 
 pub loop-i-preserved : goal.loop-i-preserved
 loop-i-preserved g c =
-    let rules = c.args.work.rules.now in
-    let es = c.args.work.list.now.exchanges in
-    let i = c.loop-i.i in
-    let old = map g.T.MemoryTable.table c.args.tables.now in
-    let new = map g.T.MemoryTable.table c.loop-i.tables in
-    let new' = map g.T.MemoryTable.table c.exchange_pair.new.tables in
-    let r = c.in_ok-sent.sent in
-    let value = c.exchanges-plan-items.ensures.value in
-    subst (λ records. IsTurned rules es old new' records (i + 1)) (sym c.in_ok-push.ensures.items)
-    (turned_more rules es old new new' c.loop-i.records.items i behind r c.loop-i.invariant (subst (λ l. i < length l) value c.loop-i-test.true)
-    (λ before. subst (λ l. exchange_in rules (record { tables = new; records = before }) (get_or l i behind) ≡ record { tables = new'; records = before ++ r ∷ [] }) value (c.in_ok-sent.ensures.exchanged before)))
+    turned_more c.args.work.rules.now c.args.work.list.now.exchanges _ (map g.T.MemoryTable.table c.args.tables.now) (map g.T.MemoryTable.table c.loop-i.tables)
+    (map g.T.MemoryTable.table c.exchange_pair.new.tables) c.loop-i.records.items _ c.loop-i.i behind c.in_ok-sent.sent
+    c.exchanges-plan-items.ensures.value c.in_ok-push.ensures.items c.loop-i.invariant c.loop-i-test.true c.in_ok-sent.ensures.exchanged
 
 pub exchange_pair-requires-clause-tables : goal.exchange_pair-requires-clause-tables
 exchange_pair-requires-clause-tables g c =
@@ -30,11 +22,15 @@ exchange_pair-requires-clause-tables g c =
     let laws = g.met.X.Exchanging g.world.𝓛 g.world.𝓜 g.world.𝓡 ((λ s x. x), (λ x. x), (λ x. x), λ x. x) in
     let may = c.requires.tables in
     let planned = c.exchanges-plan-items.ensures.kept.planned in
-    let still = still_tables c.args.work.rules.now nodes keys c.args.work.list.now.exchanges old (map g.T.MemoryTable.table new) c.loop-i.records.items planned may.cluster c.loop-i.i c.loop-i.invariant in
+    let still =
+    still_tables c.args.work.rules.now nodes keys c.args.work.list.now.exchanges old (map g.T.MemoryTable.table new) c.loop-i.records.items planned
+    may.cluster c.loop-i.i c.loop-i.invariant in
     λ _ _. record {
-      cluster = subst (λ n. IsCluster n (map g.T.MemoryTable.table new)) (sym still.size ∙ length-map new g.T.MemoryTable.table) (cluster_of nodes keys (map g.T.MemoryTable.table new) still);
+      cluster = subst (λ n. IsCluster n (map g.T.MemoryTable.table new)) (sym still.size ∙ length-map new g.T.MemoryTable.table)
+          (cluster_of nodes keys (map g.T.MemoryTable.table new) still);
       each_fits = subst (λ (s : Folded). HoldsOfEach fits s.tables) c.loop-i.invariant.folded
-          (before_keeps_each c.args.work.rules.now nodes keys c.args.work.list.now.exchanges old planned may.cluster fits (laws.stays_fit c.args.work.shared.now) may.each_fits c.loop-i.i);
+          (before_keeps_each c.args.work.rules.now nodes keys c.args.work.list.now.exchanges old planned may.cluster fits
+          (laws.stays_fit c.args.work.shared.now) may.each_fits c.loop-i.i);
       budget = may.budget;
     }
 

@@ -4,20 +4,20 @@ use Rattle.workers.specs.inner.Starts.{HasBegun}
 use Rattle.workers.proofs.shifts.open.Goals as goal
 
 pub share-requires-clause-rules : goal.share-requires-clause-rules
-share-requires-clause-rules g c _ _ = ap (λ (p : BoardPlan). p.rules) c.in_ok-board.ensures.begun.made
+share-requires-clause-rules g c _ _ = ap (λ (p : BoardPlan). p.rules) c.in_ok-board.ensures.seated.made
 
 pub share-requires-clause-tables : goal.share-requires-clause-tables
 share-requires-clause-tables g c _ _ =
     subst (λ (p : BoardPlan). MayCarryOut (g.X.Exchanging.fits c.args.batch.shared) c.args.batch.rules.now p.list.nodes p.tables)
-    (sym c.in_ok-board.ensures.begun.made) c.requires.batch
+    (sym c.in_ok-board.ensures.seated.made) c.requires.batch
 
-pub returns-clause-opened : goal.returns-clause-opened
-returns-clause-opened g c =
-    let shared = c.in_ok-shift.ensures.shared in
+pub returns : goal.returns
+returns g c =
+    let shared = c.in_ok-shift.ensures in
     record {
       of_shift = shared.of_shift;
       shared = shared.shared;
       trays = shared.trays;
       begun = subst (λ board. HasBegun g.T.MemoryTable.table c.args.batch c.args.workers c.args.tables.items board c.in_ok-board.start)
-          (sym shared.board) c.in_ok-board.ensures.begun;
+          (sym shared.board) c.in_ok-board.ensures;
     }

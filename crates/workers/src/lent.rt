@@ -6,7 +6,7 @@ use std::alloc::Global;
 
 /// It carries out exchanges as what it borrows does.
 #[derive(Drop)]
-pub struct Lent<'a, X> {
+pub(crate) struct Lent<'a, X> {
     pub shared: &'a X,
 }
 

@@ -1,0 +1,30 @@
+-- What several workers share out among them. Source: this project.
+use Rattle.std.specs.Prelude.{◌≡◌, ℕ, ◌+◌, ◌<◌, ◌≤◌, false, vec_len}
+use Rattle.model.specs.Table.{Table}
+use Rattle.board.specs.SeatView.{ALL_PARTS}
+use Rattle.board.specs.Boards.{seat_view}
+use Rattle.crew.specs.Named.{tray_count}
+use Rattle.workers.specs.inner.Gathering.{HasGathered}
+use Rattle.workers.specs.inner.Shifts.{IsShift}
+use Rattle.workers.specs.inner.Starts.{HasFirstSeat}
+use Rattle.workers.specs.inner.Works.{AreSeveral}
+use Rattle.workers.specs.declared.gathering.Gathered.{Gathered}
+use Rattle.workers.specs.declared.shifts.Start.{Start}
+use Rattle.workers.specs.declared.tasks.Shift.{Shift}
+
+-- there is a tray for each of several workers, and the first seat of the board that they share
+pub record MayHandOut {T X G : Type 0} (table : T → Table) (fits : X → Table → Type 0) (shift : Shift T X G) (start : Start T) : Type 0 where
+  pub of_shift : IsShift table fits shift
+  pub seat : HasFirstSeat table shift.shop.board start.gathered
+  pub several : AreSeveral (vec_len start.tasks)
+  pub trays : vec_len start.tasks ≤ tray_count shift.trays
+
+-- so many workers, with a tray each, were given a part of the seat
+pub record HasHandedOut {T X G : Type 0} (table : T → Table) (fits : X → Table → Type 0) (shift : Shift T X G)
+    (workers : ℕ) (gathered : Gathered T) : Type 0 where
+  pub of_shift : IsShift table fits shift
+  pub has : HasGathered table shift.shop.board gathered
+  pub parts : (seat_view gathered.seat).parts + workers ≡ ALL_PARTS
+  pub unhalted : (seat_view gathered.seat).is_halted ≡ false
+  pub some : 0 < workers
+  pub trays : workers ≤ tray_count shift.trays

@@ -1,8 +1,8 @@
 //! What the program does for its words.
 
 ghost use Rattle.std.specs.Prelude.{OnOk, IfErr};
-ghost use Rattle.command_words.specs.Workers.{AreLawfulWorkers, HasLawfulWorkers};
-ghost use Rattle.command_line.specs.Jobs.{IsChecked, IsCheckFault, IsReportedWith, IsRunFaultWith, IsPerformed, IsJobFault};
+ghost use Rattle.command_words.specs.Workers.{HasLawfulWorkers};
+ghost use Rattle.command_line.specs.Jobs.{IsChecked, IsCheckFault, IsPerformed, IsJobFault};
 
 use crate::streams::is_input_or_output;
 use bench_types::{Discard, Fault, Push, Sink, Source, write_text};
@@ -14,13 +14,19 @@ use std::sync::Wait;
 use std::thread::Threads;
 use std::{fs, io};
 
+/// The runtime and the memory of a process.
+#[derive(Clone, Copy)]
+pub struct Host<'a, H> {
+    pub rt: &'a H,
+    pub alloc: Global,
+}
+
 /// Reads a scenario and does the job: `out` gets what is asked for. The file of a trace is made anew
 /// before anything is read; if it can't be made, or is the process's own input or output, the fault is
 /// `WriteFailed`. Other faults are those of `check_input`, `run` and `compare`, and `WriteFailed` if `ok`
 /// can't be printed.
 pub fn perform<H: Threads + Wait + Sync + Files, R: Source, W: Sink>(
-    rt: &H,
-    alloc: Global,
+    host: &Host<H>,
     job: Job,
     reader: &mut R,
     out: &mut W,
@@ -31,33 +37,17 @@ pub fn perform<H: Threads + Wait + Sync + Files, R: Source, W: Sink>(
     ensures fault { IfErr result (IsJobFault R.Source reader.old reader.new W.Sink out.old out.new
         ⟦<Discard as Sink>⟧ ⟦<Push<H::File> as Sink>⟧ job.entry) }
 {
+    let Host { rt, alloc } = *host;
     match job {
         Job::Check => check(alloc, reader, out),
-        Job::Run { trace, workers } => run_with(rt, alloc, trace, reader, out, workers),
-        Job::Compare { workers } => compare(rt, alloc, reader, out, workers),
-    }
-}
-
-fn run_with<H: Threads + Wait + Sync + Files, R: Source, W: Sink>(
-    rt: &H,
-    alloc: Global,
-    trace: Option<&str>,
-    reader: &mut R,
-    out: &mut W,
-    workers: u32,
-) -> Result<(), Fault>
-    requires workers { AreLawfulWorkers workers }
-    ensures reported { OnOk result (IsReportedWith R.Source reader.old reader.new W.Sink out.old out.new
-        ⟦<Discard as Sink>⟧ ⟦<Push<H::File> as Sink>⟧ trace.entry) }
-    ensures fault { IfErr result (IsRunFaultWith R.Source reader.old reader.new W.Sink out.old out.new
-        ⟦<Discard as Sink>⟧ ⟦<Push<H::File> as Sink>⟧ trace.entry workers) }
-{
-    match trace {
-        None => run(rt, alloc, reader, out, &mut Discard, workers),
-        Some(path) => match trace_file(rt, path) {
-            Ok(file) => run(rt, alloc, reader, out, &mut Push::new(file), workers),
-            Err(_) => Err(Fault::WriteFailed),
+        Job::Run { trace, workers } => match trace {
+            None => run(rt, alloc, reader, out, &mut Discard, workers),
+            Some(path) => match trace_file(rt, path) {
+                Ok(file) => run(rt, alloc, reader, out, &mut Push::new(file), workers),
+                Err(_) => Err(Fault::WriteFailed),
+            },
         },
+        Job::Compare { workers } => compare(rt, alloc, reader, out, workers),
     }
 }
 

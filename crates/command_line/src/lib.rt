@@ -12,6 +12,6 @@ mod programs;
 mod streams;
 
 pub use command_words::Job;
-pub use jobs::perform;
+pub use jobs::{Host, perform};
 pub use processes::run_process;
 pub use programs::main_with;

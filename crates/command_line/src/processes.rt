@@ -17,9 +17,7 @@ pub fn run_process<H: Env + AllocGlobal + Files + Input + Print + Threads + Wait
     err: &mut E,
 ) -> u8 {
     let alloc = rt.alloc();
-    let words: Vec<String> = match env::args(rt).and_then(|words| Ok(
-        words.skip(1).collect(alloc)?,
-    )) {
+    let words = match words_of(rt) {
         Ok(words) => words,
         Err(error) if error.kind() == io::ErrorKind::InvalidData => {
             let _ = write_text(err, b"error: a word is not UTF-8\n");
@@ -30,4 +28,9 @@ pub fn run_process<H: Env + AllocGlobal + Files + Input + Print + Threads + Wait
     let mut reader = Pull::new(rt.reader());
     let mut out = Push::new(io::writer(rt));
     main_with(rt, alloc, words.as_slice(), &mut reader, &mut out, err)
+}
+
+// The words behind the program's name.
+fn words_of(rt: &(impl Env + AllocGlobal)) -> io::Result<Vec<String>> {
+    Ok(env::args(rt)?.skip(1).collect(rt.alloc())?)
 }

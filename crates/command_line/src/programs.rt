@@ -7,7 +7,7 @@ ghost use Rattle.command_line.specs.Endings.{IsStoppedByFault};
 ghost use Rattle.command_line.specs.Statuses.{IsTold, told_of};
 ghost use Rattle.command_line.specs.inner.Statuses.{IsOutcomeTold, status_of};
 
-use crate::jobs::perform;
+use crate::jobs::{Host, perform};
 use crate::lines::line_of;
 use bench_types::{Discard, Fault, Push, Sink, Source, write_text};
 use command_words::{NoJob, job_of};
@@ -45,7 +45,7 @@ pub fn main_with<H: Threads + Wait + Sync + Files, S: AsStr, R: Source, W: Sink,
 {
     match job_of(alloc, words) {
         Ok(job) => {
-            let done = perform(rt, alloc, job, reader, out);
+            let done = perform(&Host { rt, alloc }, job, reader, out);
             status_of(done, err)
         }
         Err(reason) => answer_words(reason, out, err),

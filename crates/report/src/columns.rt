@@ -121,30 +121,37 @@ fn push_names(cells: &mut Vec<Cell<'static>>, format: u32) -> Result<(), Fault>
     Ok(())
 }
 
-/// Writes a line of these cells and of what a row has in a format's columns, and flushes.
+/// A row, and the format in which it is written.
+#[derive(Clone, Copy)]
+pub(crate) struct FormatRow<'a> {
+    pub(crate) format: u32,
+    pub(crate) row: &'a Row,
+    ghost known: { IsFormat format },
+}
+
+/// Writes a line of these cells and of what a row has in its format's columns, and flushes.
 pub(crate) fn write_numbers<W: Sink>(
     alloc: Global,
     writer: &mut W,
     front: &[Cell<'static>],
-    format: u32,
-    row: &Row,
+    row: FormatRow,
 ) -> Result<(), Fault>
-    requires format { IsFormat format }
     requires plain { IsTrue (list_all is_plain_cell front.now) }
     ensures { WritesText W.Sink writer.old writer.new
-        (line_of (map cell_text front.now ++ numbers format row.now)) result }
+        (line_of (map cell_text front.now ++ numbers row.entry.format row.entry.row.now)) result }
 {
     let mut cells = Vec::from_slice(alloc, front)?;
-    push_numbers(&mut cells, format, row)?;
+    push_numbers(&mut cells, row)?;
     write_line(alloc, writer, &cells)
 }
 
-fn push_numbers(cells: &mut Vec<Cell<'static>>, format: u32, row: &Row) -> Result<(), Fault>
-    requires format { IsFormat format }
+fn push_numbers(cells: &mut Vec<Cell<'static>>, row: FormatRow) -> Result<(), Fault>
     requires plain { IsTrue (list_all is_plain_cell cells.old.items) }
-    ensures added { OnOk result (AddsCells cells.old.items cells.new.items (numbers format row.now)) }
+    ensures added { OnOk result
+        (AddsCells cells.old.items cells.new.items (numbers row.entry.format row.entry.row.now)) }
     ensures only { IsOkUnless result Fault.OutOfMemory }
 {
+    let FormatRow { format, row } = row;
     for column in Column::ALL {
         if column.since() <= format {
             cells.push(Cell::Number(column.number(row)))?;

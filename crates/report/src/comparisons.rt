@@ -5,7 +5,7 @@ ghost use Rattle.report.specs.Compare.{compare_header_line, compare_line};
 ghost use Rattle.report.specs.calls.Writing.{WritesText};
 
 use crate::cells::Cell;
-use crate::columns::{write_names, write_numbers};
+use crate::columns::{FormatRow, write_names, write_numbers};
 use bench_types::{Fault, Mode, Row, Sink};
 use std::alloc::Global;
 
@@ -30,5 +30,6 @@ pub fn write_compare_row<W: Sink>(
     requires { IsFormat format }
     ensures { WritesText W.Sink writer.old writer.new (compare_line format mode row.now) result }
 {
-    write_numbers(alloc, writer, &[Cell::Text(mode.name())], format, row)
+    let front = [Cell::Text(mode.name())];
+    write_numbers(alloc, writer, &front, FormatRow { format, row })
 }

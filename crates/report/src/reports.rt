@@ -4,7 +4,7 @@ ghost use Rattle.report.specs.calls.Columns.{IsFormat};
 ghost use Rattle.report.specs.calls.Writing.{WritesText};
 ghost use Rattle.report.specs.Report.{report_header_line, report_line};
 
-use crate::columns::{write_names, write_numbers};
+use crate::columns::{FormatRow, write_names, write_numbers};
 use bench_types::{Fault, Row, Sink};
 use std::alloc::Global;
 
@@ -28,5 +28,5 @@ pub fn write_report_row<W: Sink>(
     requires { IsFormat format }
     ensures { WritesText W.Sink writer.old writer.new (report_line format row.now) result }
 {
-    write_numbers(alloc, writer, &[], format, row)
+    write_numbers(alloc, writer, &[], FormatRow { format, row })
 }

@@ -1,7 +1,9 @@
 //! The trace: a header, and then for each round a row for each of its exchanges.
 
-ghost use Rattle.std.specs.Prelude.{◌≡◌, ◌≤◌, ◌++◌, length, IsTrue, IfOk, OnOk, IsOkUnless};
-ghost use Rattle.report.specs.inner.Cells.{is_plain, bytes_written, IsBetweenLines};
+ghost use Rattle.std.specs.Prelude.{◌≡◌, ◌≤◌, length, map, IsTrue, IfOk, IsOkUnless};
+ghost use Rattle.std.specs.List.{list_all};
+ghost use Rattle.report.specs.inner.Cells.{cell_text, is_plain, is_plain_cell};
+ghost use Rattle.report.specs.Line.{line_of};
 ghost use Rattle.report.specs.calls.Writing.{WritesText};
 ghost use Rattle.model.specs.declared.lists.TheConstants.{MOST_EXCHANGES};
 ghost use Rattle.report.specs.Trace.{trace_header_line, fate_name, trace_line, trace_lines};
@@ -9,9 +11,12 @@ ghost use Rattle.report.specs.Trace.{trace_header_line, fate_name, trace_line, t
 use crate::cells::{Cell, put_line};
 use crate::outputs::write_line;
 use bench_types::{Exchange, Fate, Fault, Record, Sink, write_text};
-use csv::{Writer, WriterBuilder};
+use csv::WriterBuilder;
 use model::RoundList;
 use std::alloc::Global;
+
+// How many columns the trace has.
+const COLUMNS: usize = 11;
 
 /// Writes the header of the trace, the names of its columns, and flushes. An error is
 /// lack of memory (`OutOfMemory`), before anything is written, or that the sink failed (`WriteFailed`).
@@ -68,26 +73,23 @@ fn make_rows(
 {
     let mut lines = WriterBuilder::new().from_writer(Vec::new(alloc));
     for (index, exchange) in exchanges.iter().enumerate() {
-        put_row(alloc, &mut lines, round, index, exchange, &records[index])?;
+        let cells = cells_of(round, index, exchange, &records[index]);
+        put_line(alloc, &mut lines, &cells)?;
     }
     lines.into_inner().map_err(|_| Fault::OutOfMemory)
 }
 
-fn put_row(
-    alloc: Global,
-    lines: &mut Writer<Vec<u8>>,
+// The cells of a row.
+fn cells_of(
     round: u32,
     index: usize,
     exchange: &Exchange,
     sent: &Record,
-) -> Result<(), Fault>
-    requires between { IsBetweenLines lines.old }
-    ensures between { OnOk result (IsBetweenLines lines.new) }
-    ensures line { OnOk result
-        (bytes_written lines.new ≡ bytes_written lines.old ++ trace_line round index exchange.now sent.now) }
-    ensures only { IsOkUnless result Fault.OutOfMemory }
+) -> [Cell<'static>; COLUMNS]
+    ensures plain { IsTrue (list_all is_plain_cell result) }
+    ensures line { line_of (map cell_text result) ≡ trace_line round index exchange.now sent.now }
 {
-    let cells = [
+    [
         Cell::Number(round.into()),
         Cell::Number(index as u64),
         Cell::Number(exchange.initiator.into()),
@@ -99,8 +101,7 @@ fn put_row(
         Cell::Number(sent.forth.into()),
         Cell::Number(sent.back_cut.into()),
         Cell::Number(sent.forth_cut.into()),
-    ];
-    put_line(alloc, lines, &cells)
+    ]
 }
 
 fn name(fate: Fate) -> &'static str

@@ -139,7 +139,7 @@ pub fn writes_by(
     }
     let keys = scenario.keys();
     let count = writes_in(scenario, round);
-    let numbers = numbers_by(scenario, node, round, count_before, words);
+    let numbers = numbers_by(scenario.choice(), count_before, words);
     for place in 0..count {
         let number = numbers[place as usize];
         items[place as usize] = numbered_write(keys, number, count_before + place);
@@ -147,21 +147,18 @@ pub fn writes_by(
     Writes { items, count }
 }
 
-// The numbers of the most writes of a node in a round, before which it had made `count_before` of its
+// The numbers of the most writes of a node in a round, by the round's words or behind `count_before` writes of its
 // generation.
 fn numbers_by(
-    scenario: &Scenario,
-    node: u32,
-    round: u32,
+    choice: Choice,
     count_before: u32,
     words: &[u32; ROUND_WORDS as usize],
 ) -> [u32; MOST_WRITES as usize]
-    requires fits { count_before + MOST_WRITES < 2 ^ 32 }
-    requires words { scenario.now.choice ≡ Random → AreWordsOf scenario.now.seed node round words.now }
-    ensures { AreWriteNumbers scenario.now node round count_before result }
+    requires { count_before + MOST_WRITES < 2 ^ 32 }
+    ensures { AreWriteNumbers choice count_before words.now result }
 {
     let mut numbers = [0; MOST_WRITES as usize];
-    match scenario.choice() {
+    match choice {
         Choice::Random => numbers.copy_from_slice(&words[WRITE_PLACE as usize..]),
         Choice::Cycle => {
             for place in 0..MOST_WRITES {

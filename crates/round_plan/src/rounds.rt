@@ -6,6 +6,7 @@ ghost use Rattle.round_plan.specs.Plan.{exchange_of, is_lost, reaches, round_lis
 ghost use Rattle.round_plan.specs.calls.Words.{run_words_of, AreWordsOf};
 ghost use Rattle.round_plan.specs.inner.Rounds.{chosen_of, AreChosen, IsNodeInRound};
 ghost use Rattle.bench_types.specs.declared.faults.Fault.TheVariants.{OutOfMemory};
+ghost use Rattle.bench_types.specs.declared.limits.TheConstants.{MOST_ROUNDS};
 
 use crate::outages::{is_up, separated};
 use crate::peers::peer_by;
@@ -70,7 +71,12 @@ pub fn round_list_by(
     ensures only { IsOkUnless result OutOfMemory }
 {
     let nodes = scenario.nodes();
-    let chosen = choices(rt, alloc, scenario, round, words)?;
+    let drawn = Drawn {
+        scenario,
+        round,
+        words,
+    };
+    let chosen = choices(rt, alloc, drawn)?;
     let mut exchanges = Vec::with_capacity(alloc, chosen.len())?;
     let mut unreached = 0;
     for choice in &chosen {
@@ -83,19 +89,29 @@ pub fn round_list_by(
     Ok(RoundList::planned(nodes, unreached, exchanges))
 }
 
+// A round of a scenario, and the words of its nodes.
+#[derive(Clone, Copy)]
+struct Drawn<'a> {
+    scenario: &'a Scenario,
+    round: u32,
+    words: &'a RunWords,
+    ghost lawful: { (1 ≤ round) × (round ≤ MOST_ROUNDS) },
+    ghost drawn: { words.now ≡ run_words_of scenario.now round },
+}
+
 // What each node chooses, in order.
 fn choices(
     rt: &(impl Threads + Sync),
     alloc: Global,
-    scenario: &Scenario,
-    round: u32,
-    words: &RunWords,
+    drawn: Drawn,
 ) -> Result<Vec<Chosen>, AllocError>
-    requires first { 1 ≤ round }
-    requires last { round ≤ MOST_ROUNDS }
-    requires words { words.now ≡ run_words_of scenario.now round }
-    ensures { IfOk result (λ chosen. AreChosen scenario.now round chosen.items) }
+    ensures { IfOk result (λ chosen. AreChosen drawn.entry.scenario.now drawn.entry.round chosen.items) }
 {
+    let Drawn {
+        scenario,
+        round,
+        words,
+    } = drawn;
     (0..scenario.nodes())
         .into_par_iter()
         .with_min_len(nodes_of_a_thread(scenario))

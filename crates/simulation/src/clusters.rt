@@ -5,7 +5,7 @@ ghost use Rattle.bench_types.specs.declared.faults.Fault.TheVariants.{OutOfMemor
 ghost use Rattle.scenario.specs.Settings.{IsLawfulScenario};
 ghost use Rattle.model.specs.calls.OwnerListView.{written};
 ghost use Rattle.model.specs.Runs.{IsFaultOfWorkers};
-ghost use Rattle.round_plan.specs.calls.Words.{run_words_of, AreWordsOf};
+ghost use Rattle.round_plan.specs.calls.Words.{run_words_of};
 ghost use Rattle.simulation.specs.Rounds.{opening_tables, after_restart, rules_of};
 ghost use Rattle.round_tables.specs.Histories.{AreNewHistories};
 ghost use Rattle.simulation.specs.inner.InMemory.{HasBegun, IsBeforeRound, IsBegun, TablesStand, IsOwnerIn, IsRestartedIn, WritesIn};
@@ -14,11 +14,11 @@ ghost use Rattle.simulation.specs.inner.Plans.{IsDrawnAfter, MayDraw};
 ghost use Rattle.simulation.specs.inner.Steps.{HaveEnded, IsRoundOf, LeavesOthers, MayWriteOwn};
 
 use crate::carriers::{Carriers, Orders, count_figures};
-use crate::plans::{Drawn, Plan, drawn_after};
+use crate::plans::{Drawn, Plan, next_plan};
 use crate::rounds::Round;
 use bench_types::{Fault, Rules};
 use model::MemoryTable;
-use round_plan::{OwnWrite, ROUND_WORDS, RunWords, forgets_now, restarts_now, writes_by};
+use round_plan::{OwnWrite, RunWords, forgets_now, restarts_now, writes_by};
 use round_tables::{Counted, Resources, RoundHistories};
 use scenario::Scenario;
 use std::alloc::Global;
@@ -70,8 +70,13 @@ impl<T: MemoryTable + Send + Sync, K: RoundHistories<T>> Cluster<T, K> {
             histories,
             drawn,
         } = self;
-        let Plan { words, list } = drawn.plan(rt, alloc, scenario, round)?;
-        let (begun, histories) = begin(scenario, tables, histories, &words, round)?;
+        let Plan { words, list } = drawn.plan(resources, scenario, round)?;
+        let start = Start {
+            scenario,
+            round,
+            words: &words,
+        };
+        let (begun, histories) = begin(start, tables, histories)?;
         let rules = rules_of(scenario);
         let orders = Orders { list, rules };
         let draw = move || -> Result<Drawn, Fault>
@@ -80,11 +85,11 @@ impl<T: MemoryTable + Send + Sync, K: RoundHistories<T>> Cluster<T, K> {
             ensures only { IsOkUnless result OutOfMemory }
         {
             // (several workers leave this thread idle)
-            if hands.workers == 1 {
-                Ok(Drawn::Words(words))
-            } else {
-                drawn_after(words, rt, alloc, scenario, round)
+            if hands.workers == 1 || round == scenario.rounds() {
+                return Ok(Drawn::Words(words));
             }
+            let next = next_plan(words, rt, alloc, scenario, round + 1)?;
+            Ok(Drawn::Next(next))
         };
         let posts = carriers.posts;
         let Done {
@@ -138,32 +143,31 @@ fn empty_tables<T: MemoryTable, K: RoundHistories<T>>(
     Ok(tables)
 }
 
+// A round that begins, and the words of its nodes.
+#[derive(Clone, Copy)]
+struct Start<'a> {
+    scenario: &'a Scenario,
+    round: u32,
+    words: &'a RunWords,
+    ghost drawn: { words.now ≡ run_words_of scenario.now round },
+}
+
 // What a round begins with: its restarts and its writes, by node.
 fn begin<T: MemoryTable, K: RoundHistories<T>>(
-    scenario: &Scenario,
+    start: Start,
     mut tables: Vec<T>,
     mut histories: K,
-    words: &RunWords,
-    round: u32,
 ) -> Result<(Vec<T>, K), Fault>
-    requires round { IsRoundOf K.may_write scenario.now round }
-    requires words { words.now ≡ run_words_of scenario.now round }
-    requires ended { HaveEnded scenario.now (round - 1) (K.kept histories) }
-    requires standing { TablesStand T.table K.kept scenario.now (round - 1) tables.items histories }
-    ensures begun { IfOk result
-        (λ p. HasBegun T.table K.kept K.fits scenario.now round tables.items p.0.items p.1) }
+    requires round { IsRoundOf K.may_write start.scenario.now start.round }
+    requires ended { HaveEnded start.scenario.now (start.round - 1) (K.kept histories) }
+    requires standing { TablesStand T.table K.kept start.scenario.now (start.round - 1) tables.items histories }
+    ensures begun { IfOk result (λ p. HasBegun T.table K.kept K.fits start.entry.scenario.now start.entry.round
+        tables.items p.0.items p.1) }
     ensures only { IsOkUnless result OutOfMemory }
 {
-    for node in 0..scenario.nodes() {
+    for node in 0..start.scenario.nodes() {
         let at = node as usize;
-        begin_node(
-            scenario,
-            node,
-            &mut tables[at],
-            &mut histories,
-            words.of_node(node),
-            round,
-        )?;
+        begin_node(start, node, &mut tables[at], &mut histories)?;
     }
     histories.end_writes()?;
     Ok((tables, histories))
@@ -172,42 +176,52 @@ fn begin<T: MemoryTable, K: RoundHistories<T>>(
 // What a node begins a round with: its restarts, and then its writes. No other node's table or list matters
 // to it.
 fn begin_node<T: MemoryTable, K: RoundHistories<T>>(
-    scenario: &Scenario,
+    start: Start,
     node: u32,
     table: &mut T,
     histories: &mut K,
-    words: &[u32; ROUND_WORDS as usize],
-    round: u32,
 ) -> Result<(), Fault>
-    requires round { IsRoundOf K.may_write scenario.now round }
-    requires words { AreWordsOf scenario.now.seed node round words.now }
-    requires before { IsBeforeRound T.table K.kept scenario.now round node table.old histories.old }
-    ensures owner { OnOk result (IsOwnerIn T.table K.kept scenario.now round node table.new histories.new) }
-    ensures table { OnOk result (IsBegun T.table scenario.now round node table.old table.new) }
+    requires round { IsRoundOf K.may_write start.scenario.now start.round }
+    requires before { IsBeforeRound T.table K.kept start.scenario.now start.round node table.old histories.old }
+    ensures owner { OnOk result
+        (IsOwnerIn T.table K.kept start.entry.scenario.now start.entry.round node table.new histories.new) }
+    ensures table { OnOk result (IsBegun T.table start.entry.scenario.now start.entry.round node table.old table.new) }
     ensures others { OnOk result (LeavesOthers node (K.kept histories.old) (K.kept histories.new)) }
     ensures only { IsOkUnless result OutOfMemory }
 {
-    restart(scenario, node, table, histories, round);
-    let writes = writes_by(scenario, node, round, histories.count(node), words);
+    restart(start, node, table, histories);
+    let Start {
+        scenario,
+        round,
+        words,
+    } = start;
+    let writes = writes_by(
+        scenario,
+        node,
+        round,
+        histories.count(node),
+        words.of_node(node),
+    );
     write_own(table, histories, writes.as_slice())
 }
 
 // The restarts of a node in a round: they empty its copies of all others, or where it forgets its whole table.
 fn restart<T: MemoryTable, K: RoundHistories<T>>(
-    scenario: &Scenario,
+    start: Start,
     node: u32,
     table: &mut T,
     histories: &mut K,
-    round: u32,
 )
-    requires { IsBeforeRound T.table K.kept scenario.now round node table.old histories.old }
-    ensures owner { IsRestartedIn T.table K.kept scenario.now round node table.new histories.new }
-    ensures table { T.table table.new ≡ after_restart scenario.now round node (T.table table.old) }
+    requires { IsBeforeRound T.table K.kept start.scenario.now start.round node table.old histories.old }
+    ensures owner { IsRestartedIn T.table K.kept start.entry.scenario.now start.entry.round node table.new
+        histories.new }
+    ensures table { T.table table.new
+        ≡ after_restart start.entry.scenario.now start.entry.round node (T.table table.old) }
     ensures others { LeavesOthers node (K.kept histories.old) (K.kept histories.new) }
 {
-    if forgets_now(scenario, node, round) {
+    if forgets_now(start.scenario, node, start.round) {
         histories.forget(table);
-    } else if restarts_now(scenario, node, round) {
+    } else if restarts_now(start.scenario, node, start.round) {
         K::restart(table);
     }
 }

@@ -3,12 +3,13 @@
 ghost use Rattle.std.specs.Prelude.{◌≡◌, ◌-◌, ◌≤◌, IfOk, IsOkUnless};
 ghost use Rattle.bench_types.specs.declared.faults.Fault.TheVariants.{OutOfMemory};
 ghost use Rattle.round_plan.specs.calls.Words.{run_words_of};
-ghost use Rattle.simulation.specs.inner.Plans.{IsPlanOf, IsDrawnAfter, MayDraw};
+ghost use Rattle.simulation.specs.inner.Plans.{IsPlanOf, IsDrawnAfter};
 
 use bench_types::Fault;
 use bench_types::limits::MOST_ROUNDS;
 use model::RoundList;
 use round_plan::{RunWords, round_list_by};
+use round_tables::Resources;
 use scenario::Scenario;
 use std::alloc::Global;
 use std::thread::Threads;
@@ -33,8 +34,7 @@ impl Drawn {
     /// The plan of a round: the one at hand, or else it is made.
     pub(crate) fn plan(
         self,
-        rt: &(impl Threads + Sync),
-        alloc: Global,
+        resources: &Resources<impl Threads + Sync>,
         scenario: &Scenario,
         round: u32,
     ) -> Result<Plan, Fault>
@@ -46,31 +46,15 @@ impl Drawn {
     {
         match self {
             Drawn::Next(plan) => Ok(plan),
-            Drawn::Words(words) => next_plan(words, rt, alloc, scenario, round),
+            Drawn::Words(words) => {
+                next_plan(words, resources.rt, resources.alloc, scenario, round)
+            }
         }
     }
 }
 
-/// What is drawn after a round, by its words: the plan of the next round, if there is one.
-pub(crate) fn drawn_after(
-    words: RunWords,
-    rt: &(impl Threads + Sync),
-    alloc: Global,
-    scenario: &Scenario,
-    round: u32,
-) -> Result<Drawn, Fault>
-    requires { MayDraw scenario.now round words }
-    ensures drawn { IfOk result (IsDrawnAfter scenario.now round) }
-    ensures only { IsOkUnless result OutOfMemory }
-{
-    if round == scenario.rounds() {
-        return Ok(Drawn::Words(words));
-    }
-    let next = next_plan(words, rt, alloc, scenario, round + 1)?;
-    Ok(Drawn::Next(next))
-}
-
-fn next_plan(
+/// The plan of a round, by the words of the round before.
+pub(crate) fn next_plan(
     mut words: RunWords,
     rt: &(impl Threads + Sync),
     alloc: Global,

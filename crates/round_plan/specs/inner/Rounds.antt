@@ -1,13 +1,15 @@
 -- What the parts of a round say. Source: this project.
-use Rattle.std.specs.Prelude.{◌≡◌, ℕ, if◌then◌else◌, List, map, length, ◌<◌, ◌≤◌, slice_index}
+use Rattle.std.specs.Prelude.{◌≡◌, ℕ, ◌+◌, if◌then◌else◌, List, map, length, ◌<◌, ◌≤◌, slice_index}
 use Rattle.std.specs.List.{range_with_len}
 use Rattle.bench_types.specs.declared.limits.TheConstants.{MOST_ROUNDS, MOST_WRITES}
+use Rattle.bench_types.specs.Entry.{next_version}
 use Rattle.scenario.specs.Settings.{Settings}
+use Rattle.scenario.specs.declared.choices.Choice.{Choice}
 use Rattle.round_plan.specs.declared.rounds.Chosen.{Chosen}
 use Rattle.round_plan.specs.declared.rounds.Chosen.TheVariants.{Down, Unreached, Begins}
 use Rattle.round_plan.specs.Outages.{is_up}
 use Rattle.round_plan.specs.Plan.{exchange_of, reaches}
-use Rattle.round_plan.specs.Writes.{count_before, write_number}
+use Rattle.round_plan.specs.Writes.{number_by}
 
 -- a node of a scenario, in a round that a run may have
 abbrev pub IsNodeInRound : Settings → ℕ → ℕ → Type 0
@@ -23,6 +25,8 @@ chosen_of s round node =
 abbrev pub AreChosen : Settings → ℕ → List Chosen → Type 0
 AreChosen s round chosen = chosen ≡ map (chosen_of s round) (range_with_len 0 s.nodes)
 
-abbrev pub AreWriteNumbers : Settings → ℕ → ℕ → ℕ → List ℕ → Type 0
-AreWriteNumbers s node round count_before numbers =
-    (length numbers ≡ MOST_WRITES) × ((place : ℕ) → place < MOST_WRITES → slice_index numbers place ≡ write_number s node round count_before place)
+-- the numbers of the most writes, by these words or behind so many writes of the generation
+abbrev pub AreWriteNumbers : Choice → ℕ → List ℕ → List ℕ → Type 0
+AreWriteNumbers choice count_before words numbers =
+    (length numbers ≡ MOST_WRITES) × ((place : ℕ) → place < MOST_WRITES
+    → slice_index numbers place ≡ number_by choice (slice_index words (8 + place)) (next_version (count_before + place)))

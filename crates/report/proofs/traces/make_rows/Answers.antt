@@ -1,7 +1,9 @@
-use Rattle.std.proofs.Common.{arith}
+use Rattle.std.proofs.Common.{◌++◌, ap, ◌∙◌, arith}
+use Rattle.report.specs.inner.Cells.{bytes_written}
 use Rattle.report.proofs.TraceFacts.{rows_more}
 use Rattle.report.proofs.traces.make_rows.Goals as goal
 
 pub loop-index-preserved : goal.loop-index-preserved
 loop-index-preserved c =
-    rows_more _ _ _ _ _ _ _ _ c.loop-index-test.true (omega (arith, c.loop-index-test.true, c.requires.one_each)) c.loop-index.invariant c.in_ok-put_row.ensures.between c.in_ok-put_row.ensures.line
+    rows_more _ _ _ _ _ _ _ _ c.loop-index-test.true (omega (arith, c.loop-index-test.true, c.requires.one_each)) c.loop-index.invariant c.in_ok-put_line.ensures.between
+    (c.in_ok-put_line.ensures.line ∙ ap (λ line. bytes_written c.loop-index.lines ++ line) c.cells_of-cells.ensures.line)

@@ -1,11 +1,19 @@
-use Rattle.round_plan.proofs.Common.{arith, ◌≡◌, ℕ, ◌+◌, ◌≤◌, ◌<◌, ◌++◌, ◌∷◌, [], List, All, length, take, map, if◌then◌else◌, true, subst, sym, ap, ◌∙◌, range_with_len, length-set, take_more_set, map-append, map-range_with_len_more, Entry, Settings}
+use Rattle.round_plan.proofs.Common.{arith, refl, get_or, next_version, ◌≡◌, ℕ, ◌+◌, ◌≤◌, ◌<◌, ◌++◌, ◌∷◌, [], List, All, length, take, map, if◌then◌else◌, true, subst, sym, ap, ◌∙◌, range_with_len, length-set, take_more_set, map-append, map-range_with_len_more, Entry, Settings}
 use Rattle.round_plan.specs.declared.owners.OwnWrite.{OwnWrite}
 use Rattle.round_plan.specs.Outages.{is_up}
 use Rattle.round_plan.specs.Generations.{generation_upto}
-use Rattle.round_plan.specs.Writes.{writes_in, own_write_at, own_writes, numbered_write}
+use Rattle.round_plan.specs.Words.{word_of}
+use Rattle.round_plan.specs.Writes.{number_by, writes_in, own_write_at, own_writes, numbered_write}
+use Rattle.scenario.specs.declared.choices.Choice.{Choice}
+use Rattle.scenario.specs.declared.choices.Choice.TheVariants.{Random, Cycle}
 use Rattle.round_plan.specs.calls.Writes.{writes_before, born_in, AreWritesOf}
 use Rattle.round_plan.proofs.Growth.{writes_upto-grown, keys-own_writes, keys-born_in}
 use Rattle.round_plan.proofs.owners.writes_by.Goals as goal
+
+-- a word matters only where writes are random
+by_words : (way : Choice) (read word version : ℕ) → (way ≡ Random → read ≡ word) → number_by way read version ≡ number_by way word version
+by_words Random read word version same = same refl
+by_words Cycle read word version same = refl
 
 pub loop-place-preserved : goal.loop-place-preserved
 loop-place-preserved c =
@@ -19,7 +27,10 @@ loop-place-preserved c =
     let generation = generation_upto s c.args.node round in
     let born = born_in round generation in
     let lt : place < length items = omega (arith, c.loop-place.invariant.0) in
-    let number = c.numbers_by-numbers.ensures.1 place (omega arith) in
+    let number =
+    c.numbers_by-numbers.ensures.1 place (omega arith)
+    ∙ ap (λ way. number_by way (get_or c.args.words.now (8 + place) 0) (next_version (before + place))) c.choice.ensures
+    ∙ by_words s.choice _ (word_of s c.args.node round (8 + place)) _ (λ random. (c.requires.words random).value (8 + place) (omega arith)) in
     let write : born made ≡ ours place = c.numbered_write.ensures.value round generation ∙ (λ i. numbered_write (c.keys-keys.ensures.value i) round generation (number i) (before + place)) in (
       length-set items place made ∙ c.loop-place.invariant.0,
       ap (map born) (take_more_set items place made lt)

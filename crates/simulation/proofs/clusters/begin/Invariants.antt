@@ -5,6 +5,6 @@ use Rattle.simulation.proofs.clusters.begin.Given as goal
 
 abbrev pub invariant-loop-node : goal.invariant-loop-node
 invariant-loop-node g l =
-    HaveBegun l.scenario l.round (map g.T.MemoryTable.table l.initial.tables.items) (map g.T.MemoryTable.table l.tables.items)
+    HaveBegun l.start.scenario.now l.start.round (map g.T.MemoryTable.table l.initial.tables.items) (map g.T.MemoryTable.table l.tables.items)
     (g.K.RoundHistories.kept l.histories).lists l.node
-    × HaveEnded l.scenario (l.round - 1) (g.K.RoundHistories.kept l.histories)
+    × HaveEnded l.start.scenario.now (l.start.round - 1) (g.K.RoundHistories.kept l.histories)

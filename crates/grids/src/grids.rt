@@ -4,7 +4,7 @@
 ghost use Rattle.std.specs.Prelude.{◌≡◌, ℕ, ◌<◌, ◌≤◌, ◌==◌, ◌↔◌, Bool, IsTrue, length, map, max, nat_lt, slice_index, IfOk, IsOkUnless, if◌then◌else◌};
 ghost use Rattle.bench_types.specs.declared.faults.Fault.TheVariants.{OutOfMemory};
 ghost use Rattle.planes.specs.Grids.{IsGridOf};
-ghost use Rattle.planes.specs.Planes.{cell, number_ahead, total_of, ArePlanesChanged, IsGrid};
+ghost use Rattle.planes.specs.Planes.{cell, number_ahead, total_of, ArePlanesChanged, HasEach, IsGrid};
 ghost use Rattle.grids.specs.Grids.{AreSentTaken, HasColumn, HasPeer, IsAhead, IsOwnerKept, MayTake};
 ghost use Rattle.bench_types.specs.declared.limits.TheConstants.{MOST_NODES};
 ghost use Rattle.grids.specs.inner.Loops.{IsPlaneTaken, MakesAs, MayTakePlane};
@@ -92,6 +92,22 @@ pub fn drop_owner<N: Number>(cells: &mut [N], size: Size, owner: usize, mark: u3
     }
 }
 
+/// So many numbers are filled at a time, which takes fewer instructions than the C library's way to fill many more.
+const FILLED: usize = 512;
+
+fn zeros<N: Number>(alloc: Global, count: usize) -> Result<Vec<N>, Fault>
+    ensures zeros { IfOk result (λ v. HasEach count (λ r n. n ≡ 0) (map N.number v.items)) }
+    ensures only { IsOkUnless result OutOfMemory }
+{
+    let mut numbers = Vec::with_capacity(alloc, count)?;
+    let mut filled = 0;
+    while filled < count {
+        filled = (filled + FILLED).min(count);
+        numbers.resize(filled, N::zero())?;
+    }
+    Ok(numbers)
+}
+
 // The numbers above the peer's: all planes are gone over as one, without marks.
 fn above_peer<N: Number>(alloc: Global, grid: Grid<N>, peer: &[N]) -> Result<Masked<N>, Fault>
     requires grid { IsGridOf grid }
@@ -100,7 +116,7 @@ fn above_peer<N: Number>(alloc: Global, grid: Grid<N>, peer: &[N]) -> Result<Mas
     ensures only { IsOkUnless result OutOfMemory }
 {
     let cells = grid.cells;
-    let mut numbers = planes::zeros(alloc, cells.len())?;
+    let mut numbers = zeros(alloc, cells.len())?;
     let tally = masks::mask(&mut numbers, cells, peer);
     Ok(Masked {
         numbers,

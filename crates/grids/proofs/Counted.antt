@@ -1,6 +1,6 @@
 -- Planes of which some places are counted.
 -- Serves the functions of `grids`, `lags` and `merges`.
-use Rattle.grids.proofs.Common.{◌≡◌, ℕ, Fits, w32, ◌+◌, ◌*◌, ◌<◌, ◌≤◌, Bool, cond, nat_tests, List, length, get_or, map, take, drop, nat_lt, max, refl, sym, ◌∙◌, ◌==◌, ap, arith, length-map, put_mid, MOST_NODES, sum_below, sum_below-most, cell, number_ahead, total_above, total_of, IsGrid, ArePlanesChangedUpto, ArePlanesChanged, AreCountedUpto, AreRaisedUpto, number_raised, count_passing, HasNoOtherMark}
+use Rattle.grids.proofs.Common.{◌≡◌, ℕ, Fits, w32, ◌+◌, ◌*◌, ◌<◌, ◌≤◌, Bool, cond, nat_tests, List, length, get_or, map, take, drop, nat_lt, max, refl, sym, ◌∙◌, ap, arith, length-map, put_mid, MOST_NODES, sum_below, sum_below-most, cell, number_ahead, total_above, total_of, IsGrid, HasEachPlace, number_kept, HasNoneUptoMark, cases_eq, inl, inr, ArePlanesChangedUpto, ArePlanesChanged, AreCountedUpto, AreRaisedUpto, number_raised, count_passing, HasNoOtherMark}
 use Rattle.planes.proofs.Elementwise.{changed_all}
 use Rattle.planes.proofs.Counts.{count_le, sum_next}
 use Rattle.planes.proofs.Places.{plane-cells, plane_count, planes-all, planes-none, planes-written, block-cells, plane-within, total-places, total-same, total_whole}
@@ -70,28 +70,28 @@ places-counted changed test nodes keys old new size passed grid is = (
   is.count ∙ ap (λ n. count_passing n test) grid.whole ∙ total-places nodes keys test,
 )
 
--- numbers are kept that are above the peer's and the marks, where only one owner has a mark, up to which its own were
--- dropped before
-module _ (nodes keys own mark : ℕ) (peer : ℕ → ℕ → ℕ) (low old mid new : List ℕ) (size : length low ≡ nodes) (none : HasNoOtherMark low own)
-    (is : mark ≡ get_or low own 0) (dropped : ArePlanesChanged (λ r k x y. y ≡ cond (r == own) (cond (nat_lt mark x) x 0) x) nodes keys old mid) where
-  above_mark : (r k : ℕ) → r < nodes → k < keys → cell mid nodes r k ≡ number_ahead (cell old nodes r k) 0 (get_or low r 0)
-  above_mark r k in_nodes in_keys =
-      let now = dropped.each r k in_nodes in_keys in
-      let other = none r (omega (arith, in_nodes, size)) in
-      grind (arith, nat_tests)
-
-  pub masked-once : (count : ℕ) → ArePlanesChanged (λ r k x y. y ≡ number_ahead x (peer r k) 0) nodes keys mid new
-      → count ≡ total_of nodes keys (λ r k. nat_lt (peer r k) (cell mid nodes r k))
-      → ArePlanesChanged (λ r k x y. y ≡ number_ahead x (peer r k) (get_or low r 0)) nodes keys old new × (count ≡ total_above nodes keys new low)
-  masked-once count kept counted =
-      let all : ArePlanesChanged (λ r k x y. y ≡ number_ahead x (peer r k) (get_or low r 0)) nodes keys old new = record {
-        size = kept.size ∙ dropped.size;
-        each = λ r k in_nodes in_keys.
-            let now = kept.each r k in_nodes in_keys in
-            let before = above_mark r k in_nodes in_keys in
-            grind (arith, nat_tests);
-      } in (
-        all,
-        total-kept nodes keys peer low old new count
-            (counted ∙ total-same nodes keys _ _ (λ r k in_nodes in_keys. let before = above_mark r k in_nodes in_keys in grind (arith, nat_tests))) all,
-      )
+-- numbers that are kept are above the peer's and the marks too, where only one owner has a mark and none of its numbers
+-- that are kept is up to that
+pub masked-once : (nodes keys own mark : ℕ) (cells peer : ℕ → ℕ → ℕ) (low new : List ℕ) (count : ℕ)
+    → length low ≡ nodes → HasNoOtherMark low own → mark ≡ get_or low own 0 → HasNoneUptoMark (cell new nodes) keys own mark
+    → HasEachPlace nodes keys (λ r k n. n ≡ number_kept (peer r k) (cells r k)) new → count ≡ total_of nodes keys (λ r k. nat_lt (peer r k) (cells r k))
+    → HasEachPlace nodes keys (λ r k n. n ≡ number_ahead (cells r k) (peer r k) (get_or low r 0)) new × (count ≡ total_above nodes keys new low)
+masked-once nodes keys own mark cells peer low new count size none is_mark none_upto kept is = (
+  record { size = kept.size; each = each },
+  is ∙ total-same nodes keys _ _ (λ r k in_nodes in_keys.
+      let now = kept.each r k in_nodes in_keys in
+      let ahead = each r k in_nodes in_keys in
+      grind (arith, nat_tests)),
+)
+  where
+    each : (r k : ℕ) → r < nodes → k < keys → cell new nodes r k ≡ number_ahead (cells r k) (peer r k) (get_or low r 0)
+    each r k in_nodes in_keys =
+        let now = kept.each r k in_nodes in_keys in
+        elim (cases_eq r own) [
+          | inl same ↦
+              let upto = none_upto k in_keys in
+              let there = ap (λ o. cell new nodes o k) same in
+              let low_there = ap (λ o. get_or low o 0) same in
+              grind (arith, nat_tests)
+          | inr other ↦ let zero_here = none r (omega (arith, in_nodes, size)) other in grind (arith, nat_tests)
+        ]

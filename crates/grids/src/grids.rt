@@ -3,23 +3,26 @@
 
 ghost use Rattle.std.specs.Prelude.{◌≡◌, ℕ, ◌<◌, ◌≤◌, ◌==◌, ◌↔◌, Bool, IsTrue, length, map, max, nat_lt, slice_index, IfOk, IsOkUnless, if◌then◌else◌};
 ghost use Rattle.bench_types.specs.declared.faults.Fault.TheVariants.{OutOfMemory};
-ghost use Rattle.planes.specs.Planes.{cell, number_ahead, total_of, ArePlanesChanged, IsGrid};
+ghost use Rattle.planes.specs.Grids.{IsGridOf};
+ghost use Rattle.planes.specs.Planes.{cell, number_ahead, total_of, ArePlanesChanged, HasEach, IsGrid};
 ghost use Rattle.grids.specs.Grids.{AreSentTaken, HasColumn, HasPeer, IsAhead, IsOwnerKept, MayTake};
 ghost use Rattle.bench_types.specs.declared.limits.TheConstants.{MOST_NODES};
 ghost use Rattle.grids.specs.inner.Loops.{IsPlaneTaken, MakesAs, MayTakePlane};
-ghost use Rattle.grids.specs.inner.Masks.{AreKeptAhead, HasNoOtherMark};
+ghost use Rattle.grids.specs.inner.Masks.{AreAbovePeer, HasNoneUptoMark, HasNoOtherMark};
 
+use crate::masks::Held;
 use crate::owners::FEW_TO_CHANGE;
-use crate::{counts, owners};
+use crate::{counts, masks, owners};
 use bench_types::Fault;
 use planes::{Grid, Number, Size, are_few, plane_of};
 use std::alloc::Global;
 
-/// Numbers of which some are kept, with 0 in place of the others, and how many are kept.
+/// Numbers of which some are kept, with 0 in place of the others; how many are kept, and how many both tables hold.
 #[derive(Drop)]
 pub struct Masked<N: Number> {
     pub numbers: Vec<N>,
     pub count: u32,
+    pub held: Held,
 }
 
 /// The numbers that one table sends another of its size. Of each owner those above the low mark and up to the high one
@@ -66,23 +69,6 @@ pub(crate) fn change_all_counting<N: Number, G: Fn(usize, N) -> (N, bool), F: Fn
     count
 }
 
-/// So many numbers are copied at a time, which takes fewer instructions than the C library's way to copy many more.
-const COPIED: usize = 1024;
-
-fn copied<N: Number>(alloc: Global, cells: &[N]) -> Result<Vec<N>, Fault>
-    ensures copy { IfOk result (λ v. v.items ≡ cells.now) }
-    ensures only { IsOkUnless result OutOfMemory }
-{
-    let mut copy = Vec::with_capacity(alloc, cells.len())?;
-    let mut start = 0;
-    while start < cells.len() {
-        let end = (start + COPIED).min(cells.len());
-        copy.extend_from_slice(&cells[start..end])?;
-        start = end;
-    }
-    Ok(copy)
-}
-
 // Whether no owner but one has a mark above 0.
 fn has_no_other_mark<N: Number>(low: &[N], own: usize) -> bool
     requires room { length low.now ≤ MOST_NODES }
@@ -106,42 +92,51 @@ pub fn drop_owner<N: Number>(cells: &mut [N], size: Size, owner: usize, mark: u3
     }
 }
 
-// Puts 0 in place of numbers up to the peer's. It answers how many are kept. All planes are gone over as one.
-fn keep_ahead<N: Number>(numbers: &mut [N], size: Size, peer: &[N]) -> u32
-    requires grid { IsGrid size.nodes size.keys (length numbers.old) }
-    requires peer { length peer.now ≡ length numbers.old }
-    ensures { AreKeptAhead N.number size peer.now numbers.old numbers.new result }
-{
-    counts::change_counting(
-        numbers,
-        |at, number| -> (N, bool)
-            requires { at < length peer.now }
-            ensures number { N.number result.0 ≡ number_ahead (N.number number)
-                (slice_index (map N.number peer.entry.now) at) 0 }
-            ensures is_kept { result.1 ≡ nat_lt (slice_index (map N.number peer.entry.now) at) (N.number number) }
-        {
-            let above = number.is_above(peer[at]);
-            (planes::pick(above, number, N::zero()), above)
-        },
-    )
-}
+/// So many numbers are filled at a time, which takes fewer instructions than the C library's way to fill many more.
+const FILLED: usize = 512;
 
-// The numbers ahead, where no owner but one has a mark. That owner's numbers up to it are dropped first, so all planes
-// are gone over as one, without marks.
-fn ahead_of_peer<N: Number>(alloc: Global, grid: Grid<N>, peer: Peer<N>) -> Result<Masked<N>, Fault>
-    requires peer { HasPeer grid peer }
-    requires none { HasNoOtherMark (map N.number peer.low.now) peer.own }
-    ensures ahead { IfOk result (IsAhead N.number grid.entry peer.entry) }
+fn zeros<N: Number>(alloc: Global, count: usize) -> Result<Vec<N>, Fault>
+    ensures zeros { IfOk result (λ v. HasEach count (λ r n. n ≡ 0) (map N.number v.items)) }
     ensures only { IsOkUnless result OutOfMemory }
 {
-    let Grid { cells, size } = grid;
-    let low = peer.low;
-    let own = peer.own;
-    let mut numbers = copied(alloc, cells)?;
-    let all: &mut [N] = &mut numbers;
-    drop_owner(all, size, own, low[own].widen());
-    let count = keep_ahead(all, size, peer.cells);
-    Ok(Masked { numbers, count })
+    let mut numbers = Vec::with_capacity(alloc, count)?;
+    let mut filled = 0;
+    while filled < count {
+        filled = (filled + FILLED).min(count);
+        numbers.resize(filled, N::zero())?;
+    }
+    Ok(numbers)
+}
+
+// The numbers above the peer's: all planes are gone over as one, without marks.
+fn above_peer<N: Number>(alloc: Global, grid: Grid<N>, peer: &[N]) -> Result<Masked<N>, Fault>
+    requires grid { IsGridOf grid }
+    requires peer { length peer.now ≡ length grid.cells.now }
+    ensures above { IfOk result (AreAbovePeer N.number grid.entry peer.now) }
+    ensures only { IsOkUnless result OutOfMemory }
+{
+    let cells = grid.cells;
+    let mut numbers = zeros(alloc, cells.len())?;
+    let tally = masks::mask(&mut numbers, cells, peer);
+    Ok(Masked {
+        numbers,
+        count: tally.kept,
+        held: tally.held,
+    })
+}
+
+// Whether none of an owner's numbers is above 0 and up to a mark.
+fn has_none_upto<N: Number>(cells: &[N], size: Size, owner: usize, mark: N) -> bool
+    requires { HasColumn size cells.now owner }
+    ensures { IsTrue result
+        ↔ HasNoneUptoMark (cell (map N.number cells.now) size.nodes) size.keys owner (N.number mark) }
+{
+    for key in 0..size.keys {
+        if planes::is_between(cells[key * size.nodes + owner], N::zero(), mark) {
+            return false;
+        }
+    }
+    true
 }
 
 // The numbers ahead, plane by plane.
@@ -153,7 +148,11 @@ fn ahead_of_both<N: Number>(alloc: Global, grid: Grid<N>, peer: Peer<N>) -> Resu
     let Grid { cells, size } = grid;
     let other = peer.cells;
     let low = peer.low;
-    let mut numbers = copied(alloc, cells)?;
+    let held = Held {
+        own: planes::count_held(cells),
+        peer: planes::count_held(other),
+    };
+    let mut numbers = Vec::from_slice(alloc, cells)?;
     let count = change_all_counting(&mut numbers, size, |key| {
         let of_peer = plane_of(other, size.nodes, key);
         move |r, number| -> (N, bool)
@@ -167,19 +166,27 @@ fn ahead_of_both<N: Number>(alloc: Global, grid: Grid<N>, peer: Peer<N>) -> Resu
             (planes::pick(is_ahead, number, N::zero()), is_ahead)
         }
     });
-    Ok(Masked { numbers, count })
+    Ok(Masked {
+        numbers,
+        count,
+        held,
+    })
 }
 
 /// The numbers that are above both the peer's and their owner's mark, and 0 in place of the others. One pass masks them
-/// and counts those that it keeps. It is faster where no owner has a mark but the one told, as most often. An error is
-/// lack of memory (`OutOfMemory`).
+/// and counts those that it keeps and those that both tables hold. It serves where no owner has a mark but the peer
+/// itself, and nothing of that one is ahead up to its mark, as most often. An error is lack of memory (`OutOfMemory`).
 pub fn ahead<N: Number>(alloc: Global, grid: Grid<N>, peer: Peer<N>) -> Result<Masked<N>, Fault>
     requires { HasPeer grid peer }
     ensures ahead { IfOk result (IsAhead N.number grid.entry peer.entry) }
     ensures only { IsOkUnless result OutOfMemory }
 {
-    if has_no_other_mark(peer.low, peer.own) {
-        return ahead_of_peer(alloc, grid, peer);
+    let own = peer.own;
+    if has_no_other_mark(peer.low, own) {
+        let above = above_peer(alloc, grid, peer.cells)?;
+        if has_none_upto(&above.numbers, grid.size, own, peer.low[own]) {
+            return Ok(above);
+        }
     }
     ahead_of_both(alloc, grid, peer)
 }

@@ -45,7 +45,7 @@ pub use Rattle.owner_writes.proofs.Keeping.{writes_begun, writes_more}
 pub use Rattle.owner_writes.proofs.Numbers.{IsPlaced, numbered-none, numbered-placed, numbered-some, numbered-within, numbers-before, numbers-compare, numbers-up_to, write_from-here}
 pub use Rattle.owner_writes.specs.Numbered.{AreEnds, AreMadeBy, IsHistory, IsNumberedHistory, IsRoundMark, start_before, start_of}
 pub use Rattle.grids.proofs.ByOwner.{owners-all, owners-next, owners_changed}
-pub use Rattle.grids.specs.Grids.{number_kept}
+pub use Rattle.grids.specs.Grids.{count_held, number_kept}
 pub use Rattle.planes.proofs.Places.{grid-within, planes-written, total-places}
 pub use Rattle.planes.specs.Planes.{ArePlanesChanged, ArePlanesChangedUpto, Cells, HasEach, HasEachPlace, HasNoneAbove, IsGrid, IsRaised, cell, count_between, most_ahead, numbers_taken, total_above}
 pub use Rattle.grids.specs.declared.merges.BothCounts.{BothCounts}

@@ -1,6 +1,6 @@
 -- How many owners and entries a table of versions holds.
--- Serves `digest_size`.
-use Rattle.version_tables.proofs.Common.{nat_tests, ◌≡◌, ℕ, zero, suc, ◌+◌, ◌<◌, ◌≤◌, Bool, cond, nat_lt, List, length, map, map-id, Some, inl, inr, refl, sym, ap, ◌∙◌, arith, count_by, slice_index, entries, len-entries, range_with_len, cases_lt, lt-ltb, le-ltb, length-map, sum_by-map-range_with_len_more, Entry, Item, Mark, Scuttle, Precise, IsUpTo, mark_held, Table, entry_at, items_of, item_of, mark_at, greatest_mark, greatest_version, greatest_mark-none, mark_at-up_to_greatest, write_numbered, cell, sum_below, sum_below-same, total-places, digest_size, sum_by-ones, number_here, number_there, items_sum, numbered-some, VersionTableView, table_in, IsKept}
+-- Serves `digest_size` and `marks_above`.
+use Rattle.version_tables.proofs.Common.{nat_tests, ◌≡◌, ℕ, zero, suc, ◌+◌, ◌<◌, ◌≤◌, Bool, cond, nat_lt, List, length, map, map-id, Some, inl, inr, refl, sym, ap, ◌∙◌, arith, count_by, slice_index, entries, len-entries, range_with_len, cases_lt, lt-ltb, length-map, sum_by-map-range_with_len_more, Entry, Item, Mark, Scuttle, Precise, mark_held, Table, entry_at, items_of, item_of, mark_at, greatest_version, greatest_mark-none, mark_at-up_to_greatest, write_numbered, cell, sum_below, sum_below-same, count_held, total-places, digest_size, sum_by-ones, number_here, number_there, items_sum, numbered-some, VersionTableView, table_in, IsKept}
 use Rattle.version_tables.proofs.Laid.{has_cells}
 
 count-range : (p : ℕ → Bool) (n : ℕ) → count_by p (map (λ i. i) (range_with_len 0 n)) ≡ sum_below n (λ i. cond (p i) 1 0)
@@ -30,7 +30,7 @@ module _ (written : ℕ → List Entry) (v : VersionTableView) (kept : IsKept wr
           ∙ sym (rw (lt-ltb 0 (suc place) (omega arith)))
 
   -- entries held
-  pub held-size : sum_below (length v.cells) (λ i. cond (nat_lt 0 (slice_index v.cells i)) 1 0) ≡ digest_size Precise t
+  held-size : sum_below (length v.cells) (λ i. cond (nat_lt 0 (slice_index v.cells i)) 1 0) ≡ digest_size Precise t
   held-size =
       ap (λ n. sum_below n (λ i. cond (nat_lt 0 (slice_index v.cells i)) 1 0)) kept.numbers.size
       ∙ total-places v.nodes v.keys (λ i. nat_lt 0 (slice_index v.cells i))
@@ -39,6 +39,11 @@ module _ (written : ℕ → List Entry) (v : VersionTableView) (kept : IsKept wr
       ∙ sum_by-ones (λ (_ : Item). 1) (λ _. refl) (items_of t)
       ∙ length-map (entries t.held) item_of
       ∙ sym (len-entries t.held)
+
+  pub cells-size : {N : Type 0} (number : N → ℕ) (xs : List N) → map number xs ≡ v.cells → count_held number xs ≡ digest_size Precise t
+  cells-size number xs is =
+      let size = sym (length-map xs number) ∙ ap length is in
+      (λ i. sum_below (size i) (λ r. cond (nat_lt 0 (slice_index (is i) r)) 1 0)) ∙ held-size
 
   -- owners of whom something is held
   owner_here : (r : ℕ) → r < v.nodes → nat_lt 0 (slice_index v.greatest r) ≡ nat_lt 0 (greatest_version t r)

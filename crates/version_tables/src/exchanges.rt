@@ -9,7 +9,7 @@ ghost use Rattle.version_tables.specs.inner.Histories.{IsReadyExchange};
 ghost use Rattle.version_tables.specs.inner.Taken.{BothStay, HaveTakenBoth, MayTakeBoth};
 
 use crate::deltas::{Course, delta};
-use crate::digests::digest_size;
+use crate::digests::{digest_size, digest_sizes};
 use crate::merging::{may_merge, merge};
 use crate::tables::{VersionTable, Written};
 use crate::taking::{Arrival, take_unless};
@@ -34,18 +34,19 @@ pub(crate) fn exchange<N: Number, H: Written>(
 {
     let plan = course.plan;
     let rules = course.rules;
-    let digest1 = digest_size(initiator, rules.mode);
     if plan.lost1 {
+        let digest1 = digest_size(initiator, rules.mode);
         return Ok(sent_before_an_answer(digest1));
     }
     if !plan.lost2 && !plan.lost3 && may_merge(initiator, responder, course.histories, rules) {
+        let digest1 = digest_size(initiator, rules.mode);
         let digest2 = digest_size(responder, rules.mode);
         let came = merge(initiator, responder);
         let back = all_sent(came.first);
         let forth = all_sent(came.second);
         return Ok(sent_both(digest1, digest2, back, forth, false));
     }
-    exchange_deltas(course, initiator, responder, digest1)
+    exchange_deltas(course, initiator, responder)
 }
 
 fn all_sent(count: u32) -> DeltaCounts
@@ -62,9 +63,8 @@ fn exchange_deltas<N: Number, H: Written>(
     course: &Course<N, H>,
     initiator: &mut VersionTable<N, H>,
     responder: &mut VersionTable<N, H>,
-    digest1: u32,
 ) -> Result<Record, Fault>
-    requires { HasCome H.lists N.most course.now.rules.now course.now.plan.now course.now.histories.now digest1
+    requires { HasCome H.lists N.most course.now.rules.now course.now.plan.now course.now.histories.now
         initiator.old responder.old }
     ensures ok { IfOk result
         (MakesOf (table_in H.lists) course.now.rules.now course.now.plan.now initiator.old responder.old
@@ -74,9 +74,9 @@ fn exchange_deltas<N: Number, H: Written>(
 {
     let plan = course.plan;
     let back = delta(responder, initiator, course)?;
-    let digest2 = digest_size(responder, course.rules.mode);
+    let held = digest_sizes(responder, initiator, course.rules.mode, back.held);
     if plan.lost2 {
-        return Ok(sent_back(digest1, digest2, back.counts));
+        return Ok(sent_back(held.peer, held.own, back.counts));
     }
     let forth = delta(initiator, responder, course)?;
     let came = Arrival {
@@ -88,7 +88,7 @@ fn exchange_deltas<N: Number, H: Written>(
         nothing: plan.lost3 | (forth.counts.sent == 0),
     };
     take_both(course, initiator, responder, came, went)?;
-    Ok(sent_both(digest1, digest2, back.counts, forth.counts, plan.lost3))
+    Ok(sent_both(held.peer, held.own, back.counts, forth.counts, plan.lost3))
 }
 
 // Each side takes what came to it, unless that is nothing. The second delta may also be lost.

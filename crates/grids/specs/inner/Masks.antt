@@ -1,15 +1,72 @@
 -- Numbers of which those are kept that are ahead of a peer's. Source: this project.
-use Rattle.std.specs.Prelude.{◌≡◌, ◌≢◌, ℕ, ◌<◌, nat_lt, List, length, map, slice_index}
-use Rattle.planes.specs.declared.sizes.Size.{Size}
-use Rattle.planes.specs.Planes.{cell, number_ahead, total_of, ArePlanesChanged}
+use Rattle.std.specs.Prelude.{◌≡◌, ◌≢◌, ℕ, ◌+◌, ◌*◌, ◌<◌, ◌≤◌, ◌&&◌, false, nat_le, nat_lt, List, length, map, slice_index}
+use Rattle.bench_types.specs.declared.limits.TheConstants.{MOST_KEYS, MOST_NODES}
+use Rattle.planes.specs.declared.sizes.Grid.{Grid}
+use Rattle.planes.specs.Grids.{cells_in}
+use Rattle.planes.specs.Loops.{count_passing, AreCountedUpto, IsPart}
+use Rattle.planes.specs.Planes.{cell, total_of, Cells, HasEachPlace}
+use Rattle.grids.specs.Grids.{count_held, number_kept}
+use Rattle.grids.specs.declared.grids.Masked.{Masked}
+use Rattle.grids.specs.declared.masks.Tally.{Tally}
 
 -- no owner but one has a mark above 0
 abbrev pub HasNoOtherMark : List ℕ → ℕ → Type 0
 HasNoOtherMark low own = (owner : ℕ) → owner < length low → owner ≢ own → slice_index low owner ≡ 0
 
--- the numbers above the peer's are kept, so many, and 0 stands in place of the others
-pub record AreKeptAhead {N : Type 0} (number : N → ℕ) (size : Size) (peer old new : List N) (kept : ℕ) : Type 0 where
-  pub numbers : ArePlanesChanged (λ r k x y. y ≡ number_ahead x (cell (map number peer) size.nodes r k) 0)
-      size.nodes size.keys (map number old) (map number new)
-  pub count : kept ≡ total_of size.nodes size.keys
-      (λ r k. nat_lt (cell (map number peer) size.nodes r k) (cell (map number old) size.nodes r k))
+-- none of an owner's numbers is above 0 and up to a mark
+abbrev pub HasNoneUptoMark : Cells → ℕ → ℕ → ℕ → Type 0
+HasNoneUptoMark cells keys owner mark =
+    (key : ℕ) → key < keys → (nat_lt 0 (cells owner key) && nat_le (cells owner key) mark) ≡ false
+
+-- below a bound stand a table's numbers that are above the peer's, so many, and 0 in place of the others
+abbrev pub AreMaskedUpto : List ℕ → List ℕ → List ℕ → List ℕ → ℕ → ℕ → Type 0
+AreMaskedUpto cells peer old new bound kept =
+    AreCountedUpto (λ r x y. y ≡ number_kept (slice_index peer r) (slice_index cells r))
+    (λ r. nat_lt (slice_index peer r) (slice_index cells r)) old new bound kept
+
+-- numbers of a table, of its peer, and those that are kept are as many
+pub record AreAsMany {N : Type 0} (numbers cells peer : List N) : Type 0 where
+  pub cells_count : length cells ≡ length numbers
+  pub peer_count : length peer ≡ length numbers
+
+pub record MayMask {N : Type 0} (numbers cells peer : List N) : Type 0 where
+  pub as_many : AreAsMany numbers cells peer
+  pub room : length numbers ≤ MOST_NODES * MOST_KEYS
+
+pub record MayMaskPart {N : Type 0} (most : ℕ) (numbers cells peer : List N) (from size : ℕ) : Type 0 where
+  pub as_many : AreAsMany numbers cells peer
+  pub part : IsPart most (length numbers) from size
+
+pub record AreMasked {N : Type 0} (number : N → ℕ) (cells peer old new : List N) (tally : Tally) : Type 0 where
+  pub numbers : AreMaskedUpto (map number cells) (map number peer) (map number old) (map number new)
+      (length old) tally.kept
+  pub own_held : tally.held.own ≡ count_held number cells
+  pub peer_held : tally.held.peer ≡ count_held number peer
+
+-- so many more are held from one on
+abbrev pub HoldsMore : List ℕ → ℕ → ℕ → ℕ → Type 0
+HoldsMore numbers from size more =
+    (before : ℕ) → before ≡ count_passing from (λ i. nat_lt 0 (slice_index numbers i))
+    → before + more ≡ count_passing (from + size) (λ i. nat_lt 0 (slice_index numbers i))
+
+-- so many numbers from one on, of which those before it were masked
+pub record ArePartMasked {N : Type 0} (number : N → ℕ) (cells peer old new : List N) (from size : ℕ)
+    (tally : Tally) : Type 0 where
+  pub kept_upto : tally.kept ≤ size
+  pub own_upto : tally.held.own ≤ size
+  pub peer_upto : tally.held.peer ≤ size
+  pub numbers : (whole : List ℕ) (before : ℕ)
+      → AreMaskedUpto (map number cells) (map number peer) whole (map number old) from before
+      → AreMaskedUpto (map number cells) (map number peer) whole (map number new) (from + size) (before + tally.kept)
+  pub own_held : HoldsMore (map number cells) from size tally.held.own
+  pub peer_held : HoldsMore (map number peer) from size tally.held.peer
+
+-- numbers of a table that are above the peer's, so many, and 0 in place of the others; and how many numbers both have
+pub record AreAbovePeer {N : Type 0} (number : N → ℕ) (grid : Grid N) (peer : List N) (above : Masked N) : Type 0 where
+  pub numbers : HasEachPlace grid.size.nodes grid.size.keys (λ r k n. n
+      ≡ number_kept (cell (map number peer) grid.size.nodes r k) (cells_in number grid r k))
+      (map number above.numbers.items)
+  pub count : above.count ≡ total_of grid.size.nodes grid.size.keys
+      (λ r k. nat_lt (cell (map number peer) grid.size.nodes r k) (cells_in number grid r k))
+  pub own_held : above.held.own ≡ count_held number grid.cells.now
+  pub peer_held : above.held.peer ≡ count_held number peer

@@ -1,10 +1,11 @@
 -- A delta as marks for each owner. Source: this project.
 use Rattle.std.specs.Prelude.{◌≡◌, ℕ, ◌<◌, Bool, false, List, length, slice_index}
 use Rattle.bench_types.specs.declared.entries.Entry.{Entry}
+use Rattle.bench_types.specs.declared.exchanges.DigestKind.{DigestKind}
 use Rattle.bench_types.specs.declared.exchanges.Exchange.{Exchange}
 use Rattle.bench_types.specs.declared.exchanges.Rules.{Rules}
-use Rattle.bench_types.specs.Mode.{digest_kind}
 use Rattle.bench_types.specs.calls.Budget.{IsLawfulBudget}
+use Rattle.grids.specs.declared.masks.Held.{Held}
 use Rattle.planes.specs.Planes.{cell}
 use Rattle.model.specs.Deltas.{DeltaView, delta_between}
 use Rattle.model.specs.Digests.{digest_size}
@@ -61,10 +62,14 @@ pub record AreMarksOf (rules : Rules) (rotation : ℕ) (written : ℕ → List E
   pub count : sent ≡ length (delta_of_views rules rotation written from to).items
   pub left : cut ≡ (delta_of_views rules rotation written from to).cut
 
--- an exchange of which the first message came, with a digest of this size
+-- the sizes of the digests of a sender and a receiver
+pub record AreDigestSizes (kind : DigestKind) (written : ℕ → List Entry) (from to : VersionTableView)
+    (held : Held) : Type 0 where
+  pub own : held.own ≡ digest_size kind (table_in written from)
+  pub peer : held.peer ≡ digest_size kind (table_in written to)
+
+-- an exchange of which the first message came
 pub record HasCome (written : ℕ → List Entry) (most : ℕ) (rules : Rules) (plan : Exchange) (h : HistoriesView)
-    (digest1 : ℕ) (initiator responder : VersionTableView) : Type 0 where
+    (initiator responder : VersionTableView) : Type 0 where
   pub came : plan.lost1 ≡ false
-  pub kept : IsKept written initiator
-  pub size : digest1 ≡ digest_size (digest_kind rules.mode) (table_in written initiator)
   pub ready : IsReadyExchange written most rules plan h (table_in written initiator) (table_in written responder)

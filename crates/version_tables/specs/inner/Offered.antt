@@ -8,6 +8,7 @@ use Rattle.model.specs.calls.OwnerListView.{all_writes}
 use Rattle.planes.specs.Planes.{cell, total_above, HasEach, HasEachPlace}
 use Rattle.round_tables.specs.Histories.{HistoriesView}
 use Rattle.version_tables.specs.Views.{VersionTableView, IsKept}
+use Rattle.version_tables.specs.declared.deltas.Counted.{Counted}
 use Rattle.version_tables.specs.declared.deltas.DeltaMarks.{DeltaMarks}
 use Rattle.version_tables.specs.declared.deltas.Offered.{Offered}
 use Rattle.version_tables.specs.inner.Deltas.{AreMarksOf, MaySend}
@@ -52,11 +53,12 @@ pub record IsOffered {N : Type 0} (number : N → ℕ) (kind : DigestKind) (from
       ≡ total_above from.nodes from.keys (map number offered.cells.now) (map number offered.low.now)
 
 -- marks of a delta, from those that are told and those that a plan has, by what goes first
-pub record AreMarksBy {N : Type 0} (number : N → ℕ) (first : First) (low high : List N) (marked : Marked N)
+pub record AreMarksBy {N : Type 0} (number : N → ℕ) (first : First) (low high : List N) (counted : Counted N)
     (d : DeltaMarks N) : Type 0 where
-  pub low_is : map number d.low.items ≡ by_first first (map number low) (map number marked.mark.items)
-  pub high_is : map number d.high.items ≡ by_first first (map number marked.mark.items) (map number high)
-  pub counts : d.counts ≡ marked.counts
+  pub low_is : map number d.low.items ≡ by_first first (map number low) (map number counted.marked.mark.items)
+  pub high_is : map number d.high.items ≡ by_first first (map number counted.marked.mark.items) (map number high)
+  pub counts : d.counts ≡ counted.marked.counts
+  pub held : d.held ≡ counted.held
 
 -- a plan has marks of a delta
 abbrev pub IsPlanned : {N : Type 0} → (N → ℕ) → (ℕ → List Entry) → Rules → ℕ → VersionTableView

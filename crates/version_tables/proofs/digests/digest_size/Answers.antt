@@ -1,5 +1,5 @@
 use Rattle.version_tables.proofs.Common.{cond, nat_lt, slice_index, sym, ap, ◌∙◌, length, length-map, sum_below, digest_size, table_in}
-use Rattle.version_tables.proofs.DigestSizes.{held-size, owners-size}
+use Rattle.version_tables.proofs.DigestSizes.{cells-size, owners-size}
 use Rattle.version_tables.proofs.digests.digest_size.Goals as goal
 
 pub returns-in-Scuttle-clause-size : goal.returns-in-Scuttle-clause-size
@@ -12,8 +12,6 @@ returns-in-Scuttle-clause-size g c =
 
 pub returns-in-Precise-clause-size : goal.returns-in-Precise-clause-size
 returns-in-Precise-clause-size g c =
-    let size = sym (length-map c.cells.result.now g.N.Number.number) ∙ ap length c.cells.ensures.value in
     c.count_held-in-Precise.ensures
-    ∙ (λ i. sum_below (size i) (λ r. cond (nat_lt 0 (slice_index (c.cells.ensures.value i) r)) 1 0))
-    ∙ held-size g.H.Written.lists c.args.table.now c.cells.ensures.kept
+    ∙ cells-size g.H.Written.lists c.args.table.now c.cells.ensures.kept g.N.Number.number c.cells.result.now c.cells.ensures.value
     ∙ (λ i. digest_size ((sym c.in-Precise.is ∙ c.digest_kind.ensures) i) (table_in g.H.Written.lists c.args.table.now))

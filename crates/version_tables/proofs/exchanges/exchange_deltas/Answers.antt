@@ -7,7 +7,7 @@ pub returns-then-plan-clause-ok : goal.returns-then-plan-clause-ok
 returns-then-plan-clause-ok g c =
     let table = table_in g.H.Written.lists in
     let back = delta_of_views c.args.course.now.rules.now c.args.course.now.plan.now.rotation g.H.Written.lists c.args.responder.now c.args.initiator.now in
-    rw (c.requires.came, c.if-plan.true, ← c.requires.size, ← c.digest_size-digest2.ensures.size)
+    rw (c.requires.came, c.if-plan.true, ← c.digest_sizes-held.ensures.peer, ← c.digest_sizes-held.ensures.own)
     (ap {B = Exchanged} (λ (s : Record). record { initiator = table c.args.initiator.now; responder = table c.args.responder.now; sent = s })
     (sym (c.sent_back.ensures back back c.in_ok-back.ensures.delta.count c.in_ok-back.ensures.delta.left)))
 
@@ -21,7 +21,7 @@ pub take_both-requires : goal.take_both-requires
 take_both-requires g c =
     let number = g.N.Number.number in
     let plan = c.args.course.now.plan.now in
-    let both = ready c.requires.ready c.requires.kept c.digest_size-digest2.ensures.kept in
+    let both = ready c.requires.ready c.in_ok-back.ensures.kept.1 c.in_ok-back.ensures.kept.0 in
     let nodes = c.requires.ready.tables.nodes in
     let back = c.in_ok-back.ensures.delta in
     let forth = c.in_ok-forth.ensures.delta in
@@ -48,7 +48,8 @@ take_both-requires g c =
 pub returns-clause-ok : goal.returns-clause-ok
 returns-clause-ok g c =
     let taken = c.in_ok-take_both.ensures.ok in
-    exchange_whole c.args.course.now.plan.now (ready c.requires.ready c.requires.kept c.digest_size-digest2.ensures.kept)
-    c.in_ok-back.ensures.delta c.in_ok-forth.ensures.delta c.args.digest1 c.digest_size-digest2.result c.requires.size c.digest_size-digest2.ensures.size
+    exchange_whole c.args.course.now.plan.now (ready c.requires.ready c.in_ok-back.ensures.kept.1 c.in_ok-back.ensures.kept.0)
+    c.in_ok-back.ensures.delta c.in_ok-forth.ensures.delta c.digest_sizes-held.result.peer c.digest_sizes-held.result.own
+    c.digest_sizes-held.ensures.peer c.digest_sizes-held.ensures.own
     c.requires.came c.if-plan.false _ _ refl refl c.take_both.new.initiator c.take_both.new.responder taken.first taken.second
     c.sent_both.result c.sent_both.ensures

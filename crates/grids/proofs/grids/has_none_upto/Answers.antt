@@ -1,0 +1,20 @@
+use Rattle.grids.proofs.Common.{◌≡◌, ◌+◌, ◌*◌, ◌<◌, ◌&&◌, false, nat_le, nat_lt, refl, sym, ◌∙◌, arith, length, map, below_more, cell}
+use Rattle.planes.proofs.Elementwise.{number-at}
+use Rattle.planes.proofs.Places.{plane-within}
+use Rattle.grids.proofs.grids.has_none_upto.Goals as goal
+
+pub loop-key-preserved : goal.loop-key-preserved
+loop-key-preserved g c =
+    let number = g.N.Number.number in
+    let nodes = c.args.size.nodes in
+    let key = c.loop-key.key in
+    let mark = number c.args.mark in
+    let within = plane-within nodes c.args.size.keys (length c.args.cells.now) key c.requires.grid c.loop-key-test.true in
+    let inside : key * nodes + c.args.owner < length c.args.cells.now = omega (arith, within, c.requires.among) in
+    let at = number-at number c.args.cells.now (key * nodes + c.args.owner) c.index-cells-key.result inside c.index-cells-key.is in
+    let cells = cell (map number c.args.cells.now) nodes c.args.owner in
+    below_more (λ k. (nat_lt 0 (cells k) && nat_le (cells k) mark) ≡ false) key c.loop-key.invariant
+    (sym (c.is_between.ensures ∙ (λ i. nat_lt (c.zero.ensures i) (at i) && nat_le (at i) mark)) ∙ c.if-is_between.false)
+
+pub returns : goal.returns
+returns g c = (λ yes key lt. c.loop-key.invariant key (omega (arith, lt, c.loop-key-test.false)), λ none. refl)

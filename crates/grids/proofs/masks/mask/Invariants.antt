@@ -1,0 +1,19 @@
+use Rattle.grids.proofs.Common.{◌≡◌, ◌-◌, ◌≤◌, length, map, nat_lt, slice_index, count_passing, AreMaskedUpto}
+use Rattle.grids.proofs.masks.mask.Given as goal
+
+abbrev pub invariant-loop-numbers : goal.invariant-loop-numbers
+invariant-loop-numbers g l =
+    let cells = map g.N.Number.number l.cells in
+    let peer = map g.N.Number.number l.peer in
+    record {
+      within : l.from ≤ length l.initial.numbers;
+      kept_upto : l.kept ≤ l.from;
+      own_upto : l.own ≤ l.from;
+      peer_upto : l.others ≤ l.from;
+      numbers : AreMaskedUpto cells peer (map g.N.Number.number l.initial.numbers) (map g.N.Number.number l.numbers) l.from l.kept;
+      own_held : l.own ≡ count_passing l.from (λ i. nat_lt 0 (slice_index cells i));
+      peer_held : l.others ≡ count_passing l.from (λ i. nat_lt 0 (slice_index peer i));
+    }
+
+abbrev pub decreases-loop-numbers : goal.decreases-loop-numbers
+decreases-loop-numbers g l = length l.initial.numbers - l.from

@@ -3,7 +3,8 @@
 use Rattle.version_lags.proofs.Common.{◌≡◌, ℕ, zero, suc, ◌+◌, ◌-◌, ◌<◌, ◌≤◌, Bool, eqb, ltb, ◌&&◌, List, length, get_or, Some, None, ◌⊎◌, option_map, inl, inr, refl, sym, ap, ◌∙◌, arith, length-append, position_or_len, find_at, fails_before_first, passes_at_first, slice_get_cases, cases_lt, lt-ltb, ltb-true, eq-eqb, eqb-true, and_parts, both_ways, get_or-append_right, get_or-map, length-map, Entry, absent, mark_of, mark_held, is_before, before-yes, Write, write_of_entry, OwnerListView, entries_of, written, AreWrites, write_numbered, write_from-here, BirthsRise, numbered-placed, numbered-within, numbers-compare, base_of, number_staleness, IsMissed, IsFirstMissed, HasNoneMissed}
 
 -- births don't fall with the numbers
-pub numbers-born : (writes : List Entry) (rise : BirthsRise writes) (m n : ℕ) (d e : Entry) → write_numbered writes m ≡ Some d → write_numbered writes n ≡ Some e → m ≤ n → d.born ≤ e.born
+pub numbers-born : (writes : List Entry) (rise : BirthsRise writes) (m n : ℕ) (d e : Entry)
+    → write_numbered writes m ≡ Some d → write_numbered writes n ≡ Some e → m ≤ n → d.born ≤ e.born
 numbers-born writes rise m n d e is_d is_e le =
     let first = numbered-placed writes m d is_d in
     let second = numbered-placed writes n e is_e in
@@ -44,9 +45,11 @@ module _ (v : OwnerListView) (are : AreWrites v) where
 
   module _ (rise : BirthsRise all) where
     -- a mark is below that of a write of the generation just where its number is
-    before-number : (c m : ℕ) (e : Entry) → c ≤ length all → write_numbered all m ≡ Some e → IsCurrent m e → is_before (mark_held (write_numbered all c)) (mark_of e) ≡ ltb c m
+    before-number : (c m : ℕ) (e : Entry) → c ≤ length all → write_numbered all m ≡ Some e → IsCurrent m e
+        → is_before (mark_held (write_numbered all c)) (mark_of e) ≡ ltb c m
     before-number zero m e le is at =
-        before-yes absent (mark_of e) (record { generation = omega arith; version = λ same. omega (arith, at.is, at.version) }) ∙ sym (lt-ltb 0 m (omega (arith, at.is)))
+        before-yes absent (mark_of e) (record { generation = omega arith; version = λ same. omega (arith, at.is, at.version) })
+        ∙ sym (lt-ltb 0 m (omega (arith, at.is)))
     before-number (suc i) m e le is at =
         let here = write_from-here all i e (omega (arith, le)) in
         ap (λ o. is_before (mark_held o) (mark_of e)) here
@@ -71,8 +74,9 @@ module _ (v : OwnerListView) (are : AreWrites v) where
       none_before m e missed =
           let at = current-numbered m e missed.written missed.current in
           let w = write_of_entry e in
+          let passes = ap test (at.there w) ∙ tested m e missed.written at ∙ (λ i. eq-eqb e.key key missed.keyed i && lt-ltb c m missed.over i) in
           elim (cases_lt at.place first) [
-            | inl before ↦ absurd (both_ways (test (get_or (written v) at.place w)) (fails_before_first test (written v) at.place w before) (ap test (at.there w) ∙ tested m e missed.written at ∙ (λ i. eq-eqb e.key key missed.keyed i && lt-ltb c m missed.over i)))
+            | inl before ↦ absurd (both_ways (test (get_or (written v) at.place w)) (fails_before_first test (written v) at.place w before) passes)
             | inr behind ↦ omega (arith, at.is, behind)
           ]
 
@@ -85,27 +89,31 @@ module _ (v : OwnerListView) (are : AreWrites v) where
       -- nothing is missed, or there is a first write that is
       pub missed_cases : (round : ℕ) → (HasNoneMissed v key c × (number_staleness round v key c ≡ None)) ⊎ HasMissed round
       unfolding test
-      missed_cases round = elim (slice_get_cases (written v) first).1 [
-        | inl found ↦
-            let w = found.0 in
-            let d : Entry = record { key = 0; generation = 0; version = 0; value = 0; born = 0 } in
-            let e = get_or all (base + first) d in
-            let is = write_from-here all (base + first) d (omega (arith, found.1, length-map v.current write_of_entry, length-append v.earlier v.current)) in
-            let at = current-numbered (suc (base + first)) e is (omega arith) in
-            let there : w ≡ write_of_entry e = sym found.3 ∙ ap (λ i. get_or (written v) i w) {x = first} {y = at.place} (omega (arith, at.is)) ∙ at.there w in
-            let passes = sym (tested (suc (base + first)) e is at) ∙ ap test (sym there ∙ sym found.3) ∙ passes_at_first test (written v) w found.1 in
-            let parts = and_parts (eqb e.key key) (ltb c (suc (base + first))) passes in
-            inr (record {
-              number = suc (base + first);
-              e = e;
-              first = record {
-                missed = record { written = is; current = omega arith; keyed = eqb-true e.key key parts.0; over = ltb-true c (suc (base + first)) parts.1 };
-                first = none_before;
-              };
-              staleness = ap (option_map (λ (x : Write). round - x.born + 1)) (find_at test (written v) ∙ found.2) ∙ ap (λ (x : Write). Some (round - x.born + 1)) there;
-            })
-        | inr past ↦ inl (
-          (λ m e missed. omega (arith, none_before m e missed, past.0, (numbered-within all m e missed.written).1, length-map v.current write_of_entry, length-append v.earlier v.current)),
-          ap (option_map (λ (x : Write). round - x.born + 1)) (find_at test (written v) ∙ past.1),
-        )
-      ]
+      missed_cases round =
+          let behind = λ (w : Write). round - w.born + 1 in
+          elim (slice_get_cases (written v) first).1 [
+            | inl found ↦
+                let w = found.0 in
+                let d : Entry = record { key = 0; generation = 0; version = 0; value = 0; born = 0 } in
+                let e = get_or all (base + first) d in
+                let is = write_from-here all (base + first) d (omega (arith, found.1, length-map v.current write_of_entry, length-append v.earlier v.current)) in
+                let at = current-numbered (suc (base + first)) e is (omega arith) in
+                let there : w ≡ write_of_entry e = sym found.3 ∙ ap (λ i. get_or (written v) i w) {x = first} {y = at.place} (omega (arith, at.is)) ∙ at.there w in
+                let passes = sym (tested (suc (base + first)) e is at) ∙ ap test (sym there ∙ sym found.3) ∙ passes_at_first test (written v) w found.1 in
+                let parts = and_parts (eqb e.key key) (ltb c (suc (base + first))) passes in
+                inr (record {
+                  number = suc (base + first);
+                  e = e;
+                  first = record {
+                    missed = record { written = is; current = omega arith; keyed = eqb-true e.key key parts.0; over = ltb-true c (suc (base + first)) parts.1 };
+                    first = none_before;
+                  };
+                  staleness = ap (option_map behind) (find_at test (written v) ∙ found.2) ∙ ap (λ x. Some (behind x)) there;
+                })
+            | inr past ↦
+                let size : length all ≡ base + length (written v) = omega (arith, length-map v.current write_of_entry, length-append v.earlier v.current) in
+                inl (
+                  λ m e missed. omega (arith, none_before m e missed, past.0, (numbered-within all m e missed.written).1, size),
+                  ap (option_map behind) (find_at test (written v) ∙ past.1),
+                )
+          ]

@@ -91,14 +91,15 @@ module _ (v : OwnerListView) (are : AreWrites v) where
       unfolding test
       missed_cases round =
           let behind = λ (w : Write). round - w.born + 1 in
+          let size : length all ≡ base + length (written v) = omega (arith, length-map v.current write_of_entry, length-append v.earlier v.current) in
           elim (slice_get_cases (written v) first).1 [
             | inl found ↦
                 let w = found.0 in
                 let d : Entry = record { key = 0; generation = 0; version = 0; value = 0; born = 0 } in
                 let e = get_or all (base + first) d in
-                let is = write_from-here all (base + first) d (omega (arith, found.1, length-map v.current write_of_entry, length-append v.earlier v.current)) in
+                let is = write_from-here all (base + first) d (omega (arith, found.1, size)) in
                 let at = current-numbered (suc (base + first)) e is (omega arith) in
-                let there : w ≡ write_of_entry e = sym found.3 ∙ ap (λ i. get_or (written v) i w) {x = first} {y = at.place} (omega (arith, at.is)) ∙ at.there w in
+                let there : w ≡ write_of_entry e = sym found.3 ∙ ap (λ i. get_or (written v) i w) {y = at.place} (omega (arith, at.is)) ∙ at.there w in
                 let passes = sym (tested (suc (base + first)) e is at) ∙ ap test (sym there ∙ sym found.3) ∙ passes_at_first test (written v) w found.1 in
                 let parts = and_parts (eqb e.key key) (ltb c (suc (base + first))) passes in
                 inr (record {
@@ -110,10 +111,8 @@ module _ (v : OwnerListView) (are : AreWrites v) where
                   };
                   staleness = ap (option_map behind) (find_at test (written v) ∙ found.2) ∙ ap (λ x. Some (behind x)) there;
                 })
-            | inr past ↦
-                let size : length all ≡ base + length (written v) = omega (arith, length-map v.current write_of_entry, length-append v.earlier v.current) in
-                inl (
-                  λ m e missed. omega (arith, none_before m e missed, past.0, (numbered-within all m e missed.written).1, size),
-                  ap (option_map behind) (find_at test (written v) ∙ past.1),
-                )
+            | inr past ↦ inl (
+              λ m e missed. omega (arith, none_before m e missed, past.0, (numbered-within all m e missed.written).1, size),
+              ap (option_map behind) (find_at test (written v) ∙ past.1),
+            )
           ]

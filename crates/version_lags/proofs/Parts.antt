@@ -30,13 +30,13 @@ least_below-le (suc n) f most = omega (arith, least_below-le n f most)
 module _ (v : NumbersView) (grids : AreGrids v) where
   total-is : (test : List ℕ → ℕ → ℕ → Bool) (from to total : ℕ) → total_below v test from + total ≡ total_below v test to
       → IsTotal v test from to total
-  total-is test from to total is = record { few = omega (arith, is, sum_below-most _ to (MOST_NODES * MOST_KEYS) (λ p _. few (numbers_at v.tables p))); is = is }
+  total-is test from to total is = record { is = is; few = omega (arith, is, sum_below-most _ to (MOST_NODES * MOST_KEYS) (λ p _. few p)) }
     where
       of_owner : (table : List ℕ) (r : ℕ) → sum_below v.keys (λ k. cond (test table r k) 1 0) ≤ MOST_KEYS
       of_owner table r = omega (arith, grids.grid.few_keys, count_le v.keys (test table r))
 
-      few : (table : List ℕ) → total_of v.nodes v.keys (test table) ≤ MOST_NODES * MOST_KEYS
-      few table = omega (arith, grids.grid.few_nodes, sum_below-most _ v.nodes MOST_KEYS (λ r _. of_owner table r))
+      few : (p : ℕ) → total_of v.nodes v.keys (test (numbers_at v.tables p)) ≤ MOST_NODES * MOST_KEYS
+      few p = omega (arith, grids.grid.few_nodes, sum_below-most _ v.nodes MOST_KEYS (λ r _. of_owner (numbers_at v.tables p) r))
 
   -- where no node has forgotten, nothing is left over
   pub none_left : (table : List ℕ) → ((r : ℕ) → r < v.nodes → slice_index v.bases r ≡ 0) → total_of v.nodes v.keys (is_left v table) ≡ 0

@@ -52,7 +52,8 @@ module _ (tables : List Table) (h : HistoriesView) (are : MayBeCounted tables h)
         rw (ne_eqb p r other) (λ i. staleness_of h.rounds (generation i) (read i) k (mark_held (at.held i)))
   ]
 
-  pub place_stale : (last : ℕ) → IsLastNumber list k last → stale_count (staleness_at h.rounds tables (lists_in h.lists) p r k) ≡ (if nat_lt c last then 1 else 0)
+  pub place_stale : (last : ℕ) → IsLastNumber list k last
+      → stale_count (staleness_at h.rounds tables (lists_in h.lists) p r k) ≡ (if nat_lt c last then 1 else 0)
   place_stale last is = ap stale_count place_staleness ∙ stale_by_number list (are.together.writes r) (are.written.in_order r) h.rounds k last c is at.written
 
   -- of a node's own part nothing is left over

@@ -71,7 +71,8 @@ module _ {list : OwnerListView} {keys round most first : ℕ} {least : ℕ → �
 
 -- the least number that is held of a write's key, as code reads it
 module _ {N : Type 0} {number : N → ℕ} {most owner first : ℕ} {numbers : RoundNumbers N} {least : List N} {list : OwnerListView}
-    (may : MayWalk number most numbers least owner first list) (place : ℕ) (current : base_of list ≤ place) (e : Entry) (is : write_numbered (entries_of list) (place + 1) ≡ Some e) where
+    (may : MayWalk number most numbers least owner first list) (place : ℕ) (current : base_of list ≤ place)
+    (e : Entry) (is : write_numbered (entries_of list) (place + 1) ≡ Some e) where
   pub walk-index : e.key * length numbers.lists.now + owner < length least
   walk-index =
       let in_keys = may.walks.keyed (place + 1) e is (omega (arith, current)) in

@@ -103,7 +103,8 @@ module _ {N : Type 0} {number : N → ℕ} {most : ℕ} {numbers : RoundNumbers 
   summed_at f p = sum_below (length tables) (λ r. sum_below (table_of_node tables p).keys (f p r))
 
   summed : (f : ℕ → ℕ → ℕ → ℕ) (test : List ℕ → ℕ → ℕ → Bool) (total : ℕ) → IsTotal v test 0 nodes total
-      → ((p r k : ℕ) → p < nodes → r < nodes → k < keys → f p r k ≡ cond (test (numbers_at v.tables p) r k) 1 0) → total ≡ sum_below (length tables) (summed_at f)
+      → ((p r k : ℕ) → p < nodes → r < nodes → k < keys → f p r k ≡ cond (test (numbers_at v.tables p) r k) 1 0)
+      → total ≡ sum_below (length tables) (summed_at f)
   summed f test total is each =
       omega (arith, is.is)
       ∙ sum_below-same nodes (λ p. total_of nodes keys (test (numbers_at v.tables p))) (summed_at f) (λ p in_p.
@@ -119,11 +120,12 @@ module _ {N : Type 0} {number : N → ℕ} {most : ℕ} {numbers : RoundNumbers 
   unfolding behind
   longest r k in_r in_k =
       let list = list_of_owner lists r in
-      let least = lag-least_below list (are.may.together.writes r) (are.may.written.in_order r) round k (λ p. held p r k) (last r k) nodes (last_at r k in_r in_k)
-      (λ p in_p. (number_at p r k in_p in_r in_k).written) in
+      let least = lag-least_below list (are.may.together.writes r) (are.may.written.in_order r) round k (λ p. held p r k) (last r k) nodes
+      (last_at r k in_r in_k) (λ p in_p. (number_at p r k in_p in_r in_k).written) in
       let each = λ (p : ℕ) (in_p : p < nodes).
       place_staleness tables h are.may p r k (held p r k) (in_tables p in_p) (in_tables r in_r) (number_at p r k in_p in_r in_k) in
-      ap (λ c. rounds_behind (number_staleness round list k c)) (least_is r k in_r in_k) ∙ sym least.1 ∙ most_below-same _ _ nodes (λ p in_p. sym (ap rounds_behind (each p in_p)))
+      ap (λ c. rounds_behind (number_staleness round list k c)) (least_is r k in_r in_k)
+      ∙ sym least.1 ∙ most_below-same _ _ nodes (λ p in_p. sym (ap rounds_behind (each p in_p)))
 
   pub figures-are : (greatest : ℕ) → greatest ≡ most_below nodes (λ r. most_lag keys round (list_of_owner lists r) (least_held r))
       → ◌≡◌ {A = Figures} (record { stale = piece.stale; greatest = greatest; leftover = piece.leftover }) (figures_of round tables (lists_in lists))

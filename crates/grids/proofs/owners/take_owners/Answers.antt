@@ -1,4 +1,4 @@
-use Rattle.grids.proofs.Common.{ℕ, ◌≤◌, inl, refl, slice_index, sym, ◌∙◌, arith, map, ltb-false, length-map, cell, number_taken}
+use Rattle.grids.proofs.Common.{ℕ, ◌≤◌, inl, refl, slice_index, sym, ◌∙◌, arith, map, ltb-false, length-map, cell, taken_by}
 use Rattle.planes.proofs.Elementwise.{changed_none, number-at, number-waits, left_next, written_next}
 use Rattle.grids.proofs.ByOwner.{owner-waits, owners-none, owners-next, owners-stay, owners-all, raised-same, taken-passed}
 use Rattle.grids.proofs.owners.take_owners.Goals as goal
@@ -23,7 +23,7 @@ loop-owner-preserved g c =
             cells = owners-next _ _ _ _ owner _ _ _ held.cells w.take_owner.ensures.cells (λ k x. refl);
             greatest =
                 written_next _ _ number _ owner _ held.greatest (omega (arith, lt, c.requires.may.greatest_count, length-map c.args.greatest.now number))
-                (rw (← had) (raised-same _ _ _ owner _ _ (λ k in_keys i. number_taken (waits k lt in_keys i) (sent k) (slice_index (map number c.args.sent.low.now) owner) (slice_index (map number c.args.sent.high.now) owner)) w.take_owner.ensures.greatest));
+                (rw (← had) (raised-same _ _ _ owner _ _ (λ k in_keys i. taken_by number c.args.sent owner k (waits k lt in_keys i)) w.take_owner.ensures.greatest));
           })
       | else-is_above w ↦
           let low = number-at number c.args.sent.low.now owner c.index-low-owner.result (omega (arith, lt, c.requires.may.low_count)) c.index-low-owner.is in

@@ -11,7 +11,8 @@ loop-counted-init g c are =
 
 -- the next one was counted
 next : (g : given.Over) (c : goal.After-whole-in-loop-counted-1 g) (are : ArePieces g.N.Number.number c.args.numbers.now c.args.pieces.now)
-    → let i = c.loop-counted.counted-index in HasCounted g.N.Number.number c.args.numbers.now (slice_index are.bounds i) (slice_index are.bounds (i + 1)) c.in-Ok.piece
+    → let i = c.loop-counted.counted-index in
+    HasCounted g.N.Number.number c.args.numbers.now (slice_index are.bounds i) (slice_index are.bounds (i + 1)) c.in-Ok.piece
 next g c are =
     let i = c.loop-counted.counted-index in
     let read = slice_get_read c.args.pieces.now (length c.args.pieces.now) i c.counted-item.result refl c.loop-counted-test.true c.counted-item.is in

@@ -1,4 +1,4 @@
-use Rattle.version_lags.proofs.Common.{◌≡◌, ◌+◌, map, None, Some, max, sym, ap, ◌∙◌, arith, same_Some, Entry, entry_kept, base_of, cell, length}
+use Rattle.version_lags.proofs.Common.{◌≡◌, ◌+◌, map, None, Some, max, sym, ap, ◌∙◌, arith, same_Some, write_numbered, entries_of, Entry, entry_kept, base_of, cell, length}
 use Rattle.version_lags.proofs.Walks.{walk-next, walk-none, walk-found, walk-read, walk-index, born-upto}
 use Rattle.version_lags.proofs.lags.lag_of_owner.Goals as goal
 use Rattle.version_lags.proofs.lags.lag_of_owner.Goals.{in-Some+else-widen-place, in-None}
@@ -20,10 +20,9 @@ overflow_sub-result g c = born-upto c.requires.walks (c.loop-place.place + 1) (e
 pub returns-then-widen-place : goal.returns-then-widen-place
 returns-then-widen-place g c =
     let e = entry_kept c.in-Some.write.now in
-    let place = c.loop-place.place in
-    let current = c.loop-place.invariant.current in
-    let read = walk-read c.requires place current e c.in-Some.ensures c.index-least-write.result c.index-least-write.is in
-    walk-found c.requires.walks place current e c.in-Some.ensures c.loop-place.invariant.none (omega (arith, c.if-widen-place.true, c.widen-in-Some.ensures, read))
+    let held = c.loop-place.invariant in
+    let read = walk-read c.requires c.loop-place.place held.current e c.in-Some.ensures c.index-least-write.result c.index-least-write.is in
+    walk-found c.requires.walks c.loop-place.place held.current e c.in-Some.ensures held.none (omega (arith, c.if-widen-place, c.widen-in-Some.ensures, read))
 
 pub loop-place-preserved : goal.loop-place-preserved
 loop-place-preserved g c =
@@ -33,10 +32,12 @@ loop-place-preserved g c =
       current = omega (arith, current);
       none = walk-next c.requires.walks place current c.loop-place.invariant.none (λ e is. elim c.match-numbered.branch [
         | in-Some+else-widen-place w ↦
-            let read = walk-read c.requires place current (entry_kept w.in-Some.write.now) w.in-Some.ensures w.index-least-write.result w.index-least-write.is in
+            let x = entry_kept w.in-Some.write.now in
+            let there : write_numbered (entries_of c.args.list.now) (place + 1) ≡ Some x = w.in-Some.ensures in
+            let read = walk-read c.requires place current x there w.index-least-write.result w.index-least-write.is in
             let least = λ (y : Entry). cell (map g.N.Number.number c.args.least.now) (length c.args.numbers.now.lists.now) c.args.owner y.key in
-            omega (arith, w.if-widen-place.false, w.widen-in-Some.ensures, read, ap least (same_Some _ e (sym w.in-Some.ensures ∙ is)))
-        | in-None w ↦ let no : None ≡ Some e = sym w.in-None.ensures ∙ is in absurd (cc)
+            omega (arith, w.if-widen-place.false, w.widen-in-Some.ensures, read, ap least (same_Some x e (sym there ∙ is)))
+        | in-None w ↦ absurd (cc (w.in-None.ensures, is))
       ]);
     }
 

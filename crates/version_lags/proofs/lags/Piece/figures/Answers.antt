@@ -23,7 +23,7 @@ loop-owner-preserved-then-is_upto g c =
     let r = c.loop-owner.owner in
     let lt = c.loop-owner-test.true in
     let since = c.saturating_sub-since.result in
-    let may = may-walk c.requires c.deref-least.ensures.value c.in_ok-firsts.firsts.items c.in_ok-firsts.ensures.least r lt c.index-first.result.now _ c.index-first.ensures refl in
+    let walk = may-walk c.requires c.deref-least.ensures.value c.in_ok-firsts.firsts.items c.in_ok-firsts.ensures.least r lt in
     let row = c.row-row.result.now in
     let ends = c.row-row.ensures in
     let read = number-at number row r c.index-row-owner.result (omega (arith, lt, ends.size, length-map row number)) c.index-row-owner.is in
@@ -31,7 +31,8 @@ loop-owner-preserved-then-is_upto g c =
     let least = cell (map number c.deref-least.result.now) (length lists) in
     let lag = λ (q : ℕ). most_lag numbers.keys numbers.ends.rounds (list_of_owner lists q) (least q) in
     let part = c.requires.are.ends.are_ends.parts r since lt (omega (arith, c.saturating_sub-since.ensures)) in
-    let upto = lag-recent may.walks since _ c.loop-owner.greatest part (omega (arith, after, read, ends.each r lt)) (omega (arith, c.saturating_sub-since.ensures)) in
+    let upto = lag-recent (walk c.index-first.result.now _ c.index-first.ensures refl).walks since _ c.loop-owner.greatest
+    part (omega (arith, after, read, ends.each r lt)) (omega (arith, c.saturating_sub-since.ensures)) in
     most-next lag r c.loop-owner.greatest (lag r) c.loop-owner.greatest c.loop-owner.invariant (omega (arith, upto)) refl
 
 pub returns : goal.returns

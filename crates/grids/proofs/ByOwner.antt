@@ -24,8 +24,8 @@ module _ (to : ℕ → ℕ → ℕ → ℕ) (owner nodes : ℕ) (old : List ℕ)
   owner_more xs ys key before size now others = record {
     size = size ∙ before.size;
     below = λ r k in_node. below_more (λ j. owner_changed to owner r j (cell old nodes r j) (cell ys nodes r j)) key
-        (λ j lt. others (j * nodes + r) (λ e. omega (arith, e, in_node, mul-le-mul_right {m = j + 1} {n = key} nodes (omega (arith, lt)))) ∙ before.below r j in_node lt) (here r in_node) k;
-    from = λ i le. others i (λ e. omega (arith, e, le, in_nodes)) ∙ before.from i (omega (arith, le));
+        (λ j lt. others (j * nodes + r) (λ e. omega (arith, mul-le-mul_right {m = j + 1} {n = key} nodes (omega arith))) ∙ before.below r j in_node lt) (here r in_node) k;
+    from = λ i le. others i (λ e. omega arith) ∙ before.from i (omega arith);
   }
     where
       here : (r : ℕ) → r < nodes → owner_changed to owner r key (cell old nodes r key) (cell ys nodes r key)
@@ -39,7 +39,7 @@ module _ (to : ℕ → ℕ → ℕ → ℕ) (owner nodes : ℕ) (old : List ℕ)
       → number x ≡ to owner key (cell old nodes owner key) → ArePlanesChangedUpto (owner_changed to owner) nodes old (map number (set xs (key * nodes + owner) x)) (key + 1)
   owner-next number xs key x before within is =
       rw (map-set number xs (key * nodes + owner) x) (owner_more (map number xs) _ key before (length-set (map number xs) (key * nodes + owner) (number x))
-      (get_or-set_same (map number xs) (key * nodes + owner) (number x) 0 (omega (arith, before.size, within, in_nodes)) ∙ is)
+      (get_or-set_same (map number xs) (key * nodes + owner) (number x) 0 (omega arith) ∙ is)
       (λ i other. get_or-set_other (map number xs) (key * nodes + owner) i (number x) 0 other))
 
   -- or it stays
@@ -77,7 +77,7 @@ module _ (to : ℕ → ℕ → ℕ → ℕ) (nodes keys : ℕ) (old : List ℕ) 
   pub owners-all : (bound : ℕ) (mid : List ℕ) → nodes ≤ bound → ArePlanesChanged (owners_changed to bound) nodes keys old mid → ArePlanesChanged (λ r k x y. y ≡ to r k x) nodes keys old mid
   owners-all bound mid le before = record {
     size = before.size;
-    each = λ r k in_node in_key. before.each r k in_node in_key ∙ ap (λ b. cond b (to r k (cell old nodes r k)) (cell old nodes r k)) (lt-ltb r bound (omega (arith, in_node, le)));
+    each = λ r k in_node in_key. before.each r k in_node in_key ∙ ap (λ b. cond b (to r k (cell old nodes r k)) (cell old nodes r k)) (lt-ltb r bound (omega arith));
   }
 
   -- an owner whose turn is still to come has its numbers

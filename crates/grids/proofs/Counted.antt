@@ -22,15 +22,15 @@ module _ (changed : ℕ → ℕ → ℕ → ℕ → Type 0) (test : ℕ → ℕ 
   planes_counted-next number xs ys key n count more in_block passes is before within now step same =
       let block = take n (drop (key * nodes) xs) in
       let size = length-map block number in
-      let cells = plane-cells number nodes key n xs is (omega (arith, within, before.planes.size, length-map xs number)) in
+      let cells = plane-cells number nodes key n xs is (omega (arith, length-map xs number)) in
       record {
-        planes = planes-written changed nodes old number xs ys key n in_block is before.planes within (changed_all in_block (map number block) (map number ys) (length block) now.numbers (omega (arith, size))) step;
+        planes = planes-written changed nodes old number xs ys key n in_block is before.planes within (changed_all in_block (map number block) (map number ys) (length block) now.numbers (omega arith)) step;
         count = sum_next _ key count more before.count (plane_count nodes passes (λ r. test r key) (length block) more (sym size ∙ cells.size) now.count same);
       }
 
   pub planes_counted-fits : (new : List ℕ) (keys key size count : ℕ) → IsGrid nodes keys size → key < keys → ArePlanesCounted changed test nodes old new (key + 1) count → Fits w32 count
   planes_counted-fits new keys key size count grid lt is =
-      omega (arith, is.count, lt, grid.few_keys, sum_below-most (λ k. sum_below nodes (λ r. cond (test r k) 1 0)) (key + 1) MOST_NODES (λ k _. omega (arith, grid.few_nodes, count_le nodes (λ r. test r k))))
+      omega (arith, sum_below-most (λ k. sum_below nodes (λ r. cond (test r k) 1 0)) (key + 1) MOST_NODES (λ k _. omega (arith, count_le nodes (λ r. test r k))))
 
   pub planes_counted-all : (new : List ℕ) (keys key count : ℕ) → ArePlanesCounted changed test nodes old new key count → keys ≤ key → key ≤ keys → ArePlanesChanged changed nodes keys old new × (count ≡ total_of nodes keys test)
   planes_counted-all new keys key count is le ge = (planes-all changed nodes old new keys key is.planes le, total_whole nodes keys key test count is.count le ge)
@@ -65,7 +65,7 @@ pub places-counted : (changed : ℕ → ℕ → ℕ → Type 0) (test : ℕ → 
 places-counted changed test nodes keys old new size passed grid is = (
   record {
     size = is.numbers.size;
-    each = λ r k in_nodes in_keys. is.numbers.below (k * nodes + r) (omega (arith, in_nodes, plane-within nodes keys size k grid in_keys));
+    each = λ r k in_nodes in_keys. is.numbers.below (k * nodes + r) (omega (arith, plane-within nodes keys size k grid in_keys));
   },
   is.count ∙ ap (λ n. count_passing n test) grid.whole ∙ total-places nodes keys test,
 )
@@ -77,7 +77,7 @@ module _ (nodes keys own mark : ℕ) (peer : ℕ → ℕ → ℕ) (low old mid n
   above_mark : (r k : ℕ) → r < nodes → k < keys → cell mid nodes r k ≡ number_ahead (cell old nodes r k) 0 (get_or low r 0)
   above_mark r k in_nodes in_keys =
       let now = dropped.each r k in_nodes in_keys in
-      let other = none r (omega (arith, in_nodes, size)) in
+      let other = none r (omega arith) in
       grind (arith, nat_tests)
 
   pub masked-once : (count : ℕ) → ArePlanesChanged (λ r k x y. y ≡ number_ahead x (peer r k) 0) nodes keys mid new

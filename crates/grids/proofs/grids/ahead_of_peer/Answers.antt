@@ -10,7 +10,7 @@ returns-clause-ahead g c =
     let old = c.deref_mut-all.result.now in
     let new = c.keep_ahead-count.new.numbers in
     let items = with_items_is c.in_ok-numbers.numbers new (c.keep_ahead-count.auto.numbers ∙ c.drop_owner.auto.cells ∙ c.deref_mut-all.ensures.len) in
-    let own : c.args.peer.own < length c.args.peer.low.now = omega (arith, c.requires.peer.among, c.requires.peer.marks.count) in
+    let own : c.args.peer.own < length c.args.peer.low.now = omega arith in
     let mark = number-at number c.args.peer.low.now c.args.peer.own c.index-low-own.result own c.index-low-own.is in
     let all =
     masked-once nodes c.args.grid.size.keys c.args.peer.own c.widen.result (cell (map number c.args.peer.cells.now) nodes)

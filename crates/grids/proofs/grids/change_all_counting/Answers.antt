@@ -14,14 +14,14 @@ loop-key-preserved g c =
     let start : ℕ = key * nodes in
     let old = map number c.args.numbers.now in
     let within = plane-within nodes c.args.size.keys (length c.args.numbers.now) key c.requires.grid c.loop-key-test.true in
-    let room : start + nodes ≤ length old = omega (arith, within, length-map c.args.numbers.now number) in
-    let size = length-take-le (start + nodes - start) (drop start c.loop-key.numbers) (omega (arith, within, c.loop-key.auto.numbers, length-drop start c.loop-key.numbers)) in
+    let room : start + nodes ≤ length old = omega (arith, length-map c.args.numbers.now number) in
+    let size = length-take-le (start + nodes - start) (drop start c.loop-key.numbers) (omega (arith, length-drop start c.loop-key.numbers)) in
     record {
-      upto = omega (arith, c.loop-key.invariant.upto, c.change_counting-count.ensures.upto, size);
+      upto = omega arith;
       done = λ made test is.
           let before = c.loop-key.invariant.done made test is in
           planes_counted-next _ _ nodes old number c.loop-key.numbers c.change_counting-count.new.numbers key _ c.loop-key.count c.change_counting-count.result _ _ (omega arith) before room
-          (c.change_counting-count.ensures.done (made key) (test key) (λ r n both lt call. is key c.of_key.result c.loop-key-test.true c.of_key.ensures r n both (omega (arith, lt, size)) call))
+          (c.change_counting-count.ensures.done (made key) (test key) (λ r n both lt call. is key c.of_key.result c.loop-key-test.true c.of_key.ensures r n both (omega arith) call))
           (λ r x y lt now. now) (λ r lt. ap (test key r) (block-cells _ nodes old number c.loop-key.numbers key _ (omega arith) before.planes room r lt));
     }
 

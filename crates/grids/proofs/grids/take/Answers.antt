@@ -26,7 +26,7 @@ loop-key-preserved g c =
 
 pub returns : goal.returns
 returns g c =
-    let all : c.loop-key.key ≡ c.args.sent.grid.size.keys = omega (arith, c.loop-key-test.false, c.loop-key.auto.key-end) in
+    let all : c.loop-key.key ≡ c.args.sent.grid.size.keys = omega arith in
     record {
       cells = planes-all _ _ _ _ c.args.sent.grid.size.keys c.loop-key.key c.loop-key.invariant.cells c.loop-key-test.false;
       greatest = rw (← all) c.loop-key.invariant.greatest;

@@ -24,7 +24,7 @@ next g c =
     let nodes = c.args.marks.size.nodes in
     let key = c.loop-key.key in
     let within = grid-within number nodes c.args.marks.size.keys key c.args.first.now c.requires.marked.grid c.loop-key-test.true in
-    let behind : key * nodes + nodes ≤ length (map number c.args.second.now) = omega (arith, within, c.requires.marked.second, length-map c.args.first.now number, length-map c.args.second.now number) in (
+    let behind : key * nodes + nodes ≤ length (map number c.args.second.now) = omega (arith, length-map c.args.first.now number, length-map c.args.second.now number) in (
       merged-next number nodes key _ _ _ _ _ c.loop-key.second c.loop-key.first c.merge_planes-both.new.first _ _ _ (omega arith) c.loop-key.invariant.second c.loop-key.invariant.first behind within c.merge_planes-both.ensures.first,
       merged-next number nodes key _ _ _ _ _ c.loop-key.first c.loop-key.second c.merge_planes-both.new.second _ _ _ (omega arith) c.loop-key.invariant.first c.loop-key.invariant.second within behind c.merge_planes-both.ensures.second,
     )

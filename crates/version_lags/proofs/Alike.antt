@@ -10,7 +10,7 @@ last-once v key m n one two = elim (cases_lt m n) [
   | inl before ↦ absurd (one.last n (two.there m before).0 (two.there m before).1)
   | inr not_before ↦ elim (cases_lt n m) [
     | inl behind ↦ absurd (two.last m (one.there n behind).0 (one.there n behind).1)
-    | inr not_behind ↦ omega (arith, not_before, not_behind)
+    | inr not_behind ↦ omega arith
   ]
 ]
 
@@ -20,16 +20,16 @@ places-alike : (nodes keys : ℕ) (xs ys : List ℕ) → length xs ≡ keys * no
 places-alike nodes keys xs ys one other each = ext_get_or 0 xs ys (one ∙ sym other) (λ i lt.
     let some : 0 < nodes = elim (cases_lt 0 nodes) [
       | inl lt ↦ lt
-      | inr none ↦ let zero : nodes ≡ 0 = omega (arith, none) in absurd (omega (arith, lt, one, ap (λ n. keys * n) zero))
+      | inr none ↦ let zero : nodes ≡ 0 = omega arith in absurd (omega (arith, ap (λ n. keys * n) zero))
     ] in
     let same : i / nodes * nodes + i % nodes ≡ i = omega arith in
-    subst (λ j. slice_index xs j ≡ slice_index ys j) same (each (i % nodes) (i / nodes) (omega arith) ((div-lt_iff_lt-mul some).1 (omega (arith, lt, one)))))
+    subst (λ j. slice_index xs j ≡ slice_index ys j) same (each (i % nodes) (i / nodes) (omega arith) ((div-lt_iff_lt-mul some).1 (omega arith))))
 
 module _ (tables : List Table) (h : HistoriesView) (cells cells' : List (List ℕ)) (bases last bases' last' : List ℕ)
     (one : AreNumbersOf tables h cells bases last) (two : AreNumbersOf tables h cells' bases' last') where
   bases-alike : bases ≡ bases'
   bases-alike = ext_get_or 0 bases bases' (one.based.size ∙ sym two.based.size)
-      (λ r lt. one.based.each r (omega (arith, lt, one.based.size)) ∙ sym (two.based.each r (omega (arith, lt, one.based.size))))
+      (λ r lt. one.based.each r (omega arith) ∙ sym (two.based.each r (omega arith)))
 
   last-alike : last ≡ last'
   last-alike = places-alike (length h.lists) h.keys last last' one.lasts.size two.lasts.size

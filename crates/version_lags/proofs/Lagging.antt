@@ -13,7 +13,7 @@ module _ (v : OwnerListView) (are : AreWrites v) where
 
     -- what a greater number misses, a lesser one does too
     missed-of : (c d m : ℕ) (e : Entry) → IsMissed v key c m e → d ≤ c → IsMissed v key d m e
-    missed-of c d m e missed le = record { written = missed.written; current = missed.current; keyed = missed.keyed; over = omega (arith, missed.over, le) }
+    missed-of c d m e missed le = record { written = missed.written; current = missed.current; keyed = missed.keyed; over = omega arith }
 
     -- at the last write, or above it
     pub last_fresh : (last c : ℕ) → IsLastNumber v key last → last ≤ c → c ≤ length all → number_staleness round v key c ≡ None
@@ -55,7 +55,7 @@ module _ (v : OwnerListView) (are : AreWrites v) where
     -- one with a greater number hasn't been behind for longer
     lag-falls : (c d : ℕ) → c ≤ d → d ≤ length all → lag d ≤ lag c
     lag-falls c d le within = lag-upto d (lag c) within (λ m e missed.
-        lag-since c m e (omega (arith, le, within)) (missed-of d c m e missed le))
+        lag-since c m e (omega arith) (missed-of d c m e missed le))
 
     -- so the lesser of two has been longest
     lag-least : (c d : ℕ) → c ≤ length all → d ≤ length all → max (lag c) (lag d) ≡ lag (min c d)
@@ -68,9 +68,9 @@ module _ (v : OwnerListView) (are : AreWrites v) where
         → (least_below n f last ≤ length all) × (most_below n (λ p. lag (f p)) ≡ lag (least_below n f last))
     lag-least_below f last zero is within = (is.written, sym (ap rounds_behind (last_fresh last last is (omega arith) is.written)))
     lag-least_below f last (suc n) is within =
-        let before = lag-least_below f last n is (λ p lt. within p (omega (arith, lt))) in
+        let before = lag-least_below f last n is (λ p lt. within p (omega arith)) in
         let here = within n (omega arith) in
-        (omega (arith, before.0), ap (λ m. max m (lag (f n))) before.1 ∙ lag-least (least_below n f last) (f n) before.0 here)
+        (omega arith, ap (λ m. max m (lag (f n))) before.1 ∙ lag-least (least_below n f last) (f n) before.0 here)
 
   -- what is of an earlier generation
   pub left_over-by_number : (c : ℕ) → c ≤ length all → is_left_over v.generation (write_numbered all c) ≡ (nat_lt 0 c && nat_le c (base_of v))
@@ -78,14 +78,14 @@ module _ (v : OwnerListView) (are : AreWrites v) where
   left_over-by_number (suc i) le =
       let d : Entry = record { key = 0; generation = 0; version = 0; value = 0; born = 0 } in
       let e = get_or all i d in
-      let is = write_from-here all i d (omega (arith, le)) in
+      let is = write_from-here all i d (omega arith) in
       rw (is, lt-ltb 0 (suc i) (omega arith)) (elim (cases_lt i (base_of v)) [
         | inl earlier ↦
             let there = ap (λ (x : Entry). x.generation) (get_or_append_left v.earlier v.current d i earlier) in
-            rw (le-leb (suc i) (base_of v) (omega (arith, earlier))) (lt-ltb e.generation v.generation (omega (arith, are.earlier i d earlier, there)))
+            rw (le-leb (suc i) (base_of v) (omega arith)) (lt-ltb e.generation v.generation (omega (arith, are.earlier i d earlier)))
         | inr later ↦
-            let at = current-numbered v are (suc i) e is (omega (arith, later)) in
-            rw (lt-leb (suc i) (base_of v) (omega (arith, later))) (le-ltb e.generation v.generation (omega (arith, at.generation)))
+            let at = current-numbered v are (suc i) e is (omega arith) in
+            rw (lt-leb (suc i) (base_of v) (omega arith)) (le-ltb e.generation v.generation (omega arith))
       ])
 
   -- the last write of a key has the number of each other one, or a greater one
@@ -99,21 +99,21 @@ module _ (v : OwnerListView) (are : AreWrites v) where
       let back = reverse ws in
       let first = position_or_len test back in
       let turned = length ws - 1 - at.place in
-      let same : length ws - 1 - turned ≡ at.place = omega (arith, at.within) in
-      let there = get_or-reverse ws turned d (omega (arith, at.within)) ∙ ap (λ k. get_or ws k d) same ∙ at.there d in
+      let same : length ws - 1 - turned ≡ at.place = omega arith in
+      let there = get_or-reverse ws turned d (omega arith) ∙ ap (λ k. get_or ws k d) same ∙ at.there d in
       let passes = eq-eqb (get_or back turned d).key e.key (ap (λ (w : Write). w.key) there) in
       let upto : first ≤ turned = elim (cases_lt turned first) [
         | inl before ↦ absurd (both_ways (test (get_or back turned d)) (fails_before_first test back turned d before) passes)
         | inr le ↦ le
       ] in
       let place = length ws - 1 - first in
-      let within : place < length v.current = omega (arith, upto, at.within, length-map v.current write_of_entry) in
-      let here = get_or-reverse ws first d (omega (arith, upto, at.within)) ∙ get_or-map write_of_entry v.current place e d within in
+      let within : place < length v.current = omega (arith, length-map v.current write_of_entry) in
+      let here = get_or-reverse ws first d (omega arith) ∙ get_or-map write_of_entry v.current place e d within in
       let version = ap (λ (w : Write). w.version) here in (
         get_or back first d,
         (
-          find_at test back ∙ slice_get-get_or back first d (omega (arith, upto, at.within, length-reverse ws)),
-          omega (arith, at.is, upto, at.within, version, (are.current place e within).1),
+          find_at test back ∙ slice_get-get_or back first d (omega (arith, length-reverse ws)),
+          omega (arith, (are.current place e within).1),
         ),
       )
 
@@ -140,14 +140,14 @@ module _ (v : OwnerListView) (are : AreWrites v) where
             | inl some ↦
                 let here = numbered-some all c some within in
                 let one = same_Some (write_of_entry here.0) last.0 (ap (option_map write_of_entry) (sym here.1) ∙ same) in
-                omega (arith, missed.over, last.1.1, ap (λ (w : Write). w.version) one, (current-numbered v are c here.0 here.1 (newer here.0 here.1)).version)
+                omega (arith, ap (λ (w : Write). w.version) one, (current-numbered v are c here.0 here.1 (newer here.0 here.1)).version)
             | inr none ↦
-                let zero : 0 ≡ c = omega (arith, none) in
+                let zero : 0 ≡ c = omega arith in
                 let no : None ≡ Some last.0 = ap (λ n. option_map write_of_entry (write_numbered all n)) zero ∙ same in
                 absurd (cc)
           ];
       there = λ below lt.
-          let here = numbered-some all c (omega (arith, lt)) within in
+          let here = numbered-some all c (omega arith) within in
           let passes = find_passes (is_write_of key) (reverse (written v)) (write_of_entry here.0) (sym found ∙ ap (option_map write_of_entry) here.1) in
           (here.0, record { written = here.1; current = newer here.0 here.1; keyed = eqb-true here.0.key key passes; over = lt });
     }
@@ -162,6 +162,6 @@ module _ (v : OwnerListView) (are : AreWrites v) where
             elim (cases_lt at.place (base_of v)) [
               | inl earlier ↦
                   let there = ap generation (sym (get_or_append_left v.earlier v.current e at.place earlier) ∙ at.there e) in
-                  absurd (omega (arith, are.earlier at.place e earlier, there, proper.own key e (held ∙ is), beside.generation))
-              | inr later ↦ omega (arith, at.is, later)
+                  absurd (omega (arith, are.earlier at.place e earlier, proper.own key e (held ∙ is)))
+              | inr later ↦ omega arith
             ]

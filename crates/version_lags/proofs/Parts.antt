@@ -19,7 +19,7 @@ pub table-read : {N : Type 0} (number : N → ℕ) (numbers : RoundNumbers N) �
     (map number here ≡ numbers_at (numbers_seen number numbers).tables p) × (length here ≡ length numbers.last.now)
 table-read number numbers grids p d lt =
     let count = length-map numbers.cells.now (λ (x : Bor _). map number x.now) in
-    let read = sym (get_or-map (λ y. map number y.now) numbers.cells.now p d [] (omega (arith, lt, grids.count, count))) in
+    let read = sym (get_or-map (λ y. map number y.now) numbers.cells.now p d [] (omega arith)) in
     (read, sym (length-map (get_or numbers.cells.now p d).now number) ∙ ap length read ∙ grids.alike p lt ∙ length-map numbers.last.now number)
 
 pub least_below-le : (n : ℕ) (f : ℕ → ℕ) (most : ℕ) → least_below n f most ≤ most
@@ -30,19 +30,19 @@ least_below-le (suc n) f most = omega (arith, least_below-le n f most)
 module _ (v : NumbersView) (grids : AreGrids v) where
   total-is : (test : List ℕ → ℕ → ℕ → Bool) (from to total : ℕ) → total_below v test from + total ≡ total_below v test to
       → IsTotal v test from to total
-  total-is test from to total is = record { is = is; few = omega (arith, is, sum_below-most _ to (MOST_NODES * MOST_KEYS) (λ p _. few p)) }
+  total-is test from to total is = record { is = is; few = omega (arith, sum_below-most _ to (MOST_NODES * MOST_KEYS) (λ p _. few p)) }
     where
       of_owner : (table : List ℕ) (r : ℕ) → sum_below v.keys (λ k. cond (test table r k) 1 0) ≤ MOST_KEYS
-      of_owner table r = omega (arith, grids.grid.few_keys, count_le v.keys (test table r))
+      of_owner table r = omega (arith, count_le v.keys (test table r))
 
       few : (p : ℕ) → total_of v.nodes v.keys (test (numbers_at v.tables p)) ≤ MOST_NODES * MOST_KEYS
-      few p = omega (arith, grids.grid.few_nodes, sum_below-most _ v.nodes MOST_KEYS (λ r _. of_owner (numbers_at v.tables p) r))
+      few p = omega (arith, sum_below-most _ v.nodes MOST_KEYS (λ r _. of_owner (numbers_at v.tables p) r))
 
   -- where no node has forgotten, nothing is left over
   pub none_left : (table : List ℕ) → ((r : ℕ) → r < v.nodes → slice_index v.bases r ≡ 0) → total_of v.nodes v.keys (is_left v table) ≡ 0
   none_left table none =
       sum_below-same v.nodes _ (λ r. sum_below v.keys (λ k. 0)) (λ r in_r. sum_below-same v.keys _ _ (λ k _.
-      ap {B = ℕ} (λ b. cond b 1 0) (none_upto (cell table v.nodes r k) (slice_index v.bases r) (λ some. omega (arith, some, none r in_r)))))
+      ap {B = ℕ} (λ b. cond b 1 0) (none_upto (cell table v.nodes r k) (slice_index v.bases r) (λ some. omega (arith, none r in_r)))))
       ∙ omega (arith, sum_below-most (λ r. sum_below v.keys (λ k. 0)) v.nodes 0 (λ r _. omega (arith, sum_below-most (λ k. 0) v.keys 0 (λ k _. omega arith))))
 
   -- what the tables hold of a key, and the least of that and its last number
@@ -67,14 +67,14 @@ module _ (v : NumbersView) (grids : AreGrids v) where
       → ((r k : ℕ) → r < v.nodes → k < v.keys → min (least_upto mid r k) (cell other v.nodes r k) ≡ least_upto to r k)
       → ArePlanesChanged (λ r k a b. b ≡ min a (cell other v.nodes r k)) v.nodes v.keys old new → CountsPiece v from to sum' rest' new
   joined from mid to sum rest sum' rest' x y old new other one sum_is rest_is stale left least changed = record {
-    stale_is = total-is _ from to sum' (omega (arith, one.stale_is.is, sum_is, stale));
-    leftover_is = total-is _ from to rest' (omega (arith, one.leftover_is.is, rest_is, left));
+    stale_is = total-is _ from to sum' (omega arith);
+    leftover_is = total-is _ from to rest' (omega arith);
     least_is = record {
       size = changed.size ∙ one.least_is.size;
       each = λ r k in_r in_k.
           let first = one.least_is.each r k in_r in_k in
           let lowered = changed.each r k in_r in_k in
-          record { upto = omega (arith, lowered, first.upto); is = omega (arith, lowered, first.is, least r k in_r in_k) };
+          record { upto = omega arith; is = omega (arith, least r k in_r in_k) };
     };
   }
 

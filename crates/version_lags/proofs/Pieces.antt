@@ -28,7 +28,7 @@ module _ (tables : List Table) (h : HistoriesView) (are : StandTogether tables h
       → base_of (list_of_owner lists r) < m → e.key < h.keys
   key_within r m e lt is current =
       let standing = are.standing r lt in
-      omega (arith, key_held (list_of_owner lists r) (are.writes r) (table_of_node tables r) standing.proper (beside r lt) m e is current, standing.keys)
+      omega (arith, key_held (list_of_owner lists r) (are.writes r) (table_of_node tables r) standing.proper (beside r lt) m e is current)
 
 module _ (tables : List Table) (h : HistoriesView) (are : MayBeCounted tables h) (p r k c : ℕ) (in_p : p < length tables) (in_r : r < length tables)
     (at : IsNumberAt h.lists (table_of_node tables p) r k c) where
@@ -48,7 +48,7 @@ module _ (tables : List Table) (h : HistoriesView) (are : MayBeCounted tables h)
         let fresh = last_fresh list (are.together.writes r) (are.written.in_order r) h.rounds k c c (at_own same) (omega arith) at.written in
         rw (eq-eqb p r same) (sym fresh)
     | inr other ↦
-        let read = list_read h.lists r no_writes [] (omega (arith, in_r, are.together.one_list_each)) in
+        let read = list_read h.lists r no_writes [] (omega arith) in
         rw (ne_eqb p r other) (λ i. staleness_of h.rounds (generation i) (read i) k (mark_held (at.held i)))
   ]
 

@@ -7,13 +7,13 @@ use Rattle.planes.proofs.Places.{plane-within}
 
 most_below-le : (f : ℕ → ℕ) (m x : ℕ) → ((k : ℕ) → k < m → f k ≤ x) → most_below m f ≤ x
 most_below-le f zero x le = omega arith
-most_below-le f (suc m) x le = omega (arith, le m (omega arith), most_below-le f m x (λ k lt. le k (omega (arith, lt))))
+most_below-le f (suc m) x le = omega (arith, le m (omega arith), most_below-le f m x (λ k lt. le k (omega arith)))
 
 most_below-has : (f : ℕ → ℕ) (m k : ℕ) → k < m → f k ≤ most_below m f
-most_below-has f zero k lt = absurd (omega (arith, lt))
+most_below-has f zero k lt = absurd (omega arith)
 most_below-has f (suc m) k lt = elim (cases_lt k m) [
   | inl before ↦ omega (arith, most_below-has f m k before)
-  | inr not_before ↦ let same : m ≡ k = omega (arith, lt, not_before) in omega (arith, ap f same)
+  | inr not_before ↦ let same : m ≡ k = omega arith in omega (arith, ap f same)
 ]
 
 module _ {list : OwnerListView} {keys round most first : ℕ} {least : ℕ → ℕ} (walks : WalksFrom list keys round most first least) where
@@ -26,11 +26,11 @@ module _ {list : OwnerListView} {keys round most first : ℕ} {least : ℕ → �
   walk-upto place longest none upto = most_below-le _ keys longest (λ k in_keys.
       lag-upto list walks.writes walks.in_order round k (least k) longest (walks.written k in_keys) (λ m e missed. elim (cases_lt place m) [
         | inl behind ↦ upto m e behind missed.written
-        | inr before ↦ absurd (omega (arith, missed.over, none m e missed.written missed.current before, ap least missed.keyed))
+        | inr before ↦ absurd (omega (arith, none m e missed.written missed.current before, ap least missed.keyed))
       ]))
 
   pub walk-none : (place : ℕ) → NonePassUpto list least place → length all ≤ place → 0 ≡ most_lag keys round list least
-  walk-none place none past = omega (arith, walk-upto place 0 none (λ m e behind is. absurd (omega (arith, past, behind, (numbered-within all m e is).1))))
+  walk-none place none past = omega (arith, walk-upto place 0 none (λ m e behind is. absurd (omega (arith, (numbered-within all m e is).1))))
 
   -- no write is of a later round
   pub born-upto : (m : ℕ) (e : Entry) → write_numbered all m ≡ Some e → e.born ≤ round
@@ -42,7 +42,7 @@ module _ {list : OwnerListView} {keys round most first : ℕ} {least : ℕ → �
   pub lag-recent : (since mark longest : ℕ) → IsRoundMark all 0 since mark → mark ≤ first → round ≤ since + longest
       → most_lag keys round list least ≤ longest
   lag-recent since mark longest marked upto_first recent = walk-upto (max (base_of list) first) longest walks.start (λ m e past is.
-      omega (arith, marked.above m e (omega (arith, past)) is (omega (arith, upto_first, past)), born-upto m e is, recent))
+      omega (arith, marked.above m e (omega arith) is (omega arith), born-upto m e is))
 
   -- what a walk reads next, where no write up to a place passes
   module _ (place : ℕ) (current : base_of list ≤ place) where
@@ -50,23 +50,23 @@ module _ {list : OwnerListView} {keys round most first : ℕ} {least : ℕ → �
         → NonePassUpto list least (place + 1)
     walk-next none here m e is later le = elim (cases_lt place m) [
       | inl next ↦
-          let same : m ≡ place + 1 = omega (arith, next, le) in
-          omega (arith, here e (sym (ap (write_numbered all) same) ∙ is), same)
+          let same : m ≡ place + 1 = omega arith in
+          omega (arith, here e (sym (ap (write_numbered all) same) ∙ is))
       | inr before ↦ none m e is later before
     ]
 
     pub walk-found : (e : Entry) → write_numbered all (place + 1) ≡ Some e → NonePassUpto list least place → least e.key ≤ place
         → round - e.born + 1 ≡ most_lag keys round list least
     walk-found e is none over =
-        let in_keys = walks.keyed (place + 1) e is (omega (arith, current)) in
+        let in_keys = walks.keyed (place + 1) e is (omega arith) in
         let older = λ (m : ℕ) (d : Entry) (behind : place < m) (is_d : write_numbered all m ≡ Some d).
-        numbers-born all walks.in_order (place + 1) m e d is is_d (omega (arith, behind)) in
+        numbers-born all walks.in_order (place + 1) m e d is is_d (omega arith) in
         omega (
           arith,
           walk-upto place (round - e.born + 1) none (λ m d behind is_d. omega (arith, older m d behind is_d)),
           most_below-has (λ k. rounds_behind (number_staleness round list k (least k))) keys e.key in_keys,
           lag-since list walks.writes walks.in_order round e.key (least e.key) (place + 1) e (walks.written e.key in_keys)
-              (record { written = is; current = omega (arith, current); keyed = refl; over = omega (arith, over) }),
+              (record { written = is; current = omega arith; keyed = refl; over = omega arith }),
         )
 
 -- the least number that is held of a write's key, as code reads it
@@ -75,8 +75,8 @@ module _ {N : Type 0} {number : N → ℕ} {most owner first : ℕ} {numbers : R
     (e : Entry) (is : write_numbered (entries_of list) (place + 1) ≡ Some e) where
   pub walk-index : e.key * length numbers.lists.now + owner < length least
   walk-index =
-      let in_keys = may.walks.keyed (place + 1) e is (omega (arith, current)) in
-      omega (arith, may.among, plane-within (length numbers.lists.now) numbers.keys (length least) e.key may.grid in_keys)
+      let in_keys = may.walks.keyed (place + 1) e is (omega arith) in
+      omega (arith, plane-within (length numbers.lists.now) numbers.keys (length least) e.key may.grid in_keys)
 
   pub walk-read : (x : N) → x ≡ get_or least (e.key * length numbers.lists.now + owner) x
       → number x ≡ cell (map number least) (length numbers.lists.now) owner e.key

@@ -44,7 +44,7 @@ module _ {N : Type 0} {number : N → ℕ} {most : ℕ} {numbers : RoundNumbers 
   nodes_are = are.may.together.one_list_each
 
   in_tables : (p : ℕ) → p < nodes → p < length tables
-  in_tables p lt = omega (arith, lt, nodes_are)
+  in_tables p lt = omega (arith, nodes_are)
 
   keys_are : (p : ℕ) → p < nodes → keys ≡ (table_of_node tables p).keys
   keys_are p in_p = sym (are.may.together.standing p (in_tables p in_p)).keys
@@ -58,7 +58,7 @@ module _ {N : Type 0} {number : N → ℕ} {most : ℕ} {numbers : RoundNumbers 
   least_is : (r k : ℕ) → r < nodes → k < keys → least_held r k ≡ least_below nodes (λ p. held p r k) (last r k)
   least_is r k in_r in_k =
       let each = all.whole.least_is.each r k in_r in_k in
-      omega (arith, ap (λ xs. cell (map number xs) nodes r k) same, each.upto, each.is)
+      omega (arith, ap (λ xs. cell (map number xs) nodes r k) same)
 
   -- an owner's list may be walked over, from the least number that is behind on
   module _ (firsts : List N) (behind : HasEach nodes (λ r n. IsLeastBehind most least_held last keys r n) (map number firsts))
@@ -83,16 +83,16 @@ module _ {N : Type 0} {number : N → ℕ} {most : ℕ} {numbers : RoundNumbers 
         keyed = keyed;
         written = λ k in_k.
             let least = least_below-le nodes (λ p. held p owner k) (last owner k) in
-            omega (arith, least_is owner k among in_k, least, (last_at owner k among in_k).written);
+            omega (arith, least_is owner k among in_k, (last_at owner k among in_k).written);
         start = λ m e there current le.
             let in_keys = keyed m e there current in
             elim (cases_lt (least_held owner e.key) (last owner e.key)) [
               | inl before ↦
-                  let read = number-at number firsts owner first (omega (arith, among, behind.size, length-map firsts number)) is in
-                  omega (arith, le, current, read, (behind.each owner among).no_less e.key in_keys before)
+                  let read = number-at number firsts owner first (omega (arith, length-map firsts number)) is in
+                  omega (arith, (behind.each owner among).no_less e.key in_keys before)
               | inr not_before ↦ elim (cases_lt (last owner e.key) m) [
                 | inl over ↦ absurd ((last_at owner e.key among in_keys).last m e (record { written = there; current = current; keyed = refl; over = over }))
-                | inr not_over ↦ omega (arith, not_over, not_before)
+                | inr not_over ↦ omega arith
               ]
             ];
       };
@@ -106,7 +106,7 @@ module _ {N : Type 0} {number : N → ℕ} {most : ℕ} {numbers : RoundNumbers 
       → ((p r k : ℕ) → p < nodes → r < nodes → k < keys → f p r k ≡ cond (test (numbers_at v.tables p) r k) 1 0)
       → total ≡ sum_below (length tables) (summed_at f)
   summed f test total is each =
-      omega (arith, is.is)
+      omega arith
       ∙ sum_below-same nodes (λ p. total_of nodes keys (test (numbers_at v.tables p))) (summed_at f) (λ p in_p.
       sum_below-same nodes _ _ (λ r in_r. sum_below-same keys _ _ (λ k in_k. sym (each p r k in_p in_r in_k)))
       ∙ (λ i. sum_below (nodes_are i) (λ r. sum_below (keys_are p in_p i) (f p r))))
@@ -141,7 +141,7 @@ module _ {N : Type 0} {number : N → ℕ} {most : ℕ} {numbers : RoundNumbers 
       is
       ∙ most_below-same _ (λ r. most_below (table_of_node tables 0).keys (λ k. most_below nodes (behind r k))) nodes (λ r in_r.
       most_below-same _ _ keys (λ k in_k. longest r k in_r in_k)
-      ∙ ap (λ m. most_below m (λ k. most_below nodes (behind r k))) (keys_are 0 (omega (arith, in_r))))
+      ∙ ap (λ m. most_below m (λ k. most_below nodes (behind r k))) (keys_are 0 (omega arith)))
       ∙ (λ i. most_below (nodes_are i) (λ r. most_below (table_of_node tables 0).keys (λ k. most_below (nodes_are i) (behind r k))))
       ∙ most_by_owner round tables (lists_in lists) are.may.together.cluster in
       λ i. record { stale = stale_all i; greatest = greatest_all i; leftover = leftover_all i }

@@ -28,7 +28,7 @@ take_in-requires g c =
       from = 0;
       mid = slice_index are.bounds i;
       to = slice_index are.bounds (i + 1);
-      part = are.are.parts i (omega (arith, c.loop-counted-test.true, are.one_each));
+      part = are.are.parts i (omega arith);
       first = c.loop-counted.invariant are;
       second = next g c are;
     }
@@ -40,5 +40,5 @@ pub figures-requires : goal.figures-requires
 figures-requires g c =
     let are = c.requires.pieces in
     let last : c.loop-counted.counted-index ≡ length are.bounds - 1 =
-    omega (arith, c.loop-counted-test.false, c.loop-counted.auto.counted-index-end, are.one_each) in
+    omega arith in
     record { tables = c.requires.are.0; are = c.requires.are.1; whole = rw (last, are.are.ends) at (c.loop-counted.invariant are) }

@@ -9,14 +9,14 @@ loop-at-init g c = c.in_ok-piece.ensures.0 c.args.from
 pub count_behind-behind-requires : goal.count_behind-behind-requires
 count_behind-behind-requires g c =
     let numbers = c.args.numbers.now in
-    let read = table-read g.N.Number.number numbers c.requires.0 c.loop-at.at c.index-numbers-at.result (omega (arith, c.loop-at-test, c.requires.1)) in
+    let read = table-read g.N.Number.number numbers c.requires.0 c.loop-at.at c.index-numbers-at.result (omega arith) in
     let last = length-map numbers.last.now g.N.Number.number in
     let least = length-map c.loop-at.piece.least.items g.N.Number.number in
     let count : length numbers.last.now ≡ length c.deref_mut.result.now =
-    omega (arith, last, least, c.loop-at.invariant.least_is.size, c.requires.0.grid.whole, ap length c.deref_mut.ensures.value) in
+    omega (arith, ap length c.deref_mut.ensures.value) in
     record {
       beside = record {
-        beside = record { shape = subst (IsGrid _ numbers.keys) (last ∙ count) c.requires.0.grid; count = omega (arith, read.1, count) };
+        beside = record { shape = subst (IsGrid _ numbers.keys) (last ∙ count) c.requires.0.grid; count = omega arith };
         last_count = count;
       };
     }
@@ -24,12 +24,12 @@ count_behind-behind-requires g c =
 pub total_upto-requires : goal.total_upto-requires
 total_upto-requires g c =
     let numbers = c.args.numbers.now in
-    let read = table-read g.N.Number.number numbers c.requires.0 c.loop-at.at c.index-numbers-at.result (omega (arith, c.loop-at-test, c.requires.1)) in
+    let read = table-read g.N.Number.number numbers c.requires.0 c.loop-at.at c.index-numbers-at.result (omega arith) in
     let grids = c.requires.0 in
     record {
       marked = record {
         shape = subst (IsGrid _ numbers.keys) (length-map numbers.last.now g.N.Number.number ∙ sym read.1) grids.grid;
-        count = omega (arith, grids.based, length-map numbers.bases.now g.N.Number.number);
+        count = omega (arith, length-map numbers.bases.now g.N.Number.number);
       };
     }
 
@@ -38,7 +38,7 @@ loop-at-preserved g c =
     let number = g.N.Number.number in
     let numbers = c.args.numbers.now in
     let v = numbers_seen number numbers in
-    let read = table-read g.N.Number.number numbers c.requires.0 c.loop-at.at c.index-numbers-at.result (omega (arith, c.loop-at-test, c.requires.1)) in
+    let read = table-read g.N.Number.number numbers c.requires.0 c.loop-at.at c.index-numbers-at.result (omega arith) in
     let grids = c.requires.0 in
     let piece = c.loop-at.piece in
     let here = map number (get_or numbers.cells.now c.loop-at.at c.index-numbers-at.result).now in
@@ -51,8 +51,8 @@ loop-at-preserved g c =
       | then-forgot w ↦ rw (w.piece-is, items) (step _ (ap (λ n. piece.leftover + n) (w.from-then-forgot.ensures ∙ w.total_upto.ensures)))
       | else-forgot w ↦
           let whole = length-map numbers.bases.now number in
-          let zero = eq-eqb c.count_held-forgot.result 0 (omega (arith, w.if-forgot.false)) in
+          let zero = eq-eqb c.count_held-forgot.result 0 (omega arith) in
           let none = (none-passes (λ r. nat_lt 0 (slice_index v.bases r)) _ _ _ c.count_held-forgot.ensures whole).0 zero in
-          let left = none_left v grids here (λ r lt. omega (arith, ltb-false 0 (slice_index v.bases r) (none r (omega (arith, lt, grids.based))))) in
-          rw (w.piece-is, items) (step piece.leftover (omega (arith, left)))
+          let left = none_left v grids here (λ r lt. omega (arith, ltb-false 0 (slice_index v.bases r) (none r (omega arith)))) in
+          rw (w.piece-is, items) (step piece.leftover (omega arith))
     ]

@@ -26,18 +26,18 @@ loop-owner-preserved-then-is_upto g c =
     let walk = may-walk c.requires c.deref-least.ensures.value c.in_ok-firsts.firsts.items c.in_ok-firsts.ensures.least r lt in
     let row = c.row-row.result.now in
     let ends = c.row-row.ensures in
-    let read = number-at number row r c.index-row-owner.result (omega (arith, lt, ends.size, length-map row number)) c.index-row-owner.is in
+    let read = number-at number row r c.index-row-owner.result (omega (arith, length-map row number)) c.index-row-owner.is in
     let after = leb-true (number c.index-row-owner.result) (number c.index-first.result.now) (sym c.is_upto.ensures ∙ c.if-is_upto.true) in
     let least = cell (map number c.deref-least.result.now) (length lists) in
     let lag = λ (q : ℕ). most_lag numbers.keys numbers.ends.rounds (list_of_owner lists q) (least q) in
-    let part = c.requires.are.ends.are_ends.parts r since lt (omega (arith, c.saturating_sub-since.ensures)) in
+    let part = c.requires.are.ends.are_ends.parts r since lt (omega arith) in
     let upto = lag-recent (walk c.index-first.result.now _ c.index-first.ensures refl).walks since _ c.loop-owner.greatest
-    part (omega (arith, after, read, ends.each r lt)) (omega (arith, c.saturating_sub-since.ensures)) in
-    most-next lag r c.loop-owner.greatest (lag r) c.loop-owner.greatest c.loop-owner.invariant (omega (arith, upto)) refl
+    part (omega (arith, ends.each r lt)) (omega arith) in
+    most-next lag r c.loop-owner.greatest (lag r) c.loop-owner.greatest c.loop-owner.invariant (omega arith) refl
 
 pub returns : goal.returns
 returns g c =
-    let whole : c.loop-owner.owner ≡ length c.args.numbers.now.lists.now = omega (arith, c.loop-owner-test.false, c.loop-owner.auto.owner-end) in (
+    let whole : c.loop-owner.owner ≡ length c.args.numbers.now.lists.now = omega arith in (
       λ tables are.
           figures-are {piece = c.args.self.now} (record c.requires { tables = tables; are = are }) c.deref-least.ensures.value c.loop-owner.greatest
           (rw whole at c.loop-owner.invariant),

@@ -24,27 +24,32 @@ module _ (changed : ℕ → ℕ → ℕ → ℕ → Type 0) (test : ℕ → ℕ 
       let size = length-map block number in
       let cells = plane-cells number nodes key n xs is (omega (arith, length-map xs number)) in
       record {
-        planes = planes-written changed nodes old number xs ys key n in_block is before.planes within (changed_all in_block (map number block) (map number ys) (length block) now.numbers (omega arith)) step;
+        planes = planes-written changed nodes old number xs ys key n in_block is before.planes within (changed_all _ _ _ _ now.numbers (omega arith)) step;
         count = sum_next _ key count more before.count (plane_count nodes passes (λ r. test r key) (length block) more (sym size ∙ cells.size) now.count same);
       }
 
-  pub planes_counted-fits : (new : List ℕ) (keys key size count : ℕ) → IsGrid nodes keys size → key < keys → ArePlanesCounted changed test nodes old new (key + 1) count → Fits w32 count
+  pub planes_counted-fits : (new : List ℕ) (keys key size count : ℕ) → IsGrid nodes keys size → key < keys
+      → ArePlanesCounted changed test nodes old new (key + 1) count → Fits w32 count
   planes_counted-fits new keys key size count grid lt is =
-      omega (arith, sum_below-most (λ k. sum_below nodes (λ r. cond (test r k) 1 0)) (key + 1) MOST_NODES (λ k _. omega (arith, count_le nodes (λ r. test r k))))
+      let each = λ (k : ℕ). count_le nodes (λ r. test r k) in
+      omega (arith, sum_below-most (λ k. sum_below nodes (λ r. cond (test r k) 1 0)) (key + 1) MOST_NODES (λ k _. omega (arith, each k)))
 
-  pub planes_counted-all : (new : List ℕ) (keys key count : ℕ) → ArePlanesCounted changed test nodes old new key count → keys ≤ key → key ≤ keys → ArePlanesChanged changed nodes keys old new × (count ≡ total_of nodes keys test)
-  planes_counted-all new keys key count is le ge = (planes-all changed nodes old new keys key is.planes le, total_whole nodes keys key test count is.count le ge)
+  pub planes_counted-all : (new : List ℕ) (keys key count : ℕ) → ArePlanesCounted changed test nodes old new key count → keys ≤ key → key ≤ keys
+      → ArePlanesChanged changed nodes keys old new × (count ≡ total_of nodes keys test)
+  planes_counted-all new keys key count is le ge = (planes-all _ _ _ new keys key is.planes le, total_whole nodes keys key test count is.count le ge)
 
 -- each number of these planes is raised to another table's, where that is above its mark, and so many are
 abbrev pub AreMergedUpto : ℕ → List ℕ → List ℕ → List ℕ → List ℕ → ℕ → ℕ → Type 0
 AreMergedUpto nodes others low old new bound count =
-    ArePlanesCounted (λ r k x y. y ≡ number_raised x (cell others nodes r k) (get_or low r 0)) (λ r k. nat_lt (get_or low r 0) (cell others nodes r k)) nodes old new bound count
+    ArePlanesCounted (λ r k x y. y ≡ number_raised x (cell others nodes r k) (get_or low r 0)) (λ r k. nat_lt (get_or low r 0) (cell others nodes r k))
+    nodes old new bound count
 
 -- of two tables that take of each other one takes a plane more
 pub merged-next : {N : Type 0} (number : N → ℕ) (nodes key n : ℕ) (others low passed old : List ℕ) (zs xs ys : List N) (came count more : ℕ)
     → n ≡ nodes → AreMergedUpto nodes old passed others (map number zs) key came → AreMergedUpto nodes others low old (map number xs) key count
     → key * nodes + nodes ≤ length others → key * nodes + nodes ≤ length old
-    → AreRaisedUpto (map number (take n (drop (key * nodes) zs))) low (map number (take n (drop (key * nodes) xs))) (map number ys) (length (take n (drop (key * nodes) xs))) more
+    → let block = λ (ns : List N). take n (drop (key * nodes) ns) in
+    AreRaisedUpto (map number (block zs)) low (map number (block xs)) (map number ys) (length (block xs)) more
     → AreMergedUpto nodes others low old (map number (put_mid (key * nodes) n xs ys)) (key + 1) (count + more)
 merged-next number nodes key n others low passed old zs xs ys came count more is waits before behind within now =
     let block = block-cells _ nodes others number zs key n is waits.planes behind in
@@ -52,7 +57,8 @@ merged-next number nodes key n others low passed old zs xs ys came count more is
     (λ r x y lt made. made ∙ (λ i. number_raised x (block r lt i) (get_or low r 0))) (λ r lt i. nat_lt (get_or low r 0) (block r lt i))
 
 -- how many are kept: such a number is above the mark, and 0 isn't
-pub total-kept : (nodes keys : ℕ) (peer : ℕ → ℕ → ℕ) (low old new : List ℕ) (count : ℕ) → count ≡ total_of nodes keys (λ r k. nat_lt (max (peer r k) (get_or low r 0)) (cell old nodes r k))
+pub total-kept : (nodes keys : ℕ) (peer : ℕ → ℕ → ℕ) (low old new : List ℕ) (count : ℕ)
+    → count ≡ total_of nodes keys (λ r k. nat_lt (max (peer r k) (get_or low r 0)) (cell old nodes r k))
     → ArePlanesChanged (λ r k x y. y ≡ number_ahead x (peer r k) (get_or low r 0)) nodes keys old new → count ≡ total_above nodes keys new low
 total-kept nodes keys peer low old new count is kept =
     is ∙ total-same nodes keys _ _ (λ r k in_nodes in_keys. let now = kept.each r k in_nodes in_keys in grind (arith, nat_tests))

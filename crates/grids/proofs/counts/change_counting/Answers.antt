@@ -9,7 +9,8 @@ pub loop-numbers-preserved : goal.loop-numbers-preserved
 loop-numbers-preserved g c = record {
   within = omega arith;
   upto = omega arith;
-  done = λ made test is. c.change_some_counting-count.ensures.done made test (λ r n both lt. is r n both (omega arith)) _ _ (c.loop-numbers.invariant.done made test is);
+  done = λ made test is.
+      c.change_some_counting-count.ensures.done made test (λ r n both lt. is r n both (omega arith)) _ _ (c.loop-numbers.invariant.done made test is);
 }
 
 pub returns : goal.returns

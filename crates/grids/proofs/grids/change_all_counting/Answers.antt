@@ -20,10 +20,11 @@ loop-key-preserved g c =
       upto = omega arith;
       done = λ made test is.
           let before = c.loop-key.invariant.done made test is in
-          planes_counted-next _ _ nodes old number c.loop-key.numbers c.change_counting-count.new.numbers key _ c.loop-key.count c.change_counting-count.result _ _ (omega arith) before room
-          (c.change_counting-count.ensures.done (made key) (test key) (λ r n both lt call. is key c.of_key.result c.loop-key-test.true c.of_key.ensures r n both (omega arith) call))
+          let each = is key c.of_key.result c.loop-key-test.true c.of_key.ensures in
+          planes_counted-next _ _ nodes old number c.loop-key.numbers c.change_counting-count.new.numbers key _ _ _ _ _ (omega arith)
+          before room (c.change_counting-count.ensures.done (made key) (test key) (λ r n both lt call. each r n both (omega arith) call))
           (λ r x y lt now. now) (λ r lt. ap (test key r) (block-cells _ nodes old number c.loop-key.numbers key _ (omega arith) before.planes room r lt));
     }
 
 pub returns : goal.returns
-returns g c made test is = planes_counted-all _ _ c.args.size.nodes _ _ c.args.size.keys c.loop-key.key _ (c.loop-key.invariant.done made test is) c.loop-key-test.false c.loop-key.auto.key-end
+returns g c made test is = planes_counted-all _ _ _ _ _ _ _ _ (c.loop-key.invariant.done made test is) c.loop-key-test.false c.loop-key.auto.key-end

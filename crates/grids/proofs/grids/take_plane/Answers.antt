@@ -16,7 +16,8 @@ loop-r-preserved g c =
     let in_nodes : r < c.args.sent.grid.size.nodes = omega arith in
     let in_plane : r < length numbers = omega (arith, length-map numbers number) in
     let sent = number-at number numbers r c.index-numbers-r.result in_plane c.index-numbers-r.is ∙ c.plane_of-numbers.ensures.each r in_nodes in
-    let again = number-at number numbers r c.index-numbers-r-in-loop-r.result in_plane c.index-numbers-r-in-loop-r.is ∙ c.plane_of-numbers.ensures.each r in_nodes in
+    let again =
+    number-at number numbers r c.index-numbers-r-in-loop-r.result in_plane c.index-numbers-r-in-loop-r.is ∙ c.plane_of-numbers.ensures.each r in_nodes in
     let low = number-at number c.args.sent.low.now r c.index-low-r.result (omega arith) c.index-low-r.is in
     let high = number-at number c.args.sent.high.now r c.index-high-r.result (omega arith) c.index-high-r.is in
     -- an owner's number then

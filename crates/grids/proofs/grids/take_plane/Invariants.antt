@@ -7,5 +7,6 @@ invariant-loop-r g l =
     let old = map number l.initial.plane in
     record {
       plane : AreChangedUpto (λ r x y. y ≡ taken_by number l.sent r l.key x) old (map number l.plane) l.r;
-      greatest : AreChangedUpto (λ r x y. y ≡ max x (taken_by number l.sent r l.key (slice_index old r))) (map number l.initial.greatest) (map number l.greatest) l.r;
+      greatest : AreChangedUpto (λ r x y. y ≡ max x (taken_by number l.sent r l.key (slice_index old r)))
+          (map number l.initial.greatest) (map number l.greatest) l.r;
     }

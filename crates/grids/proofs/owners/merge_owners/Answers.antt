@@ -36,15 +36,21 @@ loop-owner-preserved g c =
 
 pub overflow_add-to_first : goal.overflow_add-to_first
 overflow_add-to_first g c =
-    let at_first = number-at g.N.Number.number c.args.marks.first.now c.loop-owner.owner c.index-first_low-owner.result (omega arith) c.index-first_low-owner.is in
-    come-fits _ _ _ _ _ c.loop-owner.owner _ _ _ c.requires.marked.grid c.loop-owner-test.true
-    (come-next _ _ _ _ _ g.N.Number.number _ _ _ _ _ _ _ _ _ c.loop-owner-test.true c.loop-owner.invariant.second c.loop-owner.invariant.first at_first c.raise_owner-to_first.ensures)
+    let number = g.N.Number.number in
+    let held = c.loop-owner.invariant in
+    let lt = c.loop-owner-test.true in
+    let at_first = number-at number c.args.marks.first.now c.loop-owner.owner c.index-first_low-owner.result (omega arith) c.index-first_low-owner.is in
+    come-fits _ _ _ _ _ c.loop-owner.owner _ _ _ c.requires.marked.grid lt
+    (come-next _ _ _ _ _ number _ _ _ _ _ _ _ _ _ lt held.second held.first at_first c.raise_owner-to_first.ensures)
 
 pub overflow_add-to_second : goal.overflow_add-to_second
 overflow_add-to_second g c =
-    let at_second = number-at g.N.Number.number c.args.marks.second.now c.loop-owner.owner c.index-second_low-owner.result (omega arith) c.index-second_low-owner.is in
-    come-fits _ _ _ _ _ c.loop-owner.owner _ _ _ c.requires.marked.grid c.loop-owner-test.true
-    (come-next _ _ _ _ _ g.N.Number.number _ _ _ _ _ _ _ _ _ c.loop-owner-test.true c.loop-owner.invariant.first c.loop-owner.invariant.second at_second c.raise_owner-to_second.ensures)
+    let number = g.N.Number.number in
+    let held = c.loop-owner.invariant in
+    let lt = c.loop-owner-test.true in
+    let at_second = number-at number c.args.marks.second.now c.loop-owner.owner c.index-second_low-owner.result (omega arith) c.index-second_low-owner.is in
+    come-fits _ _ _ _ _ c.loop-owner.owner _ _ _ c.requires.marked.grid lt
+    (come-next _ _ _ _ _ number _ _ _ _ _ _ _ _ _ lt held.first held.second at_second c.raise_owner-to_second.ensures)
 
 pub returns : goal.returns
 returns g c = record {

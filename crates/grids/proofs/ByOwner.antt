@@ -1,7 +1,6 @@
 -- Tables whose owners are gone over one by one.
 -- Serves `drop_owner`, `merge_owners`, `raise_owner`, `take_owner`, `take_owners` and `version_tables`.
-use Rattle.grids.proofs.Common.{◌≡◌, ◌≢◌, ℕ, Fits, w32, ◌+◌, ◌*◌, ◌<◌, ◌≤◌, ◌==◌, ◌&&◌, true, false, cond, List, length, get_or, set, map, nat_lt, nat_le, max, inl, inr, refl, sym, ap, ◌∙◌, subst, arith, below_more, nat_tests, mul-le-mul_right, lt-ltb, le-ltb, get_or-set_same, get_or-set_other, length-set, map-set, sum_below, sum_below-same, Cells, cell, count_above, number_raised, number_taken, HasNoneAbove, IsRaised, ArePlanesChanged, ArePlanesChangedUpto, IsGrid, HasRaisedOwner}
-use Rattle.planes.proofs.Counts.{owner_counted, owner_passed, owners-fit}
+use Rattle.grids.proofs.Common.{◌≡◌, ◌≢◌, ℕ, Fits, w32, ◌+◌, ◌*◌, ◌<◌, ◌≤◌, ◌==◌, ◌&&◌, true, false, cond, List, length, get_or, set, map, nat_lt, nat_le, max, inl, inr, refl, sym, ap, ◌∙◌, subst, arith, below_more, nat_tests, mul-le-mul_right, lt-ltb, le-ltb, get_or-set_same, get_or-set_other, length-set, map-set, sum_below, sum_below-same, Cells, cell, count_above, number_raised, number_taken, HasNoneAbove, IsRaised, ArePlanesChanged, ArePlanesChangedUpto, IsGrid, HasRaisedOwner, owner_counted, owner_passed, owners-fit}
 
 -- nothing is taken that isn't above one mark and up to another
 pub taken-none : (x sent low high : ℕ) → (nat_lt low sent && nat_le sent high) ≡ false → number_taken x sent low high ≡ x

@@ -1,9 +1,6 @@
 -- Planes of which some places are counted.
 -- Serves the functions of `grids`, `lags` and `merges`.
-use Rattle.grids.proofs.Common.{◌≡◌, ℕ, Fits, w32, ◌+◌, ◌*◌, ◌<◌, ◌≤◌, Bool, cond, nat_tests, List, length, get_or, map, take, drop, nat_lt, max, refl, sym, ◌∙◌, ◌==◌, ap, arith, length-map, put_mid, MOST_NODES, sum_below, sum_below-most, cell, number_ahead, total_above, total_of, IsGrid, ArePlanesChangedUpto, ArePlanesChanged, AreCountedUpto, AreRaisedUpto, number_raised, count_passing, HasNoOtherMark}
-use Rattle.planes.proofs.Elementwise.{changed_all}
-use Rattle.planes.proofs.Counts.{count_le, sum_next}
-use Rattle.planes.proofs.Places.{plane-cells, plane_count, planes-all, planes-none, planes-written, block-cells, plane-within, total-places, total-same, total_whole}
+use Rattle.grids.proofs.Common.{◌≡◌, ℕ, Fits, w32, ◌+◌, ◌*◌, ◌<◌, ◌≤◌, Bool, cond, nat_tests, List, length, get_or, map, take, drop, nat_lt, max, refl, sym, ◌∙◌, ◌==◌, ap, arith, length-map, put_mid, MOST_NODES, sum_below, sum_below-most, cell, number_ahead, total_above, total_of, IsGrid, ArePlanesChangedUpto, ArePlanesChanged, AreCountedUpto, AreRaisedUpto, number_raised, count_passing, HasNoOtherMark, changed_all, count_le, sum_next, plane-cells, plane_count, planes-all, planes-none, planes-written, block-cells, plane-within, total-places, total-same, total_whole}
 
 -- the planes of the keys below a bound are changed, and so many places of them pass a test
 pub record ArePlanesCounted (changed : ℕ → ℕ → ℕ → ℕ → Type 0) (test : ℕ → ℕ → Bool) (nodes : ℕ) (old new : List ℕ) (bound passed : ℕ) : Type 0 where

@@ -1,5 +1,4 @@
-use Rattle.grids.proofs.Common.{refl, arith, map}
-use Rattle.planes.proofs.Elementwise.{counted_none, counted-same}
+use Rattle.grids.proofs.Common.{refl, arith, map, counted_none, counted-same}
 use Rattle.grids.proofs.counts.change_counting.Goals as goal
 
 pub loop-numbers-init : goal.loop-numbers-init

@@ -1,6 +1,4 @@
-use Rattle.grids.proofs.Common.{ℕ, ◌+◌, ◌<◌, ap, ◌∙◌, arith, length, if◌then◌else◌}
-use Rattle.planes.proofs.Elementwise.{number-waits, counted_next, counted-same}
-use Rattle.planes.proofs.Counts.{one_le}
+use Rattle.grids.proofs.Common.{ℕ, ◌+◌, ◌<◌, ap, ◌∙◌, arith, length, if◌then◌else◌, number-waits, counted_next, counted-same, one_le}
 use Rattle.grids.proofs.counts.change_some_counting.Goals as goal
 
 pub loop-i-init : goal.loop-i-init

@@ -1,5 +1,4 @@
-use Rattle.grids.proofs.Common.{◌<◌, arith, length, map, ◌∙◌, with_items_is, length-map, cell}
-use Rattle.planes.proofs.Elementwise.{number-at}
+use Rattle.grids.proofs.Common.{◌<◌, arith, length, map, ◌∙◌, with_items_is, length-map, cell, number-at}
 use Rattle.grids.proofs.Counted.{masked-once}
 use Rattle.grids.proofs.grids.ahead_of_peer.Goals as goal
 

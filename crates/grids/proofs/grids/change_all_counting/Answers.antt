@@ -1,5 +1,4 @@
-use Rattle.grids.proofs.Common.{ℕ, ◌+◌, ◌*◌, ◌-◌, ◌≤◌, ap, arith, length, drop, map, length-map, length-drop, length-take-le}
-use Rattle.planes.proofs.Places.{plane-within, block-cells}
+use Rattle.grids.proofs.Common.{ℕ, ◌+◌, ◌*◌, ◌-◌, ◌≤◌, ap, arith, length, drop, map, length-map, length-drop, length-take-le, plane-within, block-cells}
 use Rattle.grids.proofs.Counted.{planes_counted-none, planes_counted-next, planes_counted-all}
 use Rattle.grids.proofs.grids.change_all_counting.Goals as goal
 

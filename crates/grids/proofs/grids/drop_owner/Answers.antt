@@ -1,6 +1,5 @@
-use Rattle.grids.proofs.Common.{◌+◌, ◌*◌, ◌<◌, arith, rules, sym, map, length, ◌∙◌, ap, length-map, get_or-map}
+use Rattle.grids.proofs.Common.{◌+◌, ◌*◌, ◌<◌, arith, rules, sym, map, length, ◌∙◌, ap, length-map, get_or-map, plane-within, planes-none, planes-all}
 use Rattle.grids.specs.Grids.{number_kept}
-use Rattle.planes.proofs.Places.{plane-within, planes-none, planes-all}
 use Rattle.grids.proofs.ByOwner.{owner-next}
 use Rattle.grids.proofs.grids.drop_owner.Goals as goal
 

@@ -1,5 +1,4 @@
-use Rattle.grids.proofs.Common.{◌+◌, ◌*◌, ◌-◌, max, ◌≡◌, ◌∙◌, arith, length-map, taken_by}
-use Rattle.planes.proofs.Places.{grid-within, block-cells, planes-none, planes-written, planes-all, each-next, raised-none, raised-next}
+use Rattle.grids.proofs.Common.{◌+◌, ◌*◌, ◌-◌, max, ◌≡◌, ◌∙◌, arith, length-map, taken_by, grid-within, block-cells, planes-none, planes-written, planes-all, each-next, raised-none, raised-next}
 use Rattle.grids.proofs.grids.take.Goals as goal
 
 pub loop-key-init : goal.loop-key-init

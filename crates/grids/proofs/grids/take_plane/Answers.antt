@@ -1,5 +1,4 @@
-use Rattle.grids.proofs.Common.{◌&&◌, ◌<◌, length, nat_lt, nat_le, max, ◌∙◌, arith, if◌then◌else◌, length-map}
-use Rattle.planes.proofs.Elementwise.{number-at, number-waits, changed_none, changed_all, written_next}
+use Rattle.grids.proofs.Common.{◌&&◌, ◌<◌, length, nat_lt, nat_le, max, ◌∙◌, arith, if◌then◌else◌, length-map, number-at, number-waits, changed_none, changed_all, written_next}
 use Rattle.grids.proofs.grids.take_plane.Goals as goal
 
 pub loop-r-init : goal.loop-r-init

@@ -1,6 +1,4 @@
-use Rattle.grids.proofs.Common.{ℕ, cond, rules, nat_lt, slice_index, map, if◌then◌else◌, inl, inr, arith, nat_tests, cases_lt, cell, Cells, IfOk-weaker, IsLeastBehind, IsLeastOf}
-use Rattle.planes.proofs.Elementwise.{number-at}
-use Rattle.planes.proofs.Behind.{each-turned}
+use Rattle.grids.proofs.Common.{ℕ, cond, rules, nat_lt, slice_index, map, if◌then◌else◌, inl, inr, arith, nat_tests, cases_lt, cell, Cells, IfOk-weaker, IsLeastBehind, IsLeastOf, number-at, each-turned}
 use Rattle.grids.proofs.lags.least_behind.Goals as goal
 
 -- of those behind the last ones

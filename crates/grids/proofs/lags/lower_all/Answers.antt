@@ -1,5 +1,4 @@
-use Rattle.grids.proofs.Common.{min, ap, ◌∙◌, arith, map}
-use Rattle.planes.proofs.Places.{grid-within, planes-none, planes-written, planes-all}
+use Rattle.grids.proofs.Common.{min, ap, ◌∙◌, arith, map, grid-within, planes-none, planes-written, planes-all}
 use Rattle.grids.proofs.lags.lower_all.Goals as goal
 
 pub loop-key-init : goal.loop-key-init

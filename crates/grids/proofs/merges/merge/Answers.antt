@@ -1,5 +1,4 @@
-use Rattle.grids.proofs.Common.{◌+◌, ◌*◌, ◌-◌, ◌≤◌, length, arith, map, length-map, put_mid}
-use Rattle.planes.proofs.Places.{grid-within}
+use Rattle.grids.proofs.Common.{◌+◌, ◌*◌, ◌-◌, ◌≤◌, length, arith, map, length-map, put_mid, grid-within}
 use Rattle.grids.proofs.Counted.{AreMergedUpto, merged-next, planes_counted-none, planes_counted-fits, planes_counted-all}
 use Rattle.grids.proofs.merges.merge.Given as given
 use Rattle.grids.proofs.merges.merge.Goals as goal

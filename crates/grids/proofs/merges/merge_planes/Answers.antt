@@ -1,5 +1,4 @@
-use Rattle.grids.proofs.Common.{refl, arith, map}
-use Rattle.planes.proofs.Elementwise.{counted_none, counted-same}
+use Rattle.grids.proofs.Common.{refl, arith, map, counted_none, counted-same}
 use Rattle.grids.proofs.merges.merge_planes.Goals as goal
 
 pub loop-first-init : goal.loop-first-init

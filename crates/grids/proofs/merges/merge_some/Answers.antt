@@ -1,6 +1,4 @@
-use Rattle.grids.proofs.Common.{ℕ, ◌+◌, ◌<◌, nat_lt, max, ◌∙◌, arith, length, if◌then◌else◌}
-use Rattle.planes.proofs.Elementwise.{number-at, number-waits, counted_next, counted-same}
-use Rattle.planes.proofs.Counts.{one_le}
+use Rattle.grids.proofs.Common.{ℕ, ◌+◌, ◌<◌, nat_lt, max, ◌∙◌, arith, length, if◌then◌else◌, number-at, number-waits, counted_next, counted-same, one_le}
 use Rattle.grids.proofs.merges.merge_some.Goals as goal
 
 pub loop-i-init : goal.loop-i-init

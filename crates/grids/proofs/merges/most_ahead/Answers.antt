@@ -1,6 +1,4 @@
-use Rattle.grids.proofs.Common.{◌≡◌, ℕ, Fits, w32, ◌+◌, ◌-◌, ◌<◌, ◌≤◌, min, ◌∙◌, arith, MOST_NODES, MOST_KEYS, sum_below, sum_below-most}
-use Rattle.planes.proofs.Elementwise.{number-at}
-use Rattle.planes.proofs.Counts.{sum_next, sum_whole}
+use Rattle.grids.proofs.Common.{◌≡◌, ℕ, Fits, w32, ◌+◌, ◌-◌, ◌<◌, ◌≤◌, min, ◌∙◌, arith, MOST_NODES, MOST_KEYS, sum_below, sum_below-most, number-at, sum_next, sum_whole}
 use Rattle.grids.proofs.merges.most_ahead.Goals as goal
 
 lead-fits : (keys : ℕ) (numbers others : ℕ → ℕ) (r sum lead : ℕ) → sum ≡ sum_below r (λ k. min keys (numbers k - others k))

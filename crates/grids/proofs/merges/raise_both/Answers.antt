@@ -1,5 +1,4 @@
-use Rattle.grids.proofs.Common.{max, ◌∙◌, arith, length-map}
-use Rattle.planes.proofs.Elementwise.{number-waits, changed_none, changed_all, written_next}
+use Rattle.grids.proofs.Common.{max, ◌∙◌, arith, length-map, number-waits, changed_none, changed_all, written_next}
 use Rattle.grids.proofs.merges.raise_both.Goals as goal
 
 pub loop-r-init : goal.loop-r-init

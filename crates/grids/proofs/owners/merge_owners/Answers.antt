@@ -1,6 +1,4 @@
-use Rattle.grids.proofs.Common.{sym, ◌∙◌, arith, ltb-false, ltb-true}
-use Rattle.planes.proofs.Elementwise.{number-at}
-use Rattle.planes.proofs.Counts.{sum_whole}
+use Rattle.grids.proofs.Common.{sym, ◌∙◌, arith, ltb-false, ltb-true, number-at, sum_whole}
 use Rattle.grids.proofs.ByOwner.{come-none, come-next, come-passed, come-fits, owners-all}
 use Rattle.grids.proofs.owners.merge_owners.Goals as goal
 use Rattle.grids.proofs.owners.merge_owners.Goals.{then-is_above, else-is_above+then-is_above-2, else-is_above+else-is_above-2}

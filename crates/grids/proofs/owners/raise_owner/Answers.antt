@@ -1,7 +1,4 @@
-use Rattle.grids.proofs.Common.{◌≡◌, ℕ, ◌+◌, ◌*◌, ◌<◌, nat_lt, max, refl, sym, ◌∙◌, arith, rules, map, length, if◌then◌else◌, length-map, get_or-map, cell}
-use Rattle.planes.proofs.Elementwise.{number-at}
-use Rattle.planes.proofs.Counts.{count_le, sum_next}
-use Rattle.planes.proofs.Places.{plane-within, planes-none, planes-all}
+use Rattle.grids.proofs.Common.{◌≡◌, ℕ, ◌+◌, ◌*◌, ◌<◌, nat_lt, max, refl, sym, ◌∙◌, arith, rules, map, length, if◌then◌else◌, length-map, get_or-map, cell, number-at, count_le, sum_next, plane-within, planes-none, planes-all}
 use Rattle.grids.proofs.ByOwner.{owner-next}
 use Rattle.grids.proofs.owners.raise_owner.Goals as goal
 

@@ -1,6 +1,4 @@
-use Rattle.grids.proofs.Common.{◌≡◌, ℕ, ◌+◌, ◌*◌, ◌<◌, ◌&&◌, nat_lt, nat_le, slice_index, max, sym, ap, ◌∙◌, arith, rules, map, length, length-map, get_or-map, cell}
-use Rattle.planes.proofs.Elementwise.{number-at}
-use Rattle.planes.proofs.Places.{plane-within, planes-none, planes-all, raised-none, raised-next}
+use Rattle.grids.proofs.Common.{◌≡◌, ℕ, ◌+◌, ◌*◌, ◌<◌, ◌&&◌, nat_lt, nat_le, slice_index, max, sym, ap, ◌∙◌, arith, rules, map, length, length-map, get_or-map, cell, number-at, plane-within, planes-none, planes-all, raised-none, raised-next}
 use Rattle.grids.proofs.ByOwner.{owner-next, owner-stays, taken-none, taken-some}
 use Rattle.grids.proofs.owners.take_owner.Goals as goal
 use Rattle.grids.proofs.owners.take_owner.Goals.{then-is_between, else-is_between}

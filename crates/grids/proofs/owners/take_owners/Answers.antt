@@ -1,5 +1,4 @@
-use Rattle.grids.proofs.Common.{ℕ, ◌≤◌, inl, refl, slice_index, sym, ◌∙◌, arith, map, ltb-false, length-map, cell, taken_by}
-use Rattle.planes.proofs.Elementwise.{changed_none, number-at, number-waits, left_next, written_next}
+use Rattle.grids.proofs.Common.{ℕ, ◌≤◌, inl, refl, slice_index, sym, ◌∙◌, arith, map, ltb-false, length-map, cell, taken_by, changed_none, number-at, number-waits, left_next, written_next}
 use Rattle.grids.proofs.ByOwner.{owner-waits, owners-none, owners-next, owners-stay, owners-all, raised-same, taken-passed}
 use Rattle.grids.proofs.owners.take_owners.Goals as goal
 use Rattle.grids.proofs.owners.take_owners.Goals.{then-is_above, else-is_above}

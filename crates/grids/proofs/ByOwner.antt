@@ -1,14 +1,8 @@
 -- Tables whose owners are gone over one by one.
 -- Serves `drop_owner`, `merge_owners`, `raise_owner`, `take_owner`, `take_owners` and `version_tables`.
-use Rattle.grids.proofs.Common.{◌≡◌, ◌≢◌, ℕ, Fits, w32, ◌+◌, ◌*◌, ◌<◌, ◌≤◌, ◌==◌, ◌&&◌, true, false, cond, List, length, get_or, set, map, nat_lt, nat_le, max, inl, inr, refl, sym, ap, ◌∙◌, subst, arith, below_more, nat_tests, mul-le-mul_right, lt-ltb, le-ltb, get_or-set_same, get_or-set_other, length-set, map-set, sum_below, sum_below-same, Cells, cell, count_above, number_raised, number_taken, HasNoneAbove, IsRaised, ArePlanesChanged, ArePlanesChangedUpto, IsGrid, HasRaisedOwner, owner_counted, owner_passed, owners-fit}
+use Rattle.grids.proofs.Common.{◌≡◌, ◌≢◌, ℕ, ◌+◌, ◌*◌, ◌<◌, ◌≤◌, ◌==◌, cond, List, length, get_or, set, map, nat_lt, inl, inr, refl, sym, ap, ◌∙◌, subst, arith, below_more, nat_tests, mul-le-mul_right, lt-ltb, le-ltb, get_or-set_same, get_or-set_other, length-set, map-set, sum_below, sum_below-same, Cells, cell, count_above, number_raised, number_taken, HasNoneAbove, IsRaised, ArePlanesChanged, ArePlanesChangedUpto, HasRaisedOwner, owner_counted, owner_passed}
 
--- nothing is taken that isn't above one mark and up to another
-pub taken-none : (x sent low high : ℕ) → (nat_lt low sent && nat_le sent high) ≡ false → number_taken x sent low high ≡ x
-taken-none x sent low high outside = ap (λ b. max x (cond b sent 0)) outside ∙ omega arith
-
-pub taken-some : (x sent low high : ℕ) → (nat_lt low sent && nat_le sent high) ≡ true → number_taken x sent low high ≡ max x sent
-taken-some x sent low high inside = ap (λ b. max x (cond b sent 0)) inside
-
+-- nothing is taken where the high mark is no higher
 pub taken-passed : (x sent low high : ℕ) → high ≤ low → number_taken x sent low high ≡ x
 taken-passed x sent low high le = grind (arith, nat_tests)
 
@@ -108,9 +102,6 @@ module _ (nodes keys : ℕ) (others : List ℕ) (low : ℕ → ℕ) (old : List 
   abbrev raised_in : ℕ → ℕ → ℕ → ℕ
   raised_in r k x = number_raised x (cell others nodes r k) (low r)
 
-  pub come-none : HaveCome nodes keys others low old old 0 0
-  come-none = record { cells = owners-none raised_in nodes keys old; count = refl }
-
   -- an owner's numbers come, while the other table still has them as they were
   pub come-next : {N : Type 0} (number : N → ℕ) (owner : ℕ) (low_of_others : ℕ → ℕ) (others_mid mid new : List N) (came count more : ℕ) (mark : N)
       → owner < nodes → HaveCome nodes keys old low_of_others others (map number others_mid) owner came
@@ -134,7 +125,3 @@ module _ (nodes keys : ℕ) (others : List ℕ) (low : ℕ → ℕ) (old : List 
     cells = owners-stay raised_in nodes keys old owner mid before.cells (λ k x lt. let none = covered k lt in grind (arith, nat_tests));
     count = owner_passed (cell others nodes) keys low owner count high before.count covered le;
   }
-
-  pub come-fits : (owner : ℕ) (new : List ℕ) (size count : ℕ) → IsGrid nodes keys size → owner < nodes
-      → HaveCome nodes keys others low old new (owner + 1) count → Fits w32 count
-  come-fits owner new size count grid lt is = owners-fit (cell others nodes) nodes keys size low owner count grid lt is.count

@@ -83,11 +83,8 @@ fn merge_some<N: Number>(
     requires { MayMergePart N.most first.old second.old marks from size }
     ensures { ArePartMerged N.number marks.entry first.old second.old first.new second.new from size result }
 {
-    let BothMarks {
-        first: first_low,
-        second: second_low,
-        ..
-    } = marks;
+    let first_low = marks.first;
+    let second_low = marks.second;
     let mut to_first = N::zero();
     let mut to_second = N::zero();
     for i in 0..size {

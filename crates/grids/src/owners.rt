@@ -17,10 +17,8 @@ fn take_owner<N: Number>(cells: &mut [N], sent: Sent<N>, owner: usize, had: N) -
     requires { MayTakeOwner N.number cells.old sent owner had }
     ensures { HasTakenOwner N.number sent.entry owner cells.old had cells.new result }
 {
-    let Grid {
-        cells: numbers,
-        size,
-    } = sent.grid;
+    let numbers = sent.grid.cells;
+    let size = sent.grid.size;
     let low = sent.low[owner];
     let high = sent.high[owner];
     let mut greatest = had;
@@ -55,10 +53,8 @@ fn raise_owner<N: Number>(cells: &mut [N], others: Grid<N>, owner: usize, low: N
     ensures { HasRaisedOwner N.number others.entry.size.nodes others.entry.size.keys owner others.entry.cells.now low
         cells.old cells.new result }
 {
-    let Grid {
-        cells: numbers,
-        size,
-    } = others;
+    let numbers = others.cells;
+    let size = others.size;
     let mut count = 0;
     for key in 0..size.keys {
         let number = numbers[key * size.nodes + owner];
@@ -80,11 +76,9 @@ pub(crate) fn merge_owners<N: Number>(
     requires marked { AreBothCovered N.number marks first.old second.old }
     ensures { AreBothRaised N.number marks.entry first.old second.old first.new second.new result }
 {
-    let BothMarks {
-        first: first_low,
-        second: second_low,
-        size,
-    } = marks;
+    let first_low = marks.first;
+    let second_low = marks.second;
+    let size = marks.size;
     let mut to_first = 0;
     let mut to_second = 0;
     for owner in 0..size.nodes {

@@ -1,10 +1,10 @@
-use Rattle.grids.proofs.Common.{sym, ◌∙◌, arith, ltb-false, ltb-true, number-at, sum_whole}
-use Rattle.grids.proofs.ByOwner.{come-none, come-next, come-passed, come-fits, owners-all}
+use Rattle.grids.proofs.Common.{refl, owners-fit, sym, ◌∙◌, arith, ltb-false, ltb-true, number-at, sum_whole}
+use Rattle.grids.proofs.ByOwner.{come-next, come-passed, owners-none, owners-all}
 use Rattle.grids.proofs.owners.merge_owners.Goals as goal
 use Rattle.grids.proofs.owners.merge_owners.Goals.{then-is_above, else-is_above+then-is_above-2, else-is_above+else-is_above-2}
 
 pub loop-owner-init : goal.loop-owner-init
-loop-owner-init g c = record { first = come-none _ _ _ _ _; second = come-none _ _ _ _ _ }
+loop-owner-init g c = record { first = record { cells = owners-none _ _ _ _; count = refl }; second = record { cells = owners-none _ _ _ _; count = refl } }
 
 pub loop-owner-preserved : goal.loop-owner-preserved
 loop-owner-preserved g c =
@@ -38,8 +38,8 @@ overflow_add-to_first g c =
     let held = c.loop-owner.invariant in
     let lt = c.loop-owner-test.true in
     let at_first = number-at number c.args.marks.first.now c.loop-owner.owner c.index-first_low-owner.result (omega arith) c.index-first_low-owner.is in
-    come-fits _ _ _ _ _ c.loop-owner.owner _ _ _ c.requires.marked.grid lt
-    (come-next _ _ _ _ _ number _ _ _ _ _ _ _ _ _ lt held.second held.first at_first c.raise_owner-to_first.ensures)
+    owners-fit _ _ _ _ _ c.loop-owner.owner _ c.requires.marked.grid lt
+    (come-next _ _ _ _ _ number _ _ _ _ _ _ _ _ _ lt held.second held.first at_first c.raise_owner-to_first.ensures).count
 
 pub overflow_add-to_second : goal.overflow_add-to_second
 overflow_add-to_second g c =
@@ -47,8 +47,8 @@ overflow_add-to_second g c =
     let held = c.loop-owner.invariant in
     let lt = c.loop-owner-test.true in
     let at_second = number-at number c.args.marks.second.now c.loop-owner.owner c.index-second_low-owner.result (omega arith) c.index-second_low-owner.is in
-    come-fits _ _ _ _ _ c.loop-owner.owner _ _ _ c.requires.marked.grid lt
-    (come-next _ _ _ _ _ number _ _ _ _ _ _ _ _ _ lt held.first held.second at_second c.raise_owner-to_second.ensures)
+    owners-fit _ _ _ _ _ c.loop-owner.owner _ c.requires.marked.grid lt
+    (come-next _ _ _ _ _ number _ _ _ _ _ _ _ _ _ lt held.first held.second at_second c.raise_owner-to_second.ensures).count
 
 pub returns : goal.returns
 returns g c = record {

@@ -1,5 +1,5 @@
-use Rattle.grids.proofs.Common.{◌≡◌, ℕ, ◌+◌, ◌*◌, ◌<◌, ◌&&◌, nat_lt, nat_le, slice_index, max, sym, ap, ◌∙◌, arith, rules, map, length, length-map, get_or-map, cell, number-at, plane-within, planes-none, planes-all, raised-none, raised-next}
-use Rattle.grids.proofs.ByOwner.{owner-next, owner-stays, taken-none, taken-some}
+use Rattle.grids.proofs.Common.{number_taken, ◌≡◌, ℕ, ◌+◌, ◌*◌, ◌<◌, ◌&&◌, nat_lt, nat_le, slice_index, max, cond, sym, ap, ◌∙◌, arith, rules, map, length, length-map, get_or-map, cell, number-at, plane-within, planes-none, planes-all, raised-none, raised-next}
+use Rattle.grids.proofs.ByOwner.{owner-next, owner-stays}
 use Rattle.grids.proofs.owners.take_owner.Goals as goal
 use Rattle.grids.proofs.owners.take_owner.Goals.{then-is_between, else-is_between}
 
@@ -27,13 +27,13 @@ loop-key-preserved g c =
     elim c.if-is_between.branch [
       | then-is_between w ↦
           let at_cell = sym (get_or-map number c.loop-key.cells place w.index-cells-key.result 0 (omega arith)) ∙ held.cells.from place (omega arith) in
-          let raised = w.max_with-raised.ensures ∙ (λ i. max (at_cell i) (at_sent i)) ∙ sym (taken-some was sent low high (between ∙ w.if-is_between.true)) in
+          let raised = w.max_with-raised.ensures ∙ (λ i. max (at_cell i) (at_sent i)) ∙ sym (ap (λ b. max was (cond b sent 0)) (between ∙ w.if-is_between.true)) in
           rw (w.cells-is, w.greatest-is) (record {
             cells = owner-next _ _ _ _ c.requires.within number _ key _ held.cells (omega (arith, length-map c.args.cells.now number)) raised;
             greatest = raised-next _ key _ _ _ _ held.greatest (w.max_with-greatest.ensures ∙ ap (max (number c.loop-key.greatest)) raised);
           })
       | else-is_between w ↦
-          let none = taken-none was sent low high (between ∙ w.if-is_between.false) in
+          let none : number_taken was sent low high ≡ was = ap (λ b. max was (cond b sent 0)) (between ∙ w.if-is_between.false) ∙ omega arith in
           rw (w.cells-is, w.greatest-is) (record {
             cells = owner-stays _ _ _ _ c.requires.within _ key held.cells none;
             greatest = raised-next _ key _ _ _ _ held.greatest (omega (arith, c.requires.covered key c.loop-key-test.true));

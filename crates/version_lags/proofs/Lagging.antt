@@ -20,7 +20,7 @@ module _ (v : OwnerListView) (are : AreWrites v) where
     last_fresh last c is le within = elim (missed_cases v are rise key c within round) [
       | inl nothing ↦ nothing.1
       | inr found ↦
-          let missed = found.first.missed in
+          let missed = found.missed in
           absurd (is.last found.number found.e (missed-of c last found.number found.e missed le))
     ]
 
@@ -39,7 +39,7 @@ module _ (v : OwnerListView) (are : AreWrites v) where
     pub lag-upto : (c most : ℕ) → c ≤ length all → ((m : ℕ) (e : Entry) → IsMissed v key c m e → round - e.born + 1 ≤ most) → lag c ≤ most
     lag-upto c most within upto = elim (missed_cases v are rise key c within round) [
       | inl none ↦ omega (arith, ap rounds_behind none.1)
-      | inr found ↦ omega (arith, ap rounds_behind found.staleness, upto found.number found.e found.first.missed)
+      | inr found ↦ omega (arith, ap rounds_behind found.staleness, upto found.number found.e found.missed)
     ]
 
     pub lag-since : (c m : ℕ) (e : Entry) → c ≤ length all → IsMissed v key c m e → round - e.born + 1 ≤ lag c
@@ -48,7 +48,7 @@ module _ (v : OwnerListView) (are : AreWrites v) where
       | inr found ↦ omega (
         arith,
         ap rounds_behind found.staleness,
-        numbers-born all rise found.number m found.e e found.first.missed.written missed.written (found.first.first m e missed),
+        numbers-born all rise found.number m found.e e found.missed.written missed.written (found.first m e missed),
       )
     ]
 

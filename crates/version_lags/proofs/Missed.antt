@@ -1,6 +1,6 @@
 -- The first write that a copy misses, by numbers.
 -- Serves `Lagging`, `Walks` and `version_tables`.
-use Rattle.version_lags.proofs.Common.{◌≡◌, ℕ, zero, suc, ◌+◌, ◌-◌, ◌<◌, ◌≤◌, Bool, eqb, ltb, ◌&&◌, List, length, get_or, Some, None, ◌⊎◌, option_map, inl, inr, refl, sym, ap, ◌∙◌, arith, length-append, position_or_len, find_at, fails_before_first, passes_at_first, slice_get_cases, cases_lt, lt-ltb, ltb-true, eq-eqb, eqb-true, and_parts, both_ways, get_or-append_right, get_or-map, length-map, Entry, absent, mark_of, mark_held, is_before, before-yes, Write, write_of_entry, OwnerListView, entries_of, written, AreWrites, write_numbered, write_from-here, BirthsRise, numbered-placed, numbered-within, numbers-compare, base_of, number_staleness, IsMissed, IsFirstMissed, HasNoneMissed}
+use Rattle.version_lags.proofs.Common.{◌≡◌, ℕ, zero, suc, ◌+◌, ◌-◌, ◌<◌, ◌≤◌, Bool, eqb, ltb, ◌&&◌, List, length, get_or, Some, None, ◌⊎◌, option_map, inl, inr, refl, sym, ap, ◌∙◌, arith, length-append, position_or_len, find_at, fails_before_first, passes_at_first, slice_get_cases, cases_lt, lt-ltb, ltb-true, eq-eqb, eqb-true, and_parts, both_ways, get_or-append_right, get_or-map, length-map, Entry, absent, mark_of, mark_held, is_before, before-yes, Write, write_of_entry, OwnerListView, entries_of, written, AreWrites, write_numbered, write_from-here, BirthsRise, numbered-placed, numbered-within, numbers-compare, base_of, number_staleness, IsMissed, HasNoneMissed}
 
 -- births don't fall with the numbers
 pub numbers-born : (writes : List Entry) (rise : BirthsRise writes) (m n : ℕ) (d e : Entry)
@@ -83,7 +83,8 @@ module _ (v : OwnerListView) (are : AreWrites v) where
       pub record HasMissed (round : ℕ) : Type 0 where
         pub number : ℕ
         pub e : Entry
-        pub first : IsFirstMissed v key c number e
+        pub missed : IsMissed v key c number e
+        pub first : (m : ℕ) (d : Entry) → IsMissed v key c m d → number ≤ m
         pub staleness : number_staleness round v key c ≡ Some (round - e.born + 1)
 
       -- nothing is missed, or there is a first write that is
@@ -105,10 +106,8 @@ module _ (v : OwnerListView) (are : AreWrites v) where
                 inr (record {
                   number = suc (base + first);
                   e = e;
-                  first = record {
-                    missed = record { written = is; current = omega arith; keyed = eqb-true e.key key parts.0; over = ltb-true c (suc (base + first)) parts.1 };
-                    first = none_before;
-                  };
+                  missed = record { written = is; current = omega arith; keyed = eqb-true e.key key parts.0; over = ltb-true c (suc (base + first)) parts.1 };
+                  first = none_before;
                   staleness = ap (option_map behind) (find_at test (written v) ∙ found.2) ∙ ap (λ x. Some (behind x)) there;
                 })
             | inr past ↦ inl (

@@ -62,11 +62,11 @@ module _ (v : NumbersView) (grids : AreGrids v) where
     };
   }
 
-  joined : (from mid to sum rest sum' rest' x y : ℕ) (old new other : List ℕ) → CountsPiece v from mid sum rest old → sum' ≡ sum + x → rest' ≡ rest + y
+  pub counts-joined : (from mid to sum rest sum' rest' x y : ℕ) (old new other : List ℕ) → CountsPiece v from mid sum rest old → sum' ≡ sum + x → rest' ≡ rest + y
       → total_below v (is_stale v) mid + x ≡ total_below v (is_stale v) to → total_below v (is_left v) mid + y ≡ total_below v (is_left v) to
       → ((r k : ℕ) → r < v.nodes → k < v.keys → min (least_upto mid r k) (cell other v.nodes r k) ≡ least_upto to r k)
       → ArePlanesChanged (λ r k a b. b ≡ min a (cell other v.nodes r k)) v.nodes v.keys old new → CountsPiece v from to sum' rest' new
-  joined from mid to sum rest sum' rest' x y old new other one sum_is rest_is stale left least changed = record {
+  counts-joined from mid to sum rest sum' rest' x y old new other one sum_is rest_is stale left least changed = record {
     stale_is = total-is _ from to sum' (omega arith);
     leftover_is = total-is _ from to rest' (omega arith);
     least_is = record {
@@ -84,10 +84,5 @@ module _ (v : NumbersView) (grids : AreGrids v) where
   counts-more from at sum rest sum' rest' old new here before is sum_is rest_is changed =
       let next = λ (test : List ℕ → ℕ → ℕ → Bool).
       sum_next (λ p. total_of v.nodes v.keys (test (numbers_at v.tables p))) at _ _ refl (ap (λ h. total_of v.nodes v.keys (test h)) is) in
-      joined from at (at + 1) sum rest sum' rest' _ _ old new here before sum_is rest_is (next (is_stale v)) (next (is_left v))
+      counts-joined from at (at + 1) sum rest sum' rest' _ _ old new here before sum_is rest_is (next (is_stale v)) (next (is_left v))
       (λ r k _ _. ap (λ h. min (least_upto at r k) (cell h v.nodes r k)) is ∙ ap (λ n. least_upto n r k) {x = suc at} {y = at + 1} (omega arith)) changed
-
-  pub counts-joined : (from mid to sum rest x y : ℕ) (old new other : List ℕ) → CountsPiece v from mid sum rest old → CountsPiece v mid to x y other
-      → ArePlanesChanged (λ r k a b. b ≡ min a (cell other v.nodes r k)) v.nodes v.keys old new → CountsPiece v from to (sum + x) (rest + y) new
-  counts-joined from mid to sum rest x y old new other one two =
-      joined from mid to sum rest _ _ x y old new other one refl refl two.stale_is.is two.leftover_is.is (λ r k in_r in_k. (two.least_is.each r k in_r in_k).is)

@@ -120,12 +120,6 @@ HasCounted number numbers from to piece =
 abbrev pub Counts : {N : Type 0} → (N → ℕ) → RoundNumbers N → ℕ → ℕ → Result (Piece N) Fault → Type 0
 Counts number numbers from to result = IfOk result (HasCounted number numbers from to) × IsOkUnless result OutOfMemory
 
--- tables from one on are left, so many in each thread
-pub record MayCountRest {N : Type 0} (number : N → ℕ) (numbers : RoundNumbers N) (size from : ℕ) : Type 0 where
-  pub grids : AreGrids (numbers_seen number numbers)
-  pub some : 1 ≤ size
-  pub upto : from ≤ length numbers.lists.now
-
 -- one is of the tables behind those of another
 pub record AreBehindEachOther {N : Type 0} (number : N → ℕ) (numbers : RoundNumbers N) (piece others : Piece N) : Type 0 where
   pub grids : AreGrids (numbers_seen number numbers)
@@ -135,12 +129,6 @@ pub record AreBehindEachOther {N : Type 0} (number : N → ℕ) (numbers : Round
   pub part : IsStretchOf (length numbers.lists.now) mid to
   pub first : HasCounted number numbers from mid piece
   pub second : HasCounted number numbers mid to others
-
--- and it is taken in
-abbrev pub HasTakenIn : {N : Type 0} → (N → ℕ) → RoundNumbers N → Piece N → Piece N → Piece N → Type 0
-HasTakenIn number numbers old others new =
-    (from mid to : ℕ) → HasCounted number numbers from mid old → HasCounted number numbers mid to others
-    → HasCounted number numbers from to new
 
 -- all tables are counted, in parts
 pub record ArePieces {N : Type 0} (number : N → ℕ) (numbers : RoundNumbers N) (pieces : List (Result (Piece N) Fault)) : Type 0 where

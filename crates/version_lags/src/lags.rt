@@ -5,7 +5,7 @@ ghost use Rattle.bench_types.specs.declared.faults.Fault.TheVariants.{OutOfMemor
 ghost use Rattle.model.specs.Table.{Table};
 ghost use Rattle.planes.specs.Planes.{cell};
 ghost use Rattle.version_lags.specs.Bounds.{IsStretchOf};
-ghost use Rattle.version_lags.specs.Pieces.{numbers_seen, AreAllCounted, AreBehindEachOther, AreFigures, AreGrids, ArePieces, AreRoundNumbers, Counts, HasCounted, HasTakenIn, MayCountRest, MayWalk, most_lag};
+ghost use Rattle.version_lags.specs.Pieces.{numbers_seen, AreAllCounted, AreBehindEachOther, AreFigures, AreGrids, ArePieces, AreRoundNumbers, Counts, HasCounted, MayWalk, most_lag};
 
 use crate::bounds::{LEAST_BYTES_OF_A_THREAD, threads_for};
 use bench_types::{Fault, Figures};
@@ -56,7 +56,9 @@ impl<N: Number> Piece<N> {
     // Takes in what the tables behind these say.
     fn take_in(&mut self, others: &Piece<N>, numbers: &RoundNumbers<N>)
         requires { AreBehindEachOther N.number numbers.now self.old others.now }
-        ensures { HasTakenIn N.number numbers.entry.now self.old others.entry.now self.new }
+        ensures { (from mid to : ℕ) → HasCounted N.number numbers.entry.now from mid self.old
+            → HasCounted N.number numbers.entry.now mid to others.entry.now
+            → HasCounted N.number numbers.entry.now from to self.new }
     {
         self.stale += others.stale;
         self.leftover += others.leftover;
@@ -194,7 +196,7 @@ fn rest_from<N: Number + Send + Sync>(
     size: usize,
     from: usize,
 ) -> Result<Piece<N>, Fault>
-    requires may { MayCountRest N.number numbers.now size from }
+    requires { AreGrids (numbers_seen N.number numbers.now) × (1 ≤ size) × (from ≤ length numbers.now.lists.now) }
     ensures { Counts N.number numbers.now from (length numbers.now.lists.now) result }
 {
     let nodes = numbers.lists.len();
@@ -207,7 +209,7 @@ fn rest_from<N: Number + Send + Sync>(
         ensures { Counts N.number numbers.entry.now from to result }
     { piece_of(alloc, numbers, from, to) };
     let others = || -> Result<Piece<N>, Fault>
-        requires { MayCountRest N.number numbers.now size to }
+        requires { AreGrids (numbers_seen N.number numbers.now) × (1 ≤ size) × (to ≤ length numbers.now.lists.now) }
         ensures { Counts N.number numbers.entry.now to (length numbers.entry.now.lists.now) result }
     { rest_from(rt, alloc, numbers, size, to) };
     let (first, others) = join(rt, first, others);

@@ -1,4 +1,4 @@
-use Rattle.version_lags.proofs.Common.{◌≡◌, ◌+◌, map, None, Some, max, sym, ap, ◌∙◌, arith, same_Some, write_numbered, entries_of, Entry, entry_kept, base_of, cell, length}
+use Rattle.version_lags.proofs.Common.{◌≡◌, ◌+◌, map, Some, max, sym, ap, ◌∙◌, arith, same_Some, write_numbered, entries_of, Entry, entry_kept, base_of, cell, length}
 use Rattle.version_lags.proofs.Walks.{walk-next, walk-none, walk-found, walk-read, walk-index, born-upto}
 use Rattle.version_lags.proofs.lags.lag_of_owner.Goals as goal
 use Rattle.version_lags.proofs.lags.lag_of_owner.Goals.{in-Some+else-widen-place, in-None}

@@ -1,8 +1,9 @@
 //! Loops over a few owners of a table, each over all of its keys. The others have nothing above one mark and up to
 //! another, and are passed over.
 
-ghost use Rattle.grids.specs.Grids.{AreBothCovered, AreBothRaised, AreSentTaken, MayTake};
-ghost use Rattle.grids.specs.inner.Owners.{HasRaisedOwner, HasTakenOwner, MayRaiseOwner, MayTakeOwner};
+ghost use Rattle.std.specs.Prelude.{◌<◌};
+ghost use Rattle.grids.specs.Grids.{AreBothCovered, AreBothRaised, AreSentTaken, IsBeside, MayTake};
+ghost use Rattle.grids.specs.inner.Owners.{HasRaisedOwner, HasTakenOwner, MayTakeOwner};
 
 use crate::grids::Sent;
 use crate::merges::{BothCounts, BothMarks};
@@ -49,7 +50,7 @@ pub(crate) fn take_owners<N: Number>(cells: &mut [N], greatest: &mut [N], sent: 
 
 // Raises an owner's numbers to those of another table that are above a mark. It answers how many these are.
 fn raise_owner<N: Number>(cells: &mut [N], others: Grid<N>, owner: usize, low: N) -> u32
-    requires { MayRaiseOwner cells.old others owner }
+    requires { IsBeside others cells.old × (owner < others.size.nodes) }
     ensures { HasRaisedOwner N.number others.entry.size.nodes others.entry.size.keys owner others.entry.cells.now low
         cells.old cells.new result }
 {

@@ -75,11 +75,6 @@ pub record AreBothMarked {N : Type 0} (one other : List N) (marks : BothMarks N)
   pub first_low : length marks.first.now ≡ length one
   pub second_low : length marks.second.now ≡ length one
 
-pub record MayMergePart {N : Type 0} (most : ℕ) (one other : List N) (marks : BothMarks N)
-    (from size : ℕ) : Type 0 where
-  pub marked : AreBothMarked one other marks
-  pub part : IsPart most (length one) from size
-
 -- each number of both planes is raised to the other's, where that is above its own mark, and so many come to each
 pub record ArePlanesMerged {N : Type 0} (number : N → ℕ) (marks : BothMarks N) (one other new_one new_other : List N)
     (came : BothCounts) : Type 0 where

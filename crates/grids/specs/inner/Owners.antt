@@ -1,14 +1,9 @@
 -- One owner's numbers, key by key. Source: this project.
 use Rattle.std.specs.Prelude.{◌≡◌, ℕ, ◌<◌, ◌==◌, List, length, map, if◌then◌else◌}
-use Rattle.planes.specs.declared.sizes.Grid.{Grid}
 use Rattle.planes.specs.Planes.{cell, count_above, number_raised, ArePlanesChanged, HasNoneAbove, IsRaised}
 use Rattle.grids.specs.Grids.{IsBeside}
 use Rattle.grids.specs.declared.grids.Sent.{Sent}
 use Rattle.grids.specs.inner.Loops.{taken_by}
-
-pub record MayRaiseOwner {N : Type 0} (cells : List N) (others : Grid N) (owner : ℕ) : Type 0 where
-  pub beside : IsBeside others cells
-  pub within : owner < others.size.nodes
 
 -- an owner's numbers once they were raised to those of another table that are above a mark, and so many are
 pub record HasRaisedOwner {N : Type 0} (number : N → ℕ) (nodes keys owner : ℕ) (others : List N) (low : N)

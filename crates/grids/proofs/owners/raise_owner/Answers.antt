@@ -8,7 +8,7 @@ loop-key-init g c = record { cells = planes-none _ _ _; count = refl }
 pub offset_bounds-cells-key : goal.offset_bounds-cells-key
 offset_bounds-cells-key g c =
     let inside : c.loop-key.key * c.args.others.size.nodes + c.args.owner < length c.loop-key.cells =
-    omega (arith, plane-within _ _ _ c.loop-key.key c.requires.beside.shape c.loop-key-test.true) in
+    omega (arith, plane-within _ _ _ c.loop-key.key c.requires.0.shape c.loop-key-test.true) in
     search rules
 
 pub loop-key-preserved : goal.loop-key-preserved
@@ -16,7 +16,7 @@ loop-key-preserved g c =
     let number = g.N.Number.number in
     let low = number c.args.low in
     let place : ℕ = c.loop-key.key * c.args.others.size.nodes + c.args.owner in
-    let within = plane-within _ _ _ c.loop-key.key c.requires.beside.shape c.loop-key-test.true in
+    let within = plane-within _ _ _ c.loop-key.key c.requires.0.shape c.loop-key-test.true in
     let other = number-at number c.args.others.cells.now place c.index-numbers-key.result (omega arith) c.index-numbers-key.is in
     let held = c.loop-key.invariant in
     let at_cell = sym (get_or-map number c.loop-key.cells place c.index-cells-key.result 0 (omega arith)) ∙ held.cells.from place (omega arith) in
@@ -24,7 +24,7 @@ loop-key-preserved g c =
     let bit : c.from-count.result ≡ (if c.is_above-is_above.result then 1 else 0) = search rules in
     record {
       cells =
-          owner-next _ _ _ _ c.requires.within number _ c.loop-key.key c.raised_to.result held.cells (omega (arith, length-map c.args.cells.now number))
+          owner-next _ _ _ _ c.requires.1 number _ c.loop-key.key c.raised_to.result held.cells (omega (arith, length-map c.args.cells.now number))
           (c.raised_to.ensures ∙ (λ i. max (at_cell i) (if above i then other i else 0)));
       count = sum_next _ c.loop-key.key c.loop-key.count c.from-count.result held.count (bit ∙ (λ i. if above i then 1 else 0));
     }

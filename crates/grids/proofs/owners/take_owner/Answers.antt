@@ -27,7 +27,8 @@ loop-key-preserved g c =
     elim c.if-is_between.branch [
       | then-is_between w ↦
           let at_cell = sym (get_or-map number c.loop-key.cells place w.index-cells-key.result 0 (omega arith)) ∙ held.cells.from place (omega arith) in
-          let raised = w.max_with-raised.ensures ∙ (λ i. max (at_cell i) (at_sent i)) ∙ sym (ap (λ b. max was (cond b sent 0)) (between ∙ w.if-is_between.true)) in
+          let taken = ap (λ b. max was (cond b sent 0)) (between ∙ w.if-is_between.true) in
+          let raised = w.max_with-raised.ensures ∙ (λ i. max (at_cell i) (at_sent i)) ∙ sym taken in
           rw (w.cells-is, w.greatest-is) (record {
             cells = owner-next _ _ _ _ c.requires.within number _ key _ held.cells (omega (arith, length-map c.args.cells.now number)) raised;
             greatest = raised-next _ key _ _ _ _ held.greatest (w.max_with-greatest.ensures ∙ ap (max (number c.loop-key.greatest)) raised);

@@ -62,8 +62,9 @@ module _ (v : NumbersView) (grids : AreGrids v) where
     };
   }
 
-  pub counts-joined : (from mid to sum rest sum' rest' x y : ℕ) (old new other : List ℕ) → CountsPiece v from mid sum rest old → sum' ≡ sum + x → rest' ≡ rest + y
-      → total_below v (is_stale v) mid + x ≡ total_below v (is_stale v) to → total_below v (is_left v) mid + y ≡ total_below v (is_left v) to
+  pub counts-joined : (from mid to sum rest sum' rest' x y : ℕ) (old new other : List ℕ) → CountsPiece v from mid sum rest old
+      → sum' ≡ sum + x → rest' ≡ rest + y → total_below v (is_stale v) mid + x ≡ total_below v (is_stale v) to
+      → total_below v (is_left v) mid + y ≡ total_below v (is_left v) to
       → ((r k : ℕ) → r < v.nodes → k < v.keys → min (least_upto mid r k) (cell other v.nodes r k) ≡ least_upto to r k)
       → ArePlanesChanged (λ r k a b. b ≡ min a (cell other v.nodes r k)) v.nodes v.keys old new → CountsPiece v from to sum' rest' new
   counts-joined from mid to sum rest sum' rest' x y old new other one sum_is rest_is stale left least changed = record {

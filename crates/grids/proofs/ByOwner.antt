@@ -1,15 +1,8 @@
 -- Tables whose owners are gone over one by one.
 -- Serves `drop_owner`, `merge_owners`, `raise_owner`, `take_owner`, `take_owners` and `version_tables`.
-use Rattle.grids.proofs.Common.{◌≡◌, ◌≢◌, ℕ, Fits, w32, ◌+◌, ◌*◌, ◌<◌, ◌≤◌, ◌==◌, ◌&&◌, true, false, cond, List, length, get_or, set, map, nat_lt, nat_le, max, inl, inr, refl, sym, ap, ◌∙◌, subst, arith, below_more, nat_tests, mul-le-mul_right, lt-ltb, le-ltb, get_or-set_same, get_or-set_other, length-set, map-set, sum_below, sum_below-same, Cells, cell, count_above, number_raised, number_taken, HasNoneAbove, IsRaised, ArePlanesChanged, ArePlanesChangedUpto, IsGrid, HasRaisedOwner}
-use Rattle.planes.proofs.Counts.{owner_counted, owner_passed, owners-fit}
+use Rattle.grids.proofs.Common.{◌≡◌, ◌≢◌, ℕ, ◌+◌, ◌*◌, ◌<◌, ◌≤◌, ◌==◌, cond, List, length, get_or, set, map, nat_lt, inl, inr, refl, sym, ap, ◌∙◌, subst, arith, below_more, nat_tests, mul-le-mul_right, lt-ltb, le-ltb, get_or-set_same, get_or-set_other, length-set, map-set, sum_below, sum_below-same, Cells, cell, count_above, number_raised, number_taken, HasNoneAbove, IsRaised, ArePlanesChanged, ArePlanesChangedUpto, HasRaisedOwner, owner_counted, owner_passed}
 
--- nothing is taken that isn't above one mark and up to another
-pub taken-none : (x sent low high : ℕ) → (nat_lt low sent && nat_le sent high) ≡ false → number_taken x sent low high ≡ x
-taken-none x sent low high outside = ap (λ b. max x (cond b sent 0)) outside ∙ omega arith
-
-pub taken-some : (x sent low high : ℕ) → (nat_lt low sent && nat_le sent high) ≡ true → number_taken x sent low high ≡ max x sent
-taken-some x sent low high inside = ap (λ b. max x (cond b sent 0)) inside
-
+-- nothing is taken where the high mark is no higher
 pub taken-passed : (x sent low high : ℕ) → high ≤ low → number_taken x sent low high ≡ x
 taken-passed x sent low high le = grind (arith, nat_tests)
 
@@ -18,14 +11,19 @@ abbrev pub owner_changed : (ℕ → ℕ → ℕ → ℕ) → ℕ → ℕ → ℕ
 owner_changed to owner r k x y = y ≡ cond (r == owner) (to r k x) x
 
 module _ (to : ℕ → ℕ → ℕ → ℕ) (owner nodes : ℕ) (old : List ℕ) (in_nodes : owner < nodes) where
+  abbrev IsDone : List ℕ → ℕ → Type 0
+  IsDone xs key = ArePlanesChangedUpto (owner_changed to owner) nodes old xs key
+
   -- one key more, where no other number changes
-  owner_more : (xs ys : List ℕ) (key : ℕ) → ArePlanesChangedUpto (owner_changed to owner) nodes old xs key → length ys ≡ length xs → get_or ys (key * nodes + owner) 0 ≡ to owner key (cell old nodes owner key)
-      → ((i : ℕ) → i ≢ key * nodes + owner → get_or ys i 0 ≡ get_or xs i 0) → ArePlanesChangedUpto (owner_changed to owner) nodes old ys (key + 1)
+  owner_more : (xs ys : List ℕ) (key : ℕ) → IsDone xs key → length ys ≡ length xs → get_or ys (key * nodes + owner) 0 ≡ to owner key (cell old nodes owner key)
+      → ((i : ℕ) → i ≢ key * nodes + owner → get_or ys i 0 ≡ get_or xs i 0) → IsDone ys (key + 1)
   owner_more xs ys key before size now others = record {
     size = size ∙ before.size;
     below = λ r k in_node. below_more (λ j. owner_changed to owner r j (cell old nodes r j) (cell ys nodes r j)) key
-        (λ j lt. others (j * nodes + r) (λ e. omega (arith, e, in_node, mul-le-mul_right {m = j + 1} {n = key} nodes (omega (arith, lt)))) ∙ before.below r j in_node lt) (here r in_node) k;
-    from = λ i le. others i (λ e. omega (arith, e, le, in_nodes)) ∙ before.from i (omega (arith, le));
+        (λ j lt.
+        let earlier = mul-le-mul_right {m = j + 1} {n = key} nodes (omega arith) in
+        others (j * nodes + r) (λ e. omega (arith, earlier)) ∙ before.below r j in_node lt) (here r in_node) k;
+    from = λ i le. others i (λ e. omega arith) ∙ before.from i (omega arith);
   }
     where
       here : (r : ℕ) → r < nodes → owner_changed to owner r key (cell old nodes r key) (cell ys nodes r key)
@@ -35,16 +33,15 @@ module _ (to : ℕ → ℕ → ℕ → ℕ) (owner nodes : ℕ) (old : List ℕ)
           grind (arith, nat_tests)
 
   -- it is written
-  pub owner-next : {N : Type 0} (number : N → ℕ) (xs : List N) (key : ℕ) (x : N) → ArePlanesChangedUpto (owner_changed to owner) nodes old (map number xs) key → key * nodes + nodes ≤ length old
-      → number x ≡ to owner key (cell old nodes owner key) → ArePlanesChangedUpto (owner_changed to owner) nodes old (map number (set xs (key * nodes + owner) x)) (key + 1)
+  pub owner-next : {N : Type 0} (number : N → ℕ) (xs : List N) (key : ℕ) (x : N) → IsDone (map number xs) key → key * nodes + nodes ≤ length old
+      → number x ≡ to owner key (cell old nodes owner key) → IsDone (map number (set xs (key * nodes + owner) x)) (key + 1)
   owner-next number xs key x before within is =
       rw (map-set number xs (key * nodes + owner) x) (owner_more (map number xs) _ key before (length-set (map number xs) (key * nodes + owner) (number x))
-      (get_or-set_same (map number xs) (key * nodes + owner) (number x) 0 (omega (arith, before.size, within, in_nodes)) ∙ is)
+      (get_or-set_same (map number xs) (key * nodes + owner) (number x) 0 (omega arith) ∙ is)
       (λ i other. get_or-set_other (map number xs) (key * nodes + owner) i (number x) 0 other))
 
   -- or it stays
-  pub owner-stays : (xs : List ℕ) (key : ℕ) → ArePlanesChangedUpto (owner_changed to owner) nodes old xs key → to owner key (cell old nodes owner key) ≡ cell old nodes owner key
-      → ArePlanesChangedUpto (owner_changed to owner) nodes old xs (key + 1)
+  pub owner-stays : (xs : List ℕ) (key : ℕ) → IsDone xs key → to owner key (cell old nodes owner key) ≡ cell old nodes owner key → IsDone xs (key + 1)
   owner-stays xs key before same = owner_more xs xs key before refl (before.from (key * nodes + owner) (omega arith) ∙ sym same) (λ i other. refl)
 
 -- of the owners below a bound
@@ -52,12 +49,15 @@ abbrev pub owners_changed : (ℕ → ℕ → ℕ → ℕ) → ℕ → ℕ → �
 owners_changed to bound r k x y = y ≡ cond (nat_lt r bound) (to r k x) x
 
 module _ (to : ℕ → ℕ → ℕ → ℕ) (nodes keys : ℕ) (old : List ℕ) where
-  pub owners-none : ArePlanesChanged (owners_changed to 0) nodes keys old old
-  owners-none = record { size = refl; each = λ r k in_node in_key. ap (λ b. cond b (to r k (cell old nodes r k)) (cell old nodes r k)) (sym (le-ltb r 0 (omega arith))) }
+  abbrev AreDone : ℕ → List ℕ → Type 0
+  AreDone bound xs = ArePlanesChanged (owners_changed to bound) nodes keys old xs
+
+  pub owners-none : AreDone 0 old
+  owners-none = record { size = refl; each = λ r k in_node in_key. rw (le-ltb r 0 (omega arith)) }
 
   -- an owner's turn comes, where those before it were changed already
-  owners_turned : (bound : ℕ) (now : ℕ → ℕ → ℕ → ℕ) (mid new : List ℕ) → ArePlanesChanged (owners_changed to bound) nodes keys old mid → ArePlanesChanged (owner_changed now bound) nodes keys mid new
-      → ((k x : ℕ) → k < keys → now bound k x ≡ to bound k x) → ArePlanesChanged (owners_changed to (bound + 1)) nodes keys old new
+  owners_turned : (bound : ℕ) (now : ℕ → ℕ → ℕ → ℕ) (mid new : List ℕ) → AreDone bound mid → ArePlanesChanged (owner_changed now bound) nodes keys mid new
+      → ((k x : ℕ) → k < keys → now bound k x ≡ to bound k x) → AreDone (bound + 1) new
   owners_turned bound now mid new before after same = record {
     size = after.size ∙ before.size;
     each = λ r k in_node in_key.
@@ -67,25 +67,26 @@ module _ (to : ℕ → ℕ → ℕ → ℕ) (nodes keys : ℕ) (old : List ℕ) 
         grind (arith, nat_tests);
   }
 
-  pub owners-next : (bound : ℕ) (now : ℕ → ℕ → ℕ → ℕ) (mid new : List ℕ) → ArePlanesChanged (owners_changed to bound) nodes keys old mid → ArePlanesChanged (owner_changed now bound) nodes keys mid new
-      → ((k x : ℕ) → now bound k x ≡ to bound k x) → ArePlanesChanged (owners_changed to (bound + 1)) nodes keys old new
+  pub owners-next : (bound : ℕ) (now : ℕ → ℕ → ℕ → ℕ) (mid new : List ℕ) → AreDone bound mid → ArePlanesChanged (owner_changed now bound) nodes keys mid new
+      → ((k x : ℕ) → now bound k x ≡ to bound k x) → AreDone (bound + 1) new
   owners-next bound now mid new before after same = owners_turned bound now mid new before after (λ k x _. same k x)
 
-  pub owners-stay : (bound : ℕ) (mid : List ℕ) → ArePlanesChanged (owners_changed to bound) nodes keys old mid → ((k x : ℕ) → k < keys → to bound k x ≡ x) → ArePlanesChanged (owners_changed to (bound + 1)) nodes keys old mid
-  owners-stay bound mid before same = owners_turned bound (λ r k y. y) mid mid before (record { size = refl; each = λ r k _ _. grind (arith, nat_tests) }) (λ k x lt. sym (same k x lt))
+  pub owners-stay : (bound : ℕ) (mid : List ℕ) → AreDone bound mid → ((k x : ℕ) → k < keys → to bound k x ≡ x) → AreDone (bound + 1) mid
+  owners-stay bound mid before same =
+      owners_turned bound (λ r k y. y) mid mid before (record { size = refl; each = λ r k _ _. grind (arith, nat_tests) }) (λ k x lt. sym (same k x lt))
 
-  pub owners-all : (bound : ℕ) (mid : List ℕ) → nodes ≤ bound → ArePlanesChanged (owners_changed to bound) nodes keys old mid → ArePlanesChanged (λ r k x y. y ≡ to r k x) nodes keys old mid
+  pub owners-all : (bound : ℕ) (mid : List ℕ) → nodes ≤ bound → AreDone bound mid → ArePlanesChanged (λ r k x y. y ≡ to r k x) nodes keys old mid
   owners-all bound mid le before = record {
     size = before.size;
-    each = λ r k in_node in_key. before.each r k in_node in_key ∙ ap (λ b. cond b (to r k (cell old nodes r k)) (cell old nodes r k)) (lt-ltb r bound (omega (arith, in_node, le)));
+    each = λ r k in_node in_key. rw (lt-ltb r bound (omega arith)) at (before.each r k in_node in_key);
   }
 
   -- an owner whose turn is still to come has its numbers
-  pub owner-waits : (bound : ℕ) (mid : List ℕ) → ArePlanesChanged (owners_changed to bound) nodes keys old mid → (k : ℕ) → bound < nodes → k < keys → cell mid nodes bound k ≡ cell old nodes bound k
-  owner-waits bound mid before k in_node in_key =
-      before.each bound k in_node in_key ∙ ap (λ b. cond b (to bound k (cell old nodes bound k)) (cell old nodes bound k)) (le-ltb bound bound (omega arith))
+  pub owner-waits : (bound : ℕ) (mid : List ℕ) → AreDone bound mid → (k : ℕ) → bound < nodes → k < keys → cell mid nodes bound k ≡ cell old nodes bound k
+  owner-waits bound mid before k in_node in_key = rw (le-ltb bound bound (omega arith)) at (before.each bound k in_node in_key)
 
-pub raised-same : (one other : Cells) (keys owner x y : ℕ) → ((k : ℕ) → k < keys → one owner k ≡ other owner k) → IsRaised one keys owner x y → IsRaised other keys owner x y
+pub raised-same : (one other : Cells) (keys owner x y : ℕ) → ((k : ℕ) → k < keys → one owner k ≡ other owner k)
+    → IsRaised one keys owner x y → IsRaised other keys owner x y
 raised-same one other keys owner x y same is = record {
   rises = is.rises;
   upto = λ k lt. subst (λ n. n ≤ y) (same k lt) (is.upto k lt);
@@ -101,30 +102,26 @@ module _ (nodes keys : ℕ) (others : List ℕ) (low : ℕ → ℕ) (old : List 
   abbrev raised_in : ℕ → ℕ → ℕ → ℕ
   raised_in r k x = number_raised x (cell others nodes r k) (low r)
 
-  pub come-none : HaveCome nodes keys others low old old 0 0
-  come-none = record { cells = owners-none raised_in nodes keys old; count = refl }
-
   -- an owner's numbers come, while the other table still has them as they were
-  pub come-next : {N : Type 0} (number : N → ℕ) (owner : ℕ) (low_of_others : ℕ → ℕ) (others_mid mid new : List N) (came count more : ℕ) (mark : N) → owner < nodes
-      → HaveCome nodes keys old low_of_others others (map number others_mid) owner came → HaveCome nodes keys others low old (map number mid) owner count
-      → number mark ≡ low owner → HasRaisedOwner number nodes keys owner others_mid mark mid new more → HaveCome nodes keys others low old (map number new) (owner + 1) (count + more)
+  pub come-next : {N : Type 0} (number : N → ℕ) (owner : ℕ) (low_of_others : ℕ → ℕ) (others_mid mid new : List N) (came count more : ℕ) (mark : N)
+      → owner < nodes → HaveCome nodes keys old low_of_others others (map number others_mid) owner came
+      → HaveCome nodes keys others low old (map number mid) owner count → number mark ≡ low owner
+      → HasRaisedOwner number nodes keys owner others_mid mark mid new more → HaveCome nodes keys others low old (map number new) (owner + 1) (count + more)
   come-next number owner low_of_others others_mid mid new came count more mark lt waits before same now =
       let there = owner-waits (λ r k x. number_raised x (cell old nodes r k) (low_of_others r)) nodes keys others owner (map number others_mid) waits.cells in
       record {
         cells =
-            owners_turned raised_in nodes keys old owner (λ r k y. number_raised y (cell (map number others_mid) nodes r k) (number mark)) (map number mid) (map number new) before.cells now.cells
-            (λ k x in_keys i. number_raised x (there k lt in_keys i) (same i));
+            owners_turned raised_in nodes keys old owner (λ r k y. number_raised y (cell (map number others_mid) nodes r k) (number mark)) _ _
+            before.cells now.cells (λ k x in_keys i. number_raised x (there k lt in_keys i) (same i));
         count =
             owner_counted (cell others nodes) keys low owner count more (number mark) before.count
             (now.count ∙ sum_below-same keys _ _ (λ k in_keys. ap (λ n. cond (nat_lt (number mark) n) 1 0) (there k lt in_keys))) same;
       }
 
   -- or none comes
-  pub come-passed : (owner : ℕ) (mid : List ℕ) (count high : ℕ) → HaveCome nodes keys others low old mid owner count → HasNoneAbove (cell others nodes) keys owner high → high ≤ low owner → HaveCome nodes keys others low old mid (owner + 1) count
+  pub come-passed : (owner : ℕ) (mid : List ℕ) (count high : ℕ) → HaveCome nodes keys others low old mid owner count
+      → HasNoneAbove (cell others nodes) keys owner high → high ≤ low owner → HaveCome nodes keys others low old mid (owner + 1) count
   come-passed owner mid count high before covered le = record {
     cells = owners-stay raised_in nodes keys old owner mid before.cells (λ k x lt. let none = covered k lt in grind (arith, nat_tests));
     count = owner_passed (cell others nodes) keys low owner count high before.count covered le;
   }
-
-  pub come-fits : (owner : ℕ) (new : List ℕ) (size count : ℕ) → IsGrid nodes keys size → owner < nodes → HaveCome nodes keys others low old new (owner + 1) count → Fits w32 count
-  come-fits owner new size count grid lt is = owners-fit (cell others nodes) nodes keys size low owner count grid lt is.count

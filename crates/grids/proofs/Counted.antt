@@ -1,9 +1,6 @@
 -- Planes of which some places are counted.
 -- Serves the functions of `grids`, `lags` and `merges`.
-use Rattle.grids.proofs.Common.{◌≡◌, ℕ, Fits, w32, ◌+◌, ◌*◌, ◌<◌, ◌≤◌, Bool, cond, nat_tests, List, length, get_or, map, take, drop, nat_lt, max, refl, sym, ◌∙◌, ap, arith, length-map, put_mid, MOST_NODES, sum_below, sum_below-most, cell, number_ahead, total_above, total_of, IsGrid, HasEachPlace, number_kept, HasNoneUptoMark, cases_eq, inl, inr, ArePlanesChangedUpto, ArePlanesChanged, AreCountedUpto, AreRaisedUpto, number_raised, count_passing, HasNoOtherMark}
-use Rattle.planes.proofs.Elementwise.{changed_all}
-use Rattle.planes.proofs.Counts.{count_le, sum_next}
-use Rattle.planes.proofs.Places.{plane-cells, plane_count, planes-all, planes-none, planes-written, block-cells, plane-within, total-places, total-same, total_whole}
+use Rattle.grids.proofs.Common.{◌≡◌, ℕ, Fits, w32, ◌+◌, ◌*◌, ◌<◌, ◌≤◌, Bool, cond, nat_tests, List, length, get_or, map, take, drop, nat_lt, max, refl, sym, ◌∙◌, ◌==◌, ap, arith, length-map, put_mid, MOST_NODES, sum_below, sum_below-most, cell, number_ahead, total_above, total_of, IsGrid, ArePlanesChangedUpto, ArePlanesChanged, AreCountedUpto, AreRaisedUpto, number_raised, count_passing, HasNoOtherMark, HasEachPlace, HasNoneUptoMark, number_kept, cases_eq, inl, inr, changed_all, count_le, sum_next, plane-cells, plane_count, planes-all, planes-none, planes-written, block-cells, plane-within, total-places, total-same, total_whole}
 
 -- the planes of the keys below a bound are changed, and so many places of them pass a test
 pub record ArePlanesCounted (changed : ℕ → ℕ → ℕ → ℕ → Type 0) (test : ℕ → ℕ → Bool) (nodes : ℕ) (old new : List ℕ) (bound passed : ℕ) : Type 0 where
@@ -22,29 +19,34 @@ module _ (changed : ℕ → ℕ → ℕ → ℕ → Type 0) (test : ℕ → ℕ 
   planes_counted-next number xs ys key n count more in_block passes is before within now step same =
       let block = take n (drop (key * nodes) xs) in
       let size = length-map block number in
-      let cells = plane-cells number nodes key n xs is (omega (arith, within, before.planes.size, length-map xs number)) in
+      let cells = plane-cells number nodes key n xs is (omega (arith, length-map xs number)) in
       record {
-        planes = planes-written changed nodes old number xs ys key n in_block is before.planes within (changed_all in_block (map number block) (map number ys) (length block) now.numbers (omega (arith, size))) step;
+        planes = planes-written changed nodes old number xs ys key n in_block is before.planes within (changed_all _ _ _ _ now.numbers (omega arith)) step;
         count = sum_next _ key count more before.count (plane_count nodes passes (λ r. test r key) (length block) more (sym size ∙ cells.size) now.count same);
       }
 
-  pub planes_counted-fits : (new : List ℕ) (keys key size count : ℕ) → IsGrid nodes keys size → key < keys → ArePlanesCounted changed test nodes old new (key + 1) count → Fits w32 count
+  pub planes_counted-fits : (new : List ℕ) (keys key size count : ℕ) → IsGrid nodes keys size → key < keys
+      → ArePlanesCounted changed test nodes old new (key + 1) count → Fits w32 count
   planes_counted-fits new keys key size count grid lt is =
-      omega (arith, is.count, lt, grid.few_keys, sum_below-most (λ k. sum_below nodes (λ r. cond (test r k) 1 0)) (key + 1) MOST_NODES (λ k _. omega (arith, grid.few_nodes, count_le nodes (λ r. test r k))))
+      let each = λ (k : ℕ). count_le nodes (λ r. test r k) in
+      omega (arith, sum_below-most (λ k. sum_below nodes (λ r. cond (test r k) 1 0)) (key + 1) MOST_NODES (λ k _. omega (arith, each k)))
 
-  pub planes_counted-all : (new : List ℕ) (keys key count : ℕ) → ArePlanesCounted changed test nodes old new key count → keys ≤ key → key ≤ keys → ArePlanesChanged changed nodes keys old new × (count ≡ total_of nodes keys test)
-  planes_counted-all new keys key count is le ge = (planes-all changed nodes old new keys key is.planes le, total_whole nodes keys key test count is.count le ge)
+  pub planes_counted-all : (new : List ℕ) (keys key count : ℕ) → ArePlanesCounted changed test nodes old new key count → keys ≤ key → key ≤ keys
+      → ArePlanesChanged changed nodes keys old new × (count ≡ total_of nodes keys test)
+  planes_counted-all new keys key count is le ge = (planes-all _ _ _ new keys key is.planes le, total_whole nodes keys key test count is.count le ge)
 
 -- each number of these planes is raised to another table's, where that is above its mark, and so many are
 abbrev pub AreMergedUpto : ℕ → List ℕ → List ℕ → List ℕ → List ℕ → ℕ → ℕ → Type 0
 AreMergedUpto nodes others low old new bound count =
-    ArePlanesCounted (λ r k x y. y ≡ number_raised x (cell others nodes r k) (get_or low r 0)) (λ r k. nat_lt (get_or low r 0) (cell others nodes r k)) nodes old new bound count
+    ArePlanesCounted (λ r k x y. y ≡ number_raised x (cell others nodes r k) (get_or low r 0)) (λ r k. nat_lt (get_or low r 0) (cell others nodes r k))
+    nodes old new bound count
 
 -- of two tables that take of each other one takes a plane more
 pub merged-next : {N : Type 0} (number : N → ℕ) (nodes key n : ℕ) (others low passed old : List ℕ) (zs xs ys : List N) (came count more : ℕ)
     → n ≡ nodes → AreMergedUpto nodes old passed others (map number zs) key came → AreMergedUpto nodes others low old (map number xs) key count
     → key * nodes + nodes ≤ length others → key * nodes + nodes ≤ length old
-    → AreRaisedUpto (map number (take n (drop (key * nodes) zs))) low (map number (take n (drop (key * nodes) xs))) (map number ys) (length (take n (drop (key * nodes) xs))) more
+    → let block = λ (ns : List N). take n (drop (key * nodes) ns) in
+    AreRaisedUpto (map number (block zs)) low (map number (block xs)) (map number ys) (length (block xs)) more
     → AreMergedUpto nodes others low old (map number (put_mid (key * nodes) n xs ys)) (key + 1) (count + more)
 merged-next number nodes key n others low passed old zs xs ys came count more is waits before behind within now =
     let block = block-cells _ nodes others number zs key n is waits.planes behind in
@@ -52,7 +54,8 @@ merged-next number nodes key n others low passed old zs xs ys came count more is
     (λ r x y lt made. made ∙ (λ i. number_raised x (block r lt i) (get_or low r 0))) (λ r lt i. nat_lt (get_or low r 0) (block r lt i))
 
 -- how many are kept: such a number is above the mark, and 0 isn't
-pub total-kept : (nodes keys : ℕ) (peer : ℕ → ℕ → ℕ) (low old new : List ℕ) (count : ℕ) → count ≡ total_of nodes keys (λ r k. nat_lt (max (peer r k) (get_or low r 0)) (cell old nodes r k))
+pub total-kept : (nodes keys : ℕ) (peer : ℕ → ℕ → ℕ) (low old new : List ℕ) (count : ℕ)
+    → count ≡ total_of nodes keys (λ r k. nat_lt (max (peer r k) (get_or low r 0)) (cell old nodes r k))
     → ArePlanesChanged (λ r k x y. y ≡ number_ahead x (peer r k) (get_or low r 0)) nodes keys old new → count ≡ total_above nodes keys new low
 total-kept nodes keys peer low old new count is kept =
     is ∙ total-same nodes keys _ _ (λ r k in_nodes in_keys. let now = kept.each r k in_nodes in_keys in grind (arith, nat_tests))
@@ -65,7 +68,7 @@ pub places-counted : (changed : ℕ → ℕ → ℕ → Type 0) (test : ℕ → 
 places-counted changed test nodes keys old new size passed grid is = (
   record {
     size = is.numbers.size;
-    each = λ r k in_nodes in_keys. is.numbers.below (k * nodes + r) (omega (arith, in_nodes, plane-within nodes keys size k grid in_keys));
+    each = λ r k in_nodes in_keys. is.numbers.below (k * nodes + r) (omega (arith, plane-within nodes keys size k grid in_keys));
   },
   is.count ∙ ap (λ n. count_passing n test) grid.whole ∙ total-places nodes keys test,
 )

@@ -3,7 +3,8 @@
 ghost use Rattle.std.specs.Prelude.{◌≡◌, ◌-◌, ◌≤◌, length, min};
 ghost use Rattle.bench_types.specs.declared.limits.TheConstants.{MOST_NODES};
 ghost use Rattle.grids.specs.Grids.{AreBothCovered, AreBothGreatest, AreBothRaised, AreMostAhead, AreRaisedToOther};
-ghost use Rattle.grids.specs.inner.Loops.{AreBothMarked, ArePartMerged, ArePlanesMerged, MayMergePart};
+ghost use Rattle.planes.specs.Loops.{IsPart};
+ghost use Rattle.grids.specs.inner.Loops.{AreBothMarked, ArePartMerged, ArePlanesMerged};
 
 use crate::owners;
 use crate::owners::FEW_TO_CHANGE;
@@ -80,14 +81,11 @@ fn merge_some<N: Number>(
     from: usize,
     size: usize,
 ) -> BothCounts
-    requires { MayMergePart N.most first.old second.old marks from size }
+    requires { AreBothMarked first.old second.old marks × IsPart N.most (length first.old) from size }
     ensures { ArePartMerged N.number marks.entry first.old second.old first.new second.new from size result }
 {
-    let BothMarks {
-        first: first_low,
-        second: second_low,
-        ..
-    } = marks;
+    let first_low = marks.first;
+    let second_low = marks.second;
     let mut to_first = N::zero();
     let mut to_second = N::zero();
     for i in 0..size {

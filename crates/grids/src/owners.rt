@@ -1,8 +1,9 @@
 //! Loops over a few owners of a table, each over all of its keys. The others have nothing above one mark and up to
 //! another, and are passed over.
 
-ghost use Rattle.grids.specs.Grids.{AreBothCovered, AreBothRaised, AreSentTaken, MayTake};
-ghost use Rattle.grids.specs.inner.Owners.{HasRaisedOwner, HasTakenOwner, MayRaiseOwner, MayTakeOwner};
+ghost use Rattle.std.specs.Prelude.{◌<◌};
+ghost use Rattle.grids.specs.Grids.{AreBothCovered, AreBothRaised, AreSentTaken, IsBeside, MayTake};
+ghost use Rattle.grids.specs.inner.Owners.{HasRaisedOwner, HasTakenOwner, MayTakeOwner};
 
 use crate::grids::Sent;
 use crate::merges::{BothCounts, BothMarks};
@@ -17,10 +18,8 @@ fn take_owner<N: Number>(cells: &mut [N], sent: Sent<N>, owner: usize, had: N) -
     requires { MayTakeOwner N.number cells.old sent owner had }
     ensures { HasTakenOwner N.number sent.entry owner cells.old had cells.new result }
 {
-    let Grid {
-        cells: numbers,
-        size,
-    } = sent.grid;
+    let numbers = sent.grid.cells;
+    let size = sent.grid.size;
     let low = sent.low[owner];
     let high = sent.high[owner];
     let mut greatest = had;
@@ -51,14 +50,12 @@ pub(crate) fn take_owners<N: Number>(cells: &mut [N], greatest: &mut [N], sent: 
 
 // Raises an owner's numbers to those of another table that are above a mark. It answers how many these are.
 fn raise_owner<N: Number>(cells: &mut [N], others: Grid<N>, owner: usize, low: N) -> u32
-    requires { MayRaiseOwner cells.old others owner }
+    requires { IsBeside others cells.old × (owner < others.size.nodes) }
     ensures { HasRaisedOwner N.number others.entry.size.nodes others.entry.size.keys owner others.entry.cells.now low
         cells.old cells.new result }
 {
-    let Grid {
-        cells: numbers,
-        size,
-    } = others;
+    let numbers = others.cells;
+    let size = others.size;
     let mut count = 0;
     for key in 0..size.keys {
         let number = numbers[key * size.nodes + owner];
@@ -80,11 +77,9 @@ pub(crate) fn merge_owners<N: Number>(
     requires marked { AreBothCovered N.number marks first.old second.old }
     ensures { AreBothRaised N.number marks.entry first.old second.old first.new second.new result }
 {
-    let BothMarks {
-        first: first_low,
-        second: second_low,
-        size,
-    } = marks;
+    let first_low = marks.first;
+    let second_low = marks.second;
+    let size = marks.size;
     let mut to_first = 0;
     let mut to_second = 0;
     for owner in 0..size.nodes {

@@ -5,14 +5,14 @@ use Rattle.planes.proofs.Common.{◌≡◌, ℕ, zero, suc, ◌+◌, ◌<◌, �
 -- one value more, to which the least one is lowered
 pub least-more : (most key x y : ℕ) (values : ℕ → ℕ) → IsLeastOf most values key x → y ≡ min x (values key) → values key ≤ most → IsLeastOf most values (key + 1) y
 least-more most key x y values before lowered fits = record {
-  upto = omega (arith, lowered, before.upto);
+  upto = omega arith;
   fits = below_more (λ k. values k ≤ most) key before.fits fits;
-  no_less = below_more (λ k. y ≤ values k) key (λ k lt. omega (arith, before.no_less k lt, lowered)) (omega (arith, lowered));
+  no_less = below_more (λ k. y ≤ values k) key (λ k lt. omega (arith, before.no_less k lt)) (omega arith);
   is = elim (cases_lt (values key) x) [
-    | inl lower ↦ inr (key, omega arith, omega (arith, lowered, lower))
+    | inl lower ↦ inr (key, omega arith, omega arith)
     | inr not_lower ↦
-        let same : x ≡ y = omega (arith, lowered, not_lower) in
-        elim before.is [ inl none ↦ inl (sym same ∙ none) | inr found ↦ inr (found.0, omega (arith, found.1), found.2 ∙ same) ]
+        let same : x ≡ y = omega arith in
+        elim before.is [ inl none ↦ inl (sym same ∙ none) | inr found ↦ inr (found.0, omega arith, found.2 ∙ same) ]
   ];
 }
 
@@ -22,12 +22,12 @@ each-turned nodes is other xs before turn = record { size = before.size; each = 
 
 -- of those above a mark
 some_above : (cells : Cells) (owner mark keys : ℕ) → HasNoneAbove cells keys owner mark ⊎ ((k : ℕ) × (k < keys) × (mark < cells owner k))
-some_above cells owner mark zero = inl (λ k lt. absurd (omega (arith, lt)))
+some_above cells owner mark zero = inl (λ k lt. absurd (omega arith))
 some_above cells owner mark (suc keys) = elim (cases_lt mark (cells owner keys)) [
   | inl above ↦ inr (keys, omega arith, above)
   | inr not_above ↦ elim (some_above cells owner mark keys) [
-    | inr some ↦ inr (some.0, omega (arith, some.1), some.2)
-    | inl none ↦ inl (λ k lt. below_more (λ k. cells owner k ≤ mark) keys none not_above k (omega (arith, lt)))
+    | inr some ↦ inr (some.0, omega arith, some.2)
+    | inl none ↦ inl (λ k lt. below_more (λ k. cells owner k ≤ mark) keys none not_above k (omega arith))
   ]
 ]
 
@@ -50,4 +50,4 @@ least_is-above most cells keys owner mark least is = elim (some_above cells owne
     equal k lt over all = let less = is.no_less k lt in let fits = is.fits k lt in grind (arith, nat_tests)
 
     found : (k : ℕ) → k < keys → mark < cells owner k → cells owner k ≡ least → IsLeastAbove cells keys owner mark least
-    found k lt over here = record { key = k; below = lt; is = here; above = omega (arith, over, here); no_less = no_less }
+    found k lt over here = record { key = k; below = lt; is = here; above = omega arith; no_less = no_less }

@@ -16,16 +16,16 @@ pub number_next : (f : ℕ → ℕ) (r count x : ℕ) {y : ℕ} → count ≡ su
 number_next f r count x {y} is plus now = plus ∙ sum_next f r count y is now
 
 pub sum_whole : (f : ℕ → ℕ) (r n count : ℕ) → count ≡ sum_below r f → n ≤ r → r ≤ n → count ≡ sum_below n f
-sum_whole f r n count is le ge = is ∙ ap (λ m. sum_below m f) {x = r} {y = n} (omega (arith, le, ge))
+sum_whole f r n count is le ge = is ∙ ap (λ m. sum_below m f) {x = r} {y = n} (omega arith)
 
 -- a count ends at a bound that is written in another way
 pub count_same : (test : ℕ → Bool) (bound to count now : ℕ) → count ≡ count_passing bound test → bound ≡ to → count ≡ now → now ≡ count_passing to test
-count_same test bound to count now is at same = omega (arith, is, same, ap (λ n. count_passing n test) at)
+count_same test bound to count now is at same = omega (arith, ap (λ n. count_passing n test) at)
 
 -- one place more is counted
 pub count_next : (test : ℕ → Bool) (bound to before passed now : ℕ) {more : ℕ} → before + passed ≡ count_passing bound test → bound + 1 ≡ to → now ≡ passed + more → more ≡ cond (test bound) 1 0 → before + now ≡ count_passing to test
 count_next test bound to before passed now {more} is next plus one =
-    omega (arith, plus, sum_next (λ r. cond (test r) 1 0) bound (before + passed) more is one, ap (λ n. count_passing n test) next)
+    omega (arith, sum_next (λ r. cond (test r) 1 0) bound (before + passed) more is one, ap (λ n. count_passing n test) next)
 
 -- none is counted just where none passes
 pub none-passes : (test : ℕ → Bool) (n size count : ℕ) → count ≡ count_passing n test → size ≡ n
@@ -33,15 +33,15 @@ pub none-passes : (test : ℕ → Bool) (n size count : ℕ) → count ≡ count
 none-passes test n size count is whole = (
   λ none r lt.
       let rest = fold_below-join sums (λ k. cond (test k) 1 0) (suc r) (n - suc r) in
-      let all = ap {B = ℕ} (λ m. count_passing m test) {x = suc r + (n - suc r)} {y = n} (omega (arith, lt, whole)) in
-      fails (test r) (omega (arith, is, eqb-true count 0 none, rest, all)),
+      let all = ap {B = ℕ} (λ m. count_passing m test) {x = suc r + (n - suc r)} {y = n} (omega arith) in
+      fails (test r) (omega (arith, eqb-true count 0 none)),
   λ none.
-      let each = λ (r : ℕ) (lt : r < n). ap {B = ℕ} (λ b. cond b 1 0) (none r (omega (arith, lt, whole))) in
-      eq-eqb count 0 (omega (arith, is, sum_below-most (λ r. cond (test r) 1 0) n 0 (λ r lt. omega (arith, each r lt)))),
+      let each = λ (r : ℕ) (lt : r < n). ap {B = ℕ} (λ b. cond b 1 0) (none r (omega arith)) in
+      eq-eqb count 0 (omega (arith, sum_below-most (λ r. cond (test r) 1 0) n 0 (λ r lt. omega (arith, each r lt)))),
 )
   where
     fails : (b : Bool) → 0 + cond b 1 0 ≡ 0 → b ≡ false
-    fails true one = absurd (omega (arith, one))
+    fails true one = absurd (omega arith)
     fails false one = refl
 
 -- the numbers of one owner more are counted
@@ -54,10 +54,10 @@ owner_counted cells keys low owner total count mark is now same =
 pub owner_passed : (cells : Cells) (keys : ℕ) (low : ℕ → ℕ) (owner total high : ℕ) → total ≡ sum_below owner (λ r. count_above cells keys r (low r)) → HasNoneAbove cells keys owner high → high ≤ low owner
     → total ≡ sum_below (owner + 1) (λ r. count_above cells keys r (low r))
 owner_passed cells keys low owner total high is covered le =
-    let none = sum_below-most (λ k. cond (nat_lt (low owner) (cells owner k)) 1 0) keys 0 (λ k lt. omega (arith, ap {B = ℕ} (λ b. cond b 1 0) (le-ltb (low owner) (cells owner k) (omega (arith, covered k lt, le))))) in
-    let one_more = sum_next (λ r. count_above cells keys r (low r)) owner total 0 is (omega (arith, none)) in
-    omega (arith, one_more)
+    let none = sum_below-most (λ k. cond (nat_lt (low owner) (cells owner k)) 1 0) keys 0 (λ k lt. omega (arith, ap {B = ℕ} (λ b. cond b 1 0) (le-ltb (low owner) (cells owner k) (omega (arith, covered k lt))))) in
+    let one_more = sum_next (λ r. count_above cells keys r (low r)) owner total 0 is (omega arith) in
+    omega arith
 
 pub owners-fit : (cells : Cells) (nodes keys size : ℕ) (low : ℕ → ℕ) (owner total : ℕ) → IsGrid nodes keys size → owner < nodes → total ≡ sum_below (owner + 1) (λ r. count_above cells keys r (low r)) → Fits w32 total
 owners-fit cells nodes keys size low owner total grid lt is =
-    omega (arith, is, lt, grid.few_nodes, sum_below-most (λ r. count_above cells keys r (low r)) (owner + 1) MOST_KEYS (λ r _. omega (arith, grid.few_keys, count_le keys (λ k. nat_lt (low r) (cells r k)))))
+    omega (arith, sum_below-most (λ r. count_above cells keys r (low r)) (owner + 1) MOST_KEYS (λ r _. omega (arith, count_le keys (λ k. nat_lt (low r) (cells r k)))))

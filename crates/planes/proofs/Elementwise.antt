@@ -9,21 +9,21 @@ number-at number xs r x lt is = ap number is ∙ sym (get_or-map number xs r x 0
 
 module _ (changed : ℕ → ℕ → ℕ → Type 0) (old : List ℕ) where
   pub changed_none : AreChangedUpto changed old old 0
-  changed_none = record { size = refl; below = λ r lt. absurd (omega (arith, lt)); from = λ r le. refl }
+  changed_none = record { size = refl; below = λ r lt. absurd (omega arith); from = λ r le. refl }
 
   -- what is read at an index whose turn is still to come
   pub number-waits : {N : Type 0} (number : N → ℕ) (new : List N) (r : ℕ) (x : N) → AreChangedUpto changed old (map number new) r → r < length new → x ≡ get_or new r x → number x ≡ get_or old r 0
   number-waits number new r x before lt is = number-at number new r x lt is ∙ before.from r (omega arith)
 
   pub changed_all : (new : List ℕ) (bound : ℕ) → AreChangedUpto changed old new bound → length old ≤ bound → AreChanged changed old new
-  changed_all new bound is le = record { size = is.size; each = λ r lt. is.below r (omega (arith, lt, le)) }
+  changed_all new bound is le = record { size = is.size; each = λ r lt. is.below r (omega arith) }
 
   -- one more number is left as it was
   pub left_next : (new : List ℕ) (bound : ℕ) → AreChangedUpto changed old new bound → changed bound (get_or old bound 0) (get_or old bound 0) → AreChangedUpto changed old new (bound + 1)
   left_next new bound is same = record {
     size = is.size;
     below = below_more (λ k. changed k (get_or old k 0) (get_or new k 0)) bound is.below (rw (is.from bound (omega arith)) same);
-    from = λ r le. is.from r (omega (arith, le));
+    from = λ r le. is.from r (omega arith);
   }
 
   -- one more number is written
@@ -33,8 +33,8 @@ module _ (changed : ℕ → ℕ → ℕ → Type 0) (old : List ℕ) where
       rw (map-set number new bound x) (record {
         size = length-set xs bound (number x) ∙ is.size;
         below = below_more (λ k. changed k (get_or old k 0) (get_or (set xs bound (number x)) k 0)) bound
-            (λ r below. rw (get_or-set_other xs bound r (number x) 0 (λ e. omega (arith, e, below))) (is.below r below)) (rw (get_or-set_same xs bound (number x) 0 (omega (arith, lt, is.size))) now);
-        from = λ r le. get_or-set_other xs bound r (number x) 0 (λ e. omega (arith, e, le)) ∙ is.from r (omega (arith, le));
+            (λ r below. rw (get_or-set_other xs bound r (number x) 0 (λ e. omega arith)) (is.below r below)) (rw (get_or-set_same xs bound (number x) 0 (omega arith)) now);
+        from = λ r le. get_or-set_other xs bound r (number x) 0 (λ e. omega arith) ∙ is.from r (omega arith);
       })
 
   -- those that pass a test are counted
@@ -45,7 +45,7 @@ module _ (changed : ℕ → ℕ → ℕ → Type 0) (old : List ℕ) where
     pub counted_next : {N : Type 0} (number : N → ℕ) (new : List N) (bound to before passed now more : ℕ) (x : N) → AreCountedUpto changed test old (map number new) bound (before + passed) → bound < length new → bound + 1 ≡ to
         → changed bound (get_or old bound 0) (number x) → now ≡ passed + more → more ≡ cond (test bound) 1 0 → AreCountedUpto changed test old (map number (set new bound x)) to (before + now)
     counted_next number new bound to before passed now more x is lt next made plus one = record {
-      numbers = rw (← next) (written_next number new bound x is.numbers (omega (arith, lt, is.numbers.size, length-map new number)) made);
+      numbers = rw (← next) (written_next number new bound x is.numbers (omega (arith, length-map new number)) made);
       count = count_next test bound to before passed now is.count next plus one;
     }
 

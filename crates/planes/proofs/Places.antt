@@ -1,10 +1,10 @@
 -- The numbers of a table's planes, one after another.
--- Serves the functions of `ends`, `grids` and `owners`, `delta_plans`, `grids` and `version_tables`.
+-- Serves the functions of `ends`, `grids` and `owners`, `delta_plans`, `grids`, `version_lags` and `version_tables`.
 use Rattle.planes.proofs.Common.{◌≡◌, ℕ, zero, suc, ◌+◌, ◌*◌, ◌-◌, ◌<◌, ◌≤◌, Bool, cond, List, length, get_or, map, take, drop, max, inl, inr, refl, sym, ap, ◌∙◌, subst, arith, rules, places, mul-le-mul_right, below_more, cases_lt, get_or-take, get_or-drop, length-map, length-drop, length-take-le, map-append, take-map, drop-map, put_mid, sum_below, sum_below-same, sum_below-turned, sums, fold_below-join, one_more, count_passing, AreChanged, Cells, IsRaised, cell, total_of, IsGrid, HasEach, ArePlanesChangedUpto, ArePlanesChanged}
 
 -- a key's plane lies within the planes
 pub plane-within : (nodes keys size key : ℕ) → IsGrid nodes keys size → key < keys → key * nodes + nodes ≤ size
-plane-within nodes keys size key grid lt = omega (arith, grid.whole, mul-le-mul_right {m = key + 1} {n = keys} nodes (omega (arith, lt)))
+plane-within nodes keys size key grid lt = omega (arith, mul-le-mul_right {m = key + 1} {n = keys} nodes (omega arith))
 
 pub grid-within : {N : Type 0} (number : N → ℕ) (nodes keys key : ℕ) (xs : List N) → IsGrid nodes keys (length xs) → key < keys → key * nodes + nodes ≤ length (map number xs)
 grid-within number nodes keys key xs grid lt = omega (arith, length-map xs number, plane-within nodes keys (length xs) key grid lt)
@@ -14,7 +14,7 @@ pub each-next : (nodes : ℕ) (is next : ℕ → ℕ → Type 0) (changed : ℕ 
     → ((r x y : ℕ) → r < nodes → is r x → changed r x y → next r y) → HasEach nodes next new
 each-next nodes is next changed old new before now step = record {
   size = now.size ∙ before.size;
-  each = λ r lt. step r (get_or old r 0) (get_or new r 0) lt (before.each r lt) (now.each r (omega (arith, lt, before.size)));
+  each = λ r lt. step r (get_or old r 0) (get_or new r 0) lt (before.each r lt) (now.each r (omega arith));
 }
 
 -- sums of planes
@@ -24,7 +24,7 @@ plane_count nodes one other n x size is same = is ∙ ap (λ m. sum_below m (λ 
 pub total_whole : (nodes keys key : ℕ) (test : ℕ → ℕ → Bool) (x : ℕ) → x ≡ sum_below key (λ k. sum_below nodes (λ r. cond (test r k) 1 0)) → keys ≤ key → key ≤ keys → x ≡ total_of nodes keys test
 total_whole nodes keys key test x is le ge =
     is
-    ∙ ap (λ m. sum_below m (λ k. sum_below nodes (λ r. cond (test r k) 1 0))) {x = key} {y = keys} (omega (arith, le, ge))
+    ∙ ap (λ m. sum_below m (λ k. sum_below nodes (λ r. cond (test r k) 1 0))) {x = key} {y = keys} (omega arith)
     ∙ sum_below-turned keys nodes (λ k r. cond (test r k) 1 0)
 
 -- the same places, all planes as one
@@ -51,7 +51,7 @@ map-put_mid number start nodes xs ys = simp (map-append, take-map, drop-map)
 -- a part of numbers is written anew
 module _ {N : Type 0} (number : N → ℕ) (start n : ℕ) (xs ys : List N) (within : start + n ≤ length xs) (size : length ys ≡ n) where
   room_for : start + n ≤ length (map number xs)
-  room_for = omega (arith, within, length-map xs number)
+  room_for = omega (arith, length-map xs number)
 
   size_of : length (map number ys) ≡ n
   size_of = length-map ys number ∙ size
@@ -74,10 +74,10 @@ module _ {N : Type 0} (number : N → ℕ) (start n : ℕ) (xs ys : List N) (wit
     each = λ r lt. elim (cases_lt r start) [
       | inl front ↦ rw (laid-before r front) (before.each r lt)
       | inr not_front ↦ elim (cases_lt r (start + n)) [
-        | inr behind ↦ rw (laid-behind r (omega (arith, behind))) (before.each r lt)
+        | inr behind ↦ rw (laid-behind r (omega arith)) (before.each r lt)
         | inl here ↦
-            let inside : r - start < n = omega (arith, not_front, here) in
-            subst (λ j. is j (get_or (map number (put_mid start n xs ys)) j 0)) {x = start + (r - start)} {y = r} (omega (arith, not_front)) (rw (part-here (r - start) inside) (now (r - start) inside))
+            let inside : r - start < n = omega arith in
+            subst (λ j. is j (get_or (map number (put_mid start n xs ys)) j 0)) {x = start + (r - start)} {y = r} (omega arith) (rw (part-here (r - start) inside) (now (r - start) inside))
       ]
     ];
   }
@@ -85,20 +85,20 @@ module _ {N : Type 0} (number : N → ℕ) (start n : ℕ) (xs ys : List N) (wit
 -- one more plane is changed
 module _ (changed : ℕ → ℕ → ℕ → ℕ → Type 0) (nodes : ℕ) (old : List ℕ) where
   pub planes-none : ArePlanesChangedUpto changed nodes old old 0
-  planes-none = record { size = refl; below = λ r k lt below. absurd (omega (arith, below)); from = λ i le. refl }
+  planes-none = record { size = refl; below = λ r k lt below. absurd (omega arith); from = λ i le. refl }
 
   pub planes-all : (xs : List ℕ) (keys key : ℕ) → ArePlanesChangedUpto changed nodes old xs key → keys ≤ key → ArePlanesChanged changed nodes keys old xs
-  planes-all xs keys key is le = record { size = is.size; each = λ r k lt below. is.below r k lt (omega (arith, below, le)) }
+  planes-all xs keys key is le = record { size = is.size; each = λ r k lt below. is.below r k lt (omega arith) }
 
 -- a part of a list
 pub window-at : {N : Type 0} (number : N → ℕ) (start count n : ℕ) (xs : List N) → n ≡ count → (r : ℕ) → r < count → get_or (map number (take n (drop start xs))) r 0 ≡ get_or (map number xs) (start + r) 0
 window-at number start count n xs is r lt =
-    rw (← take-map number n (drop start xs), ← drop-map number start xs, get_or-take n (drop start (map number xs)) r 0 (omega (arith, lt, is))) (get_or-drop start (map number xs) r 0)
+    rw (← take-map number n (drop start xs), ← drop-map number start xs, get_or-take n (drop start (map number xs)) r 0 (omega arith)) (get_or-drop start (map number xs) r 0)
 
 -- a plane of planes
 pub plane-cells : {N : Type 0} (number : N → ℕ) (nodes key n : ℕ) (xs : List N) → n ≡ nodes → key * nodes + nodes ≤ length xs → HasEach nodes (λ r m. m ≡ cell (map number xs) nodes r key) (map number (take n (drop (key * nodes) xs)))
 plane-cells number nodes key n xs is within = record {
-  size = omega (arith, is, length-map (take n (drop (key * nodes) xs)) number, length-take-le n (drop (key * nodes) xs) (omega (arith, is, within, length-drop (key * nodes) xs)));
+  size = omega (arith, length-map (take n (drop (key * nodes) xs)) number, length-take-le n (drop (key * nodes) xs) (omega (arith, length-drop (key * nodes) xs)));
   each = window-at number (key * nodes) nodes n xs is;
 }
 
@@ -107,7 +107,7 @@ pub block-cells : (changed : ℕ → ℕ → ℕ → ℕ → Type 0) (nodes : �
     → n ≡ nodes → ArePlanesChangedUpto changed nodes old (map number xs) key → key * nodes + nodes ≤ length old
     → (r : ℕ) → r < nodes → get_or (map number (take n (drop (key * nodes) xs))) r 0 ≡ cell old nodes r key
 block-cells changed nodes old number xs key n is before within r lt =
-    (plane-cells number nodes key n xs is (omega (arith, within, before.size, length-map xs number))).each r lt ∙ before.from (key * nodes + r) (omega arith)
+    (plane-cells number nodes key n xs is (omega (arith, length-map xs number))).each r lt ∙ before.from (key * nodes + r) (omega arith)
 
 -- a block of planes is changed number by number
 pub planes-written : (changed : ℕ → ℕ → ℕ → ℕ → Type 0) (nodes : ℕ) (old : List ℕ) {N : Type 0} (number : N → ℕ) (xs ys : List N) (key n : ℕ) (in_block : ℕ → ℕ → ℕ → Type 0)
@@ -116,34 +116,34 @@ pub planes-written : (changed : ℕ → ℕ → ℕ → ℕ → Type 0) (nodes :
     → ((r x y : ℕ) → r < nodes → in_block r x y → changed r key x y)
     → ArePlanesChangedUpto changed nodes old (map number (put_mid (key * nodes) n xs ys)) (key + 1)
 planes-written changed nodes old number xs ys key n in_block is before within now step =
-    let room : key * nodes + nodes ≤ length xs = omega (arith, within, before.size, length-map xs number) in
+    let room : key * nodes + nodes ≤ length xs = omega (arith, length-map xs number) in
     let block = plane-cells number nodes key n xs is room in
-    let size : length ys ≡ nodes = omega (arith, length-map ys number, now.size, block.size) in
-    let written = (λ (r : ℕ) (lt : r < nodes). step r (cell old nodes r key) (get_or (map number ys) r 0) lt (subst (λ x. in_block r x (get_or (map number ys) r 0)) (block.each r lt ∙ before.from (key * nodes + r) (omega arith)) (now.each r (omega (arith, lt, block.size))))) in
+    let size : length ys ≡ nodes = omega (arith, length-map ys number) in
+    let written = (λ (r : ℕ) (lt : r < nodes). step r (cell old nodes r key) (get_or (map number ys) r 0) lt (subst (λ x. in_block r x (get_or (map number ys) r 0)) (block.each r lt ∙ before.from (key * nodes + r) (omega arith)) (now.each r (omega arith)))) in
     rw is (record {
       size = laid-length number (key * nodes) nodes xs ys room size ∙ before.size;
       below = λ r k lt. below_more (λ j. changed r j (cell old nodes r j) (cell (map number (put_mid (key * nodes) nodes xs ys)) nodes r j)) key
-          (λ j earlier. rw (laid-before number (key * nodes) nodes xs ys room size (j * nodes + r) (omega (arith, lt, mul-le-mul_right {m = j + 1} {n = key} nodes (omega (arith, earlier))))) (before.below r j lt earlier))
+          (λ j earlier. rw (laid-before number (key * nodes) nodes xs ys room size (j * nodes + r) (omega (arith, mul-le-mul_right {m = j + 1} {n = key} nodes (omega arith)))) (before.below r j lt earlier))
           (rw (part-here number (key * nodes) nodes xs ys room size r lt) (written r lt)) k;
-      from = λ i le. laid-behind number (key * nodes) nodes xs ys room size i (omega (arith, le)) ∙ before.from i (omega (arith, le));
+      from = λ i le. laid-behind number (key * nodes) nodes xs ys room size i (omega arith) ∙ before.from i (omega arith);
     })
 
 -- a loop over keys has come to its end
 pub each-whole : (is : ℕ → ℕ → ℕ → Type 0) (nodes key keys : ℕ) (xs : List ℕ) → keys ≤ key → key ≤ keys → HasEach nodes (is key) xs → HasEach nodes (is keys) xs
-each-whole is nodes key keys xs le ge before = subst (λ k. HasEach nodes (is k) xs) {x = key} {y = keys} (omega (arith, le, ge)) before
+each-whole is nodes key keys xs le ge before = subst (λ k. HasEach nodes (is k) xs) {x = key} {y = keys} (omega arith) before
 
 -- a mark raised to one number more
 pub raised-none : (cells : Cells) (owner x : ℕ) → IsRaised cells 0 owner x x
-raised-none cells owner x = record { rises = omega arith; upto = λ k lt. absurd (omega (arith, lt)); from = inl refl }
+raised-none cells owner x = record { rises = omega arith; upto = λ k lt. absurd (omega arith); from = inl refl }
 
 pub raised-next : (cells : Cells) (key owner x y z : ℕ) → IsRaised cells key owner x y → z ≡ max y (cells owner key) → IsRaised cells (key + 1) owner x z
 raised-next cells key owner x y z before now = record {
-  rises = omega (arith, before.rises, now);
-  upto = below_more (λ k. cells owner k ≤ z) key (λ k lt. omega (arith, before.upto k lt, now)) (omega (arith, now));
+  rises = omega arith;
+  upto = below_more (λ k. cells owner k ≤ z) key (λ k lt. omega (arith, before.upto k lt)) (omega arith);
   from = elim (cases_lt y (cells owner key)) [
-    | inl lower ↦ inr (key, omega arith, omega (arith, now, lower))
+    | inl lower ↦ inr (key, omega arith, omega arith)
     | inr not_lower ↦
-        let same : z ≡ y = omega (arith, now, not_lower) in
-        elim before.from [ inl old ↦ inl (same ∙ old) | inr (k, lt, is) ↦ inr (k, omega (arith, lt), is ∙ sym same) ]
+        let same : z ≡ y = omega arith in
+        elim before.from [ inl old ↦ inl (same ∙ old) | inr (k, lt, is) ↦ inr (k, omega arith, is ∙ sym same) ]
   ];
 }

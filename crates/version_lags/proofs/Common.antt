@@ -3,7 +3,7 @@
 pub use Rattle.grids.proofs.Common.{ArePlanesChanged, HasEach, IsGrid, IsLeastBehind, cases_lt, cell, le-ltb, lt-ltb, ltb-false, ltb-true, mul-le-mul_right, nat_le, nat_lt, total_of}
 pub use Rattle.owner_writes.proofs.Common.{MatchOption, entry_kept, write_numbered}
 unfoldable pub use Rattle.model.specs.Figures.{figures_of}
-pub use Rattle.std.proofs.Common.{Bool, List, None, Option, Some, [], ap, arith, below_more, cond, eqb, false, get_or, if◌then◌else◌, inl, inr, length, length-append, ltb, map, max, min, option_map, refl, reverse, rules, slice_index, subst, suc, sym, zero, ℕ, ◌&&◌, ◌*◌, ◌+◌, ◌-◌, ◌<◌, ◌∙◌, ◌≡◌, ◌≤◌, ◌⊎◌}
+pub use Rattle.std.proofs.Common.{Bool, List, None, Option, Some, [], ap, arith, below_more, cond, eqb, false, get_or, if◌then◌else◌, inl, inr, length, length-append, ltb, map, max, min, option_map, refl, reverse, rules, slice_index, subst, suc, sym, zero, ℕ, ◌&&◌, ◌*◌, ◌+◌, ◌-◌, ◌<◌, ◌/◌, ◌%◌, ◌∙◌, ◌≡◌, ◌≤◌, ◌⊎◌}
 pub use Rattle.std.proofs.lemmas.List.{get_or-append_right, get_or-map, get_or-reverse, get_or_append_left, get_or_default, length-map, length-reverse, with_items_is}
 pub use Rattle.std.proofs.lemmas.List.Folds.{find_at}
 pub use Rattle.std.proofs.lemmas.List.Sums.{fails_before_first, passes_at_first}
@@ -30,8 +30,7 @@ pub use Rattle.owner_writes.specs.declared.writes.Kept.{Kept}
 pub use Rattle.planes.proofs.Counts.{count_le, none-passes, sum_next}
 pub use Rattle.planes.proofs.Elementwise.{number-at}
 pub use Rattle.round_tables.specs.Histories.{BirthsRise, HistoriesView, StandsBeside}
-pub use Rattle.version_lags.specs.Missed.{HasNoneMissed, IsFirstMissed, IsLastNumber, IsMissed, IsNumberAt, NonePassUpto, base_of, number_staleness}
-pub use Rattle.version_lags.specs.Pieces.{AreGrids, AreNumbersOf, AreRoundNumbers, CountsPiece, IsTotal, MayBeCounted, MayWalk, StandTogether, WalksFrom, cells_in, histories_of, is_left, is_stale, last_cells, least_below, most_lag, numbers_in, table_at, total_below}
-pub use Rattle.version_lags.specs.declared.lags.Lags.{Lags}
+pub use Rattle.version_lags.specs.Missed.{HasNoneMissed, IsLastNumber, IsMissed, IsNumberAt, NonePassUpto, base_of, number_staleness}
+pub use Rattle.version_lags.specs.Pieces.{AreAllCounted, AreGrids, AreNumbersOf, AreRoundNumbers, CountsPiece, HasCounted, IsLeastFrom, IsTotal, MayBeCounted, MayWalk, NumbersView, StandTogether, WalksFrom, histories_of, is_left, is_stale, least_below, most_lag, numbers_at, numbers_in, numbers_seen, total_below}
 pub use Rattle.version_lags.specs.declared.lags.Piece.{Piece}
 pub use Rattle.version_lags.specs.declared.lags.RoundNumbers.{RoundNumbers}

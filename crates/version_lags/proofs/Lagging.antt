@@ -11,17 +11,22 @@ module _ (v : OwnerListView) (are : AreWrites v) where
     abbrev lag : ℕ → ℕ
     lag number = rounds_behind (number_staleness round v key number)
 
+    -- what a greater number misses, a lesser one does too
+    missed-of : (c d m : ℕ) (e : Entry) → IsMissed v key c m e → d ≤ c → IsMissed v key d m e
+    missed-of c d m e missed le = record { written = missed.written; current = missed.current; keyed = missed.keyed; over = omega arith }
+
     -- at the last write, or above it
     pub last_fresh : (last c : ℕ) → IsLastNumber v key last → last ≤ c → c ≤ length all → number_staleness round v key c ≡ None
     last_fresh last c is le within = elim (missed_cases v are rise key c within round) [
       | inl nothing ↦ nothing.1
       | inr found ↦
-          let missed = found.first.missed in
-          absurd (is.last found.number found.e (record { written = missed.written; current = missed.current; keyed = missed.keyed; over = omega (arith, missed.over, le) }))
+          let missed = found.missed in
+          absurd (is.last found.number found.e (missed-of c last found.number found.e missed le))
     ]
 
     -- a copy is stale just where its number is below the last one
-    pub stale_by_number : (last c : ℕ) → IsLastNumber v key last → c ≤ length all → stale_count (number_staleness round v key c) ≡ (if nat_lt c last then 1 else 0)
+    pub stale_by_number : (last c : ℕ) → IsLastNumber v key last → c ≤ length all
+        → stale_count (number_staleness round v key c) ≡ (if nat_lt c last then 1 else 0)
     stale_by_number last c is within = elim (cases_lt c last) [
       | inl below ↦ rw (lt-ltb c last below) (elim (missed_cases v are rise key c within round) [
         | inl none ↦ let there = is.there c below in absurd (none.0 last there.0 there.1)
@@ -34,7 +39,7 @@ module _ (v : OwnerListView) (are : AreWrites v) where
     pub lag-upto : (c most : ℕ) → c ≤ length all → ((m : ℕ) (e : Entry) → IsMissed v key c m e → round - e.born + 1 ≤ most) → lag c ≤ most
     lag-upto c most within upto = elim (missed_cases v are rise key c within round) [
       | inl none ↦ omega (arith, ap rounds_behind none.1)
-      | inr found ↦ omega (arith, ap rounds_behind found.staleness, upto found.number found.e found.first.missed)
+      | inr found ↦ omega (arith, ap rounds_behind found.staleness, upto found.number found.e found.missed)
     ]
 
     pub lag-since : (c m : ℕ) (e : Entry) → c ≤ length all → IsMissed v key c m e → round - e.born + 1 ≤ lag c
@@ -43,14 +48,14 @@ module _ (v : OwnerListView) (are : AreWrites v) where
       | inr found ↦ omega (
         arith,
         ap rounds_behind found.staleness,
-        numbers-born all rise found.number m found.e e found.first.missed.written missed.written (found.first.first m e missed),
+        numbers-born all rise found.number m found.e e found.missed.written missed.written (found.first m e missed),
       )
     ]
 
     -- one with a greater number hasn't been behind for longer
     lag-falls : (c d : ℕ) → c ≤ d → d ≤ length all → lag d ≤ lag c
     lag-falls c d le within = lag-upto d (lag c) within (λ m e missed.
-        lag-since c m e (omega (arith, le, within)) (record { written = missed.written; current = missed.current; keyed = missed.keyed; over = omega (arith, missed.over, le) }))
+        lag-since c m e (omega arith) (missed-of d c m e missed le))
 
     -- so the lesser of two has been longest
     lag-least : (c d : ℕ) → c ≤ length all → d ≤ length all → max (lag c) (lag d) ≡ lag (min c d)
@@ -59,12 +64,13 @@ module _ (v : OwnerListView) (are : AreWrites v) where
       | inr ge ↦ let is : min c d ≡ d = omega arith in omega (arith, lag-falls d c ge in_c, ap lag is)
     ]
 
-    pub lag-least_below : (f : ℕ → ℕ) (last n : ℕ) → IsLastNumber v key last → ((p : ℕ) → p < n → f p ≤ length all) → (least_below n f last ≤ length all) × (most_below n (λ p. lag (f p)) ≡ lag (least_below n f last))
+    pub lag-least_below : (f : ℕ → ℕ) (last n : ℕ) → IsLastNumber v key last → ((p : ℕ) → p < n → f p ≤ length all)
+        → (least_below n f last ≤ length all) × (most_below n (λ p. lag (f p)) ≡ lag (least_below n f last))
     lag-least_below f last zero is within = (is.written, sym (ap rounds_behind (last_fresh last last is (omega arith) is.written)))
     lag-least_below f last (suc n) is within =
-        let before = lag-least_below f last n is (λ p lt. within p (omega (arith, lt))) in
+        let before = lag-least_below f last n is (λ p lt. within p (omega arith)) in
         let here = within n (omega arith) in
-        (omega (arith, before.0), ap (λ m. max m (lag (f n))) before.1 ∙ lag-least (least_below n f last) (f n) before.0 here)
+        (omega arith, ap (λ m. max m (lag (f n))) before.1 ∙ lag-least (least_below n f last) (f n) before.0 here)
 
   -- what is of an earlier generation
   pub left_over-by_number : (c : ℕ) → c ≤ length all → is_left_over v.generation (write_numbered all c) ≡ (nat_lt 0 c && nat_le c (base_of v))
@@ -72,16 +78,19 @@ module _ (v : OwnerListView) (are : AreWrites v) where
   left_over-by_number (suc i) le =
       let d : Entry = record { key = 0; generation = 0; version = 0; value = 0; born = 0 } in
       let e = get_or all i d in
-      let is = write_from-here all i d (omega (arith, le)) in
-      rw is (elim (cases_lt i (base_of v)) [
-        | inl earlier ↦ rw (lt-ltb 0 (suc i) (omega arith), le-leb (suc i) (base_of v) (omega (arith, earlier)))
-            (lt-ltb e.generation v.generation (omega (arith, are.earlier i d earlier, ap (λ (x : Entry). x.generation) (get_or_append_left v.earlier v.current d i earlier))))
-        | inr later ↦ rw (lt-ltb 0 (suc i) (omega arith), lt-leb (suc i) (base_of v) (omega (arith, later)))
-            (le-ltb e.generation v.generation (omega (arith, (current-numbered v are (suc i) e is (omega (arith, later))).generation)))
+      let is = write_from-here all i d (omega arith) in
+      rw (is, lt-ltb 0 (suc i) (omega arith)) (elim (cases_lt i (base_of v)) [
+        | inl earlier ↦
+            let there = ap (λ (x : Entry). x.generation) (get_or_append_left v.earlier v.current d i earlier) in
+            rw (le-leb (suc i) (base_of v) (omega arith)) (lt-ltb e.generation v.generation (omega (arith, are.earlier i d earlier)))
+        | inr later ↦
+            let at = current-numbered v are (suc i) e is (omega arith) in
+            rw (lt-leb (suc i) (base_of v) (omega arith)) (le-ltb e.generation v.generation (omega arith))
       ])
 
   -- the last write of a key has the number of each other one, or a greater one
-  last-from : (m : ℕ) (e : Entry) → write_numbered all m ≡ Some e → base_of v < m → (w : Write) × ((last_write (written v) e.key ≡ Some w) × (m ≤ base_of v + w.version))
+  last-from : (m : ℕ) (e : Entry) → write_numbered all m ≡ Some e → base_of v < m
+      → (w : Write) × ((last_write (written v) e.key ≡ Some w) × (m ≤ base_of v + w.version))
   last-from m e is current =
       let at = current-numbered v are m e is current in
       let ws = written v in
@@ -90,14 +99,22 @@ module _ (v : OwnerListView) (are : AreWrites v) where
       let back = reverse ws in
       let first = position_or_len test back in
       let turned = length ws - 1 - at.place in
-      let same : length ws - 1 - turned ≡ at.place = omega (arith, at.within) in
-      let passes = eq-eqb (get_or back turned d).key e.key (ap (λ (w : Write). w.key) (get_or-reverse ws turned d (omega (arith, at.within)) ∙ ap (λ k. get_or ws k d) same ∙ at.there d)) in
-      let upto : first ≤ turned = elim (cases_lt turned first) [ inl before ↦ absurd (both_ways (test (get_or back turned d)) (fails_before_first test back turned d before) passes) | inr le ↦ le ] in
+      let same : length ws - 1 - turned ≡ at.place = omega arith in
+      let there = get_or-reverse ws turned d (omega arith) ∙ ap (λ k. get_or ws k d) same ∙ at.there d in
+      let passes = eq-eqb (get_or back turned d).key e.key (ap (λ (w : Write). w.key) there) in
+      let upto : first ≤ turned = elim (cases_lt turned first) [
+        | inl before ↦ absurd (both_ways (test (get_or back turned d)) (fails_before_first test back turned d before) passes)
+        | inr le ↦ le
+      ] in
       let place = length ws - 1 - first in
-      let within : place < length v.current = omega (arith, upto, at.within, length-map v.current write_of_entry) in
-      let version = ap (λ (w : Write). w.version) (get_or-reverse ws first d (omega (arith, upto, at.within)) ∙ get_or-map write_of_entry v.current place e d within) in (
+      let within : place < length v.current = omega (arith, length-map v.current write_of_entry) in
+      let here = get_or-reverse ws first d (omega arith) ∙ get_or-map write_of_entry v.current place e d within in
+      let version = ap (λ (w : Write). w.version) here in (
         get_or back first d,
-        (find_at test back ∙ slice_get-get_or back first d (omega (arith, upto, at.within, length-reverse ws)), omega (arith, at.is, upto, at.within, version, (are.current place e within).1)),
+        (
+          find_at test back ∙ slice_get-get_or back first d (omega (arith, length-reverse ws)),
+          omega (arith, (are.current place e within).1),
+        ),
       )
 
   -- a table that has the last writes
@@ -123,14 +140,14 @@ module _ (v : OwnerListView) (are : AreWrites v) where
             | inl some ↦
                 let here = numbered-some all c some within in
                 let one = same_Some (write_of_entry here.0) last.0 (ap (option_map write_of_entry) (sym here.1) ∙ same) in
-                omega (arith, missed.over, last.1.1, ap (λ (w : Write). w.version) one, (current-numbered v are c here.0 here.1 (newer here.0 here.1)).version)
+                omega (arith, ap (λ (w : Write). w.version) one, (current-numbered v are c here.0 here.1 (newer here.0 here.1)).version)
             | inr none ↦
-                let zero : 0 ≡ c = omega (arith, none) in
+                let zero : 0 ≡ c = omega arith in
                 let no : None ≡ Some last.0 = ap (λ n. option_map write_of_entry (write_numbered all n)) zero ∙ same in
                 absurd (cc)
           ];
       there = λ below lt.
-          let here = numbered-some all c (omega (arith, lt)) within in
+          let here = numbered-some all c (omega arith) within in
           let passes = find_passes (is_write_of key) (reverse (written v)) (write_of_entry here.0) (sym found ∙ ap (option_map write_of_entry) here.1) in
           (here.0, record { written = here.1; current = newer here.0 here.1; keyed = eqb-true here.0.key key passes; over = lt });
     }
@@ -143,6 +160,8 @@ module _ (v : OwnerListView) (are : AreWrites v) where
             let at = numbered-placed all c e is in
             let generation = λ (x : Entry). x.generation in
             elim (cases_lt at.place (base_of v)) [
-              | inl earlier ↦ absurd (omega (arith, are.earlier at.place e earlier, ap generation (get_or_append_left v.earlier v.current e at.place earlier), ap generation (at.there e), proper.own key e (held ∙ is), beside.generation))
-              | inr later ↦ omega (arith, at.is, later)
+              | inl earlier ↦
+                  let there = ap generation (sym (get_or_append_left v.earlier v.current e at.place earlier) ∙ at.there e) in
+                  absurd (omega (arith, are.earlier at.place e earlier, proper.own key e (held ∙ is)))
+              | inr later ↦ omega arith
             ]

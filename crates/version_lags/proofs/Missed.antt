@@ -1,14 +1,15 @@
 -- The first write that a copy misses, by numbers.
 -- Serves `Lagging`, `Walks` and `version_tables`.
-use Rattle.version_lags.proofs.Common.{◌≡◌, ℕ, zero, suc, ◌+◌, ◌-◌, ◌<◌, ◌≤◌, Bool, eqb, ltb, ◌&&◌, List, length, get_or, Some, None, ◌⊎◌, option_map, inl, inr, refl, sym, ap, ◌∙◌, arith, length-append, position_or_len, find_at, fails_before_first, passes_at_first, slice_get_cases, cases_lt, lt-ltb, ltb-true, eq-eqb, eqb-true, and_parts, both_ways, get_or-append_right, get_or-map, length-map, Entry, absent, mark_of, mark_held, is_before, before-yes, Write, write_of_entry, OwnerListView, entries_of, written, AreWrites, write_numbered, write_from-here, BirthsRise, numbered-placed, numbered-within, numbers-compare, base_of, number_staleness, IsMissed, IsFirstMissed, HasNoneMissed}
+use Rattle.version_lags.proofs.Common.{◌≡◌, ℕ, zero, suc, ◌+◌, ◌-◌, ◌<◌, ◌≤◌, Bool, eqb, ltb, ◌&&◌, List, length, get_or, Some, None, ◌⊎◌, option_map, inl, inr, refl, sym, ap, ◌∙◌, arith, length-append, position_or_len, find_at, fails_before_first, passes_at_first, slice_get_cases, cases_lt, lt-ltb, ltb-true, eq-eqb, eqb-true, and_parts, both_ways, get_or-append_right, get_or-map, length-map, Entry, absent, mark_of, mark_held, is_before, before-yes, Write, write_of_entry, OwnerListView, entries_of, written, AreWrites, write_numbered, write_from-here, BirthsRise, numbered-placed, numbered-within, numbers-compare, base_of, number_staleness, IsMissed, HasNoneMissed}
 
 -- births don't fall with the numbers
-pub numbers-born : (writes : List Entry) (rise : BirthsRise writes) (m n : ℕ) (d e : Entry) → write_numbered writes m ≡ Some d → write_numbered writes n ≡ Some e → m ≤ n → d.born ≤ e.born
+pub numbers-born : (writes : List Entry) (rise : BirthsRise writes) (m n : ℕ) (d e : Entry)
+    → write_numbered writes m ≡ Some d → write_numbered writes n ≡ Some e → m ≤ n → d.born ≤ e.born
 numbers-born writes rise m n d e is_d is_e le =
     let first = numbered-placed writes m d is_d in
     let second = numbered-placed writes n e is_e in
     let born = λ (x : Entry). x.born in
-    omega (arith, rise first.place second.place d (omega (arith, le, first.is, second.is)) second.within, ap born (first.there d), ap born (second.there d))
+    omega (arith, rise first.place second.place d (omega arith) second.within, ap born (first.there d), ap born (second.there d))
 
 module _ (v : OwnerListView) (are : AreWrites v) where
   abbrev base : ℕ
@@ -30,25 +31,27 @@ module _ (v : OwnerListView) (are : AreWrites v) where
   current-numbered number e is lt =
       let at = numbered-placed all number e is in
       let place = at.place - base in
-      let within : place < length v.current = omega (arith, at.within, at.is, length-append v.earlier v.current, lt) in
-      let there : get_or v.current place e ≡ e = sym (get_or-append_right v.earlier v.current base at.place e refl (omega (arith, at.is, lt))) ∙ at.there e in
+      let within : place < length v.current = omega (arith, length-append v.earlier v.current) in
+      let there : get_or v.current place e ≡ e = sym (get_or-append_right v.earlier v.current base at.place e refl (omega arith)) ∙ at.there e in
       let next = are.current place e within in
       record {
         place = place;
         within = omega (arith, within, length-map v.current write_of_entry);
-        is = omega (arith, at.is, lt);
+        is = omega arith;
         there = λ w. get_or-map write_of_entry v.current place e w within ∙ ap write_of_entry there;
         generation = ap (λ (x : Entry). x.generation) (sym there) ∙ next.0;
-        version = omega (arith, at.is, lt, ap (λ (x : Entry). x.version) there, next.1);
+        version = omega (arith, ap (λ (x : Entry). x.version) there);
       }
 
   module _ (rise : BirthsRise all) where
     -- a mark is below that of a write of the generation just where its number is
-    before-number : (c m : ℕ) (e : Entry) → c ≤ length all → write_numbered all m ≡ Some e → IsCurrent m e → is_before (mark_held (write_numbered all c)) (mark_of e) ≡ ltb c m
+    before-number : (c m : ℕ) (e : Entry) → c ≤ length all → write_numbered all m ≡ Some e → IsCurrent m e
+        → is_before (mark_held (write_numbered all c)) (mark_of e) ≡ ltb c m
     before-number zero m e le is at =
-        before-yes absent (mark_of e) (record { generation = omega arith; version = λ same. omega (arith, at.is, at.version) }) ∙ sym (lt-ltb 0 m (omega (arith, at.is)))
+        before-yes absent (mark_of e) (record { generation = omega arith; version = λ same. omega arith })
+        ∙ sym (lt-ltb 0 m (omega arith))
     before-number (suc i) m e le is at =
-        let here = write_from-here all i e (omega (arith, le)) in
+        let here = write_from-here all i e (omega arith) in
         ap (λ o. is_before (mark_held o) (mark_of e)) here
         ∙ numbers-compare all (record { rise = are.rising; born = rise }) (suc i) m (get_or all i e) e here is
 
@@ -71,41 +74,44 @@ module _ (v : OwnerListView) (are : AreWrites v) where
       none_before m e missed =
           let at = current-numbered m e missed.written missed.current in
           let w = write_of_entry e in
+          let passes = ap test (at.there w) ∙ tested m e missed.written at ∙ (λ i. eq-eqb e.key key missed.keyed i && lt-ltb c m missed.over i) in
           elim (cases_lt at.place first) [
-            | inl before ↦ absurd (both_ways (test (get_or (written v) at.place w)) (fails_before_first test (written v) at.place w before) (ap test (at.there w) ∙ tested m e missed.written at ∙ (λ i. eq-eqb e.key key missed.keyed i && lt-ltb c m missed.over i)))
-            | inr behind ↦ omega (arith, at.is, behind)
+            | inl before ↦ absurd (both_ways (test (get_or (written v) at.place w)) (fails_before_first test (written v) at.place w before) passes)
+            | inr behind ↦ omega arith
           ]
 
       pub record HasMissed (round : ℕ) : Type 0 where
         pub number : ℕ
         pub e : Entry
-        pub first : IsFirstMissed v key c number e
+        pub missed : IsMissed v key c number e
+        pub first : (m : ℕ) (d : Entry) → IsMissed v key c m d → number ≤ m
         pub staleness : number_staleness round v key c ≡ Some (round - e.born + 1)
 
       -- nothing is missed, or there is a first write that is
       pub missed_cases : (round : ℕ) → (HasNoneMissed v key c × (number_staleness round v key c ≡ None)) ⊎ HasMissed round
       unfolding test
-      missed_cases round = elim (slice_get_cases (written v) first).1 [
-        | inl found ↦
-            let w = found.0 in
-            let d : Entry = record { key = 0; generation = 0; version = 0; value = 0; born = 0 } in
-            let e = get_or all (base + first) d in
-            let is = write_from-here all (base + first) d (omega (arith, found.1, length-map v.current write_of_entry, length-append v.earlier v.current)) in
-            let at = current-numbered (suc (base + first)) e is (omega arith) in
-            let there : w ≡ write_of_entry e = sym found.3 ∙ ap (λ i. get_or (written v) i w) {x = first} {y = at.place} (omega (arith, at.is)) ∙ at.there w in
-            let passes = sym (tested (suc (base + first)) e is at) ∙ ap test (sym there ∙ sym found.3) ∙ passes_at_first test (written v) w found.1 in
-            let parts = and_parts (eqb e.key key) (ltb c (suc (base + first))) passes in
-            inr (record {
-              number = suc (base + first);
-              e = e;
-              first = record {
-                missed = record { written = is; current = omega arith; keyed = eqb-true e.key key parts.0; over = ltb-true c (suc (base + first)) parts.1 };
-                first = none_before;
-              };
-              staleness = ap (option_map (λ (x : Write). round - x.born + 1)) (find_at test (written v) ∙ found.2) ∙ ap (λ (x : Write). Some (round - x.born + 1)) there;
-            })
-        | inr past ↦ inl (
-          (λ m e missed. omega (arith, none_before m e missed, past.0, (numbered-within all m e missed.written).1, length-map v.current write_of_entry, length-append v.earlier v.current)),
-          ap (option_map (λ (x : Write). round - x.born + 1)) (find_at test (written v) ∙ past.1),
-        )
-      ]
+      missed_cases round =
+          let behind = λ (w : Write). round - w.born + 1 in
+          let size : length all ≡ base + length (written v) = omega (arith, length-map v.current write_of_entry, length-append v.earlier v.current) in
+          elim (slice_get_cases (written v) first).1 [
+            | inl found ↦
+                let w = found.0 in
+                let d : Entry = record { key = 0; generation = 0; version = 0; value = 0; born = 0 } in
+                let e = get_or all (base + first) d in
+                let is = write_from-here all (base + first) d (omega arith) in
+                let at = current-numbered (suc (base + first)) e is (omega arith) in
+                let there : w ≡ write_of_entry e = sym found.3 ∙ ap (λ i. get_or (written v) i w) {y = at.place} (omega arith) ∙ at.there w in
+                let passes = sym (tested (suc (base + first)) e is at) ∙ ap test (sym there ∙ sym found.3) ∙ passes_at_first test (written v) w found.1 in
+                let parts = and_parts (eqb e.key key) (ltb c (suc (base + first))) passes in
+                inr (record {
+                  number = suc (base + first);
+                  e = e;
+                  missed = record { written = is; current = omega arith; keyed = eqb-true e.key key parts.0; over = ltb-true c (suc (base + first)) parts.1 };
+                  first = none_before;
+                  staleness = ap (option_map behind) (find_at test (written v) ∙ found.2) ∙ ap (λ x. Some (behind x)) there;
+                })
+            | inr past ↦ inl (
+              λ m e missed. omega (arith, none_before m e missed, (numbered-within all m e missed.written).1),
+              ap (option_map behind) (find_at test (written v) ∙ past.1),
+            )
+          ]

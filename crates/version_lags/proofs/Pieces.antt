@@ -1,5 +1,5 @@
 -- How long a table's copy has been behind, and whether it is left over, by the number of what it holds.
--- Serves `Parts`, `Walks` and `Whole`.
+-- Serves `Parts` and `Whole`.
 use Rattle.version_lags.proofs.Common.{◌≡◌, ℕ, ◌<◌, false, ◌&&◌, List, [], length, Some, if◌then◌else◌, inl, inr, sym, ap, ◌∙◌, subst, arith, nat_lt, nat_le, cases_lt, cases_eq, le-ltb, lt-ltb, eq-eqb, ne_eqb, lt-leb, Entry, mark_held, Table, entry_at, table_of_node, OwnerListView, entries_of, list_of_owner, lists_in, no_writes, write_numbered, list_read, HistoriesView, StandsBeside, generation_at, staleness_of, staleness_at, is_left_over, leftover_at, stale_count, base_of, IsNumberAt, number_staleness, IsLastNumber, StandTogether, MayBeCounted}
 use Rattle.version_lags.proofs.Lagging.{last_fresh, stale_by_number, left_over-by_number, own_is_last, key_held}
 
@@ -24,14 +24,14 @@ module _ (tables : List Table) (h : HistoriesView) (are : StandTogether tables h
       (ap (λ o. entry_at (table_of_node tables r) o k) (are.cluster.tables r lt).node ∙ at.held) at.written
 
   -- each key that an owner wrote is one of the keys
-  pub key_within : (r m : ℕ) (e : Entry) → r < length tables → write_numbered (entries_of (list_of_owner lists r)) m ≡ Some e → base_of (list_of_owner lists r) < m → e.key < h.keys
+  pub key_within : (r m : ℕ) (e : Entry) → r < length tables → write_numbered (entries_of (list_of_owner lists r)) m ≡ Some e
+      → base_of (list_of_owner lists r) < m → e.key < h.keys
   key_within r m e lt is current =
-      omega (arith, key_held (list_of_owner lists r) (are.writes r) (table_of_node tables r) (are.standing r lt).proper (beside r lt) m e is current, (are.standing r lt).keys)
+      let standing = are.standing r lt in
+      omega (arith, key_held (list_of_owner lists r) (are.writes r) (table_of_node tables r) standing.proper (beside r lt) m e is current)
 
-module _ (tables : List Table) (h : HistoriesView) (are : MayBeCounted tables h) (p r k c : ℕ) (in_p : p < length tables) (in_r : r < length tables) (at : IsNumberAt h.lists (table_of_node tables p) r k c) where
-  abbrev round : ℕ
-  round = h.rounds
-
+module _ (tables : List Table) (h : HistoriesView) (are : MayBeCounted tables h) (p r k c : ℕ) (in_p : p < length tables) (in_r : r < length tables)
+    (at : IsNumberAt h.lists (table_of_node tables p) r k c) where
   abbrev list : OwnerListView
   list = list_of_owner h.lists r
 
@@ -42,18 +42,25 @@ module _ (tables : List Table) (h : HistoriesView) (are : MayBeCounted tables h)
   generation = (beside tables h are.together r in_r).generation
 
   -- a copy has been behind for as long as its number
-  pub place_staleness : staleness_at round tables (lists_in h.lists) p r k ≡ number_staleness round list k c
+  pub place_staleness : staleness_at h.rounds tables (lists_in h.lists) p r k ≡ number_staleness h.rounds list k c
   place_staleness = elim (cases_eq p r) [
-    | inl same ↦ rw (eq-eqb p r same) (sym (last_fresh list (are.together.writes r) (are.written.in_order r) round k c c (at_own same) (omega arith) at.written))
-    | inr other ↦ rw (ne_eqb p r other) (λ i. staleness_of round (generation i) (list_read h.lists r no_writes [] (omega (arith, in_r, are.together.one_list_each)) i) k (mark_held (at.held i)))
+    | inl same ↦
+        let fresh = last_fresh list (are.together.writes r) (are.written.in_order r) h.rounds k c c (at_own same) (omega arith) at.written in
+        rw (eq-eqb p r same) (sym fresh)
+    | inr other ↦
+        let read = list_read h.lists r no_writes [] (omega arith) in
+        rw (ne_eqb p r other) (λ i. staleness_of h.rounds (generation i) (read i) k (mark_held (at.held i)))
   ]
 
-  pub place_stale : (last : ℕ) → IsLastNumber list k last → stale_count (staleness_at round tables (lists_in h.lists) p r k) ≡ (if nat_lt c last then 1 else 0)
-  place_stale last is = ap stale_count place_staleness ∙ stale_by_number list (are.together.writes r) (are.written.in_order r) round k last c is at.written
+  pub place_stale : (last : ℕ) → IsLastNumber list k last
+      → stale_count (staleness_at h.rounds tables (lists_in h.lists) p r k) ≡ (if nat_lt c last then 1 else 0)
+  place_stale last is = ap stale_count place_staleness ∙ stale_by_number list (are.together.writes r) (are.written.in_order r) h.rounds k last c is at.written
 
   -- of a node's own part nothing is left over
   pub place_left : leftover_at tables p r k ≡ (if nat_lt 0 c && nat_le c (base_of list) then 1 else 0)
   place_left = elim (cases_eq p r) [
-    | inl same ↦ rw (eq-eqb p r same) (sym (ap {B = ℕ} (λ b. if b then 1 else 0) (none_upto c (base_of list) (λ some. ((at_own same).there 0 some).1.current))))
-    | inr other ↦ rw (ne_eqb p r other) (ap {B = ℕ} (λ b. if b then 1 else 0) ((λ i. is_left_over (generation i) (at.held i)) ∙ left_over-by_number list (are.together.writes r) c at.written))
+    | inl same ↦ rw (eq-eqb p r same, none_upto c (base_of list) (λ some. ((at_own same).there 0 some).1.current))
+    | inr other ↦
+        let left = (λ i. is_left_over (generation i) (at.held i)) ∙ left_over-by_number list (are.together.writes r) c at.written in
+        rw (ne_eqb p r other) (ap {B = ℕ} (λ b. if b then 1 else 0) left)
   ]

@@ -1,106 +1,137 @@
 -- What is counted of all tables comes to the figures of a round.
 -- Serves `Piece::figures`.
-use Rattle.version_lags.proofs.Common.{◌≡◌, ℕ, ◌<◌, Bool, cond, ◌&&◌, List, length, map, nat_lt, nat_le, sym, ap, ◌∙◌, arith, Figures, Table, HistoriesView, OwnerListView, list_of_owner, lists_in, sum_below, most_below, total_of, sum_below-same, most_below-same, leftover_at, stale_count, staleness_at, rounds_behind, figures_of, most_by_owner, table_of_node, length-map, number_staleness, IsNumberAt, IsLastNumber, Lags, cells_in, histories_of, last_cells, table_at, is_stale, is_left, least_below, AreGrids, AreRoundNumbers, CountsPiece, IsTotal, MayWalk, most_lag}
+use Rattle.version_lags.proofs.Common.{◌≡◌, ℕ, ◌<◌, Bool, Some, cond, refl, ◌&&◌, inl, inr, List, length, get_or, map, nat_lt, nat_le, sym, ap, ◌∙◌, subst, arith, cases_lt, number-at, HasEach, IsGrid, IsLeastBehind, Entry, Figures, OwnerListView, entries_of, write_numbered, list_of_owner, lists_in, sum_below, most_below, total_of, cell, sum_below-same, most_below-same, leftover_at, stale_count, staleness_at, rounds_behind, figures_of, most_by_owner, table_of_node, length-map, base_of, number_staleness, IsNumberAt, IsLastNumber, AreAllCounted, Piece, RoundNumbers, NumbersView, numbers_seen, numbers_at, is_stale, is_left, least_below, IsTotal, MayWalk, most_lag}
 use Rattle.version_lags.proofs.Lagging.{lag-least_below}
 use Rattle.version_lags.proofs.Parts.{grids-of, least_below-le}
-use Rattle.version_lags.proofs.Pieces.{place_staleness, place_stale, place_left}
+use Rattle.version_lags.proofs.Pieces.{key_within, place_staleness, place_stale, place_left}
 
-module _ {N : Type 0} (number : N → ℕ) (most : ℕ) (lags : Lags N) (tables : List Table) (are : AreRoundNumbers number most lags.numbers tables) (stale leftover : ℕ) (least : List ℕ) (same : least ≡ map number lags.least.now)
-    (whole : CountsPiece number lags.numbers 0 (length lags.numbers.lists.now) stale leftover least) where
+module _ {N : Type 0} {number : N → ℕ} {most : ℕ} {numbers : RoundNumbers N} {piece : Piece N}
+    (all : AreAllCounted number most numbers piece) {least : List N} (same : least ≡ piece.least.items) where
   abbrev lists : List OwnerListView
-  lists = lags.numbers.lists.now
+  lists = numbers.lists.now
 
-  abbrev h : HistoriesView
-  h = histories_of lags.numbers
+  abbrev v : NumbersView
+  v = numbers_seen number numbers
 
   abbrev nodes : ℕ
   nodes = length lists
 
-  abbrev keys : ℕ
-  keys = lags.numbers.keys
-
   abbrev round : ℕ
-  round = lags.numbers.ends.rounds
+  round = numbers.ends.rounds
 
   abbrev last : ℕ → ℕ → ℕ
-  last = last_cells number lags.numbers
+  last = cell v.last nodes
 
   abbrev held : ℕ → ℕ → ℕ → ℕ
-  held p = cells_in lags.numbers (table_at number lags.numbers p)
+  held p = cell (numbers_at v.tables p) nodes
 
-  in_tables : (p : ℕ) → p < nodes → p < length tables
-  in_tables p lt = omega (arith, lt, are.may.together.one_list_each)
+  abbrev least_held : ℕ → ℕ → ℕ
+  least_held = cell (map number least) nodes
 
-  nodes_are : nodes ≡ length tables
-  nodes_are = are.may.together.one_list_each
+  nodes_are : nodes ≡ length all.tables
+  nodes_are = all.are.may.together.one_list_each
 
-  keys_are : (p : ℕ) → p < nodes → keys ≡ (table_of_node tables p).keys
-  keys_are p in_p = sym (are.may.together.standing p (in_tables p in_p)).keys
+  in_tables : (p : ℕ) → p < nodes → p < length all.tables
+  in_tables p lt = omega (arith, nodes_are)
 
-  number_at : (p r k : ℕ) → p < nodes → r < nodes → k < keys → IsNumberAt lists (table_of_node tables p) r k (held p r k)
-  number_at p r k in_p in_r in_k = (are.are.cells_are p in_p).each r k in_r in_k
+  keys_are : (p : ℕ) → p < nodes → numbers.keys ≡ (table_of_node all.tables p).keys
+  keys_are p in_p = sym (all.are.may.together.standing p (in_tables p in_p)).keys
 
-  last_at : (r k : ℕ) → r < nodes → k < keys → IsLastNumber (list_of_owner lists r) k (last r k)
-  last_at r k in_r in_k = are.are.lasts.each r k in_r in_k
+  number_at : (p r k : ℕ) → p < nodes → r < nodes → k < numbers.keys → IsNumberAt lists (table_of_node all.tables p) r k (held p r k)
+  number_at p r k in_p in_r in_k = (all.are.are.cells_are p in_p).each r k in_r in_k
 
-  least_is : (r k : ℕ) → r < nodes → k < keys → cells_in lags.numbers (map number lags.least.now) r k ≡ least_below nodes (λ p. held p r k) (last r k)
+  last_at : (r k : ℕ) → r < nodes → k < numbers.keys → IsLastNumber (list_of_owner lists r) k (last r k)
+  last_at r k in_r in_k = all.are.are.lasts.each r k in_r in_k
+
+  least_is : (r k : ℕ) → r < nodes → k < numbers.keys → least_held r k ≡ least_below nodes (λ p. held p r k) (last r k)
   least_is r k in_r in_k =
-      let each = whole.least_is.each r k in_r in_k in
-      ap (λ xs. cells_in lags.numbers xs r k) (sym same) ∙ omega (arith, each.upto, each.is)
+      let each = all.whole.least_is.each r k in_r in_k in
+      omega (arith, ap (λ xs. cell (map number xs) nodes r k) same)
 
-  -- the owners' lists may be walked over
-  pub may-walk : MayWalk number most lags
-  may-walk = record {
-    tables = tables;
-    are = are;
-    grid = record {
-      whole = sym (length-map lags.least.now number) ∙ ap length (sym same) ∙ whole.least_is.size;
-      few_nodes = grids.grid.few_nodes;
-      few_keys = grids.grid.few_keys;
-    };
-    lasts = are.are.lasts;
-    written = λ r k in_r in_k. omega (arith, least_is r k in_r in_k, least_below-le nodes (λ p. held p r k) (last r k), (last_at r k in_r in_k).written);
-  }
-    where
-      grids : AreGrids number lags.numbers
-      grids = grids-of number lags.numbers tables are.may.together are.are
+  -- an owner's list may be walked over, from the least number that is behind on
+  module _ (firsts : List N) (behind : HasEach nodes (λ r n. IsLeastBehind most least_held last numbers.keys r n) (map number firsts))
+      (owner : ℕ) (among : owner < nodes) where
+    keyed : (m : ℕ) (e : Entry) → write_numbered (entries_of (list_of_owner lists owner)) m ≡ Some e
+        → base_of (list_of_owner lists owner) < m → e.key < numbers.keys
+    keyed m e there current = key_within _ _ all.are.may.together owner m e (in_tables owner among) there current
+
+    size : length v.last ≡ length least
+    size = all.are.are.lasts.size ∙ sym all.whole.least_is.size ∙ length-map piece.least.items number ∙ ap length (sym same)
+
+    pub may-walk : (first : N) (list : OwnerListView) → first ≡ get_or firsts owner first → list ≡ list_of_owner lists owner
+        → MayWalk number most numbers least owner (number first) list
+    may-walk first list is list_is = subst (MayWalk number most numbers least owner (number first)) (sym list_is) (record {
+      among = among;
+      grid = subst (IsGrid nodes numbers.keys) size (grids-of number most numbers all.tables all.are).grid;
+      walks = record {
+        round_limit = all.are.may.together.limits.few_rounds;
+        writes = all.are.may.together.writes owner;
+        few = all.are.few owner;
+        born = all.are.may.written.born owner;
+        in_order = all.are.may.written.in_order owner;
+        keyed = keyed;
+        written = λ k in_k.
+            let least = least_below-le nodes (λ p. held p owner k) (last owner k) in
+            omega (arith, least_is owner k among in_k, (last_at owner k among in_k).written);
+        start = λ m e there current le.
+            let in_keys = keyed m e there current in
+            elim (cases_lt (least_held owner e.key) (last owner e.key)) [
+              | inl before ↦
+                  let read = number-at number firsts owner first (omega (arith, length-map firsts number)) is in
+                  omega (arith, (behind.each owner among).no_less e.key in_keys before)
+              | inr not_before ↦ elim (cases_lt (last owner e.key) m) [
+                | inl over ↦ absurd ((last_at owner e.key among in_keys).last m e (record { written = there; current = current; keyed = refl; over = over }))
+                | inr not_over ↦ omega arith
+              ]
+            ];
+      };
+    })
 
   -- what is counted place by place is summed up over all of them
-  summed : (f : ℕ → ℕ → ℕ → ℕ) (test : ℕ → ℕ → ℕ → Bool) (total : ℕ) → ((p r k : ℕ) → p < nodes → r < nodes → k < keys → f p r k ≡ cond (test p r k) 1 0)
-      → IsTotal lags.numbers test 0 nodes total → total ≡ sum_below (length tables) (λ p. sum_below (length tables) (λ r. sum_below (table_of_node tables p).keys (f p r)))
-  summed f test total each is =
-      omega (arith, is.is)
-      ∙ sum_below-same nodes (λ p. total_of nodes keys (test p)) (λ p. sum_below (length tables) (λ r. sum_below (table_of_node tables p).keys (f p r))) (λ p in_p.
-      sum_below-same nodes _ _ (λ r in_r. sum_below-same keys _ _ (λ k in_k. sym (each p r k in_p in_r in_k)))
+  abbrev summed_at : (ℕ → ℕ → ℕ → ℕ) → ℕ → ℕ
+  summed_at f p = sum_below (length all.tables) (λ r. sum_below (table_of_node all.tables p).keys (f p r))
+
+  summed : (f : ℕ → ℕ → ℕ → ℕ) (test : List ℕ → ℕ → ℕ → Bool) (total : ℕ) → IsTotal v test 0 nodes total
+      → ((p r k : ℕ) → p < nodes → r < nodes → k < numbers.keys → f p r k ≡ cond (test (numbers_at v.tables p) r k) 1 0)
+      → total ≡ sum_below (length all.tables) (summed_at f)
+  summed f test total is each =
+      omega arith
+      ∙ sum_below-same nodes (λ p. total_of nodes numbers.keys (test (numbers_at v.tables p))) (summed_at f) (λ p in_p.
+      sum_below-same nodes _ _ (λ r in_r. sum_below-same numbers.keys _ _ (λ k in_k. sym (each p r k in_p in_r in_k)))
       ∙ (λ i. sum_below (nodes_are i) (λ r. sum_below (keys_are p in_p i) (f p r))))
-      ∙ ap (λ m. sum_below m (λ p. sum_below (length tables) (λ r. sum_below (table_of_node tables p).keys (f p r)))) nodes_are
+      ∙ ap (λ m. sum_below m (summed_at f)) nodes_are
 
   behind : ℕ → ℕ → ℕ → ℕ
-  behind r k p = rounds_behind (staleness_at round tables (lists_in lists) p r k)
+  behind r k p = rounds_behind (staleness_at round all.tables (lists_in lists) p r k)
 
   -- for how long copies of a key have been behind
-  longest : (r k : ℕ) → r < nodes → k < keys → rounds_behind (number_staleness round (list_of_owner lists r) k (cells_in lags.numbers (map number lags.least.now) r k)) ≡ most_below nodes (behind r k)
+  longest : (r k : ℕ) → r < nodes → k < numbers.keys
+      → rounds_behind (number_staleness round (list_of_owner lists r) k (least_held r k)) ≡ most_below nodes (behind r k)
   unfolding behind
   longest r k in_r in_k =
-      ap (λ c. rounds_behind (number_staleness round (list_of_owner lists r) k c)) (least_is r k in_r in_k)
-      ∙ sym (lag-least_below (list_of_owner lists r) (are.may.together.writes r) (are.may.written.in_order r) round k (λ p. held p r k) (last r k) nodes (last_at r k in_r in_k) (λ p in_p. (number_at p r k in_p in_r in_k).written)).1
-      ∙ most_below-same _ _ nodes (λ p in_p. sym (ap rounds_behind (place_staleness tables h are.may p r k (held p r k) (in_tables p in_p) (in_tables r in_r) (number_at p r k in_p in_r in_k))))
+      let list = list_of_owner lists r in
+      let least = lag-least_below list (all.are.may.together.writes r) (all.are.may.written.in_order r) round k (λ p. held p r k) (last r k) nodes
+      (last_at r k in_r in_k) (λ p in_p. (number_at p r k in_p in_r in_k).written) in
+      let each = λ (p : ℕ) (in_p : p < nodes).
+      place_staleness _ _ all.are.may p r k (held p r k) (in_tables p in_p) (in_tables r in_r) (number_at p r k in_p in_r in_k) in
+      ap (λ c. rounds_behind (number_staleness round list k c)) (least_is r k in_r in_k)
+      ∙ sym least.1 ∙ most_below-same _ _ nodes (λ p in_p. sym (ap rounds_behind (each p in_p)))
 
-  pub figures-are : (greatest : ℕ) → greatest ≡ most_below nodes (λ r. most_lag number lags r (list_of_owner lists r)) → ◌≡◌ {A = Figures} (record { stale = stale; greatest = greatest; leftover = leftover }) (figures_of round tables (lists_in lists))
+  pub figures-are : (greatest : ℕ) → greatest ≡ most_below nodes (λ r. most_lag numbers.keys round (list_of_owner lists r) (least_held r))
+      → ◌≡◌ {A = Figures} (record { stale = piece.stale; greatest = greatest; leftover = piece.leftover }) (figures_of round all.tables (lists_in lists))
   unfolding figures_of behind
   figures-are greatest is =
-      let stale_all : stale ≡ (figures_of round tables (lists_in lists)).stale =
-      summed (λ p r k. stale_count (staleness_at round tables (lists_in lists) p r k)) (λ p. is_stale number lags.numbers (table_at number lags.numbers p)) stale
-      (λ p r k in_p in_r in_k. place_stale tables h are.may p r k (held p r k) (in_tables p in_p) (in_tables r in_r) (number_at p r k in_p in_r in_k) (last r k) (last_at r k in_r in_k)) whole.stale_is in
-      let leftover_all : leftover ≡ (figures_of round tables (lists_in lists)).leftover =
-      summed (leftover_at tables) (λ p. is_left number lags.numbers (table_at number lags.numbers p)) leftover
-      (λ p r k in_p in_r in_k. place_left tables h are.may p r k (held p r k) (in_tables p in_p) (in_tables r in_r) (number_at p r k in_p in_r in_k)
-      ∙ (λ i. cond (nat_lt 0 (held p r k) && nat_le (held p r k) (sym (are.are.based.each r in_r) i)) 1 0)) whole.leftover_is in
-      let greatest_all : greatest ≡ (figures_of round tables (lists_in lists)).greatest =
+      let stale_all = summed (λ p r k. stale_count (staleness_at round all.tables (lists_in lists) p r k)) (is_stale v) piece.stale all.whole.stale_is
+      (λ p r k in_p in_r in_k. place_stale _ _ all.are.may p r k (held p r k) (in_tables p in_p) (in_tables r in_r) (number_at p r k in_p in_r in_k)
+      (last r k) (last_at r k in_r in_k)) in
+      let leftover_all = summed (leftover_at all.tables) (is_left v) piece.leftover all.whole.leftover_is
+      (λ p r k in_p in_r in_k. place_left _ _ all.are.may p r k (held p r k) (in_tables p in_p) (in_tables r in_r) (number_at p r k in_p in_r in_k)
+      ∙ (λ i. cond (nat_lt 0 (held p r k) && nat_le (held p r k) (sym (all.are.are.based.each r in_r) i)) 1 0)) in
+      let greatest_all : greatest ≡ (figures_of round all.tables (lists_in lists)).greatest =
       is
-      ∙ most_below-same _ (λ r. most_below (table_of_node tables 0).keys (λ k. most_below nodes (behind r k))) nodes (λ r in_r.
-      most_below-same _ _ keys (λ k in_k. longest r k in_r in_k)
-      ∙ ap (λ m. most_below m (λ k. most_below nodes (behind r k))) (keys_are 0 (omega (arith, in_r))))
-      ∙ (λ i. most_below (nodes_are i) (λ r. most_below (table_of_node tables 0).keys (λ k. most_below (nodes_are i) (behind r k))))
-      ∙ most_by_owner round tables (lists_in lists) are.may.together.cluster in
+      ∙ most_below-same _ (λ r. most_below (table_of_node all.tables 0).keys (λ k. most_below nodes (behind r k))) nodes (λ r in_r.
+      most_below-same _ _ numbers.keys (λ k in_k. longest r k in_r in_k)
+      ∙ ap (λ m. most_below m (λ k. most_below nodes (behind r k))) (keys_are 0 (omega arith)))
+      ∙ (λ i. most_below (nodes_are i) (λ r. most_below (table_of_node all.tables 0).keys (λ k. most_below (nodes_are i) (behind r k))))
+      ∙ most_by_owner round all.tables (lists_in lists) all.are.may.together.cluster in
       λ i. record { stale = stale_all i; greatest = greatest_all i; leftover = leftover_all i }

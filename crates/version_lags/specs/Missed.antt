@@ -29,11 +29,6 @@ pub record IsMissed (v : OwnerListView) (key above number : ℕ) (e : Entry) : T
   pub keyed : e.key ≡ key
   pub over : above < number
 
--- and no lesser one is
-pub record IsFirstMissed (v : OwnerListView) (key above number : ℕ) (e : Entry) : Type 0 where
-  pub missed : IsMissed v key above number e
-  pub first : (m : ℕ) (d : Entry) → IsMissed v key above m d → number ≤ m
-
 abbrev pub HasNoneMissed : OwnerListView → ℕ → ℕ → Type 0
 HasNoneMissed v key above = (m : ℕ) (d : Entry) → IsMissed v key above m d → ⊥
 

@@ -1,22 +1,21 @@
 -- What is counted of some of the tables at the end of a round. Source: this project.
-use Rattle.std.specs.Prelude.{◌≡◌, ℕ, zero, suc, ◌+◌, ◌*◌, ◌<◌, ◌≤◌, ◌&&◌, min, max, All, Bool, List, [], length, map, slice_get, slice_index, slice_index_or, nat_lt, nat_le, IfOk, IsFalse, IsOkUnless, Result, Some}
+use Rattle.std.specs.Prelude.{◌≡◌, ℕ, zero, suc, ◌+◌, ◌*◌, ◌<◌, ◌≤◌, ◌&&◌, min, max, All, Bool, List, [], length, map, slice_get, slice_index, slice_index_or, nat_lt, nat_le, IfOk, IsOkUnless, Result, Some}
 use Rattle.std.specs.Borrow.{Bor}
 use Rattle.bench_types.specs.declared.entries.Entry.{Entry}
 use Rattle.bench_types.specs.declared.faults.Fault.{Fault}
 use Rattle.bench_types.specs.declared.faults.Fault.TheVariants.{OutOfMemory}
+use Rattle.bench_types.specs.declared.rows.Figures.{Figures}
 use Rattle.bench_types.specs.declared.limits.TheConstants.{MOST_NODES, MOST_KEYS, MOST_ROUNDS}
 use Rattle.model.specs.Table.{Table}
 use Rattle.model.specs.Tables.{table_of_node, HoldsOfEach}
 use Rattle.model.specs.calls.Tables.{IsCluster}
-use Rattle.model.specs.calls.OwnerListView.{OwnerListView, all_writes, entries_of, list_of_owner, AreWrites}
+use Rattle.model.specs.calls.OwnerListView.{OwnerListView, all_writes, entries_of, list_of_owner, lists_in, AreWrites}
 use Rattle.model.specs.calls.Numbers.{write_numbered}
 use Rattle.bench_types.specs.Sums.{sum_below, most_below}
-use Rattle.planes.specs.Planes.{cell, total_of, Cells, HasEach, HasEachPlace, IsGrid}
+use Rattle.planes.specs.Planes.{cell, total_of, HasEach, HasEachPlace, IsGrid}
 use Rattle.round_tables.specs.Histories.{HistoriesView, BirthsRise, AreWrittenBy, KeepLimits, StandsAmong}
-use Rattle.model.specs.Figures.{rounds_behind}
+use Rattle.model.specs.Figures.{figures_of, rounds_behind}
 use Rattle.version_lags.specs.Bounds.{AreBounds, IsStretchOf}
-use Rattle.version_lags.specs.declared.lags.Lags.{Lags}
-use Rattle.version_lags.specs.declared.lags.Numbers.{Numbers}
 use Rattle.version_lags.specs.declared.lags.Piece.{Piece}
 use Rattle.version_lags.specs.declared.lags.RoundNumbers.{RoundNumbers}
 use Rattle.owner_writes.specs.Numbered.{AreEnds}
@@ -57,33 +56,40 @@ pub record AreNumbersOf (tables : List Table) (h : HistoriesView) (cells : List 
   pub based : HasEach (length h.lists) (λ r n. n ≡ base_of (list_of_owner h.lists r)) bases
   pub lasts : HasEachPlace (length h.lists) h.keys (λ owner key number. IsLastNumber (list_of_owner h.lists owner) key number) last
 
--- the numbers of a table, and the last ones, by owner and key
-abbrev pub cells_in : {N : Type 0} → RoundNumbers N → List ℕ → Cells
-cells_in numbers table = cell table (length numbers.lists.now)
+-- the numbers alone, by which pieces are counted
+pub record NumbersView : Type 0 where
+  pub nodes : ℕ
+  pub keys : ℕ
+  pub tables : List (List ℕ)
+  pub bases : List ℕ
+  pub last : List ℕ
 
-abbrev pub table_at : {N : Type 0} → (N → ℕ) → RoundNumbers N → ℕ → List ℕ
-table_at number numbers p = numbers_at (numbers_in number numbers.cells.now) p
-
-abbrev pub last_cells : {N : Type 0} → (N → ℕ) → RoundNumbers N → Cells
-last_cells number numbers = cells_in numbers (map number numbers.last.now)
+abbrev pub numbers_seen : {N : Type 0} → (N → ℕ) → RoundNumbers N → NumbersView
+numbers_seen number numbers = record {
+  nodes = length numbers.lists.now;
+  keys = numbers.keys;
+  tables = numbers_in number numbers.cells.now;
+  bases = map number numbers.bases.now;
+  last = map number numbers.last.now;
+}
 
 -- a number of a table is below the last one, or of an earlier generation
-abbrev pub is_stale : {N : Type 0} → (N → ℕ) → RoundNumbers N → List ℕ → ℕ → ℕ → Bool
-is_stale number numbers table r k = nat_lt (cells_in numbers table r k) (last_cells number numbers r k)
+abbrev pub is_stale : NumbersView → List ℕ → ℕ → ℕ → Bool
+is_stale v table r k = nat_lt (cell table v.nodes r k) (cell v.last v.nodes r k)
 
-abbrev pub is_left : {N : Type 0} → (N → ℕ) → RoundNumbers N → List ℕ → ℕ → ℕ → Bool
-is_left number numbers table r k = nat_lt 0 (cells_in numbers table r k) && nat_le (cells_in numbers table r k) (slice_index (map number numbers.bases.now) r)
+abbrev pub is_left : NumbersView → List ℕ → ℕ → ℕ → Bool
+is_left v table r k = nat_lt 0 (cell table v.nodes r k) && nat_le (cell table v.nodes r k) (slice_index v.bases r)
 
 -- how many places of the tables below one pass a test
-abbrev pub total_below : {N : Type 0} → RoundNumbers N → (ℕ → ℕ → ℕ → Bool) → ℕ → ℕ
-total_below numbers test to = sum_below to (λ p. total_of (length numbers.lists.now) numbers.keys (test p))
+abbrev pub total_below : NumbersView → (List ℕ → ℕ → ℕ → Bool) → ℕ → ℕ
+total_below v test to = sum_below to (λ p. total_of v.nodes v.keys (test (numbers_at v.tables p)))
 
 -- the numbers of all tables make grids
-pub record AreGrids {N : Type 0} (number : N → ℕ) (numbers : RoundNumbers N) : Type 0 where
-  pub grid : IsGrid (length numbers.lists.now) numbers.keys (length numbers.last.now)
-  pub count : length numbers.cells.now ≡ length numbers.lists.now
-  pub based : length numbers.bases.now ≡ length numbers.lists.now
-  pub alike : (p : ℕ) → p < length numbers.lists.now → length (table_at number numbers p) ≡ length numbers.last.now
+pub record AreGrids (v : NumbersView) : Type 0 where
+  pub grid : IsGrid v.nodes v.keys (length v.last)
+  pub count : length v.tables ≡ v.nodes
+  pub based : length v.bases ≡ v.nodes
+  pub alike : (p : ℕ) → p < v.nodes → length (numbers_at v.tables p) ≡ length v.last
 
 -- the least of a most number and of what f gives below a bound
 abbrev pub least_below : ℕ → (ℕ → ℕ) → ℕ → ℕ
@@ -91,24 +97,24 @@ least_below zero f most = most
 least_below (suc n) f most = min (least_below n f most) (f n)
 
 -- a total, and a least number, from one table on up to another: with what is before, that up to there
-pub record IsTotal {N : Type 0} (numbers : RoundNumbers N) (test : ℕ → ℕ → ℕ → Bool) (from to total : ℕ) : Type 0 where
+pub record IsTotal (v : NumbersView) (test : List ℕ → ℕ → ℕ → Bool) (from to total : ℕ) : Type 0 where
   pub few : total ≤ to * (MOST_NODES * MOST_KEYS)
-  pub is : total_below numbers test from + total ≡ total_below numbers test to
+  pub is : total_below v test from + total ≡ total_below v test to
 
-pub record IsLeastOf (f : ℕ → ℕ) (most from to least : ℕ) : Type 0 where
+pub record IsLeastFrom (f : ℕ → ℕ) (most from to least : ℕ) : Type 0 where
   pub upto : least ≤ most
   pub is : min (least_below from f most) least ≡ least_below to f most
 
 -- what is counted of the tables from one on up to another
-pub record CountsPiece {N : Type 0} (number : N → ℕ) (numbers : RoundNumbers N) (from to stale leftover : ℕ) (least : List ℕ) : Type 0 where
-  pub stale_is : IsTotal numbers (λ p. is_stale number numbers (table_at number numbers p)) from to stale
-  pub leftover_is : IsTotal numbers (λ p. is_left number numbers (table_at number numbers p)) from to leftover
-  pub least_is : HasEachPlace (length numbers.lists.now) numbers.keys
-      (λ r k. IsLeastOf (λ p. cells_in numbers (table_at number numbers p) r k) (last_cells number numbers r k) from to) least
+pub record CountsPiece (v : NumbersView) (from to stale leftover : ℕ) (least : List ℕ) : Type 0 where
+  pub stale_is : IsTotal v (is_stale v) from to stale
+  pub leftover_is : IsTotal v (is_left v) from to leftover
+  pub least_is : HasEachPlace v.nodes v.keys
+      (λ r k. IsLeastFrom (λ p. cell (numbers_at v.tables p) v.nodes r k) (cell v.last v.nodes r k) from to) least
 
 abbrev pub HasCounted : {N : Type 0} → (N → ℕ) → RoundNumbers N → ℕ → ℕ → Piece N → Type 0
 HasCounted number numbers from to piece =
-    CountsPiece number numbers from to piece.stale piece.leftover (map number piece.least.items)
+    CountsPiece (numbers_seen number numbers) from to piece.stale piece.leftover (map number piece.least.items)
 
 -- it is counted, unless memory is refused
 abbrev pub Counts : {N : Type 0} → (N → ℕ) → RoundNumbers N → ℕ → ℕ → Result (Piece N) Fault → Type 0
@@ -116,18 +122,13 @@ Counts number numbers from to result = IfOk result (HasCounted number numbers fr
 
 -- one is of the tables behind those of another
 pub record AreBehindEachOther {N : Type 0} (number : N → ℕ) (numbers : RoundNumbers N) (piece others : Piece N) : Type 0 where
+  pub grids : AreGrids (numbers_seen number numbers)
   pub from : ℕ
   pub mid : ℕ
   pub to : ℕ
   pub part : IsStretchOf (length numbers.lists.now) mid to
   pub first : HasCounted number numbers from mid piece
   pub second : HasCounted number numbers mid to others
-
--- and it is taken in
-abbrev pub HasTakenIn : {N : Type 0} → (N → ℕ) → RoundNumbers N → Piece N → Piece N → Piece N → Type 0
-HasTakenIn number numbers old others new =
-    (from mid to : ℕ) → HasCounted number numbers from mid old → HasCounted number numbers mid to others
-    → HasCounted number numbers from to new
 
 -- all tables are counted, in parts
 pub record ArePieces {N : Type 0} (number : N → ℕ) (numbers : RoundNumbers N) (pieces : List (Result (Piece N) Fault)) : Type 0 where
@@ -136,14 +137,6 @@ pub record ArePieces {N : Type 0} (number : N → ℕ) (numbers : RoundNumbers N
   pub one_each : length pieces + 1 ≡ length bounds
   pub each : (i : ℕ) (piece : Result (Piece N) Fault) → slice_get pieces i ≡ Some piece
       → Counts number numbers (slice_index bounds i) (slice_index bounds (i + 1)) piece
-
--- the tables from one on up to another are counted: grids, and no write is of an earlier generation where no node has
--- forgotten
-pub record MayCount {N : Type 0} (number : N → ℕ) (count : Numbers N) (from to : ℕ) : Type 0 where
-  pub grids : AreGrids number count.numbers
-  pub forgot : IsFalse count.forgot → (r : ℕ) → r < length count.numbers.lists.now → slice_index (map number count.numbers.bases.now) r ≡ 0
-  pub some : 1 ≤ count.size
-  pub part : IsStretchOf (length count.numbers.lists.now) from to
 
 -- where rounds end in the owners' lists
 pub record AreRoundEnds {N : Type 0} (number : N → ℕ) (numbers : RoundNumbers N) : Type 0 where
@@ -159,28 +152,37 @@ pub record AreRoundNumbers {N : Type 0} (number : N → ℕ) (most : ℕ) (numbe
       (map number numbers.bases.now) (map number numbers.last.now)
   pub ends : AreRoundEnds number numbers
 
--- beside the least numbers held, the owners' lists may be walked over
-pub record MayWalk {N : Type 0} (number : N → ℕ) (most : ℕ) (lags : Lags N) : Type 0 where
+-- the numbers of some tables, of which all are counted
+pub record AreAllCounted {N : Type 0} (number : N → ℕ) (most : ℕ) (numbers : RoundNumbers N) (piece : Piece N) : Type 0 where
   pub tables : List Table
-  pub are : AreRoundNumbers number most lags.numbers tables
-  pub grid : IsGrid (length lags.numbers.lists.now) lags.numbers.keys (length lags.least.now)
-  pub lasts : HasEachPlace (length lags.numbers.lists.now) lags.numbers.keys (λ r k y. IsLastNumber (list_of_owner lags.numbers.lists.now r) k y) (map number lags.numbers.last.now)
-  pub written : (r k : ℕ) → r < length lags.numbers.lists.now → k < lags.numbers.keys → cells_in lags.numbers (map number lags.least.now) r k ≤ length (all_writes lags.numbers.lists.now r)
+  pub are : AreRoundNumbers number most numbers tables
+  pub whole : HasCounted number numbers 0 (length numbers.lists.now) piece
 
--- an owner's list, from a number on
-pub record WalksFrom {N : Type 0} (number : N → ℕ) (most : ℕ) (lags : Lags N) (owner first : ℕ) (list : OwnerListView) : Type 0 where
-  pub among : owner < length lags.numbers.lists.now
-  pub grid : IsGrid (length lags.numbers.lists.now) lags.numbers.keys (length lags.least.now)
-  pub round_limit : lags.numbers.ends.rounds ≤ MOST_ROUNDS
+-- the figures are those of whatever tables have these numbers, unless memory is refused
+abbrev pub AreFigures : {N : Type 0} → (N → ℕ) → ℕ → RoundNumbers N → Result Figures Fault → Type 0
+AreFigures number most numbers result =
+    IfOk result (λ f. (tables : List Table) → AreRoundNumbers number most numbers tables
+    → f ≡ figures_of numbers.ends.rounds tables (lists_in numbers.lists.now))
+    × IsOkUnless result OutOfMemory
+
+-- an owner's list, from a number on, beside the least number that is held of each key
+pub record WalksFrom (list : OwnerListView) (keys round most first : ℕ) (least : ℕ → ℕ) : Type 0 where
+  pub round_limit : round ≤ MOST_ROUNDS
   pub writes : AreWrites list
   pub few : length (entries_of list) < most
-  pub born : All (λ e. e.born ≤ lags.numbers.ends.rounds) (entries_of list)
+  pub born : All (λ e. e.born ≤ round) (entries_of list)
   pub in_order : BirthsRise (entries_of list)
-  pub keyed : (m : ℕ) (e : Entry) → write_numbered (entries_of list) m ≡ Some e → base_of list < m → e.key < lags.numbers.keys
-  pub written : (k : ℕ) → k < lags.numbers.keys → cells_in lags.numbers (map number lags.least.now) owner k ≤ length (entries_of list)
-  pub start : NonePassUpto list (cells_in lags.numbers (map number lags.least.now) owner) (max (base_of list) first)
+  pub keyed : (m : ℕ) (e : Entry) → write_numbered (entries_of list) m ≡ Some e → base_of list < m → e.key < keys
+  pub written : (k : ℕ) → k < keys → least k ≤ length (entries_of list)
+  pub start : NonePassUpto list least (max (base_of list) first)
+
+-- an owner's list may be walked over, beside the least numbers that are held
+pub record MayWalk {N : Type 0} (number : N → ℕ) (most : ℕ) (numbers : RoundNumbers N) (least : List N) (owner first : ℕ)
+    (list : OwnerListView) : Type 0 where
+  pub among : owner < length numbers.lists.now
+  pub grid : IsGrid (length numbers.lists.now) numbers.keys (length least)
+  pub walks : WalksFrom list numbers.keys numbers.ends.rounds most first (cell (map number least) (length numbers.lists.now) owner)
 
 -- the most rounds that a copy of an owner's keys has been behind
-abbrev pub most_lag : {N : Type 0} → (N → ℕ) → Lags N → ℕ → OwnerListView → ℕ
-most_lag number lags owner list =
-    most_below lags.numbers.keys (λ k. rounds_behind (number_staleness lags.numbers.ends.rounds list k (cells_in lags.numbers (map number lags.least.now) owner k)))
+abbrev pub most_lag : ℕ → ℕ → OwnerListView → (ℕ → ℕ) → ℕ
+most_lag keys round list least = most_below keys (λ k. rounds_behind (number_staleness round list k (least k)))

@@ -48,9 +48,8 @@ pub fn bounds_for<N: Number>(
 
 // Of parts of so many tables each, and the rest.
 fn bounds(alloc: Global, tables: usize, size: usize) -> Result<Vec<usize>, Fault>
-    requires some { 1 ≤ size }
-    ensures bounds { IfOk result (λ bounds. AreBounds tables bounds.items) }
-    ensures only { IsOkUnless result OutOfMemory }
+    requires { 1 ≤ size }
+    ensures { IfOk result (λ bounds. AreBounds tables bounds.items) × IsOkUnless result OutOfMemory }
 {
     let mut bounds = vec![in alloc; 0; 1]?;
     let mut at = 0;

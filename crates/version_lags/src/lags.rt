@@ -3,13 +3,9 @@
 ghost use Rattle.std.specs.Prelude.{◌≡◌, ℕ, ◌+◌, ◌-◌, ◌*◌, ◌/◌, ◌^◌, ◌<◌, ◌≤◌, List, map, length, IfOk, IsOkUnless};
 ghost use Rattle.bench_types.specs.declared.faults.Fault.TheVariants.{OutOfMemory};
 ghost use Rattle.model.specs.Table.{Table};
-ghost use Rattle.model.specs.calls.OwnerListView.{list_of_owner, lists_in};
-ghost use Rattle.grids.specs.Lags.{IsLeastBehind};
-ghost use Rattle.planes.specs.Planes.{HasEach};
-ghost use Rattle.bench_types.specs.Sums.{most_below};
-ghost use Rattle.model.specs.Figures.{figures_of};
+ghost use Rattle.planes.specs.Planes.{cell};
 ghost use Rattle.version_lags.specs.Bounds.{IsStretchOf};
-ghost use Rattle.version_lags.specs.Pieces.{AreBehindEachOther, AreGrids, ArePieces, AreRoundNumbers, Counts, HasCounted, HasTakenIn, MayCount, MayWalk, WalksFrom, most_lag};
+ghost use Rattle.version_lags.specs.Pieces.{numbers_seen, AreAllCounted, AreBehindEachOther, AreFigures, AreGrids, ArePieces, AreRoundNumbers, Counts, HasCounted, MayWalk, most_lag};
 
 use crate::bounds::{LEAST_BYTES_OF_A_THREAD, threads_for};
 use bench_types::{Fault, Figures};
@@ -46,9 +42,9 @@ pub struct Piece<N: Number> {
 impl<N: Number> Piece<N> {
     // What no table says.
     fn none(alloc: Global, numbers: &RoundNumbers<N>) -> Result<Piece<N>, Fault>
-        requires grids { AreGrids N.number numbers.now }
-        ensures none { IfOk result (λ piece. (at : ℕ) → HasCounted N.number numbers.now at at piece) }
-        ensures only { IsOkUnless result OutOfMemory }
+        requires { AreGrids (numbers_seen N.number numbers.now) }
+        ensures { IfOk result (λ piece. (at : ℕ) → HasCounted N.number numbers.now at at piece)
+            × IsOkUnless result OutOfMemory }
     {
         Ok(Piece {
             stale: 0,
@@ -59,9 +55,10 @@ impl<N: Number> Piece<N> {
 
     // Takes in what the tables behind these say.
     fn take_in(&mut self, others: &Piece<N>, numbers: &RoundNumbers<N>)
-        requires grids { AreGrids N.number numbers.now }
-        requires both { AreBehindEachOther N.number numbers.now self.old others.now }
-        ensures { HasTakenIn N.number numbers.entry.now self.old others.entry.now self.new }
+        requires { AreBehindEachOther N.number numbers.now self.old others.now }
+        ensures { (from mid to : ℕ) → HasCounted N.number numbers.entry.now from mid self.old
+            → HasCounted N.number numbers.entry.now mid to others.entry.now
+            → HasCounted N.number numbers.entry.now from to self.new }
     {
         self.stale += others.stale;
         self.leftover += others.leftover;
@@ -75,158 +72,16 @@ impl<N: Number> Piece<N> {
         lower_all(&mut self.least, grid);
     }
 
-    // The figures, where all tables say this.
-    fn figures(&self, alloc: Global, numbers: &RoundNumbers<N>) -> Result<Figures, Fault>
-        requires are { (tables : List Table) × AreRoundNumbers N.number N.most numbers.now tables }
-        requires whole { HasCounted N.number numbers.now 0 (length numbers.now.lists.now) self.now }
-        ensures figures { IfOk result (λ f. (tables : List Table)
-            → AreRoundNumbers N.number N.most numbers.now tables
-            → f ≡ figures_of numbers.now.ends.rounds tables (lists_in numbers.now.lists.now)) }
-        ensures only { IsOkUnless result OutOfMemory }
-    {
-        let lags = Lags {
-            numbers: *numbers,
-            least: &self.least,
-        };
-        let greatest = lags.greatest(alloc)?;
-        Ok(Figures {
-            stale: self.stale,
-            greatest,
-            leftover: self.leftover,
-        })
-    }
-}
-
-// The numbers of all tables, whether a node has forgotten, and how many tables a thread gets.
-#[derive(Clone, Copy)]
-struct Numbers<'a, N: Number> {
-    numbers: RoundNumbers<'a, N>,
-    forgot: bool,
-    size: usize,
-}
-
-impl<'a, N: Number> Numbers<'a, N> {
-    fn of(numbers: &RoundNumbers<'a, N>, size: usize) -> Numbers<'a, N>
-        requires grids { AreGrids N.number numbers.now }
-        requires some { 1 ≤ size }
-        ensures numbers { result.numbers ≡ numbers.now }
-        ensures may { (from to : ℕ) → IsStretchOf (length numbers.now.lists.now) from to
-            → MayCount N.number result from to }
-    {
-        Numbers {
-            numbers: *numbers,
-            forgot: planes::count_held(numbers.bases) > 0,
-            size,
-        }
-    }
-
-    fn piece_of(&self, alloc: Global, from: usize, to: usize) -> Result<Piece<N>, Fault>
-        requires { MayCount N.number self.now from to }
-        ensures { Counts N.number self.now.numbers from to result }
-    {
-        let numbers = self.numbers;
-        let size = Size {
-            nodes: numbers.lists.len(),
-            keys: numbers.keys,
-        };
-        let Piece {
-            mut stale,
-            mut leftover,
-            mut least,
-        } = Piece::none(alloc, &numbers)?;
-        for at in from..to {
-            let here = numbers.cells[at];
-            let grid = Grid { cells: here, size };
-            let behind = count_behind(&mut least, grid, numbers.last);
-            stale += u64::from(behind);
-            if self.forgot {
-                leftover += u64::from(total_upto(grid, numbers.bases));
-            }
-        }
-        Ok(Piece {
-            stale,
-            leftover,
-            least,
-        })
-    }
-}
-
-impl<'a, N: Number + Send + Sync> Numbers<'a, N> {
-    // What all tables from one on say, so many in each thread. This thread starts all others: where a new thread starts
-    // another one, the system may put both on one processor.
-    #[cycle(rest)]
-    fn rest_from(
-        &self,
-        rt: &(impl Threads + Sync),
-        alloc: Global,
-        from: usize,
-    ) -> Result<Piece<N>, Fault>
-        requires may { MayCount N.number self.now from (length self.now.numbers.lists.now) }
-        ensures { Counts N.number self.now.numbers from (length self.now.numbers.lists.now) result }
-    {
-        let nodes = self.numbers.lists.len();
-        if nodes - from <= self.size {
-            return self.piece_of(alloc, from, nodes);
-        }
-        let to = from + self.size;
-        let first = || -> Result<Piece<N>, Fault>
-            requires { MayCount N.number self.now from to }
-            ensures { Counts N.number self.entry.now.numbers from to result }
-        { self.piece_of(alloc, from, to) };
-        let others = || -> Result<Piece<N>, Fault>
-            requires { MayCount N.number self.now to (length self.now.numbers.lists.now) }
-            ensures { Counts N.number self.entry.now.numbers to (length self.entry.now.numbers.lists.now) result }
-        { self.rest_from(rt, alloc, to) };
-        let (first, others) = join(rt, first, others);
-        let mut piece = first?;
-        piece.take_in(&others?, &self.numbers);
-        Ok(piece)
-    }
-}
-
-// The numbers of all tables, and of each owner's key the least that one of them holds.
-#[derive(Clone, Copy)]
-struct Lags<'a, N: Number> {
-    numbers: RoundNumbers<'a, N>,
-    least: &'a [N],
-}
-
-impl<'a, N: Number> Lags<'a, N> {
-    // For how many rounds a copy of an owner has missed a write at most: since the first one that some copy misses,
-    // which stands behind a number, the greatest where there is none.
-    fn lag_of_owner(&self, list: &OwnerWrites, owner: usize, first: N) -> u32
-        requires { WalksFrom N.number N.most self.now owner (N.number first) list.now }
-        ensures { result ≡ most_lag N.number self.now owner list.now }
-    {
-        let least = self.least;
-        let round = self.numbers.ends.rounds;
-        let nodes = self.numbers.lists.len();
-        if first.widen() == N::greatest().widen() {
-            return 0;
-        }
-        let from = list.earlier_count().max(first.widen() as usize);
-        for place in from..list.count() {
-            if let Some(write) = list.numbered(place as u32 + 1) {
-                if least[write.key as usize * nodes + owner].widen() <= place as u32 {
-                    return round - write.born + 1;
-                }
-            }
-        }
-        0
-    }
-
-    // The most rounds that a copy of any owner has missed a write. An owner's list is read only where that may be more
+    // The figures, where all tables say this. An owner's list is read only where that may make the most rounds more
     // than of the owners before it.
-    fn greatest(&self, alloc: Global) -> Result<u32, Fault>
-        requires { MayWalk N.number N.most self.now }
-        ensures lag { IfOk result (λ x. x ≡ most_below (length self.now.numbers.lists.now)
-            (λ r. most_lag N.number self.now r (list_of_owner self.now.numbers.lists.now r))) }
-        ensures only { IsOkUnless result OutOfMemory }
+    fn figures(&self, alloc: Global, numbers: &RoundNumbers<N>) -> Result<Figures, Fault>
+        requires { AreAllCounted N.number N.most numbers.now self.now }
+        ensures { AreFigures N.number N.most numbers.now result }
     {
-        let numbers = self.numbers;
         let nodes = numbers.lists.len();
+        let least: &[N] = &self.least;
         let grid = Grid {
-            cells: self.least,
+            cells: least,
             size: Size {
                 nodes,
                 keys: numbers.keys,
@@ -241,11 +96,47 @@ impl<'a, N: Number> Lags<'a, N> {
             if row[owner].is_upto(first) {
                 continue;
             }
-            let lag = self.lag_of_owner(&numbers.lists[owner], owner, first);
+            let lag = lag_of_owner(numbers, least, &numbers.lists[owner], owner, first);
             greatest = greatest.max(lag);
         }
-        Ok(greatest)
+        Ok(Figures {
+            stale: self.stale,
+            greatest,
+            leftover: self.leftover,
+        })
     }
+}
+
+// For how many rounds a copy of an owner has missed a write at most: since the first one that some copy misses, which
+// stands behind a number, the greatest where there is none.
+fn lag_of_owner<N: Number>(
+    numbers: &RoundNumbers<N>,
+    least: &[N],
+    list: &OwnerWrites,
+    owner: usize,
+    first: N,
+) -> u32
+    requires { MayWalk N.number N.most numbers.now least.now owner (N.number first) list.now }
+    ensures { result ≡ most_lag numbers.now.keys numbers.now.ends.rounds list.now
+        (cell (map N.number least.now) (length numbers.now.lists.now) owner) }
+{
+    let round = numbers.ends.rounds;
+    let nodes = numbers.lists.len();
+    if first.widen() == N::greatest().widen() {
+        return 0;
+    }
+    let from = list.earlier_count().max(first.widen() as usize);
+    for place in from..list.count() {
+        match list.numbered(place as u32 + 1) {
+            Some(write) => {
+                if least[write.key as usize * nodes + owner].widen() <= place as u32 {
+                    return round - write.born + 1;
+                }
+            }
+            None => {}
+        }
+    }
+    0
 }
 
 // So many bytes are gone over by one thread where one worker has made the exchanges: the tables are near its thread
@@ -266,19 +157,6 @@ fn tables_of_a_thread<N: Number>(numbers: &RoundNumbers<N>, hands: Hands) -> usi
     (tables / threads).saturating_add(1)
 }
 
-fn counted<N: Number + Send + Sync>(
-    rt: &(impl Threads + Sync),
-    alloc: Global,
-    numbers: &RoundNumbers<N>,
-    hands: Hands,
-) -> Result<Piece<N>, Fault>
-    requires grids { AreGrids N.number numbers.now }
-    ensures { Counts N.number numbers.now 0 (length numbers.now.lists.now) result }
-{
-    let size = tables_of_a_thread(numbers, hands);
-    Numbers::of(numbers, size).rest_from(rt, alloc, 0)
-}
-
 /// What the tables from one on up to another say, as one of several threads counts it. It takes memory for the numbers
 /// of a table. An error is lack of that memory (`OutOfMemory`).
 pub fn piece_of<N: Number>(
@@ -287,11 +165,57 @@ pub fn piece_of<N: Number>(
     from: usize,
     to: usize,
 ) -> Result<Piece<N>, Fault>
-    requires grids { AreGrids N.number numbers.now }
-    requires part { IsStretchOf (length numbers.now.lists.now) from to }
+    requires { AreGrids (numbers_seen N.number numbers.now) × IsStretchOf (length numbers.now.lists.now) from to }
     ensures { Counts N.number numbers.now from to result }
 {
-    Numbers::of(numbers, 1).piece_of(alloc, from, to)
+    let size = Size {
+        nodes: numbers.lists.len(),
+        keys: numbers.keys,
+    };
+    let forgot = planes::count_held(numbers.bases) > 0;
+    let mut piece = Piece::none(alloc, numbers)?;
+    for at in from..to {
+        let here = numbers.cells[at];
+        let grid = Grid { cells: here, size };
+        let behind = count_behind(&mut piece.least, grid, numbers.last);
+        piece.stale += u64::from(behind);
+        if forgot {
+            piece.leftover += u64::from(total_upto(grid, numbers.bases));
+        }
+    }
+    Ok(piece)
+}
+
+// What all tables from one on say, so many in each thread. This thread starts all others: where a new thread starts
+// another one, the system may put both on one processor.
+#[cycle(rest)]
+fn rest_from<N: Number + Send + Sync>(
+    rt: &(impl Threads + Sync),
+    alloc: Global,
+    numbers: &RoundNumbers<N>,
+    size: usize,
+    from: usize,
+) -> Result<Piece<N>, Fault>
+    requires { AreGrids (numbers_seen N.number numbers.now) × (1 ≤ size) × (from ≤ length numbers.now.lists.now) }
+    ensures { Counts N.number numbers.now from (length numbers.now.lists.now) result }
+{
+    let nodes = numbers.lists.len();
+    if nodes - from <= size {
+        return piece_of(alloc, numbers, from, nodes);
+    }
+    let to = from + size;
+    let first = || -> Result<Piece<N>, Fault>
+        requires { AreGrids (numbers_seen N.number numbers.now) × IsStretchOf (length numbers.now.lists.now) from to }
+        ensures { Counts N.number numbers.entry.now from to result }
+    { piece_of(alloc, numbers, from, to) };
+    let others = || -> Result<Piece<N>, Fault>
+        requires { AreGrids (numbers_seen N.number numbers.now) × (1 ≤ size) × (to ≤ length numbers.now.lists.now) }
+        ensures { Counts N.number numbers.entry.now to (length numbers.entry.now.lists.now) result }
+    { rest_from(rt, alloc, numbers, size, to) };
+    let (first, others) = join(rt, first, others);
+    let mut piece = first?;
+    piece.take_in(&others?, numbers);
+    Ok(piece)
 }
 
 /// The figures of the tables at the end of the last round, down nodes included: how many keys of copies are below the
@@ -309,13 +233,11 @@ pub fn figures<N: Number + Send + Sync>(
     numbers: &RoundNumbers<N>,
 ) -> Result<Figures, Fault>
     requires are { (tables : List Table) × AreRoundNumbers N.number N.most numbers.now tables }
-    ensures figures { IfOk result (λ f. (tables : List Table)
-        → AreRoundNumbers N.number N.most numbers.now tables
-        → f ≡ figures_of numbers.now.ends.rounds tables (lists_in numbers.now.lists.now)) }
-    ensures only { IsOkUnless result OutOfMemory }
+    ensures { AreFigures N.number N.most numbers.now result }
 {
     let alloc = resources.alloc;
-    let whole = counted(resources.rt, alloc, numbers, resources.hands)?;
+    let size = tables_of_a_thread(numbers, resources.hands);
+    let whole = rest_from(resources.rt, alloc, numbers, size, 0)?;
     whole.figures(alloc, numbers)
 }
 
@@ -328,10 +250,7 @@ pub fn figures_of_pieces<N: Number>(
 ) -> Result<Figures, Fault>
     requires are { (tables : List Table) × AreRoundNumbers N.number N.most numbers.now tables }
     requires pieces { ArePieces N.number numbers.now pieces.now }
-    ensures figures { IfOk result (λ f. (tables : List Table)
-        → AreRoundNumbers N.number N.most numbers.now tables
-        → f ≡ figures_of numbers.now.ends.rounds tables (lists_in numbers.now.lists.now)) }
-    ensures only { IsOkUnless result OutOfMemory }
+    ensures { AreFigures N.number N.most numbers.now result }
 {
     let mut whole = Piece::none(alloc, numbers)?;
     for counted in pieces {

@@ -56,26 +56,24 @@ pub record MayTakePlane {N : Type 0} (plane greatest : List N) (sent : Sent N) (
   pub low_count : length sent.low.now ≡ sent.grid.size.nodes
   pub high_count : length sent.high.now ≡ sent.grid.size.nodes
 
+-- an owner's number once it took what is sent of a key
+abbrev pub taken_by : {N : Type 0} → (N → ℕ) → Sent N → ℕ → ℕ → ℕ → ℕ
+taken_by number sent r k x =
+    number_taken x (cells_in number sent.grid r k) (slice_index (map number sent.low.now) r)
+    (slice_index (map number sent.high.now) r)
+
 -- the plane's numbers and the greatest ones once it took what is sent of its key
 pub record IsPlaneTaken {N : Type 0} (number : N → ℕ) (sent : Sent N) (key : ℕ)
     (old old_greatest new new_greatest : List N) : Type 0 where
-  pub plane : AreChanged (λ r x y. y ≡ number_taken x (cells_in number sent.grid r key)
-      (slice_index (map number sent.low.now) r) (slice_index (map number sent.high.now) r))
-      (map number old) (map number new)
-  pub greatest : AreChanged (λ r x y. y ≡ max x (number_taken (slice_index (map number old) r)
-      (cells_in number sent.grid r key) (slice_index (map number sent.low.now) r)
-      (slice_index (map number sent.high.now) r))) (map number old_greatest) (map number new_greatest)
+  pub plane : AreChanged (λ r x y. y ≡ taken_by number sent r key x) (map number old) (map number new)
+  pub greatest : AreChanged (λ r x y. y ≡ max x (taken_by number sent r key (slice_index (map number old) r)))
+      (map number old_greatest) (map number new_greatest)
 
 -- two planes and the marks of both are of one size
 pub record AreBothMarked {N : Type 0} (one other : List N) (marks : BothMarks N) : Type 0 where
   pub second : length other ≡ length one
   pub first_low : length marks.first.now ≡ length one
   pub second_low : length marks.second.now ≡ length one
-
-pub record MayMergePart {N : Type 0} (most : ℕ) (one other : List N) (marks : BothMarks N)
-    (from size : ℕ) : Type 0 where
-  pub marked : AreBothMarked one other marks
-  pub part : IsPart most (length one) from size
 
 -- each number of both planes is raised to the other's, where that is above its own mark, and so many come to each
 pub record ArePlanesMerged {N : Type 0} (number : N → ℕ) (marks : BothMarks N) (one other new_one new_other : List N)

@@ -1,14 +1,9 @@
 -- One owner's numbers, key by key. Source: this project.
-use Rattle.std.specs.Prelude.{◌≡◌, ℕ, ◌<◌, ◌==◌, List, length, map, slice_index, if◌then◌else◌}
-use Rattle.planes.specs.declared.sizes.Grid.{Grid}
-use Rattle.planes.specs.Grids.{cells_in}
-use Rattle.planes.specs.Planes.{cell, count_above, number_raised, number_taken, ArePlanesChanged, HasNoneAbove, IsRaised}
+use Rattle.std.specs.Prelude.{◌≡◌, ℕ, ◌<◌, ◌==◌, List, length, map, if◌then◌else◌}
+use Rattle.planes.specs.Planes.{cell, count_above, number_raised, ArePlanesChanged, HasNoneAbove, IsRaised}
 use Rattle.grids.specs.Grids.{IsBeside}
 use Rattle.grids.specs.declared.grids.Sent.{Sent}
-
-pub record MayRaiseOwner {N : Type 0} (cells : List N) (others : Grid N) (owner : ℕ) : Type 0 where
-  pub beside : IsBeside others cells
-  pub within : owner < others.size.nodes
+use Rattle.grids.specs.inner.Loops.{taken_by}
 
 -- an owner's numbers once they were raised to those of another table that are above a mark, and so many are
 pub record HasRaisedOwner {N : Type 0} (number : N → ℕ) (nodes keys owner : ℕ) (others : List N) (low : N)
@@ -29,9 +24,7 @@ pub record MayTakeOwner {N : Type 0} (number : N → ℕ) (cells : List N) (sent
 -- its numbers once it took that, and the greatest of them then, which was another one before
 pub record HasTakenOwner {N : Type 0} (number : N → ℕ) (sent : Sent N) (owner : ℕ) (old : List N) (had : N)
     (new : List N) (now : N) : Type 0 where
-  pub cells : ArePlanesChanged (λ r k x y. y ≡ (if r == owner then number_taken x (cells_in number sent.grid r k)
-      (slice_index (map number sent.low.now) owner) (slice_index (map number sent.high.now) owner) else x))
+  pub cells : ArePlanesChanged (λ r k x y. y ≡ (if r == owner then taken_by number sent r k x else x))
       sent.grid.size.nodes sent.grid.size.keys (map number old) (map number new)
-  pub greatest : IsRaised (λ r k. number_taken (cell (map number old) sent.grid.size.nodes r k)
-      (cells_in number sent.grid r k) (slice_index (map number sent.low.now) owner)
-      (slice_index (map number sent.high.now) owner)) sent.grid.size.keys owner (number had) (number now)
+  pub greatest : IsRaised (λ r k. taken_by number sent r k (cell (map number old) sent.grid.size.nodes r k))
+      sent.grid.size.keys owner (number had) (number now)

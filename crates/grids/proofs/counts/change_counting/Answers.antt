@@ -1,5 +1,4 @@
-use Rattle.grids.proofs.Common.{refl, arith, map}
-use Rattle.planes.proofs.Elementwise.{counted_none, counted-same}
+use Rattle.grids.proofs.Common.{refl, arith, map, counted_none, counted-same}
 use Rattle.grids.proofs.counts.change_counting.Goals as goal
 
 pub loop-numbers-init : goal.loop-numbers-init
@@ -7,16 +6,17 @@ loop-numbers-init g c = record { within = omega arith; upto = omega arith; done 
 
 pub loop-numbers-preserved : goal.loop-numbers-preserved
 loop-numbers-preserved g c = record {
-  within = omega (arith, c.loop-numbers.invariant.within, c.loop-numbers-test.true, c.loop-numbers.auto.numbers);
-  upto = omega (arith, c.loop-numbers.invariant.upto, c.change_some_counting-count.ensures.upto);
-  done = λ made test is. c.change_some_counting-count.ensures.done made test (λ r n both lt. is r n both (omega (arith, lt, c.loop-numbers.auto.numbers))) _ _ (c.loop-numbers.invariant.done made test is);
+  within = omega arith;
+  upto = omega arith;
+  done = λ made test is.
+      c.change_some_counting-count.ensures.done made test (λ r n both lt. is r n both (omega arith)) _ _ (c.loop-numbers.invariant.done made test is);
 }
 
 pub returns : goal.returns
 returns g c = record {
-  upto = omega (arith, c.loop-numbers.invariant.upto, c.change_some_counting.ensures.upto, c.loop-numbers.invariant.within, c.loop-numbers.auto.numbers);
+  upto = omega arith;
   done = λ made test is.
       counted-same _ (map g.N.Number.number c.args.numbers.now) _ _ _ _ _ _
-      (c.change_some_counting.ensures.done made test (λ r n both lt. is r n both (omega (arith, lt, c.loop-numbers.auto.numbers))) _ _ (c.loop-numbers.invariant.done made test is))
-      (omega (arith, c.loop-numbers.invariant.within, c.loop-numbers.auto.numbers)) refl;
+      (c.change_some_counting.ensures.done made test (λ r n both lt. is r n both (omega arith)) _ _ (c.loop-numbers.invariant.done made test is))
+      (omega arith) refl;
 }

@@ -12,13 +12,15 @@ returns-clause-ahead g c =
     let plane : HasEach c.args.grid.size.nodes (λ r n. n ≡ peer r k) (map number to.0.now) = search rules in
     let marks : to.1.now ≡ c.args.peer.low.now = search rules in
     rw (← plane.each r lt, ← marks) call) in
-    let items = with_items_is c.in_ok-numbers.numbers c.change_all_counting-count.new.numbers (c.change_all_counting-count.auto.numbers ∙ c.deref_mut.ensures.len) in
+    let call = c.change_all_counting-count in
+    let items = with_items_is c.in_ok-numbers.numbers call.new.numbers (call.auto.numbers ∙ c.deref_mut.ensures.len) in
+    let shape = c.requires.peer.marks.shape in
     record {
       numbers = rw (items, ← c.in_ok-numbers.ensures.items, ← c.deref_mut.ensures.value) (record {
-        size = all.0.size ∙ length-map c.deref_mut.result.now number ∙ rw (c.deref_mut.ensures.value, c.in_ok-numbers.ensures.items) c.requires.peer.marks.shape.whole;
+        size = all.0.size ∙ length-map c.deref_mut.result.now number ∙ rw (c.deref_mut.ensures.value, c.in_ok-numbers.ensures.items) shape.whole;
         each = all.0.each;
       });
-      count = rw items (total-kept c.args.grid.size.nodes c.args.grid.size.keys peer (map number c.args.peer.low.now) _ _ c.change_all_counting-count.result all.1 all.0);
+      count = rw items (total-kept c.args.grid.size.nodes c.args.grid.size.keys peer (map number c.args.peer.low.now) _ _ call.result all.1 all.0);
       own_held = c.count_held.ensures;
       peer_held = c.count_held-2.ensures;
     }

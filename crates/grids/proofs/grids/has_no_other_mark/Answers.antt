@@ -1,5 +1,4 @@
-use Rattle.grids.proofs.Common.{ℕ, ◌==◌, arith, rules, nat_tests, cond, length, length-map, map, nat_lt, slice_index}
-use Rattle.planes.proofs.Counts.{none-passes}
+use Rattle.grids.proofs.Common.{ℕ, ◌==◌, arith, rules, nat_tests, cond, length, length-map, map, nat_lt, slice_index, none-passes}
 use Rattle.grids.proofs.grids.has_no_other_mark.Goals as goal
 
 pub returns : goal.returns

@@ -1,5 +1,4 @@
-use Rattle.grids.proofs.Common.{◌+◌, ◌*◌, ◌-◌, max, slice_index, ◌∙◌, arith, map, length-map, cell, number_taken, numbers_taken, IsRaised}
-use Rattle.planes.proofs.Places.{grid-within, block-cells, planes-none, planes-written, planes-all, each-next, each-whole, raised-none, raised-next}
+use Rattle.grids.proofs.Common.{◌+◌, ◌*◌, ◌-◌, max, ◌≡◌, ◌∙◌, arith, length-map, taken_by, grid-within, block-cells, planes-none, planes-written, planes-all, each-next, raised-none, raised-next}
 use Rattle.grids.proofs.grids.take.Goals as goal
 
 pub loop-key-init : goal.loop-key-init
@@ -13,8 +12,6 @@ loop-key-preserved g c =
     let number = g.N.Number.number in
     let nodes = c.args.sent.grid.size.nodes in
     let key = c.loop-key.key in
-    let low = slice_index (map number c.args.sent.low.now) in
-    let high = slice_index (map number c.args.sent.high.now) in
     let within = grid-within number nodes c.args.sent.grid.size.keys key c.args.cells.now c.requires.may.beside.shape c.loop-key-test.true in
     let block = block-cells _ nodes _ number c.loop-key.cells key (key * nodes + nodes - key * nodes) (omega arith) c.loop-key.invariant.cells within in
     record {
@@ -23,14 +20,13 @@ loop-key-preserved g c =
           c.take_plane.ensures.plane (λ r x y lt is. is);
       greatest =
           each-next nodes _ _ _ _ _ c.loop-key.invariant.greatest c.take_plane.ensures.greatest
-          (λ r x y lt is now. raised-next _ key r _ x y is (now ∙ (λ i. max x (number_taken (block r lt i) (cell (map number c.args.sent.grid.cells.now) nodes r key) (low r) (high r)))));
+          (λ r x y lt is now. raised-next _ key r _ x y is (now ∙ (λ i. max x (taken_by number c.args.sent r key (block r lt i)))));
     }
 
 pub returns : goal.returns
 returns g c =
-    let number = g.N.Number.number in
-    let taken = numbers_taken c.args.sent.grid.size.nodes (map number c.args.cells.now) (map number c.args.sent.grid.cells.now) (map number c.args.sent.low.now) (map number c.args.sent.high.now) in
+    let all : c.loop-key.key ≡ c.args.sent.grid.size.keys = omega arith in
     record {
       cells = planes-all _ _ _ _ c.args.sent.grid.size.keys c.loop-key.key c.loop-key.invariant.cells c.loop-key-test.false;
-      greatest = each-whole (λ key r y. IsRaised taken key r (slice_index (map number c.args.greatest.now) r) y) _ c.loop-key.key _ _ c.loop-key-test.false c.loop-key.auto.key-end c.loop-key.invariant.greatest;
+      greatest = rw (← all) c.loop-key.invariant.greatest;
     }

@@ -1,10 +1,12 @@
-use Rattle.grids.proofs.Common.{◌≡◌, max, slice_index, map, AreChangedUpto, cell, number_taken}
+use Rattle.grids.proofs.Common.{◌≡◌, max, slice_index, map, AreChangedUpto, taken_by}
 use Rattle.grids.proofs.grids.take_plane.Given as goal
 
 abbrev pub invariant-loop-r : goal.invariant-loop-r
-invariant-loop-r g l = record {
-  plane : AreChangedUpto (λ r x y. y ≡ number_taken x (cell (map g.N.Number.number l.sent.grid.cells.now) l.sent.grid.size.nodes r l.key) (slice_index (map g.N.Number.number l.sent.low.now) r) (slice_index (map g.N.Number.number l.sent.high.now) r))
-      (map g.N.Number.number l.initial.plane) (map g.N.Number.number l.plane) l.r;
-  greatest : AreChangedUpto (λ r x y. y ≡ max x (number_taken (slice_index (map g.N.Number.number l.initial.plane) r) (cell (map g.N.Number.number l.sent.grid.cells.now) l.sent.grid.size.nodes r l.key) (slice_index (map g.N.Number.number l.sent.low.now) r) (slice_index (map g.N.Number.number l.sent.high.now) r)))
-      (map g.N.Number.number l.initial.greatest) (map g.N.Number.number l.greatest) l.r;
-}
+invariant-loop-r g l =
+    let number = g.N.Number.number in
+    let old = map number l.initial.plane in
+    record {
+      plane : AreChangedUpto (λ r x y. y ≡ taken_by number l.sent r l.key x) old (map number l.plane) l.r;
+      greatest : AreChangedUpto (λ r x y. y ≡ max x (taken_by number l.sent r l.key (slice_index old r)))
+          (map number l.initial.greatest) (map number l.greatest) l.r;
+    }

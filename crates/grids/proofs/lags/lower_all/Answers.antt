@@ -1,5 +1,4 @@
-use Rattle.grids.proofs.Common.{min, ap, ◌∙◌, arith, map}
-use Rattle.planes.proofs.Places.{grid-within, planes-none, planes-written, planes-all}
+use Rattle.grids.proofs.Common.{min, ap, ◌∙◌, arith, map, grid-within, planes-none, planes-written, planes-all}
 use Rattle.grids.proofs.lags.lower_all.Goals as goal
 
 pub loop-key-init : goal.loop-key-init
@@ -7,11 +6,11 @@ loop-key-init g c = planes-none _ c.args.grid.size.nodes (map g.N.Number.number 
 
 pub loop-key-preserved : goal.loop-key-preserved
 loop-key-preserved g c =
-    planes-written _ c.args.grid.size.nodes (map g.N.Number.number c.args.least.now) g.N.Number.number c.loop-key.least c.lower.new.least c.loop-key.key
-    _ _ (omega arith) c.loop-key.invariant (grid-within g.N.Number.number c.args.grid.size.nodes c.args.grid.size.keys c.loop-key.key c.args.least.now c.requires.beside.shape c.loop-key-test.true)
+    let number = g.N.Number.number in
+    let size = c.args.grid.size in
+    let within = grid-within number size.nodes size.keys c.loop-key.key c.args.least.now c.requires.beside.shape c.loop-key-test.true in
+    planes-written _ size.nodes _ number c.loop-key.least c.lower.new.least c.loop-key.key _ _ (omega arith) c.loop-key.invariant within
     c.lower.ensures.least (λ r x y lt is. is ∙ ap (min x) (c.plane_of-plane.ensures.each r lt))
 
 pub returns : goal.returns
-returns g c = record {
-  least = planes-all _ c.args.grid.size.nodes (map g.N.Number.number c.args.least.now) (map g.N.Number.number c.loop-key.least) c.args.grid.size.keys c.loop-key.key c.loop-key.invariant c.loop-key-test.false;
-}
+returns g c = record { least = planes-all _ _ _ _ _ c.loop-key.key c.loop-key.invariant c.loop-key-test.false }

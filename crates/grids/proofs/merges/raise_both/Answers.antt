@@ -1,5 +1,4 @@
-use Rattle.grids.proofs.Common.{max, ◌∙◌, arith, length-map}
-use Rattle.planes.proofs.Elementwise.{number-waits, changed_none, changed_all, written_next}
+use Rattle.grids.proofs.Common.{max, ◌∙◌, arith, length-map, number-waits, changed_none, changed_all, written_next}
 use Rattle.grids.proofs.merges.raise_both.Goals as goal
 
 pub loop-r-init : goal.loop-r-init
@@ -9,17 +8,19 @@ pub loop-r-preserved : goal.loop-r-preserved
 loop-r-preserved g c =
     let number = g.N.Number.number in
     let lt = c.loop-r-test.true in
-    let first = number-waits _ _ number c.loop-r.first c.loop-r.r c.index-first-r.result c.loop-r.invariant.first (omega (arith, lt, c.loop-r.auto.first)) c.index-first-r.is in
-    let second = number-waits _ _ number c.loop-r.second c.loop-r.r c.index-second-r.result c.loop-r.invariant.second (omega (arith, lt, c.requires.second, c.loop-r.auto.second)) c.index-second-r.is in
+    let first = number-waits _ _ number c.loop-r.first c.loop-r.r c.index-first-r.result c.loop-r.invariant.first (omega arith) c.index-first-r.is in
+    let second = number-waits _ _ number c.loop-r.second c.loop-r.r c.index-second-r.result c.loop-r.invariant.second (omega arith) c.index-second-r.is in
     record {
-      first = written_next _ _ number _ _ c.max_with.result c.loop-r.invariant.first (omega (arith, lt, length-map c.args.first.now number)) (c.max_with.ensures ∙ (λ i. max (first i) (second i)));
+      first =
+          written_next _ _ number _ _ c.max_with.result c.loop-r.invariant.first (omega (arith, length-map c.args.first.now number))
+          (c.max_with.ensures ∙ (λ i. max (first i) (second i)));
       second =
-          written_next _ _ number _ _ c.max_with-in-loop-r.result c.loop-r.invariant.second (omega (arith, lt, c.requires.second, length-map c.args.second.now number))
+          written_next _ _ number _ _ c.max_with-in-loop-r.result c.loop-r.invariant.second (omega (arith, length-map c.args.second.now number))
           (c.max_with-in-loop-r.ensures ∙ (λ i. max (second i) (first i)));
     }
 
 pub returns : goal.returns
 returns g c = record {
-  first = changed_all _ _ _ _ c.loop-r.invariant.first (omega (arith, c.loop-r-test.false, length-map c.args.first.now g.N.Number.number));
-  second = changed_all _ _ _ _ c.loop-r.invariant.second (omega (arith, c.loop-r-test.false, c.requires.second, length-map c.args.second.now g.N.Number.number));
+  first = changed_all _ _ _ _ c.loop-r.invariant.first (omega (arith, length-map c.args.first.now g.N.Number.number));
+  second = changed_all _ _ _ _ c.loop-r.invariant.second (omega (arith, length-map c.args.second.now g.N.Number.number));
 }

@@ -1,12 +1,10 @@
-use Rattle.grids.proofs.Common.{sym, ◌∙◌, arith, ltb-false, ltb-true}
-use Rattle.planes.proofs.Elementwise.{number-at}
-use Rattle.planes.proofs.Counts.{sum_whole}
-use Rattle.grids.proofs.ByOwner.{come-none, come-next, come-passed, come-fits, owners-all}
+use Rattle.grids.proofs.Common.{refl, owners-fit, sym, ◌∙◌, arith, ltb-false, ltb-true, number-at, sum_whole}
+use Rattle.grids.proofs.ByOwner.{come-next, come-passed, owners-none, owners-all}
 use Rattle.grids.proofs.owners.merge_owners.Goals as goal
 use Rattle.grids.proofs.owners.merge_owners.Goals.{then-is_above, else-is_above+then-is_above-2, else-is_above+else-is_above-2}
 
 pub loop-owner-init : goal.loop-owner-init
-loop-owner-init g c = record { first = come-none _ _ _ _ _; second = come-none _ _ _ _ _ }
+loop-owner-init g c = record { first = record { cells = owners-none _ _ _ _; count = refl }; second = record { cells = owners-none _ _ _ _; count = refl } }
 
 pub loop-owner-preserved : goal.loop-owner-preserved
 loop-owner-preserved g c =
@@ -15,36 +13,42 @@ loop-owner-preserved g c =
     let lt = c.loop-owner-test.true in
     let first = c.loop-owner.invariant.first in
     let second = c.loop-owner.invariant.second in
-    let at_first = number-at number c.args.marks.first.now owner c.index-first_low-owner.result (omega (arith, lt, c.requires.marked.first_low)) c.index-first_low-owner.is in
-    let at_second = number-at number c.args.marks.second.now owner c.index-second_low-owner.result (omega (arith, lt, c.requires.marked.second_low)) c.index-second_low-owner.is in
+    let at_first = number-at number c.args.marks.first.now owner c.index-first_low-owner.result (omega arith) c.index-first_low-owner.is in
+    let at_second = number-at number c.args.marks.second.now owner c.index-second_low-owner.result (omega arith) c.index-second_low-owner.is in
     let first_passes = come-passed _ _ _ _ _ owner _ _ _ first (c.requires.marked.second_covered owner lt) in
     let second_passes = come-passed _ _ _ _ _ owner _ _ _ second (c.requires.marked.first_covered owner lt) in
     elim c.if-is_above.branch [
       | then-is_above w ↦ rw (w.first-is, w.second-is, w.to_first-is, w.to_second-is) (record {
         first = come-next _ _ _ _ _ number owner _ _ _ _ _ _ _ _ lt second first at_first w.raise_owner-to_first.ensures;
-        second = second_passes (omega (arith, at_first, at_second, ltb-true _ _ (sym c.is_above.ensures ∙ w.if-is_above.true)));
+        second = second_passes (omega (arith, ltb-true _ _ (sym c.is_above.ensures ∙ w.if-is_above.true)));
       })
       | else-is_above+then-is_above-2 w ↦ rw (w.first-is, w.second-is, w.to_first-is, w.to_second-is) (record {
-        first = first_passes (omega (arith, at_first, at_second, ltb-false _ _ (sym c.is_above.ensures ∙ w.if-is_above.false)));
+        first = first_passes (omega (arith, ltb-false _ _ (sym c.is_above.ensures ∙ w.if-is_above.false)));
         second = come-next _ _ _ _ _ number owner _ _ _ _ _ _ _ _ lt first second at_second w.raise_owner-to_second.ensures;
       })
       | else-is_above+else-is_above-2 w ↦ rw (w.first-is, w.second-is, w.to_first-is, w.to_second-is) (record {
-        first = first_passes (omega (arith, at_first, at_second, ltb-false _ _ (sym c.is_above.ensures ∙ w.if-is_above.false)));
-        second = second_passes (omega (arith, at_first, at_second, ltb-false _ _ (sym w.is_above-else-is_above.ensures ∙ w.if-is_above-2.false)));
+        first = first_passes (omega (arith, ltb-false _ _ (sym c.is_above.ensures ∙ w.if-is_above.false)));
+        second = second_passes (omega (arith, ltb-false _ _ (sym w.is_above-else-is_above.ensures ∙ w.if-is_above-2.false)));
       })
     ]
 
 pub overflow_add-to_first : goal.overflow_add-to_first
 overflow_add-to_first g c =
-    let at_first = number-at g.N.Number.number c.args.marks.first.now c.loop-owner.owner c.index-first_low-owner.result (omega (arith, c.loop-owner-test.true, c.requires.marked.first_low)) c.index-first_low-owner.is in
-    come-fits _ _ _ _ _ c.loop-owner.owner _ _ _ c.requires.marked.grid c.loop-owner-test.true
-    (come-next _ _ _ _ _ g.N.Number.number _ _ _ _ _ _ _ _ _ c.loop-owner-test.true c.loop-owner.invariant.second c.loop-owner.invariant.first at_first c.raise_owner-to_first.ensures)
+    let number = g.N.Number.number in
+    let held = c.loop-owner.invariant in
+    let lt = c.loop-owner-test.true in
+    let at_first = number-at number c.args.marks.first.now c.loop-owner.owner c.index-first_low-owner.result (omega arith) c.index-first_low-owner.is in
+    owners-fit _ _ _ _ _ c.loop-owner.owner _ c.requires.marked.grid lt
+    (come-next _ _ _ _ _ number _ _ _ _ _ _ _ _ _ lt held.second held.first at_first c.raise_owner-to_first.ensures).count
 
 pub overflow_add-to_second : goal.overflow_add-to_second
 overflow_add-to_second g c =
-    let at_second = number-at g.N.Number.number c.args.marks.second.now c.loop-owner.owner c.index-second_low-owner.result (omega (arith, c.loop-owner-test.true, c.requires.marked.second_low)) c.index-second_low-owner.is in
-    come-fits _ _ _ _ _ c.loop-owner.owner _ _ _ c.requires.marked.grid c.loop-owner-test.true
-    (come-next _ _ _ _ _ g.N.Number.number _ _ _ _ _ _ _ _ _ c.loop-owner-test.true c.loop-owner.invariant.first c.loop-owner.invariant.second at_second c.raise_owner-to_second.ensures)
+    let number = g.N.Number.number in
+    let held = c.loop-owner.invariant in
+    let lt = c.loop-owner-test.true in
+    let at_second = number-at number c.args.marks.second.now c.loop-owner.owner c.index-second_low-owner.result (omega arith) c.index-second_low-owner.is in
+    owners-fit _ _ _ _ _ c.loop-owner.owner _ c.requires.marked.grid lt
+    (come-next _ _ _ _ _ number _ _ _ _ _ _ _ _ _ lt held.first held.second at_second c.raise_owner-to_second.ensures).count
 
 pub returns : goal.returns
 returns g c = record {

@@ -4,9 +4,11 @@ use Rattle.grids.proofs.owners.merge_owners.Given as goal
 
 abbrev pub invariant-loop-owner : goal.invariant-loop-owner
 invariant-loop-owner g l =
-    let one = map g.N.Number.number l.initial.first in
-    let other = map g.N.Number.number l.initial.second in
+    let number = g.N.Number.number in
+    let size = l.marks.size in
+    let one = map number l.initial.first in
+    let other = map number l.initial.second in
     record {
-      first : HaveCome l.marks.size.nodes l.marks.size.keys other (slice_index (map g.N.Number.number l.marks.first.now)) one (map g.N.Number.number l.first) l.owner l.to_first;
-      second : HaveCome l.marks.size.nodes l.marks.size.keys one (slice_index (map g.N.Number.number l.marks.second.now)) other (map g.N.Number.number l.second) l.owner l.to_second;
+      first : HaveCome size.nodes size.keys other (slice_index (map number l.marks.first.now)) one (map number l.first) l.owner l.to_first;
+      second : HaveCome size.nodes size.keys one (slice_index (map number l.marks.second.now)) other (map number l.second) l.owner l.to_second;
     }

@@ -1,7 +1,4 @@
-use Rattle.grids.proofs.Common.{◌≡◌, ℕ, ◌+◌, ◌*◌, ◌<◌, nat_lt, max, refl, sym, ◌∙◌, arith, rules, map, length, if◌then◌else◌, length-map, get_or-map, cell}
-use Rattle.planes.proofs.Elementwise.{number-at}
-use Rattle.planes.proofs.Counts.{count_le, sum_next}
-use Rattle.planes.proofs.Places.{plane-within, planes-none, planes-all}
+use Rattle.grids.proofs.Common.{◌≡◌, ℕ, ◌+◌, ◌*◌, ◌<◌, nat_lt, max, refl, sym, ◌∙◌, arith, rules, map, length, if◌then◌else◌, length-map, get_or-map, cell, number-at, count_le, sum_next, plane-within, planes-none, planes-all}
 use Rattle.grids.proofs.ByOwner.{owner-next}
 use Rattle.grids.proofs.owners.raise_owner.Goals as goal
 
@@ -11,7 +8,7 @@ loop-key-init g c = record { cells = planes-none _ _ _; count = refl }
 pub offset_bounds-cells-key : goal.offset_bounds-cells-key
 offset_bounds-cells-key g c =
     let inside : c.loop-key.key * c.args.others.size.nodes + c.args.owner < length c.loop-key.cells =
-    omega (arith, c.requires.within, c.loop-key.auto.cells, plane-within c.args.others.size.nodes c.args.others.size.keys (length c.args.cells.now) c.loop-key.key c.requires.beside.shape c.loop-key-test.true) in
+    omega (arith, plane-within _ _ _ c.loop-key.key c.requires.0.shape c.loop-key-test.true) in
     search rules
 
 pub loop-key-preserved : goal.loop-key-preserved
@@ -19,23 +16,25 @@ loop-key-preserved g c =
     let number = g.N.Number.number in
     let low = number c.args.low in
     let place : ℕ = c.loop-key.key * c.args.others.size.nodes + c.args.owner in
-    let within = plane-within c.args.others.size.nodes c.args.others.size.keys (length c.args.cells.now) c.loop-key.key c.requires.beside.shape c.loop-key-test.true in
-    let other = number-at number c.args.others.cells.now place c.index-numbers-key.result (omega (arith, within, c.requires.within, c.requires.beside.count)) c.index-numbers-key.is in
-    let at_cell = sym (get_or-map number c.loop-key.cells place c.index-cells-key.result 0 (omega (arith, within, c.requires.within, c.loop-key.auto.cells))) ∙ c.loop-key.invariant.cells.from place (omega arith) in
+    let within = plane-within _ _ _ c.loop-key.key c.requires.0.shape c.loop-key-test.true in
+    let other = number-at number c.args.others.cells.now place c.index-numbers-key.result (omega arith) c.index-numbers-key.is in
+    let held = c.loop-key.invariant in
+    let at_cell = sym (get_or-map number c.loop-key.cells place c.index-cells-key.result 0 (omega arith)) ∙ held.cells.from place (omega arith) in
     let above = c.is_above-is_above.ensures ∙ (λ i. nat_lt low (other i)) in
     let bit : c.from-count.result ≡ (if c.is_above-is_above.result then 1 else 0) = search rules in
     record {
       cells =
-          owner-next _ _ _ _ c.requires.within number _ c.loop-key.key c.raised_to.result c.loop-key.invariant.cells (omega (arith, within, length-map c.args.cells.now number))
+          owner-next _ _ _ _ c.requires.1 number _ c.loop-key.key c.raised_to.result held.cells (omega (arith, length-map c.args.cells.now number))
           (c.raised_to.ensures ∙ (λ i. max (at_cell i) (if above i then other i else 0)));
-      count = sum_next _ c.loop-key.key c.loop-key.count c.from-count.result c.loop-key.invariant.count (bit ∙ (λ i. if above i then 1 else 0));
+      count = sum_next _ c.loop-key.key c.loop-key.count c.from-count.result held.count (bit ∙ (λ i. if above i then 1 else 0));
     }
 
 pub overflow_add-count : goal.overflow_add-count
 overflow_add-count g c =
-    omega (arith, (loop-key-preserved g c).count, count_le (c.loop-key.key + 1) (λ k. nat_lt (g.N.Number.number c.args.low) (cell (map g.N.Number.number c.args.others.cells.now) c.args.others.size.nodes c.args.owner k)), c.loop-key-test.true, c.requires.beside.shape.few_keys)
+    let others = cell (map g.N.Number.number c.args.others.cells.now) c.args.others.size.nodes in
+    omega (arith, (loop-key-preserved g c).count, count_le (c.loop-key.key + 1) (λ k. nat_lt (g.N.Number.number c.args.low) (others c.args.owner k)))
 
 pub returns : goal.returns
 returns g c =
-    let all : c.loop-key.key ≡ c.args.others.size.keys = omega (arith, c.loop-key-test.false, c.loop-key.auto.key-end) in
-    record { cells = planes-all _ _ _ _ c.args.others.size.keys c.loop-key.key c.loop-key.invariant.cells c.loop-key-test.false; count = rw (← all) c.loop-key.invariant.count }
+    let all : c.loop-key.key ≡ c.args.others.size.keys = omega arith in
+    record { cells = planes-all _ _ _ _ _ c.loop-key.key c.loop-key.invariant.cells c.loop-key-test.false; count = rw (← all) c.loop-key.invariant.count }

@@ -1,14 +1,12 @@
-use Rattle.grids.proofs.Common.{◌≡◌, ℕ, ◌+◌, ◌*◌, ◌<◌, ◌&&◌, nat_lt, nat_le, slice_index, max, sym, ap, ◌∙◌, arith, rules, map, length, length-map, get_or-map, cell}
-use Rattle.planes.proofs.Elementwise.{number-at}
-use Rattle.planes.proofs.Places.{plane-within, planes-none, planes-all, raised-none, raised-next}
-use Rattle.grids.proofs.ByOwner.{owner-next, owner-stays, taken-none, taken-some}
+use Rattle.grids.proofs.Common.{number_taken, ◌≡◌, ℕ, ◌+◌, ◌*◌, ◌<◌, ◌&&◌, nat_lt, nat_le, slice_index, max, cond, sym, ap, ◌∙◌, arith, rules, map, length, length-map, get_or-map, cell, number-at, plane-within, planes-none, planes-all, raised-none, raised-next}
+use Rattle.grids.proofs.ByOwner.{owner-next, owner-stays}
 use Rattle.grids.proofs.owners.take_owner.Goals as goal
 use Rattle.grids.proofs.owners.take_owner.Goals.{then-is_between, else-is_between}
 
 pub offset_bounds-cells-key : goal.offset_bounds-cells-key
 offset_bounds-cells-key g c =
     let inside : c.loop-key.key * c.args.sent.grid.size.nodes + c.args.owner < length c.loop-key.cells =
-    omega (arith, c.requires.within, c.loop-key.auto.cells, plane-within c.args.sent.grid.size.nodes c.args.sent.grid.size.keys (length c.args.cells.now) c.loop-key.key c.requires.beside.shape c.loop-key-test.true) in
+    omega (arith, plane-within _ _ _ c.loop-key.key c.requires.beside.shape c.loop-key-test.true) in
     search rules fits 10000
 
 pub loop-key-preserved : goal.loop-key-preserved
@@ -17,27 +15,29 @@ loop-key-preserved g c =
     let key = c.loop-key.key in
     let low = slice_index (map number c.args.sent.low.now) c.args.owner in
     let high = slice_index (map number c.args.sent.high.now) c.args.owner in
-    let at_low = sym (get_or-map number c.args.sent.low.now c.args.owner c.index-sent-owner.result 0 (omega (arith, c.requires.within, c.requires.low_count))) in
-    let at_high = sym (get_or-map number c.args.sent.high.now c.args.owner c.index-sent-owner-2.result 0 (omega (arith, c.requires.within, c.requires.high_count))) in
+    let at_low = sym (get_or-map number c.args.sent.low.now c.args.owner c.index-sent-owner.result 0 (omega arith)) in
+    let at_high = sym (get_or-map number c.args.sent.high.now c.args.owner c.index-sent-owner-2.result 0 (omega arith)) in
     let was = cell (map number c.args.cells.now) c.args.sent.grid.size.nodes c.args.owner key in
     let sent = cell (map number c.args.sent.grid.cells.now) c.args.sent.grid.size.nodes c.args.owner key in
     let place : ℕ = key * c.args.sent.grid.size.nodes + c.args.owner in
-    let within = plane-within c.args.sent.grid.size.nodes c.args.sent.grid.size.keys (length c.args.cells.now) key c.requires.beside.shape c.loop-key-test.true in
-    let at_sent = number-at number c.args.sent.grid.cells.now place c.index-numbers-key.result (omega (arith, within, c.requires.within, c.requires.beside.count)) c.index-numbers-key.is in
+    let held = c.loop-key.invariant in
+    let within = plane-within _ _ _ key c.requires.beside.shape c.loop-key-test.true in
+    let at_sent = number-at number c.args.sent.grid.cells.now place c.index-numbers-key.result (omega arith) c.index-numbers-key.is in
     let between = sym (c.is_between.ensures ∙ (λ i. nat_lt (at_low i) (at_sent i) && nat_le (at_sent i) (at_high i))) in
     elim c.if-is_between.branch [
       | then-is_between w ↦
-          let at_cell = sym (get_or-map number c.loop-key.cells place w.index-cells-key.result 0 (omega (arith, within, c.requires.within, c.loop-key.auto.cells))) ∙ c.loop-key.invariant.cells.from place (omega arith) in
-          let raised = w.max_with-raised.ensures ∙ (λ i. max (at_cell i) (at_sent i)) ∙ sym (taken-some was sent low high (between ∙ w.if-is_between.true)) in
+          let at_cell = sym (get_or-map number c.loop-key.cells place w.index-cells-key.result 0 (omega arith)) ∙ held.cells.from place (omega arith) in
+          let taken = ap (λ b. max was (cond b sent 0)) (between ∙ w.if-is_between.true) in
+          let raised = w.max_with-raised.ensures ∙ (λ i. max (at_cell i) (at_sent i)) ∙ sym taken in
           rw (w.cells-is, w.greatest-is) (record {
-            cells = owner-next _ _ _ _ c.requires.within number _ key w.max_with-raised.result c.loop-key.invariant.cells (omega (arith, within, length-map c.args.cells.now number)) raised;
-            greatest = raised-next _ key _ _ _ _ c.loop-key.invariant.greatest (w.max_with-greatest.ensures ∙ ap (max (number c.loop-key.greatest)) raised);
+            cells = owner-next _ _ _ _ c.requires.within number _ key _ held.cells (omega (arith, length-map c.args.cells.now number)) raised;
+            greatest = raised-next _ key _ _ _ _ held.greatest (w.max_with-greatest.ensures ∙ ap (max (number c.loop-key.greatest)) raised);
           })
       | else-is_between w ↦
-          let none = taken-none was sent low high (between ∙ w.if-is_between.false) in
+          let none : number_taken was sent low high ≡ was = ap (λ b. max was (cond b sent 0)) (between ∙ w.if-is_between.false) ∙ omega arith in
           rw (w.cells-is, w.greatest-is) (record {
-            cells = owner-stays _ _ _ _ c.requires.within _ key c.loop-key.invariant.cells none;
-            greatest = raised-next _ key _ _ _ _ c.loop-key.invariant.greatest (omega (arith, none, c.requires.covered key c.loop-key-test.true, c.loop-key.invariant.greatest.rises));
+            cells = owner-stays _ _ _ _ c.requires.within _ key held.cells none;
+            greatest = raised-next _ key _ _ _ _ held.greatest (omega (arith, c.requires.covered key c.loop-key-test.true));
           })
     ]
 
@@ -46,5 +46,5 @@ loop-key-init g c = record { cells = planes-none _ _ _; greatest = raised-none _
 
 pub returns : goal.returns
 returns g c =
-    let all : c.loop-key.key ≡ c.args.sent.grid.size.keys = omega (arith, c.loop-key-test.false, c.loop-key.auto.key-end) in
-    record { cells = planes-all _ _ _ _ c.args.sent.grid.size.keys c.loop-key.key c.loop-key.invariant.cells c.loop-key-test.false; greatest = rw (← all) c.loop-key.invariant.greatest }
+    let all : c.loop-key.key ≡ c.args.sent.grid.size.keys = omega arith in
+    record { cells = planes-all _ _ _ _ _ c.loop-key.key c.loop-key.invariant.cells c.loop-key-test.false; greatest = rw (← all) c.loop-key.invariant.greatest }

@@ -1,5 +1,4 @@
-use Rattle.grids.proofs.Common.{ℕ, ◌≤◌, inl, refl, slice_index, sym, ◌∙◌, arith, map, ltb-false, length-map, cell, number_taken}
-use Rattle.planes.proofs.Elementwise.{changed_none, number-at, number-waits, left_next, written_next}
+use Rattle.grids.proofs.Common.{ℕ, ◌≤◌, inl, refl, slice_index, sym, ◌∙◌, arith, map, ltb-false, length-map, cell, taken_by, changed_none, number-at, number-waits, left_next, written_next}
 use Rattle.grids.proofs.ByOwner.{owner-waits, owners-none, owners-next, owners-stay, owners-all, raised-same, taken-passed}
 use Rattle.grids.proofs.owners.take_owners.Goals as goal
 use Rattle.grids.proofs.owners.take_owners.Goals.{then-is_above, else-is_above}
@@ -17,24 +16,29 @@ loop-owner-preserved g c =
     let sent = cell (map number c.args.sent.grid.cells.now) c.args.sent.grid.size.nodes owner in
     elim c.if-is_above.branch [
       | then-is_above w ↦
-          let had = number-waits _ _ number c.loop-owner.greatest owner w.index-greatest-owner.result held.greatest (omega (arith, lt, c.requires.may.greatest_count, c.loop-owner.auto.greatest)) w.index-greatest-owner.is in
+          let had = number-waits _ _ number c.loop-owner.greatest owner w.index-greatest-owner.result held.greatest (omega arith) w.index-greatest-owner.is in
           let waits = owner-waits _ _ _ _ owner _ held.cells in
           rw (w.cells-is, w.greatest-is) (record {
             cells = owners-next _ _ _ _ owner _ _ _ held.cells w.take_owner.ensures.cells (λ k x. refl);
             greatest =
-                written_next _ _ number _ owner _ held.greatest (omega (arith, lt, c.requires.may.greatest_count, length-map c.args.greatest.now number))
-                (rw (← had) (raised-same _ _ _ owner _ _ (λ k in_keys i. number_taken (waits k lt in_keys i) (sent k) (slice_index (map number c.args.sent.low.now) owner) (slice_index (map number c.args.sent.high.now) owner)) w.take_owner.ensures.greatest));
+                written_next _ _ number _ owner _ held.greatest (omega (arith, length-map c.args.greatest.now number))
+                (rw (← had)
+                (raised-same _ _ _ owner _ _ (λ k in_keys i. taken_by number c.args.sent owner k (waits k lt in_keys i)) w.take_owner.ensures.greatest));
           })
       | else-is_above w ↦
-          let low = number-at number c.args.sent.low.now owner c.index-low-owner.result (omega (arith, lt, c.requires.may.low_count)) c.index-low-owner.is in
-          let high = number-at number c.args.sent.high.now owner c.index-high-owner.result (omega (arith, lt, c.requires.may.high_count)) c.index-high-owner.is in
-          let le : slice_index (map number c.args.sent.high.now) owner ≤ slice_index (map number c.args.sent.low.now) owner = omega (arith, low, high, ltb-false _ _ (sym c.is_above.ensures ∙ w.if-is_above.false)) in
+          let low = number-at number c.args.sent.low.now owner c.index-low-owner.result (omega arith) c.index-low-owner.is in
+          let high = number-at number c.args.sent.high.now owner c.index-high-owner.result (omega arith) c.index-high-owner.is in
+          let le : slice_index (map number c.args.sent.high.now) owner ≤ slice_index (map number c.args.sent.low.now) owner =
+          omega (arith, ltb-false _ _ (sym c.is_above.ensures ∙ w.if-is_above.false)) in
           let none = (λ (k x : ℕ). taken-passed x (sent k) _ _ le) in
           rw (w.cells-is, w.greatest-is) (record {
             cells = owners-stay _ _ _ _ owner _ held.cells (λ k x in_keys. none k x);
             greatest =
-                left_next _ _ _ owner held.greatest
-                (record { rises = omega arith; upto = λ k in_keys. omega (arith, none k (cells k), c.requires.may.covered owner lt k in_keys); from = inl refl });
+                left_next _ _ _ owner held.greatest (record {
+                  rises = omega arith;
+                  upto = λ k in_keys. omega (arith, none k (cells k), c.requires.may.covered owner lt k in_keys);
+                  from = inl refl;
+                });
           })
     ]
 
@@ -42,16 +46,17 @@ pub take_owner-requires : goal.take_owner-requires
 take_owner-requires g c =
     let lt = c.loop-owner-test.true in
     let held = c.loop-owner.invariant in
-    let had = number-waits _ _ g.N.Number.number c.loop-owner.greatest c.loop-owner.owner c.index-greatest-owner.result held.greatest (omega (arith, lt, c.requires.may.greatest_count, c.loop-owner.auto.greatest)) c.index-greatest-owner.is in
+    let r = c.loop-owner.owner in
+    let had = number-waits _ _ g.N.Number.number c.loop-owner.greatest r c.index-greatest-owner.result held.greatest (omega arith) c.index-greatest-owner.is in
     record {
       beside = record {
         shape = rw c.loop-owner.auto.cells c.requires.may.beside.shape;
-        count = omega (arith, c.requires.may.beside.count, c.loop-owner.auto.cells);
+        count = omega arith;
       };
       within = lt;
       low_count = c.requires.may.low_count;
       high_count = c.requires.may.high_count;
-      covered = λ k in_keys. omega (arith, had, owner-waits _ _ _ _ c.loop-owner.owner _ held.cells k lt in_keys, c.requires.may.covered c.loop-owner.owner lt k in_keys);
+      covered = λ k in_keys. omega (arith, owner-waits _ _ _ _ r _ held.cells k lt in_keys, c.requires.may.covered r lt k in_keys);
     }
 
 pub returns : goal.returns
@@ -59,6 +64,6 @@ returns g c = record {
   cells = owners-all _ _ _ _ c.loop-owner.owner _ c.loop-owner-test.false c.loop-owner.invariant.cells;
   greatest = record {
     size = c.loop-owner.invariant.greatest.size ∙ length-map c.args.greatest.now g.N.Number.number ∙ c.requires.may.greatest_count;
-    each = λ r lt. c.loop-owner.invariant.greatest.below r (omega (arith, lt, c.loop-owner-test.false));
+    each = λ r lt. c.loop-owner.invariant.greatest.below r (omega arith);
   };
 }

@@ -44,9 +44,6 @@ loop-key-init g c = record {
   };
 }
 
-pub overflow_add-key : goal.overflow_add-key
-overflow_add-key g c = omega (arith, c.loop-key.invariant.upto, c.requires.marked.shape.few_keys)
-
 pub count_two-requires-clause-room : goal.count_two-requires-clause-room
 count_two-requires-clause-room g c =
     has_room g.N.Number.number c.args.grid.cells.now c.args.low.now c.args.high.now c.args.grid.size.nodes c.args.first _ _ 2 _ _ c.loop-key.invariant.each

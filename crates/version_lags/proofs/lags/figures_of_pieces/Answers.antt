@@ -1,36 +1,34 @@
-use Rattle.version_lags.proofs.Common.{◌≡◌, ◌+◌, ◌-◌, length, slice_index, refl, sym, ap, ◌∙◌, subst, arith, IfOk-at_ok}
+use Rattle.version_lags.proofs.Common.{◌≡◌, ◌+◌, ◌-◌, length, slice_index, refl, sym, subst, arith, IfOk-at_ok, HasCounted}
 use Rattle.std.proofs.lemmas.Option.{slice_get_read}
-use Rattle.version_lags.specs.Pieces.{ArePieces, HasCounted}
+use Rattle.version_lags.specs.Pieces.{ArePieces}
 use Rattle.version_lags.proofs.Parts.{grids-of}
 use Rattle.version_lags.proofs.lags.figures_of_pieces.Given as given
 use Rattle.version_lags.proofs.lags.figures_of_pieces.Goals as goal
 
 pub loop-counted-init : goal.loop-counted-init
 loop-counted-init g c are =
-    subst (λ n. HasCounted g.N.Number.number c.args.numbers.now 0 n c.in_ok-whole.whole) (sym are.are.begins) (c.in_ok-whole.ensures.none 0)
-
-pub take_in-requires-clause-grids : goal.take_in-requires-clause-grids
-take_in-requires-clause-grids g c =
-    let are = c.requires.are.1 in
-    grids-of g.N.Number.number c.args.numbers.now c.requires.are.0 are.may.together are.are
+    subst (λ n. HasCounted g.N.Number.number c.args.numbers.now 0 n c.in_ok-whole.whole) (sym are.are.begins) (c.in_ok-whole.ensures.0 0)
 
 -- the next one was counted
 next : (g : given.Over) (c : goal.After-whole-in-loop-counted-1 g) (are : ArePieces g.N.Number.number c.args.numbers.now c.args.pieces.now)
-    → HasCounted g.N.Number.number c.args.numbers.now (slice_index are.bounds c.loop-counted.counted-index) (slice_index are.bounds (c.loop-counted.counted-index + 1)) c.in-Ok.piece
+    → let i = c.loop-counted.counted-index in
+    HasCounted g.N.Number.number c.args.numbers.now (slice_index are.bounds i) (slice_index are.bounds (i + 1)) c.in-Ok.piece
 next g c are =
     let i = c.loop-counted.counted-index in
+    let read = slice_get_read c.args.pieces.now (length c.args.pieces.now) i c.counted-item.result refl c.loop-counted-test.true c.counted-item.is in
     IfOk-at_ok (HasCounted g.N.Number.number c.args.numbers.now (slice_index are.bounds i) (slice_index are.bounds (i + 1))) c.in-Ok.is
-    (are.each i c.counted-item.result (slice_get_read c.args.pieces.now (length c.args.pieces.now) i c.counted-item.result refl c.loop-counted-test.true c.counted-item.is)).0
+    (are.each i c.counted-item.result read).0
 
-pub take_in-requires-clause-both : goal.take_in-requires-clause-both
-take_in-requires-clause-both g c =
+pub take_in-requires : goal.take_in-requires
+take_in-requires g c =
     let are = c.requires.pieces in
     let i = c.loop-counted.counted-index in
     record {
+      grids = grids-of g.N.Number.number g.N.Number.most c.args.numbers.now c.requires.are.0 c.requires.are.1;
       from = 0;
       mid = slice_index are.bounds i;
       to = slice_index are.bounds (i + 1);
-      part = are.are.parts i (omega (arith, c.loop-counted-test.true, are.one_each));
+      part = are.are.parts i (omega arith);
       first = c.loop-counted.invariant are;
       second = next g c are;
     }
@@ -38,8 +36,9 @@ take_in-requires-clause-both g c =
 pub loop-counted-preserved : goal.loop-counted-preserved
 loop-counted-preserved g c are = c.take_in.ensures 0 _ _ (c.loop-counted.invariant are) (next g c.before are)
 
-pub figures-requires-clause-whole : goal.figures-requires-clause-whole
-figures-requires-clause-whole g c =
+pub figures-requires : goal.figures-requires
+figures-requires g c =
     let are = c.requires.pieces in
-    let last : c.loop-counted.counted-index ≡ length are.bounds - 1 = omega (arith, c.loop-counted-test.false, c.loop-counted.auto.counted-index-end, are.one_each) in
-    subst (λ n. HasCounted g.N.Number.number c.args.numbers.now 0 n c.loop-counted.whole) (ap (slice_index are.bounds) last ∙ are.are.ends) (c.loop-counted.invariant are)
+    let last : c.loop-counted.counted-index ≡ length are.bounds - 1 =
+    omega arith in
+    record { tables = c.requires.are.0; are = c.requires.are.1; whole = rw (last, are.are.ends) at (c.loop-counted.invariant are) }

@@ -14,4 +14,4 @@ returns-clause-figures g c =
     let beside = c.numbers_of.ensures c.args.tables.now c.requires (subst (λ xs. AreCellsOf written c.args.tables.now (numbers_in g.N.Number.number xs)) (sym c.deref.ensures.value) c.in_ok-cells.ensures.cells) in
     IfOk-weaker c.figures.result _ (λ f. f ≡ figures_of c.args.histories.now.rounds tables (lists_in c.args.histories.now.lists))
     (λ f all. all tables beside.are ∙ ap (λ (k : HistoriesView). figures_of k.rounds tables (lists_in k.lists)) beside.histories)
-    c.figures.ensures.figures
+    c.figures.ensures.0

@@ -1,5 +1,5 @@
 use Rattle.version_lags.proofs.Common.{◌≤◌, map, cell, base_of, NonePassUpto}
-use Rattle.version_lags.proofs.lags.Lags.lag_of_owner.Given as goal
+use Rattle.version_lags.proofs.lags.lag_of_owner.Given as goal
 
 abbrev pub invariant-loop-place : goal.invariant-loop-place
 invariant-loop-place g l = record {

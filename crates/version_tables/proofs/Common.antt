@@ -12,7 +12,7 @@ pub use Rattle.std.proofs.lemmas.Nat.{same_from_place}
 pub use Rattle.std.proofs.lemmas.Option.{none-some, same_Some}
 pub use Rattle.std.proofs.lemmas.Result.{IfOk-weaker, on_ok_weaker}
 pub use Rattle.std.specs.FinMap.{empty, entries, len-entries}
-pub use Rattle.std.specs.Prelude.{Contains, count_by, ◌||◌}
+pub use Rattle.std.specs.Prelude.{Contains, count_by, take, ◌||◌}
 pub use Rattle.bench_types.specs.declared.limits.TheConstants.{MOST_ROUNDS}
 pub use Rattle.delta_plans.proofs.Candidates.{IsOffered, candidate-number, candidate-place, items_sum}
 pub use Rattle.delta_plans.proofs.DeltaMarks.{are-sent, count-cut, count-sent, lets, shared-sent, whole-sent}
@@ -49,11 +49,11 @@ pub use Rattle.grids.specs.Grids.{number_kept}
 pub use Rattle.planes.proofs.Places.{grid-within, planes-written, total-places}
 pub use Rattle.planes.specs.Planes.{ArePlanesChanged, ArePlanesChangedUpto, Cells, HasEach, HasEachPlace, HasNoneAbove, IsGrid, IsRaised, cell, count_between, most_ahead, numbers_taken, total_above}
 pub use Rattle.grids.specs.declared.merges.BothCounts.{BothCounts}
-pub use Rattle.round_tables.specs.Histories.{AreWrittenBy, HistoriesView, HistoryBecomes, KeepLimits, round_ended}
+pub use Rattle.round_tables.specs.Histories.{AreWrittenBy, HistoriesView, HistoryBecomes, KeepLimits, StandAtRoundEnd, StandsAmong, round_ended}
 pub use Rattle.version_lags.proofs.Missed.{current-numbered}
-pub use Rattle.version_lags.specs.Pieces.{AreNumbersAt, AreNumbersOf, AreRoundNumbers, MayBeCounted, StandTogether, numbers_at, numbers_in}
+pub use Rattle.version_lags.specs.Pieces.{AreNumbersAt, AreNumbersOf, AreRoundNumbers, MayBeCounted, numbers_at, numbers_in}
 pub use Rattle.version_tables.specs.Views.{AreSizes, HasOwnWrite, IsNextWrite, IsFirst, IsGreatest, IsKept, IsNumberOf, VersionTableView, entries_below, table_in, with_entry}
-pub use Rattle.version_tables.specs.inner.Beside.{AreAtRoundEnd, AreCellsOf, AreCellsUpto, tables_of_views, view_at}
+pub use Rattle.version_tables.specs.inner.Beside.{AreCellsOf, AreNumbersBeside}
 pub use Rattle.version_tables.specs.inner.Deltas.{AreLaidBoth, AreMarksOf, AreOfOneSize, delta_of_views, is_taken_at}
 pub use Rattle.version_tables.specs.inner.Histories.{AreHistories, AreKnown, AreNoWrites, AreOwners, IsBeginning, IsReadyExchange, IsWriteUnder, IsWrittenSoFar, bases_in}
 pub use Rattle.version_tables.specs.inner.Merged.{BothStayMerged, HasMerged, HaveMerged, MayMerge, MayTakeAll}

@@ -1,15 +1,12 @@
-use Rattle.version_tables.proofs.Common.{length, sym, ap, ◌∙◌, subst, numbers_in, AreCellsOf, HistoriesView}
+use Rattle.version_tables.proofs.Common.{length, sym, ap, ◌∙◌, subst, HistoriesView}
 use Rattle.version_lags.specs.Bounds.{AreBounds}
 use Rattle.version_tables.proofs.ended.figures_of_answers.Goals as goal
 
 pub figures_of_pieces-requires-clause-pieces : goal.figures_of_pieces-requires-clause-pieces
 figures_of_pieces-requires-clause-pieces g c =
     let pieces = c.requires.pieces in
-    let written = g.H.Written.lists in
-    let tables = c.args.ended.now.tables.items in
-    let cells = subst (λ xs. AreCellsOf written tables (numbers_in g.N.Number.number xs)) (sym c.deref-2.ensures.value)
-    (subst (λ ts. AreCellsOf written ts (numbers_in g.N.Number.number c.in_ok-cells.cells.items)) c.deref.ensures.value c.in_ok-cells.ensures.cells) in
-    let beside = c.numbers_of.ensures tables c.requires.ended cells in
+    let beside = c.numbers_of.ensures c.args.ended.now.tables.items c.requires.ended
+    (rw (c.deref-2.ensures.value, ← c.deref.ensures.value) c.in_ok-cells.ensures.cells) in
     let same = ap (λ (h : HistoriesView). length h.lists) beside.histories ∙ c.requires.ended.one_list_each in
     record {
       bounds = pieces.bounds;

@@ -1,13 +1,9 @@
 //! What one table sends another, as marks.
 
-ghost use Rattle.std.specs.Prelude.{map, IfOk, IsOkUnless};
-ghost use Rattle.bench_types.specs.declared.faults.Fault.TheVariants.{OutOfMemory};
-ghost use Rattle.bench_types.specs.Mode.{digest_kind};
-ghost use Rattle.delta_plans.specs.LevelMarks.{first_sent};
-ghost use Rattle.version_tables.specs.Views.{table_in};
-ghost use Rattle.version_tables.specs.inner.Deltas.{AreMarksOf, MaySend};
+ghost use Rattle.version_tables.specs.inner.Common.{IfOk, IsOkUnless, OutOfMemory, digest_kind, table_in};
+ghost use Rattle.version_tables.specs.inner.Deltas.{MaySend};
 ghost use Rattle.version_tables.specs.inner.Histories.{FitsHistories};
-ghost use Rattle.version_tables.specs.inner.Offered.{AreMarksBy, AreTold, IsOffered, IsPlanned, MaySendTold};
+ghost use Rattle.version_tables.specs.inner.Offered.{AreTold, IsDelta, IsOffered, MaySendTold};
 
 use crate::histories::Histories;
 use crate::tables::{VersionTable, Written};
@@ -27,10 +23,10 @@ pub(crate) struct DeltaMarks<N: Number> {
 }
 
 // The numbers that are offered, the low marks, and how many are above these.
-#[derive(Clone, Copy)]
+#[derive(Drop)]
 struct Offered<'a, N: Number> {
     cells: &'a [N],
-    low: &'a [N],
+    low: Vec<N>,
     found: u32,
 }
 
@@ -43,7 +39,7 @@ pub(crate) struct Course<'a, N: Number, H: Written> {
     pub(crate) plan: &'a Exchange,
 }
 
-// What the sender sends the receiver.
+// What the sender sends the receiver: all numbers are offered for a scuttle digest, and for a precise one those ahead.
 pub(crate) fn delta<N: Number, H: Written>(
     sender: &VersionTable<N, H>,
     receiver: &VersionTable<N, H>,
@@ -51,43 +47,25 @@ pub(crate) fn delta<N: Number, H: Written>(
 ) -> Result<DeltaMarks<N>, Fault>
     requires { MaySend course.now.rules.now course.now.plan.now.rotation H.lists course.now.histories.now
         sender.now receiver.now }
-    ensures delta { IfOk result (λ d. AreMarksOf course.now.rules.now course.now.plan.now.rotation H.lists
-        sender.now receiver.now (map N.number d.low.items) (map N.number d.high.items) d.counts.sent d.counts.cut) }
+    ensures delta { IfOk result (IsDelta N.number H.lists course.now.rules.now course.now.plan.now.rotation
+        sender.now receiver.now) }
     ensures only { IsOkUnless result OutOfMemory }
 {
     let low = told_to(receiver, course)?;
-    let marked = marks_above(sender, receiver, &low, course)?;
-    let marks = marks_of(low, sender.greatest(), marked, course)?;
-    Ok(marks)
-}
-
-// All numbers are offered for a scuttle digest, and for a precise one those ahead.
-fn marks_above<N: Number, H: Written>(
-    sender: &VersionTable<N, H>,
-    receiver: &VersionTable<N, H>,
-    low: &[N],
-    course: &Course<N, H>,
-) -> Result<Marked<N>, Fault>
-    requires { MaySendTold N.number N.most H.lists course.now.rules.now course.now.plan.now.rotation
-        course.now.histories.now sender.now receiver.now low.now }
-    ensures marks { IfOk result (IsPlanned N.number H.lists course.now.rules.now course.now.plan.now.rotation
-        sender.now receiver.now low.now) }
-    ensures only { IsOkUnless result OutOfMemory }
-{
     let grid = sender.grid();
     match course.rules.mode.digest_kind() {
         DigestKind::Scuttle => {
             let offered = Offered {
                 cells: grid.cells,
+                found: planes::total_above(grid, &low, sender.greatest()),
                 low,
-                found: planes::total_above(grid, low, sender.greatest()),
             };
             marks_sent(sender, receiver, offered, course)
         }
         DigestKind::Precise => {
             let peer = Peer {
                 cells: receiver.cells(),
-                low,
+                low: &low,
                 own: receiver.node() as usize,
             };
             let ahead = grids::ahead(course.alloc, grid, peer)?;
@@ -106,29 +84,42 @@ fn marks_sent<N: Number, H: Written>(
     receiver: &VersionTable<N, H>,
     offered: Offered<N>,
     course: &Course<N, H>,
-) -> Result<Marked<N>, Fault>
+) -> Result<DeltaMarks<N>, Fault>
     requires told { MaySendTold N.number N.most H.lists course.now.rules.now course.now.plan.now.rotation
-        course.now.histories.now sender.now receiver.now offered.low.now }
+        course.now.histories.now sender.now receiver.now offered.low.items }
     requires offered { IsOffered N.number (digest_kind course.now.rules.now.mode) sender.now receiver.now offered }
-    ensures marks { IfOk result (IsPlanned N.number H.lists course.now.rules.now course.now.plan.now.rotation
-        sender.now receiver.now offered.entry.low.now) }
+    ensures delta { IfOk result (IsDelta N.number H.lists course.now.rules.now course.now.plan.now.rotation
+        sender.now receiver.now) }
     ensures only { IsOkUnless result OutOfMemory }
 {
     let histories = course.histories;
     let rules = course.rules;
-    let cells = offered.cells;
+    let Offered { cells, low, found } = offered;
+    let high = sender.greatest();
     let size = sender.grid().size;
     let offer = Offer {
         grid: Grid { cells, size },
-        low: offered.low,
-        high: sender.greatest(),
+        low: &low,
+        high,
         lists: histories.lists(),
         budget: rules.budget,
-        found: offered.found,
+        found,
     };
     let rotation = course.plan.rotation as usize;
     let marked = planned(course.alloc, &offer, rules.mode, rotation, histories.ends())?;
-    Ok(marked)
+    let Marked { mark, counts } = marked;
+    match First::of(rules.mode) {
+        First::Oldest => Ok(DeltaMarks {
+            low,
+            high: mark,
+            counts,
+        }),
+        First::Newest => Ok(DeltaMarks {
+            low: mark,
+            high: Vec::from_slice(course.alloc, high)?,
+            counts,
+        }),
+    }
 }
 
 fn told_to<N: Number, H: Written>(
@@ -151,28 +142,4 @@ fn told_to<N: Number, H: Written>(
             bases: histories.bases(),
         },
     )
-}
-
-fn marks_of<N: Number, H: Written>(
-    low: Vec<N>,
-    high: &[N],
-    marked: Marked<N>,
-    course: &Course<N, H>,
-) -> Result<DeltaMarks<N>, Fault>
-    ensures marks { IfOk result (AreMarksBy N.number (first_sent course.now.rules.now.mode) low.items high.now marked) }
-    ensures only { IsOkUnless result OutOfMemory }
-{
-    let Marked { mark, counts } = marked;
-    match First::of(course.rules.mode) {
-        First::Oldest => Ok(DeltaMarks {
-            low,
-            high: mark,
-            counts,
-        }),
-        First::Newest => Ok(DeltaMarks {
-            low: mark,
-            high: Vec::from_slice(course.alloc, high)?,
-            counts,
-        }),
-    }
 }

@@ -1,12 +1,6 @@
 //! Tables and histories at the end of a round, of which several threads count the figures, each those of some tables.
 
-ghost use Rattle.std.specs.Prelude.{◌≡◌, length, map, IfOk, IsOkUnless};
-ghost use Rattle.bench_types.specs.declared.faults.Fault.TheVariants.{OutOfMemory};
-ghost use Rattle.model.specs.Figures.{figures_of};
-ghost use Rattle.model.specs.calls.OwnerListView.{lists_in};
-ghost use Rattle.round_tables.specs.Histories.{AreFiguresCounted, StandAtRoundEnd};
-ghost use Rattle.version_lags.specs.Bounds.{AreBounds};
-ghost use Rattle.version_tables.specs.Views.{table_in};
+ghost use Rattle.version_tables.specs.inner.Common.{◌≡◌, length, map, IfOk, IsOkUnless, OutOfMemory, figures_of, lists_in, AreFiguresCounted, StandAtRoundEnd, AreBounds, table_in};
 ghost use Rattle.version_tables.specs.inner.Beside.{AreCountedInParts};
 
 use crate::histories::Histories;

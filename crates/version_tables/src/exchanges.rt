@@ -1,9 +1,6 @@
 //! The exchange of an initiator and a responder whose tables keep versions alone.
 
-ghost use Rattle.std.specs.Prelude.{◌≡◌, IfOk, OnOk, OnErr, IsOkUnless};
-ghost use Rattle.bench_types.specs.declared.faults.Fault.TheVariants.{OutOfMemory};
-ghost use Rattle.model.specs.calls.Exchanging.{MakesOf};
-ghost use Rattle.version_tables.specs.Views.{table_in};
+ghost use Rattle.version_tables.specs.inner.Common.{◌≡◌, IfOk, OnOk, OnErr, IsOkUnless, OutOfMemory, MakesOf, table_in};
 ghost use Rattle.version_tables.specs.inner.Deltas.{HasCome};
 ghost use Rattle.version_tables.specs.inner.Histories.{IsReadyExchange};
 ghost use Rattle.version_tables.specs.inner.Taken.{BothStay, HaveTakenBoth, MayTakeBoth};

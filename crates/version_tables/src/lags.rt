@@ -1,12 +1,6 @@
 //! The figures of a round, where tables keep versions alone.
 
-ghost use Rattle.std.specs.Prelude.{◌≡◌, List, map, IfOk, IsOkUnless};
-ghost use Rattle.bench_types.specs.declared.faults.Fault.TheVariants.{OutOfMemory};
-ghost use Rattle.model.specs.Figures.{figures_of};
-ghost use Rattle.model.specs.calls.OwnerListView.{lists_in};
-ghost use Rattle.round_tables.specs.Histories.{StandAtRoundEnd};
-ghost use Rattle.version_lags.specs.Pieces.{numbers_in};
-ghost use Rattle.version_tables.specs.Views.{VersionTableView, table_in};
+ghost use Rattle.version_tables.specs.inner.Common.{◌≡◌, List, map, IfOk, IsOkUnless, OutOfMemory, figures_of, lists_in, StandAtRoundEnd, numbers_in, VersionTableView, table_in};
 ghost use Rattle.version_tables.specs.inner.Beside.{AreCellsOf, AreNumbersBeside};
 
 use crate::histories::Histories;

@@ -1,9 +1,7 @@
 //! Exchanges of which all comes and surely fits: each table takes all that the other has above its own greatest
 //! numbers, both ways in one pass. Nothing is planned, and no memory is taken.
 
-ghost use Rattle.std.specs.Prelude.{◌≡◌, ◌*◌, ◌≤◌, ◌↔◌, IsTrue};
-ghost use Rattle.bench_types.specs.Budget.{amount_of, largest_share};
-ghost use Rattle.version_tables.specs.Views.{table_in};
+ghost use Rattle.version_tables.specs.inner.Common.{◌≡◌, ◌*◌, ◌≤◌, ◌↔◌, IsTrue, amount_of, largest_share, table_in};
 ghost use Rattle.version_tables.specs.inner.Deltas.{AreOfOneSize, FitBoth};
 ghost use Rattle.version_tables.specs.inner.Histories.{bases_in, FitsHistories};
 ghost use Rattle.version_tables.specs.inner.Merged.{AreCurrent, BothStayMerged, HasNoNewer, HaveMerged, IsMostAhead, MayMerge, SurelyFits};

@@ -1,15 +1,6 @@
 -- Tables of versions beside the owners' lists. Source: this project.
-use Rattle.std.specs.Prelude.{◌≡◌, ℕ, ◌+◌, All, List, length, map, Result}
-use Rattle.bench_types.specs.declared.entries.Entry.{Entry}
-use Rattle.bench_types.specs.declared.faults.Fault.{Fault}
-use Rattle.crew.specs.Parts.{HoldsAnswers}
-use Rattle.round_tables.specs.Histories.{HistoriesView, StandAtRoundEnd}
-use Rattle.version_lags.specs.Bounds.{AreBounds, IsStretchOf}
-use Rattle.version_lags.specs.Pieces.{histories_of, numbers_in, AreRoundNumbers, Counts}
-use Rattle.version_lags.specs.declared.lags.Piece.{Piece}
-use Rattle.version_lags.specs.declared.lags.RoundNumbers.{RoundNumbers}
+use Rattle.version_tables.specs.inner.Common.{◌≡◌, ℕ, ◌+◌, All, List, length, map, Result, Entry, Fault, HoldsAnswers, HistoriesView, StandAtRoundEnd, AreBounds, IsStretchOf, histories_of, numbers_in, AreRoundNumbers, Counts, Piece, RoundNumbers, VersionTableView, table_in, IsKept}
 use Rattle.version_tables.specs.declared.ended.Ended.{Ended}
-use Rattle.version_tables.specs.Views.{VersionTableView, table_in, IsKept}
 
 -- these are the numbers of tables that are kept
 pub record AreCellsOf (written : ℕ → List Entry) (views : List VersionTableView) (cells : List (List ℕ)) : Type 0 where

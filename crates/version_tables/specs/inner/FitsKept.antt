@@ -1,16 +1,9 @@
 -- What tables of versions owe to the histories stays through exchanges. Source: this project.
-use Rattle.std.specs.Prelude.{◌≡◌, ℕ, List, length}
+use Rattle.version_tables.specs.inner.Common.{◌≡◌, ℕ, List, length, Entry, Table, IsProper, delta_between, fate_of, IsKeptByExchanges, MayMeet, StoodInEither, HistoriesView}
 use Rattle.std.proofs.Common.{inl, inr, ◌∙◌}
-use Rattle.bench_types.specs.declared.entries.Entry.{Entry}
-use Rattle.model.specs.Table.{Table, IsProper}
 use Rattle.model.proofs.TableLaws.{frame-applied}
-use Rattle.model.specs.Deltas.{delta_between}
-use Rattle.model.specs.Exchanged.{fate_of}
-use Rattle.model.specs.calls.Exchanging.{IsKeptByExchanges}
-use Rattle.model.specs.calls.ExchangeLaws.{MayMeet, StoodInEither}
 use Rattle.model.proofs.Cases.{initiator_after-either, responder_after-either}
 use Rattle.model.proofs.ExchangeLaws.{initiator_proper, responder_proper, initiator_either, responder_either}
-use Rattle.round_tables.specs.Histories.{HistoriesView}
 use Rattle.version_tables.specs.inner.Histories.{FitsRun}
 
 pub fits_stays : (written : ℕ → List Entry) (most : ℕ) (h : HistoriesView) → IsKeptByExchanges (FitsRun written most h)

@@ -8,11 +8,11 @@ told-requires-clause-known g c =
     let kept = c.greatest.ensures.kept in
     rw (c.lists.ensures.value, c.greatest.ensures.value) (record {
       count = kept.most.size ∙ c.requires.nodes;
-      base_count = c.bases.ensures.value.size;
+      base_count = c.bases.ensures.size;
       few_nodes = omega (arith, c.requires.nodes, kept.proper.nodes_limit);
       each = λ owner lt.
           let in_nodes : owner < v.nodes = omega (arith, lt, c.requires.nodes) in
-          let so_far = c.lists.ensures.so_far owner in
+          let so_far = c.lists.ensures.known.so_far owner in
           record {
             few = so_far.few;
             within = elim (kept.most.each owner in_nodes).held [
@@ -24,8 +24,8 @@ told-requires-clause-known g c =
                     (c.requires.holds owner) key in_nodes in_keys,
               )
             ];
-            based = c.bases.ensures.value.each owner lt;
-            writes = c.bases.ensures.writes owner;
+            based = c.bases.ensures.each owner lt;
+            writes = c.lists.ensures.known.writes owner;
             numbered = so_far.numbered;
           };
     })

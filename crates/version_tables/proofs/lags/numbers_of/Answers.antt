@@ -22,9 +22,9 @@ returns g c views end cells =
         last = c.lasts.result;
         ends = record c.ends.result { rounds = k.rounds };
       }) (map (table_in written) views)) same (record {
-        may = may-be-counted written views h end c.keys.ensures.limits c.lists.ensures.writes;
-        few = λ r. (c.lists.ensures.so_far r).few;
-        are = numbers-of written views h end (λ r. (c.lists.ensures.so_far r).begins) number c.args.cells.now cells c.bases.ensures.value c.lasts.ensures;
+        may = may-be-counted written views h end c.keys.ensures.limits c.lists.ensures.known.writes;
+        few = λ r. (c.lists.ensures.known.so_far r).few;
+        are = numbers-of written views h end (λ r. (c.lists.ensures.known.so_far r).begins) number c.args.cells.now cells c.bases.ensures c.lasts.ensures;
         ends = record { size = ends.size; are_ends = ends.parts };
       });
     }

@@ -1,6 +1,6 @@
 -- A table that took a delta by marks is the model's table that took its items.
 -- Serves `ExchangedViews` and `Merged`.
-use Rattle.version_tables.proofs.Common.{◌≡◌, ◌≢◌, ℕ, ◌<◌, true, false, List, Some, inl, inr, refl, sym, ap, ◌∙◌, subst, arith, both_ways, nat_tests, Entry, Rules, Table, entry_at, frame-applied, received-proper, cell, numbers_taken, VersionTableView, HistoriesView, table_in, delta_of_views, is_taken_at, AreLaidBoth, AreMarksOf, SendsNewer, HasTaken}
+use Rattle.version_tables.proofs.Common.{◌≡◌, ◌≢◌, ℕ, ◌<◌, true, false, List, Some, inl, inr, refl, sym, ap, ◌∙◌, subst, arith, both_ways, nat_tests, Entry, Rules, Table, entry_at, generation_held, frame-applied, received-proper, cell, numbers_taken, VersionTableView, HistoriesView, table_in, delta_of_views, is_taken_at, AreLaidBoth, AreMarksOf, HasTaken}
 use Rattle.version_tables.proofs.Fitting.{turned}
 use Rattle.version_tables.proofs.Laid.{HoldsNumber, LiesAs, holds-same, kept-number, no-number}
 use Rattle.version_tables.proofs.TakenByOwner.{came_number, other_number, top_number}
@@ -44,8 +44,8 @@ module _ {rules : Rules} {rotation : ℕ} {written : ℕ → List Entry} {most :
               (λ d comes. let there = held_there owner d comes in stays.0 d.key d there.0 there.1))
               stays.1 (kept-number two.second owner key in_nodes in_keys)
           | inr gone ↦
-              let comes = (delta.marks.members owner gone.0.key gone.0.entry gone.0.held).0 gone.0.is_sent in
-              holds-same (after-dropped rules rotation two owner key gone.0.entry comes gone.0.newer (elsewhere no')) gone.1 (no-number (written owner) key)
+              let comes = (delta.marks.members owner gone.0.0 gone.0.1 gone.0.2).0 gone.0.3 in
+              holds-same (after-dropped rules rotation two owner key gone.0.1 comes gone.0.4 (elsewhere no')) gone.1 (no-number (written owner) key)
         ]
       ] refl
     where
@@ -74,7 +74,7 @@ module _ {rules : Rules} {rotation : ℕ} {written : ℕ → List Entry} {most :
 module _ {rules : Rules} {rotation : ℕ} {written : ℕ → List Entry} {most : ℕ} {h : HistoriesView} {p q : VersionTableView} {low high : List ℕ} {count cut : ℕ}
     {low' high' : List ℕ} {now : VersionTableView} (two : AreLaidBoth written most h p q) (delta : AreMarksOf rules rotation written p q low high count cut)
     (took : HasTaken h.lists p q.cells low' high' now) where
-  not_sent : (owner key : ℕ) → SendsNewer (table_in written q) (table_in written p) (is_taken_at q p low' high') owner → owner < p.nodes → key < p.keys
+  not_sent : (owner key : ℕ) → generation_held (table_in written p) owner < generation_held (table_in written q) owner → owner < p.nodes → key < p.keys
       → is_taken_at p q low high owner key ≡ false
   not_sent owner key newer in_nodes in_keys = elim (is_taken_at p q low high owner key) as (λ b. is_taken_at p q low high owner key ≡ b → b ≡ false) [
     | false ↦ λ _. refl
@@ -82,7 +82,7 @@ module _ {rules : Rules} {rotation : ℕ} {written : ℕ → List Entry} {most :
         let there = delta.marks.held owner key in_nodes in_keys yes' in
         let lacked = came-lacked rules rotation two owner there.0 ((delta.marks.members owner key there.0 there.1).0 yes') in
         let copy = two.first.proper.copies owner key there.0 there.1 in
-        absurd (omega (arith, lacked.0, copy, newer.newer, two.second.proper.copies owner newer.key newer.entry newer.held))
+        absurd (omega (arith, lacked.0, copy, newer))
   ] refl
 
   pub same_taken : (owner key : ℕ) → owner < q.nodes → key < q.keys
@@ -97,6 +97,10 @@ module _ {rules : Rules} {rotation : ℕ} {written : ℕ → List Entry} {most :
         | true ↦ λ yes'. let is = came_number (turned two) (λ _ _ _ _. refl) took owner in_node key in_key yes' in grind (arith, nat_tests)
         | false ↦ λ no'. elim (other_number (turned two) (λ _ _ _ _. refl) took owner in_node key in_key no') [
           | inl stays ↦ let is = stays.1 in grind (arith, nat_tests)
-          | inr gone ↦ let is = gone.1 in let none = not_sent owner key gone.0 in_node in_key in grind (arith, nat_tests)
+          | inr gone ↦
+              let is = gone.1 in
+              let newer = gone.0 in
+              let none = not_sent owner key (omega (arith, newer.4, two.second.proper.copies owner newer.0 newer.1 newer.2)) in_node in_key in
+              grind (arith, nat_tests)
         ]
       ] refl

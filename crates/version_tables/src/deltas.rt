@@ -1,9 +1,8 @@
 //! What one table sends another, as marks.
 
-ghost use Rattle.version_tables.specs.inner.Common.{IfOk, IsOkUnless, OutOfMemory, digest_kind, table_in};
+ghost use Rattle.version_tables.specs.inner.Common.{IfOk, IsOkUnless, OutOfMemory, digest_kind};
 ghost use Rattle.version_tables.specs.inner.Deltas.{MaySend};
-ghost use Rattle.version_tables.specs.inner.Histories.{FitsHistories};
-ghost use Rattle.version_tables.specs.inner.Offered.{AreTold, IsDelta, IsOffered, MaySendTold};
+ghost use Rattle.version_tables.specs.inner.Offered.{IsDelta, IsOffered, MaySendTold};
 
 use crate::histories::Histories;
 use crate::tables::{VersionTable, Written};
@@ -51,9 +50,16 @@ pub(crate) fn delta<N: Number, H: Written>(
         sender.now receiver.now) }
     ensures only { IsOkUnless result OutOfMemory }
 {
-    let low = told_to(receiver, course)?;
+    let histories = course.histories;
+    let kind = course.rules.mode.digest_kind();
+    let owners = Owners {
+        lists: histories.lists(),
+        bases: histories.bases(),
+    };
+    let own = receiver.node() as usize;
+    let low = told(course.alloc, kind, own, receiver.greatest(), owners)?;
     let grid = sender.grid();
-    match course.rules.mode.digest_kind() {
+    match kind {
         DigestKind::Scuttle => {
             let offered = Offered {
                 cells: grid.cells,
@@ -66,7 +72,7 @@ pub(crate) fn delta<N: Number, H: Written>(
             let peer = Peer {
                 cells: receiver.cells(),
                 low: &low,
-                own: receiver.node() as usize,
+                own,
             };
             let ahead = grids::ahead(course.alloc, grid, peer)?;
             let offered = Offered {
@@ -120,26 +126,4 @@ fn marks_sent<N: Number, H: Written>(
             counts,
         }),
     }
-}
-
-fn told_to<N: Number, H: Written>(
-    receiver: &VersionTable<N, H>,
-    course: &Course<N, H>,
-) -> Result<Vec<N>, Fault>
-    requires { FitsHistories course.now.histories.now (table_in H.lists receiver.now) }
-    ensures told { IfOk result (λ v. AreTold N.number N.most H.lists (digest_kind course.now.rules.now.mode)
-        receiver.now course.now.histories.now v.items) }
-    ensures only { IsOkUnless result OutOfMemory }
-{
-    let histories = course.histories;
-    told(
-        course.alloc,
-        course.rules.mode.digest_kind(),
-        receiver.node() as usize,
-        receiver.greatest(),
-        Owners {
-            lists: histories.lists(),
-            bases: histories.bases(),
-        },
-    )
 }

@@ -1,5 +1,5 @@
 -- Tables of versions beside the owners' lists. Source: this project.
-use Rattle.version_tables.specs.inner.Common.{◌≡◌, ℕ, ◌+◌, All, List, length, map, Result, Entry, Fault, HoldsAnswers, HistoriesView, StandAtRoundEnd, AreBounds, IsStretchOf, histories_of, numbers_in, AreRoundNumbers, Counts, Piece, RoundNumbers, VersionTableView, table_in, IsKept}
+use Rattle.version_tables.specs.inner.Common.{◌≡◌, ℕ, All, List, length, map, Result, Entry, Fault, HistoriesView, StandAtRoundEnd, IsStretchOf, histories_of, numbers_in, AreRoundNumbers, Counts, Piece, RoundNumbers, VersionTableView, table_in, IsKept}
 use Rattle.version_tables.specs.declared.ended.Ended.{Ended}
 
 -- these are the numbers of tables that are kept
@@ -24,11 +24,3 @@ abbrev pub CountsStretch : {N H : Type 0} → (N → ℕ) → ℕ → (ℕ → L
 CountsStretch {N} number most written ended from to answer =
     (numbers : RoundNumbers N) → AreNumbersBeside number most written ended.tables.items ended.histories numbers
     → Counts number numbers from to answer
-
--- and so are all, in parts
-pub record AreCountedInParts {N H : Type 0} (number : N → ℕ) (most : ℕ) (written : ℕ → List Entry) (ended : Ended N H)
-    (pieces : List (Result (Piece N) Fault)) : Type 0 where
-  pub bounds : List ℕ
-  pub are : AreBounds (length ended.tables.items) bounds
-  pub one_each : length pieces + 1 ≡ length bounds
-  pub each : HoldsAnswers (CountsStretch number most written) ended bounds pieces

@@ -10,8 +10,12 @@ pub fits_stays : (written : ℕ → List Entry) (most : ℕ) (h : HistoriesView)
 fits_stays written most h rules e p q may fit_p fit_q =
     let back = delta_between rules.mode e.rotation rules.budget q p in
     let forth = delta_between rules.mode e.rotation rules.budget p q in (
-      after _ (initiator_proper rules e p q meet) (initiator_after-either (λ t. t.nodes ≡ length h.lists) (fate_of e) p back fit_p.among.nodes ((frame-applied p back.items).nodes ∙ fit_p.among.nodes)) (initiator_either rules e p q meet),
-      after _ (responder_proper rules e p q meet) (responder_after-either (λ t. t.nodes ≡ length h.lists) (fate_of e) q forth fit_q.among.nodes ((frame-applied q forth.items).nodes ∙ fit_q.among.nodes)) (responder_either rules e p q meet),
+      after _ (initiator_proper rules e p q meet)
+          (initiator_after-either (λ t. t.nodes ≡ length h.lists) (fate_of e) p back fit_p.among.nodes ((frame-applied p back.items).nodes ∙ fit_p.among.nodes))
+          (initiator_either rules e p q meet),
+      after _ (responder_proper rules e p q meet)
+          (responder_after-either (λ t. t.nodes ≡ length h.lists) (fate_of e) q forth fit_q.among.nodes ((frame-applied q forth.items).nodes ∙ fit_q.among.nodes))
+          (responder_either rules e p q meet),
     )
   where
     meet : MayMeet e p q
@@ -23,7 +27,8 @@ fits_stays written most h rules e p q may fit_p fit_q =
       among = record {
         proper = proper;
         nodes = nodes;
-        holds = λ owner key x found. elim (either owner key x found) [ inl held ↦ fit_p.among.holds owner key x held | inr held ↦ fit_q.among.holds owner key x held ];
+        holds = λ owner key x found.
+            elim (either owner key x found) [ inl held ↦ fit_p.among.holds owner key x held | inr held ↦ fit_q.among.holds owner key x held ];
         made = fit_p.among.made;
       };
     }

@@ -1,21 +1,16 @@
 -- What is offered from one table to another, in memory. Source: this project.
-use Rattle.version_tables.specs.inner.Common.{◌≡◌, ◌≢◌, ℕ, ◌<◌, ◌≤◌, List, length, map, slice_index, Entry, DigestKind, Rules, digest_kind, all_writes, cell, total_above, HasEach, HasEachPlace, HistoriesView, VersionTableView, IsKept, First, Marked, by_first, first_sent, offered_by, told_by, told_number}
+use Rattle.version_tables.specs.inner.Common.{◌≡◌, ◌≢◌, ℕ, ◌<◌, ◌≤◌, List, length, map, slice_index, Entry, DigestKind, Rules, digest_kind, all_writes, cell, total_above, HasEach, HasEachPlace, HistoriesView, VersionTableView, IsKept, offered_by, told_by, told_number}
 use Rattle.version_tables.specs.declared.deltas.DeltaMarks.{DeltaMarks}
 use Rattle.version_tables.specs.declared.deltas.Offered.{Offered}
 use Rattle.version_tables.specs.inner.Deltas.{AreMarksOf, MaySend}
 
--- the marks that a receiver tells, whose table is one
-pub record AreTold {N : Type 0} (number : N → ℕ) (most : ℕ) (written : ℕ → List Entry) (kind : DigestKind)
-    (to : VersionTableView) (h : HistoriesView) (low : List N) : Type 0 where
-  pub kept : IsKept written to
-  pub told : HasEach (length h.lists)
-      (λ r n. n ≡ told_number kind most to.node (all_writes h.lists) (slice_index to.greatest) r) (map number low)
-
--- and a sender may send it a delta by them
+-- a sender may send a delta to a receiver by the marks that this tells
 pub record MaySendTold {N : Type 0} (number : N → ℕ) (most : ℕ) (written : ℕ → List Entry) (rules : Rules) (turn : ℕ)
     (h : HistoriesView) (from to : VersionTableView) (low : List N) : Type 0 where
   pub may : MaySend rules turn written h from to
-  pub told : AreTold number most written (digest_kind rules.mode) to h low
+  pub kept : IsKept written to
+  pub told : HasEach (length h.lists) (λ r n. n
+      ≡ told_number (digest_kind rules.mode) most to.node (all_writes h.lists) (slice_index to.greatest) r) (map number low)
 
 -- low marks above which a receiver lacks what a sender has: what is told of other owners, and of itself no less than
 -- both have

@@ -1,16 +1,15 @@
-use Rattle.version_tables.proofs.Common.{◌≡◌, refl, sym, subst, ◌∙◌, map, length-map, digest_kind, AreLaidBoth, AreMarksOf, First, Oldest, Newest, by_first, first_sent}
+use Rattle.version_tables.proofs.Common.{◌≡◌, refl, sym, ◌∙◌, map, length-map, digest_kind, AreLaidBoth, AreMarksOf, First, Oldest, Newest, by_first, first_sent}
 use Rattle.version_tables.proofs.Delivered.{IsOfferOf, offer-is, delta-marks, told-low}
-use Rattle.version_tables.proofs.deltas.marks_sent.Given as given
 use Rattle.version_tables.proofs.deltas.marks_sent.Goals as goal
 use Rattle.version_tables.proofs.deltas.marks_sent.Goals.{After-of}
 
-module _ (g : given.Over) (c : goal.After-ends g) where
+module _ (g : _) (c : goal.After-ends g) where
   two : AreLaidBoth g.H.Written.lists g.N.Number.most c.args.course.now.histories.now c.args.sender.now c.args.receiver.now
   two = record {
     known = c.lists.ensures.known;
     both = c.requires.told.may.both;
     first = c.grid.ensures.kept;
-    second = c.requires.told.told.kept;
+    second = c.requires.told.kept;
   }
 
   of-both : IsOfferOf g.N.Number.number c.args.course.now.rules.now c.args.course.now.histories.now c.args.sender.now c.args.receiver.now (record {
@@ -27,7 +26,7 @@ module _ (g : given.Over) (c : goal.After-ends g) where
     lists = c.lists.ensures.value;
     budget = refl;
     high = c.greatest-high.ensures.value;
-    low = told-low two (digest_kind c.args.course.now.rules.now.mode) (map g.N.Number.number c.args.offered.low.items) c.requires.told.told.told;
+    low = told-low two (digest_kind c.args.course.now.rules.now.mode) (map g.N.Number.number c.args.offered.low.items) c.requires.told.told;
     offered = c.requires.offered.cells;
     found = c.requires.offered.found;
   })
@@ -36,7 +35,7 @@ pub planned-requires-clause-offer : goal.planned-requires-clause-offer
 planned-requires-clause-offer g c = offer-is g.N.Number.number (two g c) c.args.course.now.rules.now _ (of-both g c)
 
 -- by what goes first
-module _ (g : given.Over) (c : After-of g) where
+module _ (g : _) (c : After-of g) where
   marks-by : (first : First) → first_sent c.args.course.now.rules.now.mode ≡ first
       → AreMarksOf c.args.course.now.rules.now c.args.course.now.plan.now.rotation g.H.Written.lists c.args.sender.now c.args.receiver.now
       (by_first first (map g.N.Number.number c.args.offered.low.items) (map g.N.Number.number c.in_ok-marked.marked.mark.items))

@@ -1,4 +1,4 @@
-use Rattle.version_tables.proofs.Common.{◌≡◌, ap, ◌∙◌, map, IfOk-weaker, figures_of, lists_in, table_in, HistoriesView}
+use Rattle.version_tables.proofs.Common.{ap, ◌∙◌, map, IfOk-weaker, figures_of, lists_in, table_in, HistoriesView}
 use Rattle.version_tables.proofs.lags.figures.Goals as goal
 
 pub figures-requires-clause-are : goal.figures-requires-clause-are

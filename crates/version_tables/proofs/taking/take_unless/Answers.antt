@@ -1,9 +1,8 @@
 use Rattle.version_tables.proofs.Common.{◌≡◌, length, map, slice_index, ap, arith, refl, subst, sym, ◌∙◌, with_items, with_items_is, all_writes, VersionTableView, drop_start, number_kept, HasTaken, StaysOne}
 use Rattle.version_tables.proofs.Laid.{seen}
-use Rattle.version_tables.proofs.taking.take_unless.Given as given
 use Rattle.version_tables.proofs.taking.take_unless.Goals as goal
 
-module _ (g : given.Over) (c : goal.After-table-3-1 g) where
+module _ (g : _) (c : goal.After-table-3-1 g) where
   abbrev old : VersionTableView
   old = seen c.table.view_is
 

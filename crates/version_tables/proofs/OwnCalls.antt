@@ -1,6 +1,6 @@
 -- A node's own calls on its table: its numbers lie as those of the table that the model has then.
 -- Serves the functions of `owners` and `tables` and `HistoryCalls`.
-use Rattle.version_tables.proofs.Common.{◌≡◌, ◌≢◌, ℕ, ◌+◌, ◌*◌, ◌<◌, ◌≤◌, ◌==◌, Bool, true, false, cond, List, length, get_or, set, Some, None, ◌⊎◌, refl, same_from_place, inl, inr, sym, ap, ◌∙◌, subst, arith, mul-le-mul_right, cases_eq, eq-eqb, ne_eqb, get_or-set_same, get_or-set_other, length-set, same_Some, Entry, AreSizes, Held, Table, entry_at, empty_table, empty, with_own_write, without_others, without_all, IsProper, entry_at-own_write, entry_at-own_write_other, entry_at-without_others, entry_at-without_all, entry_at-empty_table, proper-empty_table, proper-with_own_write, proper-without_others, proper-without_all, Cells, cell, ArePlanesChanged, HasEach, HasEachPlace, AreChanged, numbered-within, VersionTableView, table_in, IsKept, IsNextWrite, HasOwnWrite, IsGreatest}
+use Rattle.version_tables.proofs.Common.{◌≡◌, ◌≢◌, ℕ, ◌+◌, ◌*◌, ◌<◌, ◌≤◌, ◌==◌, Bool, true, false, cond, List, length, get_or, set, Some, None, ◌⊎◌, refl, same_from_place, inl, inr, sym, ap, ◌∙◌, subst, arith, mul-le-mul_right, cases_eq, eq-eqb, ne_eqb, get_or-set_same, get_or-set_other, length-set, same_Some, Entry, AreSizes, Table, entry_at, empty_table, KeepsFrame, with_own_write, without_others, without_all, IsProper, entry_at-own_write, entry_at-own_write_other, entry_at-without_others, entry_at-without_all, entry_at-empty_table, proper-empty_table, proper-with_own_write, proper-without_others, proper-without_all, Cells, cell, ArePlanesChanged, HasEach, HasEachPlace, AreChanged, numbered-within, VersionTableView, table_in, IsKept, IsNextWrite, HasOwnWrite, IsGreatest}
 use Rattle.version_tables.proofs.Laid.{HoldsNumber, LiesAs, holds-same, kept-number, lies-table, no-number}
 
 pub place-within : (nodes keys r k : ℕ) → r < nodes → k < keys → k * nodes + r < keys * nodes
@@ -55,16 +55,16 @@ place-set is xs nodes keys owner key n size in_nodes in_keys own others = record
     elsewhere r k lt in_key other = subst (is r k) (sym (get_or-set_other xs index (k * nodes + r) n 0 (other-place nodes r k owner key lt in_nodes other)))
         (others r k lt in_key other)
 
--- a table that starts
-pub starts : (written : ℕ → List Entry) (node nodes keys : ℕ) {cells greatest : List ℕ} → node < nodes → AreSizes nodes keys
-    → HasEach (keys * nodes) (λ r n. n ≡ 0) cells → HasEach nodes (λ r n. n ≡ 0) greatest
-    → LiesAs written (record { node = node; nodes = nodes; keys = keys; generation = 0; cells = cells; greatest = greatest }) (empty_table node nodes keys)
-starts written node nodes keys {cells = cells} in_nodes sizes no_cells no_greatest = record {
-  frame = record { node = refl; nodes = refl; keys = refl; generation = refl };
-  proper = proper-empty_table node nodes keys in_nodes sizes.few_nodes sizes.some_key sizes.few_keys;
+-- one that holds nothing
+blank : {written : ℕ → List Entry} {v : VersionTableView} {t : Table} → KeepsFrame (table_in written v) t → IsProper t
+    → ((owner key : ℕ) → entry_at t owner key ≡ None) → HasEach (v.keys * v.nodes) (λ r n. n ≡ 0) v.cells → HasEach v.nodes (λ r n. n ≡ 0) v.greatest
+    → LiesAs written v t
+blank {written = written} {v = v} frame proper nothing no_cells no_greatest = record {
+  frame = frame;
+  proper = proper;
   numbers = record {
     size = no_cells.size;
-    each = λ owner key lt in_keys. holds-same (entry_at-empty_table node nodes keys owner key) (none owner key lt in_keys) (no-number (written owner) key);
+    each = λ owner key lt in_keys. holds-same (nothing owner key) (none owner key lt in_keys) (no-number (written owner) key);
   };
   most = record {
     size = no_greatest.size;
@@ -72,8 +72,14 @@ starts written node nodes keys {cells = cells} in_nodes sizes no_cells no_greate
   };
 }
   where
-    none : (owner key : ℕ) → owner < nodes → key < keys → cell cells nodes owner key ≡ 0
-    none owner key lt in_keys = no_cells.each (key * nodes + owner) (place-within nodes keys owner key lt in_keys)
+    none : (owner key : ℕ) → owner < v.nodes → key < v.keys → cell v.cells v.nodes owner key ≡ 0
+    none owner key lt in_keys = no_cells.each (key * v.nodes + owner) (place-within v.nodes v.keys owner key lt in_keys)
+
+pub starts : (written : ℕ → List Entry) (node nodes keys : ℕ) {cells greatest : List ℕ} → node < nodes → AreSizes nodes keys
+    → HasEach (keys * nodes) (λ r n. n ≡ 0) cells → HasEach nodes (λ r n. n ≡ 0) greatest
+    → LiesAs written (record { node = node; nodes = nodes; keys = keys; generation = 0; cells = cells; greatest = greatest }) (empty_table node nodes keys)
+starts written node nodes keys in_nodes sizes = blank (record { node = refl; nodes = refl; keys = refl; generation = refl })
+    (proper-empty_table node nodes keys in_nodes sizes.few_nodes sizes.some_key sizes.few_keys) (entry_at-empty_table node nodes keys)
 
 -- an owner's greatest number, where its numbers are kept or all put to 0
 kept-greatest : (keep : Bool) {old new : Cells} {keys owner x y : ℕ} → IsGreatest old keys owner x
@@ -88,22 +94,29 @@ module _ (written : ℕ → List Entry) (v : VersionTableView) (kept : IsKept wr
   abbrev t : Table
   t = table_in written v
 
-  -- one that keeps what it has of some owners alone
-  keeps : (keep : ℕ → Bool) (generation : ℕ) (held : Held) {cells greatest : List ℕ} → IsProper (record t { generation = generation; held = held })
-      → ((owner key : ℕ) → entry_at (record t { generation = generation; held = held }) owner key ≡ cond (keep owner) (entry_at t owner key) None)
-      → ArePlanesChanged (λ r k x y. y ≡ cond (keep r) x 0) v.nodes v.keys v.cells cells → AreChanged (λ r x y. y ≡ cond (keep r) x 0) v.greatest greatest
-      → LiesAs written (record v { generation = generation; cells = cells; greatest = greatest }) (record t { generation = generation; held = held })
-  keeps keep generation held proper same own_cells own_greatest = record {
+  -- one that forgets
+  pub forgets : {cells greatest : List ℕ} → AreChanged (λ r x y. y ≡ 0) v.cells cells → AreChanged (λ r x y. y ≡ 0) v.greatest greatest
+      → LiesAs written (record v { generation = v.generation + 1; cells = cells; greatest = greatest }) (without_all t)
+  forgets no_cells no_greatest =
+      blank (record { node = refl; nodes = refl; keys = refl; generation = refl }) (proper-without_all t kept.proper) (entry_at-without_all t)
+      (record { size = no_cells.size ∙ kept.numbers.size; each = λ r lt. no_cells.each r (omega (arith, lt, kept.numbers.size)) })
+      (record { size = no_greatest.size ∙ kept.most.size; each = λ r lt. no_greatest.each r (omega (arith, lt, kept.most.size)) })
+
+  -- one that restarts
+  pub restarts : {cells greatest : List ℕ} → ArePlanesChanged (λ r k x y. y ≡ cond (r == v.node) x 0) v.nodes v.keys v.cells cells
+      → AreChanged (λ r x y. y ≡ cond (r == v.node) x 0) v.greatest greatest
+      → LiesAs written (record v { cells = cells; greatest = greatest }) (without_others t)
+  restarts own_cells own_greatest = record {
     frame = record { node = refl; nodes = refl; keys = refl; generation = refl };
-    proper = proper;
+    proper = proper-without_others t kept.proper;
     numbers = record {
       size = own_cells.size ∙ kept.numbers.size;
-      each = λ owner key lt in_keys. holds-same (same owner key) (own_cells.each owner key lt in_keys)
-          (either owner key (keep owner) (kept-number kept owner key lt in_keys));
+      each = λ owner key lt in_keys. holds-same (entry_at-without_others t owner key) (own_cells.each owner key lt in_keys)
+          (either owner key (owner == v.node) (kept-number kept owner key lt in_keys));
     };
     most = record {
       size = own_greatest.size ∙ kept.most.size;
-      each = λ owner lt. kept-greatest (keep owner) (kept.most.each owner lt) (λ key. own_cells.each owner key lt)
+      each = λ owner lt. kept-greatest (owner == v.node) (kept.most.each owner lt) (λ key. own_cells.each owner key lt)
           (own_greatest.each owner (omega (arith, lt, kept.most.size)));
     };
   }
@@ -112,24 +125,6 @@ module _ (written : ℕ → List Entry) (v : VersionTableView) (kept : IsKept wr
           → HoldsNumber (written owner) key (cond b (entry_at t owner key) None) (cond b (cell v.cells v.nodes owner key) 0)
       either owner key true holds = holds
       either owner key false _ = no-number (written owner) key
-
-  -- one that forgets
-  pub forgets : {cells greatest : List ℕ} → AreChanged (λ r x y. y ≡ 0) v.cells cells → AreChanged (λ r x y. y ≡ 0) v.greatest greatest
-      → LiesAs written (record v { generation = v.generation + 1; cells = cells; greatest = greatest }) (without_all t)
-  forgets no_cells no_greatest =
-      keeps (λ _. false) (v.generation + 1) empty (proper-without_all t kept.proper) (entry_at-without_all t)
-      (record {
-        size = no_cells.size;
-        each = λ r k lt in_keys. no_cells.each (k * v.nodes + r)
-            (omega (arith, kept.numbers.size, place-within v.nodes v.keys r k lt in_keys));
-      })
-      (record { size = no_greatest.size; each = no_greatest.each })
-
-  -- one that restarts
-  pub restarts : {cells greatest : List ℕ} → ArePlanesChanged (λ r k x y. y ≡ cond (r == v.node) x 0) v.nodes v.keys v.cells cells
-      → AreChanged (λ r x y. y ≡ cond (r == v.node) x 0) v.greatest greatest
-      → LiesAs written (record v { cells = cells; greatest = greatest }) (without_others t)
-  restarts = keeps (λ r. r == v.node) v.generation (without_others t).held (proper-without_others t kept.proper) (entry_at-without_others t)
 
   -- one that writes
   module _ (key number : ℕ) (in_keys : key < v.keys) (write : IsNextWrite written v key number) where

@@ -1,6 +1,6 @@
 -- One owner's numbers once what was sent is taken and what is of older generations is dropped.
 -- Serves `TakenViews`.
-use Rattle.version_tables.proofs.Common.{◌≡◌, ℕ, ◌<◌, ◌≤◌, Bool, true, false, List, length, Some, ◌⊎◌, inl, inr, refl, sym, ap, ◌∙◌, subst, get_or, arith, cases_lt, current-numbered, nat_tests, Entry, mark_held, Table, entry_at, generation_held, write_numbered, OwnerListView, all_writes, entries_of, list_of_owner, AreWrites, cell, numbers_taken, IsRaised, start_before, start_of, numbered-some, numbered-within, numbers-up_to, IsGreatest, VersionTableView, HistoriesView, table_in, is_taken_at, AreLaidBoth, bases_in, IsWrittenSoFar, SendsNoNewer, SendsNewer, drop_start, number_kept, HasTaken}
+use Rattle.version_tables.proofs.Common.{◌≡◌, ℕ, ◌<◌, ◌≤◌, Bool, true, false, List, length, Some, ◌⊎◌, inl, inr, refl, sym, ap, ◌∙◌, subst, get_or, arith, cases_lt, current-numbered, nat_tests, Entry, mark_held, Table, entry_at, generation_held, write_numbered, OwnerListView, all_writes, entries_of, list_of_owner, AreWrites, cell, numbers_taken, IsRaised, start_before, start_of, numbered-some, numbered-within, numbers-up_to, IsGreatest, VersionTableView, HistoriesView, table_in, is_taken_at, AreLaidBoth, bases_in, IsWrittenSoFar, drop_start, number_kept, HasTaken}
 use Rattle.version_tables.proofs.Fitting.{generation_of, turned, first-held}
 
 module _ {all writes : List Entry} {most rounds : ℕ} (so_far : IsWrittenSoFar all most rounds writes) (m n : ℕ) (some : 0 < m) (le : m ≤ n)
@@ -87,6 +87,14 @@ module _ {written : ℕ → List Entry} {most : ℕ} {h : HistoriesView} {from t
   abbrev start : ℕ
   start = drop_start writes old (bases_in h.lists owner) new
 
+  -- nothing of the owner that is sent is of a newer generation than the receiver's copy
+  abbrev pub NoNewer : Type 0
+  NoNewer = (key : ℕ) (e : Entry) → entry_at F owner key ≡ Some e → sent key ≡ true → e.generation ≤ generation_held T owner
+
+  -- something is
+  abbrev pub Newer : Type 0
+  Newer = (key : ℕ) × (e : Entry) × (entry_at F owner key ≡ Some e) × (sent key ≡ true) × (generation_held T owner < e.generation)
+
   before : IsGreatest (cell to.cells to.nodes) to.keys owner old
   before = two.second.most.each owner in_nodes
 
@@ -167,20 +175,18 @@ module _ {written : ℕ → List Entry} {most : ℕ} {h : HistoriesView} {from t
       ]
 
   -- so something newer is sent, or nothing is
-  newer_or_not : SendsNoNewer F T (is_taken_at from to low high) owner ⊎ SendsNewer F T (is_taken_at from to low high) owner
+  newer_or_not : NoNewer ⊎ Newer
   newer_or_not = elim (cases_lt (generation_held T owner) (generation_held F owner)) [
     | inr not_newer ↦ inl (λ key e held _. omega (arith, not_newer, two.first.proper.copies owner key e held))
     | inl newer ↦ elim (cases_lt old new) [
       | inr stays ↦ inl (λ key e held yes'. absurd (omega (arith, stays, rises key e held yes' newer)))
-      | inl lt ↦ let at = of_new lt in inr (record
-          { key = at.0; entry = at.1; held = at.3; is_sent = at.2; newer = omega (arith, newer, two.first.proper.copies owner at.0 at.1 at.3) })
+      | inl lt ↦ let at = of_new lt in inr (at.0, at.1, at.3, at.2, omega (arith, newer, two.first.proper.copies owner at.0 at.1 at.3))
     ]
   ]
 
   -- where nothing newer comes other numbers stay, and where something does they are dropped
   pub other_number : (key : ℕ) → key < to.keys → sent key ≡ false
-      → (SendsNoNewer F T (is_taken_at from to low high) owner × (cell after.cells to.nodes owner key ≡ receiver key)) ⊎
-      (SendsNewer F T (is_taken_at from to low high) owner × (cell after.cells to.nodes owner key ≡ 0))
+      → (NoNewer × (cell after.cells to.nodes owner key ≡ receiver key)) ⊎ (Newer × (cell after.cells to.nodes owner key ≡ 0))
   other_number key lt no' = elim newer_or_not [ inl none ↦ inl (none, stays none) | inr newer ↦ inr (newer, dropped newer) ]
     where
       is : cell after.cells to.nodes owner key ≡ number_kept start (receiver key)
@@ -189,19 +195,19 @@ module _ {written : ℕ → List Entry} {most : ℕ} {h : HistoriesView} {from t
       here : 0 < receiver key → generation_of writes (receiver key) ≡ generation_held T owner
       here some = (first-held (turned two) owner key in_nodes lt some).3
 
-      stays : SendsNoNewer F T (is_taken_at from to low high) owner → cell after.cells to.nodes owner key ≡ receiver key
+      stays : NoNewer → cell after.cells to.nodes owner key ≡ receiver key
       stays none =
           let below = λ (some : 0 < receiver key). stands (receiver key) some (omega (arith, before.upto key lt, raised.rises)) (λ raises.
           let at = of_new raises in
           omega (arith, here some, none at.0 at.1 at.3 at.2, two.first.proper.copies owner at.0 at.1 at.3)) in
           is ∙ grind (arith, nat_tests)
 
-      dropped : SendsNewer F T (is_taken_at from to low high) owner → cell after.cells to.nodes owner key ≡ 0
+      dropped : Newer → cell after.cells to.nodes owner key ≡ 0
       dropped newer =
           let le = before.upto key lt in
-          let is_newer = newer.newer in
-          let copy = two.first.proper.copies owner newer.key newer.entry newer.held in
-          let raises = rises newer.key newer.entry newer.held newer.is_sent (omega (arith, is_newer, copy)) in
+          let is_newer = newer.4 in
+          let copy = two.first.proper.copies owner newer.0 newer.1 newer.2 in
+          let raises = rises newer.0 newer.1 newer.2 newer.3 (omega (arith, is_newer, copy)) in
           let at = of_new raises in
           let current = λ (some : 0 < old). newest (two.known.so_far owner) old new some (omega (arith, raises)) at.5 (list_of_owner h.lists owner)
           (two.known.writes owner) refl in

@@ -1,6 +1,7 @@
 -- A table that took a delta by marks is the model's table that took its items.
 -- Serves `ExchangedViews` and `Merged`.
-use Rattle.version_tables.proofs.Common.{◌≡◌, ◌≢◌, ℕ, ◌<◌, true, false, List, Some, inl, inr, refl, sym, ap, ◌∙◌, subst, arith, both_ways, nat_tests, Entry, Rules, Table, entry_at, frame-applied, received-proper, cell, numbers_taken, VersionTableView, HistoriesView, table_in, delta_of_views, is_taken_at, AreLaidBoth, AreMarksOf, SendsNewer, AreTakenCells, HasTaken}
+use Rattle.version_tables.proofs.Common.{◌≡◌, ◌≢◌, ℕ, ◌<◌, true, false, List, Some, inl, inr, refl, sym, ap, ◌∙◌, subst, arith, both_ways, nat_tests, Entry, Rules, Table, entry_at, generation_held, frame-applied, received-proper, cell, numbers_taken, VersionTableView, HistoriesView, table_in, delta_of_views, is_taken_at, AreLaidBoth, AreMarksOf, HasTaken}
+use Rattle.version_tables.proofs.Fitting.{turned}
 use Rattle.version_tables.proofs.Laid.{HoldsNumber, LiesAs, holds-same, kept-number, no-number}
 use Rattle.version_tables.proofs.TakenByOwner.{came_number, other_number, top_number}
 use Rattle.version_tables.proofs.TakenEntries.{after, Comes, after-sent, after-kept, after-dropped, came-held, came-lacked}
@@ -21,12 +22,6 @@ module _ {rules : Rules} {rotation : ℕ} {written : ℕ → List Entry} {most :
   abbrev received : Table
   received = after rules rotation two
 
-  pub are_taken : AreTakenCells F T (is_taken_at from to low high) (cell from.cells from.nodes) (cell to.cells to.nodes) (cell new.cells to.nodes)
-  are_taken = record {
-    came = λ owner key in_nodes in_keys. came_number two same taken owner in_nodes key in_keys;
-    others = λ owner key in_nodes in_keys. other_number two same taken owner in_nodes key in_keys;
-  }
-
   -- what comes is held by the sender, and marked
   held_there : (owner : ℕ) (d : Entry) → Comes rules rotation two owner d
       → (entry_at F owner d.key ≡ Some d) × (is_taken_at from to low high owner d.key ≡ true)
@@ -42,15 +37,15 @@ module _ {rules : Rules} {rotation : ℕ} {written : ℕ → List Entry} {most :
             let comes = (delta.marks.members owner key there.0 there.1).0 yes' in
             let keyed = (two.first.proper.in_place owner key there.0 there.1).keyed in
             holds-same (subst (λ k. entry_at received owner k ≡ Some there.0) keyed (after-sent rules rotation two owner there.0 comes) ∙ sym there.1)
-            (are_taken.came owner key in_nodes in_keys yes') (kept-number two.first owner key in_node in_key)
-        | false ↦ λ no'. elim (are_taken.others owner key in_nodes in_keys no') [
+            (came_number two same taken owner in_nodes key in_keys yes') (kept-number two.first owner key in_node in_key)
+        | false ↦ λ no'. elim (other_number two same taken owner in_nodes key in_keys no') [
           | inl stays ↦
               holds-same (after-kept rules rotation two owner key (elsewhere no')
               (λ d comes. let there = held_there owner d comes in stays.0 d.key d there.0 there.1))
               stays.1 (kept-number two.second owner key in_nodes in_keys)
           | inr gone ↦
-              let comes = (delta.marks.members owner gone.0.key gone.0.entry gone.0.held).0 gone.0.is_sent in
-              holds-same (after-dropped rules rotation two owner key gone.0.entry comes gone.0.newer (elsewhere no')) gone.1 (no-number (written owner) key)
+              let comes = (delta.marks.members owner gone.0.0 gone.0.1 gone.0.2).0 gone.0.3 in
+              holds-same (after-dropped rules rotation two owner key gone.0.1 comes gone.0.4 (elsewhere no')) gone.1 (no-number (written owner) key)
         ]
       ] refl
     where
@@ -77,10 +72,9 @@ module _ {rules : Rules} {rotation : ℕ} {written : ℕ → List Entry} {most :
 
 -- what came back to the sender changes nothing of what is taken of it: q sent p, and p sends q
 module _ {rules : Rules} {rotation : ℕ} {written : ℕ → List Entry} {most : ℕ} {h : HistoriesView} {p q : VersionTableView} {low high : List ℕ} {count cut : ℕ}
-    (two : AreLaidBoth written most h p q) (delta : AreMarksOf rules rotation written p q low high count cut) (low' high' now : List ℕ)
-    (came : AreTakenCells (table_in written q) (table_in written p) (is_taken_at q p low' high') (cell q.cells q.nodes) (cell p.cells p.nodes)
-    (cell now p.nodes)) where
-  not_sent : (owner key : ℕ) → SendsNewer (table_in written q) (table_in written p) (is_taken_at q p low' high') owner → owner < p.nodes → key < p.keys
+    {low' high' : List ℕ} {now : VersionTableView} (two : AreLaidBoth written most h p q) (delta : AreMarksOf rules rotation written p q low high count cut)
+    (took : HasTaken h.lists p q.cells low' high' now) where
+  not_sent : (owner key : ℕ) → generation_held (table_in written p) owner < generation_held (table_in written q) owner → owner < p.nodes → key < p.keys
       → is_taken_at p q low high owner key ≡ false
   not_sent owner key newer in_nodes in_keys = elim (is_taken_at p q low high owner key) as (λ b. is_taken_at p q low high owner key ≡ b → b ≡ false) [
     | false ↦ λ _. refl
@@ -88,21 +82,25 @@ module _ {rules : Rules} {rotation : ℕ} {written : ℕ → List Entry} {most :
         let there = delta.marks.held owner key in_nodes in_keys yes' in
         let lacked = came-lacked rules rotation two owner there.0 ((delta.marks.members owner key there.0 there.1).0 yes') in
         let copy = two.first.proper.copies owner key there.0 there.1 in
-        absurd (omega (arith, lacked.0, copy, newer.newer, two.second.proper.copies owner newer.key newer.entry newer.held))
+        absurd (omega (arith, lacked.0, copy, newer))
   ] refl
 
   pub same_taken : (owner key : ℕ) → owner < q.nodes → key < q.keys
-      → numbers_taken q.nodes q.cells now low high owner key ≡ numbers_taken q.nodes q.cells p.cells low high owner key
+      → numbers_taken q.nodes q.cells now.cells low high owner key ≡ numbers_taken q.nodes q.cells p.cells low high owner key
   same_taken owner key in_nodes in_keys =
-      let now_at : cell now q.nodes owner key ≡ cell now p.nodes owner key = ap (λ n. cell now n owner key) (sym two.both.size.nodes) in
+      let now_at : cell now.cells q.nodes owner key ≡ cell now.cells p.nodes owner key = ap (λ n. cell now.cells n owner key) (sym two.both.size.nodes) in
       let then_at : cell p.cells q.nodes owner key ≡ cell p.cells p.nodes owner key = ap (λ n. cell p.cells n owner key) (sym two.both.size.nodes) in
       let in_node : owner < p.nodes = omega (arith, in_nodes, two.both.size.nodes) in
       let in_key : key < p.keys = omega (arith, in_keys, two.both.size.keys) in
       elim (is_taken_at q p low' high' owner key) as (λ b. is_taken_at q p low' high' owner key ≡ b
-      → numbers_taken q.nodes q.cells now low high owner key ≡ numbers_taken q.nodes q.cells p.cells low high owner key) [
-        | true ↦ λ yes'. let is = came.came owner key in_node in_key yes' in grind (arith, nat_tests)
-        | false ↦ λ no'. elim (came.others owner key in_node in_key no') [
+      → numbers_taken q.nodes q.cells now.cells low high owner key ≡ numbers_taken q.nodes q.cells p.cells low high owner key) [
+        | true ↦ λ yes'. let is = came_number (turned two) (λ _ _ _ _. refl) took owner in_node key in_key yes' in grind (arith, nat_tests)
+        | false ↦ λ no'. elim (other_number (turned two) (λ _ _ _ _. refl) took owner in_node key in_key no') [
           | inl stays ↦ let is = stays.1 in grind (arith, nat_tests)
-          | inr gone ↦ let is = gone.1 in let none = not_sent owner key gone.0 in_node in_key in grind (arith, nat_tests)
+          | inr gone ↦
+              let is = gone.1 in
+              let newer = gone.0 in
+              let none = not_sent owner key (omega (arith, newer.4, two.second.proper.copies owner newer.0 newer.1 newer.2)) in_node in_key in
+              grind (arith, nat_tests)
         ]
       ] refl

@@ -1,3 +1,4 @@
+pub mod Common
 pub mod Taken
 pub mod Merged
 pub mod Histories

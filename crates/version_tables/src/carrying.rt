@@ -1,12 +1,10 @@
 //! Tables of versions as tables that a simulation carries through its rounds.
 
-ghost use Rattle.std.specs.Prelude.{◌≡◌, ◌+◌, OnOk, OnErr, IfOk, IsOkUnless};
+ghost use Rattle.std.specs.Prelude.{IfOk, IsOkUnless};
 ghost use denote.Param.Send.{IsSync};
 ghost use Rattle.bench_types.specs.declared.faults.Fault.TheVariants.{OutOfMemory};
-ghost use Rattle.model.specs.Table.{with_own_write};
-ghost use Rattle.round_tables.specs.Histories.{AddsWrite, AreFiguresCounted, MayWrite, StandAtRoundEnd};
+ghost use Rattle.round_tables.specs.Histories.{AreFiguresCounted, StandAtRoundEnd};
 ghost use Rattle.version_tables.specs.Views.{table_in};
-ghost use Rattle.version_tables.specs.inner.Histories.{IsWriteUnder};
 
 use crate::ended::{Ended, figures_in_parts};
 use crate::histories::Histories;
@@ -26,26 +24,6 @@ impl Written for Brand {
     ghost use Rattle.std.specs.Prelude.{[]};
 
     ghost lists = { λ _. [] };
-}
-
-// A node's own write: its list tells what stands under the number that the table keeps.
-fn write<N: Number, H: Written>(
-    table: &mut VersionTable<N, H>,
-    histories: &mut Histories<N, H>,
-    key: u32,
-    value: u32,
-) -> Result<(), Fault>
-    requires { MayWrite (IsWriteUnder H.lists N.most) (table_in H.lists table.old) histories.old key value }
-    ensures table { OnOk result (table_in H.lists table.new
-        ≡ with_own_write (table_in H.lists table.old) key value (histories.old.rounds + 1)) }
-    ensures kept { OnOk result (AddsWrite (table_in H.lists table.old) key value histories.old histories.new) }
-    ensures err { OnErr result (histories.new ≡ histories.old) }
-    ensures only { IsOkUnless result OutOfMemory }
-{
-    let node = table.node();
-    let number = histories.write(node, key, value)?;
-    table.write_own(key, number);
-    Ok(())
 }
 
 impl<N: SharedNumber + Send + Sync, H: Written + Send + Sync> RoundHistories<VersionTable<N, H>>
@@ -82,7 +60,10 @@ impl<N: SharedNumber + Send + Sync, H: Written + Send + Sync> RoundHistories<Ver
     }
 
     fn write(&mut self, table: &mut VersionTable<N, H>, key: u32, value: u32) -> Result<(), Fault> {
-        write(table, self, key, value)
+        let node = table.node();
+        let number = self.write(node, key, value)?;
+        table.write_own(key, number);
+        Ok(())
     }
 
     fn end_writes(&mut self) -> Result<(), Fault> {

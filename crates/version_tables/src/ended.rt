@@ -1,18 +1,11 @@
 //! Tables and histories at the end of a round, of which several threads count the figures, each those of some tables.
 
-ghost use Rattle.std.specs.Prelude.{◌≡◌, length, IfOk, IsOkUnless};
-ghost use Rattle.bench_types.specs.declared.faults.Fault.TheVariants.{OutOfMemory};
-ghost use Rattle.model.specs.Figures.{figures_of};
-ghost use Rattle.model.specs.calls.OwnerListView.{lists_in};
-ghost use Rattle.round_tables.specs.Histories.{AreFiguresCounted};
-ghost use Rattle.version_lags.specs.Bounds.{AreBounds};
-ghost use Rattle.version_tables.specs.Views.{table_in};
-ghost use Rattle.version_tables.specs.inner.Beside.{tables_of_views, AreAtRoundEnd, AreCountedInParts};
+ghost use Rattle.version_tables.specs.inner.Common.{length, IfOk, IsOkUnless, OutOfMemory, AreFiguresCounted, StandAtRoundEnd, AreBounds, table_in};
 
 use crate::histories::Histories;
 use crate::lags::{cells_of, numbers_of};
 use crate::tables::{VersionTable, Written};
-use bench_types::{Fault, Figures};
+use bench_types::Fault;
 use crew::{Answered, Crew, Divided, LookJob, Parted, look_in_parts};
 use planes::Number;
 use round_tables::Counted;
@@ -50,7 +43,7 @@ pub(crate) fn figures_in_parts<N: Number, H: Written, C: Crew<LookJob<Ended<N, H
     ended: Ended<N, H>,
     bounds: Vec<usize>,
 ) -> Result<Counted<VersionTable<N, H>, Histories<N, H>>, Fault>
-    requires ended { AreAtRoundEnd H.lists ended.tables.items ended.histories }
+    requires ended { StandAtRoundEnd (table_in H.lists) ended.tables.items ended.histories }
     requires bounds { AreBounds (length ended.tables.items) bounds.items }
     ensures counted { IfOk result
         (AreFiguresCounted (table_in H.lists) (λ h. h) ended.histories ended.tables.items) }
@@ -62,25 +55,13 @@ pub(crate) fn figures_in_parts<N: Number, H: Written, C: Crew<LookJob<Ended<N, H
         bounds,
     };
     let Answered { whole, answers } = look_in_parts(rt, alloc, crew, divided)?;
-    let figures = figures_of_answers(&whole, &answers)?;
+    let figures = {
+        let cells = cells_of(alloc, &whole.tables)?;
+        figures_of_pieces(alloc, &numbers_of(&cells, &whole.histories), &answers)?
+    };
     Ok(Counted {
         figures,
         tables: whole.tables,
         histories: whole.histories,
     })
-}
-
-// The figures by what was counted of each part.
-fn figures_of_answers<N: Number, H: Written>(
-    ended: &Ended<N, H>,
-    pieces: &[Result<Piece<N>, Fault>],
-) -> Result<Figures, Fault>
-    requires ended { AreAtRoundEnd H.lists ended.now.tables.items ended.now.histories }
-    requires pieces { AreCountedInParts N.number N.most H.lists ended.now pieces.now }
-    ensures figures { IfOk result (λ f. f ≡ figures_of ended.now.histories.rounds
-        (tables_of_views H.lists ended.now.tables.items) (lists_in ended.now.histories.lists)) }
-    ensures only { IsOkUnless result OutOfMemory }
-{
-    let cells = cells_of(ended.alloc, &ended.tables)?;
-    figures_of_pieces(ended.alloc, &numbers_of(&cells, &ended.histories), pieces)
 }

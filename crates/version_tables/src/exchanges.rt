@@ -1,12 +1,9 @@
 //! The exchange of an initiator and a responder whose tables keep versions alone.
 
-ghost use Rattle.std.specs.Prelude.{◌≡◌, IfOk, OnOk, OnErr, IsOkUnless};
-ghost use Rattle.bench_types.specs.declared.faults.Fault.TheVariants.{OutOfMemory};
-ghost use Rattle.model.specs.calls.Exchanging.{MakesOf};
-ghost use Rattle.version_tables.specs.Views.{table_in};
+ghost use Rattle.version_tables.specs.inner.Common.{◌≡◌, IfOk, OnErr, IsOkUnless, OutOfMemory, MakesOf, table_in};
 ghost use Rattle.version_tables.specs.inner.Deltas.{HasCome};
 ghost use Rattle.version_tables.specs.inner.Histories.{IsReadyExchange};
-ghost use Rattle.version_tables.specs.inner.Taken.{BothStay, HaveTakenBoth, MayTakeBoth};
+ghost use Rattle.version_tables.specs.inner.Taken.{BothStay};
 
 use crate::deltas::{Course, delta};
 use crate::digests::{digest_size, digest_sizes};
@@ -79,6 +76,9 @@ fn exchange_deltas<N: Number, H: Written>(
         return Ok(sent_back(held.peer, held.own, back.counts));
     }
     let forth = delta(initiator, responder, course)?;
+    let histories = course.histories;
+    let initiator_before = Vec::from_slice(course.alloc, initiator.greatest())?;
+    let responder_before = Vec::from_slice(course.alloc, responder.greatest())?;
     let came = Arrival {
         marks: &back,
         nothing: back.counts.sent == 0,
@@ -87,30 +87,9 @@ fn exchange_deltas<N: Number, H: Written>(
         marks: &forth,
         nothing: plan.lost3 | (forth.counts.sent == 0),
     };
-    take_both(course, initiator, responder, came, went)?;
-    Ok(sent_both(held.peer, held.own, back.counts, forth.counts, plan.lost3))
-}
-
-// Each side takes what came to it, unless that is nothing. The second delta may also be lost.
-fn take_both<N: Number, H: Written>(
-    course: &Course<N, H>,
-    initiator: &mut VersionTable<N, H>,
-    responder: &mut VersionTable<N, H>,
-    back: Arrival<N>,
-    forth: Arrival<N>,
-) -> Result<(), Fault>
-    requires { MayTakeBoth N.number H.lists course.now.histories.now initiator.old responder.old back forth }
-    ensures ok { OnOk result (HaveTakenBoth N.number course.now.histories.now initiator.old responder.old
-        back.entry forth.entry initiator.new responder.new) }
-    ensures stay { OnErr result (BothStay initiator.old responder.old initiator.new responder.new) }
-    ensures only { IsOkUnless result OutOfMemory }
-{
-    let histories = course.histories;
-    let initiator_before = Vec::from_slice(course.alloc, initiator.greatest())?;
-    let responder_before = Vec::from_slice(course.alloc, responder.greatest())?;
     let came_back = responder.cells();
-    take_unless(initiator, came_back, back, &initiator_before, histories);
+    take_unless(initiator, came_back, came, &initiator_before, histories);
     let came_forth = initiator.cells();
-    take_unless(responder, came_forth, forth, &responder_before, histories);
-    Ok(())
+    take_unless(responder, came_forth, went, &responder_before, histories);
+    Ok(sent_both(held.peer, held.own, back.counts, forth.counts, plan.lost3))
 }

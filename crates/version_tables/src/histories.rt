@@ -46,13 +46,13 @@ impl<N: Number, H: Written> Model for Histories<N, H> {
 }
 
 impl<N: Number, H: Written> Histories<N, H> {
-    ghost use Rattle.std.specs.Prelude.{ℕ, ◌+◌, ◌^◌, ◌<◌, map, length, IfOk, OnOk, OnErr};
+    ghost use Rattle.std.specs.Prelude.{◌+◌, ◌^◌, ◌<◌, map, length, IfOk, OnOk, OnErr};
     ghost use Rattle.bench_types.specs.declared.limits.TheConstants.{MOST_ROUNDS};
-    ghost use Rattle.model.specs.calls.OwnerListView.{all_writes, list_of_owner, with_write, begun_generation, AreWrites};
+    ghost use Rattle.model.specs.calls.OwnerListView.{all_writes, list_of_owner, with_write, begun_generation};
     ghost use Rattle.planes.specs.Planes.{HasEach, HasEachPlace};
     ghost use Rattle.round_tables.specs.Histories.{round_ended, AreNewHistories, HistoryBecomes, KeepLimits};
     ghost use Rattle.version_tables.specs.Views.{AreSizes};
-    ghost use Rattle.version_tables.specs.inner.Histories.{AreEndsOf, AreKnown, IsWrittenSoFar, MayAddWrite};
+    ghost use Rattle.version_tables.specs.inner.Histories.{bases_in, AreEndsOf, AreKnown, MayAddWrite};
     ghost use Rattle.version_lags.specs.Missed.{IsLastNumber};
 
     /// Where so many owners with so many keys each have written nothing, before the first round. An error is lack of
@@ -131,20 +131,14 @@ impl<N: Number, H: Written> Histories<N, H> {
     /// The owners' lists.
     pub fn lists(&self) -> &[OwnerWrites]
         ensures value { result.now ≡ self.now.lists }
-        ensures so_far { (owner : ℕ)
-            → IsWrittenSoFar (H.lists owner) N.most self.now.rounds
-            (all_writes self.now.lists owner) }
-        ensures writes { (owner : ℕ) → AreWrites (list_of_owner self.now.lists owner) }
+        ensures known { AreKnown H.lists N.most self.now }
     {
         &self.lists
     }
 
     // How many writes of earlier generations each owner has made.
     pub(crate) fn bases(&self) -> &[N]
-        ensures value { HasEach (length self.now.lists)
-            (λ r n. n ≡ length (list_of_owner self.now.lists r).earlier)
-            (map N.number result.now) }
-        ensures writes { (owner : ℕ) → AreWrites (list_of_owner self.now.lists owner) }
+        ensures { HasEach (length self.now.lists) (λ r n. n ≡ bases_in self.now.lists r) (map N.number result.now) }
     {
         &self.bases
     }

@@ -1,12 +1,7 @@
 //! The figures of a round, where tables keep versions alone.
 
-ghost use Rattle.std.specs.Prelude.{◌≡◌, List, IfOk, IsOkUnless};
-ghost use Rattle.bench_types.specs.declared.faults.Fault.TheVariants.{OutOfMemory};
-ghost use Rattle.model.specs.Figures.{figures_of};
-ghost use Rattle.model.specs.calls.OwnerListView.{lists_in};
-ghost use Rattle.version_lags.specs.Pieces.{numbers_in};
-ghost use Rattle.version_tables.specs.Views.{VersionTableView};
-ghost use Rattle.version_tables.specs.inner.Beside.{tables_of_views, AreAtRoundEnd, AreCellsOf, AreNumbersBeside};
+ghost use Rattle.version_tables.specs.inner.Common.{◌≡◌, List, map, IfOk, IsOkUnless, OutOfMemory, figures_of, lists_in, StandAtRoundEnd, numbers_in, VersionTableView, table_in};
+ghost use Rattle.version_tables.specs.inner.Beside.{AreCellsOf, AreNumbersBeside};
 
 use crate::histories::Histories;
 use crate::tables::{VersionTable, Written};
@@ -37,7 +32,7 @@ pub(crate) fn numbers_of<'a, N: Number, H: Written>(
     cells: &'a [&'a [N]],
     histories: &'a Histories<N, H>,
 ) -> RoundNumbers<'a, N>
-    ensures { (views : List VersionTableView) → AreAtRoundEnd H.lists views histories.now
+    ensures { (views : List VersionTableView) → StandAtRoundEnd (table_in H.lists) views histories.now
         → AreCellsOf H.lists views (numbers_in N.number cells.now)
         → AreNumbersBeside N.number N.most H.lists views histories.now result }
 {
@@ -57,9 +52,9 @@ pub(crate) fn figures<N: Number + Send + Sync, H: Written>(
     tables: &[VersionTable<N, H>],
     histories: &Histories<N, H>,
 ) -> Result<Figures, Fault>
-    requires { AreAtRoundEnd H.lists tables.now histories.now }
+    requires { StandAtRoundEnd (table_in H.lists) tables.now histories.now }
     ensures figures { IfOk result (λ f. f
-        ≡ figures_of histories.now.rounds (tables_of_views H.lists tables.now) (lists_in histories.now.lists)) }
+        ≡ figures_of histories.now.rounds (map (table_in H.lists) tables.now) (lists_in histories.now.lists)) }
     ensures only { IsOkUnless result OutOfMemory }
 {
     let cells = cells_of(resources.alloc, tables)?;
@@ -78,9 +73,9 @@ pub trait SharedNumber: Number {
         histories: &Histories<Self, H>,
     ) -> Result<Figures, Fault>
         requires sync { IsSync R.row }
-        requires ended { AreAtRoundEnd H.lists tables.now histories.now }
+        requires ended { StandAtRoundEnd (table_in H.lists) tables.now histories.now }
         ensures figures { IfOk result (λ f. f
-            ≡ figures_of histories.now.rounds (tables_of_views H.lists tables.now) (lists_in histories.now.lists)) }
+            ≡ figures_of histories.now.rounds (map (table_in H.lists) tables.now) (lists_in histories.now.lists)) }
         ensures only { IsOkUnless result OutOfMemory };
 }
 

@@ -1,11 +1,9 @@
 //! Exchanges of which all comes and surely fits: each table takes all that the other has above its own greatest
 //! numbers, both ways in one pass. Nothing is planned, and no memory is taken.
 
-ghost use Rattle.std.specs.Prelude.{◌≡◌, ◌*◌, ◌≤◌, ◌↔◌, IsTrue};
-ghost use Rattle.bench_types.specs.Budget.{amount_of, largest_share};
-ghost use Rattle.version_tables.specs.Views.{table_in};
+ghost use Rattle.version_tables.specs.inner.Common.{◌≡◌, ◌*◌, ◌≤◌, ◌↔◌, IsTrue, amount_of, largest_share};
 ghost use Rattle.version_tables.specs.inner.Deltas.{AreOfOneSize, FitBoth};
-ghost use Rattle.version_tables.specs.inner.Histories.{bases_in, FitsHistories};
+ghost use Rattle.version_tables.specs.inner.Histories.{bases_in};
 ghost use Rattle.version_tables.specs.inner.Merged.{AreCurrent, BothStayMerged, HasNoNewer, HaveMerged, IsMostAhead, MayMerge, SurelyFits};
 
 use crate::histories::Histories;
@@ -59,16 +57,6 @@ fn all_fits<N: Number, H: Written>(
         && all_ahead_fits(initiator, responder, budget, most.second)
 }
 
-fn is_current<N: Number, H: Written>(
-    table: &VersionTable<N, H>,
-    histories: &Histories<N, H>,
-) -> bool
-    requires { FitsHistories histories.now (table_in H.lists table.now) }
-    ensures { IsTrue result ↔ AreCurrent (bases_in histories.now.lists) table.now }
-{
-    planes::none_upto(table.greatest(), histories.bases())
-}
-
 // Most often no owner has forgotten, which one fast loop tells.
 fn are_current<N: Number, H: Written>(
     initiator: &VersionTable<N, H>,
@@ -79,10 +67,11 @@ fn are_current<N: Number, H: Written>(
     ensures { IsTrue result ↔ (AreCurrent (bases_in histories.now.lists) initiator.now
         × AreCurrent (bases_in histories.now.lists) responder.now) }
 {
-    if planes::count_held(histories.bases()) == 0 {
+    let bases = histories.bases();
+    if planes::count_held(bases) == 0 {
         return true;
     }
-    is_current(initiator, histories) && is_current(responder, histories)
+    planes::none_upto(initiator.greatest(), bases) && planes::none_upto(responder.greatest(), bases)
 }
 
 fn has_no_newer<N: Number, H: Written>(

@@ -1,9 +1,6 @@
 //! What is dropped of numbers: all, or those of all owners but one.
 
-ghost use Rattle.std.specs.Prelude.{◌≡◌, ◌<◌, ◌==◌, length, map, if◌then◌else◌};
-ghost use Rattle.grids.specs.Grids.{HasColumn};
-ghost use Rattle.planes.specs.Planes.{ArePlanesChanged};
-ghost use Rattle.planes.specs.Elementwise.{AreChanged};
+ghost use Rattle.version_tables.specs.inner.Common.{◌≡◌, ◌<◌, ◌==◌, length, map, if◌then◌else◌, HasColumn, ArePlanesChanged, AreChanged};
 
 use planes::{Number, Size};
 

@@ -1,10 +1,6 @@
 //! What a table holds once it has taken a delta.
 
-ghost use Rattle.std.specs.Prelude.{◌≡◌, length, map};
-ghost use Rattle.model.specs.calls.OwnerListView.{all_writes, entries_of};
-ghost use Rattle.grids.specs.Grids.{number_kept, HasColumn, IsOwnerKept};
-ghost use Rattle.planes.specs.Planes.{ArePlanesChanged};
-ghost use Rattle.owner_writes.specs.Numbered.{IsNumberedHistory};
+ghost use Rattle.version_tables.specs.inner.Common.{◌≡◌, map, all_writes, entries_of, number_kept, HasColumn, IsOwnerKept, ArePlanesChanged, IsNumberedHistory};
 ghost use Rattle.version_tables.specs.inner.Taken.{drop_start, drop_starts, HasArrived, MayArrive, MayDrop};
 
 use crate::deltas::DeltaMarks;

@@ -1,7 +1,5 @@
 -- The code of what contracts see of tables of versions. Source: this project.
-use Rattle.std.specs.Prelude.{ℕ, List, refl}
-use Rattle.std.specs.Coded.{Coded, code_by, coded×, coded_ℕ, coded_list}
-use Rattle.version_tables.specs.Views.{VersionTableView}
+use Rattle.version_tables.specs.inner.Common.{ℕ, List, refl, Coded, code_by, coded×, coded_ℕ, coded_list, VersionTableView}
 
 abbrev pub table_view_code : Coded VersionTableView
 table_view_code =

@@ -1,18 +1,7 @@
 -- A delta as marks for each owner. Source: this project.
-use Rattle.std.specs.Prelude.{◌≡◌, ℕ, ◌<◌, Bool, false, List, length, slice_index}
-use Rattle.bench_types.specs.declared.entries.Entry.{Entry}
-use Rattle.bench_types.specs.declared.exchanges.DigestKind.{DigestKind}
-use Rattle.bench_types.specs.declared.exchanges.Exchange.{Exchange}
-use Rattle.bench_types.specs.declared.exchanges.Rules.{Rules}
-use Rattle.bench_types.specs.calls.Budget.{IsLawfulBudget}
+use Rattle.version_tables.specs.inner.Common.{◌≡◌, ℕ, ◌<◌, Bool, false, List, length, slice_index, Entry, Exchange, Rules, digest_kind, IsLawfulBudget, cell, DeltaView, DigestKind, delta_between, digest_size, HistoriesView, VersionTableView, table_in, IsKept, AreSent}
 use Rattle.grids.specs.declared.masks.Held.{Held}
-use Rattle.planes.specs.Planes.{cell}
-use Rattle.model.specs.Deltas.{DeltaView, delta_between}
-use Rattle.model.specs.Digests.{digest_size}
-use Rattle.round_tables.specs.Histories.{HistoriesView}
-use Rattle.version_tables.specs.Views.{VersionTableView, table_in, IsKept}
 use Rattle.version_tables.specs.inner.Histories.{AreKnown, FitsHistories, IsReadyExchange}
-use Rattle.delta_plans.specs.Offers.{AreSent}
 use Rattle.version_tables.specs.inner.Taken.{is_taken}
 
 -- the delta from one table to another, where this is what the owners write

@@ -1,24 +1,21 @@
 -- What tables of versions owe to the histories stays through exchanges. Source: this project.
-use Rattle.std.specs.Prelude.{◌≡◌, ℕ, List, length}
+use Rattle.version_tables.specs.inner.Common.{◌≡◌, ℕ, List, length, Entry, Table, IsProper, delta_between, fate_of, IsKeptByExchanges, MayMeet, StoodInEither, HistoriesView}
 use Rattle.std.proofs.Common.{inl, inr, ◌∙◌}
-use Rattle.bench_types.specs.declared.entries.Entry.{Entry}
-use Rattle.model.specs.Table.{Table, IsProper}
 use Rattle.model.proofs.TableLaws.{frame-applied}
-use Rattle.model.specs.Deltas.{delta_between}
-use Rattle.model.specs.Exchanged.{fate_of}
-use Rattle.model.specs.calls.Exchanging.{IsKeptByExchanges}
-use Rattle.model.specs.calls.ExchangeLaws.{MayMeet, StoodInEither}
 use Rattle.model.proofs.Cases.{initiator_after-either, responder_after-either}
 use Rattle.model.proofs.ExchangeLaws.{initiator_proper, responder_proper, initiator_either, responder_either}
-use Rattle.round_tables.specs.Histories.{HistoriesView}
 use Rattle.version_tables.specs.inner.Histories.{FitsRun}
 
 pub fits_stays : (written : ℕ → List Entry) (most : ℕ) (h : HistoriesView) → IsKeptByExchanges (FitsRun written most h)
 fits_stays written most h rules e p q may fit_p fit_q =
     let back = delta_between rules.mode e.rotation rules.budget q p in
     let forth = delta_between rules.mode e.rotation rules.budget p q in (
-      after _ (initiator_proper rules e p q meet) (initiator_after-either (λ t. t.nodes ≡ length h.lists) (fate_of e) p back fit_p.among.nodes ((frame-applied p back.items).nodes ∙ fit_p.among.nodes)) (initiator_either rules e p q meet),
-      after _ (responder_proper rules e p q meet) (responder_after-either (λ t. t.nodes ≡ length h.lists) (fate_of e) q forth fit_q.among.nodes ((frame-applied q forth.items).nodes ∙ fit_q.among.nodes)) (responder_either rules e p q meet),
+      after _ (initiator_proper rules e p q meet)
+          (initiator_after-either (λ t. t.nodes ≡ length h.lists) (fate_of e) p back fit_p.among.nodes ((frame-applied p back.items).nodes ∙ fit_p.among.nodes))
+          (initiator_either rules e p q meet),
+      after _ (responder_proper rules e p q meet)
+          (responder_after-either (λ t. t.nodes ≡ length h.lists) (fate_of e) q forth fit_q.among.nodes ((frame-applied q forth.items).nodes ∙ fit_q.among.nodes))
+          (responder_either rules e p q meet),
     )
   where
     meet : MayMeet e p q
@@ -30,7 +27,8 @@ fits_stays written most h rules e p q may fit_p fit_q =
       among = record {
         proper = proper;
         nodes = nodes;
-        holds = λ owner key x found. elim (either owner key x found) [ inl held ↦ fit_p.among.holds owner key x held | inr held ↦ fit_q.among.holds owner key x held ];
+        holds = λ owner key x found.
+            elim (either owner key x found) [ inl held ↦ fit_p.among.holds owner key x held | inr held ↦ fit_q.among.holds owner key x held ];
         made = fit_p.among.made;
       };
     }

@@ -1,20 +1,5 @@
 -- What the owners wrote so far, beside all that they write in the run. Source: this project.
-use Rattle.std.specs.Prelude.{◌≡◌, ℕ, ◌+◌, ◌*◌, ◌^◌, ◌<◌, ◌≤◌, List, length, map, Contains, Some}
-use Rattle.bench_types.specs.declared.entries.Entry.{Entry}
-use Rattle.bench_types.specs.declared.exchanges.Exchange.{Exchange}
-use Rattle.bench_types.specs.declared.exchanges.Rules.{Rules}
-use Rattle.bench_types.specs.calls.Budget.{IsLawfulBudget}
-use Rattle.bench_types.specs.Mark.{mark_of}
-use Rattle.model.specs.calls.Exchanging.{MayBeExchanged}
-use Rattle.model.specs.Table.{Table, entry_at, IsProper}
-use Rattle.model.specs.calls.OwnerListView.{OwnerListView, all_writes, AreWrites, list_of_owner, next_entry, no_writes}
-use Rattle.model.specs.calls.Numbers.{write_numbered}
-use Rattle.planes.specs.Planes.{HasEach, HasEachPlace, cell}
-use Rattle.planes.specs.declared.ends.Ends.{Ends}
-use Rattle.round_tables.specs.Histories.{HistoriesView, KeepLimits}
-use Rattle.delta_plans.specs.declared.told_marks.Owners.{Owners}
-use Rattle.version_lags.specs.Missed.{IsLastNumber}
-use Rattle.owner_writes.specs.Numbered.{IsHistory, IsNumberedHistory, AreEnds, AreMadeBy}
+use Rattle.version_tables.specs.inner.Common.{◌≡◌, ℕ, ◌+◌, ◌*◌, ◌^◌, ◌<◌, ◌≤◌, List, length, map, Contains, Some, Entry, Exchange, Rules, IsLawfulBudget, mark_of, MayBeExchanged, Table, entry_at, IsProper, OwnerListView, all_writes, AreWrites, list_of_owner, next_entry, no_writes, write_numbered, HasEach, HasEachPlace, cell, Ends, HistoriesView, KeepLimits, Owners, IsLastNumber, IsHistory, IsNumberedHistory, AreEnds, AreMadeBy}
 
 -- some writes are the first of all
 abbrev pub IsBeginning : List Entry → List Entry → Type 0

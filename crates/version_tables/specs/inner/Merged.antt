@@ -1,16 +1,5 @@
 -- Two tables that take of each other all that is above their own greatest numbers. Source: this project.
-use Rattle.std.specs.Prelude.{◌≡◌, ℕ, ◌*◌, ◌<◌, ◌≤◌, ◌&&◌, ◌⊎◌, false, max, nat_lt, nat_le, List, slice_index}
-use Rattle.bench_types.specs.declared.entries.Entry.{Entry}
-use Rattle.bench_types.specs.declared.exchanges.Budget.{Budget}
-use Rattle.bench_types.specs.declared.exchanges.DigestKind.TheVariants.{Scuttle}
-use Rattle.bench_types.specs.declared.exchanges.Rules.{Rules}
-use Rattle.bench_types.specs.Budget.{amount_of, largest_share}
-use Rattle.bench_types.specs.Mode.{digest_kind}
-use Rattle.planes.specs.Elementwise.{AreChanged}
-use Rattle.grids.specs.declared.merges.BothCounts.{BothCounts}
-use Rattle.planes.specs.Planes.{cell, most_ahead, number_raised, total_above, ArePlanesChanged}
-use Rattle.round_tables.specs.Histories.{HistoriesView}
-use Rattle.version_tables.specs.Views.{VersionTableView, IsKept}
+use Rattle.version_tables.specs.inner.Common.{◌≡◌, ℕ, ◌*◌, ◌<◌, ◌≤◌, ◌&&◌, ◌⊎◌, false, max, nat_lt, nat_le, List, slice_index, Entry, Budget, Scuttle, Rules, amount_of, largest_share, digest_kind, AreChanged, BothCounts, cell, most_ahead, number_raised, total_above, ArePlanesChanged, HistoriesView, VersionTableView, IsKept}
 use Rattle.version_tables.specs.inner.Histories.{bases_in}
 use Rattle.version_tables.specs.inner.Deltas.{AreOfOneSize}
 

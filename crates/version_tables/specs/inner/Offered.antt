@@ -1,34 +1,16 @@
 -- What is offered from one table to another, in memory. Source: this project.
-use Rattle.std.specs.Prelude.{◌≡◌, ◌≢◌, ℕ, ◌<◌, ◌≤◌, List, length, map, slice_index}
-use Rattle.bench_types.specs.declared.entries.Entry.{Entry}
-use Rattle.bench_types.specs.declared.exchanges.DigestKind.{DigestKind}
-use Rattle.bench_types.specs.declared.exchanges.Rules.{Rules}
-use Rattle.bench_types.specs.Mode.{digest_kind}
-use Rattle.model.specs.calls.OwnerListView.{all_writes}
-use Rattle.planes.specs.Planes.{cell, total_above, HasEach, HasEachPlace}
-use Rattle.round_tables.specs.Histories.{HistoriesView}
-use Rattle.version_tables.specs.Views.{VersionTableView, IsKept}
-use Rattle.version_tables.specs.declared.deltas.Counted.{Counted}
+use Rattle.version_tables.specs.inner.Common.{◌≡◌, ◌≢◌, ℕ, ◌<◌, ◌≤◌, List, length, map, slice_index, Entry, DigestKind, Rules, digest_kind, all_writes, cell, total_above, HasEach, HasEachPlace, HistoriesView, VersionTableView, IsKept, offered_by, told_by, told_number}
 use Rattle.version_tables.specs.declared.deltas.DeltaMarks.{DeltaMarks}
 use Rattle.version_tables.specs.declared.deltas.Offered.{Offered}
 use Rattle.version_tables.specs.inner.Deltas.{AreMarksOf, MaySend}
-use Rattle.delta_plans.specs.declared.marked.First.{First}
-use Rattle.delta_plans.specs.declared.marked.Marked.{Marked}
-use Rattle.delta_plans.specs.LevelMarks.{by_first, first_sent}
-use Rattle.delta_plans.specs.Offers.{offered_by, told_by, told_number}
 
--- the marks that a receiver tells, whose table is one
-pub record AreTold {N : Type 0} (number : N → ℕ) (most : ℕ) (written : ℕ → List Entry) (kind : DigestKind)
-    (to : VersionTableView) (h : HistoriesView) (low : List N) : Type 0 where
-  pub kept : IsKept written to
-  pub told : HasEach (length h.lists)
-      (λ r n. n ≡ told_number kind most to.node (all_writes h.lists) (slice_index to.greatest) r) (map number low)
-
--- and a sender may send it a delta by them
+-- a sender may send a delta to a receiver by the marks that this tells
 pub record MaySendTold {N : Type 0} (number : N → ℕ) (most : ℕ) (written : ℕ → List Entry) (rules : Rules) (turn : ℕ)
     (h : HistoriesView) (from to : VersionTableView) (low : List N) : Type 0 where
   pub may : MaySend rules turn written h from to
-  pub told : AreTold number most written (digest_kind rules.mode) to h low
+  pub kept : IsKept written to
+  pub told : HasEach (length h.lists) (λ r n. n
+      ≡ told_number (digest_kind rules.mode) most to.node (all_writes h.lists) (slice_index to.greatest) r) (map number low)
 
 -- low marks above which a receiver lacks what a sender has: what is told of other owners, and of itself no less than
 -- both have
@@ -48,22 +30,12 @@ AreOffered kind from to low cells =
 -- the numbers offered over low marks, and how many these are
 pub record IsOffered {N : Type 0} (number : N → ℕ) (kind : DigestKind) (from to : VersionTableView)
     (offered : Offered N) : Type 0 where
-  pub cells : AreOffered kind from to (map number offered.low.now) (map number offered.cells.now)
+  pub cells : AreOffered kind from to (map number offered.low.items) (map number offered.cells.now)
   pub found : offered.found
-      ≡ total_above from.nodes from.keys (map number offered.cells.now) (map number offered.low.now)
+      ≡ total_above from.nodes from.keys (map number offered.cells.now) (map number offered.low.items)
 
--- marks of a delta, from those that are told and those that a plan has, by what goes first
-pub record AreMarksBy {N : Type 0} (number : N → ℕ) (first : First) (low high : List N) (counted : Counted N)
-    (d : DeltaMarks N) : Type 0 where
-  pub low_is : map number d.low.items ≡ by_first first (map number low) (map number counted.marked.mark.items)
-  pub high_is : map number d.high.items ≡ by_first first (map number counted.marked.mark.items) (map number high)
-  pub counts : d.counts ≡ counted.marked.counts
-  pub held : d.held ≡ counted.held
-
--- a plan has marks of a delta
-abbrev pub IsPlanned : {N : Type 0} → (N → ℕ) → (ℕ → List Entry) → Rules → ℕ → VersionTableView
-    → VersionTableView → List N → Marked N → Type 0
-IsPlanned number written rules rotation from to low marked =
-    AreMarksOf rules rotation written from to
-    (by_first (first_sent rules.mode) (map number low) (map number marked.mark.items))
-    (by_first (first_sent rules.mode) (map number marked.mark.items) from.greatest) marked.counts.sent marked.counts.cut
+-- these are the marks of a delta, in memory
+abbrev pub IsDelta : {N : Type 0} → (N → ℕ) → (ℕ → List Entry) → Rules → ℕ → VersionTableView
+    → VersionTableView → DeltaMarks N → Type 0
+IsDelta number written rules rotation from to d =
+    AreMarksOf rules rotation written from to (map number d.low.items) (map number d.high.items) d.counts.sent d.counts.cut

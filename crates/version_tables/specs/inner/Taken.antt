@@ -1,42 +1,11 @@
 -- The cells of a table that has taken a delta. Source: this project.
-use Rattle.std.specs.Prelude.{◌≡◌, ℕ, ◌<◌, ◌≤◌, ◌⊎◌, ◌&&◌, Bool, true, false, max, nat_lt, nat_le, List, length, map, slice_index, Some, if◌then◌else◌}
-use Rattle.bench_types.specs.declared.entries.Entry.{Entry}
-use Rattle.model.specs.Table.{Table, entry_at, generation_held}
-use Rattle.grids.specs.Grids.{number_kept}
-use Rattle.planes.specs.Planes.{Cells, numbers_taken, ArePlanesChanged, AreRaised, IsGrid}
-use Rattle.version_tables.specs.Views.{VersionTableView, IsKept}
-use Rattle.model.specs.calls.OwnerListView.{OwnerListView, all_writes}
-use Rattle.delta_plans.specs.declared.told_marks.Owners.{Owners}
+use Rattle.version_tables.specs.inner.Common.{◌≡◌, ℕ, ◌&&◌, Bool, true, false, max, nat_lt, nat_le, List, length, map, slice_index, if◌then◌else◌, Entry, number_kept, numbers_taken, ArePlanesChanged, AreRaised, IsGrid, VersionTableView, IsKept, OwnerListView, all_writes, Owners, HistoriesView, start_of}
 use Rattle.version_tables.specs.declared.taking.Arrival.{Arrival}
-use Rattle.round_tables.specs.Histories.{HistoriesView}
 use Rattle.version_tables.specs.inner.Histories.{bases_in, AreOwners}
-use Rattle.owner_writes.specs.Numbered.{start_of}
 
 -- a sent number is taken that is above the receiver's and one mark, and up to another
 abbrev pub is_taken : ℕ → ℕ → ℕ → ℕ → Bool
 is_taken number sent low high = nat_lt (max number low) sent && nat_le sent high
-
--- nothing of the owner that is sent is of a newer generation than the receiver's copy
-abbrev pub SendsNoNewer : Table → Table → (ℕ → ℕ → Bool) → ℕ → Type 0
-SendsNoNewer from to sent owner =
-    (key : ℕ) (e : Entry) → entry_at from owner key ≡ Some e → sent owner key ≡ true
-    → e.generation ≤ generation_held to owner
-
--- something is
-pub record SendsNewer (from to : Table) (sent : ℕ → ℕ → Bool) (owner : ℕ) : Type 0 where
-  pub key : ℕ
-  pub entry : Entry
-  pub held : entry_at from owner key ≡ Some entry
-  pub is_sent : sent owner key ≡ true
-  pub newer : generation_held to owner < entry.generation
-
--- what is sent is put in; the rest of a copy stays, or is dropped where something newer came
-pub record AreTakenCells (from to : Table) (sent : ℕ → ℕ → Bool) (sender receiver taken : Cells) : Type 0 where
-  pub came : (owner key : ℕ) → owner < to.nodes → key < to.keys → sent owner key ≡ true
-      → taken owner key ≡ sender owner key
-  pub others : (owner key : ℕ) → owner < to.nodes → key < to.keys → sent owner key ≡ false
-      → (SendsNoNewer from to sent owner × (taken owner key ≡ receiver owner key))
-      ⊎ (SendsNewer from to sent owner × (taken owner key ≡ 0))
 
 -- up to where an owner's numbers are dropped, where its greatest one was raised: to where the newest generation starts,
 -- if the old one is of an earlier generation than the owner's, which has so many writes before it
@@ -96,19 +65,6 @@ HasArrived number h to sent arrival new =
     HasTakenUnless arrival.nothing h.lists to sent
     (map number arrival.marks.now.low.items) (map number arrival.marks.now.high.items) new
 
--- the first of two tables may take what comes of the second one's numbers, and then the second one of the first one's
-pub record MayTakeBoth {N : Type 0} (number : N → ℕ) (written : ℕ → List Entry) (h : HistoriesView)
-    (initiator responder : VersionTableView) (back forth : Arrival N) : Type 0 where
-  pub first : MayArrive number written h initiator responder.cells back
-  pub second : (after : VersionTableView) → HasArrived number h initiator responder.cells back after
-      → MayArrive number written h responder after.cells forth
-
--- or neither has changed
+-- neither of two tables has changed
 abbrev pub BothStay : VersionTableView → VersionTableView → VersionTableView → VersionTableView → Type 0
 BothStay initiator responder new_initiator new_responder = (new_initiator ≡ initiator) × (new_responder ≡ responder)
-
--- and they have taken that
-pub record HaveTakenBoth {N : Type 0} (number : N → ℕ) (h : HistoriesView) (initiator responder : VersionTableView)
-    (back forth : Arrival N) (new_initiator new_responder : VersionTableView) : Type 0 where
-  pub first : HasArrived number h initiator responder.cells back new_initiator
-  pub second : HasArrived number h responder new_initiator.cells forth new_responder

@@ -1,7 +1,13 @@
-use Rattle.version_tables.proofs.Standing.{cells-more}
+use Rattle.version_tables.proofs.Common.{subst, arith, IsKept}
+use Rattle.std.proofs.lemmas.Grind.{common_steps}
+use Rattle.std.proofs.lemmas.List.Elements.{All-more}
 use Rattle.version_tables.proofs.lags.cells_of.Goals as goal
 
 pub loop-table-preserved : goal.loop-table-preserved
 loop-table-preserved g c =
-    rw c.in_ok-push.ensures.items
-    (cells-more g.H.Written.lists c.args.tables.now g.N.Number.number c.loop-table.cells.items c.loop-table.table-index c.cells.result c.table-item.result c.loop-table.invariant c.loop-table-test.true c.table-item.is c.cells.ensures.kept c.cells.ensures.value)
+    let kept = IsKept g.H.Written.lists in
+    record {
+      are = grind (arith, common_steps, c.loop-table.invariant.are, c.cells.ensures.value);
+      kept = All-more kept c.args.tables.now c.loop-table.table-index c.table-item.result c.loop-table-test.true c.loop-table.invariant.kept
+          (subst kept c.table-item.is c.cells.ensures.kept);
+    }

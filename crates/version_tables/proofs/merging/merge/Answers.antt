@@ -1,9 +1,8 @@
 use Rattle.version_tables.proofs.Common.{ℕ, map, refl, sym, ◌∙◌, transport, with_items, with_items_is, VersionTableView, AreOfOneSize, HasMerged, IsKept}
 use Rattle.version_tables.proofs.Laid.{seen}
-use Rattle.version_tables.proofs.merging.merge.Given as given
 use Rattle.version_tables.proofs.merging.merge.Goals as goal
 
-module _ (g : given.Over) (c : goal.After-responder-2-1 g) where
+module _ (g : _) (c : goal.After-responder-2-1 g) where
   abbrev number : g.row.N.Denot → ℕ
   number = g.N.Number.number
 

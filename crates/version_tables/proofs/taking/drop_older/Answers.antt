@@ -1,9 +1,8 @@
 use Rattle.version_tables.proofs.Common.{◌≡◌, subst, arith, map, ap, length-map, all_writes, number-at, owners-next, owners-all, IsNumberedHistory, all_writes-here, drop_starts, number_kept}
-use Rattle.version_tables.proofs.taking.drop_older.Given as given
 use Rattle.version_tables.proofs.taking.drop_older.Goals as goal
 
 -- what an owner's numbers are dropped up to
-starts : (g : given.Over) (c : goal.After-cells-1 g) → c.drop_from-start.result
+starts : (g : _) (c : goal.After-cells-1 g) → c.drop_from-start.result
     ≡ drop_starts (all_writes c.args.owners.lists.now) (map g.N.Number.number c.args.before.now) (map g.N.Number.number c.args.owners.bases.now)
     (map g.N.Number.number c.args.greatest.now) c.loop-owner.owner
 starts g c =

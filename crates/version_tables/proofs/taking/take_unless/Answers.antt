@@ -1,9 +1,8 @@
 use Rattle.version_tables.proofs.Common.{◌≡◌, length, map, slice_index, ap, arith, refl, subst, sym, ◌∙◌, with_items, with_items_is, all_writes, VersionTableView, drop_start, number_kept, HasTaken, StaysOne}
 use Rattle.version_tables.proofs.Laid.{seen}
-use Rattle.version_tables.proofs.taking.take_unless.Given as given
 use Rattle.version_tables.proofs.taking.take_unless.Goals as goal
 
-module _ (g : given.Over) (c : goal.After-table-3-1 g) where
+module _ (g : _) (c : goal.After-table-3-1 g) where
   abbrev old : VersionTableView
   old = seen c.table.view_is
 
@@ -32,7 +31,7 @@ module _ (g : given.Over) (c : goal.After-table-3-1 g) where
         kept = record {
           size = dropped.size ∙ came.size;
           each = λ owner key in_nodes in_keys.
-              let based = c.bases.ensures.value.each owner (omega (arith, in_nodes, nodes)) in
+              let based = c.bases.ensures.each owner (omega (arith, in_nodes, nodes)) in
               dropped.each owner key in_nodes in_keys
               ∙ (λ i. number_kept (drop_start (all_writes lists owner) (slice_index (before i) owner) (based i)
               (slice_index (map g.N.Number.number (with_items inside.greatest c.take.new.greatest).items) owner)) (came.each owner key in_nodes in_keys i));

@@ -1,9 +1,8 @@
 use Rattle.version_tables.proofs.Common.{rules, ◌≡◌, ◌<◌, ◌==◌, cond, length, set, map, subst, sym, transport, ◌∙◌, with_items_is, begun_generation, list_of_owner, ListBecomes, ArePlanesChanged, HistoriesView, number_kept}
 use Rattle.version_tables.proofs.HistoryCalls.{count-read, histories-begun, list-becomes, nodes-are, numbers-set}
-use Rattle.version_tables.proofs.histories.Histories.begin_generation.Given as given
 use Rattle.version_tables.proofs.histories.Histories.begin_generation.Goals as goal
 
-module _ (g : given.Over) (c : goal.After-self-3-1 g) where
+module _ (g : _) (c : goal.After-self-3-1 g) where
   in_range : c.args.owner < length c.self.inside.lists.items
   in_range = subst (λ (h : HistoriesView). c.args.owner < length h.lists) (sym c.self.view_is) c.requires.owner
 

@@ -1,9 +1,8 @@
 use Rattle.version_tables.proofs.Common.{rules, ◌≡◌, ◌+◌, ◌*◌, ◌<◌, length, map, set, ap, subst, sym, ◌∙◌, all_writes, list_of_owner, next_entry, with_write, ListBecomes, HistoriesView, IsWriteUnder}
 use Rattle.version_tables.proofs.HistoryCalls.{count-read, histories-written, list-becomes, nodes-are, numbers-set}
-use Rattle.version_tables.proofs.histories.Histories.write.Given as given
 use Rattle.version_tables.proofs.histories.Histories.write.Goals as goal
 
-module _ (g : given.Over) (c : goal.After-self-3-1 g) where
+module _ (g : _) (c : goal.After-self-3-1 g) where
   in_range : c.args.owner < length c.self.inside.lists.items
   in_range = subst (λ (h : HistoriesView). c.args.owner < length h.lists) (sym c.self.view_is) c.requires.owner_below
 

@@ -1,10 +1,9 @@
 use Rattle.version_tables.proofs.Common.{◌≡◌, ◌+◌, map, ap, ◌∙◌, with_items, without_all, AreChanged, VersionTableView, table_in}
 use Rattle.version_tables.proofs.Laid.{LiesAs, lies-kept, lies-table, put-back, seen}
 use Rattle.version_tables.proofs.OwnCalls.{forgets}
-use Rattle.version_tables.proofs.tables.VersionTable.forget_all.Given as given
 use Rattle.version_tables.proofs.tables.VersionTable.forget_all.Goals as goal
 
-module _ (g : given.Over) (c : goal.After-self-3-1 g) where
+module _ (g : _) (c : goal.After-self-3-1 g) where
   abbrev old : VersionTableView
   old = seen c.self.view_is
 

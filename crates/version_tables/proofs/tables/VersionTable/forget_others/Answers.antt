@@ -1,10 +1,9 @@
 use Rattle.version_tables.proofs.Common.{◌≡◌, ◌==◌, if◌then◌else◌, map, ap, ◌∙◌, with_items, without_others, ArePlanesChanged, AreChanged, VersionTableView, table_in}
 use Rattle.version_tables.proofs.Laid.{LiesAs, lies-kept, lies-table, put-back, seen}
 use Rattle.version_tables.proofs.OwnCalls.{restarts}
-use Rattle.version_tables.proofs.tables.VersionTable.forget_others.Given as given
 use Rattle.version_tables.proofs.tables.VersionTable.forget_others.Goals as goal
 
-module _ (g : given.Over) (c : goal.After-self-2-1 g) where
+module _ (g : _) (c : goal.After-self-2-1 g) where
   abbrev old : VersionTableView
   old = seen c.self.view_is
 

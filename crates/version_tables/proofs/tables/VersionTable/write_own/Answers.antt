@@ -1,10 +1,9 @@
 use Rattle.version_tables.proofs.Common.{◌+◌, ◌*◌, ◌<◌, sym, subst, transport, map-set, VersionTableView, IsNextWrite, HasOwnWrite}
 use Rattle.version_tables.proofs.Laid.{lies-kept, seen}
 use Rattle.version_tables.proofs.OwnCalls.{writes, writes-table}
-use Rattle.version_tables.proofs.tables.VersionTable.write_own.Given as given
 use Rattle.version_tables.proofs.tables.VersionTable.write_own.Goals as goal
 
-module _ (g : given.Over) (c : goal.After-self-2-1 g) where
+module _ (g : _) (c : goal.After-self-2-1 g) where
   abbrev old : VersionTableView
   old = seen c.self.view_is
 

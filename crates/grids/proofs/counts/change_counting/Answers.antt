@@ -1,8 +1,5 @@
-use Rattle.grids.proofs.Common.{refl, arith, map, counted_none, counted-same}
+use Rattle.grids.proofs.Common.{refl, arith, map, counted-same}
 use Rattle.grids.proofs.counts.change_counting.Goals as goal
-
-pub loop-numbers-init : goal.loop-numbers-init
-loop-numbers-init g c = record { within = omega arith; upto = omega arith; done = λ made test is. counted_none _ (map g.N.Number.number c.args.numbers.now) _ }
 
 pub loop-numbers-preserved : goal.loop-numbers-preserved
 loop-numbers-preserved g c = record {

@@ -1,12 +1,6 @@
 use Rattle.grids.proofs.Common.{ℕ, ◌+◌, ◌<◌, ap, ◌∙◌, arith, length, if◌then◌else◌, number-waits, counted_next, counted-same, one_le}
 use Rattle.grids.proofs.counts.change_some_counting.Goals as goal
 
-pub loop-i-init : goal.loop-i-init
-loop-i-init g c = record {
-  upto = omega arith;
-  done = λ made test is old count before. counted-same _ old _ _ _ _ _ _ before (omega arith) (omega arith);
-}
-
 pub loop-i-preserved : goal.loop-i-preserved
 loop-i-preserved g c =
     let at : ℕ = c.args.from + c.loop-i.i in

@@ -1,9 +1,6 @@
 use Rattle.grids.proofs.Common.{ℕ, ◌+◌, ◌*◌, ◌-◌, ◌≤◌, ap, arith, length, drop, map, length-map, length-drop, length-take-le, plane-within, block-cells}
-use Rattle.grids.proofs.Counted.{planes_counted-none, planes_counted-next, planes_counted-all}
+use Rattle.grids.proofs.Counted.{planes_counted-next, planes_counted-all}
 use Rattle.grids.proofs.grids.change_all_counting.Goals as goal
-
-pub loop-key-init : goal.loop-key-init
-loop-key-init g c = record { upto = omega arith; done = λ made test is. planes_counted-none _ _ c.args.size.nodes (map g.N.Number.number c.args.numbers.now) }
 
 pub loop-key-preserved : goal.loop-key-preserved
 loop-key-preserved g c =

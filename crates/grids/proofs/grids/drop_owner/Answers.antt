@@ -1,10 +1,7 @@
-use Rattle.grids.proofs.Common.{◌+◌, ◌*◌, ◌<◌, arith, rules, sym, map, length, ◌∙◌, ap, length-map, get_or-map, plane-within, planes-none, planes-all}
+use Rattle.grids.proofs.Common.{◌+◌, ◌*◌, ◌<◌, arith, rules, sym, map, length, ◌∙◌, ap, length-map, get_or-map, plane-within, planes-all}
 use Rattle.grids.specs.Grids.{number_kept}
 use Rattle.grids.proofs.ByOwner.{owner-next}
 use Rattle.grids.proofs.grids.drop_owner.Goals as goal
-
-pub loop-key-init : goal.loop-key-init
-loop-key-init g c = planes-none _ _ _
 
 pub offset_bounds-cells-key : goal.offset_bounds-cells-key
 offset_bounds-cells-key g c =

@@ -1,14 +1,10 @@
-use Rattle.grids.proofs.Common.{◌&&◌, ◌<◌, length, nat_lt, nat_le, max, ◌∙◌, arith, if◌then◌else◌, length-map, number-at, number-waits, changed_none, changed_all, written_next}
+use Rattle.grids.proofs.Common.{◌&&◌, ◌<◌, length, nat_lt, nat_le, max, ◌∙◌, arith, if◌then◌else◌, length-map, number-at, number-waits, changed_all, written_next}
 use Rattle.grids.proofs.grids.take_plane.Goals as goal
-
-pub loop-r-init : goal.loop-r-init
-loop-r-init g c = record { plane = changed_none _ _; greatest = changed_none _ _ }
 
 pub loop-r-preserved : goal.loop-r-preserved
 loop-r-preserved g c =
     let number = g.N.Number.number in
     let r = c.loop-r.r in
-    let lt = c.loop-r-test.true in
     let cell = number-waits _ _ number c.loop-r.plane r c.index-plane-r.result c.loop-r.invariant.plane (omega arith) c.index-plane-r.is in
     let most = number-waits _ _ number c.loop-r.greatest r c.index-greatest-r.result c.loop-r.invariant.greatest (omega arith) c.index-greatest-r.is in
     let numbers = c.plane_of-numbers.result.now in

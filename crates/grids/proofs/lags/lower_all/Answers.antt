@@ -1,8 +1,5 @@
-use Rattle.grids.proofs.Common.{min, ap, ◌∙◌, arith, map, grid-within, planes-none, planes-written, planes-all}
+use Rattle.grids.proofs.Common.{min, ap, ◌∙◌, arith, grid-within, planes-written, planes-all}
 use Rattle.grids.proofs.lags.lower_all.Goals as goal
-
-pub loop-key-init : goal.loop-key-init
-loop-key-init g c = planes-none _ c.args.grid.size.nodes (map g.N.Number.number c.args.least.now)
 
 pub loop-key-preserved : goal.loop-key-preserved
 loop-key-preserved g c =

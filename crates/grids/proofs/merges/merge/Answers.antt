@@ -1,13 +1,7 @@
 use Rattle.grids.proofs.Common.{◌+◌, ◌*◌, ◌-◌, ◌≤◌, length, arith, map, length-map, put_mid, grid-within}
-use Rattle.grids.proofs.Counted.{AreMergedUpto, merged-next, planes_counted-none, planes_counted-fits, planes_counted-all}
+use Rattle.grids.proofs.Counted.{AreMergedUpto, merged-next, planes_counted-fits, planes_counted-all}
 use Rattle.grids.proofs.merges.merge.Given as given
 use Rattle.grids.proofs.merges.merge.Goals as goal
-
-pub loop-key-init : goal.loop-key-init
-loop-key-init g c = record {
-  first = planes_counted-none _ _ c.args.marks.size.nodes (map g.N.Number.number c.args.first.now);
-  second = planes_counted-none _ _ c.args.marks.size.nodes (map g.N.Number.number c.args.second.now);
-}
 
 -- both tables with one plane more
 next : (g : given.Over) (c : goal.After-struct_known-in-loop-key-3-1 g)

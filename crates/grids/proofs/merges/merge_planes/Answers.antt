@@ -1,14 +1,5 @@
-use Rattle.grids.proofs.Common.{refl, arith, map, counted_none, counted-same}
+use Rattle.grids.proofs.Common.{refl, arith, counted-same}
 use Rattle.grids.proofs.merges.merge_planes.Goals as goal
-
-pub loop-first-init : goal.loop-first-init
-loop-first-init g c = record {
-  within = omega arith;
-  first_upto = omega arith;
-  second_upto = omega arith;
-  first = counted_none _ (map g.N.Number.number c.args.first.now) _;
-  second = counted_none _ (map g.N.Number.number c.args.second.now) _;
-}
 
 pub loop-first-preserved : goal.loop-first-preserved
 loop-first-preserved g c =

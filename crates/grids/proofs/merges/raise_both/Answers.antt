@@ -1,13 +1,9 @@
-use Rattle.grids.proofs.Common.{max, ◌∙◌, arith, length-map, number-waits, changed_none, changed_all, written_next}
+use Rattle.grids.proofs.Common.{max, ◌∙◌, arith, length-map, number-waits, changed_all, written_next}
 use Rattle.grids.proofs.merges.raise_both.Goals as goal
-
-pub loop-r-init : goal.loop-r-init
-loop-r-init g c = record { first = changed_none _ _; second = changed_none _ _ }
 
 pub loop-r-preserved : goal.loop-r-preserved
 loop-r-preserved g c =
     let number = g.N.Number.number in
-    let lt = c.loop-r-test.true in
     let first = number-waits _ _ number c.loop-r.first c.loop-r.r c.index-first-r.result c.loop-r.invariant.first (omega arith) c.index-first-r.is in
     let second = number-waits _ _ number c.loop-r.second c.loop-r.r c.index-second-r.result c.loop-r.invariant.second (omega arith) c.index-second-r.is in
     record {

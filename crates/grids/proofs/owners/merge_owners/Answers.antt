@@ -1,10 +1,7 @@
-use Rattle.grids.proofs.Common.{refl, owners-fit, sym, ◌∙◌, arith, ltb-false, ltb-true, number-at, sum_whole}
-use Rattle.grids.proofs.ByOwner.{come-next, come-passed, owners-none, owners-all}
+use Rattle.grids.proofs.Common.{owners-fit, sym, ◌∙◌, arith, ltb-false, ltb-true, number-at, sum_whole}
+use Rattle.grids.proofs.ByOwner.{come-next, come-passed, owners-all}
 use Rattle.grids.proofs.owners.merge_owners.Goals as goal
 use Rattle.grids.proofs.owners.merge_owners.Goals.{then-is_above, else-is_above+then-is_above-2, else-is_above+else-is_above-2}
-
-pub loop-owner-init : goal.loop-owner-init
-loop-owner-init g c = record { first = record { cells = owners-none _ _ _ _; count = refl }; second = record { cells = owners-none _ _ _ _; count = refl } }
 
 pub loop-owner-preserved : goal.loop-owner-preserved
 loop-owner-preserved g c =

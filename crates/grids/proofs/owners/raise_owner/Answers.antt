@@ -1,9 +1,6 @@
-use Rattle.grids.proofs.Common.{◌≡◌, ℕ, ◌+◌, ◌*◌, ◌<◌, nat_lt, max, refl, sym, ◌∙◌, arith, rules, map, length, if◌then◌else◌, length-map, get_or-map, cell, number-at, count_le, sum_next, plane-within, planes-none, planes-all}
+use Rattle.grids.proofs.Common.{◌≡◌, ℕ, ◌+◌, ◌*◌, ◌<◌, nat_lt, max, sym, ◌∙◌, arith, rules, map, length, if◌then◌else◌, length-map, get_or-map, cell, number-at, count_le, sum_next, plane-within, planes-all}
 use Rattle.grids.proofs.ByOwner.{owner-next}
 use Rattle.grids.proofs.owners.raise_owner.Goals as goal
-
-pub loop-key-init : goal.loop-key-init
-loop-key-init g c = record { cells = planes-none _ _ _; count = refl }
 
 pub offset_bounds-cells-key : goal.offset_bounds-cells-key
 offset_bounds-cells-key g c =

@@ -1,4 +1,4 @@
-use Rattle.grids.proofs.Common.{number_taken, ◌≡◌, ℕ, ◌+◌, ◌*◌, ◌<◌, ◌&&◌, nat_lt, nat_le, slice_index, max, cond, sym, ap, ◌∙◌, arith, rules, map, length, length-map, get_or-map, cell, number-at, plane-within, planes-none, planes-all, raised-none, raised-next}
+use Rattle.grids.proofs.Common.{number_taken, ◌≡◌, ℕ, ◌+◌, ◌*◌, ◌<◌, ◌&&◌, nat_lt, nat_le, slice_index, max, cond, sym, ap, ◌∙◌, arith, rules, map, length, length-map, get_or-map, cell, number-at, plane-within, planes-all, raised-next}
 use Rattle.grids.proofs.ByOwner.{owner-next, owner-stays}
 use Rattle.grids.proofs.owners.take_owner.Goals as goal
 use Rattle.grids.proofs.owners.take_owner.Goals.{then-is_between, else-is_between}
@@ -40,9 +40,6 @@ loop-key-preserved g c =
             greatest = raised-next _ key _ _ _ _ held.greatest (omega (arith, c.requires.covered key c.loop-key-test.true));
           })
     ]
-
-pub loop-key-init : goal.loop-key-init
-loop-key-init g c = record { cells = planes-none _ _ _; greatest = raised-none _ _ _ }
 
 pub returns : goal.returns
 returns g c =

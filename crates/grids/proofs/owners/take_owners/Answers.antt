@@ -1,10 +1,7 @@
-use Rattle.grids.proofs.Common.{ℕ, ◌≤◌, inl, refl, slice_index, sym, ◌∙◌, arith, map, ltb-false, length-map, cell, taken_by, changed_none, number-at, number-waits, left_next, written_next}
-use Rattle.grids.proofs.ByOwner.{owner-waits, owners-none, owners-next, owners-stay, owners-all, raised-same, taken-passed}
+use Rattle.grids.proofs.Common.{ℕ, ◌≤◌, inl, refl, slice_index, sym, ◌∙◌, arith, map, ltb-false, length-map, cell, taken_by, number-at, number-waits, left_next, written_next}
+use Rattle.grids.proofs.ByOwner.{owner-waits, owners-next, owners-stay, owners-all, raised-same, taken-passed}
 use Rattle.grids.proofs.owners.take_owners.Goals as goal
 use Rattle.grids.proofs.owners.take_owners.Goals.{then-is_above, else-is_above}
-
-pub loop-owner-init : goal.loop-owner-init
-loop-owner-init g c = record { cells = owners-none _ _ _ _; greatest = changed_none _ _ }
 
 pub loop-owner-preserved : goal.loop-owner-preserved
 loop-owner-preserved g c =

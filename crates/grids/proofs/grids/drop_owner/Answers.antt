@@ -1,4 +1,4 @@
-use Rattle.grids.proofs.Common.{◌+◌, ◌*◌, ◌<◌, arith, rules, sym, map, length, ◌∙◌, ap, length-map, get_or-map, plane-within, planes-all}
+use Rattle.grids.proofs.Common.{◌+◌, ◌*◌, ◌<◌, arith, rules, sym, map, length, ◌∙◌, ap, length-map, get_or-map, plane-within}
 use Rattle.grids.specs.Grids.{number_kept}
 use Rattle.grids.proofs.ByOwner.{owner-next}
 use Rattle.grids.proofs.grids.drop_owner.Goals as goal
@@ -22,6 +22,3 @@ loop-key-preserved g c =
     number c.loop-key.cells c.loop-key.key c.pick.result
     c.loop-key.invariant (omega (arith, length-map c.args.cells.now number))
     (rw (c.pick.ensures, c.widen.ensures, c.zero.ensures) (ap (number_kept c.args.mark) was))
-
-pub returns : goal.returns
-returns g c = planes-all _ _ _ _ c.args.size.keys c.loop-key.key c.loop-key.invariant c.loop-key-test.false

@@ -1,11 +1,5 @@
-use Rattle.grids.proofs.Common.{◌+◌, ◌*◌, ◌-◌, max, ◌≡◌, ◌∙◌, arith, length-map, taken_by, grid-within, block-cells, planes-none, planes-written, planes-all, each-next, raised-none, raised-next}
+use Rattle.grids.proofs.Common.{◌+◌, ◌*◌, ◌-◌, max, ◌≡◌, ◌∙◌, arith, taken_by, grid-within, block-cells, planes-written, planes-all, each-next, raised-next}
 use Rattle.grids.proofs.grids.take.Goals as goal
-
-pub loop-key-init : goal.loop-key-init
-loop-key-init g c = record {
-  cells = planes-none _ _ _;
-  greatest = record { size = length-map c.args.greatest.now g.N.Number.number ∙ c.requires.may.greatest_count; each = λ r lt. raised-none _ r _ };
-}
 
 pub loop-key-preserved : goal.loop-key-preserved
 loop-key-preserved g c =

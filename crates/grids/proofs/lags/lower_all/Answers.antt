@@ -1,4 +1,4 @@
-use Rattle.grids.proofs.Common.{min, ap, ◌∙◌, arith, grid-within, planes-written, planes-all}
+use Rattle.grids.proofs.Common.{min, ap, ◌∙◌, arith, grid-within, planes-written}
 use Rattle.grids.proofs.lags.lower_all.Goals as goal
 
 pub loop-key-preserved : goal.loop-key-preserved
@@ -8,6 +8,3 @@ loop-key-preserved g c =
     let within = grid-within number size.nodes size.keys c.loop-key.key c.args.least.now c.requires.beside.shape c.loop-key-test.true in
     planes-written _ size.nodes _ number c.loop-key.least c.lower.new.least c.loop-key.key _ _ (omega arith) c.loop-key.invariant within
     c.lower.ensures.least (λ r x y lt is. is ∙ ap (min x) (c.plane_of-plane.ensures.each r lt))
-
-pub returns : goal.returns
-returns g c = record { least = planes-all _ _ _ _ _ c.loop-key.key c.loop-key.invariant c.loop-key-test.false }

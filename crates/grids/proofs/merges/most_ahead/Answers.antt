@@ -1,4 +1,4 @@
-use Rattle.grids.proofs.Common.{◌≡◌, ℕ, Fits, w32, ◌+◌, ◌-◌, ◌<◌, ◌≤◌, min, ◌∙◌, arith, MOST_NODES, MOST_KEYS, sum_below, sum_below-most, number-at, sum_next, sum_whole}
+use Rattle.grids.proofs.Common.{◌≡◌, ℕ, Fits, w32, ◌+◌, ◌-◌, ◌<◌, ◌≤◌, min, ◌∙◌, arith, MOST_NODES, MOST_KEYS, sum_below, sum_below-most, number-at, sum_next}
 use Rattle.grids.proofs.merges.most_ahead.Goals as goal
 
 lead-fits : (keys : ℕ) (numbers others : ℕ → ℕ) (r sum lead : ℕ) → sum ≡ sum_below r (λ k. min keys (numbers k - others k))
@@ -20,9 +20,3 @@ loop-r-preserved g c =
       to_first = sum_next _ c.loop-r.r _ _ c.loop-r.invariant.to_first (c.lead-to_first.ensures ∙ (λ i. min c.args.keys (second i - first i)));
       to_second = sum_next _ c.loop-r.r _ _ c.loop-r.invariant.to_second (c.lead-to_second.ensures ∙ (λ i. min c.args.keys (first i - second i)));
     }
-
-pub returns : goal.returns
-returns g c = record {
-  first = sum_whole _ c.loop-r.r _ _ c.loop-r.invariant.to_first c.loop-r-test.false c.loop-r.auto.r-end;
-  second = sum_whole _ c.loop-r.r _ _ c.loop-r.invariant.to_second c.loop-r-test.false c.loop-r.auto.r-end;
-}

@@ -1,4 +1,4 @@
-use Rattle.grids.proofs.Common.{max, ◌∙◌, arith, length-map, number-waits, changed_all, written_next}
+use Rattle.grids.proofs.Common.{max, ◌∙◌, arith, length-map, number-waits, written_next}
 use Rattle.grids.proofs.merges.raise_both.Goals as goal
 
 pub loop-r-preserved : goal.loop-r-preserved
@@ -14,9 +14,3 @@ loop-r-preserved g c =
           written_next _ _ number _ _ c.max_with-in-loop-r.result c.loop-r.invariant.second (omega (arith, length-map c.args.second.now number))
           (c.max_with-in-loop-r.ensures ∙ (λ i. max (second i) (first i)));
     }
-
-pub returns : goal.returns
-returns g c = record {
-  first = changed_all _ _ _ _ c.loop-r.invariant.first (omega (arith, length-map c.args.first.now g.N.Number.number));
-  second = changed_all _ _ _ _ c.loop-r.invariant.second (omega (arith, length-map c.args.second.now g.N.Number.number));
-}

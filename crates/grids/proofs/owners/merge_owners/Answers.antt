@@ -1,5 +1,5 @@
-use Rattle.grids.proofs.Common.{owners-fit, sym, ◌∙◌, arith, ltb-false, ltb-true, number-at, sum_whole}
-use Rattle.grids.proofs.ByOwner.{come-next, come-passed, owners-all}
+use Rattle.grids.proofs.Common.{owners-fit, sym, ◌∙◌, arith, ltb-false, ltb-true, number-at}
+use Rattle.grids.proofs.ByOwner.{come-next, come-passed}
 use Rattle.grids.proofs.owners.merge_owners.Goals as goal
 use Rattle.grids.proofs.owners.merge_owners.Goals.{then-is_above, else-is_above+then-is_above-2, else-is_above+else-is_above-2}
 
@@ -46,11 +46,3 @@ overflow_add-to_second g c =
     let at_second = number-at number c.args.marks.second.now c.loop-owner.owner c.index-second_low-owner.result (omega arith) c.index-second_low-owner.is in
     owners-fit _ _ _ _ _ c.loop-owner.owner _ c.requires.marked.grid lt
     (come-next _ _ _ _ _ number _ _ _ _ _ _ _ _ _ lt held.first held.second at_second c.raise_owner-to_second.ensures).count
-
-pub returns : goal.returns
-returns g c = record {
-  first = owners-all _ _ _ _ c.loop-owner.owner _ c.loop-owner-test.false c.loop-owner.invariant.first.cells;
-  second = owners-all _ _ _ _ c.loop-owner.owner _ c.loop-owner-test.false c.loop-owner.invariant.second.cells;
-  first_count = sum_whole _ c.loop-owner.owner _ _ c.loop-owner.invariant.first.count c.loop-owner-test.false c.loop-owner.auto.owner-end;
-  second_count = sum_whole _ c.loop-owner.owner _ _ c.loop-owner.invariant.second.count c.loop-owner-test.false c.loop-owner.auto.owner-end;
-}

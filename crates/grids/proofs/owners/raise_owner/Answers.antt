@@ -1,4 +1,4 @@
-use Rattle.grids.proofs.Common.{◌≡◌, ℕ, ◌+◌, ◌*◌, ◌<◌, nat_lt, max, sym, ◌∙◌, arith, rules, map, length, if◌then◌else◌, length-map, get_or-map, cell, number-at, count_le, sum_next, plane-within, planes-all}
+use Rattle.grids.proofs.Common.{◌≡◌, ℕ, ◌+◌, ◌*◌, ◌<◌, nat_lt, max, sym, ◌∙◌, arith, rules, map, length, if◌then◌else◌, length-map, get_or-map, cell, number-at, count_le, sum_next, plane-within}
 use Rattle.grids.proofs.ByOwner.{owner-next}
 use Rattle.grids.proofs.owners.raise_owner.Goals as goal
 
@@ -30,8 +30,3 @@ pub overflow_add-count : goal.overflow_add-count
 overflow_add-count g c =
     let others = cell (map g.N.Number.number c.args.others.cells.now) c.args.others.size.nodes in
     omega (arith, (loop-key-preserved g c).count, count_le (c.loop-key.key + 1) (λ k. nat_lt (g.N.Number.number c.args.low) (others c.args.owner k)))
-
-pub returns : goal.returns
-returns g c =
-    let all : c.loop-key.key ≡ c.args.others.size.keys = omega arith in
-    record { cells = planes-all _ _ _ _ _ c.loop-key.key c.loop-key.invariant.cells c.loop-key-test.false; count = rw (← all) c.loop-key.invariant.count }

@@ -1,5 +1,5 @@
 use Rattle.grids.proofs.Common.{ℕ, ◌≤◌, inl, refl, slice_index, sym, ◌∙◌, arith, map, ltb-false, length-map, cell, taken_by, number-at, number-waits, left_next, written_next}
-use Rattle.grids.proofs.ByOwner.{owner-waits, owners-next, owners-stay, owners-all, raised-same, taken-passed}
+use Rattle.grids.proofs.ByOwner.{owner-waits, owners-next, owners-stay, raised-same, taken-passed}
 use Rattle.grids.proofs.owners.take_owners.Goals as goal
 use Rattle.grids.proofs.owners.take_owners.Goals.{then-is_above, else-is_above}
 
@@ -55,12 +55,3 @@ take_owner-requires g c =
       high_count = c.requires.may.high_count;
       covered = λ k in_keys. omega (arith, owner-waits _ _ _ _ r _ held.cells k lt in_keys, c.requires.may.covered r lt k in_keys);
     }
-
-pub returns : goal.returns
-returns g c = record {
-  cells = owners-all _ _ _ _ c.loop-owner.owner _ c.loop-owner-test.false c.loop-owner.invariant.cells;
-  greatest = record {
-    size = c.loop-owner.invariant.greatest.size ∙ length-map c.args.greatest.now g.N.Number.number ∙ c.requires.may.greatest_count;
-    each = λ r lt. c.loop-owner.invariant.greatest.below r (omega arith);
-  };
-}

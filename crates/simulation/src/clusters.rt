@@ -76,7 +76,7 @@ impl<T: MemoryTable + Send + Sync, K: RoundHistories<T>> Cluster<T, K> {
             round,
             words: &words,
         };
-        let (begun, histories) = begin(start, tables, histories)?;
+        let (begun, histories) = begin(&start, tables, histories)?;
         let rules = rules_of(scenario);
         let orders = Orders { list, rules };
         let draw = move || -> Result<Drawn, Fault>
@@ -154,14 +154,14 @@ struct Start<'a> {
 
 // What a round begins with: its restarts and its writes, by node.
 fn begin<T: MemoryTable, K: RoundHistories<T>>(
-    start: Start,
+    start: &Start,
     mut tables: Vec<T>,
     mut histories: K,
 ) -> Result<(Vec<T>, K), Fault>
-    requires round { IsRoundOf K.may_write start.scenario.now start.round }
-    requires ended { HaveEnded start.scenario.now (start.round - 1) (K.kept histories) }
-    requires standing { TablesStand T.table K.kept start.scenario.now (start.round - 1) tables.items histories }
-    ensures begun { IfOk result (λ p. HasBegun T.table K.kept K.fits start.entry.scenario.now start.entry.round
+    requires round { IsRoundOf K.may_write start.now.scenario.now start.now.round }
+    requires ended { HaveEnded start.now.scenario.now (start.now.round - 1) (K.kept histories) }
+    requires standing { TablesStand T.table K.kept start.now.scenario.now (start.now.round - 1) tables.items histories }
+    ensures begun { IfOk result (λ p. HasBegun T.table K.kept K.fits start.now.scenario.now start.now.round
         tables.items p.0.items p.1) }
     ensures only { IsOkUnless result OutOfMemory }
 {
@@ -176,16 +176,16 @@ fn begin<T: MemoryTable, K: RoundHistories<T>>(
 // What a node begins a round with: its restarts, and then its writes. No other node's table or list matters
 // to it.
 fn begin_node<T: MemoryTable, K: RoundHistories<T>>(
-    start: Start,
+    start: &Start,
     node: u32,
     table: &mut T,
     histories: &mut K,
 ) -> Result<(), Fault>
-    requires round { IsRoundOf K.may_write start.scenario.now start.round }
-    requires before { IsBeforeRound T.table K.kept start.scenario.now start.round node table.old histories.old }
+    requires round { IsRoundOf K.may_write start.now.scenario.now start.now.round }
+    requires before { IsBeforeRound T.table K.kept start.now.scenario.now start.now.round node table.old histories.old }
     ensures owner { OnOk result
-        (IsOwnerIn T.table K.kept start.entry.scenario.now start.entry.round node table.new histories.new) }
-    ensures table { OnOk result (IsBegun T.table start.entry.scenario.now start.entry.round node table.old table.new) }
+        (IsOwnerIn T.table K.kept start.now.scenario.now start.now.round node table.new histories.new) }
+    ensures table { OnOk result (IsBegun T.table start.now.scenario.now start.now.round node table.old table.new) }
     ensures others { OnOk result (LeavesOthers node (K.kept histories.old) (K.kept histories.new)) }
     ensures only { IsOkUnless result OutOfMemory }
 {
@@ -194,7 +194,7 @@ fn begin_node<T: MemoryTable, K: RoundHistories<T>>(
         scenario,
         round,
         words,
-    } = start;
+    } = *start;
     let writes = writes_by(
         scenario,
         node,
@@ -207,16 +207,16 @@ fn begin_node<T: MemoryTable, K: RoundHistories<T>>(
 
 // The restarts of a node in a round: they empty its copies of all others, or where it forgets its whole table.
 fn restart<T: MemoryTable, K: RoundHistories<T>>(
-    start: Start,
+    start: &Start,
     node: u32,
     table: &mut T,
     histories: &mut K,
 )
-    requires { IsBeforeRound T.table K.kept start.scenario.now start.round node table.old histories.old }
-    ensures owner { IsRestartedIn T.table K.kept start.entry.scenario.now start.entry.round node table.new
+    requires { IsBeforeRound T.table K.kept start.now.scenario.now start.now.round node table.old histories.old }
+    ensures owner { IsRestartedIn T.table K.kept start.now.scenario.now start.now.round node table.new
         histories.new }
     ensures table { T.table table.new
-        ≡ after_restart start.entry.scenario.now start.entry.round node (T.table table.old) }
+        ≡ after_restart start.now.scenario.now start.now.round node (T.table table.old) }
     ensures others { LeavesOthers node (K.kept histories.old) (K.kept histories.new) }
 {
     if forgets_now(start.scenario, node, start.round) {

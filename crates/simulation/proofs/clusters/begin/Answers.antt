@@ -7,11 +7,11 @@ use Rattle.simulation.proofs.clusters.begin.Goals as goal
 
 pub loop-node-preserved : goal.loop-node-preserved
 loop-node-preserved g c = (
-  begun_next g.T.MemoryTable.table c.args.start.scenario.now c.args.start.round (map g.T.MemoryTable.table c.args.tables.items) c.loop-node.tables.items
+  begun_next g.T.MemoryTable.table c.args.start.now.scenario.now c.args.start.now.round (map g.T.MemoryTable.table c.args.tables.items) c.loop-node.tables.items
       (g.K.RoundHistories.kept c.loop-node.histories).lists c.loop-node.node c.loop-node.invariant.0
       (omega (arith, c.loop-node-test.true, c.nodes-node-end.ensures.value)) c.index_mut.result.now
       c.begin_node.new.table (g.K.RoundHistories.kept c.begin_node.new.histories).lists
-      (c.in_ok-begin_node.ensures.table ∙ ap (λ t. begun_table c.args.start.scenario.now c.args.start.round c.loop-node.node (g.T.MemoryTable.table t))
+      (c.in_ok-begin_node.ensures.table ∙ ap (λ t. begun_table c.args.start.now.scenario.now c.args.start.now.round c.loop-node.node (g.T.MemoryTable.table t))
       c.index_mut.ensures.value) c.in_ok-begin_node.ensures.owner c.in_ok-begin_node.ensures.others.others,
   still_ended c.in_ok-begin_node.ensures.others.beside c.loop-node.invariant.1,
 )
@@ -22,12 +22,12 @@ end_writes-requires-clause-left g c = omega (arith, next_round c.requires.round.
 pub end_writes-requires-clause-written : goal.end_writes-requires-clause-written
 end_writes-requires-clause-written g c =
     subst (λ r. AreWrittenBy r (g.K.RoundHistories.kept c.loop-node.histories).lists) (sym (next_round c.requires.round.first c.loop-node.invariant.1))
-    (written_by c.args.start.scenario.now c.args.start.round _ _ (begun_all _ _ _ _ _ c.loop-node.node c.loop-node.invariant.0
+    (written_by c.args.start.now.scenario.now c.args.start.now.round _ _ (begun_all _ _ _ _ _ c.loop-node.node c.loop-node.invariant.0
     (omega (arith, c.loop-node-test.false, c.loop-node.auto.node-end, c.nodes-node-end.ensures.value))).1)
 
 pub returns-clause-begun : goal.returns-clause-begun
 returns-clause-begun g c =
-    let s = c.args.start.scenario.now in
+    let s = c.args.start.now.scenario.now in
     let begun = begun_all _ _ _ _ _ c.loop-node.node c.loop-node.invariant.0 (omega (
       arith,
       c.loop-node-test.false,
@@ -36,8 +36,8 @@ returns-clause-begun g c =
     )) in
     let kept = sym c.in_ok-end_writes.ensures.kept in
     record {
-      standing = subst (λ (h : HistoriesView). StandAfterRound s c.args.start.round (map g.T.MemoryTable.table c.loop-node.tables.items) h.lists) kept begun.1;
+      standing = subst (λ (h : HistoriesView). StandAfterRound s c.args.start.now.round (map g.T.MemoryTable.table c.loop-node.tables.items) h.lists) kept begun.1;
       tables = begun.0;
-      ended = subst (HaveEnded s c.args.start.round) kept (record { keys = c.loop-node.invariant.1.keys; rounds = next_round c.requires.round.first c.loop-node.invariant.1 });
+      ended = subst (HaveEnded s c.args.start.now.round) kept (record { keys = c.loop-node.invariant.1.keys; rounds = next_round c.requires.round.first c.loop-node.invariant.1 });
       fits = c.in_ok-end_writes.ensures.fits;
     }

@@ -20,36 +20,36 @@ write_own-requires-clause-may g c _ _ =
     let h = g.K.RoundHistories.kept c.restart.new.histories in
     let lists = h.lists in
     let ended = still_ended c.restart.ensures.others.beside c.requires.before.ended in
-    let writes = made c.args.start.scenario.now c.args.node c.args.start.round _ _ _ _ c.as_slice.ensures.value c.writes_by-writes.ensures.value c.count.ensures in
+    let writes = made c.args.start.now.scenario.now c.args.node c.args.start.now.round _ _ _ _ c.as_slice.ensures.value c.writes_by-writes.ensures.value c.count.ensures in
     subst (λ r. MayWriteOwn g.K.RoundHistories.may_write r c.as_slice.result.now t h) (sym (next_round c.requires.round.first ended)) (record {
       owner = omega (arith, owner.table.node, c.restart.ensures.others.others.count, c.requires.before.node.one_each, c.requires.before.node.node);
       as_many_keys = owner.table.keys ∙ sym ended.keys;
       proper = owner.proper;
       keys = subst (All (λ (w : OwnWrite). w.key < t.keys)) (sym c.as_slice.ensures.value)
           (subst (λ keys. All (λ (w : OwnWrite). w.key < keys) c.writes_by-writes.result) (sym owner.table.keys) c.writes_by-writes.ensures.keys);
-      next = next_own c.args.start.scenario.now c.args.start.round c.args.node t lists c.as_slice.result.now owner writes;
-      may = may_write_own c.args.start.scenario.now c.args.start.round c.args.node t lists c.as_slice.result.now owner writes
+      next = next_own c.args.start.now.scenario.now c.args.start.now.round c.args.node t lists c.as_slice.result.now owner writes;
+      may = may_write_own c.args.start.now.scenario.now c.args.start.now.round c.args.node t lists c.as_slice.result.now owner writes
           g.K.RoundHistories.may_write c.requires.round.may_write c.requires.before.node.node c.requires.round.first c.requires.round.within;
       fits = subst (λ m. length (list_of_owner lists m).current + length c.as_slice.result.now + 1 < 2 ^ 32) (sym owner.table.node)
           (omega (arith, owner.few, c.as_slice.ensures.limit, c.requires.round.last));
-      beside = beside_own c.args.start.scenario.now c.args.node _ _ _ _ t lists owner;
-      born = subst (λ m. AreBornBy c.args.start.round (written (list_of_owner lists m))) (sym owner.table.node)
-          (born-later (c.args.start.round - 1) c.args.start.round (written (list_of_owner lists c.args.node)) (omega arith) owner.born);
+      beside = beside_own c.args.start.now.scenario.now c.args.node _ _ _ _ t lists owner;
+      born = subst (λ m. AreBornBy c.args.start.now.round (written (list_of_owner lists m))) (sym owner.table.node)
+          (born-later (c.args.start.now.round - 1) c.args.start.now.round (written (list_of_owner lists c.args.node)) (omega arith) owner.born);
     })
 
 -- what the writes leave
 module _ (g : given.Over) (c : goal.After-write_own g) (is : WritesIn g.T.MemoryTable.table g.K.RoundHistories.kept c.as_slice.result.now c.restart.new.table c.write_own.new.table c.restart.new.histories c.write_own.new.histories) where
-  left : IsOwner c.args.start.scenario.now c.args.start.round c.args.node (g.T.MemoryTable.table c.write_own.new.table) (list_of_owner (g.K.RoundHistories.kept c.write_own.new.histories).lists c.args.node)
-      × (g.T.MemoryTable.table c.write_own.new.table ≡ with_own_writes (g.T.MemoryTable.table c.restart.new.table) (own_writes c.args.start.scenario.now c.args.node c.args.start.round (count_before c.args.start.scenario.now c.args.node c.args.start.round)))
+  left : IsOwner c.args.start.now.scenario.now c.args.start.now.round c.args.node (g.T.MemoryTable.table c.write_own.new.table) (list_of_owner (g.K.RoundHistories.kept c.write_own.new.histories).lists c.args.node)
+      × (g.T.MemoryTable.table c.write_own.new.table ≡ with_own_writes (g.T.MemoryTable.table c.restart.new.table) (own_writes c.args.start.now.scenario.now c.args.node c.args.start.now.round (count_before c.args.start.now.scenario.now c.args.node c.args.start.now.round)))
   left =
       let next = next_round c.requires.round.first (still_ended c.restart.ensures.others.beside c.requires.before.ended) in
-      owner_written c.args.start.scenario.now c.args.start.round c.args.node _ _ _ _ c.as_slice.result.now c.requires.round.first c.as_slice.ensures.limit
+      owner_written c.args.start.now.scenario.now c.args.start.now.round c.args.node _ _ _ _ c.as_slice.result.now c.requires.round.first c.as_slice.ensures.limit
       c.restart.ensures.owner
       (subst (λ r. HasWritten r c.as_slice.result.now (g.T.MemoryTable.table c.restart.new.table) (g.T.MemoryTable.table c.write_own.new.table)
       (list_of_owner (g.K.RoundHistories.kept c.restart.new.histories).lists c.args.node) (list_of_owner (g.K.RoundHistories.kept c.write_own.new.histories).lists c.args.node)) next
       (subst (λ m. HasWritten ((g.K.RoundHistories.kept c.restart.new.histories).rounds + 1) c.as_slice.result.now (g.T.MemoryTable.table c.restart.new.table) (g.T.MemoryTable.table c.write_own.new.table)
       (list_of_owner (g.K.RoundHistories.kept c.restart.new.histories).lists m) (list_of_owner (g.K.RoundHistories.kept c.write_own.new.histories).lists m)) c.restart.ensures.owner.table.node is))
-      (made c.args.start.scenario.now c.args.node c.args.start.round _ _ _ _ c.as_slice.ensures.value c.writes_by-writes.ensures.value c.count.ensures)
+      (made c.args.start.now.scenario.now c.args.node c.args.start.now.round _ _ _ _ c.as_slice.ensures.value c.writes_by-writes.ensures.value c.count.ensures)
 
 pub returns-clause-owner : goal.returns-clause-owner
 returns-clause-owner g c = on_ok_weaker c.write_own.result (λ is. (left g c is).0) c.write_own.ensures.written
@@ -59,6 +59,6 @@ returns-clause-table g c =
     on_ok_weaker c.write_own.result
     (λ is.
     (left g c is).1
-    ∙ ap (λ t. with_own_writes t (own_writes c.args.start.scenario.now c.args.node c.args.start.round (count_before c.args.start.scenario.now c.args.node c.args.start.round)))
+    ∙ ap (λ t. with_own_writes t (own_writes c.args.start.now.scenario.now c.args.node c.args.start.now.round (count_before c.args.start.now.scenario.now c.args.node c.args.start.now.round)))
     c.restart.ensures.table)
     c.write_own.ensures.written

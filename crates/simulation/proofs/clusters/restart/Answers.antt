@@ -11,26 +11,26 @@ forget-requires g c =
       may = record {
         owner = omega (arith, is.table.node, c.requires.node.node, c.requires.node.one_each);
         generation = is.generation ∙ sym is.list_generation ∙ ap (λ m. (list_of_owner lists m).generation) (sym is.table.node);
-        few = omega (arith, is.generation, generation_upto_le c.args.start.scenario.now c.args.node (c.args.start.round - 1), c.requires.last);
+        few = omega (arith, is.generation, generation_upto_le c.args.start.now.scenario.now c.args.node (c.args.start.now.round - 1), c.requires.last);
       };
     }
 
 pub returns-then-forgets_now-clause-owner : goal.returns-then-forgets_now-clause-owner
 returns-then-forgets_now-clause-owner g c =
-    let s = c.args.start.scenario.now in
+    let s = c.args.start.now.scenario.now in
     let old = (g.K.RoundHistories.kept c.args.histories.now).lists in
     let new = (g.K.RoundHistories.kept c.forget.new.self).lists in
     let list : list_of_owner new c.args.node ≡ begun_generation (list_of_owner old c.args.node) =
     subst (λ m. list_of_owner new m ≡ begun_generation (list_of_owner old m)) c.requires.node.owner.table.node c.forget.ensures.kept.lists.changed in
-    subst (λ t. HasRestarted s c.args.start.round c.args.node t (list_of_owner new c.args.node)) (sym c.forget.ensures.table)
-    (subst (HasRestarted s c.args.start.round c.args.node (without_all (g.T.MemoryTable.table c.args.table.now))) (sym list)
-    (restarted_forgot s c.args.start.round c.args.node c.requires.first (g.T.MemoryTable.table c.args.table.now) (list_of_owner old c.args.node)
+    subst (λ t. HasRestarted s c.args.start.now.round c.args.node t (list_of_owner new c.args.node)) (sym c.forget.ensures.table)
+    (subst (HasRestarted s c.args.start.now.round c.args.node (without_all (g.T.MemoryTable.table c.args.table.now))) (sym list)
+    (restarted_forgot s c.args.start.now.round c.args.node c.requires.first (g.T.MemoryTable.table c.args.table.now) (list_of_owner old c.args.node)
     c.requires.node.owner (sym c.forgets_now.ensures ∙ c.if-forgets_now.true)))
 
 pub returns-then-restarts_now-clause-owner : goal.returns-then-restarts_now-clause-owner
 returns-then-restarts_now-clause-owner g c =
-    let s = c.args.start.scenario.now in
+    let s = c.args.start.now.scenario.now in
     let list = list_of_owner (g.K.RoundHistories.kept c.args.histories.now).lists c.args.node in
-    subst (λ t. HasRestarted s c.args.start.round c.args.node t list) (sym c.restart.ensures)
-    (restarted_kept s c.args.start.round c.args.node c.requires.first (g.T.MemoryTable.table c.args.table.now) list c.requires.node.owner
+    subst (λ t. HasRestarted s c.args.start.now.round c.args.node t list) (sym c.restart.ensures)
+    (restarted_kept s c.args.start.now.round c.args.node c.requires.first (g.T.MemoryTable.table c.args.table.now) list c.requires.node.owner
     (sym c.forgets_now.ensures ∙ c.if-forgets_now.false))

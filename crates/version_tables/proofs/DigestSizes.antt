@@ -1,5 +1,5 @@
 -- How many owners and entries a table of versions holds.
--- Serves `digest_size` and `delta`.
+-- Serves `delta` and `digest_size`.
 use Rattle.version_tables.proofs.Common.{nat_tests, ◌≡◌, ℕ, zero, suc, ◌+◌, ◌<◌, ◌≤◌, Bool, cond, nat_lt, List, length, map, map-id, Some, inl, inr, refl, sym, ap, ◌∙◌, arith, count_by, slice_index, entries, len-entries, range_with_len, cases_lt, lt-ltb, length-map, sum_by-map-range_with_len_more, Entry, Item, Mark, Scuttle, Precise, mark_held, Table, entry_at, items_of, item_of, mark_at, greatest_version, greatest_mark-none, mark_at-up_to_greatest, write_numbered, cell, sum_below, sum_below-same, count_held, total-places, digest_size, sum_by-ones, number_here, number_there, items_sum, numbered-some, VersionTableView, table_in, IsKept}
 use Rattle.version_tables.proofs.Laid.{has_cells}
 

@@ -29,7 +29,7 @@ returns-clause-counted g c =
     let beside = rw whole at (c.numbers_of.ensures c.args.ended.tables.items (rw whole c.requires.ended)
     (rw (c.deref-2.ensures.value, ← whole, ← c.deref.ensures.value) c.in_ok-cells.ensures.cells)) in
     record {
-      figures_are = c.in_ok-figures.ensures.figures tables beside.are ∙ ap (λ (k : HistoriesView). figures_of k.rounds tables (lists_in k.lists)) beside.histories;
+      figures_are = c.in_ok-figures.ensures.0 tables beside.are ∙ ap (λ (k : HistoriesView). figures_of k.rounds tables (lists_in k.lists)) beside.histories;
       same_tables = rw whole;
       same_histories = rw whole;
     }

@@ -35,10 +35,13 @@ fault_of_fewer fewer workers fault within found = record {
   rounds = found.rounds;
   within = found.within;
   stops = elim found.stops [
-    | inl lost ↦ inl (elim lost.0 [
-      | inl memory ↦ inl memory
-      | inr thread ↦ inr (thread.0, omega (arith, thread.1, within))
-    ], lost.1)
+    | inl lost ↦ inl (
+      elim lost.0 [
+        | inl memory ↦ inl memory
+        | inr thread ↦ inr (thread.0, omega (arith, thread.1, within))
+      ],
+      lost.1,
+    )
     | inr stop ↦ inr stop
   ];
 }

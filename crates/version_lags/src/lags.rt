@@ -172,15 +172,16 @@ pub fn piece_of<N: Number>(
         nodes: numbers.lists.len(),
         keys: numbers.keys,
     };
-    let forgot = planes::count_held(numbers.bases) > 0;
+    let RoundNumbers { bases, last, .. } = *numbers;
+    let forgot = planes::count_held(bases) > 0;
     let mut piece = Piece::none(alloc, numbers)?;
     for at in from..to {
         let here = numbers.cells[at];
         let grid = Grid { cells: here, size };
-        let behind = count_behind(&mut piece.least, grid, numbers.last);
+        let behind = count_behind(&mut piece.least, grid, last);
         piece.stale += u64::from(behind);
         if forgot {
-            piece.leftover += u64::from(total_upto(grid, numbers.bases));
+            piece.leftover += u64::from(total_upto(grid, bases));
         }
     }
     Ok(piece)

@@ -1,6 +1,7 @@
 //! What one table sends another, as marks.
 
-ghost use Rattle.version_tables.specs.inner.Common.{◌≡◌, IfOk, IfSome, IsOkUnless, OutOfMemory, digest_kind, IsKept};
+ghost use Rattle.std.specs.Prelude.{◌≡◌};
+ghost use Rattle.version_tables.specs.inner.Common.{IfOk, IfSome, IsOkUnless, OutOfMemory, digest_kind, IsKept};
 ghost use Rattle.version_tables.specs.inner.Deltas.{AreDigestSizes, MaySend};
 ghost use Rattle.version_tables.specs.inner.Offered.{IsDelta, IsOffered, MaySendTold};
 

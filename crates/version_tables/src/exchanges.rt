@@ -1,6 +1,7 @@
 //! The exchange of an initiator and a responder whose tables keep versions alone.
 
-ghost use Rattle.version_tables.specs.inner.Common.{◌≡◌, IfOk, OnErr, IsOkUnless, OutOfMemory, MakesOf, table_in};
+ghost use Rattle.std.specs.Prelude.{◌≡◌};
+ghost use Rattle.version_tables.specs.inner.Common.{IfOk, OnErr, IsOkUnless, OutOfMemory, MakesOf, table_in};
 ghost use Rattle.version_tables.specs.inner.Deltas.{HasCome};
 ghost use Rattle.version_tables.specs.inner.Histories.{IsReadyExchange};
 ghost use Rattle.version_tables.specs.inner.Taken.{BothStay};

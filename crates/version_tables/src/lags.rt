@@ -1,6 +1,7 @@
 //! The figures of a round, where tables keep versions alone.
 
-ghost use Rattle.version_tables.specs.inner.Common.{◌≡◌, List, map, IfOk, IsOkUnless, OutOfMemory, figures_of, lists_in, StandAtRoundEnd, numbers_in, VersionTableView, table_in};
+ghost use Rattle.std.specs.Prelude.{◌≡◌};
+ghost use Rattle.version_tables.specs.inner.Common.{List, map, IfOk, IsOkUnless, OutOfMemory, figures_of, lists_in, StandAtRoundEnd, numbers_in, VersionTableView, table_in};
 ghost use Rattle.version_tables.specs.inner.Beside.{AreCellsOf, AreNumbersBeside};
 
 use crate::histories::Histories;

@@ -1,7 +1,8 @@
 //! Exchanges of which all comes and surely fits: each table takes all that the other has above its own greatest
 //! numbers, both ways in one pass. Nothing is planned, and no memory is taken.
 
-ghost use Rattle.version_tables.specs.inner.Common.{◌≡◌, ◌*◌, ◌≤◌, ◌↔◌, IsTrue, amount_of, largest_share};
+ghost use Rattle.std.specs.Prelude.{◌≡◌, ◌*◌, ◌≤◌, ◌↔◌};
+ghost use Rattle.version_tables.specs.inner.Common.{IsTrue, amount_of, largest_share};
 ghost use Rattle.version_tables.specs.inner.Deltas.{AreOfOneSize, FitBoth};
 ghost use Rattle.version_tables.specs.inner.Histories.{bases_in};
 ghost use Rattle.version_tables.specs.inner.Merged.{AreCurrent, BothStayMerged, HasNoNewer, HaveMerged, IsMostAhead, MayMerge, SurelyFits};

@@ -1,6 +1,7 @@
 //! What is dropped of numbers: all, or those of all owners but one.
 
-ghost use Rattle.version_tables.specs.inner.Common.{◌≡◌, ◌<◌, ◌==◌, length, map, if◌then◌else◌, HasColumn, ArePlanesChanged, AreChanged};
+ghost use Rattle.std.specs.Prelude.{◌≡◌, ◌<◌, ◌==◌, if◌then◌else◌};
+ghost use Rattle.version_tables.specs.inner.Common.{length, map, HasColumn, ArePlanesChanged, AreChanged};
 
 use planes::{Number, Size};
 

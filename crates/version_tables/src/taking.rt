@@ -1,6 +1,7 @@
 //! What a table holds once it has taken a delta.
 
-ghost use Rattle.version_tables.specs.inner.Common.{◌≡◌, map, all_writes, entries_of, number_kept, HasColumn, IsOwnerKept, ArePlanesChanged, IsNumberedHistory};
+ghost use Rattle.std.specs.Prelude.{◌≡◌};
+ghost use Rattle.version_tables.specs.inner.Common.{map, all_writes, entries_of, number_kept, HasColumn, IsOwnerKept, ArePlanesChanged, IsNumberedHistory};
 ghost use Rattle.version_tables.specs.inner.Taken.{drop_start, drop_starts, HasArrived, MayArrive, MayDrop};
 
 use crate::deltas::DeltaMarks;

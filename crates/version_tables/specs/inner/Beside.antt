@@ -1,5 +1,6 @@
 -- Tables of versions beside the owners' lists. Source: this project.
-use Rattle.version_tables.specs.inner.Common.{◌≡◌, ℕ, All, List, length, map, Result, Entry, Fault, HistoriesView, StandAtRoundEnd, IsStretchOf, histories_of, numbers_in, AreRoundNumbers, Counts, Piece, RoundNumbers, VersionTableView, table_in, IsKept}
+use Rattle.std.specs.Prelude.{◌≡◌}
+use Rattle.version_tables.specs.inner.Common.{ℕ, All, List, length, map, Result, Entry, Fault, HistoriesView, StandAtRoundEnd, IsStretchOf, histories_of, numbers_in, AreRoundNumbers, Counts, Piece, RoundNumbers, VersionTableView, table_in, IsKept}
 use Rattle.version_tables.specs.declared.ended.Ended.{Ended}
 
 -- these are the numbers of tables that are kept

@@ -1,5 +1,6 @@
 -- A delta as marks for each owner. Source: this project.
-use Rattle.version_tables.specs.inner.Common.{◌≡◌, ℕ, ◌<◌, Bool, false, List, length, slice_index, Entry, Exchange, Rules, IsLawfulBudget, cell, DeltaView, DigestKind, delta_between, digest_size, HistoriesView, VersionTableView, table_in, IsKept, AreSent}
+use Rattle.std.specs.Prelude.{◌≡◌, ◌<◌}
+use Rattle.version_tables.specs.inner.Common.{ℕ, Bool, false, List, length, slice_index, Entry, Exchange, Rules, IsLawfulBudget, cell, DeltaView, DigestKind, delta_between, digest_size, HistoriesView, VersionTableView, table_in, IsKept, AreSent}
 use Rattle.grids.specs.declared.masks.Held.{Held}
 use Rattle.version_tables.specs.inner.Histories.{AreKnown, FitsHistories, IsReadyExchange}
 use Rattle.version_tables.specs.inner.Taken.{is_taken}

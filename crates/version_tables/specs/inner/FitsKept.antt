@@ -1,5 +1,6 @@
 -- What tables of versions owe to the histories stays through exchanges. Source: this project.
-use Rattle.version_tables.specs.inner.Common.{◌≡◌, ℕ, List, length, Entry, Table, IsProper, delta_between, fate_of, IsKeptByExchanges, MayMeet, StoodInEither, HistoriesView}
+use Rattle.std.specs.Prelude.{◌≡◌}
+use Rattle.version_tables.specs.inner.Common.{ℕ, List, length, Entry, Table, IsProper, delta_between, fate_of, IsKeptByExchanges, MayMeet, StoodInEither, HistoriesView}
 use Rattle.std.proofs.Common.{inl, inr, ◌∙◌}
 use Rattle.model.proofs.TableLaws.{frame-applied}
 use Rattle.model.proofs.Cases.{initiator_after-either, responder_after-either}

@@ -1,5 +1,6 @@
 -- What the owners wrote so far, beside all that they write in the run. Source: this project.
-use Rattle.version_tables.specs.inner.Common.{◌≡◌, ℕ, ◌+◌, ◌*◌, ◌^◌, ◌<◌, ◌≤◌, List, length, map, Contains, Some, Entry, Exchange, Rules, IsLawfulBudget, mark_of, MayBeExchanged, Table, entry_at, IsProper, OwnerListView, all_writes, AreWrites, list_of_owner, next_entry, no_writes, write_numbered, HasEach, HasEachPlace, cell, Ends, HistoriesView, KeepLimits, Owners, IsLastNumber, IsHistory, IsNumberedHistory, AreEnds, AreMadeBy}
+use Rattle.std.specs.Prelude.{◌≡◌, ◌+◌, ◌*◌, ◌^◌, ◌<◌, ◌≤◌}
+use Rattle.version_tables.specs.inner.Common.{ℕ, List, length, map, Contains, Some, Entry, Exchange, Rules, IsLawfulBudget, mark_of, MayBeExchanged, Table, entry_at, IsProper, OwnerListView, all_writes, AreWrites, list_of_owner, next_entry, no_writes, write_numbered, HasEach, HasEachPlace, cell, Ends, HistoriesView, KeepLimits, Owners, IsLastNumber, IsHistory, IsNumberedHistory, AreEnds, AreMadeBy}
 
 -- some writes are the first of all
 abbrev pub IsBeginning : List Entry → List Entry → Type 0

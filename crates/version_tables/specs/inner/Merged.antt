@@ -1,5 +1,6 @@
 -- Two tables that take of each other all that is above their own greatest numbers. Source: this project.
-use Rattle.version_tables.specs.inner.Common.{◌≡◌, ℕ, ◌*◌, ◌<◌, ◌≤◌, ◌&&◌, ◌⊎◌, false, max, nat_lt, nat_le, List, slice_index, Entry, Budget, Scuttle, Rules, amount_of, largest_share, digest_kind, AreChanged, BothCounts, cell, most_ahead, number_raised, total_above, ArePlanesChanged, HistoriesView, VersionTableView, IsKept}
+use Rattle.std.specs.Prelude.{◌≡◌, ◌*◌, ◌<◌, ◌≤◌, ◌&&◌, ◌⊎◌}
+use Rattle.version_tables.specs.inner.Common.{ℕ, false, max, nat_lt, nat_le, List, slice_index, Entry, Budget, Scuttle, Rules, amount_of, largest_share, digest_kind, AreChanged, BothCounts, cell, most_ahead, number_raised, total_above, ArePlanesChanged, HistoriesView, VersionTableView, IsKept}
 use Rattle.version_tables.specs.inner.Histories.{bases_in}
 use Rattle.version_tables.specs.inner.Deltas.{AreOfOneSize}
 

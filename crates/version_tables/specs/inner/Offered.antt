@@ -1,5 +1,6 @@
 -- What is offered from one table to another, in memory. Source: this project.
-use Rattle.version_tables.specs.inner.Common.{◌≡◌, ◌≢◌, ℕ, ◌<◌, ◌≤◌, List, length, map, slice_index, Entry, DigestKind, Rules, digest_kind, all_writes, cell, total_above, HasEach, HasEachPlace, HistoriesView, VersionTableView, IsKept, offered_by, told_by, told_number}
+use Rattle.std.specs.Prelude.{◌≡◌, ◌≢◌, ◌<◌, ◌≤◌}
+use Rattle.version_tables.specs.inner.Common.{ℕ, List, length, map, slice_index, Entry, DigestKind, Rules, digest_kind, all_writes, cell, total_above, HasEach, HasEachPlace, HistoriesView, VersionTableView, IsKept, offered_by, told_by, told_number}
 use Rattle.version_tables.specs.declared.deltas.DeltaMarks.{DeltaMarks}
 use Rattle.version_tables.specs.declared.deltas.Offered.{Offered}
 use Rattle.version_tables.specs.inner.Deltas.{AreMarksOf, MaySend}

@@ -1,5 +1,6 @@
 -- The cells of a table that has taken a delta. Source: this project.
-use Rattle.version_tables.specs.inner.Common.{◌≡◌, ℕ, ◌&&◌, Bool, true, false, max, nat_lt, nat_le, List, length, map, slice_index, if◌then◌else◌, Entry, number_kept, numbers_taken, ArePlanesChanged, AreRaised, IsGrid, VersionTableView, IsKept, OwnerListView, all_writes, Owners, HistoriesView, start_of}
+use Rattle.std.specs.Prelude.{◌≡◌, ◌&&◌, if◌then◌else◌}
+use Rattle.version_tables.specs.inner.Common.{ℕ, Bool, true, false, max, nat_lt, nat_le, List, length, map, slice_index, Entry, number_kept, numbers_taken, ArePlanesChanged, AreRaised, IsGrid, VersionTableView, IsKept, OwnerListView, all_writes, Owners, HistoriesView, start_of}
 use Rattle.version_tables.specs.declared.taking.Arrival.{Arrival}
 use Rattle.version_tables.specs.inner.Histories.{bases_in, AreOwners}
 

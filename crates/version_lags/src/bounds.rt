@@ -10,7 +10,7 @@ use round_tables::Hands;
 use std::alloc::Global;
 use std::mem::size_of_val;
 
-// So many bytes of numbers in a part, or up to sixteen times as many, take as long.
+// Parts of twice as many bytes of numbers took as long, larger ones up to a tenth longer.
 const LEAST_BYTES_OF_A_PART: usize = 65_536;
 
 // To start a thread for fewer takes longer than it saves.

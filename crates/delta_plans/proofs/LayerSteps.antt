@@ -2,8 +2,7 @@
 -- Serves `breadth` and `one_more`.
 use Rattle.delta_plans.proofs.Common.{◌≡◌, ℕ, ◌+◌, ◌-◌, ◌<◌, ◌≤◌, cond, leb, ltb, List, length, get_or, map, inl, inr, Some, Vec, Global, sym, ap, ◌∙◌, arith, nat_tests, cases_lt, le-leb, lt-leb, lt-ltb, le-ltb, length-map, amount_of, Cells, count_between, HasEach, IsNextAbove, IsLeastAbove, AreChanged, sum_below, sum_below-same, NumbersDiffer, Oldest, Offer, Level, Step, cells_in, low_in, marks, weights_in, weight_in, count_in, IsLeftOf, IsOffer, IsNextLayer, IsNextMark, AreLevelMarks, rank_above}
 use Rattle.delta_plans.proofs.WeightLaws.{part, parts_of, sum_below-each_none, weight_of-all, weight_of-none, weight_of-split}
-use Rattle.delta_plans.proofs.LevelSteps.{IsLevelSoFar, level-first, level-left, level-next}
-use Rattle.delta_plans.proofs.Nodes.{step-each, step-is}
+use Rattle.delta_plans.proofs.LevelSteps.{IsLevelSoFar, level-first, level-left, level-next, step-each, step-is}
 use Rattle.delta_plans.proofs.StopSteps.{weight_of-one}
 
 -- a mark that lets through an owner's first so many numbers above another, or all where there are no more

@@ -10,5 +10,4 @@ pub mod LayerSteps
 pub mod RunSteps
 pub mod StopSteps
 pub mod TurnSteps
-pub mod Nodes
 pub mod Common

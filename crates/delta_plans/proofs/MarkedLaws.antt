@@ -1,27 +1,24 @@
 -- Marks of all that is offered, or of a level that was shared out.
 -- Serves `planned` and `version_tables`.
-use Rattle.delta_plans.proofs.Common.{◌≡◌, ℕ, ◌-◌, ◌<◌, ◌≤◌, true, List, length, inl, inr, sym, ap, ◌∙◌, subst, arith, nat_tests, lt-ltb, le-leb, Mode, amount_of, Cells, HasNoneAbove, sum_below-le, First, Oldest, Newest, Offer, Level, by_first, first_sent, lets_through, KeepsLow, AreMarked, IsLevelOf, cells_in, marks, weights_in, weight_in, count_in, IsOffer, count_on, AreShared, weight_between, weight_through, count_all_between, one_each}
-use Rattle.delta_plans.proofs.WeightLaws.{parts_of}
-
--- fewer are between nearer marks
-count-le : (cells : Cells) (nodes keys : ℕ) (low low' high high' : ℕ → ℕ) → ((owner : ℕ) → owner < nodes → low' owner ≤ low owner)
-    → ((owner : ℕ) → owner < nodes → HasNoneAbove cells keys owner (high' owner))
-    → count_all_between cells nodes keys low high ≤ count_all_between cells nodes keys low' high'
-count-le cells nodes keys low low' high high' lower covered = sum_below-le nodes _ _ (λ owner in_nodes. sum_below-le keys _ _ (λ key in_keys.
-    let le = lower owner in_nodes in
-    let upto = covered owner in_nodes key in_keys in
-    grind (arith, nat_tests)))
+use Rattle.delta_plans.proofs.Common.{◌≡◌, ℕ, ◌-◌, ◌<◌, ◌≤◌, true, List, length, inl, inr, sym, ap, ◌∙◌, subst, arith, lt-ltb, le-leb, Mode, amount_of, sum_below-le, First, Oldest, Newest, Offer, Level, by_first, first_sent, lets_through, KeepsLow, AreMarked, IsLevelOf, cells_in, marks, weights_in, weight_in, count_in, IsOffer, count_on, AreShared, weight_between, weight_through, one_each}
+use Rattle.delta_plans.proofs.WeightLaws.{parts_of, weight_of-upto}
 
 module _ {N : Type 0} (number : N → ℕ) (most : ℕ) (offer : Offer N) (is : IsOffer number most offer) where
-  open parts_of number offer use {low, high}
+  open parts_of number offer use {cells, low, high}
 
   -- marks above the low ones let through no more than all
   above-tells : (first : First) (mark : ℕ → ℕ) → ((r : ℕ) → r < offer.grid.size.nodes → low r ≤ mark r)
       → (count_on first number offer mark ≤ count_in number offer low high) × KeepsLow first offer.grid.size.nodes low mark
-  above-tells Oldest mark above =
-      (count-le (cells_in number offer) offer.grid.size.nodes offer.grid.size.keys low low mark high (λ owner lt. omega arith) is.covered, tt)
-  above-tells Newest mark above =
-      (count-le (cells_in number offer) offer.grid.size.nodes offer.grid.size.keys mark low high high above is.covered, above)
+  above-tells Oldest mark above = (
+    sum_below-le offer.grid.size.nodes _ _ (λ owner lt.
+        weight_of-upto (λ _. 1) cells offer.grid.size.keys owner (low owner) (mark owner) (high owner) (is.covered owner lt) (low owner) (omega arith)),
+    tt,
+  )
+  above-tells Newest mark above = (
+    sum_below-le offer.grid.size.nodes _ _ (λ owner lt.
+        weight_of-upto (λ _. 1) cells offer.grid.size.keys owner (mark owner) (high owner) (high owner) (is.covered owner lt) (low owner) (above owner lt)),
+    above,
+  )
 
   -- the marks that let all through: the high ones, or from the newest on the low ones
   abbrev whole_marks : First → List N

@@ -2,8 +2,7 @@
 -- Serves `depth` and `next_runs`.
 use Rattle.delta_plans.proofs.Common.{◌≡◌, ℕ, ◌+◌, ◌-◌, ◌*◌, ◌<◌, ◌≤◌, cond, eqb, leb, ltb, List, length, get_or, map, inl, inr, Some, Vec, Global, sym, ap, ◌∙◌, subst, arith, nat_tests, cases_eq, length-map, amount_of, Cells, count_above, count_between, HasNoneAbove, HasEach, AreChanged, sum_below, sum_below-same, MOST_KEYS, Offer, Level, Step, Oldest, Newest, cells_in, low_in, high_in, owner_count_in, marks, weights_in, weight_in, IsLeftOf, IsOffer, AreMarksFrom, AreRunsFrom, AreNextRuns, AreLevelMarks, weight_of}
 use Rattle.delta_plans.proofs.WeightLaws.{parts_of, count_between-most, offer-none, sum_below-each_none, sum_below-none, weight_of-none, where_true}
-use Rattle.delta_plans.proofs.LevelSteps.{IsLevelSoFar, level-first, level-left, level-next}
-use Rattle.delta_plans.proofs.Nodes.{step-each, step-is}
+use Rattle.delta_plans.proofs.LevelSteps.{IsLevelSoFar, level-first, level-left, level-next, step-each, step-is}
 
 module _ (cells : Cells) (keys owner low high : ℕ) (covered : HasNoneAbove cells keys owner high) where
   abbrev above : ℕ

@@ -1,6 +1,6 @@
 -- Where generations start in an owner's list.
 -- Serves `put_starts`, `told` and `version_tables`.
-use Rattle.delta_plans.proofs.Common.{◌≡◌, ℕ, zero, suc, ◌+◌, ◌-◌, ◌<◌, ◌≤◌, min, List, [], ◌∷◌, ◌++◌, length, get_or, set, Some, None, inl, inr, sym, ap, ◌∙◌, arith, nat_tests, cases_eq, get_or_default, get_or-set_same, get_or-set_other, length-set, length-append, Entry, DigestKind, write_from, write_numbered, OwnerListView, all_writes, entries_of, list_of_owner, no_writes, AreWrites, AreChanged, start_before, start_of, numbered-some, write_from-at, told_by, told_number, IsKnown}
+use Rattle.delta_plans.proofs.Common.{◌≡◌, ℕ, ◌-◌, ◌<◌, ◌≤◌, min, List, length, get_or, set, Some, None, inl, inr, refl, sym, ap, ◌∙◌, arith, nat_tests, cases_eq, get_or_default, get_or-append_right, get_or-set_same, get_or-set_other, length-set, length-append, Entry, DigestKind, write_numbered, OwnerListView, all_writes, entries_of, list_of_owner, no_writes, AreWrites, AreChanged, start_before, start_of, numbered-placed, numbered-some, told_by, told_number, IsKnown}
 
 -- an owner's writes are those of its list
 pub list-here : (lists : List OwnerListView) (owner : ℕ) (x : OwnerListView) → owner < length lists → x ≡ get_or lists owner x → list_of_owner lists owner ≡ x
@@ -16,27 +16,16 @@ start-upto writes number = elim (write_numbered writes number) as (λ o. start_b
   | Some e ↦ omega arith
 ]
 
--- what stands behind others
-write_from-behind : (xs ys : List Entry) (place : ℕ) → write_from (xs ++ ys) (length xs + place) ≡ write_from ys place
-write_from-behind [] ys place = ap (write_from ys) {x = 0 + place} {y = place} (omega arith)
-write_from-behind (x ∷ xs) ys place =
-    ap (write_from (x ∷ (xs ++ ys))) {x = length (x ∷ xs) + place} {y = suc (length xs + place)} (omega arith) ∙ write_from-behind xs ys place
-
 -- a write of an owner's own generation has all those of earlier ones before it
 pub start_own : (v : OwnerListView) (number : ℕ) → AreWrites v → length v.earlier < number → number ≤ length (entries_of v)
     → start_of (entries_of v) number ≡ length v.earlier
-start_own v zero are lt le = absurd (omega (arith, lt))
-start_own v (suc place) are lt le =
-    let there = numbered-some (entries_of v) (suc place) (omega arith) le in
-    let within : place - length v.earlier < length v.current = omega (arith, lt, le, length-append v.earlier v.current) in
-    let here : write_from v.current (place - length v.earlier) ≡ Some there.0 =
-    sym (write_from-behind v.earlier v.current (place - length v.earlier))
-    ∙ ap (write_from (entries_of v)) {x = length v.earlier + (place - length v.earlier)} {y = place} (omega (arith, lt))
-    ∙ there.1 in
-    let at = write_from-at v.current (place - length v.earlier) there.0 there.0 here in
-    let version : there.0.version ≡ place - length v.earlier + 1 =
-    ap (λ (e : Entry). e.version) (sym at.1) ∙ (are.current (place - length v.earlier) there.0 within).1 ∙ omega arith in
-    ap (start_before (suc place)) there.1 ∙ omega (arith, version, lt)
+start_own v number are lt le =
+    let there = numbered-some (entries_of v) number (omega (arith, lt)) le in
+    let at = numbered-placed (entries_of v) number there.0 there.1 in
+    let behind = get_or-append_right v.earlier v.current (length v.earlier) at.place there.0 refl (omega (arith, lt, at.is)) in
+    let next = (are.current (at.place - length v.earlier) there.0 (omega (arith, lt, at.is, at.within, length-append v.earlier v.current))).1 in
+    let version = ap (λ (e : Entry). e.version) (sym (at.there there.0) ∙ behind) ∙ next in
+    ap (start_before number) there.1 ∙ omega (arith, version, lt, at.is)
 
 -- so the lower of number and base is the start of a write that is of no earlier generation
 pub start-lower : (most : ℕ) (v : OwnerListView) (x base y : ℕ) → IsKnown most v x base → (0 < x → x ≤ base → ⊥) → y ≡ min x base

@@ -1,6 +1,6 @@
 -- The owners' turns in a level.
 -- Serves the functions of `rounds` and `sharing` and `RoundMarks`.
-use Rattle.delta_plans.proofs.Common.{◌≡◌, ◌≢◌, ℕ, suc, ◌+◌, ◌-◌, ◌*◌, ◌<◌, ◌≤◌, cond, ltb, List, get_or, set, map, inl, inr, refl, sym, ap, ◌∙◌, transport, arith, nat_tests, get_or-set_same, get_or-set_other, length-map, map-set, Entries, MOST_NODES, MOST_KEYS, MOST_ENTRY_SIZE, cases_eq, Cells, HasNoneAbove, sum_below-same, sum_below-plus, rotated, rotated-injective, rotated-is, First, Oldest, Newest, Offer, Reached, Turns, by_first, low_in, high_in, marks, weights_in, IsOffer, count_on, AreFarther, lt-ltb, le-ltb, IsStopOf, weight_to, part_weight, parts_count, reached_after, AreTurns, HasReached, AreSharedBy, Several, length-set, HasPart, HaveTurns, weight_of, weight_from, weight_through, one_each}
+use Rattle.delta_plans.proofs.Common.{◌≡◌, ◌≢◌, ℕ, suc, ◌+◌, ◌-◌, ◌*◌, ◌<◌, ◌≤◌, cond, ltb, List, get_or, set, map, inl, inr, refl, sym, ap, ◌∙◌, transport, arith, nat_tests, get_or-set_same, get_or-set_other, length-map, map-set, Entries, MOST_NODES, MOST_KEYS, MOST_ENTRY_SIZE, cases_eq, Cells, HasNoneAbove, sum_below-same, sum_below-plus, rotated, rotated-injective, rotated-is, First, Oldest, Newest, Offer, Reached, Turns, by_first, low_in, high_in, marks, weights_in, IsOffer, count_on, AreFarther, lt-ltb, le-ltb, IsStopOf, weight_to, part_weight, parts_count, reached_after, AreTurns, HasReached, AreSharedBy, Several, length-set, HaveTurns, weight_of, weight_from, weight_through, one_each}
 use Rattle.delta_plans.proofs.WeightLaws.{offer-few, owner-entries, owner-most, part, parts_of, sum_below-changed, sum_below-longer, weight_of-split}
 use Rattle.delta_plans.proofs.StopSteps.{few-from, stop-tells}
 
@@ -134,10 +134,11 @@ module _ {N : Type 0} {number : N → ℕ} {most : ℕ} {turns : Turns N} (are :
             };
           }
 
-module _ {N : Type 0} {number : N → ℕ} {most : ℕ} {turns : Turns N} {owner count : ℕ} (has : HasPart number most turns owner count) where
+module _ {N : Type 0} {number : N → ℕ} {most : ℕ} {turns : Turns N} (are : AreTurns number most turns) {owner count : ℕ}
+    (in_nodes : owner < turns.offer.now.grid.size.nodes) (its : count ≡ part_weight number (λ _. 1) turns owner) where
   -- entries that are counted take as much as they are
   pub part-entries : (n : ℕ) → turns.offer.now.budget ≡ Entries n → count ≡ part_weight number (weights_in turns.offer.now owner) turns owner
-  part-entries n counted = has.its ∙ sym (owner-entries has.are.offer n counted owner has.in_nodes _ _)
+  part-entries n counted = its ∙ sym (owner-entries are.offer n counted owner in_nodes _ _)
 
   -- a part without numbers weighs nothing
   pub part-none : count ≡ 0 → 0 ≡ part_weight number (weights_in turns.offer.now owner) turns owner
@@ -146,7 +147,7 @@ module _ {N : Type 0} {number : N → ℕ} {most : ℕ} {turns : Turns N} {owner
       let near = marks number turns.level.now.near.items owner in
       let far = marks number turns.level.now.far.items owner in
       let most = owner-most number turns.offer.now turns.offer.now.grid.size.keys owner (by_first first near far) (by_first first far near) in
-      omega (arith, most, ap (λ n. n * MOST_ENTRY_SIZE) (sym has.its ∙ none))
+      omega (arith, most, ap (λ n. n * MOST_ENTRY_SIZE) (sym its ∙ none))
 
 -- owners in a row have their turns one after another
 pub turns-in_row : {N : Type 0} (turns : Turns N) (turn owner size : ℕ) → turns.rotation < turns.offer.now.grid.size.nodes
@@ -176,6 +177,6 @@ some-next {number} {turns} {several = several} have i lt so_far to to_far =
     let in_nodes : owner + i < turns.offer.now.grid.size.nodes = omega (arith, have.in_nodes, lt) in
     let more = ap (parts_count number turns owner) {x = i + 1} {y = suc i} (omega arith) in
     let fits = sum_below-longer (λ j. part_weight number (λ _. 1) turns (owner + j)) (i + 1) several.size (omega (arith, lt)) in
-    let entries = part-entries (record { are = have.are; in_nodes = in_nodes; its = refl }) have.entries have.counted in
+    let entries = part-entries have.are in_nodes refl have.entries have.counted in
     let passed = turns-next have.are so_far in_nodes (have.next i lt) to (omega (arith, fits, have.fits, have.sum, more)) entries refl to_far in
     turns-same passed (omega arith) (omega (arith, more)) (omega (arith, more))

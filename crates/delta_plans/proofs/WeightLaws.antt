@@ -82,8 +82,8 @@ count_between-most cells (suc keys) owner low high = let rest = count_between-mo
 
 -- marks above all numbers let through as much as any such
 module _ (weight : ℕ → ℕ) (cells : Cells) (keys owner low mark high : ℕ) (covered : HasNoneAbove cells keys owner high) where
-  pub weight_of-upto : weight_of weight cells keys owner low mark ≤ weight_of weight cells keys owner low high
-  weight_of-upto = sum_below-le keys _ _ (λ key lt. let le = covered key lt in grind (arith, nat_tests))
+  pub weight_of-upto : (from : ℕ) → from ≤ low → weight_of weight cells keys owner low mark ≤ weight_of weight cells keys owner from high
+  weight_of-upto from lower = sum_below-le keys _ _ (λ key lt. let le = covered key lt in grind (arith, nat_tests))
 
   pub weight_of-all : HasNoneAbove cells keys owner mark → weight_of weight cells keys owner low mark ≡ weight_of weight cells keys owner low high
   weight_of-all none = sum_below-same keys _ _ (λ key lt. let le = covered key lt in let le' = none key lt in grind (arith, nat_tests))

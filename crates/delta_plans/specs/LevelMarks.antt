@@ -1,15 +1,7 @@
 -- A delta as marks, one for each owner: whole levels, and of the level that doesn't fit what comes before the first
 -- candidate that doesn't. Source: this project.
-use Rattle.std.specs.Prelude.{◌≡◌, ℕ, ◌<◌, List, Option, Some, None, nat_lt, nat_le, not, Bool, if◌then◌else◌}
-use Rattle.bench_types.specs.Sums.{sum_below}
-use Rattle.bench_types.specs.declared.entries.Entry.{Entry}
-use Rattle.delta_plans.specs.declared.marked.First.{First}
-use Rattle.delta_plans.specs.declared.marked.First.TheVariants.{Oldest, Newest}
-use Rattle.bench_types.specs.declared.exchanges.Mode.{Mode}
-use Rattle.bench_types.specs.declared.exchanges.Mode.TheVariants.{ScuttleBreadth, ScuttleDepth, PreciseOldest, PreciseNewest}
-use Rattle.model.specs.calls.Numbers.{write_numbered}
-use Rattle.planes.specs.Planes.{Cells, count_above}
-use Rattle.bench_types.specs.declared.entries.Item.{Item}
+use Rattle.std.specs.Prelude.{◌≡◌, ℕ, ◌<◌, ◌≤◌, List, Option, Some, None, nat_lt, nat_le, not, Bool, if◌then◌else◌}
+use Rattle.delta_plans.specs.Common.{sum_below, Entry, First, Oldest, Newest, Mode, ScuttleBreadth, ScuttleDepth, PreciseOldest, PreciseNewest, write_numbered, Cells, count_above, Item}
 
 -- the number of an item
 abbrev pub item_number : Cells → Item → ℕ
@@ -24,6 +16,11 @@ comes_first Newest m n = nat_lt n m
 abbrev pub by_first : {A : Type 0} → First → A → A → A
 by_first Oldest x y = x
 by_first Newest x y = y
+
+-- one mark is no nearer than another
+abbrev pub IsOn : First → ℕ → ℕ → Type 0
+IsOn Oldest near mark = near ≤ mark
+IsOn Newest near mark = mark ≤ near
 
 -- which of an owner's candidates of one level a mode sends first
 abbrev pub first_sent : Mode → First

@@ -1,4 +1,4 @@
-pub mod Granted
+pub mod Common
 pub mod LevelMarks
 pub mod Marked
 pub mod OfferInMemory
@@ -6,7 +6,6 @@ pub mod Offers
 pub mod Plans
 pub mod RoundLevels
 pub mod SentSets
-pub mod Stops
 pub mod Told
 pub mod Turns
 pub mod Weights

@@ -1,12 +1,6 @@
 -- What is sent where not all fits, or all, as one mark for each owner. Source: this project.
 use Rattle.std.specs.Prelude.{◌≡◌, ◌⊎◌, ℕ, ◌+◌, ◌<◌, ◌≤◌, true}
-use Rattle.delta_plans.specs.declared.marked.First.{First}
-use Rattle.delta_plans.specs.declared.marked.First.TheVariants.{Oldest, Newest}
-use Rattle.bench_types.specs.declared.exchanges.Mode.{Mode}
-use Rattle.bench_types.specs.Budget.{amount_of}
-use Rattle.model.specs.calls.OwnerListView.{all_writes}
-use Rattle.delta_plans.specs.declared.offers.Level.{Level}
-use Rattle.delta_plans.specs.declared.offers.Offer.{Offer}
+use Rattle.delta_plans.specs.Common.{First, Oldest, Newest, Mode, amount_of, all_writes, Level, Offer}
 use Rattle.delta_plans.specs.OfferInMemory.{cells_in, low_in, high_in, count_in}
 use Rattle.delta_plans.specs.Plans.{weight_on, count_on, IsLevelBy}
 use Rattle.delta_plans.specs.LevelMarks.{first_level, first_sent, level_number, lets_through, AreLevelMarks}

@@ -1,12 +1,12 @@
 -- What is offered in memory: cells with marks for each owner, and the owners' lists. Source: this project.
-use Rattle.std.specs.Prelude.{◌≡◌, ℕ, ◌-◌, ◌<◌, ◌≤◌, List, Option, SomeIff, length, map, slice_index}
-use Rattle.bench_types.specs.Budget.{amount_of}
-use Rattle.model.specs.calls.OwnerListView.{all_writes}
-use Rattle.planes.specs.Grids.{IsGridOf}
-use Rattle.planes.specs.Planes.{Cells, cell, count_above, HasNoneAbove}
-use Rattle.delta_plans.specs.declared.offers.Offer.{Offer}
+use Rattle.std.specs.Prelude.{◌≡◌, ℕ, ◌-◌, ◌<◌, ◌≤◌, IfOk, IsOkUnless, List, Option, Result, SomeIff, length, map, slice_index}
+use Rattle.delta_plans.specs.Common.{Fault, OutOfMemory, amount_of, all_writes, IsGridOf, Cells, cell, count_above, HasNoneAbove, Offer}
 use Rattle.delta_plans.specs.LevelMarks.{NumbersDiffer}
 use Rattle.delta_plans.specs.Weights.{number_shares, weight_between, count_all_between}
+
+-- what holds of an answer unless memory is refused
+abbrev pub IfGranted : {T : Type 0} → Result T Fault → (T → Type 0) → Type 0
+IfGranted result is = IfOk result is × IsOkUnless result OutOfMemory
 
 -- a number for each owner
 abbrev pub marks : {N : Type 0} → (N → ℕ) → List N → ℕ → ℕ
@@ -65,14 +65,10 @@ pub record IsTooLarge {N : Type 0} (number : N → ℕ) (most : ℕ) (offer : Of
   pub beyond : amount_of offer.budget
       < weight_in number offer (low_in number offer) (high_in number offer)
 
--- an owner of an offer, and one of its keys
+-- an owner of an offer
 pub record HasOwner {N : Type 0} (number : N → ℕ) (most : ℕ) (offer : Offer N) (owner : ℕ) : Type 0 where
   pub is_offer : IsOffer number most offer
   pub in_nodes : owner < offer.grid.size.nodes
-
-pub record HasPlace {N : Type 0} (number : N → ℕ) (most : ℕ) (offer : Offer N) (owner key : ℕ) : Type 0 where
-  pub has_owner : HasOwner number most offer owner
-  pub in_keys : key < offer.grid.size.keys
 
 -- a low and a high mark for each owner of an offer, and how many numbers lie between them
 pub record HasMarks {N : Type 0} (number : N → ℕ) (most : ℕ) (offer : Offer N) (low high : List N) : Type 0 where

@@ -1,19 +1,7 @@
 -- What one table offers another, told by numbers of writes: each owner's writes are numbered from 1, through all its
 -- generations, so within one owner numbers compare as marks. Source: this project.
 use Rattle.std.specs.Prelude.{◌≡◌, ℕ, ◌<◌, ◌≤◌, ◌↔◌, not, ◌&&◌, ◌==◌, true, false, if◌then◌else◌, nat_lt, Bool, List, Contains, Some, Option, None}
-use Rattle.bench_types.specs.declared.entries.Entry.{Entry}
-use Rattle.bench_types.specs.declared.entries.Item.{Item}
-use Rattle.bench_types.specs.declared.exchanges.Mode.{Mode}
-use Rattle.bench_types.specs.Mark.{mark_of, is_before}
-use Rattle.bench_types.specs.Mode.{digest_kind}
-use Rattle.bench_types.specs.declared.exchanges.DigestKind.{DigestKind}
-use Rattle.bench_types.specs.declared.exchanges.DigestKind.TheVariants.{Scuttle, Precise}
-use Rattle.model.specs.Table.{Table, entry_at}
-use Rattle.owner_writes.specs.Numbered.{start_of}
-use Rattle.model.specs.Candidates.{known_mark}
-use Rattle.bench_types.specs.Sums.{sum_below}
-use Rattle.planes.specs.Planes.{Cells, number_ahead}
-use Rattle.model.specs.calls.Numbers.{write_numbered}
+use Rattle.delta_plans.specs.Common.{Entry, Item, Mode, mark_of, is_before, digest_kind, DigestKind, Scuttle, Precise, Table, entry_at, start_of, known_mark, sum_below, Cells, number_ahead, write_numbered}
 
 -- a table holds the writes of these numbers
 abbrev pub HasCells : (ℕ → List Entry) → Cells → Table → Type 0

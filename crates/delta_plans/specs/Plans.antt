@@ -1,16 +1,9 @@
 -- Levels of what is offered, as marks: near marks let through whole levels, and far marks one level more, which doesn't
 -- fit. Source: this project.
 use Rattle.std.specs.Prelude.{◌≡◌, ◌⊎◌, ℕ, ◌+◌, ◌<◌, ◌≤◌, nat_le, List, length, map, if◌then◌else◌}
-use Rattle.delta_plans.specs.declared.marked.First.{First}
-use Rattle.bench_types.specs.Budget.{amount_of}
-use Rattle.planes.specs.Planes.{Cells, HasEach, HasNoneAbove, IsLeastAbove}
-use Rattle.bench_types.specs.declared.limits.TheConstants.{MOST_KEYS}
-use Rattle.delta_plans.specs.declared.offers.Offer.{Offer}
-use Rattle.delta_plans.specs.declared.offers.Level.{Level}
-use Rattle.delta_plans.specs.declared.offers.Step.{Step}
+use Rattle.delta_plans.specs.Common.{First, amount_of, Cells, HasEach, HasNoneAbove, IsLeastAbove, MOST_KEYS, Offer, Level, Step}
 use Rattle.delta_plans.specs.OfferInMemory.{cells_in, low_in, high_in, owner_count_in, marks, weights_in, count_in, IsOffer}
-use Rattle.delta_plans.specs.LevelMarks.{AreLevelMarks}
-use Rattle.delta_plans.specs.Stops.{IsOn}
+use Rattle.delta_plans.specs.LevelMarks.{AreLevelMarks, IsOn}
 use Rattle.delta_plans.specs.Weights.{weight_through, one_each}
 
 -- a mark goes on to the owner's next number, or stays where there is none

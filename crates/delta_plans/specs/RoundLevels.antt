@@ -1,17 +1,8 @@
 -- Levels of rounds, as marks. Source: this project.
 use Rattle.std.specs.Prelude.{◌≡◌, ℕ, ◌+◌, ◌-◌, ◌*◌, ◌<◌, ◌≤◌, max, length, map, IfSome, List, Option, Some, None}
-use Rattle.bench_types.specs.Budget.{amount_of}
-use Rattle.model.specs.calls.OwnerListView.{all_writes}
-use Rattle.planes.specs.Planes.{cell, HasEach}
-use Rattle.planes.specs.declared.ends.Ends.{Ends}
-use Rattle.delta_plans.specs.declared.offers.Level.{Level}
-use Rattle.delta_plans.specs.declared.offers.Offer.{Offer}
-use Rattle.delta_plans.specs.declared.rounds.Fit.{Fit}
-use Rattle.delta_plans.specs.declared.rounds.Rounds.{Rounds}
-use Rattle.owner_writes.specs.Numbered.{AreMadeBy, AreEnds}
+use Rattle.delta_plans.specs.Common.{amount_of, all_writes, cell, HasEach, Ends, Level, Offer, Fit, Rounds, AreMadeBy, AreEnds, write_numbered}
 use Rattle.delta_plans.specs.OfferInMemory.{low_in, marks, IsTooLarge}
 use Rattle.delta_plans.specs.Plans.{weight_on, count_on, IsLevelBy}
-use Rattle.model.specs.calls.Numbers.{write_numbered}
 use Rattle.delta_plans.specs.LevelMarks.{by_first, round_of}
 
 -- where the rounds end in which all that is offered was written

@@ -1,16 +1,6 @@
 -- What a budget lets through of candidates, told by any set of them. Source: this project.
 use Rattle.std.specs.Prelude.{◌≡◌, ◌≢◌, ℕ, ◌+◌, ◌<◌, ◌≤◌, ◌↔◌, Bool, true, false, not, List, length, count_by, Contains, if◌then◌else◌}
-use Rattle.std.specs.List.{sum_by}
-use Rattle.std.specs.declared.cmp.Ordering.{Ordering}
-use Rattle.std.specs.declared.cmp.Ordering.TheVariants.{Less}
-use Rattle.bench_types.specs.declared.entries.Item.{Item}
-use Rattle.bench_types.specs.declared.exchanges.Budget.{Budget}
-use Rattle.bench_types.specs.declared.exchanges.Mode.{Mode}
-use Rattle.bench_types.specs.Budget.{amount_of}
-use Rattle.model.specs.Table.{Table, IsProper}
-use Rattle.model.specs.Candidates.{candidates}
-use Rattle.model.specs.Deltas.{DeltaView, delta_between, item_share}
-use Rattle.model.specs.Order.{sending_order}
+use Rattle.delta_plans.specs.Common.{sum_by, Ordering, Less, Item, Budget, Mode, amount_of, Table, IsProper, candidates, DeltaView, delta_between, item_share, sending_order}
 
 module _ {X : Type 0} (order : X → X → Ordering) (candidates : List X) (size : X → ℕ) (is_in : X → Bool) where
   -- the sizes of those in the set

@@ -1,9 +1,6 @@
 -- What a digest tells of each owner, as a number. Source: this project.
 use Rattle.std.specs.Prelude.{◌≡◌, ℕ, ◌<◌, ◌≤◌, List, length, map, slice_index}
-use Rattle.bench_types.specs.declared.limits.TheConstants.{MOST_NODES}
-use Rattle.model.specs.calls.OwnerListView.{OwnerListView, entries_of, AreWrites, list_of_owner}
-use Rattle.delta_plans.specs.declared.told_marks.Owners.{Owners}
-use Rattle.owner_writes.specs.Numbered.{IsNumberedHistory}
+use Rattle.delta_plans.specs.Common.{MOST_NODES, OwnerListView, entries_of, AreWrites, list_of_owner, Owners, IsNumberedHistory}
 
 -- a number of a write of a list, or 0, where it has fewer than the most and so many of earlier generations
 pub record IsKnown (most : ℕ) (list : OwnerListView) (number base : ℕ) : Type 0 where

@@ -1,20 +1,10 @@
 -- A level shared out by the owners' turns, from the rotation on. Source: this project.
 use Rattle.std.specs.Prelude.{◌≡◌, ◌⊎◌, ℕ, ◌+◌, ◌-◌, ◌<◌, ◌≤◌, nat_lt, List, length, map, if◌then◌else◌, ◌≢◌, true, false}
-use Rattle.bench_types.specs.Budget.{amount_of}
-use Rattle.bench_types.specs.Sums.{sum_below}
-use Rattle.bench_types.specs.declared.exchanges.Budget.TheVariants.{Entries}
-use Rattle.planes.specs.Planes.{HasEach, Cells}
-use Rattle.model.specs.Order.{rotated}
-use Rattle.delta_plans.specs.declared.sharing.Reached.{Reached}
-use Rattle.delta_plans.specs.declared.sharing.Several.{Several}
-use Rattle.delta_plans.specs.declared.sharing.Turns.{Turns}
+use Rattle.delta_plans.specs.Common.{amount_of, sum_below, Entries, HasEach, Cells, rotated, Reached, Several, Turns, First, Offer}
 use Rattle.delta_plans.specs.OfferInMemory.{cells_in, marks, weights_in, IsOffer, low_in}
 use Rattle.delta_plans.specs.Plans.{weight_on, count_on, IsLevel}
-use Rattle.delta_plans.specs.Stops.{IsStopFrom}
 use Rattle.delta_plans.specs.Weights.{weight_from}
-use Rattle.delta_plans.specs.declared.marked.First.{First}
-use Rattle.delta_plans.specs.declared.offers.Offer.{Offer}
-use Rattle.delta_plans.specs.LevelMarks.{comes_first, lets_through}
+use Rattle.delta_plans.specs.LevelMarks.{comes_first, lets_through, IsOn}
 
 -- an owner's mark that lets through what comes before a number, which its far mark lets through and its near one not
 pub record StopsBefore (first : First) (cells : Cells) (keys owner low near far mark next : ℕ) : Type 0 where
@@ -62,18 +52,30 @@ part_weight number weight turns owner =
     weight_to number weight turns owner (marks number turns.level.now.near.items owner)
     (marks number turns.level.now.far.items owner)
 
--- that is more than there is room for
-pub record IsTooHeavy {N : Type 0} (number : N → ℕ) (most : ℕ) (turns : Turns N) (owner room : ℕ) : Type 0 where
-  pub are : AreTurns number most turns
-  pub in_nodes : owner < turns.offer.now.grid.size.nodes
-  pub beyond : room < part_weight number (weights_in turns.offer.now owner) turns owner
+-- two marks on the way from a near to a far one: numbers up to the first fit into some room, and leave so much, and
+-- those up to the second don't
+pub record IsStopBetween (first : First) (weight : ℕ → ℕ) (cells : Cells)
+    (keys owner near far room mark beyond left : ℕ) : Type 0 where
+  pub on : IsOn first near mark
+  pub between : IsOn first mark beyond
+  pub upto : IsOn first beyond far
+  pub rest : weight_from first weight cells keys owner near mark + left ≡ room
+  pub more : left < weight_from first weight cells keys owner mark beyond
 
--- where it stops then
-abbrev pub IsStopOf : {N : Type 0} → (N → ℕ) → Turns N → ℕ → ℕ → ℕ → Type 0
-IsStopOf number turns owner =
-    IsStopFrom turns.first (weights_in turns.offer.now owner) (cells_in number turns.offer.now)
+-- so it is of an owner's part of the level
+abbrev pub IsStopSoFar : {N : Type 0} → (N → ℕ) → Turns N → ℕ → ℕ → ℕ → ℕ → ℕ → Type 0
+IsStopSoFar number turns owner =
+    IsStopBetween turns.first (weights_in turns.offer.now owner) (cells_in number turns.offer.now)
     turns.offer.now.grid.size.keys owner (marks number turns.level.now.near.items owner)
     (marks number turns.level.now.far.items owner)
+
+-- and there is no other between them
+pub record IsStopOf {N : Type 0} (number : N → ℕ) (turns : Turns N) (owner room mark : ℕ) : Type 0 where
+  pub beyond : ℕ
+  pub left : ℕ
+  pub so_far : IsStopSoFar number turns owner room mark beyond left
+  pub below : mark ≤ beyond + 1
+  pub above : beyond ≤ mark + 1
 
 -- how many numbers the parts of so many owners have, from one on
 abbrev pub parts_count : {N : Type 0} → (N → ℕ) → Turns N → ℕ → ℕ → ℕ
@@ -91,30 +93,6 @@ pub record HaveParts {N : Type 0} (number : N → ℕ) (most : ℕ) (turns : Tur
   pub are : AreTurns number most turns
   pub known : AreKnownFor number most turns counts
   pub within : owner + size ≤ turns.offer.now.grid.size.nodes
-
--- and of these it is known
-pub record KnowParts {N : Type 0} (number : N → ℕ) (most : ℕ) (turns : Turns N) (counts : List N)
-    (owner size : ℕ) : Type 0 where
-  pub each : (r : ℕ) → owner ≤ r → r < owner + size
-      → marks number counts r ≡ part_weight number (λ _. 1) turns r
-  pub known : AreKnownFor number most turns counts
-
--- an owner's part has so many
-pub record HasPart {N : Type 0} (number : N → ℕ) (most : ℕ) (turns : Turns N) (owner count : ℕ) : Type 0 where
-  pub are : AreTurns number most turns
-  pub in_nodes : owner < turns.offer.now.grid.size.nodes
-  pub its : count ≡ part_weight number (λ _. 1) turns owner
-
--- so it is, or the parts of some owners have so many, and it is known as before
-pub record KnowsPart {N : Type 0} (number : N → ℕ) (most : ℕ) (turns : Turns N) (known : List N)
-    (part many : ℕ) : Type 0 where
-  pub count : many ≡ part
-  pub counts : AreKnownFor number most turns known
-
--- the owner whose turn it is
-pub record IsOwnerOfTurn (nodes rotation place owner : ℕ) : Type 0 where
-  pub below : owner < nodes
-  pub turn : rotated nodes rotation owner ≡ place
 
 -- marks that share it out
 pub record AreSharedBy {N : Type 0} (number : N → ℕ) (turns : Turns N) (mark : List N) (sent : ℕ) : Type 0 where
@@ -160,9 +138,3 @@ pub record HaveTurns {N : Type 0} (number : N → ℕ) (most : ℕ) (turns : Tur
       → rotated turns.offer.now.grid.size.nodes turns.rotation (several.owner + i) ≡ reached.turn + i
   pub sum : several.count ≡ parts_count number turns several.owner several.size
   pub fits : several.count ≤ reached.left
-
--- and then have had their turns
-pub record HadTurns {N : Type 0} (number : N → ℕ) (turns : Turns N) (mark : List N) (reached : Reached)
-    (to : ℕ) : Type 0 where
-  pub so_far : HasReached number turns mark reached
-  pub turn : reached.turn ≡ to

@@ -1,12 +1,6 @@
 -- What numbers of writes weigh: each counts for 1, or for what the write takes of a budget. Source: this project.
 use Rattle.std.specs.Prelude.{ℕ, nat_lt, nat_le, List, Option, Some, None, if◌then◌else◌}
-use Rattle.bench_types.specs.declared.entries.Entry.{Entry}
-use Rattle.bench_types.specs.declared.exchanges.Budget.{Budget}
-use Rattle.delta_plans.specs.declared.marked.First.{First}
-use Rattle.bench_types.specs.Budget.{share_of}
-use Rattle.model.specs.calls.Numbers.{write_numbered}
-use Rattle.planes.specs.Planes.{Cells, count_between}
-use Rattle.bench_types.specs.Sums.{sum_below}
+use Rattle.delta_plans.specs.Common.{Entry, Budget, First, share_of, write_numbered, Cells, count_between, sum_below}
 use Rattle.delta_plans.specs.LevelMarks.{by_first}
 
 -- what a write takes of a budget, 0 for none

@@ -1,11 +1,9 @@
 //! Runs: all that an owner offers, the longest run first, as long as they fit.
 
 ghost use Rattle.std.specs.Prelude.{ℕ, ◌<◌, ◌≤◌, length, map, slice_index};
-ghost use Rattle.delta_plans.specs.Granted.{IfGranted};
-ghost use Rattle.bench_types.specs.declared.limits.TheConstants.{MOST_KEYS};
-ghost use Rattle.bench_types.specs.declared.exchanges.Mode.TheVariants.{ScuttleDepth};
+ghost use Rattle.delta_plans.specs.Common.{MOST_KEYS, ScuttleDepth};
 ghost use Rattle.delta_plans.specs.Marked.{IsLevelOf};
-ghost use Rattle.delta_plans.specs.OfferInMemory.{marks, IsTooLarge};
+ghost use Rattle.delta_plans.specs.OfferInMemory.{marks, IfGranted, IsTooLarge};
 ghost use Rattle.delta_plans.specs.Plans.{AreNextRuns, AreRunsFrom};
 
 use crate::offers::{Level, Offer, Step, one_if};

@@ -2,10 +2,9 @@
 
 ghost use Rattle.std.specs.Prelude.{◌≡◌, ◌<◌, length, IfOk, IsOkUnless};
 ghost use Rattle.bench_types.specs.declared.faults.Fault.TheVariants.{OutOfMemory};
-ghost use Rattle.delta_plans.specs.Granted.{IfGranted};
 ghost use Rattle.delta_plans.specs.LevelMarks.{first_sent};
 ghost use Rattle.delta_plans.specs.Marked.{AreMarked, IsLevelOf};
-ghost use Rattle.delta_plans.specs.OfferInMemory.{marks, IsOffer};
+ghost use Rattle.delta_plans.specs.OfferInMemory.{marks, IfGranted, IsOffer};
 ghost use Rattle.delta_plans.specs.RoundLevels.{AreEndsOf, IsAsked};
 
 use crate::breadths::breadth;

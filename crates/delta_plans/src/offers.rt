@@ -1,11 +1,8 @@
 //! What is offered, as numbers of writes, what these weigh, and levels of them.
 
 ghost use Rattle.std.specs.Prelude.{◌≡◌, ◌+◌, ◌^◌, ◌*◌, ◌<◌, ◌≤◌, ◌↔◌, IsTrue, length, if◌then◌else◌};
-ghost use Rattle.bench_types.specs.declared.limits.TheConstants.{MOST_ENTRY_SIZE, MOST_KEYS, MOST_NODES};
-ghost use Rattle.bench_types.specs.Budget.{amount_of, share_of};
-ghost use Rattle.planes.specs.Planes.{count_between};
-ghost use Rattle.owner_writes.specs.Kept.{entry_kept};
-ghost use Rattle.delta_plans.specs.OfferInMemory.{cells_in, high_in, low_in, marks, weight_in, weights_in, AreCounted, HasMarks, HasOwner, HasPlace, IsLeftOf, IsOffer};
+ghost use Rattle.delta_plans.specs.Common.{MOST_ENTRY_SIZE, MOST_KEYS, MOST_NODES, amount_of, share_of, count_between, entry_kept};
+ghost use Rattle.delta_plans.specs.OfferInMemory.{cells_in, high_in, low_in, marks, weight_in, weights_in, AreCounted, HasMarks, HasOwner, IsLeftOf, IsOffer};
 ghost use Rattle.delta_plans.specs.Weights.{weight_of};
 
 use bench_types::limits::MOST_ENTRY_SIZE;
@@ -95,7 +92,8 @@ impl<'a, N: Number> Offer<'a, N> {
     }
 
     pub(crate) fn cell_of(&self, owner: usize, key: usize) -> N
-        requires { HasPlace N.number N.most self.now owner key }
+        requires owner { HasOwner N.number N.most self.now owner }
+        requires key { key < self.now.grid.size.keys }
         ensures { N.number result ≡ cells_in N.number self.now owner key }
     {
         number_at(self.grid.cells, key * self.grid.size.nodes + owner)

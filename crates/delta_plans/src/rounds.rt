@@ -1,9 +1,8 @@
 //! Rounds: all that was written in a round, the oldest or the newest first, as long as they fit.
 
 ghost use Rattle.std.specs.Prelude.{◌≡◌, ◌+◌, ◌-◌, ◌<◌, ◌≤◌, length, map, max, slice_index};
-ghost use Rattle.delta_plans.specs.Granted.{IfGranted};
 ghost use Rattle.bench_types.specs.Budget.{amount_of};
-ghost use Rattle.delta_plans.specs.OfferInMemory.{marks, IsLeftOf};
+ghost use Rattle.delta_plans.specs.OfferInMemory.{marks, IfGranted, IsLeftOf};
 ghost use Rattle.delta_plans.specs.Plans.{count_on, weight_on};
 ghost use Rattle.delta_plans.specs.RoundLevels.{AreFewAndEnough, AreRaised, AreRoundMarks, HasRounds, IsFound, IsLevelOfRounds};
 

@@ -2,10 +2,10 @@
 //! doesn't fit.
 
 ghost use Rattle.std.specs.Prelude.{◌≡◌, ℕ, ◌+◌, ◌-◌, ◌<◌, ◌≤◌};
-ghost use Rattle.delta_plans.specs.Granted.{IfGranted};
+ghost use Rattle.delta_plans.specs.Common.{rotated};
 ghost use Rattle.delta_plans.specs.LevelMarks.{by_first};
-ghost use Rattle.delta_plans.specs.OfferInMemory.{weights_in, HasOwner};
-ghost use Rattle.delta_plans.specs.Turns.{part_weight, parts_count, weight_to, ArePassing, AreSharedBy, AreTurns, HadTurns, HasPart, HaveParts, HaveTurns, IsOwnerOfTurn, IsStopOf, IsTooHeavy, KnowParts, KnowsPart};
+ghost use Rattle.delta_plans.specs.OfferInMemory.{marks, weights_in, HasOwner, IfGranted};
+ghost use Rattle.delta_plans.specs.Turns.{part_weight, parts_count, weight_to, AreKnownFor, ArePassing, AreSharedBy, AreTurns, HasReached, HaveParts, HaveTurns, IsStopOf};
 
 use crate::marked::First;
 use crate::offers::{Level, Offer, Step, number_at};
@@ -44,7 +44,8 @@ pub(crate) struct Turns<'a, 'b, N: Number> {
 fn owner_of_turn(turn: usize, nodes: usize, rotation: usize) -> usize
     requires turn { turn < nodes }
     requires rotation { rotation < nodes }
-    ensures { IsOwnerOfTurn nodes rotation turn result }
+    ensures below { result < nodes }
+    ensures turn { rotated nodes rotation result ≡ turn }
 {
     let rest = nodes - rotation;
     if turn < rest {
@@ -66,7 +67,9 @@ pub(crate) fn by_first<'a, N: Number>(first: First, oldest: &'a [N], newest: &'a
 
 impl<'a, 'b, N: Number> Turns<'a, 'b, N> {
     fn weight_of_part(&self, owner: usize, count: u32) -> u32
-        requires { HasPart N.number N.most self.now owner count }
+        requires turns { AreTurns N.number N.most self.now }
+        requires owner { owner < self.now.offer.now.grid.size.nodes }
+        requires count { count ≡ part_weight N.number (λ _. 1) self.now owner }
         ensures { result ≡ part_weight N.number (weights_in self.now.offer.now owner) self.now owner }
     {
         match self.offer.budget {
@@ -107,7 +110,9 @@ impl<'a, 'b, N: Number> Turns<'a, 'b, N> {
     // Of an owner's part that doesn't fit, the mark up to which it does. It halves what lies between a mark up to which
     // all fits and one beyond that.
     fn stop_of(&self, owner: usize, room: u32) -> N
-        requires { IsTooHeavy N.number N.most self.now owner room }
+        requires turns { AreTurns N.number N.most self.now }
+        requires owner { owner < self.now.offer.now.grid.size.nodes }
+        requires beyond { room < part_weight N.number (weights_in self.now.offer.now owner) self.now owner }
         ensures { IsStopOf N.number self.now owner room (N.number result) }
     {
         let most = N::greatest();
@@ -132,7 +137,9 @@ impl<'a, 'b, N: Number> Turns<'a, 'b, N> {
     #[inline(never)]
     fn count_parts(&self, counts: &mut [N], owner: usize, size: usize)
         requires { HaveParts N.number N.most self.now counts.old owner size }
-        ensures { KnowParts N.number N.most self.now counts.new owner size }
+        ensures each { (r : ℕ) → owner ≤ r → r < owner + size
+            → marks N.number counts.new r ≡ part_weight N.number (λ _. 1) self.now r }
+        ensures known { AreKnownFor N.number N.most self.now counts.new }
     {
         let offer = self.offer;
         let some = &mut counts[owner..owner + size];
@@ -146,7 +153,8 @@ impl<'a, 'b, N: Number> Turns<'a, 'b, N> {
     // How many numbers an owner's part has. Where that isn't known, parts are counted from this owner on.
     fn count_of_part(&self, counts: &mut [N], owner: usize) -> u32
         requires { HaveParts N.number N.most self.now counts.old owner 1 }
-        ensures { KnowsPart N.number N.most self.now counts.new (part_weight N.number (λ _. 1) self.now owner) result }
+        ensures count { result ≡ part_weight N.number (λ _. 1) self.now owner }
+        ensures known { AreKnownFor N.number N.most self.now counts.new }
     {
         let known = number_at(counts, owner);
         if N::greatest().is_above(known) {
@@ -160,7 +168,8 @@ impl<'a, 'b, N: Number> Turns<'a, 'b, N> {
     // How many numbers the parts of some owners have, from an owner on.
     fn count_of_parts(&self, counts: &mut [N], owner: usize, size: usize) -> u32
         requires { HaveParts N.number N.most self.now counts.old owner size }
-        ensures { KnowsPart N.number N.most self.now counts.new (parts_count N.number self.now owner size) result }
+        ensures count { result ≡ parts_count N.number self.now owner size }
+        ensures known { AreKnownFor N.number N.most self.now counts.new }
     {
         self.count_parts(counts, owner, size);
         let mut count = 0;
@@ -173,7 +182,8 @@ impl<'a, 'b, N: Number> Turns<'a, 'b, N> {
     // Gives some owners, from an owner on, the far mark.
     fn pass_some(&self, mark: &mut [N], reached: Reached, several: Several) -> Reached
         requires { HaveTurns N.number N.most self.now mark.old reached several }
-        ensures { HadTurns N.number self.now mark.new result (reached.turn + several.size) }
+        ensures so_far { HasReached N.number self.now mark.new result }
+        ensures turn { result.turn ≡ reached.turn + several.size }
     {
         let Several { owner, size, count } = several;
         let all: &[N] = &self.level.far;

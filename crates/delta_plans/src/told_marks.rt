@@ -1,12 +1,7 @@
 //! What is offered to a receiver, by marks for each owner.
 
 ghost use Rattle.std.specs.Prelude.{◌≡◌, ◌<◌, length, map, slice_index, IfOk, IsOkUnless};
-ghost use Rattle.bench_types.specs.declared.faults.Fault.TheVariants.{OutOfMemory};
-ghost use Rattle.bench_types.specs.declared.exchanges.DigestKind.TheVariants.{Precise};
-ghost use Rattle.model.specs.calls.OwnerListView.{all_writes, entries_of};
-ghost use Rattle.planes.specs.Planes.{HasEach};
-ghost use Rattle.planes.specs.Elementwise.{AreChanged};
-ghost use Rattle.owner_writes.specs.Numbered.{start_of};
+ghost use Rattle.delta_plans.specs.Common.{OutOfMemory, Precise, all_writes, entries_of, HasEach, AreChanged, start_of};
 ghost use Rattle.delta_plans.specs.Offers.{told_by, told_number};
 ghost use Rattle.delta_plans.specs.Told.{AreKnownOf, IsKnown};
 

@@ -1,6 +1,6 @@
 use Rattle.delta_plans.proofs.Common.{nat_lt, length, refl, ap, ◌∙◌, arith, if◌then◌else◌, length-map, with_items_is, number-at, marks}
 use Rattle.delta_plans.proofs.LayerSteps.{next-layer}
-use Rattle.delta_plans.proofs.Nodes.{count_fits, counted_next, counted_all}
+use Rattle.delta_plans.proofs.LevelSteps.{count_fits, counted_next, counted_all}
 use Rattle.delta_plans.proofs.breadths.one_more.Goals as goal
 
 pub overflow_add-more : goal.overflow_add-more

@@ -1,5 +1,5 @@
 use Rattle.delta_plans.proofs.Common.{◌≤◌, eqb, get_or, length, map, refl, ap, ◌∙◌, arith, if◌then◌else◌, length-map, with_items_is, mul-le-mul_left, mul-le-mul_right, MOST_NODES, count_le, number-at}
-use Rattle.delta_plans.proofs.Nodes.{count_fits, counted_next, counted_all}
+use Rattle.delta_plans.proofs.LevelSteps.{count_fits, counted_next, counted_all}
 use Rattle.delta_plans.proofs.RunSteps.{next-runs}
 use Rattle.delta_plans.proofs.depths.next_runs.Goals as goal
 

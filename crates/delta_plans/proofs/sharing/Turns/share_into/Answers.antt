@@ -8,7 +8,7 @@ loop-turn-preserved g c =
     let owner = c.owner_of_turn-owner in
     record {
       are = c.loop-turn.invariant.are;
-      known = c.count_of_part-count.ensures.counts;
+      known = c.count_of_part-count.ensures.known;
       so_far =
           turns-next c.loop-turn.invariant.are c.loop-turn.invariant.so_far owner.ensures.below owner.ensures.turn c.number_at-far.result
           c.if-left-weight.false c.weight_of_part-weight.ensures c.count_of_part-count.ensures.count

@@ -10,7 +10,7 @@ loop-middle-init g c =
     let near = read_near ∙ c.number_at.ensures ∙ ap (λ xs. marks number xs c.args.owner) c.deref.ensures.value in
     let far = read_far ∙ c.number_at-2.ensures ∙ ap (λ xs. marks number xs c.args.owner) c.deref-2.ensures.value in
     record {
-      so_far = rw (near, far) (stop-first (c.requires.are.level.farther c.args.owner c.requires.in_nodes).2 c.requires.beyond);
+      so_far = rw (near, far) (stop-first (c.requires.turns.level.farther c.args.owner c.requires.owner).2 c.requires.beyond);
       fits = omega (arith, read_near, c.min_with.ensures.fits);
       beyond = omega (arith, read_far, c.min_with-2.ensures.fits);
     }

@@ -34,14 +34,9 @@ on-start Oldest near = omega arith
 on-start Newest near = omega arith
 
 -- halfway between two marks on the way from a near to a far one
-record IsHalfway (first : First) (near mark middle beyond far : ℕ) : Type 0 where
-  on : IsOn first near middle
-  from : IsOn first mark middle
-  to : IsOn first middle beyond
-  upto : IsOn first middle far
-
 halfway : (first : First) (near mark middle beyond far : ℕ) → IsOn first near mark → IsOn first mark beyond → IsOn first beyond far
-    → min mark beyond ≤ middle → middle ≤ max mark beyond → IsHalfway first near mark middle beyond far
+    → min mark beyond ≤ middle → middle ≤ max mark beyond
+    → IsOn first near middle × (IsOn first mark middle × (IsOn first middle beyond × IsOn first middle far))
 halfway Oldest near mark middle beyond far on between upto above below = omega arith
 halfway Newest near mark middle beyond far on between upto above below = omega arith
 
@@ -84,8 +79,8 @@ module _ {first : First} {weight : ℕ → ℕ} {cells : Cells} {keys owner near
       × (left < taken → IsStopBetween first weight cells keys owner near far room mark middle left)
   stop-halved middle above below takes =
       let is = halfway first near mark middle beyond far so_far.on so_far.between so_far.upto above below in
-      let taken = from-split first weight cells keys owner near mark middle so_far.on is.from in
-      let rest = from-split first weight cells keys owner mark middle beyond is.from is.to in
+      let taken = from-split first weight cells keys owner near mark middle so_far.on is.1.0 in
+      let rest = from-split first weight cells keys owner mark middle beyond is.1.0 is.1.1.0 in
       ((λ fits. search (arith, takes, taken, rest)), (λ more. search (arith, takes)))
 
   -- in the end there is one number between

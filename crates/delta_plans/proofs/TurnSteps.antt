@@ -1,6 +1,6 @@
 -- The owners' turns in a level.
 -- Serves the functions of `rounds` and `sharing` and `RoundMarks`.
-use Rattle.delta_plans.proofs.Common.{◌≡◌, ◌≢◌, ℕ, suc, ◌+◌, ◌-◌, ◌*◌, ◌<◌, ◌≤◌, cond, ltb, List, get_or, set, map, inl, inr, refl, sym, ap, ◌∙◌, transport, arith, nat_tests, get_or-set_same, get_or-set_other, length-map, map-set, Entries, MOST_NODES, MOST_KEYS, MOST_ENTRY_SIZE, cases_eq, Cells, HasNoneAbove, sum_below-same, sum_below-plus, rotated, rotated-injective, rotated-is, First, Oldest, Newest, Offer, Reached, Turns, by_first, low_in, high_in, marks, weights_in, IsOffer, count_on, AreFarther, lt-ltb, le-ltb, IsStopOf, weight_to, part_weight, parts_count, reached_after, AreTurns, HasReached, AreSharedBy, Several, length-set, HaveTurns, weight_of, weight_from, weight_through, one_each}
+use Rattle.delta_plans.proofs.Common.{◌≡◌, ◌≢◌, ℕ, suc, ◌+◌, ◌-◌, ◌*◌, ◌<◌, ◌≤◌, cond, ltb, List, get_or, set, map, inl, inr, refl, sym, ap, ◌∙◌, subst, transport, arith, nat_tests, get_or-set_same, get_or-set_other, length-map, map-set, Entries, MOST_NODES, MOST_KEYS, MOST_ENTRY_SIZE, cases_eq, Cells, HasNoneAbove, sum_below-same, sum_below-plus, rotated, rotated-injective, rotated-is, First, Oldest, Newest, Offer, Reached, Turns, by_first, low_in, high_in, marks, weights_in, IsOffer, count_on, AreFarther, lt-ltb, le-ltb, IsStopOf, weight_to, part_weight, parts_count, reached_after, AreTurns, HasReached, AreSharedBy, length-set, weight_of, weight_from, weight_through, one_each}
 use Rattle.delta_plans.proofs.WeightLaws.{offer-few, owner-entries, owner-most, part, parts_of, sum_below-changed, sum_below-longer, weight_of-split}
 use Rattle.delta_plans.proofs.StopSteps.{few-from, stop-tells}
 
@@ -37,6 +37,12 @@ pub count_on-few : {N : Type 0} {number : N → ℕ} {most : ℕ} {offer : Offer
 count_on-few {number = number} {offer = offer} first is mark =
     offer-few is (λ owner. by_first first (low_in number offer owner) (mark owner)) (λ owner. by_first first (mark owner) (high_in number offer owner))
 
+-- what is reached, in other words
+pub turns-same : {N : Type 0} {number : N → ℕ} {turns : Turns N} {mark : List N} {reached other : Reached} → HasReached number turns mark reached
+    → reached.turn ≡ other.turn → reached.left ≡ other.left → reached.sent ≡ other.sent → HasReached number turns mark other
+turns-same {number} {turns} {mark} so_far turn left sent =
+    transport (λ i. HasReached number turns mark (record { turn = turn i; left = left i; sent = sent i })) so_far
+
 module _ {N : Type 0} {number : N → ℕ} {most : ℕ} {turns : Turns N} (are : AreTurns number most turns) where
   open turns.offer use {now as offer}
   open turns.offer.now.grid.size use {nodes, keys}
@@ -54,6 +60,12 @@ module _ {N : Type 0} {number : N → ℕ} {most : ℕ} {turns : Turns N} (are :
   -- an owner's part has no more numbers than there are keys
   pub part-few : (owner : ℕ) → part_weight number (λ _. 1) turns owner ≤ MOST_KEYS
   part-few owner = omega (arith, few-from cells keys owner turns.first (near owner) (far owner), are.offer.grid.few_keys)
+
+  -- before the first turn all have the near marks
+  pub turns-start : {mark : List N} → mark ≡ turns.level.now.near.items
+      → HasReached number turns mark (record { turn = 0; left = turns.level.now.left; sent = turns.level.now.whole })
+  turns-start same = subst (λ xs. HasReached number turns xs (record { turn = 0; left = turns.level.now.left; sent = turns.level.now.whole })) (sym same)
+      (record { size = are.level.near; each = λ r lt. grind (arith, nat_tests); left = are.level.left; count = are.level.whole })
 
   module _ {mark : List N} {reached : Reached} (so_far : HasReached number turns mark reached) where
     -- so many numbers at most
@@ -134,49 +146,29 @@ module _ {N : Type 0} {number : N → ℕ} {most : ℕ} {turns : Turns N} (are :
             };
           }
 
-module _ {N : Type 0} {number : N → ℕ} {most : ℕ} {turns : Turns N} (are : AreTurns number most turns) {owner count : ℕ}
-    (in_nodes : owner < turns.offer.now.grid.size.nodes) (its : count ≡ part_weight number (λ _. 1) turns owner) where
-  -- entries that are counted take as much as they are
-  pub part-entries : (n : ℕ) → turns.offer.now.budget ≡ Entries n → count ≡ part_weight number (weights_in turns.offer.now owner) turns owner
-  part-entries n counted = its ∙ sym (owner-entries are.offer n counted owner in_nodes _ _)
+  module _ {owner count : ℕ} (in_nodes : owner < nodes) (its : count ≡ part_weight number (λ _. 1) turns owner) where
+    -- entries that are counted take as much as they are
+    pub part-entries : (n : ℕ) → offer.budget ≡ Entries n → count ≡ part_weight number (weights_in offer owner) turns owner
+    part-entries n counted = its ∙ sym (owner-entries are.offer n counted owner in_nodes _ _)
 
-  -- a part without numbers weighs nothing
-  pub part-none : count ≡ 0 → 0 ≡ part_weight number (weights_in turns.offer.now owner) turns owner
-  part-none none =
-      let first = turns.first in
-      let near = marks number turns.level.now.near.items owner in
-      let far = marks number turns.level.now.far.items owner in
-      let most = owner-most number turns.offer.now turns.offer.now.grid.size.keys owner (by_first first near far) (by_first first far near) in
-      omega (arith, most, ap (λ n. n * MOST_ENTRY_SIZE) (sym its ∙ none))
+    -- a part without numbers weighs nothing
+    pub part-none : count ≡ 0 → 0 ≡ part_weight number (weights_in offer owner) turns owner
+    part-none none =
+        let low = by_first turns.first (near owner) (far owner) in
+        let most = owner-most number offer keys owner low (by_first turns.first (far owner) (near owner)) in
+        omega (arith, most, ap (λ n. n * MOST_ENTRY_SIZE) (sym its ∙ none))
 
--- owners in a row have their turns one after another
-pub turns-in_row : {N : Type 0} (turns : Turns N) (turn owner size : ℕ) → turns.rotation < turns.offer.now.grid.size.nodes
-    → rotated turns.offer.now.grid.size.nodes turns.rotation owner ≡ turn
-    → owner + size ≤ turns.offer.now.grid.size.nodes → turn + size ≤ turns.offer.now.grid.size.nodes → (i : ℕ) → i < size
-    → rotated turns.offer.now.grid.size.nodes turns.rotation (owner + i) ≡ turn + i
-turns-in_row turns turn owner size in_rotation its in_nodes in_turns i lt =
-    let nodes = turns.offer.now.grid.size.nodes in
-    let first = rotated-is nodes turns.rotation owner in_rotation (omega (arith, in_nodes, lt)) in
-    let here = rotated-is nodes turns.rotation (owner + i) in_rotation (omega (arith, in_nodes, lt)) in
-    grind (arith, its, in_nodes, in_turns, first, here)
-
--- what is reached, in other words
-pub turns-same : {N : Type 0} {number : N → ℕ} {turns : Turns N} {mark : List N} {reached other : Reached} → HasReached number turns mark reached
-    → reached.turn ≡ other.turn → reached.left ≡ other.left → reached.sent ≡ other.sent → HasReached number turns mark other
-turns-same {number} {turns} {mark} so_far turn left sent =
-    transport (λ i. HasReached number turns mark (record { turn = turn i; left = left i; sent = sent i })) so_far
-
--- one more of the owners that are next
-pub some-next : {N : Type 0} {number : N → ℕ} {most : ℕ} {turns : Turns N} {reached : Reached} {several : Several}
-    → {before : List N} → HaveTurns number most turns before reached several
-    → {mark : List N} (i : ℕ) → i < several.size → HasReached number turns mark (reached_after number turns reached several.owner i)
-    → (to : N) → number to ≡ marks number turns.level.now.far.items (several.owner + i)
-    → HasReached number turns (set mark (several.owner + i) to) (reached_after number turns reached several.owner (i + 1))
-some-next {number} {turns} {several = several} have i lt so_far to to_far =
-    let owner = several.owner in
-    let in_nodes : owner + i < turns.offer.now.grid.size.nodes = omega (arith, have.in_nodes, lt) in
-    let more = ap (parts_count number turns owner) {x = i + 1} {y = suc i} (omega arith) in
-    let fits = sum_below-longer (λ j. part_weight number (λ _. 1) turns (owner + j)) (i + 1) several.size (omega (arith, lt)) in
-    let entries = part-entries have.are in_nodes refl have.entries have.counted in
-    let passed = turns-next have.are so_far in_nodes (have.next i lt) to (omega (arith, fits, have.fits, have.sum, more)) entries refl to_far in
-    turns-same passed (omega arith) (omega (arith, more)) (omega (arith, more))
+  -- owners in a row have their turns one after another: where entries are counted and the parts of all fit, one more has its
+  pub some-next : (reached : Reached) (owner size : ℕ) {entries : ℕ} {mark : List N} → offer.budget ≡ Entries entries → turn owner ≡ reached.turn
+      → owner + size ≤ nodes → reached.turn + size ≤ nodes → parts_count number turns owner size ≤ reached.left → (i : ℕ) → i < size
+      → HasReached number turns mark (reached_after number turns reached owner i) → (to : N) → number to ≡ far (owner + i)
+      → HasReached number turns (set mark (owner + i) to) (reached_after number turns reached owner (i + 1))
+  some-next reached owner size {entries} counted its in_nodes in_turns fits i lt so_far to to_far =
+      let within : owner + i < nodes = omega (arith, in_nodes, lt) in
+      let first = rotated-is nodes turns.rotation owner are.rotation (omega (arith, in_nodes, lt)) in
+      let here = rotated-is nodes turns.rotation (owner + i) are.rotation within in
+      let next : turn (owner + i) ≡ reached.turn + i = grind (arith, its, in_nodes, in_turns, first, here) in
+      let more = ap (parts_count number turns owner) {x = i + 1} {y = suc i} (omega arith) in
+      let upto = sum_below-longer (λ j. part_weight number (λ _. 1) turns (owner + j)) (i + 1) size (omega (arith, lt)) in
+      let passed = turns-next so_far within next to (omega (arith, upto, fits, more)) (part-entries within refl entries counted) refl to_far in
+      turns-same passed (omega arith) (omega (arith, more)) (omega (arith, more))

@@ -23,7 +23,6 @@ pub use Rattle.delta_plans.specs.declared.offers.Step.{Step}
 pub use Rattle.delta_plans.specs.declared.rounds.Fit.{Fit}
 pub use Rattle.delta_plans.specs.declared.rounds.Rounds.{Rounds}
 pub use Rattle.delta_plans.specs.declared.sharing.Reached.{Reached}
-pub use Rattle.delta_plans.specs.declared.sharing.Several.{Several}
 pub use Rattle.delta_plans.specs.declared.sharing.Turns.{Turns}
 pub use Rattle.delta_plans.specs.declared.told_marks.Owners.{Owners}
 pub use Rattle.model.specs.Candidates.{candidates, known_mark}

@@ -1,6 +1,6 @@
 -- A level shared out by the owners' turns, from the rotation on. Source: this project.
 use Rattle.std.specs.Prelude.{◌≡◌, ◌⊎◌, ℕ, ◌+◌, ◌-◌, ◌<◌, ◌≤◌, nat_lt, List, length, map, if◌then◌else◌, ◌≢◌, true, false}
-use Rattle.delta_plans.specs.Common.{amount_of, sum_below, Entries, HasEach, Cells, rotated, Reached, Several, Turns, First, Offer}
+use Rattle.delta_plans.specs.Common.{amount_of, sum_below, Entries, HasEach, Cells, rotated, Reached, Turns, First, Offer}
 use Rattle.delta_plans.specs.OfferInMemory.{cells_in, marks, weights_in, IsOffer, low_in}
 use Rattle.delta_plans.specs.Plans.{weight_on, count_on, IsLevel}
 use Rattle.delta_plans.specs.Weights.{weight_from}
@@ -124,17 +124,3 @@ reached_after number turns reached owner size = record {
   left = reached.left - parts_count number turns owner size;
   sent = reached.sent + parts_count number turns owner size;
 }
-
--- so many owners, from one on, are next, one after another; entries are counted, and the parts of all fit
-pub record HaveTurns {N : Type 0} (number : N → ℕ) (most : ℕ) (turns : Turns N) (mark : List N) (reached : Reached)
-    (several : Several) : Type 0 where
-  pub are : AreTurns number most turns
-  pub so_far : HasReached number turns mark reached
-  pub entries : ℕ
-  pub counted : turns.offer.now.budget ≡ Entries entries
-  pub in_nodes : several.owner + several.size ≤ turns.offer.now.grid.size.nodes
-  pub in_turns : reached.turn + several.size ≤ turns.offer.now.grid.size.nodes
-  pub next : (i : ℕ) → i < several.size
-      → rotated turns.offer.now.grid.size.nodes turns.rotation (several.owner + i) ≡ reached.turn + i
-  pub sum : several.count ≡ parts_count number turns several.owner several.size
-  pub fits : several.count ≤ reached.left

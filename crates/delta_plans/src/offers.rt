@@ -1,13 +1,13 @@
 //! What is offered, as numbers of writes, what these weigh, and levels of them.
 
 ghost use Rattle.std.specs.Prelude.{◌≡◌, ◌+◌, ◌^◌, ◌*◌, ◌<◌, ◌≤◌, ◌↔◌, IsTrue, length, if◌then◌else◌};
-ghost use Rattle.delta_plans.specs.Common.{MOST_ENTRY_SIZE, MOST_KEYS, MOST_NODES, amount_of, share_of, count_between, entry_kept};
+ghost use Rattle.delta_plans.specs.Common.{MOST_ENTRY_SIZE, MOST_KEYS, MOST_NODES, amount_of, count_between};
 ghost use Rattle.delta_plans.specs.OfferInMemory.{cells_in, high_in, low_in, marks, weight_in, weights_in, AreCounted, HasMarks, HasOwner, IsLeftOf, IsOffer};
 ghost use Rattle.delta_plans.specs.Weights.{weight_of};
 
 use bench_types::limits::MOST_ENTRY_SIZE;
 use bench_types::{Budget, Entry};
-use owner_writes::{Kept, OwnerWrites};
+use owner_writes::OwnerWrites;
 use planes::{Grid, Number, is_between};
 
 /// The candidates are the cells of each owner above `low`, `found` in all. None is above `high`.
@@ -66,19 +66,6 @@ pub(crate) fn number_at<N: Number>(numbers: &[N], place: usize) -> N
     numbers[place]
 }
 
-// What a write takes of a budget, which goes by its value alone.
-fn share_of(budget: Budget, kept: &Kept) -> u32
-    ensures { result ≡ share_of budget (entry_kept kept.now) }
-{
-    budget.share_of(&Entry {
-        key: kept.key,
-        generation: 0,
-        version: kept.version,
-        value: kept.value,
-        born: kept.born,
-    })
-}
-
 impl<'a, N: Number> Offer<'a, N> {
     /// What the write of an owner's number takes of the budget, 0 where there is none.
     pub(crate) fn weight_of_number(&self, owner: usize, number: N) -> u32
@@ -86,7 +73,14 @@ impl<'a, N: Number> Offer<'a, N> {
         ensures { result ≡ weights_in self.now owner (N.number number) }
     {
         match self.lists[owner].numbered(number.widen()) {
-            Some(kept) => share_of(self.budget, kept),
+            // (What it takes goes by its value alone.)
+            Some(kept) => self.budget.share_of(&Entry {
+                key: kept.key,
+                generation: 0,
+                version: kept.version,
+                value: kept.value,
+                born: kept.born,
+            }),
             None => 0,
         }
     }

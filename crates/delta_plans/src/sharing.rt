@@ -5,7 +5,7 @@ ghost use Rattle.std.specs.Prelude.{◌≡◌, ℕ, ◌+◌, ◌-◌, ◌<◌, �
 ghost use Rattle.delta_plans.specs.Common.{rotated};
 ghost use Rattle.delta_plans.specs.LevelMarks.{by_first};
 ghost use Rattle.delta_plans.specs.OfferInMemory.{marks, weights_in, HasOwner, IfGranted};
-ghost use Rattle.delta_plans.specs.Turns.{part_weight, parts_count, weight_to, AreKnownFor, ArePassing, AreSharedBy, AreTurns, HasReached, HaveParts, HaveTurns, IsStopOf};
+ghost use Rattle.delta_plans.specs.Turns.{part_weight, parts_count, weight_to, AreKnownFor, ArePassing, AreSharedBy, AreTurns, HaveParts, IsStopOf};
 
 use crate::marked::First;
 use crate::offers::{Level, Offer, Step, number_at};
@@ -19,14 +19,6 @@ struct Reached {
     turn: usize,
     left: u32,
     sent: u32,
-}
-
-// So many owners from one on, and how many numbers their parts have.
-#[derive(Clone, Copy)]
-struct Several {
-    owner: usize,
-    size: usize,
-    count: u32,
 }
 
 /// The parts of so many owners are counted at a time.
@@ -179,25 +171,6 @@ impl<'a, 'b, N: Number> Turns<'a, 'b, N> {
         count
     }
 
-    // Gives some owners, from an owner on, the far mark.
-    fn pass_some(&self, mark: &mut [N], reached: Reached, several: Several) -> Reached
-        requires { HaveTurns N.number N.most self.now mark.old reached several }
-        ensures so_far { HasReached N.number self.now mark.new result }
-        ensures turn { result.turn ≡ reached.turn + several.size }
-    {
-        let Several { owner, size, count } = several;
-        let all: &[N] = &self.level.far;
-        for i in 0..size {
-            let far = number_at(all, owner + i);
-            mark[owner + i] = far;
-        }
-        Reached {
-            turn: reached.turn + size,
-            left: reached.left - count,
-            sent: reached.sent + count,
-        }
-    }
-
     // Gives the owners in turn the far mark, many at a time, as long as entries are counted and the parts of all of
     // these fit.
     fn pass_many(&self, counts: &mut [N], mark: &mut [N], start: Reached) -> Reached
@@ -207,6 +180,7 @@ impl<'a, 'b, N: Number> Turns<'a, 'b, N> {
         let mut reached = start;
         if let Budget::Entries(_) = self.offer.budget {
             let nodes = self.offer.grid.size.nodes;
+            let far: &[N] = &self.level.far;
             while reached.turn < nodes {
                 let owner = owner_of_turn(reached.turn, nodes, self.rotation);
                 let size = MANY.min(nodes - owner.max(reached.turn));
@@ -214,7 +188,14 @@ impl<'a, 'b, N: Number> Turns<'a, 'b, N> {
                 if reached.left < count {
                     return reached;
                 }
-                reached = self.pass_some(mark, reached, Several { owner, size, count });
+                for i in 0..size {
+                    mark[owner + i] = number_at(far, owner + i);
+                }
+                reached = Reached {
+                    turn: reached.turn + size,
+                    left: reached.left - count,
+                    sent: reached.sent + count,
+                };
             }
         }
         reached

@@ -1,19 +1,20 @@
-use Rattle.delta_plans.proofs.Common.{ap, ◌∙◌, arith, cells_in, marks, weight_to}
+use Rattle.delta_plans.proofs.Common.{arith, cells_in}
 use Rattle.delta_plans.proofs.StopSteps.{few-from}
-use Rattle.delta_plans.proofs.TurnSteps.{part-few, turns-end, turns-few, turns-next, turns-shared}
+use Rattle.delta_plans.proofs.TurnSteps.{part-few, turns-end, turns-few, turns-next, turns-shared, turns-start}
 use Rattle.delta_plans.proofs.sharing.Turns.share_into.Goals as goal
 
 pub loop-turn-preserved : goal.loop-turn-preserved
 loop-turn-preserved g c =
-    let owner = c.owner_of_turn-owner in
     record {
       are = c.loop-turn.invariant.are;
       known = c.count_of_part-count.ensures.known;
-      so_far =
-          turns-next c.loop-turn.invariant.are c.loop-turn.invariant.so_far owner.ensures.below owner.ensures.turn c.number_at-far.result
-          c.if-left-weight.false c.weight_of_part-weight.ensures c.count_of_part-count.ensures.count
-          (c.number_at-far.ensures ∙ ap (λ xs. marks g.N.Number.number xs owner.result) c.deref.ensures.value);
+      so_far = turns-next c.loop-turn.invariant.are c.loop-turn.invariant.so_far c.owner_of_turn-owner.ensures.below c.owner_of_turn-owner.ensures.turn
+          c.number_at-far.result c.if-left-weight.false c.weight_of_part-weight.ensures c.count_of_part-count.ensures.count
+          (rw c.deref.ensures.value at c.number_at-far.ensures);
     }
+
+pub pass_many-reached-requires : goal.pass_many-reached-requires
+pass_many-reached-requires g c = record { are = c.requires.counts.are; known = c.requires.counts.known; so_far = turns-start c.requires.counts.are c.requires.mark }
 
 pub overflow_add-sent : goal.overflow_add-sent
 overflow_add-sent g c =
@@ -31,10 +32,8 @@ overflow_add-result g c =
 
 pub returns-then-left-weight : goal.returns-then-left-weight
 returns-then-left-weight g c =
-    let owner = c.owner_of_turn-owner in
-    let near = c.number_at-near.ensures ∙ ap (λ xs. marks g.N.Number.number xs owner.result) c.deref-then-left-weight.ensures.value in
-    turns-shared c.loop-turn.invariant.are c.loop-turn.invariant.so_far owner.ensures.below owner.ensures.turn c.stop_of-stop.result c.stop_of-stop.ensures
-    (c.count_from.ensures ∙ ap (λ n. weight_to g.N.Number.number (λ _. 1) c.args.self.now owner.result n (g.N.Number.number c.stop_of-stop.result)) near)
+    turns-shared c.loop-turn.invariant.are c.loop-turn.invariant.so_far c.owner_of_turn-owner.ensures.below c.owner_of_turn-owner.ensures.turn
+    c.stop_of-stop.result c.stop_of-stop.ensures (rw (c.number_at-near.ensures, c.deref-then-left-weight.ensures.value) at c.count_from.ensures)
 
 pub unreachable-requires : goal.unreachable-requires
 unreachable-requires g c = turns-end c.loop-turn.invariant.are c.loop-turn.invariant.so_far c.loop-turn-test.false

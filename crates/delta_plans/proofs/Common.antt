@@ -26,12 +26,11 @@ pub use Rattle.planes.proofs.Elementwise.{changed_all, made-as, number-at, numbe
 pub use Rattle.planes.proofs.Places.{part-here, part-written}
 pub use Rattle.delta_plans.specs.Common.{AreChanged, AreChangedUpto, AreWrites, Bytes, Cells, DeltaView, Entries, Equal, First, Fit, Greater, HasEach, HasNoneAbove, IsHistory, IsInPlace, IsLeastAbove, IsNextAbove, IsProper, Less, Level, MOST_ENTRY_SIZE, Newest, Offer, Oldest, Ordering, OwnerListView, Reached, Rounds, Step, Table, Turns, all_writes, candidates, cell, count_above, count_between, delta_between, entries_of, entry_at, generation_held, item_share, items_of, known_mark, largest_share, list_of_owner, no_writes, owner_count, rank_among, rotated, sending_order, start_before, start_of, sum_by, total_of, write_from, write_numbered}
 pub use Rattle.delta_plans.specs.LevelMarks.{by_first, comes_first, item_number, AreLevelMarks, IsOn, NumbersDiffer, first_level, first_sent, level_number, lets_through, rank_above, round_of}
-pub use Rattle.delta_plans.specs.Offers.{number_here, number_there, sum_over, AreSent, Offers, is_lacked, offered_sum, told_by, told_number}
+pub use Rattle.delta_plans.specs.Offers.{number_here, number_there, sum_over, AreSent, IsKnown, Offers, is_lacked, offered_sum, told_by, told_number}
 pub use Rattle.delta_plans.specs.Marked.{AreMarked, IsLevelOf, KeepsLow}
 pub use Rattle.delta_plans.specs.OfferInMemory.{AreCounted, IsLeftOf, IsOffer, cells_in, count_in, high_in, low_in, marks, owner_count_in, weight_in, weights_in}
 pub use Rattle.delta_plans.specs.Plans.{AreFarther, AreMarksFrom, AreNextRuns, AreRunsFrom, HasLevels, IsLevel, IsNextLayer, IsNextMark, IsStep, count_on, weight_on}
-pub use Rattle.delta_plans.specs.RoundLevels.{AreFewAndEnough, AreRaised, AreRoundMarks, HasRounds, IsFound, IsLevelOfRounds, end_mark, mark_of_rounds}
+pub use Rattle.delta_plans.specs.RoundLevels.{AreFewAndEnough, AreRaised, AreRoundMarks, IsAsked, IsFound, IsLevelOfRounds, end_mark, mark_of_rounds}
 pub use Rattle.delta_plans.specs.SentSets.{DeltasHaveTheirSets, HasSet, IsKeptOut, IsSentSet, size_in}
 pub use Rattle.delta_plans.specs.Turns.{AreShared, StopAt, StopsBefore, ArePassing, AreSharedBy, AreTurns, HasReached, IsStopBetween, IsStopOf, IsStopSoFar, part_weight, parts_count, reached_after, weight_to}
-pub use Rattle.delta_plans.specs.Told.{IsKnown}
 pub use Rattle.delta_plans.specs.Weights.{count_all_between, number_shares, one_each, share_or_none, weight_between, weight_from, weight_of, weight_through}

@@ -1,8 +1,8 @@
 -- Layers of an offer, gone over as long as they fit.
 -- Serves `breadth` and `one_more`.
-use Rattle.delta_plans.proofs.Common.{◌≡◌, ℕ, ◌+◌, ◌-◌, ◌<◌, ◌≤◌, cond, leb, ltb, List, length, get_or, map, inl, inr, Some, Vec, Global, sym, ap, ◌∙◌, arith, nat_tests, cases_lt, le-leb, lt-leb, lt-ltb, le-ltb, length-map, amount_of, Cells, count_between, HasEach, IsNextAbove, IsLeastAbove, AreChanged, sum_below, sum_below-same, NumbersDiffer, Oldest, Offer, Level, Step, cells_in, low_in, marks, weights_in, weight_in, count_in, IsLeftOf, IsOffer, IsNextLayer, IsNextMark, AreLevelMarks, rank_above}
+use Rattle.delta_plans.proofs.Common.{◌≡◌, ℕ, ◌+◌, ◌-◌, ◌*◌, ◌<◌, ◌≤◌, cond, leb, ltb, List, length, get_or, map, inl, inr, Some, Vec, Global, sym, ap, ◌∙◌, arith, nat_tests, cases_lt, le-leb, lt-leb, lt-ltb, le-ltb, length-map, amount_of, Cells, count_between, HasEach, IsNextAbove, IsLeastAbove, AreChanged, sum_below, sum_below-same, NumbersDiffer, Oldest, Offer, Level, Step, cells_in, low_in, marks, weights_in, weight_in, count_in, IsLeftOf, IsOffer, IsNextLayer, IsNextMark, AreLevelMarks, rank_above}
 use Rattle.delta_plans.proofs.WeightLaws.{part, parts_of, sum_below-each_none, weight_of-all, weight_of-none, weight_of-split}
-use Rattle.delta_plans.proofs.LevelSteps.{IsLevelSoFar, level-first, level-left, level-next, step-each, step-is}
+use Rattle.delta_plans.proofs.LevelSteps.{IsLevelSoFar, level-first, level-left, level-next, step-is}
 use Rattle.delta_plans.proofs.StopSteps.{weight_of-one}
 
 -- a mark that lets through an owner's first so many numbers above another, or all where there are no more
@@ -30,7 +30,7 @@ module _ (cells : Cells) (keys owner : ℕ) where
   -- the next number, or else the mark itself, which is counted where it is a number
   next-told : (most mark least y : ℕ) → ((key : ℕ) → key < keys → cells owner key < most) → NumbersDiffer cells keys owner
       → IsNextAbove most cells keys owner mark least → y ≡ cond (ltb least most) least mark
-      → IsNextMark cells keys owner mark y × (mark ≤ y) × (cond (ltb least most) 1 0 ≡ count mark y)
+      → IsNextMark cells keys owner mark y × (mark ≤ y) × (cond (ltb least most) 1 0 * 1 ≡ count mark y)
   next-told most mark least y below differ next settled = elim next [
     | inl none ↦
         let same : y ≡ mark = grind (arith, nat_tests, none.1) in
@@ -80,16 +80,9 @@ pub next-layer : {N : Type 0} {number : N → ℕ} {most : ℕ} {offer : Offer N
     × (count ≡ sum_below (length old) (λ r. cond (ltb (get_or (map number old) r 0) most) 1 0))
     → IsNextLayer number offer near step
 next-layer {number = number} {most = most} {offer = offer} is near items old new count step same found whole more done =
-    let long = ap length same ∙ sym (length-map items number) ∙ found.size in
-    let told = λ (r : ℕ) (lt : r < offer.grid.size.nodes).
-    next-told (cells_in number offer) offer.grid.size.keys r most (near r) (get_or (map number old) r 0) (marks number step.marks.items r)
-    (λ key in_keys. is.below r key lt in_keys) (is.differ r lt) (rw same (found.each r lt))
-    (step-each number offer near 1 _ _ old new count step long whole (omega (arith, more)) done r lt) in
-    record {
-      is_step = step-is number offer near 1 _ _ old new count step long whole (omega (arith, more)) done
-          (λ r lt. ((told r lt).1, omega (arith, (told r lt).2)));
-      next = λ r lt. (told r lt).0;
-    }
+    step-is number offer near 1 _ _ old new count step (ap length same ∙ sym (length-map items number) ∙ found.size) whole (omega (arith, more)) done
+    (λ r lt. next-told (cells_in number offer) offer.grid.size.keys r most (near r) (get_or (map number old) r 0) (marks number step.marks.items r)
+    (λ key in_keys. is.below r key lt in_keys) (is.differ r lt) (rw same (found.each r lt)))
 
 -- marks of so many layers
 abbrev pub AreLayerMarks : {N : Type 0} → (N → ℕ) → Offer N → ℕ → (ℕ → ℕ) → Type 0
@@ -121,7 +114,7 @@ module _ {N : Type 0} {number : N → ℕ} {most : ℕ} {offer : Offer N} (is : 
       → HasLayers number offer (record { near = near; far = step.marks; whole = 0; left = amount_of offer.budget }) step.more
   layers-first {near} start layer =
       let near_is : AreLayerMarks number offer 0 (marks number near.items) = rw start none-marks in
-      record { so_far = level-first is start layer.is_step; layers = 0; near_is = near_is; far_is = one-more near_is layer.next }
+      record { so_far = level-first is start layer; layers = 0; near_is = near_is; far_is = one-more near_is layer.next }
 
   module _ {level : Level N} {more : ℕ} (has : HasLayers number offer level more) where
     abbrev near : ℕ → ℕ
@@ -159,4 +152,4 @@ module _ {N : Type 0} {number : N → ℕ} {most : ℕ} {offer : Offer N} (is : 
           → HasLayers number offer (record { near = level.far; far = step.marks; whole = level.whole + more; left = left }) step.more
       layers-next layer =
           let far_is = one-more has.far_is layer.next in
-          record { so_far = level-next is has.so_far fits layer.is_step; layers = has.layers + 1; near_is = has.far_is; far_is = far_is }
+          record { so_far = level-next is has.so_far fits layer; layers = has.layers + 1; near_is = has.far_is; far_is = far_is }

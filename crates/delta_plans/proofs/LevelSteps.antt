@@ -28,19 +28,22 @@ module _ {N : Type 0} (number : N → ℕ) (offer : Offer N) (near : ℕ → ℕ
     (old new : List N) (count : ℕ) (step : Step N) (long : length old ≡ offer.grid.size.nodes) (whole : step.marks.items ≡ new)
     (more : step.more ≡ count * size)
     (done : AreChanged changed (map number old) (map number new) × (count ≡ sum_below (length old) (λ r. cond (test r) 1 0))) where
-  pub step-each : (r : ℕ) → r < offer.grid.size.nodes → changed r (get_or (map number old) r 0) (marks number step.marks.items r)
-  step-each r lt = rw whole (done.0.each r (omega (arith, lt, long, length-map old number)))
+  written : (r : ℕ) → r < offer.grid.size.nodes → changed r (get_or (map number old) r 0) (marks number step.marks.items r)
+  written r lt = rw whole (done.0.each r (omega (arith, lt, long, length-map old number)))
 
-  pub step-is : ((r : ℕ) → r < offer.grid.size.nodes → (near r ≤ marks number step.marks.items r) × (cond (test r) 1 0 * size
-      ≡ count_between (cells_in number offer) offer.grid.size.keys r (near r) (marks number step.marks.items r))) → IsStep number offer near step
+  pub step-is : {is : ℕ → ℕ → Type 0} → ((r : ℕ) → r < offer.grid.size.nodes → changed r (get_or (map number old) r 0) (marks number step.marks.items r)
+      → is r (marks number step.marks.items r) × (near r ≤ marks number step.marks.items r)
+      × (cond (test r) 1 0 * size ≡ count_between (cells_in number offer) offer.grid.size.keys r (near r) (marks number step.marks.items r)))
+      → IsStep number offer near is step
   step-is tells = record {
     count = ap length whole ∙ sym (length-map new number) ∙ done.0.size ∙ length-map old number ∙ long;
-    rises = λ r lt. (tells r lt).0;
+    rises = λ r lt. (tells r lt (written r lt)).1;
     more =
         more
         ∙ ap (λ n. n * size) (done.1 ∙ ap (λ n. sum_below n (λ r. cond (test r) 1 0)) long)
         ∙ sym (sum_below-scaled offer.grid.size.nodes size (λ r. cond (test r) 1 0))
-        ∙ sum_below-same offer.grid.size.nodes _ _ (λ r lt. (tells r lt).1);
+        ∙ sum_below-same offer.grid.size.nodes _ _ (λ r lt. (tells r lt (written r lt)).2);
+    next = λ r lt. (tells r lt (written r lt)).0;
   }
 
 -- levels as far as they were gone over, the oldest first, and how many numbers lie between their marks
@@ -54,7 +57,7 @@ module _ {N : Type 0} {number : N → ℕ} {most : ℕ} {offer : Offer N} (is : 
   low = low_in number offer
 
   -- the first level
-  pub level-first : {near : Vec N Global} {step : Step N} → near.items ≡ offer.low.now → IsStep number offer (marks number near.items) step
+  pub level-first : {near : Vec N Global} {is : ℕ → ℕ → Type 0} {step : Step N} → near.items ≡ offer.low.now → IsStep number offer (marks number near.items) is step
       → IsLevelSoFar number offer (record { near = near; far = step.marks; whole = 0; left = amount_of offer.budget }) step.more
   level-first start step =
       let at = λ (owner : ℕ). ap (λ xs. marks number xs owner) start in
@@ -99,7 +102,7 @@ module _ {N : Type 0} {number : N → ℕ} {most : ℕ} {offer : Offer N} (is : 
       pub level-left : weight_in number offer low far + left ≡ amount_of offer.budget
       level-left = omega (arith, so_far.left, fits.0, fits.1, split (weights_in offer))
 
-      pub level-next : {step : Step N} → IsStep number offer far step
+      pub level-next : {is : ℕ → ℕ → Type 0} {step : Step N} → IsStep number offer far is step
           → IsLevelSoFar number offer (record { near = level.far; far = step.marks; whole = level.whole + more; left = left }) step.more
       level-next step = omega (arith, so_far, step, split one_each, level-left)
 

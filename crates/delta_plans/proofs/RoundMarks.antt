@@ -1,7 +1,7 @@
 -- What marks at the ends of rounds let through.
 -- Serves `Rounds::count`, `Rounds::few_rounds`, `Rounds::left_of_few`, `Rounds::level`, `Rounds::look` and
 -- `version_tables`.
-use Rattle.delta_plans.proofs.Common.{◌≡◌, ℕ, ◌+◌, ◌-◌, ◌*◌, ◌<◌, ◌≤◌, MOST_ENTRY_SIZE, map, ltb, leb, List, Some, None, inl, inr, sym, ap, ◌∙◌, subst, arith, nat_tests, nat_lt, length-map, cases_lt, amount_of, all_writes, Cells, cell, total_of, HasNoneAbove, sum_below-same, sum_below-plus, numbered-some, write_numbered, First, Oldest, Newest, by_first, Level, Fit, Rounds, marks, weights_in, count_on, weight_on, AreFarther, end_mark, mark_of_rounds, AreFewAndEnough, AreRaised, AreRoundMarks, HasRounds, IsFound, IsLevelOfRounds, AreLevelMarks, round_of, IsOn, weight_through, count_all_between, one_each}
+use Rattle.delta_plans.proofs.Common.{◌≡◌, ℕ, ◌+◌, ◌-◌, ◌*◌, ◌<◌, ◌≤◌, MOST_ENTRY_SIZE, map, ltb, leb, List, Some, None, inl, inr, sym, ap, ◌∙◌, subst, arith, nat_tests, nat_lt, length-map, cases_lt, amount_of, all_writes, Cells, cell, total_of, HasNoneAbove, sum_below-same, sum_below-plus, numbered-some, write_numbered, First, Oldest, Newest, by_first, Level, Fit, Rounds, marks, weights_in, count_on, weight_on, AreFarther, end_mark, mark_of_rounds, AreFewAndEnough, AreRaised, AreRoundMarks, IsAsked, IsFound, IsLevelOfRounds, AreLevelMarks, round_of, IsOn, weight_through, count_all_between, one_each}
 use Rattle.delta_plans.proofs.WeightLaws.{offer-most, part, parts_of, sum_below-none, weight_of-all, weight_of-none, where_true}
 use Rattle.delta_plans.proofs.TurnSteps.{through-same}
 
@@ -21,7 +21,7 @@ count-upto {cells} {nodes} {keys} covered low mark raised =
     (λ key in_keys. let le = covered owner in_nodes key in_keys in let lower = raised owner in_nodes in grind (arith, nat_tests)) ∙ sum_below-plus keys _ _)
     ∙ sum_below-plus nodes _ _
 
-module _ {N : Type 0} {number : N → ℕ} {most : ℕ} (rounds : Rounds N) (is : HasRounds number most rounds) where
+module _ {N : Type 0} {number : N → ℕ} {most : ℕ} (rounds : Rounds N) (is : IsAsked number most rounds.offer.now rounds.ends) where
   open rounds.offer use {now as offer}
   open rounds.offer.now.grid.size use {nodes, keys}
   open rounds.ends use {rounds as last}
@@ -109,7 +109,7 @@ module _ {N : Type 0} {number : N → ℕ} {most : ℕ} (rounds : Rounds N) (is 
   module _ (count : ℕ) (items : List N) (are : AreRoundMarks number rounds count items) where
     -- such marks aren't below the low ones
     pub rounds-raised : AreRaised number most rounds items
-    rounds-raised = record { has_rounds = is; size = sym (length-map items number) ∙ are.size; above = λ r lt. omega (arith, are.each r lt) }
+    rounds-raised = record { is_asked = is; size = sym (length-map items number) ∙ are.size; above = λ r lt. omega (arith, are.each r lt) }
 
     pub let_through : (weights : ℕ → ℕ → ℕ)
         → through rounds.first weights (marks number items) ≡ through rounds.first weights (mark_of_rounds number rounds count)

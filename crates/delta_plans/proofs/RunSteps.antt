@@ -2,7 +2,7 @@
 -- Serves `depth` and `next_runs`.
 use Rattle.delta_plans.proofs.Common.{◌≡◌, ℕ, ◌+◌, ◌-◌, ◌*◌, ◌<◌, ◌≤◌, cond, eqb, leb, ltb, List, length, get_or, map, inl, inr, Some, Vec, Global, sym, ap, ◌∙◌, subst, arith, nat_tests, cases_eq, length-map, amount_of, Cells, count_above, count_between, HasNoneAbove, HasEach, AreChanged, sum_below, sum_below-same, MOST_KEYS, Offer, Level, Step, Oldest, Newest, cells_in, low_in, high_in, owner_count_in, marks, weights_in, weight_in, IsLeftOf, IsOffer, AreMarksFrom, AreRunsFrom, AreNextRuns, AreLevelMarks, weight_of}
 use Rattle.delta_plans.proofs.WeightLaws.{parts_of, count_between-most, offer-none, sum_below-each_none, sum_below-none, weight_of-none, where_true}
-use Rattle.delta_plans.proofs.LevelSteps.{IsLevelSoFar, level-first, level-left, level-next, step-each, step-is}
+use Rattle.delta_plans.proofs.LevelSteps.{IsLevelSoFar, level-first, level-left, level-next, step-is}
 
 module _ (cells : Cells) (keys owner low high : ℕ) (covered : HasNoneAbove cells keys owner high) where
   abbrev above : ℕ
@@ -18,9 +18,9 @@ module _ (cells : Cells) (keys owner low high : ℕ) (covered : HasNoneAbove cel
       let out = sum_below-each_none keys (λ k. where_true (ltb low (cells owner k)) 1) none key lt in grind (arith, nat_tests))
 
   -- one owner's part of the next runs
-  run-told : (size near next : ℕ) → 0 < size → near ≡ cond (leb (size + 1) above) high low → next ≡ cond (eqb above size) high near
-      → (near ≤ next) × (where_true (eqb above size) 1 * size ≡ count_between cells keys owner near next) × (next ≡ cond (leb size above) high low)
-  run-told size near next some longer is = elim (cases_eq above size) [
+  run-told : (size near next found : ℕ) → found ≡ above → 0 < size → near ≡ cond (leb (size + 1) above) high low → next ≡ cond (eqb found size) high near
+      → (next ≡ cond (leb size above) high low) × (near ≤ next) × (where_true (eqb found size) 1 * size ≡ count_between cells keys owner near next)
+  run-told size near next found counted some longer is = elim (cases_eq above size) [
     | inl same ↦
         let from : near ≡ low = grind (arith, nat_tests) in
         let to : next ≡ high = grind (arith, nat_tests) in
@@ -41,17 +41,10 @@ pub next-runs : {N : Type 0} {number : N → ℕ} {most : ℕ} {offer : Offer N}
     × (owners ≡ sum_below (length old) (λ r. cond (eqb (get_or (map number counts) r 0) size) 1 0))
     → AreNextRuns number offer (marks number near) size step
 next-runs {number = number} {offer = offer} {counts} {near} {size} from old new owners step same whole more done =
-    let long = ap length same ∙ from.each_near in
-    let run = λ (r : ℕ) (lt : r < offer.grid.size.nodes).
+    step-is number offer (marks number near) size _ _ old new owners step (ap length same ∙ from.each_near) whole more done (λ r lt made.
     run-told (cells_in number offer) offer.grid.size.keys r (low_in number offer r) (high_in number offer r) (from.is_offer.covered r lt) size
-    (marks number near r) (marks number step.marks.items r) from.some (from.longer r lt)
-    (step-each number offer (marks number near) size _ _ old new owners step long whole more done r lt
-    ∙ (λ i. cond (eqb (from.counts_are.each r lt i) size) (high_in number offer r) (marks number (same i) r))) in
-    record {
-      is_step = step-is number offer (marks number near) size _ _ old new owners step long whole more done
-          (λ r lt. ((run r lt).0, ap (λ n. where_true (eqb n size) 1 * size) (from.counts_are.each r lt) ∙ (run r lt).1));
-      next = λ r lt. (run r lt).2;
-    }
+    (marks number near r) (marks number step.marks.items r) (get_or (map number counts) r 0) (from.counts_are.each r lt) from.some (from.longer r lt)
+    (made ∙ (λ i. cond (eqb (get_or (map number counts) r 0) size) (high_in number offer r) (marks number (same i) r))))
 
 -- runs as far as they were gone over: the longer ones fit, and those of this size are next
 pub record HasRuns {N : Type 0} (number : N → ℕ) (most : ℕ) (offer : Offer N) (counts : List N) (level : Level N) (size more : ℕ) : Type 0 where
@@ -99,7 +92,7 @@ module _ {N : Type 0} {number : N → ℕ} {most : ℕ} {offer : Offer N} (is : 
     pub runs-first : {counts : List N} {size : ℕ} {near : Vec N Global} {step : Step N} → AreRunsFrom number most offer counts near.items size
         → near.items ≡ offer.low.now → AreNextRuns number offer (marks number near.items) size step
         → HasRuns number most offer counts (record { near = near; far = step.marks; whole = 0; left = amount_of offer.budget }) size step.more
-    runs-first from start runs = record { so_far = level-first is start runs.is_step; from = from; next = runs.next }
+    runs-first from start runs = record { so_far = level-first is start runs; from = from; next = runs.next }
 
     module _ {counts : List N} {level : Level N} {size more : ℕ} (has : HasRuns number most offer counts level size more)
         {left : ℕ} (fits : IsLeftOf level.left (weight_in number offer (marks number level.near.items) (marks number level.far.items)) (Some left)) where
@@ -118,7 +111,7 @@ module _ {N : Type 0} {number : N → ℕ} {most : ℕ} {offer : Offer N} (is : 
 
       pub runs-next : {step : Step N} → AreNextRuns number offer (marks number level.far.items) (size - 1) step → HasRuns number most offer counts
           (record { near = level.far; far = step.marks; whole = level.whole + more; left = left }) (size - 1) step.more
-      runs-next runs = record { so_far = level-next is has.so_far fits runs.is_step; from = runs-from_next; next = runs.next }
+      runs-next runs = record { so_far = level-next is has.so_far fits runs; from = runs-from_next; next = runs.next }
 
   -- the level at which they end
   pub level-of_runs : {counts : List N} {level : Level N} {size more : ℕ} → HasRuns number most offer counts level size more

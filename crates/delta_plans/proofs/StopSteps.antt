@@ -36,7 +36,7 @@ on-start Newest near = omega arith
 -- halfway between two marks on the way from a near to a far one
 halfway : (first : First) (near mark middle beyond far : ℕ) → IsOn first near mark → IsOn first mark beyond → IsOn first beyond far
     → min mark beyond ≤ middle → middle ≤ max mark beyond
-    → IsOn first near middle × (IsOn first mark middle × (IsOn first middle beyond × IsOn first middle far))
+    → IsOn first near middle × IsOn first mark middle × IsOn first middle beyond × IsOn first middle far
 halfway Oldest near mark middle beyond far on between upto above below = omega arith
 halfway Newest near mark middle beyond far on between upto above below = omega arith
 
@@ -79,8 +79,8 @@ module _ {first : First} {weight : ℕ → ℕ} {cells : Cells} {keys owner near
       × (left < taken → IsStopBetween first weight cells keys owner near far room mark middle left)
   stop-halved middle above below takes =
       let is = halfway first near mark middle beyond far so_far.on so_far.between so_far.upto above below in
-      let taken = from-split first weight cells keys owner near mark middle so_far.on is.1.0 in
-      let rest = from-split first weight cells keys owner mark middle beyond is.1.0 is.1.1.0 in
+      let taken = from-split first weight cells keys owner near mark middle so_far.on is.1 in
+      let rest = from-split first weight cells keys owner mark middle beyond is.1 is.2 in
       ((λ fits. search (arith, takes, taken, rest)), (λ more. search (arith, takes)))
 
   -- in the end there is one number between

@@ -77,8 +77,8 @@ weight_between-most weights most cells nodes keys low high le =
 
 -- so many at most
 pub count_between-most : (cells : Cells) (keys owner low high : ℕ) → count_between cells keys owner low high ≤ keys
-count_between-most cells zero owner low high = omega arith
-count_between-most cells (suc keys) owner low high = let rest = count_between-most cells keys owner low high in grind (arith, nat_tests)
+count_between-most cells keys owner low high =
+    omega (arith, sum_below-most (λ key. part (λ _. 1) low high (cells owner key)) keys 1 (λ key lt. grind (arith, nat_tests)))
 
 -- marks above all numbers let through as much as any such
 module _ (weight : ℕ → ℕ) (cells : Cells) (keys owner low mark high : ℕ) (covered : HasNoneAbove cells keys owner high) where

@@ -6,6 +6,5 @@ pub mod Offers
 pub mod Plans
 pub mod RoundLevels
 pub mod SentSets
-pub mod Told
 pub mod Turns
 pub mod Weights

@@ -1,7 +1,7 @@
 -- What one table offers another, told by numbers of writes: each owner's writes are numbered from 1, through all its
 -- generations, so within one owner numbers compare as marks. Source: this project.
-use Rattle.std.specs.Prelude.{◌≡◌, ℕ, ◌<◌, ◌≤◌, ◌↔◌, not, ◌&&◌, ◌==◌, true, false, if◌then◌else◌, nat_lt, Bool, List, Contains, Some, Option, None}
-use Rattle.delta_plans.specs.Common.{Entry, Item, Mode, mark_of, is_before, digest_kind, DigestKind, Scuttle, Precise, Table, entry_at, start_of, known_mark, sum_below, Cells, number_ahead, write_numbered}
+use Rattle.std.specs.Prelude.{◌≡◌, ℕ, ◌<◌, ◌≤◌, ◌↔◌, not, ◌&&◌, ◌==◌, true, false, if◌then◌else◌, nat_lt, Bool, List, Contains, Some, Option, None, length, map, slice_index}
+use Rattle.delta_plans.specs.Common.{Entry, Item, Mode, mark_of, is_before, digest_kind, DigestKind, Scuttle, Precise, Table, entry_at, start_of, known_mark, sum_below, Cells, number_ahead, write_numbered, MOST_NODES, OwnerListView, entries_of, AreWrites, list_of_owner, Owners, IsNumberedHistory}
 
 -- a table holds the writes of these numbers
 abbrev pub HasCells : (ℕ → List Entry) → Cells → Table → Type 0
@@ -35,6 +35,27 @@ told_by Precise writes greatest = start_of writes greatest
 abbrev pub told_number : DigestKind → ℕ → ℕ → (ℕ → List Entry) → (ℕ → ℕ) → ℕ → ℕ
 told_number kind most node lists greatest owner =
     if owner == node then most else told_by kind (lists owner) (greatest owner)
+
+-- a number of a write of a list, or 0, where it has fewer than the most and so many of earlier generations
+pub record IsKnown (most : ℕ) (list : OwnerListView) (number base : ℕ) : Type 0 where
+  pub few : length (entries_of list) < most
+  pub within : number ≤ length (entries_of list)
+  pub based : base ≡ length list.earlier
+  pub writes : AreWrites list
+  pub numbered : IsNumberedHistory (entries_of list)
+
+-- and so it is of each owner's list
+pub record AreKnown (most : ℕ) (lists : List OwnerListView) (numbers bases : List ℕ) : Type 0 where
+  pub count : length numbers ≡ length lists
+  pub base_count : length bases ≡ length lists
+  pub few_nodes : length lists ≤ MOST_NODES
+  pub each : (owner : ℕ) → owner < length lists
+      → IsKnown most (list_of_owner lists owner) (slice_index numbers owner) (slice_index bases owner)
+
+-- so it is of numbers in memory
+abbrev pub AreKnownOf : {N : Type 0} → (N → ℕ) → ℕ → Owners N → List N → Type 0
+AreKnownOf number most owners numbers =
+    AreKnown most owners.lists.now (map number numbers) (map number owners.bases.now)
 
 -- the numbers offered: in a precise digest's modes those ahead of the receiver's, and 0 in place of the others
 abbrev pub offered_by : DigestKind → Cells → Cells → (ℕ → ℕ) → Cells

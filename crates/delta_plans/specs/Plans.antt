@@ -11,19 +11,18 @@ abbrev pub IsNextMark : Cells → ℕ → ℕ → ℕ → ℕ → Type 0
 IsNextMark cells keys owner mark next =
     (HasNoneAbove cells keys owner mark × (next ≡ mark)) ⊎ IsLeastAbove cells keys owner mark next
 
--- marks of one level more, of which none is lower than before, and so many numbers more
-pub record IsStep {N : Type 0} (number : N → ℕ) (offer : Offer N) (near : ℕ → ℕ) (step : Step N) : Type 0 where
+-- marks of one level more, each as a relation of owner and mark says and none lower than before, and so many numbers more
+pub record IsStep {N : Type 0} (number : N → ℕ) (offer : Offer N) (near : ℕ → ℕ) (is : ℕ → ℕ → Type 0)
+    (step : Step N) : Type 0 where
   pub count : length step.marks.items ≡ offer.grid.size.nodes
   pub rises : (owner : ℕ) → owner < offer.grid.size.nodes → near owner ≤ marks number step.marks.items owner
   pub more : step.more ≡ count_in number offer near (marks number step.marks.items)
+  pub next : (owner : ℕ) → owner < offer.grid.size.nodes → is owner (marks number step.marks.items owner)
 
 -- one number more of each owner that has one
-pub record IsNextLayer {N : Type 0} (number : N → ℕ) (offer : Offer N) (near : ℕ → ℕ)
-    (step : Step N) : Type 0 where
-  pub is_step : IsStep number offer near step
-  pub next : (owner : ℕ) → owner < offer.grid.size.nodes
-      → IsNextMark (cells_in number offer) offer.grid.size.keys owner (near owner)
-      (marks number step.marks.items owner)
+abbrev pub IsNextLayer : {N : Type 0} → (N → ℕ) → Offer N → (ℕ → ℕ) → Step N → Type 0
+IsNextLayer number offer near =
+    IsStep number offer near (λ owner. IsNextMark (cells_in number offer) offer.grid.size.keys owner (near owner))
 
 -- what marks let through takes so much of the budget, and is so many numbers
 abbrev pub weight_on : {N : Type 0} → First → (N → ℕ) → Offer N → (ℕ → ℕ) → ℕ
@@ -63,12 +62,15 @@ pub record IsLevelBy {N : Type 0} (first way : First) (level_number : ℕ → �
   pub shape : AreLevelMarks first way level_number (cells_in number offer) offer.grid.size.nodes offer.grid.size.keys
       (low_in number offer) (marks number level.near.items) (marks number level.far.items)
 
--- each owner's mark goes all the way where it has so many numbers, and else not at all
+-- an owner's mark goes all the way where it has so many numbers, and else not at all
+abbrev pub IsMarkFrom : {N : Type 0} → (N → ℕ) → Offer N → ℕ → ℕ → ℕ → Type 0
+IsMarkFrom number offer size owner mark =
+    mark ≡ (if nat_le size (owner_count_in number offer owner) then high_in number offer owner
+    else low_in number offer owner)
+
 abbrev pub AreMarksFrom : {N : Type 0} → (N → ℕ) → Offer N → ℕ → (ℕ → ℕ) → Type 0
 AreMarksFrom number offer size mark =
-    (owner : ℕ) → owner < offer.grid.size.nodes
-    → mark owner ≡ (if nat_le size (owner_count_in number offer owner) then high_in number offer owner
-    else low_in number offer owner)
+    (owner : ℕ) → owner < offer.grid.size.nodes → IsMarkFrom number offer size owner (mark owner)
 
 -- how many numbers each owner has, and near marks, which let through the runs that are longer than a size
 pub record AreRunsFrom {N : Type 0} (number : N → ℕ) (most : ℕ) (offer : Offer N) (counts near : List N)
@@ -81,7 +83,5 @@ pub record AreRunsFrom {N : Type 0} (number : N → ℕ) (most : ℕ) (offer : O
   pub longer : AreMarksFrom number offer (size + 1) (marks number near)
 
 -- and those of that size are next
-pub record AreNextRuns {N : Type 0} (number : N → ℕ) (offer : Offer N) (near : ℕ → ℕ) (size : ℕ)
-    (step : Step N) : Type 0 where
-  pub is_step : IsStep number offer near step
-  pub next : AreMarksFrom number offer size (marks number step.marks.items)
+abbrev pub AreNextRuns : {N : Type 0} → (N → ℕ) → Offer N → (ℕ → ℕ) → ℕ → Step N → Type 0
+AreNextRuns number offer near size = IsStep number offer near (IsMarkFrom number offer size)

@@ -21,12 +21,9 @@ pub record IsAsked {N : Type 0} (number : N → ℕ) (most : ℕ) (offer : Offer
   pub too_large : IsTooLarge number most offer
   pub are_ends_of : AreEndsOf number offer ends
 
-abbrev pub HasRounds : {N : Type 0} → (N → ℕ) → ℕ → Rounds N → Type 0
-HasRounds number most rounds = IsAsked number most rounds.offer.now rounds.ends
-
 -- marks for each owner of it, of which none is below the low one
 pub record AreRaised {N : Type 0} (number : N → ℕ) (most : ℕ) (rounds : Rounds N) (mark : List N) : Type 0 where
-  pub has_rounds : HasRounds number most rounds
+  pub is_asked : IsAsked number most rounds.offer.now rounds.ends
   pub size : length mark ≡ rounds.offer.now.grid.size.nodes
   pub above : (r : ℕ) → r < rounds.offer.now.grid.size.nodes
       → low_in number rounds.offer.now r ≤ marks number mark r

@@ -4,7 +4,7 @@ ghost use Rattle.std.specs.Prelude.{◌≡◌, ◌+◌, ◌-◌, ◌<◌, ◌≤
 ghost use Rattle.bench_types.specs.Budget.{amount_of};
 ghost use Rattle.delta_plans.specs.OfferInMemory.{marks, IfGranted, IsLeftOf};
 ghost use Rattle.delta_plans.specs.Plans.{count_on, weight_on};
-ghost use Rattle.delta_plans.specs.RoundLevels.{AreFewAndEnough, AreRaised, AreRoundMarks, HasRounds, IsFound, IsLevelOfRounds};
+ghost use Rattle.delta_plans.specs.RoundLevels.{AreFewAndEnough, AreRaised, AreRoundMarks, IsAsked, IsFound, IsLevelOfRounds};
 
 use crate::marked::First;
 use crate::offers::{Level, Offer};
@@ -37,7 +37,7 @@ pub(crate) struct Rounds<'a, 'b, N: Number> {
 impl<'a, 'b, N: Number> Rounds<'a, 'b, N> {
     /// The first round that doesn't fit with those before it, from the oldest on or from the newest on.
     pub(crate) fn level(&self, alloc: Global) -> Result<Level<N>, Fault>
-        requires { HasRounds N.number N.most self.now }
+        requires { IsAsked N.number N.most self.now.offer.now self.now.ends }
         ensures { IfGranted result (IsLevelOfRounds N.number self.now) }
     {
         let few = self.few_rounds(alloc)?;
@@ -53,7 +53,7 @@ impl<'a, 'b, N: Number> Rounds<'a, 'b, N> {
     }
 
     fn left_of_few(&self, few: Few, near: &[N]) -> u32
-        requires rounds { HasRounds N.number N.most self.now }
+        requires rounds { IsAsked N.number N.most self.now.offer.now self.now.ends }
         requires few { AreFewAndEnough N.number self.now (few.enough - 1) few.enough few.fit }
         requires near { AreRoundMarks N.number self.now (few.enough - 1) near.now }
         ensures { weight_on self.now.first N.number self.now.offer.now (marks N.number near.now) + result
@@ -71,7 +71,7 @@ impl<'a, 'b, N: Number> Rounds<'a, 'b, N> {
     // Halves the rounds between few enough to fit and so many that they don't, with steps that double from the first
     // on.
     fn few_rounds(&self, alloc: Global) -> Result<Few, Fault>
-        requires { HasRounds N.number N.most self.now }
+        requires { IsAsked N.number N.most self.now.offer.now self.now.ends }
         ensures { IfGranted result
             (λ few. AreFewAndEnough N.number self.now (few.enough - 1) few.enough few.fit) }
     {
@@ -139,7 +139,7 @@ impl<'a, 'b, N: Number> Rounds<'a, 'b, N> {
     }
 
     fn mark_after(&self, alloc: Global, count: u32) -> Result<Vec<N>, Fault>
-        requires rounds { HasRounds N.number N.most self.now }
+        requires rounds { IsAsked N.number N.most self.now.offer.now self.now.ends }
         requires count { count ≤ self.now.ends.rounds }
         ensures { IfGranted result (λ v. AreRoundMarks N.number self.now count v.items) }
     {

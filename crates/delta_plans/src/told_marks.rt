@@ -2,8 +2,7 @@
 
 ghost use Rattle.std.specs.Prelude.{◌≡◌, ◌<◌, length, map, slice_index, IfOk, IsOkUnless};
 ghost use Rattle.delta_plans.specs.Common.{OutOfMemory, Precise, all_writes, entries_of, HasEach, AreChanged, start_of};
-ghost use Rattle.delta_plans.specs.Offers.{told_by, told_number};
-ghost use Rattle.delta_plans.specs.Told.{AreKnownOf, IsKnown};
+ghost use Rattle.delta_plans.specs.Offers.{told_by, told_number, AreKnownOf, IsKnown};
 
 use bench_types::{DigestKind, Fault};
 use owner_writes::OwnerWrites;

@@ -17,11 +17,10 @@ next-level-requires g c = omega (arith, level-few c.requires.offer.is_offer c.lo
 
 pub loop-left-smaller : goal.loop-left-smaller
 loop-left-smaller g c =
-    let is = c.requires.offer.is_offer in
     let has = c.loop-left.invariant.has in
     let fits = rw (c.deref-in-loop-left.ensures.value, c.deref-in-loop-left-2.ensures.value, c.in-Some.is) at c.left_of.ensures in
     let next = ap (λ (level : Level g.row.N.Denot). level.whole) c.next-level.ensures in
-    omega (arith, layers-more is has fits c.requires.offer.beyond, level-upto is has.so_far, next)
+    omega (arith, layers-more c.requires.offer.is_offer has fits c.requires.offer.beyond, level-upto c.requires.offer.is_offer has.so_far, next)
 
 pub loop-left-preserved : goal.loop-left-preserved
 loop-left-preserved g c =
@@ -31,7 +30,6 @@ loop-left-preserved g c =
 
 pub returns : goal.returns
 returns g c =
-    let is = c.requires.offer.is_offer in
     let has = c.loop-left.invariant.has in
     let told = rw (c.deref-in-loop-left.ensures.value, c.deref-in-loop-left-2.ensures.value, c.in_default.is) at c.left_of.ensures in
-    (record { is_level = level-ends is has.so_far told; shape = level-of_layers is has }, tt)
+    (record { is_level = level-ends c.requires.offer.is_offer has.so_far told; shape = level-of_layers c.requires.offer.is_offer has }, tt)

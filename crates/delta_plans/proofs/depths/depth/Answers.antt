@@ -43,7 +43,6 @@ loop-left-preserved g c =
 
 pub returns : goal.returns
 returns g c =
-    let is = c.requires.offer.is_offer in
     let has = c.loop-left.invariant.has in
     let told = rw (c.deref-in-loop-left.ensures.value, c.deref-in-loop-left-2.ensures.value, c.in_default.is) at c.left_of.ensures in
-    (record { is_level = level-ends is has.so_far told; shape = level-of_runs is has }, tt)
+    (record { is_level = level-ends c.requires.offer.is_offer has.so_far told; shape = level-of_runs c.requires.offer.is_offer has }, tt)

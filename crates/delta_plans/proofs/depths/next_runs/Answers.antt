@@ -12,15 +12,14 @@ pub loop-r-preserved : goal.loop-r-preserved
 loop-r-preserved g c =
     let number = g.N.Number.number in
     let r = c.loop-r.r in
-    let all = c.loop-r.all in
     let size = ap length c.deref_mut-all.ensures.value ∙ ap length c.in_ok-marks.ensures.items ∙ c.requires.each_near in
     let count = number-at number c.args.counts.now r c.index-counts-r.result
     (omega (arith, c.loop-r-test.true, size, c.requires.counts_are.size, length-map c.args.counts.now number)) c.index-counts-r.is in
     let high = number-at number c.args.offer.now.high.now r c.index-high-r.result
     (omega (arith, c.loop-r-test.true, size, c.requires.is_offer.high)) c.index-high-r.is in
-    let mark = number-at number all r c.index-all-r.result (omega (arith, c.loop-r-test.true, c.loop-r.auto.all)) c.index-all-r.is
+    let mark = number-at number c.loop-r.all r c.index-all-r.result (omega (arith, c.loop-r-test.true, c.loop-r.auto.all)) c.index-all-r.is
     ∙ c.loop-r.invariant.numbers.from r (omega arith) in
-    counted_next number c.deref_mut-all.result.now all c.loop-r.invariant c.pick.result c.loop-r-test.true
+    counted_next number c.deref_mut-all.result.now c.loop-r.all c.loop-r.invariant c.pick.result c.loop-r-test.true
     (c.pick.ensures ∙ (λ i. if eqb ((c.widen.ensures ∙ count) i) c.args.size then high i else mark i))
     (c.one_if-owners.ensures ∙ (λ i. if eqb ((c.widen.ensures ∙ count) i) c.args.size then 1 else 0))
 

@@ -4,9 +4,8 @@ use Rattle.delta_plans.proofs.marked.planned.Goals as goal
 
 pub returns-then-fits-clause-size : goal.returns-then-fits-clause-size
 returns-then-fits-clause-size g c =
-    let offer = c.args.offer.now in
     let same = c.in_ok-mark.ensures.items ∙ c.by_first.ensures in
-    whole-size g.N.Number.number g.N.Number.most offer c.requires.offer c.of-first.result c.in_ok-mark.mark.items same
+    whole-size g.N.Number.number g.N.Number.most c.args.offer.now c.requires.offer c.of-first.result c.in_ok-mark.mark.items same
 
 pub returns-then-fits-clause-marked : goal.returns-then-fits-clause-marked
 returns-then-fits-clause-marked g c =

@@ -14,9 +14,8 @@ overflow_add-weight g c =
 pub loop-key-preserved : goal.loop-key-preserved
 loop-key-preserved g c =
     let number = g.N.Number.number in
-    let offer = c.args.self.now in
-    let weight = weights_in offer c.args.owner in
-    let more = (λ (k : ℕ). part weight (number c.args.low) (number c.args.high) (cells_in number offer c.args.owner k)) in
+    let weight = weights_in c.args.self.now c.args.owner in
+    let more = (λ (k : ℕ). part weight (number c.args.low) (number c.args.high) (cells_in number c.args.self.now c.args.owner k)) in
     let between = rw c.cell_of-cell.ensures at c.is_between.ensures in
     elim c.if-is_between.branch [
       | goal.then-is_between w ↦ number_next more _ _ _ c.loop-key.invariant w.weight-is

@@ -7,21 +7,18 @@ loop-few-init g c = record { found = begun c.args.self.now c.requires c.amount.e
 
 pub loop-few-preserved : goal.loop-few-preserved
 loop-few-preserved g c =
-    let so_far = c.loop-few.invariant.found in
     let look = rw c.deref.ensures.value at c.look.ensures in
     let some : 0 < c.min-by.result = omega (arith, c.min-by.ensures, c.loop-few.invariant.step, c.loop-few-test.true) in
     let less : c.loop-few.few + c.min-by.result < c.loop-few.enough = omega (arith, c.min-by.ensures, c.loop-few-test.true) in
     elim c.match-look.branch [
-      | goal.in-Some w ↦ record {
-        found = rw (w.few-is, w.enough-is, w.fit-is)
-            (further c.args.self.now c.requires _ c.in_ok-mark.mark.items c.in_ok-mark.ensures.0 so_far (rw w.in-Some.is at look) less);
-        step = omega (arith, w.step-is, some);
-      }
-      | goal.in-None w ↦ record {
-        found = rw (w.few-is, w.enough-is, w.fit-is) (nearer c.args.self.now c.requires _ c.in_ok-mark.mark.items c.in_ok-mark.ensures.0 so_far
-            (rw w.in-None.is at look) (omega (arith, some)) (omega (arith, less)));
-        step = omega (arith, w.step-is, c.loop-few.invariant.step);
-      }
+      | goal.in-Some w ↦
+          let found = further c.args.self.now c.requires _ c.in_ok-mark.mark.items c.in_ok-mark.ensures.0 c.loop-few.invariant.found
+          (rw w.in-Some.is at look) less in
+          record { found = rw (w.few-is, w.enough-is, w.fit-is) found; step = omega (arith, w.step-is, some) }
+      | goal.in-None w ↦
+          let found = nearer c.args.self.now c.requires _ c.in_ok-mark.mark.items c.in_ok-mark.ensures.0 c.loop-few.invariant.found
+          (rw w.in-None.is at look) (omega (arith, some)) (omega (arith, less)) in
+          record { found = rw (w.few-is, w.enough-is, w.fit-is) found; step = omega (arith, w.step-is, c.loop-few.invariant.step) }
     ]
 
 pub returns : goal.returns

@@ -18,11 +18,23 @@ loop-middle-init g c =
 pub loop-middle-preserved-then-weight-left : goal.loop-middle-preserved-then-weight-left
 loop-middle-preserved-then-weight-left g c =
     let takes = rw (c.narrow.ensures, c.narrow-in-loop-middle.ensures) at c.weight_from-weight.ensures in
-    let halved = stop-halved c.loop-middle.invariant.so_far _ (omega arith) (omega arith) takes in
-    omega (arith, halved.0 c.if-weight-left.true)
+    let halved = stop-halved c.loop-middle.invariant.so_far _ (omega (arith, c.min.ensures))
+    (omega (arith, c.min.ensures, c.abs_diff-in-loop-middle.ensures)) takes in
+    record { so_far = halved.0 c.if-weight-left.true; fits = omega (arith, c.min.ensures); beyond = omega (arith, c.min.ensures) }
 
 pub loop-middle-preserved : goal.loop-middle-preserved
 loop-middle-preserved g c =
     let takes = rw (c.narrow.ensures, c.narrow-in-loop-middle.ensures) at c.weight_from-weight.ensures in
-    let halved = stop-halved c.loop-middle.invariant.so_far _ (omega arith) (omega arith) takes in
-    omega (arith, halved.1 c.if-weight-left.false)
+    let halved = stop-halved c.loop-middle.invariant.so_far _ (omega (arith, c.min.ensures))
+    (omega (arith, c.min.ensures, c.abs_diff-in-loop-middle.ensures)) takes in
+    record { so_far = halved.1 c.if-weight-left.false; fits = omega (arith, c.min.ensures); beyond = omega (arith, c.min.ensures) }
+
+pub returns : goal.returns
+returns g c =
+    record {
+      beyond = c.loop-middle.beyond;
+      left = c.loop-middle.left;
+      so_far = rw c.narrow-2.ensures c.loop-middle.invariant.so_far;
+      below = omega (arith, c.narrow-2.ensures, c.loop-middle-test.false);
+      above = omega (arith, c.narrow-2.ensures, c.loop-middle-test.false);
+    }

@@ -45,6 +45,10 @@ pub trait Number: Copy {
         requires { number self < most }
         ensures { number result ≡ number self + (if more then 1 else 0) };
 
+    /// How far it is above another one, but no more than `at_most`.
+    fn lead(self, other: Self, at_most: u8) -> u16
+        ensures { result ≡ min at_most (number self - number other) };
+
     /// So many numbers are counted at a time, which a number can count.
     fn at_a_time() -> usize
         ensures some { 1 ≤ result }
@@ -97,6 +101,10 @@ impl Number for u8 {
 
     fn plus(self, more: bool) -> u8 {
         self + u8::from(more)
+    }
+
+    fn lead(self, other: u8, at_most: u8) -> u16 {
+        u16::from(self.saturating_sub(other).min(at_most))
     }
 
     fn at_a_time() -> usize {
@@ -178,6 +186,12 @@ impl Number for Short {
         }
     }
 
+    fn lead(self, other: Short, at_most: u8) -> u16 {
+        (self.number as u16)
+            .saturating_sub(other.number as u16)
+            .min(u16::from(at_most))
+    }
+
     fn at_a_time() -> usize {
         MOST_NODES as usize
     }
@@ -226,6 +240,10 @@ impl Number for u32 {
 
     fn plus(self, more: bool) -> u32 {
         self + u32::from(more)
+    }
+
+    fn lead(self, other: u32, at_most: u8) -> u16 {
+        self.saturating_sub(other).min(u32::from(at_most)) as u16
     }
 
     fn at_a_time() -> usize {

@@ -14,7 +14,10 @@ pub trait Number: Copy {
     ghost most: { ℕ };
 
     fn zero() -> Self
-        ensures { number result ≡ 0 };
+        ensures { number result ≡ 0 }
+    {
+        Self::narrow(0)
+    }
 
     /// Above every number of a write.
     fn greatest() -> Self
@@ -31,10 +34,16 @@ pub trait Number: Copy {
         ensures { result ≡ nat_lt (number other) (number self) };
 
     fn is_upto(self, other: Self) -> bool
-        ensures { result ≡ nat_le (number self) (number other) };
+        ensures { result ≡ nat_le (number self) (number other) }
+    {
+        !self.is_above(other)
+    }
 
     fn max_with(self, other: Self) -> Self
-        ensures { number result ≡ max (number self) (number other) };
+        ensures { number result ≡ max (number self) (number other) }
+    {
+        if self.is_above(other) { self } else { other }
+    }
 
     fn min_with(self, other: Self) -> Self
         ensures number { number result ≡ min (number self) (number other) }
@@ -67,10 +76,6 @@ impl Number for u8 {
 
     ghost counts_keys = { Prim.search rules };
 
-    fn zero() -> u8 {
-        0
-    }
-
     fn greatest() -> u8 {
         u8::MAX
     }
@@ -85,14 +90,6 @@ impl Number for u8 {
 
     fn is_above(self, other: u8) -> bool {
         self > other
-    }
-
-    fn is_upto(self, other: u8) -> bool {
-        self <= other
-    }
-
-    fn max_with(self, other: u8) -> u8 {
-        self.max(other)
     }
 
     fn min_with(self, other: u8) -> u8 {
@@ -142,10 +139,6 @@ impl Number for Short {
 
     ghost counts_keys = { Prim.search rules };
 
-    fn zero() -> Short {
-        Short { number: 0 }
-    }
-
     fn greatest() -> Short {
         Short { number: i16::MAX }
     }
@@ -162,16 +155,6 @@ impl Number for Short {
 
     fn is_above(self, other: Short) -> bool {
         self.number > other.number
-    }
-
-    fn is_upto(self, other: Short) -> bool {
-        self.number <= other.number
-    }
-
-    fn max_with(self, other: Short) -> Short {
-        Short {
-            number: self.number.max(other.number),
-        }
     }
 
     fn min_with(self, other: Short) -> Short {
@@ -206,10 +189,6 @@ impl Number for u32 {
 
     ghost counts_keys = { Prim.search rules };
 
-    fn zero() -> u32 {
-        0
-    }
-
     fn greatest() -> u32 {
         u32::MAX
     }
@@ -224,14 +203,6 @@ impl Number for u32 {
 
     fn is_above(self, other: u32) -> bool {
         self > other
-    }
-
-    fn is_upto(self, other: u32) -> bool {
-        self <= other
-    }
-
-    fn max_with(self, other: u32) -> u32 {
-        self.max(other)
     }
 
     fn min_with(self, other: u32) -> u32 {

@@ -133,9 +133,6 @@ pub each-whole : (is : ℕ → ℕ → ℕ → Type 0) (nodes key keys : ℕ) (x
 each-whole is nodes key keys xs le ge before = subst (λ k. HasEach nodes (is k) xs) {x = key} {y = keys} (omega arith) before
 
 -- a mark raised to one number more
-pub raised-none : (cells : Cells) (owner x : ℕ) → IsRaised cells 0 owner x x
-raised-none cells owner x = record { rises = omega arith; upto = λ k lt. absurd (omega arith); from = inl refl }
-
 pub raised-next : (cells : Cells) (key owner x y z : ℕ) → IsRaised cells key owner x y → z ≡ max y (cells owner key) → IsRaised cells (key + 1) owner x z
 raised-next cells key owner x y z before now = record {
   rises = omega arith;

@@ -4,6 +4,7 @@ ghost use Rattle.std.specs.Prelude.{◌≡◌, ◌+◌, ◌*◌, ◌≤◌, leng
 ghost use Rattle.bench_types.specs.declared.limits.TheConstants.{MOST_NODES};
 ghost use Rattle.planes.specs.Planes.{cell, HasEach};
 
+use crate::grids::plane_of;
 use crate::numbers::Number;
 
 /// For each round from 0 up to `rounds` a row with how many writes each owner has made up to its end.
@@ -22,7 +23,6 @@ impl<'a, N: Number> Ends<'a, N> {
         ensures { HasEach nodes (λ r n. n ≡ cell (map N.number self.now.numbers.now) nodes r round)
             (map N.number result.now) }
     {
-        let start = round as usize * nodes;
-        &self.numbers[start..start + nodes]
+        plane_of(self.numbers, nodes, round as usize)
     }
 }

@@ -14,7 +14,10 @@ pub trait Number: Copy {
     ghost most: { ℕ };
 
     fn zero() -> Self
-        ensures { number result ≡ 0 };
+        ensures { number result ≡ 0 }
+    {
+        Self::narrow(0)
+    }
 
     /// Above every number of a write.
     fn greatest() -> Self
@@ -31,10 +34,16 @@ pub trait Number: Copy {
         ensures { result ≡ nat_lt (number other) (number self) };
 
     fn is_upto(self, other: Self) -> bool
-        ensures { result ≡ nat_le (number self) (number other) };
+        ensures { result ≡ nat_le (number self) (number other) }
+    {
+        !self.is_above(other)
+    }
 
     fn max_with(self, other: Self) -> Self
-        ensures { number result ≡ max (number self) (number other) };
+        ensures { number result ≡ max (number self) (number other) }
+    {
+        if self.is_above(other) { self } else { other }
+    }
 
     fn min_with(self, other: Self) -> Self
         ensures number { number result ≡ min (number self) (number other) }
@@ -45,13 +54,17 @@ pub trait Number: Copy {
         requires { number self < most }
         ensures { number result ≡ number self + (if more then 1 else 0) };
 
+    /// How far it is above another one, but no more than `at_most`.
+    fn lead(self, other: Self, at_most: u8) -> u16
+        ensures { result ≡ min at_most (number self - number other) };
+
     /// So many numbers are counted at a time, which a number can count.
     fn at_a_time() -> usize
         ensures some { 1 ≤ result }
         ensures counts { result ≤ most };
 
     // An owner's keys can be counted.
-    ghost counts_keys: { MOST_KEYS ≤ most };
+    ghost counts_keys: { MOST_KEYS < most };
 }
 
 impl Number for u8 {
@@ -62,10 +75,6 @@ impl Number for u8 {
     ghost most = { 255 };
 
     ghost counts_keys = { Prim.search rules };
-
-    fn zero() -> u8 {
-        0
-    }
 
     fn greatest() -> u8 {
         u8::MAX
@@ -83,20 +92,16 @@ impl Number for u8 {
         self > other
     }
 
-    fn is_upto(self, other: u8) -> bool {
-        self <= other
-    }
-
-    fn max_with(self, other: u8) -> u8 {
-        self.max(other)
-    }
-
     fn min_with(self, other: u8) -> u8 {
         self.min(other)
     }
 
     fn plus(self, more: bool) -> u8 {
         self + u8::from(more)
+    }
+
+    fn lead(self, other: u8, at_most: u8) -> u16 {
+        u16::from(self.saturating_sub(other).min(at_most))
     }
 
     fn at_a_time() -> usize {
@@ -134,10 +139,6 @@ impl Number for Short {
 
     ghost counts_keys = { Prim.search rules };
 
-    fn zero() -> Short {
-        Short { number: 0 }
-    }
-
     fn greatest() -> Short {
         Short { number: i16::MAX }
     }
@@ -156,16 +157,6 @@ impl Number for Short {
         self.number > other.number
     }
 
-    fn is_upto(self, other: Short) -> bool {
-        self.number <= other.number
-    }
-
-    fn max_with(self, other: Short) -> Short {
-        Short {
-            number: self.number.max(other.number),
-        }
-    }
-
     fn min_with(self, other: Short) -> Short {
         Short {
             number: self.number.min(other.number),
@@ -176,6 +167,12 @@ impl Number for Short {
         Short {
             number: self.number + i16::from(more),
         }
+    }
+
+    fn lead(self, other: Short, at_most: u8) -> u16 {
+        (self.number as u16)
+            .saturating_sub(other.number as u16)
+            .min(u16::from(at_most))
     }
 
     fn at_a_time() -> usize {
@@ -191,10 +188,6 @@ impl Number for u32 {
     ghost most = { 4294967295 };
 
     ghost counts_keys = { Prim.search rules };
-
-    fn zero() -> u32 {
-        0
-    }
 
     fn greatest() -> u32 {
         u32::MAX
@@ -212,20 +205,16 @@ impl Number for u32 {
         self > other
     }
 
-    fn is_upto(self, other: u32) -> bool {
-        self <= other
-    }
-
-    fn max_with(self, other: u32) -> u32 {
-        self.max(other)
-    }
-
     fn min_with(self, other: u32) -> u32 {
         self.min(other)
     }
 
     fn plus(self, more: bool) -> u32 {
         self + u32::from(more)
+    }
+
+    fn lead(self, other: u32, at_most: u8) -> u16 {
+        self.saturating_sub(other).min(u32::from(at_most)) as u16
     }
 
     fn at_a_time() -> usize {

@@ -58,9 +58,8 @@ module _ {N : Type 0} {number : N → ℕ} {most : ℕ} {numbers : RoundNumbers 
     size : length v.last ≡ length least
     size = all.are.are.lasts.size ∙ sym all.whole.least_is.size ∙ length-map piece.least.items number ∙ ap length (sym same)
 
-    pub may-walk : (first : N) (list : OwnerListView) → first ≡ get_or firsts owner first → list ≡ list_of_owner lists owner
-        → MayWalk number most numbers least owner (number first) list
-    may-walk first list is list_is = subst (MayWalk number most numbers least owner (number first)) (sym list_is) (record {
+    pub may-walk : (first : N) → first ≡ get_or firsts owner first → MayWalk number most numbers least owner (number first)
+    may-walk first is = record {
       among = among;
       grid = subst (IsGrid nodes numbers.keys) size (grids-of number most numbers all.tables all.are).grid;
       walks = record {
@@ -85,7 +84,7 @@ module _ {N : Type 0} {number : N → ℕ} {most : ℕ} {numbers : RoundNumbers 
               ]
             ];
       };
-    })
+    }
 
   -- what is counted place by place is summed up over all of them
   abbrev summed_at : (ℕ → ℕ → ℕ → ℕ) → ℕ → ℕ

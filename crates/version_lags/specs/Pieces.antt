@@ -176,13 +176,18 @@ pub record WalksFrom (list : OwnerListView) (keys round most first : ℕ) (least
   pub written : (k : ℕ) → k < keys → least k ≤ length (entries_of list)
   pub start : NonePassUpto list least (max (base_of list) first)
 
--- an owner's list may be walked over, beside the least numbers that are held
-pub record MayWalk {N : Type 0} (number : N → ℕ) (most : ℕ) (numbers : RoundNumbers N) (least : List N) (owner first : ℕ)
-    (list : OwnerListView) : Type 0 where
+-- it may be walked over, by numbers as code has them
+pub record MayWalk {N : Type 0} (number : N → ℕ) (most : ℕ) (numbers : RoundNumbers N) (least : List N) (owner first : ℕ) : Type 0 where
   pub among : owner < length numbers.lists.now
   pub grid : IsGrid (length numbers.lists.now) numbers.keys (length least)
-  pub walks : WalksFrom list numbers.keys numbers.ends.rounds most first (cell (map number least) (length numbers.lists.now) owner)
+  pub walks : WalksFrom (list_of_owner numbers.lists.now owner) numbers.keys numbers.ends.rounds most first
+      (cell (map number least) (length numbers.lists.now) owner)
 
 -- the most rounds that a copy of an owner's keys has been behind
 abbrev pub most_lag : ℕ → ℕ → OwnerListView → (ℕ → ℕ) → ℕ
 most_lag keys round list least = most_below keys (λ k. rounds_behind (number_staleness round list k (least k)))
+
+abbrev pub owner_lag : {N : Type 0} → (N → ℕ) → RoundNumbers N → List N → ℕ → ℕ
+owner_lag number numbers least owner =
+    most_lag numbers.keys numbers.ends.rounds (list_of_owner numbers.lists.now owner)
+    (cell (map number least) (length numbers.lists.now) owner)

@@ -3,9 +3,8 @@
 ghost use Rattle.std.specs.Prelude.{◌≡◌, ℕ, ◌+◌, ◌-◌, ◌*◌, ◌/◌, ◌^◌, ◌<◌, ◌≤◌, List, map, length, IfOk, IsOkUnless};
 ghost use Rattle.bench_types.specs.declared.faults.Fault.TheVariants.{OutOfMemory};
 ghost use Rattle.model.specs.Table.{Table};
-ghost use Rattle.planes.specs.Planes.{cell};
 ghost use Rattle.version_lags.specs.Bounds.{IsStretchOf};
-ghost use Rattle.version_lags.specs.Pieces.{numbers_seen, AreAllCounted, AreBehindEachOther, AreFigures, AreGrids, ArePieces, AreRoundNumbers, Counts, HasCounted, MayWalk, most_lag};
+ghost use Rattle.version_lags.specs.Pieces.{numbers_seen, AreAllCounted, AreBehindEachOther, AreFigures, AreGrids, ArePieces, AreRoundNumbers, Counts, HasCounted, MayWalk, owner_lag};
 
 use crate::bounds::{LEAST_BYTES_OF_A_THREAD, threads_for};
 use bench_types::{Fault, Figures};
@@ -96,7 +95,7 @@ impl<N: Number> Piece<N> {
             if row[owner].is_upto(first) {
                 continue;
             }
-            let lag = lag_of_owner(numbers, least, &numbers.lists[owner], owner, first);
+            let lag = lag_of_owner(numbers, least, owner, first);
             greatest = greatest.max(lag);
         }
         Ok(Figures {
@@ -109,19 +108,13 @@ impl<N: Number> Piece<N> {
 
 // For how many rounds a copy of an owner has missed a write at most: since the first one that some copy misses, which
 // stands behind a number, the greatest where there is none.
-fn lag_of_owner<N: Number>(
-    numbers: &RoundNumbers<N>,
-    least: &[N],
-    list: &OwnerWrites,
-    owner: usize,
-    first: N,
-) -> u32
-    requires { MayWalk N.number N.most numbers.now least.now owner (N.number first) list.now }
-    ensures { result ≡ most_lag numbers.now.keys numbers.now.ends.rounds list.now
-        (cell (map N.number least.now) (length numbers.now.lists.now) owner) }
+fn lag_of_owner<N: Number>(numbers: &RoundNumbers<N>, least: &[N], owner: usize, first: N) -> u32
+    requires { MayWalk N.number N.most numbers.now least.now owner (N.number first) }
+    ensures { result ≡ owner_lag N.number numbers.now least.now owner }
 {
     let round = numbers.ends.rounds;
     let nodes = numbers.lists.len();
+    let list = &numbers.lists[owner];
     if first.widen() == N::greatest().widen() {
         return 0;
     }
@@ -191,8 +184,7 @@ pub fn piece_of<N: Number>(
 // another one, the system may put both on one processor.
 #[cycle(rest)]
 fn rest_from<N: Number + Send + Sync>(
-    rt: &(impl Threads + Sync),
-    alloc: Global,
+    resources: &Resources<impl Threads + Sync>,
     numbers: &RoundNumbers<N>,
     size: usize,
     from: usize,
@@ -200,6 +192,7 @@ fn rest_from<N: Number + Send + Sync>(
     requires { AreGrids (numbers_seen N.number numbers.now) × (1 ≤ size) × (from ≤ length numbers.now.lists.now) }
     ensures { Counts N.number numbers.now from (length numbers.now.lists.now) result }
 {
+    let alloc = resources.alloc;
     let nodes = numbers.lists.len();
     if nodes - from <= size {
         return piece_of(alloc, numbers, from, nodes);
@@ -212,8 +205,8 @@ fn rest_from<N: Number + Send + Sync>(
     let others = || -> Result<Piece<N>, Fault>
         requires { AreGrids (numbers_seen N.number numbers.now) × (1 ≤ size) × (to ≤ length numbers.now.lists.now) }
         ensures { Counts N.number numbers.entry.now to (length numbers.entry.now.lists.now) result }
-    { rest_from(rt, alloc, numbers, size, to) };
-    let (first, others) = join(rt, first, others);
+    { rest_from(resources, numbers, size, to) };
+    let (first, others) = join(resources.rt, first, others);
     let mut piece = first?;
     piece.take_in(&others?, numbers);
     Ok(piece)
@@ -236,10 +229,9 @@ pub fn figures<N: Number + Send + Sync>(
     requires are { (tables : List Table) × AreRoundNumbers N.number N.most numbers.now tables }
     ensures { AreFigures N.number N.most numbers.now result }
 {
-    let alloc = resources.alloc;
     let size = tables_of_a_thread(numbers, resources.hands);
-    let whole = rest_from(resources.rt, alloc, numbers, size, 0)?;
-    whole.figures(alloc, numbers)
+    let whole = rest_from(resources, numbers, size, 0)?;
+    whole.figures(resources.alloc, numbers)
 }
 
 /// The same figures, by what several threads have counted, each a part of the tables. It takes memory for the numbers of

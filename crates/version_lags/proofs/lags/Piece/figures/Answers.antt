@@ -1,25 +1,22 @@
-use Rattle.version_lags.proofs.Common.{◌≡◌, ℕ, max, length, length-map, leb-true, map, number-at, refl, sym, ◌∙◌, arith, rules, get_or_default, list_of_owner, no_writes, cell, most_lag}
+use Rattle.version_lags.proofs.Common.{◌≡◌, max, length, length-map, leb-true, number-at, refl, sym, ◌∙◌, arith, rules, owner_lag}
 use Rattle.version_lags.proofs.Walks.{lag-recent, most-next}
 use Rattle.version_lags.proofs.Whole.{may-walk, figures-are}
 use Rattle.version_lags.proofs.lags.Piece.figures.Goals as goal
 
 pub lag_of_owner-lag-requires : goal.lag_of_owner-lag-requires
 lag_of_owner-lag-requires g c =
-    let read = get_or_default c.args.numbers.now.lists.now c.loop-owner.owner c.index-numbers-owner.result no_writes c.loop-owner-test.true in
     may-walk c.requires c.deref-least.ensures.value c.in_ok-firsts.firsts.items c.in_ok-firsts.ensures.least c.loop-owner.owner c.loop-owner-test.true
-    c.index-first.result.now _ c.index-first.ensures read
+    c.index-first.result.now c.index-first.ensures
 
 pub loop-owner-preserved : goal.loop-owner-preserved
 loop-owner-preserved g c =
-    let read = get_or_default c.args.numbers.now.lists.now c.loop-owner.owner c.index-numbers-owner.result no_writes c.loop-owner-test.true in
     let joined : c.max-greatest.result ≡ max c.loop-owner.greatest c.lag_of_owner-lag.result = search rules in
-    most-next _ c.loop-owner.owner _ _ _ c.loop-owner.invariant joined (rw read at c.lag_of_owner-lag.ensures)
+    most-next _ c.loop-owner.owner _ _ _ c.loop-owner.invariant joined c.lag_of_owner-lag.ensures
 
 pub loop-owner-preserved-then-is_upto : goal.loop-owner-preserved-then-is_upto
 loop-owner-preserved-then-is_upto g c =
     let number = g.N.Number.number in
     let numbers = c.args.numbers.now in
-    let lists = numbers.lists.now in
     let r = c.loop-owner.owner in
     let lt = c.loop-owner-test.true in
     let since = c.saturating_sub-since.result in
@@ -28,10 +25,9 @@ loop-owner-preserved-then-is_upto g c =
     let ends = c.row-row.ensures in
     let read = number-at number row r c.index-row-owner.result (omega (arith, length-map row number)) c.index-row-owner.is in
     let after = leb-true (number c.index-row-owner.result) (number c.index-first.result.now) (sym c.is_upto.ensures ∙ c.if-is_upto.true) in
-    let least = cell (map number c.deref-least.result.now) (length lists) in
-    let lag = λ (q : ℕ). most_lag numbers.keys numbers.ends.rounds (list_of_owner lists q) (least q) in
+    let lag = owner_lag number numbers c.deref-least.result.now in
     let part = c.requires.are.ends.are_ends.parts r since lt (omega arith) in
-    let upto = lag-recent (walk c.index-first.result.now _ c.index-first.ensures refl).walks since _ c.loop-owner.greatest
+    let upto = lag-recent (walk c.index-first.result.now c.index-first.ensures).walks since _ c.loop-owner.greatest
     part (omega (arith, ends.each r lt)) (omega arith) in
     most-next lag r c.loop-owner.greatest (lag r) c.loop-owner.greatest c.loop-owner.invariant (omega arith) refl
 

@@ -105,13 +105,29 @@ pub fn count_some_between<N: Number>(
     }
     if key < size.keys {
         let start = key * size.nodes + first;
-        // A mark isn't above itself.
-        count_two(counts, &cells[start..start + count], lows, lows, highs);
+        count_one(counts, &cells[start..start + count], lows, highs);
     }
 }
 
-// Adds one to each owner's count for each number of two planes that is above one mark and up to another. Counts and marks
-// are read once for both.
+// Adds one to each owner's count whose number in a plane is above one mark and up to another.
+fn count_one<N: Number>(counts: &mut [N], plane: &[N], low: &[N], high: &[N])
+    requires plane { MayCountPlane counts.old plane.now low.now high.now }
+    requires room { HasRoomToCount N.number N.most 1 counts.old }
+    ensures { AreChanged (λ r x y. y ≡ x + one_between N.number plane.now low.now high.now r)
+        (map N.number counts.old) (map N.number counts.new) }
+{
+    planes::change(
+        counts,
+        |r, count| -> N
+            requires { (r < length plane.now) × (r < length low.now) × (r < length high.now)
+                × (N.number count < N.most) }
+            ensures { N.number result ≡ N.number count
+                + one_between N.number plane.entry.now low.entry.now high.entry.now r }
+        { count.plus(planes::is_between(plane[r], low[r], high[r])) },
+    );
+}
+
+// The same for two planes, whose counts and marks are then read once.
 fn count_two<N: Number>(counts: &mut [N], plane: &[N], other: &[N], low: &[N], high: &[N])
     requires plane { MayCountPlane counts.old plane.now low.now high.now }
     requires other { length other.now ≡ length counts.old }

@@ -64,7 +64,7 @@ pub trait Number: Copy {
         ensures counts { result ≤ most };
 
     // An owner's keys can be counted.
-    ghost counts_keys: { MOST_KEYS < most };
+    ghost counts_keys: { MOST_KEYS ≤ most };
 }
 
 impl Number for u8 {

@@ -26,10 +26,6 @@ module _ {N : Type 0} (number : N → ℕ) (cells low high : List N) (nodes firs
       ∙ ap (λ i. get_or (map number cells) i 0) {x = start + r} {y = key * nodes + (first + r)} (omega (arith, is)) in
       λ i. if nat_lt (from i) (here i) then (if nat_le (here i) (to i) then 1 else 0) else 0
 
-  -- a mark isn't above itself
-  none_between : (r : ℕ) → one_between number (part first low) (part first low) (part first high) r ≡ 0
-  none_between r = grind (arith, nat_tests)
-
   -- so many more can be counted
   has_room : (most more key : ℕ) (counts : List N) → HasEach size (λ r n. n ≡ sum_below key (is_counted r)) (map number counts)
       → key + more ≤ most → HasRoomToCount number most more counts
@@ -53,9 +49,9 @@ count_two-requires-clause-room g c =
     has_room g.N.Number.number c.args.grid.cells.now c.args.low.now c.args.high.now c.args.grid.size.nodes c.args.first _ _ 2 _ _ c.loop-key.invariant.each
     (omega (arith, c.loop-key-test.true, c.requires.marked.shape.few_keys, g.met.N.Number.counts_keys))
 
-pub count_two-requires-then-key-size-clause-room : goal.count_two-requires-then-key-size-clause-room
-count_two-requires-then-key-size-clause-room g c =
-    has_room g.N.Number.number c.args.grid.cells.now c.args.low.now c.args.high.now c.args.grid.size.nodes c.args.first _ _ 2 _ _ c.loop-key.invariant.each
+pub count_one-requires-clause-room : goal.count_one-requires-clause-room
+count_one-requires-clause-room g c =
+    has_room g.N.Number.number c.args.grid.cells.now c.args.low.now c.args.high.now c.args.grid.size.nodes c.args.first _ _ 1 _ _ c.loop-key.invariant.each
     (omega (arith, c.if-key-size.true, c.requires.marked.shape.few_keys, g.met.N.Number.counts_keys))
 
 pub slice_bounds-count_two-end-in-loop-key : goal.slice_bounds-count_two-end-in-loop-key
@@ -91,9 +87,9 @@ returns-then-key-size g c =
     let key = c.loop-key.key in
     let size : ℕ = length c.args.counts.now in
     let f = is_counted number c.args.grid.cells.now c.args.low.now c.args.high.now nodes c.args.first size in
-    each-next size _ _ _ (map number c.loop-key.counts) (map number c.count_two-then-key-size.new.counts) c.loop-key.invariant.each c.count_two-then-key-size.ensures
+    each-next size _ _ _ (map number c.loop-key.counts) (map number c.count_one.new.counts) c.loop-key.invariant.each c.count_one.ensures
     (λ r x y lt before made.
-    number_next (f r) key x y before (omega (arith, made, none_between number c.args.grid.cells.now c.args.low.now c.args.high.now nodes c.args.first size r))
+    number_next (f r) key x y before made
     (told number c.args.grid.cells.now c.args.low.now c.args.high.now nodes c.args.first size key (key * nodes + c.args.first) r lt refl)
     ∙ ap (λ n. sum_below n (f r)) {x = key + 1} {y = c.args.grid.size.keys} (omega (arith, c.if-key-size.true, c.loop-key-test.false)))
 

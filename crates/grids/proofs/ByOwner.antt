@@ -52,9 +52,6 @@ module _ (to : ℕ → ℕ → ℕ → ℕ) (nodes keys : ℕ) (old : List ℕ) 
   abbrev AreDone : ℕ → List ℕ → Type 0
   AreDone bound xs = ArePlanesChanged (owners_changed to bound) nodes keys old xs
 
-  pub owners-none : AreDone 0 old
-  owners-none = record { size = refl; each = λ r k in_node in_key. rw (le-ltb r 0 (omega arith)) }
-
   -- an owner's turn comes, where those before it were changed already
   owners_turned : (bound : ℕ) (now : ℕ → ℕ → ℕ → ℕ) (mid new : List ℕ) → AreDone bound mid → ArePlanesChanged (owner_changed now bound) nodes keys mid new
       → ((k x : ℕ) → k < keys → now bound k x ≡ to bound k x) → AreDone (bound + 1) new

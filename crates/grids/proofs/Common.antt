@@ -8,7 +8,7 @@ pub use Rattle.grids.specs.Grids.{count_held, number_kept}
 pub use Rattle.planes.proofs.Behind.{each-turned}
 pub use Rattle.planes.proofs.Counts.{count_le, none-passes, one_le, owner_counted, owner_passed, owners-fit, sum_next, sum_whole}
 pub use Rattle.planes.proofs.Elementwise.{changed_all, changed_none, counted-same, counted_next, counted_none, left_next, number-at, number-waits, written_next}
-pub use Rattle.planes.proofs.Places.{block-cells, each-next, grid-within, plane-cells, plane-within, plane_count, planes-all, planes-none, planes-written, raised-next, raised-none, total-places, total-same, total_whole}
+pub use Rattle.planes.proofs.Places.{block-cells, each-next, grid-within, plane-cells, plane-within, plane_count, planes-all, planes-written, raised-next, total-places, total-same, total_whole}
 pub use Rattle.grids.specs.Lags.{IsLeastBehind}
 pub use Rattle.grids.specs.inner.Loops.{AreRaisedUpto, MakesAs, taken_by}
 pub use Rattle.grids.specs.inner.Owners.{HasRaisedOwner}

@@ -1,6 +1,6 @@
 -- Planes of which some places are counted.
 -- Serves the functions of `grids`, `lags` and `merges`.
-use Rattle.grids.proofs.Common.{◌≡◌, ℕ, Fits, w32, ◌+◌, ◌*◌, ◌<◌, ◌≤◌, Bool, cond, nat_tests, List, length, get_or, map, take, drop, nat_lt, max, refl, sym, ◌∙◌, ◌==◌, ap, arith, length-map, put_mid, MOST_NODES, sum_below, sum_below-most, cell, number_ahead, total_above, total_of, IsGrid, ArePlanesChangedUpto, ArePlanesChanged, AreCountedUpto, AreRaisedUpto, number_raised, count_passing, HasNoOtherMark, HasEachPlace, HasNoneUptoMark, number_kept, cases_eq, inl, inr, changed_all, count_le, sum_next, plane-cells, plane_count, planes-all, planes-none, planes-written, block-cells, plane-within, total-places, total-same, total_whole}
+use Rattle.grids.proofs.Common.{◌≡◌, ℕ, Fits, w32, ◌+◌, ◌*◌, ◌<◌, ◌≤◌, Bool, cond, nat_tests, List, length, get_or, map, take, drop, nat_lt, max, sym, ◌∙◌, ap, arith, length-map, put_mid, MOST_NODES, sum_below, sum_below-most, cell, number_ahead, total_above, total_of, IsGrid, ArePlanesChangedUpto, ArePlanesChanged, AreCountedUpto, AreRaisedUpto, number_raised, count_passing, HasNoOtherMark, HasEachPlace, HasNoneUptoMark, number_kept, cases_eq, inl, inr, changed_all, count_le, sum_next, plane-cells, plane_count, planes-all, planes-written, block-cells, plane-within, total-places, total-same, total_whole}
 
 -- the planes of the keys below a bound are changed, and so many places of them pass a test
 pub record ArePlanesCounted (changed : ℕ → ℕ → ℕ → ℕ → Type 0) (test : ℕ → ℕ → Bool) (nodes : ℕ) (old new : List ℕ) (bound passed : ℕ) : Type 0 where
@@ -8,9 +8,6 @@ pub record ArePlanesCounted (changed : ℕ → ℕ → ℕ → ℕ → Type 0) (
   pub count : passed ≡ sum_below bound (λ k. sum_below nodes (λ r. cond (test r k) 1 0))
 
 module _ (changed : ℕ → ℕ → ℕ → ℕ → Type 0) (test : ℕ → ℕ → Bool) (nodes : ℕ) (old : List ℕ) where
-  pub planes_counted-none : ArePlanesCounted changed test nodes old old 0 0
-  planes_counted-none = record { planes = planes-none changed nodes old; count = refl }
-
   pub planes_counted-next : {N : Type 0} (number : N → ℕ) (xs ys : List N) (key n count more : ℕ) (in_block : ℕ → ℕ → ℕ → Type 0) (passes : ℕ → Bool)
       → n ≡ nodes → ArePlanesCounted changed test nodes old (map number xs) key count → key * nodes + nodes ≤ length old
       → AreCountedUpto in_block passes (map number (take n (drop (key * nodes) xs))) (map number ys) (length (take n (drop (key * nodes) xs))) more

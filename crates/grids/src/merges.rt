@@ -1,6 +1,6 @@
 //! Two tables that take of each other all that is above their marks, both ways in one pass.
 
-ghost use Rattle.std.specs.Prelude.{◌≡◌, ◌-◌, ◌≤◌, length, min};
+ghost use Rattle.std.specs.Prelude.{◌≡◌, ◌≤◌, length};
 ghost use Rattle.bench_types.specs.declared.limits.TheConstants.{MOST_NODES};
 ghost use Rattle.grids.specs.Grids.{AreBothCovered, AreBothGreatest, AreBothRaised, AreMostAhead, AreRaisedToOther};
 ghost use Rattle.planes.specs.Loops.{IsPart};
@@ -25,11 +25,8 @@ pub struct BothMarks<'a, N: Number> {
     pub size: Size,
 }
 
-fn lead<N: Number>(number: N, other: N, most: u32) -> u32
-    ensures { result ≡ min most (N.number number - N.number other) }
-{
-    number.widen().saturating_sub(other.widen()).min(most)
-}
+/// So many owners' leads are summed up in 16 bits, as each is no more than the keys.
+const SUMMED: usize = 256;
 
 /// How many numbers may come to each of two tables, by their greatest ones: of an owner no more than keys, and where
 /// its numbers differ, no more than its two greatest ones are apart.
@@ -37,13 +34,23 @@ pub fn most_ahead<N: Number>(first: &[N], second: &[N], keys: u32) -> BothCounts
     requires { AreBothGreatest first.now second.now keys }
     ensures { AreMostAhead N.number first.now second.now keys result }
 {
+    let at_most = keys as u8;
     let mut to_first = 0;
     let mut to_second = 0;
-    for r in 0..first.len() {
-        let number = first[r];
-        let other = second[r];
-        to_first += lead(other, number, keys);
-        to_second += lead(number, other, keys);
+    let mut from = 0;
+    while from < first.len() {
+        let end = (from + SUMMED).min(first.len());
+        let mut few_to_first = 0;
+        let mut few_to_second = 0;
+        for r in from..end {
+            let number = first[r];
+            let other = second[r];
+            few_to_first += other.lead(number, at_most);
+            few_to_second += number.lead(other, at_most);
+        }
+        to_first += u32::from(few_to_first);
+        to_second += u32::from(few_to_second);
+        from = end;
     }
     BothCounts {
         first: to_first,

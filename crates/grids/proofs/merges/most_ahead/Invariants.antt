@@ -1,8 +1,21 @@
-use Rattle.grids.proofs.Common.{◌≡◌, ◌-◌, min, slice_index, map, sum_below}
+use Rattle.grids.proofs.Common.{◌≡◌, ◌+◌, ◌*◌, ◌-◌, ◌≤◌, length, map, MOST_KEYS}
+use Rattle.planes.specs.Planes.{most_ahead}
 use Rattle.grids.proofs.merges.most_ahead.Given as goal
+
+abbrev pub invariant-loop-from : goal.invariant-loop-from
+invariant-loop-from g l = record {
+  within : l.from ≤ length l.first;
+  to_first : l.to_first ≡ most_ahead l.from l.keys (map g.N.Number.number l.second) (map g.N.Number.number l.first);
+  to_second : l.to_second ≡ most_ahead l.from l.keys (map g.N.Number.number l.first) (map g.N.Number.number l.second);
+}
+
+abbrev pub decreases-loop-from : goal.decreases-loop-from
+decreases-loop-from g l = length l.first - l.from
 
 abbrev pub invariant-loop-r : goal.invariant-loop-r
 invariant-loop-r g l = record {
-  to_first : l.to_first ≡ sum_below l.r (λ r. min l.keys (slice_index (map g.N.Number.number l.second) r - slice_index (map g.N.Number.number l.first) r));
-  to_second : l.to_second ≡ sum_below l.r (λ r. min l.keys (slice_index (map g.N.Number.number l.first) r - slice_index (map g.N.Number.number l.second) r));
+  first_few : l.few_to_first + l.from * MOST_KEYS ≤ l.r * MOST_KEYS;
+  second_few : l.few_to_second + l.from * MOST_KEYS ≤ l.r * MOST_KEYS;
+  to_first : l.to_first + l.few_to_first ≡ most_ahead l.r l.keys (map g.N.Number.number l.second) (map g.N.Number.number l.first);
+  to_second : l.to_second + l.few_to_second ≡ most_ahead l.r l.keys (map g.N.Number.number l.first) (map g.N.Number.number l.second);
 }

@@ -19,7 +19,7 @@ LONG_AGO = 1_000_000_000
 # What is said of a proof that takes long, as each may on a busy machine.
 PROGRESS = re.compile(r"^gossip_bench: (still )?proving .*\n", re.MULTILINE)
 BUILDING = "gossip_bench: building. The first build proves everything and takes minutes.\n"
-TUNABLES = "glibc.malloc.hugetlb=1"
+TUNABLES = "glibc.malloc.hugetlb=1:glibc.malloc.top_pad=67108864"
 
 
 class Toy:

@@ -12,4 +12,4 @@ pub use Rattle.planes.proofs.Places.{block-cells, each-next, grid-within, plane-
 pub use Rattle.grids.specs.Lags.{IsLeastBehind}
 pub use Rattle.grids.specs.inner.Loops.{AreRaisedUpto, MakesAs, taken_by}
 pub use Rattle.grids.specs.inner.Owners.{HasRaisedOwner}
-pub use Rattle.grids.specs.inner.Masks.{AreMaskedUpto, HasNoneUptoMark, HasNoOtherMark, HoldsMore}
+pub use Rattle.grids.specs.inner.Masks.{AreMaskedUpto, HasNoneUptoMark, HasNoOtherMark}

@@ -44,15 +44,14 @@ abbrev pub count_held : {N : Type 0} → (N → ℕ) → List N → ℕ
 count_held number cells = count_passing (length cells) (λ i. nat_lt 0 (slice_index (map number cells) i))
 
 -- the table's numbers that are above both the peer's and the mark, and 0 in place of the others; and how many numbers
--- both have
+-- it has
 pub record IsAhead {N : Type 0} (number : N → ℕ) (grid : Grid N) (peer : Peer N) (ahead : Masked N) : Type 0 where
   pub numbers : HasEachPlace grid.size.nodes grid.size.keys (λ r k n. n ≡ number_ahead (cells_in number grid r k)
       (cell (map number peer.cells.now) grid.size.nodes r k) (slice_index (map number peer.low.now) r))
       (map number ahead.numbers.items)
   pub count : ahead.count
       ≡ total_above grid.size.nodes grid.size.keys (map number ahead.numbers.items) (map number peer.low.now)
-  pub own_held : ahead.held.own ≡ count_held number grid.cells.now
-  pub peer_held : ahead.held.peer ≡ count_held number peer.cells.now
+  pub held : ahead.held ≡ count_held number grid.cells.now
 
 -- a table's numbers, of which none is above its owner's greatest one, may take what is sent
 pub record MayTake {N : Type 0} (number : N → ℕ) (cells greatest : List N) (sent : Sent N) : Type 0 where

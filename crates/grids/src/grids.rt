@@ -10,19 +10,18 @@ ghost use Rattle.bench_types.specs.declared.limits.TheConstants.{MOST_NODES};
 ghost use Rattle.grids.specs.inner.Loops.{IsPlaneTaken, MakesAs, MayTakePlane};
 ghost use Rattle.grids.specs.inner.Masks.{AreAbovePeer, HasNoneUptoMark, HasNoOtherMark};
 
-use crate::masks::Held;
 use crate::owners::FEW_TO_CHANGE;
 use crate::{counts, masks, owners};
 use bench_types::Fault;
 use planes::{Grid, Number, Size, are_few, plane_of};
 use std::alloc::Global;
 
-/// Numbers of which some are kept, with 0 in place of the others; how many are kept, and how many both tables hold.
+/// A table's numbers of which some are kept, with 0 in place of the others; how many are kept, and how many it holds.
 #[derive(Drop)]
 pub struct Masked<N: Number> {
     pub numbers: Vec<N>,
     pub count: u32,
-    pub held: Held,
+    pub held: u32,
 }
 
 /// The numbers that one table sends another of its size. Of each owner those above the low mark and up to the high one
@@ -148,10 +147,7 @@ fn ahead_of_both<N: Number>(alloc: Global, grid: Grid<N>, peer: Peer<N>) -> Resu
     let Grid { cells, size } = grid;
     let other = peer.cells;
     let low = peer.low;
-    let held = Held {
-        own: planes::count_held(cells),
-        peer: planes::count_held(other),
-    };
+    let held = planes::count_held(cells);
     let mut numbers = Vec::from_slice(alloc, cells)?;
     let count = change_all_counting(&mut numbers, size, |key| {
         let of_peer = plane_of(other, size.nodes, key);
@@ -174,7 +170,7 @@ fn ahead_of_both<N: Number>(alloc: Global, grid: Grid<N>, peer: Peer<N>) -> Resu
 }
 
 /// The numbers that are above both the peer's and their owner's mark, and 0 in place of the others. One pass masks them
-/// and counts those that it keeps and those that both tables hold. It serves where no owner has a mark but the peer
+/// and counts those that it keeps and those that the table holds. It serves where no owner has a mark but the peer
 /// itself, and nothing of that one is ahead up to its mark, as most often. An error is lack of memory (`OutOfMemory`).
 pub fn ahead<N: Number>(alloc: Global, grid: Grid<N>, peer: Peer<N>) -> Result<Masked<N>, Fault>
     requires { HasPeer grid peer }

@@ -8,7 +8,7 @@
 //! - What asks for no owner's mark goes over all planes as one: a loop begins and ends once, not once for each key. So
 //!   does the mask of what is ahead, where no owner but the receiver has a mark and nothing of the receiver is ahead up
 //!   to its own, as most often. It is written among zeros, so that no number is read twice, and the same loop counts
-//!   what both tables hold: no digest of a precise mode takes a pass of its own.
+//!   what the table holds: its precise digest takes no pass of its own.
 //! - Where all comes, both ways go in one pass (`merge`). A number of one table that is above the other's greatest one
 //!   goes over; it can't be that one comes back in its place, so neither way has to wait for the other. The pass counts
 //!   what goes each way, and the greatest numbers are raised once behind it.
@@ -28,5 +28,4 @@ mod owners;
 
 pub use grids::{Masked, Peer, Sent, ahead, drop_owner, take};
 pub use lags::{count_behind, least_behind, lower_all};
-pub use masks::Held;
 pub use merges::{BothCounts, BothMarks, merge, most_ahead, raise_both};

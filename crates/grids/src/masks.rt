@@ -4,18 +4,11 @@ ghost use Rattle.grids.specs.inner.Masks.{AreMasked, ArePartMasked, MayMask, May
 
 use planes::Number;
 
-/// How many numbers a table has that are not 0, and how many its peer.
-#[derive(Clone, Copy)]
-pub struct Held {
-    pub own: u32,
-    pub peer: u32,
-}
-
-/// How many numbers are kept, and how many both tables hold.
+/// How many numbers are kept, and how many the table holds.
 #[derive(Clone, Copy)]
 pub(crate) struct Tally {
     pub(crate) kept: u32,
-    pub(crate) held: Held,
+    pub(crate) held: u32,
 }
 
 // Writes a table's numbers that are above the peer's, and 0 in place of the others. The same pass counts.
@@ -25,24 +18,19 @@ pub(crate) fn mask<N: Number>(numbers: &mut [N], cells: &[N], peer: &[N]) -> Tal
 {
     let size = N::at_a_time();
     let mut kept = 0;
-    let mut own = 0;
-    let mut others = 0;
+    let mut held = 0;
     let mut from = 0;
     while numbers.len() - from >= size {
         let part = mask_some(numbers, cells, peer, from, size);
         kept += part.kept;
-        own += part.held.own;
-        others += part.held.peer;
+        held += part.held;
         from += size;
     }
     let rest = numbers.len() - from;
     let part = mask_some(numbers, cells, peer, from, rest);
     Tally {
         kept: kept + part.kept,
-        held: Held {
-            own: own + part.held.own,
-            peer: others + part.held.peer,
-        },
+        held: held + part.held,
     }
 }
 
@@ -58,8 +46,7 @@ fn mask_some<N: Number>(
     ensures { ArePartMasked N.number cells.now peer.now numbers.old numbers.new from size result }
 {
     let mut kept = N::zero();
-    let mut own = N::zero();
-    let mut others = N::zero();
+    let mut held = N::zero();
     let none = N::zero();
     for i in 0..size {
         let r = from + i;
@@ -67,17 +54,12 @@ fn mask_some<N: Number>(
         let other = peer[r];
         let is_ahead = number.is_above(other);
         let is_held = number.is_above(none);
-        let has_other = other.is_above(none);
         numbers[r] = planes::pick(is_ahead, number, none);
         kept = kept.plus(is_ahead);
-        own = own.plus(is_held);
-        others = others.plus(has_other);
+        held = held.plus(is_held);
     }
     Tally {
         kept: kept.widen(),
-        held: Held {
-            own: own.widen(),
-            peer: others.widen(),
-        },
+        held: held.widen(),
     }
 }

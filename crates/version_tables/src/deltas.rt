@@ -1,37 +1,33 @@
 //! What one table sends another, as marks.
 
-ghost use Rattle.std.specs.Prelude.{◌≡◌};
-ghost use Rattle.version_tables.specs.inner.Common.{IfOk, IfSome, IsOkUnless, OutOfMemory, digest_kind, IsKept};
-ghost use Rattle.version_tables.specs.inner.Deltas.{AreDigestSizes, MaySend};
-ghost use Rattle.version_tables.specs.inner.Offered.{IsDelta, IsOffered, MaySendTold};
+ghost use Rattle.version_tables.specs.inner.Common.{IfOk, IsOkUnless, OutOfMemory, digest_kind, IsKept};
+ghost use Rattle.version_tables.specs.inner.Deltas.{MaySend};
+ghost use Rattle.version_tables.specs.inner.Offered.{AreMarksBy, IsDelta, IsOffered, MaySendTold};
 
+use crate::digests::digest_size;
 use crate::histories::Histories;
 use crate::tables::{VersionTable, Written};
 use bench_types::{DigestKind, Exchange, Fault, Rules};
-use delta_plans::{First, Marked, Offer, Owners, planned, told};
-use grids::{Held, Peer};
-use model::DeltaCounts;
+use delta_plans::{Marked, Offer, Owners, planned, told};
+use grids::Peer;
 use planes::{Grid, Number};
 use std::alloc::Global;
 
-/// Of each owner what is above the low mark and up to the high one is sent, where it is above the receiver's. How many
-/// entries the sender and the receiver hold is told where it was counted beside.
+/// What is sent of the numbers above the low marks, where they are above the receiver's: of each owner those up to its
+/// other mark, or from the newest on those above it. And the size of the sender's digest.
 #[derive(Drop)]
 pub(crate) struct DeltaMarks<N: Number> {
     pub(crate) low: Vec<N>,
-    pub(crate) high: Vec<N>,
-    pub(crate) counts: DeltaCounts,
-    pub(crate) held: Option<Held>,
+    pub(crate) marked: Marked<N>,
+    pub(crate) digest: u32,
 }
 
-// The numbers that are offered, the low marks, how many are above these, and how many entries both tables hold where
-// that was counted.
-#[derive(Drop)]
+// The numbers that are offered, the low marks, and how many are above these.
+#[derive(Clone, Copy)]
 struct Offered<'a, N: Number> {
     cells: &'a [N],
-    low: Vec<N>,
+    low: &'a [N],
     found: u32,
-    held: Option<Held>,
 }
 
 /// What an exchange goes by: where its memory comes from, all writes so far, the rules of the run and its own plan.
@@ -53,13 +49,12 @@ pub(crate) fn delta<N: Number, H: Written>(
         sender.now receiver.now }
     ensures delta { IfOk result (IsDelta N.number H.lists course.now.rules.now course.now.plan.now.rotation
         sender.now receiver.now) }
-    ensures held { IfOk result (λ d. IfSome d.held
-        (AreDigestSizes (digest_kind course.now.rules.now.mode) H.lists sender.now receiver.now)) }
     ensures kept { IfOk result (λ d. IsKept H.lists sender.now × IsKept H.lists receiver.now) }
     ensures only { IsOkUnless result OutOfMemory }
 {
     let histories = course.histories;
-    let kind = course.rules.mode.digest_kind();
+    let mode = course.rules.mode;
+    let kind = mode.digest_kind();
     let owners = Owners {
         lists: histories.lists(),
         bases: histories.bases(),
@@ -71,11 +66,16 @@ pub(crate) fn delta<N: Number, H: Written>(
         DigestKind::Scuttle => {
             let offered = Offered {
                 cells: grid.cells,
+                low: &low,
                 found: planes::total_above(grid, &low, sender.greatest()),
-                low,
-                held: None,
             };
-            marks_sent(sender, receiver, offered, course)
+            let marked = marks_sent(sender, receiver, offered, course)?;
+            let digest = digest_size(sender, mode);
+            Ok(DeltaMarks {
+                low,
+                marked,
+                digest,
+            })
         }
         DigestKind::Precise => {
             let peer = Peer {
@@ -86,11 +86,16 @@ pub(crate) fn delta<N: Number, H: Written>(
             let ahead = grids::ahead(course.alloc, grid, peer)?;
             let offered = Offered {
                 cells: &ahead.numbers,
-                low,
+                low: &low,
                 found: ahead.count,
-                held: Some(ahead.held),
             };
-            marks_sent(sender, receiver, offered, course)
+            let marked = marks_sent(sender, receiver, offered, course)?;
+            let digest = ahead.held;
+            Ok(DeltaMarks {
+                low,
+                marked,
+                digest,
+            })
         }
     }
 }
@@ -100,48 +105,27 @@ fn marks_sent<N: Number, H: Written>(
     receiver: &VersionTable<N, H>,
     offered: Offered<N>,
     course: &Course<N, H>,
-) -> Result<DeltaMarks<N>, Fault>
+) -> Result<Marked<N>, Fault>
     requires told { MaySendTold N.number N.most H.lists course.now.rules.now course.now.plan.now.rotation
-        course.now.histories.now sender.now receiver.now offered.low.items }
+        course.now.histories.now sender.now receiver.now offered.low.now }
     requires offered { IsOffered N.number (digest_kind course.now.rules.now.mode) sender.now receiver.now offered }
-    ensures delta { IfOk result (IsDelta N.number H.lists course.now.rules.now course.now.plan.now.rotation
-        sender.now receiver.now) }
-    ensures held { IfOk result (λ d. d.held ≡ offered.entry.held) }
+    ensures marks { IfOk result (AreMarksBy N.number H.lists course.now.rules.now course.now.plan.now.rotation
+        sender.now receiver.now offered.entry.low.now) }
     ensures only { IsOkUnless result OutOfMemory }
 {
     let histories = course.histories;
     let rules = course.rules;
-    let Offered {
-        cells,
-        low,
-        found,
-        held,
-    } = offered;
-    let high = sender.greatest();
+    let cells = offered.cells;
     let size = sender.grid().size;
     let offer = Offer {
         grid: Grid { cells, size },
-        low: &low,
-        high,
+        low: offered.low,
+        high: sender.greatest(),
         lists: histories.lists(),
         budget: rules.budget,
-        found,
+        found: offered.found,
     };
     let rotation = course.plan.rotation as usize;
     let marked = planned(course.alloc, &offer, rules.mode, rotation, histories.ends())?;
-    let Marked { mark, counts } = marked;
-    match First::of(rules.mode) {
-        First::Oldest => Ok(DeltaMarks {
-            low,
-            high: mark,
-            counts,
-            held,
-        }),
-        First::Newest => Ok(DeltaMarks {
-            low: mark,
-            high: Vec::from_slice(course.alloc, high)?,
-            counts,
-            held,
-        }),
-    }
+    Ok(marked)
 }

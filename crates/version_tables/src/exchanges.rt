@@ -7,11 +7,12 @@ ghost use Rattle.version_tables.specs.inner.Histories.{IsReadyExchange};
 ghost use Rattle.version_tables.specs.inner.Taken.{BothStay};
 
 use crate::deltas::{Course, delta};
-use crate::digests::{digest_size, digest_sizes};
+use crate::digests::digest_size;
 use crate::merging::{may_merge, merge};
 use crate::tables::{VersionTable, Written};
-use crate::taking::{Arrival, take_unless};
+use crate::taking::{take_unless, what_comes};
 use bench_types::{Fault, Record};
+use delta_plans::First;
 use model::{DeltaCounts, sent_back, sent_before_an_answer, sent_both};
 use planes::Number;
 
@@ -72,25 +73,27 @@ fn exchange_deltas<N: Number, H: Written>(
 {
     let plan = course.plan;
     let back = delta(responder, initiator, course)?;
-    let held = digest_sizes(responder, initiator, course.rules.mode, back.held);
+    let mode = course.rules.mode;
     if plan.lost2 {
-        return Ok(sent_back(held.peer, held.own, back.counts));
+        let digest1 = digest_size(initiator, mode);
+        return Ok(sent_back(digest1, back.digest, back.marked.counts));
     }
     let forth = delta(initiator, responder, course)?;
     let histories = course.histories;
+    let first = First::of(mode);
     let initiator_before = Vec::from_slice(course.alloc, initiator.greatest())?;
     let responder_before = Vec::from_slice(course.alloc, responder.greatest())?;
-    let came = Arrival {
-        marks: &back,
-        nothing: back.counts.sent == 0,
-    };
-    let went = Arrival {
-        marks: &forth,
-        nothing: plan.lost3 | (forth.counts.sent == 0),
-    };
+    let came = what_comes(&back, &responder_before, first, false);
+    let went = what_comes(&forth, &initiator_before, first, plan.lost3);
     let came_back = responder.cells();
     take_unless(initiator, came_back, came, &initiator_before, histories);
     let came_forth = initiator.cells();
     take_unless(responder, came_forth, went, &responder_before, histories);
-    Ok(sent_both(held.peer, held.own, back.counts, forth.counts, plan.lost3))
+    Ok(sent_both(
+        forth.digest,
+        back.digest,
+        back.marked.counts,
+        forth.marked.counts,
+        plan.lost3,
+    ))
 }

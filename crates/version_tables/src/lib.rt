@@ -16,8 +16,7 @@
 //!   generation, both tables take all in one pass over their cells (`may_merge`, `merge`): there is no delta, and no
 //!   memory is taken. On the scenarios of `scripts/benchmark` in a scuttle mode that is most exchanges.
 //! - The loop that keeps the numbers ahead of a precise digest, and puts 0 in place of the others, counts them too, and
-//!   what both tables hold. So neither the plan goes over all planes once more, nor a digest where the first message
-//!   comes.
+//!   what the sender holds. So neither the plan goes over all planes once more, nor the sender's own digest.
 #![tactic(auto)]
 
 mod carrying;

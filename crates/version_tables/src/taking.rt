@@ -2,12 +2,12 @@
 
 ghost use Rattle.std.specs.Prelude.{◌≡◌};
 ghost use Rattle.version_tables.specs.inner.Common.{map, all_writes, entries_of, number_kept, HasColumn, IsOwnerKept, ArePlanesChanged, IsNumberedHistory};
-ghost use Rattle.version_tables.specs.inner.Taken.{drop_start, drop_starts, HasArrived, MayArrive, MayDrop};
+ghost use Rattle.version_tables.specs.inner.Taken.{drop_start, drop_starts, HasArrived, IsArrivalOf, MayArrive, MayDrop};
 
 use crate::deltas::DeltaMarks;
 use crate::histories::Histories;
 use crate::tables::{VersionTable, Written};
-use delta_plans::Owners;
+use delta_plans::{First, Owners};
 use grids::Sent;
 use owner_writes::OwnerWrites;
 use planes::{Grid, Number, Size};
@@ -58,11 +58,38 @@ fn drop_older<N: Number>(
     }
 }
 
-/// What comes to a table: what a delta's marks let through, or nothing, as it has none or was lost.
+/// What comes to a table: of each owner what is above the low mark and up to the high one, or nothing.
 #[derive(Clone, Copy)]
 pub(crate) struct Arrival<'a, N: Number> {
-    pub(crate) marks: &'a DeltaMarks<N>,
-    pub(crate) nothing: bool,
+    low: &'a [N],
+    high: &'a [N],
+    nothing: bool,
+}
+
+/// What comes of a sender whose greatest numbers are given: what a delta's marks let through, or nothing, as it has
+/// none or was lost.
+pub(crate) fn what_comes<'a, N: Number>(
+    delta: &'a DeltaMarks<N>,
+    greatest: &'a [N],
+    first: First,
+    is_lost: bool,
+) -> Arrival<'a, N>
+    ensures { IsArrivalOf N.number delta.now (map N.number greatest.now) first is_lost result }
+{
+    let marked = &delta.marked;
+    let nothing = is_lost | (marked.counts.sent == 0);
+    match first {
+        First::Oldest => Arrival {
+            low: &delta.low,
+            high: &marked.mark,
+            nothing,
+        },
+        First::Newest => Arrival {
+            low: &marked.mark,
+            high: greatest,
+            nothing,
+        },
+    }
 }
 
 /// Takes what comes of a sender's numbers, and drops of each owner what is of older generations than its newest, unless
@@ -87,8 +114,8 @@ pub(crate) fn take_unless<N: Number, H: Written>(
     };
     let sent = Sent {
         grid: Grid { cells, size },
-        low: &arrival.marks.low,
-        high: &arrival.marks.high,
+        low: arrival.low,
+        high: arrival.high,
     };
     grids::take(&mut table.cells, &mut table.greatest, sent);
     let owners = Owners {

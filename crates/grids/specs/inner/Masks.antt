@@ -40,33 +40,24 @@ pub record MayMaskPart {N : Type 0} (most : ℕ) (numbers cells peer : List N) (
 pub record AreMasked {N : Type 0} (number : N → ℕ) (cells peer old new : List N) (tally : Tally) : Type 0 where
   pub numbers : AreMaskedUpto (map number cells) (map number peer) (map number old) (map number new)
       (length old) tally.kept
-  pub own_held : tally.held.own ≡ count_held number cells
-  pub peer_held : tally.held.peer ≡ count_held number peer
-
--- so many more are held from one on
-abbrev pub HoldsMore : List ℕ → ℕ → ℕ → ℕ → Type 0
-HoldsMore numbers from size more =
-    (before : ℕ) → before ≡ count_passing from (λ i. nat_lt 0 (slice_index numbers i))
-    → before + more ≡ count_passing (from + size) (λ i. nat_lt 0 (slice_index numbers i))
+  pub held : tally.held ≡ count_held number cells
 
 -- so many numbers from one on, of which those before it were masked
 pub record ArePartMasked {N : Type 0} (number : N → ℕ) (cells peer old new : List N) (from size : ℕ)
     (tally : Tally) : Type 0 where
   pub kept_upto : tally.kept ≤ size
-  pub own_upto : tally.held.own ≤ size
-  pub peer_upto : tally.held.peer ≤ size
+  pub held_upto : tally.held ≤ size
   pub numbers : (whole : List ℕ) (before : ℕ)
       → AreMaskedUpto (map number cells) (map number peer) whole (map number old) from before
       → AreMaskedUpto (map number cells) (map number peer) whole (map number new) (from + size) (before + tally.kept)
-  pub own_held : HoldsMore (map number cells) from size tally.held.own
-  pub peer_held : HoldsMore (map number peer) from size tally.held.peer
+  pub held : (before : ℕ) → before ≡ count_passing from (λ i. nat_lt 0 (slice_index (map number cells) i))
+      → before + tally.held ≡ count_passing (from + size) (λ i. nat_lt 0 (slice_index (map number cells) i))
 
--- numbers of a table that are above the peer's, so many, and 0 in place of the others; and how many numbers both have
+-- numbers of a table that are above the peer's, so many, and 0 in place of the others; and how many numbers it has
 pub record AreAbovePeer {N : Type 0} (number : N → ℕ) (grid : Grid N) (peer : List N) (above : Masked N) : Type 0 where
   pub numbers : HasEachPlace grid.size.nodes grid.size.keys (λ r k n. n
       ≡ number_kept (cell (map number peer) grid.size.nodes r k) (cells_in number grid r k))
       (map number above.numbers.items)
   pub count : above.count ≡ total_of grid.size.nodes grid.size.keys
       (λ r k. nat_lt (cell (map number peer) grid.size.nodes r k) (cells_in number grid r k))
-  pub own_held : above.held.own ≡ count_held number grid.cells.now
-  pub peer_held : above.held.peer ≡ count_held number peer
+  pub held : above.held ≡ count_held number grid.cells.now

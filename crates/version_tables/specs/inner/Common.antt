@@ -16,6 +16,7 @@ pub use Rattle.bench_types.specs.declared.exchanges.Rules.{Rules}
 pub use Rattle.bench_types.specs.declared.faults.Fault.{Fault}
 pub use Rattle.bench_types.specs.declared.faults.Fault.TheVariants.{OutOfMemory}
 pub use Rattle.bench_types.specs.declared.limits.TheConstants.{MOST_ROUNDS}
+pub use Rattle.delta_plans.specs.LevelMarks.{by_first, first_sent}
 pub use Rattle.delta_plans.specs.Offers.{AreSent, HasCells, Offers, is_lacked, offered_by, told_by, told_number}
 pub use Rattle.delta_plans.specs.declared.marked.First.{First}
 pub use Rattle.delta_plans.specs.declared.told_marks.Owners.{Owners}

@@ -1,7 +1,6 @@
 -- A delta as marks for each owner. Source: this project.
 use Rattle.std.specs.Prelude.{◌≡◌, ◌<◌}
-use Rattle.version_tables.specs.inner.Common.{ℕ, Bool, false, List, length, slice_index, Entry, Exchange, Rules, IsLawfulBudget, cell, DeltaView, DigestKind, delta_between, digest_size, HistoriesView, VersionTableView, table_in, IsKept, AreSent}
-use Rattle.grids.specs.declared.masks.Held.{Held}
+use Rattle.version_tables.specs.inner.Common.{ℕ, Bool, false, List, length, slice_index, Entry, Exchange, Rules, IsLawfulBudget, cell, DeltaView, delta_between, HistoriesView, VersionTableView, table_in, IsKept, AreSent}
 use Rattle.version_tables.specs.inner.Histories.{AreKnown, FitsHistories, IsReadyExchange}
 use Rattle.version_tables.specs.inner.Taken.{is_taken}
 
@@ -51,12 +50,6 @@ pub record AreMarksOf (rules : Rules) (rotation : ℕ) (written : ℕ → List E
       (is_taken_at from to low high)
   pub count : sent ≡ length (delta_of_views rules rotation written from to).items
   pub left : cut ≡ (delta_of_views rules rotation written from to).cut
-
--- the sizes of the digests of a sender and a receiver
-pub record AreDigestSizes (kind : DigestKind) (written : ℕ → List Entry) (from to : VersionTableView)
-    (held : Held) : Type 0 where
-  pub own : held.own ≡ digest_size kind (table_in written from)
-  pub peer : held.peer ≡ digest_size kind (table_in written to)
 
 -- an exchange of which the first message came
 pub record HasCome (written : ℕ → List Entry) (most : ℕ) (rules : Rules) (plan : Exchange) (h : HistoriesView)

@@ -1,6 +1,7 @@
 -- The cells of a table that has taken a delta. Source: this project.
-use Rattle.std.specs.Prelude.{◌≡◌, ◌&&◌, if◌then◌else◌}
-use Rattle.version_tables.specs.inner.Common.{ℕ, Bool, true, false, max, nat_lt, nat_le, List, length, map, slice_index, Entry, number_kept, numbers_taken, ArePlanesChanged, AreRaised, IsGrid, VersionTableView, IsKept, OwnerListView, all_writes, Owners, HistoriesView, start_of}
+use Rattle.std.specs.Prelude.{◌≡◌, ◌&&◌, ◌==◌, ◌||◌, if◌then◌else◌}
+use Rattle.version_tables.specs.inner.Common.{ℕ, Bool, true, false, max, nat_lt, nat_le, List, length, map, slice_index, Entry, number_kept, numbers_taken, ArePlanesChanged, AreRaised, IsGrid, VersionTableView, IsKept, OwnerListView, all_writes, Owners, First, by_first, HistoriesView, start_of}
+use Rattle.version_tables.specs.declared.deltas.DeltaMarks.{DeltaMarks}
 use Rattle.version_tables.specs.declared.taking.Arrival.{Arrival}
 use Rattle.version_tables.specs.inner.Histories.{bases_in, AreOwners}
 
@@ -48,23 +49,29 @@ abbrev pub HasTakenUnless :
 HasTakenUnless true lists to sent low high new = new ≡ to
 HasTakenUnless false lists to sent low high new = HasTaken lists to sent low high new
 
+-- this comes of a delta, by what goes first and a sender's greatest numbers, unless it has none or is lost
+pub record IsArrivalOf {N : Type 0} (number : N → ℕ) (delta : DeltaMarks N) (greatest : List ℕ) (first : First) (is_lost : Bool)
+    (arrival : Arrival N) : Type 0 where
+  pub low : map number arrival.low.now
+      ≡ by_first first (map number delta.low.items) (map number delta.marked.mark.items)
+  pub high : map number arrival.high.now ≡ by_first first (map number delta.marked.mark.items) greatest
+  pub nothing : arrival.nothing ≡ (is_lost || delta.marked.counts.sent == 0)
+
 -- a table may take what comes of a sender's numbers: these are as many as its own, there are marks for each node, which
 -- the histories have, and it stays one
 pub record MayArrive {N : Type 0} (number : N → ℕ) (written : ℕ → List Entry) (h : HistoriesView)
     (to : VersionTableView) (sent : List ℕ) (arrival : Arrival N) : Type 0 where
   pub nodes : to.nodes ≡ length h.lists
   pub cells : length sent ≡ length to.cells
-  pub low_count : length arrival.marks.now.low.items ≡ to.nodes
-  pub high_count : length arrival.marks.now.high.items ≡ to.nodes
-  pub stays : StaysOne written h.lists to sent
-      (map number arrival.marks.now.low.items) (map number arrival.marks.now.high.items)
+  pub low_count : length arrival.low.now ≡ to.nodes
+  pub high_count : length arrival.high.now ≡ to.nodes
+  pub stays : StaysOne written h.lists to sent (map number arrival.low.now) (map number arrival.high.now)
 
 -- and it has taken that
 abbrev pub HasArrived :
     {N : Type 0} → (N → ℕ) → HistoriesView → VersionTableView → List ℕ → Arrival N → VersionTableView → Type 0
 HasArrived number h to sent arrival new =
-    HasTakenUnless arrival.nothing h.lists to sent
-    (map number arrival.marks.now.low.items) (map number arrival.marks.now.high.items) new
+    HasTakenUnless arrival.nothing h.lists to sent (map number arrival.low.now) (map number arrival.high.now) new
 
 -- neither of two tables has changed
 abbrev pub BothStay : VersionTableView → VersionTableView → VersionTableView → VersionTableView → Type 0

@@ -18,6 +18,5 @@ returns-clause-above g c =
         each = all.0.each;
       });
       count = all.1;
-      own_held = masked.own_held;
-      peer_held = masked.peer_held;
+      held = masked.held;
     }

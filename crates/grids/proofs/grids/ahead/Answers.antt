@@ -15,4 +15,4 @@ returns-then-has_none_upto-clause-ahead g c =
     (cell (map number c.args.peer.cells.now) nodes) (map number low) (map number c.in_ok-above.above.numbers.items) c.in_ok-above.above.count
     (length-map low number ∙ c.requires.marks.count) (c.has_no_other_mark.ensures.0 c.if-has_no_other_mark.true) mark
     (rw c.deref.ensures.value at (c.has_none_upto.ensures.0 c.if-has_none_upto.true)) above.numbers above.count in
-    record { numbers = all.0; count = all.1; own_held = above.own_held; peer_held = above.peer_held }
+    record { numbers = all.0; count = all.1; held = above.held }

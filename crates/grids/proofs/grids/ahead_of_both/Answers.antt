@@ -21,6 +21,5 @@ returns-clause-ahead g c =
         each = all.0.each;
       });
       count = rw items (total-kept c.args.grid.size.nodes c.args.grid.size.keys peer (map number c.args.peer.low.now) _ _ call.result all.1 all.0);
-      own_held = c.count_held.ensures;
-      peer_held = c.count_held-2.ensures;
+      held = c.count_held-held.ensures;
     }

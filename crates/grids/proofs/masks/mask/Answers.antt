@@ -7,11 +7,9 @@ pub loop-numbers-init : goal.loop-numbers-init
 loop-numbers-init g c = record {
   within = omega arith;
   kept_upto = omega arith;
-  own_upto = omega arith;
-  peer_upto = omega arith;
+  held_upto = omega arith;
   numbers = counted_none _ (map g.N.Number.number c.args.numbers.now) _;
-  own_held = refl;
-  peer_held = refl;
+  held = refl;
 }
 
 pub loop-numbers-preserved : goal.loop-numbers-preserved
@@ -21,11 +19,9 @@ loop-numbers-preserved g c =
     record {
       within = omega (arith, before.within, c.loop-numbers-test.true, c.loop-numbers.auto.numbers);
       kept_upto = omega (arith, before.kept_upto, part.kept_upto);
-      own_upto = omega (arith, before.own_upto, part.own_upto);
-      peer_upto = omega (arith, before.peer_upto, part.peer_upto);
+      held_upto = omega (arith, before.held_upto, part.held_upto);
       numbers = part.numbers _ _ before.numbers;
-      own_held = part.own_held _ before.own_held;
-      peer_held = part.peer_held _ before.peer_held;
+      held = part.held _ before.held;
     }
 
 pub returns : goal.returns
@@ -35,6 +31,5 @@ returns g c =
     let whole = c.loop-numbers.auto.numbers in
     record {
       numbers = counted-same _ _ _ _ _ _ _ _ (part.numbers _ _ before.numbers) (omega (arith, before.within, whole)) refl;
-      own_held = count_same _ _ _ _ _ (part.own_held _ before.own_held) (omega (arith, before.within, c.requires.as_many.cells_count, whole)) refl;
-      peer_held = count_same _ _ _ _ _ (part.peer_held _ before.peer_held) (omega (arith, before.within, c.requires.as_many.peer_count, whole)) refl;
+      held = count_same _ _ _ _ _ (part.held _ before.held) (omega (arith, before.within, c.requires.as_many.cells_count, whole)) refl;
     }

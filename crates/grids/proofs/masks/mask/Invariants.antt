@@ -8,11 +8,9 @@ invariant-loop-numbers g l =
     record {
       within : l.from ≤ length l.initial.numbers;
       kept_upto : l.kept ≤ l.from;
-      own_upto : l.own ≤ l.from;
-      peer_upto : l.others ≤ l.from;
+      held_upto : l.held ≤ l.from;
       numbers : AreMaskedUpto cells peer (map g.N.Number.number l.initial.numbers) (map g.N.Number.number l.numbers) l.from l.kept;
-      own_held : l.own ≡ count_passing l.from (λ i. nat_lt 0 (slice_index cells i));
-      peer_held : l.others ≡ count_passing l.from (λ i. nat_lt 0 (slice_index peer i));
+      held : l.held ≡ count_passing l.from (λ i. nat_lt 0 (slice_index cells i));
     }
 
 abbrev pub decreases-loop-numbers : goal.decreases-loop-numbers

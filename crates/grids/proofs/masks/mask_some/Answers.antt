@@ -6,11 +6,9 @@ use Rattle.grids.proofs.masks.mask_some.Goals as goal
 pub loop-i-init : goal.loop-i-init
 loop-i-init g c = record {
   kept_upto = omega (arith, c.zero-kept.ensures);
-  own_upto = omega (arith, c.zero-own.ensures);
-  peer_upto = omega (arith, c.zero-others.ensures);
+  held_upto = omega (arith, c.zero-held.ensures);
   numbers = λ whole before is. counted-same _ whole _ _ _ _ _ _ is (omega arith) (omega (arith, c.zero-kept.ensures));
-  own_held = λ before is. count_same _ _ _ _ _ is (omega arith) (omega (arith, c.zero-own.ensures));
-  peer_held = λ before is. count_same _ _ _ _ _ is (omega arith) (omega (arith, c.zero-others.ensures));
+  held = λ before is. count_same _ _ _ _ _ is (omega arith) (omega (arith, c.zero-held.ensures));
 }
 
 pub loop-i-preserved : goal.loop-i-preserved
@@ -23,17 +21,14 @@ loop-i-preserved g c =
     let other = number-at number c.args.peer.now at c.index-peer-r.result (omega (arith, within, c.requires.as_many.peer_count)) c.index-peer-r.is in
     let ahead = c.is_above-is_ahead.ensures ∙ (λ i. nat_lt (other i) (cell i)) in
     let held = c.is_above-is_held.ensures ∙ (λ i. nat_lt (c.zero-none.ensures i) (cell i)) in
-    let has = c.is_above-has_other.ensures ∙ (λ i. nat_lt (c.zero-none.ensures i) (other i)) in
     record {
       kept_upto = omega (arith, c.plus-kept.ensures, before.kept_upto, one_le c.is_above-is_ahead.result);
-      own_upto = omega (arith, c.plus-own.ensures, before.own_upto, one_le c.is_above-is_held.result);
-      peer_upto = omega (arith, c.plus-others.ensures, before.peer_upto, one_le c.is_above-has_other.result);
+      held_upto = omega (arith, c.plus-held.ensures, before.held_upto, one_le c.is_above-is_held.result);
       numbers = λ whole count is.
           counted_next _ whole _ number c.loop-i.numbers at _ count _ _ _ c.pick.result (before.numbers whole count is)
           (omega (arith, within, c.loop-i.auto.numbers)) (omega arith)
           (c.pick.ensures ∙ (λ i. if ahead i then cell i else c.zero-none.ensures i)) c.plus-kept.ensures (λ i. if ahead i then 1 else 0);
-      own_held = λ count is. count_next _ at _ count _ _ (before.own_held count is) (omega arith) c.plus-own.ensures (λ i. if held i then 1 else 0);
-      peer_held = λ count is. count_next _ at _ count _ _ (before.peer_held count is) (omega arith) c.plus-others.ensures (λ i. if has i then 1 else 0);
+      held = λ count is. count_next _ at _ count _ _ (before.held count is) (omega arith) c.plus-held.ensures (λ i. if held i then 1 else 0);
     }
 
 pub returns : goal.returns
@@ -42,10 +37,8 @@ returns g c =
     let end = c.loop-i.auto.i-end in
     record {
       kept_upto = omega (arith, c.widen.ensures, all.kept_upto, end);
-      own_upto = omega (arith, c.widen-2.ensures, all.own_upto, end);
-      peer_upto = omega (arith, c.widen-3.ensures, all.peer_upto, end);
+      held_upto = omega (arith, c.widen-2.ensures, all.held_upto, end);
       numbers = λ whole before is.
           counted-same _ whole _ _ _ _ _ _ (all.numbers whole before is) (omega (arith, c.loop-i-test.false, end)) (omega (arith, c.widen.ensures));
-      own_held = λ before is. count_same _ _ _ _ _ (all.own_held before is) (omega (arith, c.loop-i-test.false, end)) (omega (arith, c.widen-2.ensures));
-      peer_held = λ before is. count_same _ _ _ _ _ (all.peer_held before is) (omega (arith, c.loop-i-test.false, end)) (omega (arith, c.widen-3.ensures));
+      held = λ before is. count_same _ _ _ _ _ (all.held before is) (omega (arith, c.loop-i-test.false, end)) (omega (arith, c.widen-2.ensures));
     }

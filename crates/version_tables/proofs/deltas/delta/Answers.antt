@@ -1,7 +1,4 @@
-use Rattle.version_tables.proofs.Common.{◌<◌, inl, inr, sym, ◌∙◌, subst, arith, digest_size, table_in}
-use Rattle.version_tables.specs.inner.Common.{IfSome, digest_kind}
-use Rattle.version_tables.specs.inner.Deltas.{AreDigestSizes}
-use Rattle.planes.proofs.Common.{IfOk-weaker}
+use Rattle.version_tables.proofs.Common.{◌<◌, inl, inr, sym, ◌∙◌, arith, digest_size, table_in}
 use Rattle.version_tables.proofs.DigestSizes.{cells-size}
 use Rattle.version_tables.proofs.Fitting.{so-far-upto}
 use Rattle.version_tables.proofs.deltas.delta.Goals as goal
@@ -38,31 +35,25 @@ pub marks_sent-requires-clause-told : goal.marks_sent-requires-clause-told
 marks_sent-requires-clause-told g c = record {
   may = c.requires;
   kept = c.greatest.ensures.kept;
-  told = rw (c.lists.ensures.value, c.greatest.ensures.value, c.node-own.ensures.value, c.digest_kind-kind.ensures) at c.in_ok-low.ensures.told;
+  told =
+      rw c.deref.ensures.value
+      (rw (c.lists.ensures.value, c.greatest.ensures.value, c.node-own.ensures.value, c.digest_kind-kind.ensures) at c.in_ok-low.ensures.told);
 }
 
 pub marks_sent-requires-in-Precise-clause-told : goal.marks_sent-requires-in-Precise-clause-told
 marks_sent-requires-in-Precise-clause-told g c = record {
   may = c.requires;
   kept = c.greatest.ensures.kept;
-  told = rw (c.lists.ensures.value, c.greatest.ensures.value, c.node-own.ensures.value, c.digest_kind-kind.ensures) at c.in_ok-low.ensures.told;
+  told =
+      rw c.deref-in-Precise-3.ensures.value
+      (rw (c.lists.ensures.value, c.greatest.ensures.value, c.node-own.ensures.value, c.digest_kind-kind.ensures) at c.in_ok-low.ensures.told);
 }
 
-pub returns-in_ok-ahead-in-Precise-clause-held : goal.returns-in_ok-ahead-in-Precise-clause-held
-returns-in_ok-ahead-in-Precise-clause-held g c =
-    let number = g.N.Number.number in
-    let written = g.H.Written.lists in
-    let ahead = c.in_ok-ahead-in-Precise.ensures.ahead in
-    let kind = sym c.in-Precise.is ∙ c.digest_kind-kind.ensures in
-    let sizes : AreDigestSizes (digest_kind c.args.course.now.rules.now.mode) written c.args.sender.now c.args.receiver.now c.in_ok-ahead-in-Precise.ahead.held = record {
-      own = ahead.own_held
-          ∙ cells-size written c.args.sender.now c.grid-grid.ensures.kept number c.grid-grid.result.cells.now c.grid-grid.ensures.cells
-          ∙ (λ i. digest_size (kind i) (table_in written c.args.sender.now));
-      peer = ahead.peer_held
-          ∙ cells-size written c.args.receiver.now c.cells.ensures.kept number c.cells.result.now c.cells.ensures.value
-          ∙ (λ i. digest_size (kind i) (table_in written c.args.receiver.now));
-    } in
-    IfOk-weaker c.marks_sent-in-Precise.result _
-    (λ d. IfSome d.held (AreDigestSizes (digest_kind c.args.course.now.rules.now.mode) written c.args.sender.now c.args.receiver.now))
-    (λ d is. subst (λ held. IfSome held (AreDigestSizes (digest_kind c.args.course.now.rules.now.mode) written c.args.sender.now c.args.receiver.now))
-    (sym is) sizes) c.marks_sent-in-Precise.ensures.held
+pub returns-in_ok-marked-in-Precise-clause-delta : goal.returns-in_ok-marked-in-Precise-clause-delta
+returns-in_ok-marked-in-Precise-clause-delta g c = record {
+  marks = rw (← c.deref-in-Precise-3.ensures.value) c.in_ok-marked-in-Precise.ensures.marks;
+  digest =
+      c.in_ok-ahead-in-Precise.ensures.ahead.held
+      ∙ cells-size g.H.Written.lists c.args.sender.now c.grid-grid.ensures.kept g.N.Number.number c.grid-grid.result.cells.now c.grid-grid.ensures.cells
+      ∙ (λ i. digest_size ((sym c.in-Precise.is ∙ c.digest_kind-kind.ensures) i) (table_in g.H.Written.lists c.args.sender.now));
+}

@@ -10,7 +10,7 @@ module _ (g : _) (c : goal.After-table-3-1 g) where
   nodes = ap (λ (v : VersionTableView). v.nodes) c.table.view_is ∙ c.requires.may.nodes
 
   taken : HasTaken c.args.histories.now.lists old (map g.N.Number.number c.args.cells.now)
-      (map g.N.Number.number c.args.arrival.marks.now.low.items) (map g.N.Number.number c.args.arrival.marks.now.high.items) (record old {
+      (map g.N.Number.number c.args.arrival.low.now) (map g.N.Number.number c.args.arrival.high.now) (record old {
         cells = map g.N.Number.number (with_items (with_items c.table.inside.cells c.take.new.cells) c.drop_older.new.cells).items;
         greatest = map g.N.Number.number (with_items c.table.inside.greatest c.take.new.greatest).items;
       })
@@ -20,11 +20,9 @@ module _ (g : _) (c : goal.After-table-3-1 g) where
       let greatest = with_items_is inside.greatest c.take.new.greatest (c.take.auto.greatest ∙ c.deref_mut-2.ensures.len) in
       let cells = with_items_is inside.cells c.take.new.cells (c.take.auto.cells ∙ c.deref_mut.ensures.len) in
       let kept = with_items_is (with_items inside.cells c.take.new.cells) c.drop_older.new.cells (c.drop_older.auto.cells ∙ c.deref_mut-3.ensures.len) in
-      let came = rw (c.deref.ensures.value, c.deref-2.ensures.value, c.deref_mut.ensures.value) at c.take.ensures.cells in
-      let raises =
-      rw (c.deref.ensures.value, c.deref-2.ensures.value, c.deref_mut.ensures.value, c.deref_mut-2.ensures.value, ← greatest)
-      at c.take.ensures.greatest in
-      let dropped = rw (c.deref-3.ensures.value, c.deref_mut-3.ensures.value, c.lists.ensures.value, cells, ← kept) at c.drop_older.ensures in
+      let came = rw c.deref_mut.ensures.value at c.take.ensures.cells in
+      let raises = rw (c.deref_mut.ensures.value, c.deref_mut-2.ensures.value, ← greatest) at c.take.ensures.greatest in
+      let dropped = rw (c.deref.ensures.value, c.deref_mut-3.ensures.value, c.lists.ensures.value, cells, ← kept) at c.drop_older.ensures in
       let before = c.requires.before ∙ sym (ap (λ (v : VersionTableView). v.greatest) c.table.view_is) in
       record {
         raised = raises;
@@ -42,7 +40,7 @@ module _ (g : _) (c : goal.After-table-3-1 g) where
 pub invariant_of-table : goal.invariant_of-table
 invariant_of-table g c =
     subst (λ v. StaysOne g.H.Written.lists c.args.histories.now.lists v (map g.N.Number.number c.args.cells.now)
-    (map g.N.Number.number c.args.arrival.marks.now.low.items) (map g.N.Number.number c.args.arrival.marks.now.high.items))
+    (map g.N.Number.number c.args.arrival.low.now) (map g.N.Number.number c.args.arrival.high.now))
     (sym c.table.view_is) c.requires.may.stays _ (taken g c)
 
 pub returns : goal.returns

@@ -74,7 +74,7 @@ pub(crate) fn what_comes<'a, N: Number>(
     first: First,
     is_lost: bool,
 ) -> Arrival<'a, N>
-    ensures { IsArrivalOf N.number delta.now greatest.now first is_lost result }
+    ensures { IsArrivalOf N.number delta.now (map N.number greatest.now) first is_lost result }
 {
     let marked = &delta.marked;
     let nothing = is_lost | (marked.counts.sent == 0);

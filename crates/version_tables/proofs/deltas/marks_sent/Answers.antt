@@ -1,7 +1,6 @@
-use Rattle.version_tables.proofs.Common.{◌≡◌, refl, sym, ◌∙◌, map, length-map, digest_kind, AreLaidBoth, AreMarksOf, First, Oldest, Newest, by_first, first_sent}
+use Rattle.version_tables.proofs.Common.{refl, ◌∙◌, map, length-map, digest_kind, AreLaidBoth}
 use Rattle.version_tables.proofs.Delivered.{IsOfferOf, offer-is, delta-marks, told-low}
 use Rattle.version_tables.proofs.deltas.marks_sent.Goals as goal
-use Rattle.version_tables.proofs.deltas.marks_sent.Goals.{After-of}
 
 module _ (g : _) (c : goal.After-ends g) where
   two : AreLaidBoth g.H.Written.lists g.N.Number.most c.args.course.now.histories.now c.args.sender.now c.args.receiver.now
@@ -34,10 +33,11 @@ module _ (g : _) (c : goal.After-ends g) where
 pub planned-requires-clause-offer : goal.planned-requires-clause-offer
 planned-requires-clause-offer g c = offer-is g.N.Number.number (two g c) c.args.course.now.rules.now _ (of-both g c)
 
-pub returns-in_ok-marked-clause-marks : goal.returns-in_ok-marked-clause-marks
-returns-in_ok-marked-clause-marks g c =
+pub returns-clause-marks : goal.returns-clause-marks
+returns-clause-marks g c =
     let marked = c.in_ok-marked.marked in
-    rw (← c.greatest.ensures.value)
-    (delta-marks g.N.Number.number (two g c.before) c.args.course.now.rules.now _ (of-both g c.before) c.args.course.now.plan.now.rotation
+    let ends = c.before.before.before in
+    rw c.greatest.ensures.value
+    at (delta-marks g.N.Number.number (two g ends) c.args.course.now.rules.now _ (of-both g ends) c.args.course.now.plan.now.rotation
     c.requires.told.may.rotation (map g.N.Number.number marked.mark.items) marked.counts.sent marked.counts.cut c.in_ok-marked.ensures.marked
     (length-map marked.mark.items g.N.Number.number ∙ c.in_ok-marked.ensures.size ∙ c.grid.ensures.nodes))

@@ -1,4 +1,4 @@
-use Rattle.version_tables.proofs.Common.{◌≡◌, ℕ, ◌*◌, Bool, true, false, List, length, refl, ap, sym, ◌∙◌, length-map, Exchanged, OwnerListView, Record, VersionTableView, table_in, delta_of_views, HasTakenUnless}
+use Rattle.version_tables.proofs.Common.{◌≡◌, ℕ, ◌*◌, Bool, true, false, List, length, ap, sym, ◌∙◌, length-map, Exchanged, OwnerListView, Record, VersionTableView, table_in, delta_of_views, HasTakenUnless}
 use Rattle.version_tables.proofs.ExchangedViews.{stays_back, stays_forth, exchange_whole}
 use Rattle.version_tables.proofs.Fitting.{ready}
 use Rattle.version_tables.proofs.exchanges.exchange_deltas.Goals as goal

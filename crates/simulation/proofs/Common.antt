@@ -1,6 +1,6 @@
 -- The names of other libraries that these proofs cite, passed on from one place. Declares nothing.
 -- Serves most of the crate.
-pub use Rattle.std.proofs.Common.{All, IfOk, List, Option, Some, [], add-one, ap, append_assoc, arith, false, get_or, if◌then◌else◌, inl, inr, length, length-append, map, refl, rules, set, subst, suc, sym, take, true, zero, ℕ, ◌++◌, ◌+◌, ◌-◌, ◌<◌, ◌^◌, ◌∙◌, ◌∷◌, ◌≡◌, ◌≢◌, ◌≤◌}
+pub use Rattle.std.proofs.Common.{All, IfOk, List, Option, Some, [], add-one, ap, append_assoc, arith, false, get_or, if◌then◌else◌, inl, inr, length, length-append, map, refl, rules, set, subst, suc, sym, take, true, zero, ℕ, ◌*◌, ◌++◌, ◌+◌, ◌-◌, ◌<◌, ◌^◌, ◌∙◌, ◌∷◌, ◌≡◌, ◌≢◌, ◌≤◌}
 pub use Rattle.std.proofs.Math.ListN.{get_or-append}
 pub use Rattle.std.proofs.Math.Seq.{take-length}
 pub use Rattle.std.proofs.lemmas.Bool.{both_ways, cases_eq, cases_lt}
@@ -8,9 +8,10 @@ pub use Rattle.std.proofs.lemmas.List.{append-nil, ext_get_or, get_or-append_rig
 pub use Rattle.std.proofs.lemmas.List.Elements.{All-append, All-nil, All-push, All-weaker}
 pub use Rattle.std.proofs.lemmas.List.FromFn.{get_or-map-range_with_len, length-map-range_with_len, map-range_with_len_more}
 pub use Rattle.std.proofs.lemmas.List.Sums.{fold-append}
-pub use Rattle.std.proofs.lemmas.Result.{on_ok_weaker}
+pub use Rattle.std.proofs.lemmas.Result.{IfOk-at_ok, IfOk-weaker, on_ok_weaker}
 pub use Rattle.std.specs.List.{range_with_len}
-pub use Rattle.std.specs.Prelude.{Contains, IfSome, is_none}
+pub use Rattle.std.specs.Prelude.{Contains, IfSome, Vec, is_none}
+pub use Rattle.std.specs.declared.alloc.Global.{Global}
 pub use Rattle.bench_types.specs.calls.Budget.{IsLawfulBudget}
 pub use Rattle.bench_types.specs.declared.exchanges.Budget.TheVariants.{Bytes, Entries}
 pub use Rattle.bench_types.specs.declared.rows.Figures.{Figures}

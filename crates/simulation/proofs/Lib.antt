@@ -1,6 +1,7 @@
 pub mod Written
 pub mod Writing
 pub mod Begun
+pub mod Opening
 pub mod Standing
 pub mod Soundness
 pub mod Stepping

@@ -1,10 +1,11 @@
 //! All nodes' tables and the histories of their owners, and how a round changes them.
 
-ghost use Rattle.std.specs.Prelude.{◌≡◌, ◌+◌, ◌-◌, map, IfOk, IfErr, OnOk, IsOkUnless};
+ghost use Rattle.std.specs.Prelude.{◌≡◌, ◌+◌, ◌-◌, ◌≤◌, map, IfOk, IfErr, OnOk, IsOkUnless};
 ghost use Rattle.bench_types.specs.declared.faults.Fault.TheVariants.{OutOfMemory};
 ghost use Rattle.scenario.specs.Settings.{IsLawfulScenario};
 ghost use Rattle.model.specs.calls.OwnerListView.{written};
 ghost use Rattle.model.specs.Runs.{IsFaultOfWorkers};
+ghost use Rattle.model.specs.Tables.{AreProper};
 ghost use Rattle.round_plan.specs.calls.Words.{run_words_of};
 ghost use Rattle.simulation.specs.Rounds.{opening_tables, after_restart, rules_of};
 ghost use Rattle.round_tables.specs.Histories.{AreNewHistories};
@@ -14,6 +15,7 @@ ghost use Rattle.simulation.specs.inner.Plans.{IsDrawnAfter, MayDraw};
 ghost use Rattle.simulation.specs.inner.Steps.{HaveEnded, IsRoundOf, LeavesOthers, MayWriteOwn};
 
 use crate::carriers::{Carriers, Orders, count_figures};
+use crate::openings::{empty_tables, empty_tables_by, histories_of, tables_of_a_thread};
 use crate::plans::{Drawn, Plan, next_plan};
 use crate::rounds::Round;
 use bench_types::{Fault, Rules};
@@ -39,11 +41,46 @@ impl<T: MemoryTable + Send + Sync, K: RoundHistories<T>> Cluster<T, K> {
         ensures opens { IfOk result (IsAfterRound T.table K.kept scenario.now 0) }
         ensures only { IsOkUnless result OutOfMemory }
     {
-        let histories = K::new(alloc, scenario.nodes(), scenario.keys())?;
+        let histories = histories_of(alloc, scenario)?;
+        let tables = empty_tables(alloc, &histories, 0..scenario.nodes())?;
+        Cluster::opened(alloc, scenario, tables, histories)
+    }
+
+    /// The same, with tables that so many workers make.
+    pub(crate) fn new_by(
+        rt: &(impl Threads + Sync),
+        alloc: Global,
+        scenario: &Scenario,
+        workers: u32,
+    ) -> Result<Cluster<T, K>, Fault>
+        requires { 1 ≤ workers }
+        ensures opens { IfOk result (IsAfterRound T.table K.kept scenario.now 0) }
+        ensures only { IsOkUnless result OutOfMemory }
+    {
+        let histories = histories_of(alloc, scenario)?;
+        let nodes = 0..scenario.nodes();
+        let size = tables_of_a_thread(scenario, workers);
+        let tables = empty_tables_by(rt, alloc, &histories, nodes, size)?;
+        Cluster::opened(alloc, scenario, tables, histories)
+    }
+
+    fn opened(
+        alloc: Global,
+        scenario: &Scenario,
+        tables: Vec<T>,
+        histories: K,
+    ) -> Result<Cluster<T, K>, Fault>
+        requires begun { AreNewHistories scenario.now.nodes scenario.now.keys (K.kept histories) }
+        requires tables { map T.table tables.items ≡ opening_tables scenario.now }
+        requires proper { AreProper (opening_tables scenario.now) }
+        ensures opens { IfOk result (IsAfterRound T.table K.kept scenario.now 0) }
+        ensures only { IsOkUnless result OutOfMemory }
+    {
+        let drawn = Drawn::Words(RunWords::new(alloc, scenario)?);
         Ok(Cluster {
-            tables: empty_tables(alloc, scenario, &histories)?,
+            tables,
             histories,
-            drawn: Drawn::Words(RunWords::new(alloc, scenario)?),
+            drawn,
         })
     }
 
@@ -124,23 +161,6 @@ fn rules_of(scenario: &Scenario) -> Rules
         mode: scenario.mode(),
         budget: scenario.budget(),
     }
-}
-
-fn empty_tables<T: MemoryTable, K: RoundHistories<T>>(
-    alloc: Global,
-    scenario: &Scenario,
-    histories: &K,
-) -> Result<Vec<T>, Fault>
-    requires begun { AreNewHistories scenario.now.nodes scenario.now.keys (K.kept histories.now) }
-    ensures tables { IfOk result (λ v. map T.table v.items ≡ opening_tables scenario.now) }
-    ensures only { IsOkUnless result OutOfMemory }
-{
-    let nodes = scenario.nodes();
-    let mut tables = Vec::with_capacity(alloc, nodes as usize)?;
-    for node in 0..nodes {
-        tables.push(histories.empty_table(alloc, node)?)?;
-    }
-    Ok(tables)
 }
 
 // A round that begins, and the words of its nodes.

@@ -17,6 +17,7 @@
 mod carriers;
 mod clusters;
 mod laws;
+mod openings;
 mod plans;
 mod processors;
 mod rounds;

@@ -1,10 +1,11 @@
 //! A simulation, round by round.
 
-ghost use Rattle.std.specs.Prelude.{◌≡◌, ◌≤◌, true, false, [], map, IfOk, IfErr, OnOk};
+ghost use Rattle.std.specs.Prelude.{◌≡◌, ◌≤◌, true, false, [], map, IfOk, IfErr, OnOk, IsOkUnless};
 ghost use Rattle.bench_types.specs.declared.faults.Fault.TheVariants.{OutOfMemory};
 ghost use Rattle.scenario.specs.Settings.{IsLawfulScenario};
 ghost use Rattle.model.specs.Runs.{AreWorkers};
 ghost use Rattle.simulation.specs.Rounds.{opening_tables};
+ghost use Rattle.simulation.specs.inner.Insides.{IsAfterRound};
 ghost use Rattle.simulation.specs.calls.Simulation.{AreTablesAfter, MayWriteAll, PlaysNext, MayStep, IsRefusedBy, IsStepFault};
 
 use crate::carriers::Carriers;
@@ -70,7 +71,43 @@ impl<T: MemoryTable + Send + Sync, K: RoundHistories<T>> Sim<T, K> {
         ensures empty { IfOk result (λ sim. map T.table sim.tables ≡ opening_tables scenario) }
         ensures hands_back { IfErr result (λ e. (e.0 ≡ OutOfMemory) × (e.1 ≡ scenario)) }
     {
-        match Cluster::new(alloc, &scenario) {
+        let cluster = Cluster::new(alloc, &scenario);
+        Sim::opened(alloc, scenario, cluster)
+    }
+
+    /// The same, by so many workers: where there are several, and much to make, each is a thread that makes some of the
+    /// tables, if it can be started.
+    pub fn of_by<H: Threads + Sync>(
+        rt: &H,
+        alloc: Global,
+        workers: u32,
+        scenario: Scenario,
+    ) -> Result<Sim<T, K>, (Fault, Scenario)>
+        requires workers { AreWorkers workers }
+        requires may_write { MayWriteAll K.may_write scenario }
+        ensures opens { IfOk result
+            (λ sim. (sim.settings ≡ scenario) × (sim.rounds_done ≡ 0) × (sim.broken ≡ false)) }
+        ensures empty { IfOk result (λ sim. map T.table sim.tables ≡ opening_tables scenario) }
+        ensures hands_back { IfErr result (λ e. (e.0 ≡ OutOfMemory) × (e.1 ≡ scenario)) }
+    {
+        let cluster = Cluster::new_by(rt, alloc, &scenario, workers);
+        Sim::opened(alloc, scenario, cluster)
+    }
+
+    fn opened(
+        alloc: Global,
+        scenario: Scenario,
+        cluster: Result<Cluster<T, K>, Fault>,
+    ) -> Result<Sim<T, K>, (Fault, Scenario)>
+        requires may_write { MayWriteAll K.may_write scenario }
+        requires opens { IfOk cluster (IsAfterRound T.table K.kept scenario 0) }
+        requires only { IsOkUnless cluster OutOfMemory }
+        ensures opens { IfOk result
+            (λ sim. (sim.settings ≡ scenario) × (sim.rounds_done ≡ 0) × (sim.broken ≡ false)) }
+        ensures empty { IfOk result (λ sim. map T.table sim.tables ≡ opening_tables scenario) }
+        ensures hands_back { IfErr result (λ e. (e.0 ≡ OutOfMemory) × (e.1 ≡ scenario)) }
+    {
+        match cluster {
             Ok(cluster) => Ok(Sim {
                 alloc,
                 scenario,

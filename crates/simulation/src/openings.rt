@@ -1,0 +1,90 @@
+//! What a simulation begins with: histories in which nothing is written, and empty tables.
+
+ghost use Rattle.std.specs.Prelude.{◌≡◌, ◌<◌, ◌≤◌, length, map, IfOk, IsOkUnless};
+ghost use Rattle.bench_types.specs.declared.faults.Fault.TheVariants.{OutOfMemory};
+ghost use Rattle.model.specs.Tables.{AreProper};
+ghost use Rattle.simulation.specs.Rounds.{opening_tables};
+ghost use Rattle.round_tables.specs.Histories.{AreNewHistories};
+ghost use Rattle.simulation.specs.inner.InMemory.{AreMadeEmpty, IsStretchOfNodes};
+
+use bench_types::Fault;
+use model::MemoryTable;
+use round_tables::RoundHistories;
+use scenario::Scenario;
+use std::alloc::Global;
+use std::ops::Range;
+use std::thread::{Threads, join};
+
+/// The histories of a scenario's owners.
+pub(crate) fn histories_of<T: MemoryTable, K: RoundHistories<T>>(
+    alloc: Global,
+    scenario: &Scenario,
+) -> Result<K, Fault>
+    ensures begun { IfOk result (λ h. AreNewHistories scenario.now.nodes scenario.now.keys (K.kept h)) }
+    ensures proper { AreProper (opening_tables scenario.now) }
+    ensures only { IsOkUnless result OutOfMemory }
+{
+    K::new(alloc, scenario.nodes(), scenario.keys())
+}
+
+/// The empty tables of some nodes.
+pub(crate) fn empty_tables<T: MemoryTable, K: RoundHistories<T>>(
+    alloc: Global,
+    histories: &K,
+    nodes: Range<u32>,
+) -> Result<Vec<T>, Fault>
+    requires { IsStretchOfNodes (K.kept histories.now) nodes.start nodes.end }
+    ensures { AreMadeEmpty T.table (K.kept histories.now) nodes.start nodes.end result }
+{
+    let Range { start, end } = nodes;
+    let mut tables = Vec::with_capacity(alloc, (end - start) as usize)?;
+    for node in start..end {
+        tables.push(histories.empty_table(alloc, node)?)?;
+    }
+    Ok(tables)
+}
+
+/// The same tables, so many made in each thread. This thread starts all others.
+#[cycle(rest)]
+pub(crate) fn empty_tables_by<T: MemoryTable + Send, K: RoundHistories<T>>(
+    rt: &(impl Threads + Sync),
+    alloc: Global,
+    histories: &K,
+    nodes: Range<u32>,
+    size: u32,
+) -> Result<Vec<T>, Fault>
+    requires nodes { IsStretchOfNodes (K.kept histories.now) nodes.start nodes.end }
+    requires size { 1 ≤ size }
+    ensures { AreMadeEmpty T.table (K.kept histories.now) nodes.start nodes.end result }
+{
+    let Range { start, end } = nodes;
+    if end - start <= size {
+        return empty_tables(alloc, histories, start..end);
+    }
+    let middle = start + size;
+    let first = || -> Result<Vec<T>, Fault>
+        requires { IsStretchOfNodes (K.kept histories.now) start middle }
+        ensures { AreMadeEmpty T.table (K.kept histories.entry.now) start middle result }
+    { empty_tables(alloc, histories, start..middle) };
+    let others = || -> Result<Vec<T>, Fault>
+        requires { IsStretchOfNodes (K.kept histories.now) middle end × (1 ≤ size) }
+        ensures { AreMadeEmpty T.table (K.kept histories.entry.now) middle end result }
+    { empty_tables_by(rt, alloc, histories, middle..end, size) };
+    let (first, others) = join(rt, first, others);
+    let mut tables = first?;
+    tables.append(&mut others?)?;
+    Ok(tables)
+}
+
+// So many numbers are worth a thread that makes them: most of the time goes to the system, which clears their memory.
+const NUMBERS_OF_A_THREAD: u32 = 2_097_152;
+
+/// How many tables each of so many workers makes, if all have enough to make, or else more. It bears on time alone.
+pub(crate) fn tables_of_a_thread(scenario: &Scenario, workers: u32) -> u32
+    requires { 1 ≤ workers }
+    ensures { 1 ≤ result }
+{
+    let nodes = scenario.nodes();
+    let enough = NUMBERS_OF_A_THREAD / nodes / scenario.keys();
+    (nodes / workers).max(enough) + 1
+}

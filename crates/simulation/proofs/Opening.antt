@@ -16,12 +16,7 @@ joined_ranges a (suc n) m =
     ∙ ap (range_with_len a) count
 
 module _ (h : HistoriesView) where
-  -- none, one more, and those of two stretches
-  pub no_table : (from : ℕ) → empty_tables_in h from from ≡ []
-  no_table from =
-      let none : from - from ≡ 0 = omega arith in
-      ap (λ n. map (λ k. empty_table k (length h.lists) h.keys) (range_with_len from n)) none
-
+  -- one more, and those of two stretches
   pub one_more : (from node : ℕ) → from ≤ node
       → empty_tables_in h from (node + 1) ≡ empty_tables_in h from node ++ empty_table node (length h.lists) h.keys ∷ []
   one_more from node le =

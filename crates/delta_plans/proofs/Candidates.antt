@@ -62,12 +62,6 @@ module _ (t : Table) (proper : IsProper t) where
       (place.owner_below, place.key_below))
       ∙ sum_below-same t.nodes _ _ (λ owner lt. sum_below-same t.keys _ _ (λ key lt'. at_place f owner key))
 
--- a sum over the candidates from one table to another
-candidates_sum : (mode : Mode) (from to : Table) → IsProper from → (f : Item → ℕ)
-    → sum_by f (candidates mode from to) ≡ sum_over (λ i. cond (is_lacked mode to i) (f i) 0) from
-candidates_sum mode from to proper f =
-    sum_by-filter (is_lacked mode to) f (items_of from) ∙ items_sum from proper (λ i. cond (is_lacked mode to i) (f i) 0)
-
 -- what a proper table offers another one, told by numbers of its owners' writes
 pub record IsOffered (mode : Mode) (from to : Table) (lists : ℕ → List Entry) (cells : Cells) (low : ℕ → ℕ) : Type 0 where
   pub proper : IsProper from
@@ -133,7 +127,8 @@ module _ {mode : Mode} {from to : Table} {lists : ℕ → List Entry} {cells : C
   -- what a candidate's place tells of it sums up over the places of numbers above the marks
   pub offered-sum : (f : Item → ℕ) (g : ℕ → ℕ → ℕ) → ((c : Item) → Contains cs c → f c ≡ g c.owner c.entry.key) → sum_by f cs ≡ offered_sum from cells low g
   offered-sum f g told =
-      candidates_sum mode from to given.proper f
+      sum_by-filter (is_lacked mode to) f (items_of from)
+      ∙ items_sum from given.proper (λ i. cond (is_lacked mode to i) (f i) 0)
       ∙ sum_below-same from.nodes _ _ (λ owner in_nodes. sum_below-same from.keys _ _ (λ key in_keys. elim (cases_lt (low owner) (cells owner key)) [
         | inl above ↦
             let there = candidate-at owner key in_nodes in_keys above in

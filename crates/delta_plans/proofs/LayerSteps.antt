@@ -1,9 +1,8 @@
 -- Layers of an offer, gone over as long as they fit.
 -- Serves `breadth` and `one_more`.
 use Rattle.delta_plans.proofs.Common.{◌≡◌, ℕ, ◌+◌, ◌-◌, ◌*◌, ◌<◌, ◌≤◌, cond, leb, ltb, List, length, get_or, map, inl, inr, Some, Vec, Global, sym, ap, ◌∙◌, arith, nat_tests, cases_lt, le-leb, lt-leb, lt-ltb, le-ltb, length-map, amount_of, Cells, count_between, HasEach, IsNextAbove, IsLeastAbove, AreChanged, sum_below, sum_below-same, NumbersDiffer, Oldest, Offer, Level, Step, cells_in, low_in, marks, weights_in, weight_in, count_in, IsLeftOf, IsOffer, IsNextLayer, IsNextMark, AreLevelMarks, rank_above}
-use Rattle.delta_plans.proofs.WeightLaws.{part, parts_of, sum_below-each_none, weight_of-all, weight_of-none, weight_of-split}
+use Rattle.delta_plans.proofs.WeightLaws.{part, parts_of, sum_below-each_none, weight_of-all, weight_of-none, weight_of-one, weight_of-split}
 use Rattle.delta_plans.proofs.LevelSteps.{IsLevelSoFar, level-first, level-left, level-next, step-is}
-use Rattle.delta_plans.proofs.StopSteps.{weight_of-one}
 
 -- a mark that lets through an owner's first so many numbers above another, or all where there are no more
 pub record IsLayerMark (cells : Cells) (keys owner low layers mark : ℕ) : Type 0 where
@@ -99,10 +98,6 @@ pub record HasLayers {N : Type 0} (number : N → ℕ) (offer : Offer N) (level 
 module _ {N : Type 0} {number : N → ℕ} {most : ℕ} {offer : Offer N} (is : IsOffer number most offer) where
   open parts_of number offer use {cells, low, high}
 
-  none-marks : AreLayerMarks number offer 0 low
-  none-marks owner lt =
-      let none = weight_of-none (λ _. 1) cells offer.grid.size.keys owner (low owner) (low owner) (omega arith) in omega (arith, none)
-
   one-more : {layers : ℕ} {near far : ℕ → ℕ} → AreLayerMarks number offer layers near
       → ((owner : ℕ) → owner < offer.grid.size.nodes → IsNextMark cells offer.grid.size.keys owner (near owner) (far owner))
       → AreLayerMarks number offer (layers + 1) far
@@ -113,7 +108,8 @@ module _ {N : Type 0} {number : N → ℕ} {most : ℕ} {offer : Offer N} (is : 
   pub layers-first : {near : Vec N Global} {step : Step N} → near.items ≡ offer.low.now → IsNextLayer number offer (marks number near.items) step
       → HasLayers number offer (record { near = near; far = step.marks; whole = 0; left = amount_of offer.budget }) step.more
   layers-first {near} start layer =
-      let near_is : AreLayerMarks number offer 0 (marks number near.items) = rw start none-marks in
+      let near_is : AreLayerMarks number offer 0 (marks number near.items) = rw start (λ owner lt.
+      let none = weight_of-none (λ _. 1) cells offer.grid.size.keys owner (low owner) (low owner) (omega arith) in omega (arith, none)) in
       record { so_far = level-first is start layer; layers = 0; near_is = near_is; far_is = one-more near_is layer.next }
 
   module _ {level : Level N} {more : ℕ} (has : HasLayers number offer level more) where

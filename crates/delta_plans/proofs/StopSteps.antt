@@ -1,13 +1,7 @@
 -- Where an owner's part of a level stops.
--- Serves `Turns::share_into`, `Turns::stop_of`, `LayerSteps` and `TurnSteps`.
-use Rattle.delta_plans.proofs.Common.{◌≡◌, ℕ, zero, suc, ◌+◌, ◌-◌, ◌<◌, ◌≤◌, min, max, inl, inr, ◌∙◌, arith, nat_tests, Cells, First, Oldest, Newest, by_first, AreFarther, NumbersDiffer, IsOn, IsStopBetween, StopsBefore, weight_of, weight_from}
-use Rattle.delta_plans.proofs.WeightLaws.{count_between-most, part-cases, sum_below-one, weight_of-none, weight_of-split}
-
--- a single number of an owner lies between two marks
-pub weight_of-one : (weight : ℕ → ℕ) (cells : Cells) (keys owner low high key : ℕ) → key < keys → low < cells owner key → cells owner key ≤ high
-    → ((k : ℕ) → k < keys → low < cells owner k → cells owner k ≤ high → k ≡ key) → weight_of weight cells keys owner low high ≡ weight (cells owner key)
-weight_of-one weight cells keys owner low high key in_keys above upto one =
-    sum_below-one keys key _ in_keys (λ k lt other. let same = one k lt in grind (arith, nat_tests)) ∙ grind (arith, nat_tests)
+-- Serves `Turns::share_into`, `Turns::stop_of` and `TurnSteps`.
+use Rattle.delta_plans.proofs.Common.{◌≡◌, ℕ, zero, suc, ◌+◌, ◌-◌, ◌<◌, ◌≤◌, min, max, inl, inr, arith, nat_tests, Cells, First, Oldest, Newest, by_first, AreFarther, NumbersDiffer, IsOn, IsStopBetween, StopsBefore, weight_of, weight_from}
+use Rattle.delta_plans.proofs.WeightLaws.{count_between-most, part-cases, weight_of-none, weight_of-one, weight_of-split}
 
 -- a key's number is above one mark and up to another
 record HasBetween (cells : Cells) (keys owner low high : ℕ) : Type 0 where

@@ -56,6 +56,12 @@ part-cases weight low high number = grind (arith, nat_tests)
 pub weight_of-none : (weight : ℕ → ℕ) (cells : Cells) (keys owner low high : ℕ) → high ≤ low → weight_of weight cells keys owner low high ≡ 0
 weight_of-none weight cells keys owner low high le = sum_below-none keys _ (λ key lt. grind (arith, nat_tests))
 
+-- a single number of an owner lies between two marks
+pub weight_of-one : (weight : ℕ → ℕ) (cells : Cells) (keys owner low high key : ℕ) → key < keys → low < cells owner key → cells owner key ≤ high
+    → ((k : ℕ) → k < keys → low < cells owner k → cells owner k ≤ high → k ≡ key) → weight_of weight cells keys owner low high ≡ weight (cells owner key)
+weight_of-one weight cells keys owner low high key in_keys above upto one =
+    sum_below-one keys key _ in_keys (λ k lt other. let same = one k lt in grind (arith, nat_tests)) ∙ grind (arith, nat_tests)
+
 -- the weights up to a mark and from it on
 pub weight_of-split : (weight : ℕ → ℕ) (cells : Cells) (keys owner low mark high : ℕ) → low ≤ mark → mark ≤ high
     → weight_of weight cells keys owner low high ≡ weight_of weight cells keys owner low mark + weight_of weight cells keys owner mark high

@@ -1,6 +1,6 @@
 -- A level shared out by the owners' turns, from the rotation on. Source: this project.
 use Rattle.std.specs.Prelude.{◌≡◌, ◌⊎◌, ℕ, ◌+◌, ◌-◌, ◌<◌, ◌≤◌, nat_lt, List, length, map, if◌then◌else◌, ◌≢◌, true, false}
-use Rattle.delta_plans.specs.Common.{amount_of, sum_below, Entries, HasEach, Cells, rotated, Reached, Turns, First, Offer}
+use Rattle.delta_plans.specs.Common.{amount_of, sum_below, HasEach, Cells, rotated, Reached, Turns, First, Offer}
 use Rattle.delta_plans.specs.OfferInMemory.{cells_in, marks, weights_in, IsOffer, low_in}
 use Rattle.delta_plans.specs.Plans.{weight_on, count_on, IsLevel}
 use Rattle.delta_plans.specs.Weights.{weight_from}
@@ -94,7 +94,7 @@ pub record HaveParts {N : Type 0} (number : N → ℕ) (most : ℕ) (turns : Tur
   pub known : AreKnownFor number most turns counts
   pub within : owner + size ≤ turns.offer.now.grid.size.nodes
 
--- marks that share it out
+-- marks that share its level out
 pub record AreSharedBy {N : Type 0} (number : N → ℕ) (turns : Turns N) (mark : List N) (sent : ℕ) : Type 0 where
   pub size : length mark ≡ turns.offer.now.grid.size.nodes
   pub shared : AreShared turns.first turns.rotation number turns.offer.now (marks number turns.level.now.near.items)

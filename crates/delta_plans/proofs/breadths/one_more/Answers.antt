@@ -1,4 +1,4 @@
-use Rattle.delta_plans.proofs.Common.{nat_lt, length, refl, ap, ◌∙◌, arith, if◌then◌else◌, length-map, with_items_is, number-at, marks}
+use Rattle.delta_plans.proofs.Common.{length, refl, ap, ◌∙◌, arith, if◌then◌else◌, length-map, with_items_is, number-at, marks}
 use Rattle.delta_plans.proofs.LayerSteps.{next-layer}
 use Rattle.delta_plans.proofs.LevelSteps.{count_fits, counted_next, counted_all}
 use Rattle.delta_plans.proofs.breadths.one_more.Goals as goal
@@ -8,6 +8,11 @@ overflow_add-more g c =
     let size = length-map c.in_ok-marks.marks.items g.N.Number.number in
     count_fits _ _ c.loop-r.invariant.count c.one_if-more.ensures c.loop-r-test.true
     (omega (arith, ap length c.deref_mut-all.ensures.value, size, c.in_ok-marks.ensures.least.size, c.requires.is_offer.grid.few_nodes))
+
+pub bounds-near-r : goal.bounds-near-r
+bounds-near-r g c =
+    let size = length-map c.in_ok-marks.marks.items g.N.Number.number in
+    omega (arith, ap length c.deref_mut-all.ensures.value, size, c.in_ok-marks.ensures.least.size, c.requires.each_low)
 
 pub loop-r-preserved : goal.loop-r-preserved
 loop-r-preserved g c =
@@ -19,7 +24,7 @@ loop-r-preserved g c =
     let size = length-map c.in_ok-marks.marks.items number in
     let mark = number-at number c.args.near.now r c.index-near-r.result
     (omega (arith, c.loop-r-test.true, long, size, c.in_ok-marks.ensures.least.size, c.requires.each_low)) c.index-near-r.is in
-    let found = c.is_above-found.ensures ∙ (λ i. nat_lt (least i) (c.greatest.ensures i)) in
+    let found = rw (c.greatest.ensures, least) at c.is_above-found.ensures in
     counted_next number c.deref_mut-all.result.now c.loop-r.all c.loop-r.invariant c.pick.result c.loop-r-test.true
     (c.pick.ensures ∙ (λ i. if found i then least i else mark i))
     (c.one_if-more.ensures ∙ (λ i. if found i then 1 else 0))

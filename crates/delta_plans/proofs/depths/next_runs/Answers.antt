@@ -8,6 +8,11 @@ overflow_add-owners g c =
     let size = ap length c.deref_mut-all.ensures.value ∙ ap length c.in_ok-marks.ensures.items ∙ c.requires.each_near in
     count_fits _ _ c.loop-r.invariant.count c.one_if-owners.ensures c.loop-r-test.true (omega (arith, size, c.requires.is_offer.grid.few_nodes))
 
+pub bounds-counts-r : goal.bounds-counts-r
+bounds-counts-r g c =
+    let size = ap length c.deref_mut-all.ensures.value ∙ ap length c.in_ok-marks.ensures.items ∙ c.requires.each_near in
+    omega (arith, size, c.requires.counts_are.size, length-map c.args.counts.now g.N.Number.number)
+
 pub loop-r-preserved : goal.loop-r-preserved
 loop-r-preserved g c =
     let number = g.N.Number.number in

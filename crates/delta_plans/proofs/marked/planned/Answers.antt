@@ -14,6 +14,10 @@ returns-then-fits-clause-marked g c =
     let same = c.in_ok-mark.ensures.items ∙ c.by_first.ensures ∙ ap (λ first. by_first first offer.high.now offer.low.now) c.of-first.ensures in
     whole-marked g.N.Number.number g.N.Number.most offer c.requires.offer c.args.rotation fits c.args.mode c.in_ok-mark.mark.items same
 
+pub share-requires : goal.share-requires
+share-requires g c =
+    record { turns = record { offer = c.requires.offer; rotation = c.requires.rotation; level = rw c.of-first.ensures c.in_ok-level.ensures.0.is_level } }
+
 pub overflow_sub-counts : goal.overflow_sub-counts
 overflow_sub-counts g c =
     sent-found g.N.Number.number g.N.Number.most c.args.offer.now c.requires.offer c.args.rotation c.args.mode c.in_ok-level.ensures.0

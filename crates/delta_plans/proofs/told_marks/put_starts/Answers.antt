@@ -45,13 +45,7 @@ pub returns : goal.returns
 returns g c = changed_all _ _ _ c.loop-r.r c.loop-r.invariant (omega (arith, c.loop-r-test.false, length-map c.args.numbers.now g.N.Number.number))
 
 pub none_upto-requires : goal.none_upto-requires
-none_upto-requires g c =
-    let size = length-map c.args.numbers.now g.N.Number.number in
-    let base_size = length-map c.args.owners.bases.now g.N.Number.number in
-    record { high = omega (arith, size, base_size, c.requires.count, c.requires.base_count); room = omega (arith, size, c.requires.count, c.requires.few_nodes) }
+none_upto-requires g c = omega (arith, length-map c.args.numbers.now g.N.Number.number, length-map c.args.owners.bases.now g.N.Number.number)
 
 pub lower-requires : goal.lower-requires
-lower-requires g c =
-    let size = length-map c.args.numbers.now g.N.Number.number in
-    let base_size = length-map c.args.owners.bases.now g.N.Number.number in
-    omega (arith, size, base_size, c.requires.count, c.requires.base_count)
+lower-requires g c = omega (arith, length-map c.args.numbers.now g.N.Number.number, length-map c.args.owners.bases.now g.N.Number.number)

@@ -1,9 +1,12 @@
 use Rattle.delta_plans.proofs.Common.{◌+◌, ◌-◌, ◌<◌, subst, arith, AreFewAndEnough}
-use Rattle.delta_plans.proofs.RoundMarks.{begun, further, nearer}
+use Rattle.delta_plans.proofs.RoundMarks.{begun, further, nearer, rounds-raised}
 use Rattle.delta_plans.proofs.rounds.Rounds.few_rounds.Goals as goal
 
 pub loop-few-init : goal.loop-few-init
 loop-few-init g c = record { found = begun c.args.self.now c.requires c.amount.ensures; step = omega arith }
+
+pub look-requires : goal.look-requires
+look-requires g c = rw c.deref.ensures.value (rounds-raised c.args.self.now c.requires _ c.in_ok-mark.mark.items c.in_ok-mark.ensures.0)
 
 pub loop-few-preserved : goal.loop-few-preserved
 loop-few-preserved g c =

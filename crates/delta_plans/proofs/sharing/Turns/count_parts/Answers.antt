@@ -9,6 +9,9 @@ counted : {N : Type 0} (number : N → ℕ) (cells : Cells) (keys size start : �
 counted number cells keys size start Oldest near far xs has = has
 counted number cells keys size start Newest near far xs has = has
 
+pub slice_bounds-some-end : goal.slice_bounds-some-end
+slice_bounds-some-end g c = omega (arith, length-map c.args.counts.now g.N.Number.number, c.requires.known.size, c.requires.within)
+
 pub returns : goal.returns
 returns g c =
     let number = g.N.Number.number in

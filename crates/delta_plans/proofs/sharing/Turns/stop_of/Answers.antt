@@ -1,18 +1,16 @@
-use Rattle.delta_plans.proofs.Common.{◌≡◌, ap, ◌∙◌, arith, marks}
+use Rattle.delta_plans.proofs.Common.{◌≡◌, arith, marks}
 use Rattle.delta_plans.proofs.StopSteps.{stop-first, stop-halved}
 use Rattle.delta_plans.proofs.sharing.Turns.stop_of.Goals as goal
 
 pub loop-middle-init : goal.loop-middle-init
 loop-middle-init g c =
-    let number = g.N.Number.number in
-    let read_near : c.widen-fits.result ≡ number c.number_at.result = omega (arith, c.widen-fits.ensures, c.min_with.ensures, c.greatest-most.ensures) in
-    let read_far : c.widen-beyond.result ≡ number c.number_at-2.result = omega (arith, c.widen-beyond.ensures, c.min_with-2.ensures, c.greatest-most.ensures) in
-    let near = read_near ∙ c.number_at.ensures ∙ ap (λ xs. marks number xs c.args.owner) c.deref.ensures.value in
-    let far = read_far ∙ c.number_at-2.ensures ∙ ap (λ xs. marks number xs c.args.owner) c.deref-2.ensures.value in
+    let level = c.args.self.now.level.now in
+    let near : c.widen-fits.result ≡ marks g.N.Number.number level.near.items c.args.owner = omega (arith, rw c.deref.ensures.value at c.number_at.ensures) in
+    let far : c.widen-beyond.result ≡ marks g.N.Number.number level.far.items c.args.owner = omega (arith, rw c.deref-2.ensures.value at c.number_at-2.ensures) in
     record {
       so_far = rw (near, far) (stop-first (c.requires.turns.level.farther c.args.owner c.requires.owner).2 c.requires.beyond);
-      fits = omega (arith, read_near, c.min_with.ensures.fits);
-      beyond = omega (arith, read_far, c.min_with-2.ensures.fits);
+      fits = omega (arith, c.widen-fits.ensures, c.min_with.ensures, c.greatest-most.ensures);
+      beyond = omega (arith, c.widen-beyond.ensures, c.min_with-2.ensures, c.greatest-most.ensures);
     }
 
 pub loop-middle-preserved-then-weight-left : goal.loop-middle-preserved-then-weight-left

@@ -1,5 +1,5 @@
 -- How far the rounds of a scenario have been carried out and written.
--- Serves `write_all`, `write_each`, `write_rounds`, `Comparison` and `Reporting`.
+-- Serves the functions of `rounds` and `sizes`, `Comparison` and `Reporting`.
 use Rattle.runs.proofs.Common.{◌≡◌, ℕ, ◌+◌, ◌<◌, ◌≤◌, Result, Ok, Err, inl, inr, refl, sym, ap, ◌∙◌, subst, arith, add-one, false, IsErrAnd, Fault, Table, IsFaultOfWorkers, Settings, RoundView, SimView, PlaysNext, IsStepFault, played_of}
 use Rattle.runs.specs.Runs.{IsFaultInRounds}
 use Rattle.runs.specs.inner.Rounds.{AreWrittenInTurn, IsFaultInTurn, AnswersRounds}

@@ -8,8 +8,8 @@ ghost use Rattle.model.specs.Runs.{AreWorkers};
 
 use crate::outputs::ModeRows;
 use crate::resources::Resources;
-use crate::rounds::write_rounds;
 use crate::runs::check_input;
+use crate::sizes::write_rounds;
 use bench_types::{Fault, Mode, Sink, Source};
 use report::compare_header;
 use scenario::Scenario;

@@ -21,11 +21,11 @@
 
 mod comparing;
 mod inputs;
-mod openings;
 mod outputs;
 mod resources;
 mod rounds;
 mod runs;
+mod sizes;
 
 pub use comparing::compare;
 pub use inputs::read_all;

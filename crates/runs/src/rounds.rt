@@ -1,21 +1,19 @@
 //! All rounds of a scenario, each carried out and then written.
 
-ghost use Rattle.std.specs.Prelude.{◌≡◌, ◌<◌, ◌≤◌};
-ghost use Rattle.model.specs.Runs.{AreWorkers};
-ghost use Rattle.runs.specs.inner.Writes.{AreWrittenIn};
-ghost use Rattle.runs.specs.inner.Starts.{IsAtStart};
-ghost use Rattle.runs.specs.inner.Rounds.{AnswersRounds, workers_worth};
+ghost use Rattle.std.specs.Prelude.{◌≡◌};
+ghost use Rattle.simulation.specs.calls.Simulation.{MayWriteAll};
+ghost use Rattle.runs.specs.inner.Starts.{AnswersBegun, IsAtStart, IsBegun};
+ghost use Rattle.runs.specs.inner.Rounds.{AnswersRounds};
 
-use crate::openings::{Opened, begin};
 use crate::resources::Resources;
 use bench_types::Fault;
 use model::MemoryTable;
 use round_tables::RoundHistories;
 use scenario::Scenario;
 use simulation::{Round, Sim};
+use std::alloc::Global;
 use std::sync::Wait;
 use std::thread::Threads;
-use version_tables::Written;
 use workers::{FreeGate, Posts};
 
 /// What the rounds of a scenario are written to, one after another.
@@ -35,43 +33,33 @@ pub(crate) trait RoundWriter {
         ensures fault { IfErr result (stops self.old self.new round.now) };
 }
 
-// So few numbers in all tables are gone over by one thread: to hand out their exchanges takes longer than it saves.
-const FEW_NUMBERS: u64 = 524_288;
-
-// How many of the workers that are asked for are worth their threads.
-fn workers_worth(scenario: &Scenario, asked: u32) -> u32
-    requires asked { AreWorkers asked }
-    ensures worth { result ≡ workers_worth scenario.now FEW_NUMBERS asked }
-    ensures lawful { AreWorkers result }
-    ensures within { result ≤ asked }
-{
-    let nodes = u64::from(scenario.nodes());
-    if nodes * nodes * u64::from(scenario.keys()) < FEW_NUMBERS {
-        1
-    } else {
-        asked
-    }
-}
-
-/// Carries out each round of a scenario, and writes it. The scenario comes back.
-pub(crate) fn write_rounds<L: Written + Send + Sync, H: Threads + Wait + Sync, O: RoundWriter>(
-    resources: &Resources<H>,
-    scenario: Scenario,
-    output: &mut O,
-) -> Result<Scenario, Fault>
-    requires { AreWrittenIn L.lists scenario }
+/// Carries out each round of a scenario over tables and histories of one kind, and writes it. The scenario comes back.
+pub(crate) fn write_over<
+    T: MemoryTable + Send + Sync,
+    K: RoundHistories<T> + Send,
+    H: Threads + Wait + Sync,
+    O: RoundWriter,
+>(resources: &Resources<H>, scenario: Scenario, output: &mut O) -> Result<Scenario, Fault>
+    requires may_write { MayWriteAll K.may_write scenario }
     ensures { AnswersRounds O.wrote O.stops scenario output.old output.new resources.now.workers result }
 {
-    let Resources { rt, alloc, workers } = *resources;
-    let resources = &Resources {
-        rt,
-        alloc,
-        workers: workers_worth(&scenario, workers),
-    };
-    match begin::<L>(alloc, scenario)? {
-        Opened::Byte(sim) => write_each(resources, sim, output),
-        Opened::Narrow(sim) => write_each(resources, sim, output),
-        Opened::Wide(sim) => write_each(resources, sim, output),
+    // (there is a first round, for which memory may be lacking)
+    let _rounds = scenario.rounds();
+    let sim: Sim<T, K> = open(resources.alloc, scenario)?;
+    write_each(resources, sim, output)
+}
+
+// A simulation before its first round.
+fn open<T: MemoryTable + Send + Sync, K: RoundHistories<T>>(
+    alloc: Global,
+    scenario: Scenario,
+) -> Result<Sim<T, K>, Fault>
+    requires may_write { MayWriteAll K.may_write scenario }
+    ensures { AnswersBegun (IsBegun scenario) result }
+{
+    match Sim::of(alloc, scenario) {
+        Ok(sim) => Ok(sim),
+        Err((fault, _)) => Err(fault),
     }
 }
 

@@ -8,7 +8,7 @@ ghost use Rattle.model.specs.Runs.{AreWorkers};
 use crate::inputs::read_all;
 use crate::outputs::ReportAndTrace;
 use crate::resources::Resources;
-use crate::rounds::write_rounds;
+use crate::sizes::write_rounds;
 use bench_types::{Fault, Sink, Source};
 use report::{report_header, trace_header};
 use scenario::{Scenario, read};

@@ -2,8 +2,6 @@
 use Rattle.std.specs.Prelude.{◌≡◌, false, Result, IfOk, IsOkUnless}
 use Rattle.bench_types.specs.declared.faults.Fault.{Fault}
 use Rattle.bench_types.specs.declared.faults.Fault.TheVariants.{OutOfMemory}
-use Rattle.runs.specs.declared.openings.Opened.{Opened}
-use Rattle.runs.specs.declared.openings.Opened.TheVariants.{Byte, Narrow, Wide}
 use Rattle.scenario.specs.Settings.{Settings}
 use Rattle.simulation.specs.calls.Simulation.{SimView}
 
@@ -14,11 +12,6 @@ IsAtStart sim = (sim.broken ≡ false) × (sim.rounds_done ≡ 0)
 -- a simulation of these settings, before its first round
 abbrev pub IsBegun : {T : Type 0} → Settings → SimView T → Type 0
 IsBegun s sim = IsAtStart sim × (sim.settings ≡ s)
-
-abbrev pub IsOpened : {L : Type 0} → Settings → Opened L → Type 0
-IsOpened s (Byte sim) = IsBegun s sim
-IsOpened s (Narrow sim) = IsBegun s sim
-IsOpened s (Wide sim) = IsBegun s sim
 
 -- what is begun so, or lack of memory
 pub record AnswersBegun {A : Type 0} (Begun : A → Type 0) (answer : Result A Fault) : Type 0 where

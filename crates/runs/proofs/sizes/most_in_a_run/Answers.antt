@@ -1,6 +1,6 @@
 use Rattle.runs.proofs.Common.{suc, ◌+◌, ap, ◌∙◌, arith, writes_in}
 use Rattle.runs.specs.inner.Writes.{writes_if_up}
-use Rattle.runs.proofs.openings.most_in_a_run.Goals as goal
+use Rattle.runs.proofs.sizes.most_in_a_run.Goals as goal
 
 pub loop-done-preserved : goal.loop-done-preserved
 loop-done-preserved c = record {

@@ -11,7 +11,6 @@ use model::MemoryTable;
 use round_tables::RoundHistories;
 use scenario::Scenario;
 use simulation::{Round, Sim};
-use std::alloc::Global;
 use std::sync::Wait;
 use std::thread::Threads;
 use workers::{FreeGate, Posts};
@@ -45,19 +44,20 @@ pub(crate) fn write_over<
 {
     // (there is a first round, for which memory may be lacking)
     let _rounds = scenario.rounds();
-    let sim: Sim<T, K> = open(resources.alloc, scenario)?;
+    let sim: Sim<T, K> = open(resources, scenario)?;
     write_each(resources, sim, output)
 }
 
 // A simulation before its first round.
-fn open<T: MemoryTable + Send + Sync, K: RoundHistories<T>>(
-    alloc: Global,
+fn open<T: MemoryTable + Send + Sync, K: RoundHistories<T>, H: Threads + Sync>(
+    resources: &Resources<H>,
     scenario: Scenario,
 ) -> Result<Sim<T, K>, Fault>
     requires may_write { MayWriteAll K.may_write scenario }
     ensures { AnswersBegun (IsBegun scenario) result }
 {
-    match Sim::of(alloc, scenario) {
+    let Resources { rt, alloc, workers } = *resources;
+    match Sim::of_by(rt, alloc, workers, scenario) {
         Ok(sim) => Ok(sim),
         Err((fault, _)) => Err(fault),
     }

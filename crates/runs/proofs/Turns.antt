@@ -2,7 +2,7 @@
 -- Serves the functions of `rounds` and `sizes`, `Comparison` and `Reporting`.
 use Rattle.runs.proofs.Common.{◌≡◌, ℕ, ◌+◌, ◌<◌, ◌≤◌, Result, Ok, Err, inl, inr, refl, sym, ap, ◌∙◌, subst, arith, add-one, false, IsErrAnd, Fault, Table, IsFaultOfWorkers, Settings, RoundView, SimView, PlaysNext, IsStepFault, played_of}
 use Rattle.runs.specs.Runs.{IsFaultInRounds}
-use Rattle.runs.specs.inner.Rounds.{AreWrittenInTurn, IsFaultInTurn, AnswersRounds}
+use Rattle.runs.specs.inner.Rounds.{AreWrittenInTurn, IsFaultInTurn, AnswersRounds, StopsNext, WritesNext}
 
 -- where a round is left and none has failed, the fault of a step is that of its workers
 step_fault : {T : Type 0} (workers : ℕ) (sim sim' : SimView T) (fault : Fault) → sim.broken ≡ false → sim.rounds_done < sim.settings.rounds
@@ -54,41 +54,44 @@ module _ {O : Type 0} (Wrote : O → O → RoundView → Type 0) (Stops : O → 
     pub done : sim.rounds_done ≡ rounds
     pub written : AreWrittenInTurn Wrote s old now rounds
 
-  module _ {T : Type 0} (table : T → Table) (now new : O) (sim sim' : SimView T) (rounds : ℕ) (so_far : HaveRun now sim rounds) (round : RoundView)
-      (played : PlaysNext table sim sim' round) where
-    settings_are : sim'.settings ≡ s
-    settings_are = played.settings ∙ so_far.settings
+  module _ {T : Type 0} (table : T → Table) (now new : O) (sim sim' : SimView T) (rounds : ℕ) (so_far : HaveRun now sim rounds) where
+    module _ (round : RoundView) (played : PlaysNext table sim sim' round) where
+      settings_are : sim'.settings ≡ s
+      settings_are = played.settings ∙ so_far.settings
 
-    done_now : sim'.rounds_done ≡ rounds + 1
-    done_now = played.done ∙ ap (λ n. n + 1) so_far.done
+      done_now : sim'.rounds_done ≡ rounds + 1
+      done_now = played.done ∙ ap (λ n. n + 1) so_far.done
 
-    round_is : round ≡ played_of s (rounds + 1)
-    round_is = played.played ∙ (λ i. played_of (settings_are i) (done_now i))
+      round_is : round ≡ played_of s (rounds + 1)
+      round_is = played.played ∙ (λ i. played_of (settings_are i) (done_now i))
 
     -- the next one was carried out and written
-    pub one_more : Wrote now new round → HaveRun new sim' (rounds + 1)
-    one_more wrote = record {
-      settings = settings_are;
-      unbroken = played.still;
-      done = done_now;
-      written = rw add-one (now, so_far.written, subst (Wrote now new) (round_is ∙ ap (played_of s) (add-one rounds)) wrote);
+    pub one_more : WritesNext table Wrote sim sim' now new → HaveRun new sim' (rounds + 1)
+    one_more next = record {
+      settings = settings_are next.round next.played;
+      unbroken = next.played.still;
+      done = done_now next.round next.played;
+      written = rw add-one
+          (now, so_far.written, subst (Wrote now new) (round_is next.round next.played ∙ ap (played_of s) (add-one rounds)) next.wrote);
     }
 
-    -- or writing it came to a fault
-    pub stops_writing : (workers : ℕ) (fault : Fault) → rounds < s.rounds → Stops now new round fault → IsFaultInTurn Wrote Stops s old new workers fault
-    stops_writing workers fault more stop = record {
+    -- or it wasn't, where there is one
+    pub stops_next : (workers : ℕ) (fault : Fault) → rounds < s.rounds → StopsNext table Stops sim sim' now new workers fault
+        → IsFaultInTurn Wrote Stops s old new workers fault
+    stops_next workers fault more stop = record {
       rounds = rounds;
       within = more;
-      stops = inr (now, so_far.written, subst (λ r. Stops now new r fault) round_is stop);
+      stops = elim stop [
+        | inl lost ↦
+            let left : sim.rounds_done < sim.settings.rounds = subst (λ (t : Settings). sim.rounds_done < t.rounds) (sym so_far.settings)
+            (omega (arith, more, so_far.done)) in
+            inl (
+              step_fault workers sim sim' fault so_far.unbroken left lost.0,
+              subst (λ n. AreWrittenInTurn Wrote s old n rounds) (sym lost.1) so_far.written,
+            )
+        | inr (round, played, cut) ↦ inr (now, so_far.written, subst (λ r. Stops now new r fault) (round_is round played) cut)
+      ];
     }
-
-  -- or it wasn't carried out
-  pub stops_before : {T : Type 0} (now : O) (sim sim' : SimView T) (rounds workers : ℕ) (fault : Fault) → HaveRun now sim rounds → rounds < s.rounds
-      → IsStepFault workers sim sim' fault → IsFaultInTurn Wrote Stops s old now workers fault
-  stops_before now sim sim' rounds workers fault so_far more stop =
-      let left : sim.rounds_done < sim.settings.rounds = subst (λ (t : Settings). sim.rounds_done < t.rounds) (sym so_far.settings)
-      (omega (arith, more, so_far.done)) in
-      record { rounds = rounds; within = more; stops = inl (step_fault workers sim sim' fault so_far.unbroken left stop, so_far.written) }
 
   -- or the first one wasn't
   pub stops_at_first : (workers : ℕ) (fault : Fault) → 0 < s.rounds → IsFaultOfWorkers workers fault → IsFaultInTurn Wrote Stops s old old workers fault

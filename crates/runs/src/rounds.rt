@@ -1,9 +1,9 @@
 //! All rounds of a scenario, each carried out and then written.
 
-ghost use Rattle.std.specs.Prelude.{◌≡◌};
+ghost use Rattle.std.specs.Prelude.{◌≡◌, OnOk, IfErr};
 ghost use Rattle.simulation.specs.calls.Simulation.{MayWriteAll};
 ghost use Rattle.runs.specs.inner.Starts.{AnswersBegun, IsAtStart, IsBegun};
-ghost use Rattle.runs.specs.inner.Rounds.{AnswersRounds};
+ghost use Rattle.runs.specs.inner.Rounds.{AnswersRounds, StopsNext, WritesNext};
 
 use crate::resources::Resources;
 use bench_types::Fault;
@@ -133,8 +133,26 @@ fn write_all<
     ensures { AnswersRounds O.wrote O.stops sim.settings output.old output.new posts.now result }
 {
     for _ in 0..sim.rounds() {
-        let round = sim.step_by(rt, posts, FreeGate)?;
-        output.write(&round)?;
+        write_next(rt, posts, &mut sim, output)?;
     }
     Ok(sim.into_scenario())
+}
+
+// Carries out the next round, and writes it.
+fn write_next<
+    T: MemoryTable + Send + Sync,
+    K: RoundHistories<T>,
+    H: Threads + Wait + Sync,
+    O: RoundWriter,
+>(
+    rt: &H,
+    posts: &Posts<T, K, FreeGate, K::Job>,
+    sim: &mut Sim<T, K>,
+    output: &mut O,
+) -> Result<(), Fault>
+    ensures written { OnOk result (WritesNext T.table O.wrote sim.old sim.new output.old output.new) }
+    ensures fault { IfErr result (StopsNext T.table O.stops sim.old sim.new output.old output.new posts.now) }
+{
+    let round = sim.step_by(rt, posts, FreeGate)?;
+    output.write(&round)
 }

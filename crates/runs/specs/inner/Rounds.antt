@@ -1,12 +1,14 @@
 -- The rounds of a scenario and what they are written to, of whatever kind that is: `Wrote` says what it is once a round
 -- was written, from what it was before, and `Stops` what it is where writing a round came to a fault.
 -- Source: this project.
-use Rattle.std.specs.Prelude.{◌≡◌, ℕ, zero, suc, ◌+◌, ◌*◌, Result, OnOk, IfOk, IfErr, nat_lt, if◌then◌else◌}
+use Rattle.std.specs.Prelude.{◌≡◌, ℕ, zero, suc, ◌+◌, ◌*◌, ◌⊎◌, Result, OnOk, IfOk, IfErr, nat_lt, if◌then◌else◌}
 use Rattle.bench_types.specs.declared.faults.Fault.{Fault}
+use Rattle.model.specs.Table.{Table}
 use Rattle.runs.specs.Runs.{IsFaultInRounds}
 use Rattle.scenario.specs.Settings.{Settings}
 use Rattle.simulation.specs.calls.Outcomes.{played_of}
 use Rattle.simulation.specs.calls.RoundView.{RoundView}
+use Rattle.simulation.specs.calls.Simulation.{SimView, PlaysNext, IsStepFault}
 
 -- of the workers that are asked for, one where all tables together have fewer numbers than so many, else all
 abbrev pub workers_worth : Settings → ℕ → ℕ → ℕ
@@ -34,3 +36,16 @@ module _ {O : Type 0} (Wrote : O → O → RoundView → Type 0) (Stops : O → 
     pub same : IfOk answer (λ back. back ≡ s)
     pub written : OnOk answer (AreWrittenInTurn Wrote s old new s.rounds)
     pub fault : IfErr answer (IsFaultInTurn workers)
+
+-- one round
+module _ {T O : Type 0} (table : T → Table) where
+  -- the next one was carried out and written
+  pub record WritesNext (Wrote : O → O → RoundView → Type 0) (sim sim' : SimView T) (old new : O) : Type 0 where
+    pub round : RoundView
+    pub played : PlaysNext table sim sim' round
+    pub wrote : Wrote old new round
+
+  -- it wasn't carried out by so many workers, or writing it came to this fault
+  abbrev pub StopsNext : (O → O → RoundView → Fault → Type 0) → SimView T → SimView T → O → O → ℕ → Fault → Type 0
+  StopsNext Stops sim sim' old new workers fault = (IsStepFault workers sim sim' fault × (new ≡ old))
+      ⊎ ((round : RoundView) × PlaysNext table sim sim' round × Stops old new round fault)

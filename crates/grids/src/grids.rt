@@ -1,14 +1,14 @@
 //! Loops over all planes of a table: `cells[key * nodes + owner]`. Where one answers an error, it is lack of memory
 //! (`OutOfMemory`).
 
-ghost use Rattle.std.specs.Prelude.{◌≡◌, ℕ, ◌<◌, ◌≤◌, ◌==◌, ◌↔◌, Bool, IsTrue, length, map, max, nat_lt, slice_index, IfOk, IsOkUnless, if◌then◌else◌};
+ghost use Rattle.std.specs.Prelude.{◌≡◌, ◌<◌, ◌≤◌, ◌==◌, ◌↔◌, IsTrue, length, map, max, nat_lt, slice_index, IfOk, IsOkUnless};
 ghost use Rattle.bench_types.specs.declared.faults.Fault.TheVariants.{OutOfMemory};
 ghost use Rattle.planes.specs.Grids.{IsGridOf};
-ghost use Rattle.planes.specs.Planes.{cell, number_ahead, total_of, ArePlanesChanged, HasEach, IsGrid};
+ghost use Rattle.planes.specs.Planes.{cell, number_ahead, HasEach, IsGrid};
 ghost use Rattle.grids.specs.Grids.{AreSentTaken, HasColumn, HasPeer, IsAhead, IsOwnerKept, MayTake};
 ghost use Rattle.bench_types.specs.declared.limits.TheConstants.{MOST_NODES};
-ghost use Rattle.grids.specs.inner.Loops.{IsPlaneTaken, MakesAs, MayTakePlane};
-ghost use Rattle.grids.specs.inner.Masks.{AreAbovePeer, HasNoneUptoMark, HasNoOtherMark};
+ghost use Rattle.grids.specs.inner.Loops.{IsPlaneTaken, MayTakePlane};
+ghost use Rattle.grids.specs.inner.Masks.{AreAbovePeer, AreKeptAhead, HasNoneUptoMark, HasNoOtherMark};
 
 use crate::owners::FEW_TO_CHANGE;
 use crate::{counts, masks, owners};
@@ -39,33 +39,6 @@ pub struct Peer<'a, N: Number> {
     pub cells: &'a [N],
     pub low: &'a [N],
     pub own: usize,
-}
-
-// Changes each number to the one that the closure of its key makes of owner and number. It answers how many times these
-// closures say yes beside. Such a closure has slices of its planes: to index whole tables takes longer.
-pub(crate) fn change_all_counting<N: Number, G: Fn(usize, N) -> (N, bool), F: Fn(usize) -> G>(
-    numbers: &mut [N],
-    size: Size,
-    of_key: F,
-) -> u32
-    requires grid { IsGrid size.nodes size.keys (length numbers.old) }
-    requires of_key { (k : ℕ) → k < size.keys → F.pre of_key k }
-    requires to { (k r : ℕ) (to : G) (n : N) → k < size.keys → r < size.nodes → F.post of_key k to → G.pre to r n }
-    ensures { (made : ℕ → ℕ → ℕ → ℕ) (test : ℕ → ℕ → ℕ → Bool)
-        → ((k : ℕ) (to : G) → k < size.keys → F.post of_key k to
-        → MakesAs N.number (G.post to) size.nodes (made k) (test k))
-        → ArePlanesChanged (λ r k x y. y ≡ made k r x) size.nodes size.keys
-        (map N.number numbers.old) (map N.number numbers.new)
-        × (result ≡ total_of size.nodes size.keys
-        (λ r k. test k r (cell (map N.number numbers.old) size.nodes r k))) }
-{
-    let mut count = 0;
-    for key in 0..size.keys {
-        let start = key * size.nodes;
-        let block = &mut numbers[start..start + size.nodes];
-        count += counts::change_counting(block, of_key(key));
-    }
-    count
 }
 
 // Whether no owner but one has a mark above 0.
@@ -138,30 +111,45 @@ fn has_none_upto<N: Number>(cells: &[N], size: Size, owner: usize, mark: N) -> b
     true
 }
 
-// The numbers ahead, plane by plane.
+// Puts 0 in place of the numbers that aren't ahead, plane by plane. It answers how many are.
+fn keep_ahead<N: Number>(numbers: &mut [N], size: Size, peer: Peer<N>) -> u32
+    requires grid { IsGrid size.nodes size.keys (length numbers.old) }
+    requires peer { length peer.cells.now ≡ length numbers.old }
+    requires low { length peer.low.now ≡ size.nodes }
+    ensures { AreKeptAhead N.number size peer.entry numbers.old numbers.new result }
+{
+    let low = peer.low;
+    let mut count = 0;
+    for key in 0..size.keys {
+        let of_peer = plane_of(peer.cells, size.nodes, key);
+        let start = key * size.nodes;
+        let block = &mut numbers[start..start + size.nodes];
+        count += counts::change_counting(
+            block,
+            |r, number| -> (N, bool)
+                requires { (r < length of_peer.now) × (r < length low.now) }
+                ensures number { N.number result.0 ≡ number_ahead (N.number number)
+                    (slice_index (map N.number of_peer.entry.now) r) (slice_index (map N.number low.entry.now) r) }
+                ensures is_kept { result.1 ≡ nat_lt (max (slice_index (map N.number of_peer.entry.now) r)
+                    (slice_index (map N.number low.entry.now) r)) (N.number number) }
+            {
+                let is_ahead = number.is_above(of_peer[r].max_with(low[r]));
+                (planes::pick(is_ahead, number, N::zero()), is_ahead)
+            },
+        );
+    }
+    count
+}
+
+// The numbers ahead of both the peer's and any marks.
 fn ahead_of_both<N: Number>(alloc: Global, grid: Grid<N>, peer: Peer<N>) -> Result<Masked<N>, Fault>
     requires peer { HasPeer grid peer }
     ensures ahead { IfOk result (IsAhead N.number grid.entry peer.entry) }
     ensures only { IsOkUnless result OutOfMemory }
 {
-    let Grid { cells, size } = grid;
-    let other = peer.cells;
-    let low = peer.low;
-    let held = planes::count_held(cells);
-    let mut numbers = Vec::from_slice(alloc, cells)?;
-    let count = change_all_counting(&mut numbers, size, |key| {
-        let of_peer = plane_of(other, size.nodes, key);
-        move |r, number| -> (N, bool)
-            requires { (r < length of_peer.now) × (r < length low.now) }
-            ensures number { N.number result.0 ≡ number_ahead (N.number number)
-                (slice_index (map N.number of_peer.entry.now) r) (slice_index (map N.number low.entry.now) r) }
-            ensures is_kept { result.1 ≡ nat_lt (max (slice_index (map N.number of_peer.entry.now) r)
-                (slice_index (map N.number low.entry.now) r)) (N.number number) }
-        {
-            let is_ahead = number.is_above(of_peer[r].max_with(low[r]));
-            (planes::pick(is_ahead, number, N::zero()), is_ahead)
-        }
-    });
+    let held = planes::count_held(grid.cells);
+    let mut numbers = Vec::from_slice(alloc, grid.cells)?;
+    let count = keep_ahead(&mut numbers, grid.size, peer);
     Ok(Masked {
         numbers,
         count,

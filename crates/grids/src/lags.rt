@@ -1,6 +1,6 @@
 //! Loops over all planes of a table that compare its numbers with the last ones.
 
-ghost use Rattle.std.specs.Prelude.{◌≡◌, ◌+◌, ◌*◌, ◌<◌, length, map, min, nat_lt, slice_index, IfOk, IsOkUnless};
+ghost use Rattle.std.specs.Prelude.{◌≡◌, ◌<◌, length, map, min, nat_lt, slice_index, IfOk, IsOkUnless};
 ghost use Rattle.bench_types.specs.declared.faults.Fault.TheVariants.{OutOfMemory};
 ghost use Rattle.grids.specs.Grids.{IsBeside};
 ghost use Rattle.grids.specs.Lags.{AreLowered, AreLoweredCounting, HasLast, IsLeastBehind};
@@ -9,21 +9,15 @@ ghost use Rattle.planes.specs.Planes.{cell, HasEach};
 
 use crate::counts::change_counting;
 use bench_types::Fault;
-use planes::{Grid, Number, least_of, lower, plane_of};
+use planes::{Grid, Number, least_of, lower};
 use std::alloc::Global;
 
-/// Lowers each number to another one.
+/// Lowers each number to another one: one pass over all planes as one.
 pub fn lower_all<N: Number>(least: &mut [N], grid: Grid<N>)
     requires beside { IsBeside grid least.old }
     ensures least { AreLowered N.number grid.entry least.old least.new }
 {
-    let Grid { cells, size } = grid;
-    for key in 0..size.keys {
-        let plane = plane_of(cells, size.nodes, key);
-        let start = key * size.nodes;
-        let block = &mut least[start..start + size.nodes];
-        lower(block, plane);
-    }
+    lower(least, grid.cells);
 }
 
 /// How many numbers are below the last ones. It lowers the least to each number: one pass over all planes as one.

@@ -12,6 +12,8 @@
 //! - Where all comes, both ways go in one pass (`merge`). A number of one table that is above the other's greatest one
 //!   goes over; it can't be that one comes back in its place, so neither way has to wait for the other. The pass counts
 //!   what goes each way, and the greatest numbers are raised once behind it.
+//! - How far greatest numbers are apart is worked out in their own bits, and summed up in 16 bits for 256 owners at a
+//!   time: in 32 bits that took twice as long.
 //! - Few owners are gone through one by one. An owner whose two marks have nothing between them concerns no loop that
 //!   takes or counts numbers. Where there are 16 keys or more, and at most one in 32 owners has something between its
 //!   marks, or one in 8 where numbers are changed, these owners alone are visited, key by key, in place of whole

@@ -32,22 +32,22 @@ some_above cells owner mark (suc keys) = elim (cases_lt mark (cells owner keys))
 ]
 
 pub least_is-above : (most : ℕ) (cells : Cells) (keys owner mark least : ℕ) → IsLeastOf most (λ k. cond (nat_lt mark (cells owner k)) (cells owner k) most) keys least → IsNextAbove most cells keys owner mark least
-least_is-above most cells keys owner mark least is = elim (some_above cells owner mark keys) [
-  | inl none ↦ inl (none, elim is.is [ inl all ↦ all | inr (k, lt, here) ↦ (let low = none k lt in grind (arith, nat_tests)) ])
-  | inr (some, in_keys, above) ↦ inr (elim is.is [
-    | inl all ↦ found some in_keys above (equal some in_keys above all)
-    | inr (k, lt, here) ↦ elim (cases_lt mark (cells owner k)) [
-      | inl over ↦ found k lt over (grind (arith, nat_tests))
-      | inr not_over ↦ found some in_keys above (equal some in_keys above (grind (arith, nat_tests)))
-    ]
-  ])
+least_is-above most cells keys owner mark least is = elim is.is [
+  | inl all ↦ by_most all
+  | inr (k, lt, here) ↦ elim (cases_lt mark (cells owner k)) [
+    | inl over ↦ inr (found k lt over (grind (arith, nat_tests)))
+    | inr not_over ↦ by_most (grind (arith, nat_tests))
+  ]
 ]
   where
     no_less : (k : ℕ) → k < keys → mark < cells owner k → least ≤ cells owner k
     no_less k lt over = let at = is.no_less k lt in grind (arith, nat_tests)
 
-    equal : (k : ℕ) → k < keys → mark < cells owner k → least ≡ most → cells owner k ≡ least
-    equal k lt over all = let less = is.no_less k lt in let fits = is.fits k lt in grind (arith, nat_tests)
-
     found : (k : ℕ) → k < keys → mark < cells owner k → cells owner k ≡ least → IsLeastAbove cells keys owner mark least
     found k lt over here = record { key = k; below = lt; is = here; above = omega arith; no_less = no_less }
+
+    by_most : least ≡ most → IsNextAbove most cells keys owner mark least
+    by_most all = elim (some_above cells owner mark keys) [
+      | inl none ↦ inl (none, all)
+      | inr (k, lt, over) ↦ let less = is.no_less k lt in let fits = is.fits k lt in inr (found k lt over (grind (arith, nat_tests)))
+    ]

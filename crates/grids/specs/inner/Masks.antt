@@ -2,11 +2,13 @@
 use Rattle.std.specs.Prelude.{◌≡◌, ◌≢◌, ℕ, ◌+◌, ◌*◌, ◌<◌, ◌≤◌, ◌&&◌, false, nat_le, nat_lt, List, length, map, slice_index}
 use Rattle.bench_types.specs.declared.limits.TheConstants.{MOST_KEYS, MOST_NODES}
 use Rattle.planes.specs.declared.sizes.Grid.{Grid}
+use Rattle.planes.specs.declared.sizes.Size.{Size}
 use Rattle.planes.specs.Grids.{cells_in}
 use Rattle.planes.specs.Loops.{count_passing, AreCountedUpto, IsPart}
-use Rattle.planes.specs.Planes.{cell, total_of, Cells, HasEachPlace}
+use Rattle.planes.specs.Planes.{cell, number_ahead, total_above, total_of, ArePlanesChanged, Cells, HasEachPlace}
 use Rattle.grids.specs.Grids.{count_held, number_kept}
 use Rattle.grids.specs.declared.grids.Masked.{Masked}
+use Rattle.grids.specs.declared.grids.Peer.{Peer}
 use Rattle.grids.specs.declared.masks.Tally.{Tally}
 
 -- no owner but one has a mark above 0
@@ -61,3 +63,9 @@ pub record AreAbovePeer {N : Type 0} (number : N → ℕ) (grid : Grid N) (peer 
   pub count : above.count ≡ total_of grid.size.nodes grid.size.keys
       (λ r k. nat_lt (cell (map number peer) grid.size.nodes r k) (cells_in number grid r k))
   pub held : above.held ≡ count_held number grid.cells.now
+
+-- of numbers of a table those that are above both the peer's and the mark are kept, so many
+pub record AreKeptAhead {N : Type 0} (number : N → ℕ) (size : Size) (peer : Peer N) (old new : List N) (kept : ℕ) : Type 0 where
+  pub numbers : ArePlanesChanged (λ r k x y. y ≡ number_ahead x (cell (map number peer.cells.now) size.nodes r k)
+      (slice_index (map number peer.low.now) r)) size.nodes size.keys (map number old) (map number new)
+  pub count : kept ≡ total_above size.nodes size.keys (map number new) (map number peer.low.now)

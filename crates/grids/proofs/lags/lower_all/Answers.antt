@@ -1,10 +1,14 @@
-use Rattle.grids.proofs.Common.{min, ap, ◌∙◌, arith, grid-within, planes-written}
+use Rattle.grids.proofs.Common.{◌+◌, ◌*◌, arith, length, length-map, plane-within}
 use Rattle.grids.proofs.lags.lower_all.Goals as goal
 
-pub loop-key-preserved : goal.loop-key-preserved
-loop-key-preserved g c =
-    let number = g.N.Number.number in
+pub returns : goal.returns
+returns g c =
     let size = c.args.grid.size in
-    let within = grid-within number size.nodes size.keys c.loop-key.key c.args.least.now c.requires.beside.shape c.loop-key-test.true in
-    planes-written _ size.nodes _ number c.loop-key.least c.lower.new.least c.loop-key.key _ _ (omega arith) c.loop-key.invariant within
-    c.lower.ensures.least (λ r x y lt is. is ∙ ap (min x) (c.plane_of-plane.ensures.each r lt))
+    let lowered = c.lower.ensures.least in
+    let within = plane-within size.nodes size.keys (length c.args.least.now) in
+    record {
+      least = record {
+        size = lowered.size;
+        each = λ r k in_nodes in_keys. lowered.each (k * size.nodes + r) (omega (arith, within k c.requires.beside.shape in_keys, length-map c.args.least.now g.N.Number.number));
+      };
+    }

@@ -24,7 +24,7 @@ pub use Rattle.owner_writes.proofs.Numbers.{number-of_version, numbered-placed, 
 pub use Rattle.planes.proofs.Counts.{count_le, number_next, one_le, sum_next, sum_whole}
 pub use Rattle.planes.proofs.Elementwise.{changed_all, made-as, number-at, number-waits, written_next}
 pub use Rattle.planes.proofs.Places.{part-here, part-written}
-pub use Rattle.delta_plans.specs.Common.{AreChanged, AreChangedUpto, AreWrites, Bytes, Cells, DeltaView, Entries, Equal, First, Fit, Greater, HasEach, HasNoneAbove, IsHistory, IsInPlace, IsLeastAbove, IsNextAbove, IsProper, Less, Level, MOST_ENTRY_SIZE, Newest, Offer, Oldest, Ordering, OwnerListView, Reached, Rounds, Step, Table, Turns, all_writes, candidates, cell, count_above, count_between, delta_between, entries_of, entry_at, generation_held, item_share, items_of, known_mark, largest_share, list_of_owner, no_writes, owner_count, rank_among, rotated, sending_order, start_before, start_of, sum_by, total_of, write_from, write_numbered}
+pub use Rattle.delta_plans.specs.Common.{AreChanged, AreChangedUpto, AreWrites, Bytes, Cells, DeltaView, Entries, Equal, First, Fit, Greater, HasEach, HasNoneAbove, IsHistory, IsInPlace, IsLeastAbove, IsNextAbove, IsProper, Less, Level, MOST_ENTRY_SIZE, Newest, Offer, Oldest, Ordering, OwnerListView, Reached, Rounds, Step, Table, Turns, all_writes, candidates, cell, count_above, count_between, delta_between, entries_of, entry_at, generation_held, item_share, items_of, known_mark, largest_share, list_of_owner, no_writes, owner_count, rank_among, rotated, sending_order, start_before, start_of, sum_by, total_of, write_numbered}
 pub use Rattle.delta_plans.specs.LevelMarks.{by_first, comes_first, item_number, AreLevelMarks, IsOn, NumbersDiffer, first_level, first_sent, level_number, lets_through, rank_above, round_of}
 pub use Rattle.delta_plans.specs.Offers.{number_here, number_there, sum_over, AreSent, IsKnown, Offers, is_lacked, offered_sum, told_by, told_number}
 pub use Rattle.delta_plans.specs.Marked.{AreMarked, IsLevelOf, KeepsLow}

@@ -1,7 +1,7 @@
 -- Levels of an offer, gone over as long as they fit: what a step from one to the next writes, and what all steps keep.
 -- Serves the functions of `breadths` and `depths`, `LayerSteps` and `RunSteps`.
-use Rattle.delta_plans.proofs.Common.{◌≡◌, ℕ, ◌+◌, ◌*◌, ◌<◌, ◌≤◌, length, Some, None, Vec, Global, ap, ◌∙◌, arith, sum_below-same, sum_below-plus, sum_below-le, amount_of, MOST_NODES, MOST_KEYS, Offer, Level, Step, Oldest, cells_in, low_in, high_in, marks, weights_in, weight_in, count_in, AreCounted, IsLeftOf, IsOffer, one_each, weight_between, HasLevels, IsLevel, IsStep, Bool, cond, List, get_or, set, map, sym, Fits, w32, length-map, sum_below, AreChanged, AreCountedUpto, count_between, one_le, count_le, sum_next, sum_whole, changed_all, written_next}
-use Rattle.delta_plans.proofs.WeightLaws.{offer-few, offer-none, weight_of-split, weight_of-upto, sum_below-scaled}
+use Rattle.delta_plans.proofs.Common.{◌≡◌, ℕ, ◌+◌, ◌*◌, ◌<◌, ◌≤◌, length, Some, None, Vec, Global, ap, ◌∙◌, arith, sum_below-same, sum_below-plus, amount_of, MOST_NODES, MOST_KEYS, Offer, Level, Step, Oldest, cells_in, marks, weights_in, weight_in, count_in, AreCounted, IsLeftOf, IsOffer, one_each, weight_between, HasLevels, IsLevel, IsStep, Bool, cond, List, get_or, set, map, sym, Fits, w32, length-map, sum_below, AreChanged, AreCountedUpto, count_between, one_le, count_le, sum_next, sum_whole, changed_all, written_next}
+use Rattle.delta_plans.proofs.WeightLaws.{offer-few, offer-none, parts_of, sum_below-scaled, weight_of-split}
 
 pub count_fits : (test : ℕ → Bool) {r n count x : ℕ} (b : Bool) → count ≡ sum_below r (λ k. cond (test k) 1 0) → x ≡ cond b 1 0 → r < n
     → n ≤ MOST_NODES → Fits w32 (count + x)
@@ -53,8 +53,7 @@ pub record IsLevelSoFar {N : Type 0} (number : N → ℕ) (offer : Offer N) (lev
   pub added : more ≡ count_in number offer (marks number level.near.items) (marks number level.far.items)
 
 module _ {N : Type 0} {number : N → ℕ} {most : ℕ} {offer : Offer N} (is : IsOffer number most offer) where
-  abbrev low : ℕ → ℕ
-  low = low_in number offer
+  open parts_of number offer use {low}
 
   -- the first level
   pub level-first : {near : Vec N Global} {is : ℕ → ℕ → Type 0} {step : Step N} → near.items ≡ offer.low.now → IsStep number offer (marks number near.items) is step
@@ -83,15 +82,8 @@ module _ {N : Type 0} {number : N → ℕ} {most : ℕ} {offer : Offer N} (is : 
         (so_far.farther owner lt).0 (so_far.farther owner lt).2)
         ∙ sum_below-plus offer.grid.size.nodes _ _
 
-    pub level-upto : level.whole + more ≤ count_in number offer low (high_in number offer)
-    level-upto =
-        let upto = λ (owner : ℕ) (lt : owner < offer.grid.size.nodes).
-        weight_of-upto (λ _. 1) (cells_in number offer) offer.grid.size.keys owner (low owner) (far owner) (high_in number offer owner) (is.covered owner lt)
-        (low owner) (omega arith) in
-        omega (arith, so_far.whole, so_far.added, split one_each, sum_below-le offer.grid.size.nodes _ _ upto)
-
     pub level-few : level.whole + more ≤ MOST_NODES * MOST_KEYS
-    level-few = omega (arith, level-upto, offer-few is low (high_in number offer))
+    level-few = omega (arith, so_far.whole, so_far.added, split one_each, offer-few is low far)
 
     -- whether what lies between the marks fits is asked
     pub level-asked : AreCounted number most offer more level.near.items level.far.items

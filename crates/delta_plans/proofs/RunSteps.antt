@@ -1,7 +1,7 @@
 -- Runs of an offer, gone over as long as they fit.
 -- Serves `depth` and `next_runs`.
-use Rattle.delta_plans.proofs.Common.{◌≡◌, ℕ, ◌+◌, ◌-◌, ◌*◌, ◌<◌, ◌≤◌, cond, eqb, leb, ltb, List, length, get_or, map, inl, inr, Some, Vec, Global, sym, ap, ◌∙◌, subst, arith, nat_tests, cases_eq, length-map, amount_of, Cells, count_above, count_between, HasNoneAbove, HasEach, AreChanged, sum_below, sum_below-same, MOST_KEYS, Offer, Level, Step, Oldest, Newest, cells_in, low_in, high_in, owner_count_in, marks, weights_in, weight_in, IsLeftOf, IsOffer, AreMarksFrom, AreRunsFrom, AreNextRuns, AreLevelMarks, weight_of}
-use Rattle.delta_plans.proofs.WeightLaws.{parts_of, count_between-most, offer-none, sum_below-each_none, sum_below-none, weight_of-none, where_true}
+use Rattle.delta_plans.proofs.Common.{◌≡◌, ℕ, ◌+◌, ◌-◌, ◌*◌, ◌<◌, ◌≤◌, cond, eqb, leb, ltb, List, length, get_or, map, inl, inr, Some, Vec, Global, sym, ap, ◌∙◌, subst, arith, nat_tests, cases_eq, length-map, amount_of, Cells, count_above, count_between, HasNoneAbove, HasEach, AreChanged, count_le, sum_below, sum_below-same, MOST_KEYS, Offer, Level, Step, Oldest, Newest, cells_in, low_in, high_in, owner_count_in, marks, weights_in, weight_in, IsLeftOf, IsOffer, AreMarksFrom, AreRunsFrom, AreNextRuns, AreLevelMarks, weight_of}
+use Rattle.delta_plans.proofs.WeightLaws.{parts_of, offer-none, sum_below-each_none, sum_below-none, weight_of-none, where_true}
 use Rattle.delta_plans.proofs.LevelSteps.{IsLevelSoFar, level-first, level-left, level-next, step-is}
 
 module _ (cells : Cells) (keys owner low high : ℕ) (covered : HasNoneAbove cells keys owner high) where
@@ -128,6 +128,4 @@ module _ {N : Type 0} {number : N → ℕ} {most : ℕ} {offer : Offer N} (is : 
       → get_or (map number found) r 0 ≤ MOST_KEYS
   counts-few found known r lt =
       let in_nodes : r < offer.grid.size.nodes = omega (arith, lt, length-map found number, known.size) in
-      let some = count-covered cells keys r (low r) (high r) (is.covered r in_nodes) in
-      let most = count_between-most cells keys r (low r) (high r) in
-      omega (arith, known.each r in_nodes, is.grid.few_keys, some, most)
+      omega (arith, known.each r in_nodes, is.grid.few_keys, count_le keys (λ key. ltb (low r) (cells r key)))

@@ -29,9 +29,8 @@ pub use Rattle.model.specs.Candidates.{candidates, known_mark}
 pub use Rattle.model.specs.Deltas.{DeltaView, delta_between, item_share}
 pub use Rattle.model.specs.Order.{owner_count, rank_among, rotated, sending_order}
 pub use Rattle.model.specs.Table.{IsInPlace, IsProper, Table, entry_at, generation_held, items_of}
-pub use Rattle.model.specs.calls.Numbers.{write_from, write_numbered}
+pub use Rattle.model.specs.calls.Numbers.{write_numbered}
 pub use Rattle.model.specs.calls.OwnerListView.{AreWrites, OwnerListView, all_writes, entries_of, list_of_owner, no_writes}
-pub use Rattle.owner_writes.specs.Kept.{entry_kept}
 pub use Rattle.owner_writes.specs.Numbered.{AreEnds, AreMadeBy, IsHistory, IsNumberedHistory, start_before, start_of}
 pub use Rattle.planes.specs.Elementwise.{AreChanged, AreChangedUpto}
 pub use Rattle.planes.specs.Grids.{IsGridOf}

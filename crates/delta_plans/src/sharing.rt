@@ -133,13 +133,12 @@ impl<'a, 'b, N: Number> Turns<'a, 'b, N> {
             → marks N.number counts.new r ≡ part_weight N.number (λ _. 1) self.now r }
         ensures known { AreKnownFor N.number N.most self.now counts.new }
     {
-        let offer = self.offer;
         let some = &mut counts[owner..owner + size];
         let near = &self.level.near;
         let far = &self.level.far;
         let low = by_first(self.first, near, far);
         let high = by_first(self.first, far, near);
-        count_some_between(some, offer.grid, owner, low, high);
+        count_some_between(some, self.offer.grid, owner, low, high);
     }
 
     // How many numbers an owner's part has. Where that isn't known, parts are counted from this owner on.

@@ -1,6 +1,6 @@
 use Rattle.delta_plans.proofs.Common.{ap, arith, Level}
 use Rattle.delta_plans.proofs.LayerSteps.{layers-first, layers-more, layers-next, level-of_layers}
-use Rattle.delta_plans.proofs.LevelSteps.{level-asked, level-ends, level-few, level-upto}
+use Rattle.delta_plans.proofs.LevelSteps.{level-asked, level-ends, level-few}
 use Rattle.delta_plans.proofs.breadths.breadth.Goals as goal
 
 pub loop-left-init : goal.loop-left-init
@@ -20,7 +20,7 @@ loop-left-smaller g c =
     let has = c.loop-left.invariant.has in
     let fits = rw (c.deref-in-loop-left.ensures.value, c.deref-in-loop-left-2.ensures.value, c.in-Some.is) at c.left_of.ensures in
     let next = ap (λ (level : Level g.row.N.Denot). level.whole) c.next-level.ensures in
-    omega (arith, layers-more c.requires.offer.is_offer has fits c.requires.offer.beyond, level-upto c.requires.offer.is_offer has.so_far, next)
+    omega (arith, layers-more c.requires.offer.is_offer has fits c.requires.offer.beyond, level-few c.requires.offer.is_offer has.so_far, next)
 
 pub loop-left-preserved : goal.loop-left-preserved
 loop-left-preserved g c =

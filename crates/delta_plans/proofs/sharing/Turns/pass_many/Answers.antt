@@ -1,9 +1,21 @@
-use Rattle.delta_plans.proofs.Common.{◌≡◌, ap, arith, parts_count}
+use Rattle.delta_plans.proofs.Common.{◌≡◌, length, ap, arith, parts_count}
 use Rattle.delta_plans.proofs.TurnSteps.{some-next, turns-few, turns-same}
 use Rattle.delta_plans.proofs.sharing.Turns.pass_many.Goals as goal
 
 pub loop-i-init : goal.loop-i-init
 loop-i-init g c = turns-same c.loop-reached.invariant.so_far (omega arith) (omega arith) (omega arith)
+
+pub number_at-requires : goal.number_at-requires
+number_at-requires g c =
+    omega (
+      arith,
+      ap length c.deref-far.ensures.value,
+      c.requires.are.level.far,
+      c.min-size.ensures,
+      c.max.ensures,
+      c.owner_of_turn-owner.ensures.below,
+      c.loop-i-test.true,
+    )
 
 pub loop-i-preserved : goal.loop-i-preserved
 loop-i-preserved g c =

@@ -1,6 +1,7 @@
 -- A node's own calls on its table: its numbers lie as those of the table that the model has then.
--- Serves the functions of `owners` and `tables` and `HistoryCalls`.
-use Rattle.version_tables.proofs.Common.{◌≡◌, ◌≢◌, ℕ, ◌+◌, ◌*◌, ◌<◌, ◌≤◌, ◌==◌, Bool, true, false, cond, List, length, get_or, set, Some, None, ◌⊎◌, refl, same_from_place, inl, inr, sym, ap, ◌∙◌, subst, arith, mul-le-mul_right, cases_eq, eq-eqb, ne_eqb, get_or-set_same, get_or-set_other, length-set, same_Some, Entry, AreSizes, Table, entry_at, empty_table, KeepsFrame, with_own_write, without_others, without_all, IsProper, entry_at-own_write, entry_at-own_write_other, entry_at-without_others, entry_at-without_all, entry_at-empty_table, proper-empty_table, proper-with_own_write, proper-without_others, proper-without_all, Cells, cell, ArePlanesChanged, HasEach, HasEachPlace, AreChanged, numbered-within, VersionTableView, table_in, IsKept, IsNextWrite, HasOwnWrite, IsGreatest}
+-- Serves `VersionTable::forget_all`, `VersionTable::forget_others`, `VersionTable::new`, `VersionTable::write_own`
+-- and `HistoryCalls`.
+use Rattle.version_tables.proofs.Common.{◌≡◌, ◌≢◌, ℕ, ◌+◌, ◌*◌, ◌<◌, ◌≤◌, ◌==◌, Bool, true, false, cond, List, length, get_or, set, Some, None, ◌⊎◌, refl, same_from_place, inl, inr, sym, ap, ◌∙◌, subst, arith, mul-le-mul_right, cases_eq, get_or-set_same, get_or-set_other, length-set, same_Some, Entry, AreSizes, Table, entry_at, empty_table, KeepsFrame, with_own_write, without_others, without_all, IsProper, entry_at-own_write, entry_at-own_write_other, entry_at-without_others, entry_at-without_all, entry_at-empty_table, proper-empty_table, proper-with_own_write, proper-without_others, proper-without_all, Cells, cell, ArePlanesChanged, HasEach, HasEachPlace, AreChanged, numbered-within, VersionTableView, table_in, IsKept, IsNextWrite, HasOwnWrite, IsGreatest}
 use Rattle.version_tables.proofs.Laid.{HoldsNumber, LiesAs, holds-same, kept-number, lies-table, no-number}
 
 pub place-within : (nodes keys r k : ℕ) → r < nodes → k < keys → k * nodes + r < keys * nodes
@@ -23,14 +24,6 @@ each-set is xs nodes owner n size in_nodes own others = record {
     | inr other ↦ subst (is r) (sym (get_or-set_other xs owner r n 0 other)) (others r lt other)
   ];
 }
-
--- numbers of which all but an owner's are put to 0
-pub kept-one : (old mid : List ℕ) (owner : ℕ) → owner < length old → AreChanged (λ r x y. y ≡ 0) old mid
-    → AreChanged (λ r x y. y ≡ cond (r == owner) x 0) old (set mid owner (get_or old owner 0))
-kept-one old mid owner in_nodes cleared =
-    let all = each-set (λ r n. n ≡ cond (r == owner) (get_or old r 0) 0) mid (length old) owner (get_or old owner 0) cleared.size in_nodes
-    (rw (eq-eqb owner owner refl) refl) (λ r lt other. rw (ne_eqb r owner other) (cleared.each r lt)) in
-    record { size = all.size; each = all.each }
 
 -- one number in planes is set
 pub place-set : (is : ℕ → ℕ → ℕ → Type 0) (xs : List ℕ) (nodes keys owner key n : ℕ) → length xs ≡ keys * nodes → owner < nodes → key < keys → is owner key n

@@ -1,7 +1,7 @@
 //! What is dropped of numbers: all, or those of all owners but one.
 
-ghost use Rattle.std.specs.Prelude.{◌≡◌, ◌<◌, ◌==◌, if◌then◌else◌};
-ghost use Rattle.version_tables.specs.inner.Common.{length, map, HasColumn, ArePlanesChanged, AreChanged};
+ghost use Rattle.std.specs.Prelude.{◌≡◌, ◌==◌, if◌then◌else◌};
+ghost use Rattle.version_tables.specs.inner.Common.{map, HasColumn, ArePlanesChanged, AreChanged};
 
 use planes::{Number, Size};
 
@@ -12,13 +12,13 @@ pub(crate) fn clear<N: Number>(numbers: &mut [N])
 }
 
 pub(crate) fn keep_one<N: Number>(numbers: &mut [N], owner: usize)
-    requires { owner < length numbers.old }
     ensures { AreChanged (λ r x y. y ≡ (if r == owner then x else 0)) (map N.number numbers.old)
         (map N.number numbers.new) }
 {
-    let own = numbers[owner];
-    clear(numbers);
-    numbers[owner] = own;
+    planes::change(
+        numbers,
+        |r, number| planes::pick(r == owner, number, N::zero()),
+    );
 }
 
 pub(crate) fn keep_owner<N: Number>(cells: &mut [N], size: Size, owner: usize)

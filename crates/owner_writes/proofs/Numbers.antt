@@ -61,20 +61,17 @@ module _ (writes : List Entry) (history : IsHistory writes) (m n : ℕ) (d e : E
     | inr not_before ↦ absurd (omega (arith, lt, (numbers-up_to writes history n m e d is_e is_d not_before).version (sym alike)))
   ]
 
--- there is a write at each place below the count
-pub write_from-some : (es : List Entry) (place : ℕ) → place < length es → (e : Entry) × (write_from es place ≡ Some e)
-write_from-some es place lt =
-    let d : Entry = record { key = 0; generation = 0; version = 0; value = 0; born = 0 } in (get_or es place d, write_from-here es place d lt)
-
+-- there is a write of each number from 1 up to the count
 pub numbered-some : (writes : List Entry) (number : ℕ) → 0 < number → number ≤ length writes → (e : Entry) × (write_numbered writes number ≡ Some e)
 numbered-some writes zero some le = absurd (omega (arith, some))
-numbered-some writes (suc place) some le = write_from-some writes place (omega (arith, le))
+numbered-some writes (suc place) some le =
+    let d : Entry = record { key = 0; generation = 0; version = 0; value = 0; born = 0 } in (get_or writes place d, write_from-here writes place d (omega (arith, le)))
 
 -- a number up to the count of which there is no write is 0
 pub numbered-none : (writes : List Entry) (number : ℕ) → number ≤ length writes → write_numbered writes number ≡ None → number ≡ 0
 numbered-none writes zero le none = refl
 numbered-none writes (suc place) le none =
-    let there = (write_from-some writes place (omega (arith, le))).1 in
+    let there = (numbered-some writes (suc place) (omega arith) le).1 in
     absurd (cc)
 
 -- a write has a number from 1 up to the count

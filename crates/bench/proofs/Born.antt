@@ -8,7 +8,7 @@ use Rattle.model.specs.calls.OwnerListView.{OwnerListView, no_writes, list_of_ow
 use Rattle.model.specs.Writes.{write_of_entry}
 use Rattle.model.specs.calls.Writes.{AreBornBy}
 use Rattle.model.proofs.Owners.{length-lists_in, list_read}
-use Rattle.round_tables.specs.Histories.{AreWrittenBy}
+use Rattle.round_histories.specs.Histories.{AreWrittenBy}
 
 All-second : {X : Type 0} (P : X → Type 0) (xs ys : List X) → All P (xs ++ ys) → All P ys
 All-second P [] ys all = all

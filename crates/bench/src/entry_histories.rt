@@ -6,7 +6,7 @@ use exchange::exchange;
 use model::Exchanging;
 use node_table::NodeTable;
 use owner_lists::OwnerList;
-use round_tables::{Counted, Resources, RoundHistories, TakesAll};
+use round_histories::{Counted, Resources, RoundHistories, TakesAll};
 use staleness::figures;
 use std::alloc::Global;
 use std::marker::Model;
@@ -23,7 +23,7 @@ pub struct EntryHistories {
 
 impl Model for EntryHistories {
     ghost use Rattle.owner_writes.specs.inner.Codes.{list_code};
-    ghost use Rattle.round_tables.specs.Histories.{HistoriesView, histories_code, KeepLimits};
+    ghost use Rattle.round_histories.specs.Histories.{HistoriesView, histories_code, KeepLimits};
 
     ghost Value = { HistoriesView };
 
@@ -56,7 +56,7 @@ impl RoundHistories<NodeTable> for EntryHistories {
     ghost use denote.Param.Send.{IsSync};
     ghost use Rattle.bench_types.specs.declared.faults.Fault.TheVariants.{OutOfMemory};
     ghost use Rattle.node_table.specs.NodeTableView.{kept_table};
-    ghost use Rattle.round_tables.specs.Histories.{AreFiguresCounted, StandAtRoundEnd};
+    ghost use Rattle.round_histories.specs.Histories.{AreFiguresCounted, StandAtRoundEnd};
 
     type Job = NoJob;
 

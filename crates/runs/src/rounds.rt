@@ -8,7 +8,7 @@ ghost use Rattle.runs.specs.inner.Rounds.{AnswersRounds, StopsNext, WritesNext};
 use crate::resources::Resources;
 use bench_types::Fault;
 use model::MemoryTable;
-use round_tables::RoundHistories;
+use round_histories::RoundHistories;
 use scenario::Scenario;
 use simulation::{Round, Sim};
 use std::sync::Wait;

@@ -53,5 +53,5 @@ pub use Rattle.round_plan.specs.Writes.{count_before, count_upto, own_writes, wr
 pub use Rattle.round_plan.specs.calls.Words.{RunWordsView, run_words_of}
 pub use Rattle.round_plan.specs.calls.Writes.{born_in, writes_before}
 pub use Rattle.round_plan.specs.declared.owners.OwnWrite.{OwnWrite}
-pub use Rattle.round_tables.specs.Histories.{AddsWrite, AreWrittenBy, BirthsRise, HistoriesView, MayWrite, StandsAmong, StandsBeside, StaysBesideLists, own_list}
+pub use Rattle.round_histories.specs.Histories.{AddsWrite, AreWrittenBy, BirthsRise, HistoriesView, MayWrite, StandsAmong, StandsBeside, StaysBesideLists, own_list}
 pub use Rattle.scenario.specs.Settings.{IsBudgetOf, IsLawfulScenario, Settings}

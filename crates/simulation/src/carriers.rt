@@ -4,12 +4,12 @@ ghost use Rattle.std.specs.Prelude.{◌≡◌, map, IfOk, IfErr, IsOkUnless};
 ghost use Rattle.bench_types.specs.declared.faults.Fault.TheVariants.{OutOfMemory};
 ghost use Rattle.model.specs.Runs.{IsFaultOfWorkers};
 ghost use Rattle.list_order.specs.Carrying.{AreExchanged, MayCarryOut};
-ghost use Rattle.round_tables.specs.Histories.{AreFiguresCounted, StandAtRoundEnd};
+ghost use Rattle.round_histories.specs.Histories.{AreFiguresCounted, StandAtRoundEnd};
 
 use bench_types::{Fault, Rules};
 use crew::Job;
 use model::{Exchanging, MemoryTable, RoundList};
-use round_tables::{Counted, Resources, RoundHistories};
+use round_histories::{Counted, Resources, RoundHistories};
 use std::sync::Wait;
 use std::thread::Threads;
 use workers::{Batch, Done, Gate, Posts, Work, run_list_with};

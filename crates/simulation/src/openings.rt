@@ -4,12 +4,12 @@ ghost use Rattle.std.specs.Prelude.{◌≡◌, ◌<◌, ◌≤◌, length, map, 
 ghost use Rattle.bench_types.specs.declared.faults.Fault.TheVariants.{OutOfMemory};
 ghost use Rattle.model.specs.Tables.{AreProper};
 ghost use Rattle.simulation.specs.Rounds.{opening_tables};
-ghost use Rattle.round_tables.specs.Histories.{AreNewHistories};
+ghost use Rattle.round_histories.specs.Histories.{AreNewHistories};
 ghost use Rattle.simulation.specs.inner.InMemory.{AreMadeEmpty, IsStretchOfNodes};
 
 use bench_types::Fault;
 use model::MemoryTable;
-use round_tables::RoundHistories;
+use round_histories::RoundHistories;
 use scenario::Scenario;
 use std::alloc::Global;
 use std::ops::Range;

@@ -9,7 +9,7 @@ use bench_types::Fault;
 use bench_types::limits::MOST_ROUNDS;
 use model::RoundList;
 use round_plan::{RunWords, round_list_by};
-use round_tables::Resources;
+use round_histories::Resources;
 use scenario::Scenario;
 use std::alloc::Global;
 use std::thread::Threads;

@@ -14,7 +14,7 @@ use crate::processors::processors_of;
 use crate::rounds::Round;
 use bench_types::Fault;
 use model::MemoryTable;
-use round_tables::{Hands, Resources, RoundHistories, TakesAll};
+use round_histories::{Hands, Resources, RoundHistories, TakesAll};
 use scenario::Scenario;
 use std::alloc::Global;
 use std::marker::Model;

@@ -29,7 +29,7 @@ pub use Rattle.owner_writes.specs.Numbered.{IsRoundMark}
 pub use Rattle.owner_writes.specs.declared.writes.Kept.{Kept}
 pub use Rattle.planes.proofs.Counts.{count_le, none-passes, sum_next}
 pub use Rattle.planes.proofs.Elementwise.{number-at}
-pub use Rattle.round_tables.specs.Histories.{BirthsRise, HistoriesView, StandsBeside}
+pub use Rattle.round_histories.specs.Histories.{BirthsRise, HistoriesView, StandsBeside}
 pub use Rattle.version_lags.specs.Missed.{HasNoneMissed, IsLastNumber, IsMissed, IsNumberAt, NonePassUpto, base_of, number_staleness}
 pub use Rattle.version_lags.specs.Pieces.{AreAllCounted, AreGrids, AreNumbersOf, AreRoundNumbers, CountsPiece, HasCounted, IsLeastFrom, IsTotal, MayBeCounted, MayWalk, NumbersView, StandTogether, WalksFrom, histories_of, is_left, is_stale, least_below, most_lag, numbers_at, numbers_in, numbers_seen, owner_lag, total_below}
 pub use Rattle.version_lags.specs.declared.lags.Piece.{Piece}

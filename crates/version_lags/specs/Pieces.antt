@@ -13,7 +13,7 @@ use Rattle.model.specs.calls.OwnerListView.{OwnerListView, all_writes, entries_o
 use Rattle.model.specs.calls.Numbers.{write_numbered}
 use Rattle.bench_types.specs.Sums.{sum_below, most_below}
 use Rattle.planes.specs.Planes.{cell, total_of, HasEach, HasEachPlace, IsGrid}
-use Rattle.round_tables.specs.Histories.{HistoriesView, BirthsRise, AreWrittenBy, KeepLimits, StandsAmong}
+use Rattle.round_histories.specs.Histories.{HistoriesView, BirthsRise, AreWrittenBy, KeepLimits, StandsAmong}
 use Rattle.model.specs.Figures.{figures_of, rounds_behind}
 use Rattle.version_lags.specs.Bounds.{AreBounds, IsStretchOf}
 use Rattle.version_lags.specs.declared.lags.Piece.{Piece}

@@ -6,7 +6,7 @@ ghost use Rattle.version_lags.specs.Bounds.{AreBounds};
 
 use bench_types::Fault;
 use planes::Number;
-use round_tables::Hands;
+use round_histories::Hands;
 use std::alloc::Global;
 use std::mem::size_of_val;
 

@@ -12,7 +12,7 @@ use grids::{count_behind, least_behind, lower_all};
 use owner_writes::OwnerWrites;
 use planes::{Ends, Grid, Number, Size, total_upto};
 use rayon::join;
-use round_tables::{Hands, Resources};
+use round_histories::{Hands, Resources};
 use std::alloc::Global;
 use std::mem::size_of_val;
 use std::thread::Threads;

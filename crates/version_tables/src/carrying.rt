@@ -3,7 +3,7 @@
 ghost use Rattle.std.specs.Prelude.{IfOk, IsOkUnless};
 ghost use denote.Param.Send.{IsSync};
 ghost use Rattle.bench_types.specs.declared.faults.Fault.TheVariants.{OutOfMemory};
-ghost use Rattle.round_tables.specs.Histories.{AreFiguresCounted, StandAtRoundEnd};
+ghost use Rattle.round_histories.specs.Histories.{AreFiguresCounted, StandAtRoundEnd};
 ghost use Rattle.version_tables.specs.Views.{table_in};
 
 use crate::ended::{Ended, figures_in_parts};
@@ -13,7 +13,7 @@ use crate::tables::{VersionTable, Written};
 use bench_types::{Fault, Figures};
 use crew::{Crew, LookJob};
 use planes::Number;
-use round_tables::{Counted, Resources, RoundHistories};
+use round_histories::{Counted, Resources, RoundHistories};
 use std::alloc::Global;
 use std::marker::Brand;
 use std::sync::Wait;

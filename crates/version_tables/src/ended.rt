@@ -8,7 +8,7 @@ use crate::tables::{VersionTable, Written};
 use bench_types::Fault;
 use crew::{Answered, Crew, Divided, LookJob, Parted, look_in_parts};
 use planes::Number;
-use round_tables::Counted;
+use round_histories::Counted;
 use std::alloc::Global;
 use std::sync::Wait;
 use version_lags::{Piece, figures_of_pieces, piece_of};

@@ -30,7 +30,7 @@ pub struct Histories<N: Number, H: Written> {
 impl<N: Number, H: Written> Model for Histories<N, H> {
     ghost use Rattle.std.specs.Prelude.{length, map};
     ghost use Rattle.owner_writes.specs.inner.Codes.{list_code};
-    ghost use Rattle.round_tables.specs.Histories.{HistoriesView, histories_code};
+    ghost use Rattle.round_histories.specs.Histories.{HistoriesView, histories_code};
     ghost use Rattle.version_tables.specs.inner.Histories.{AreHistories};
 
     ghost Value = { HistoriesView };
@@ -50,7 +50,7 @@ impl<N: Number, H: Written> Histories<N, H> {
     ghost use Rattle.bench_types.specs.declared.limits.TheConstants.{MOST_ROUNDS};
     ghost use Rattle.model.specs.calls.OwnerListView.{all_writes, list_of_owner, with_write, begun_generation};
     ghost use Rattle.planes.specs.Planes.{HasEach, HasEachPlace};
-    ghost use Rattle.round_tables.specs.Histories.{round_ended, AreNewHistories, HistoryBecomes, KeepLimits};
+    ghost use Rattle.round_histories.specs.Histories.{round_ended, AreNewHistories, HistoryBecomes, KeepLimits};
     ghost use Rattle.version_tables.specs.Views.{AreSizes};
     ghost use Rattle.version_tables.specs.inner.Histories.{bases_in, AreEndsOf, AreKnown, MayAddWrite};
     ghost use Rattle.version_lags.specs.Missed.{IsLastNumber};

@@ -8,7 +8,7 @@ use crate::histories::Histories;
 use crate::tables::{VersionTable, Written};
 use bench_types::{Fault, Figures};
 use planes::{Number, Short};
-use round_tables::Resources;
+use round_histories::Resources;
 use std::alloc::Global;
 use std::thread::Threads;
 use version_lags::RoundNumbers;

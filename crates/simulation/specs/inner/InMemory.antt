@@ -9,7 +9,7 @@ use Rattle.bench_types.specs.declared.limits.TheConstants.{MOST_ROUNDS}
 use Rattle.model.specs.Table.{Table, empty_table}
 use Rattle.model.specs.calls.OwnerListView.{list_of_owner}
 use Rattle.round_plan.specs.declared.owners.OwnWrite.{OwnWrite}
-use Rattle.round_tables.specs.Histories.{HistoriesView, own_list, StandsAmong}
+use Rattle.round_histories.specs.Histories.{HistoriesView, own_list, StandsAmong}
 use Rattle.scenario.specs.Settings.{Settings}
 use Rattle.simulation.specs.Rounds.{begun}
 use Rattle.simulation.specs.calls.Standing.{IsOwner, StandAfterRound}

@@ -4,7 +4,7 @@ use Rattle.std.specs.Coded.{Coded, code_by, coded×, coded_ℕ, coded_bool, code
 use Rattle.bench_types.specs.declared.entries.Entry.{Entry}
 use Rattle.scenario.specs.contracts.scenarios.Scenario as scenario
 use Rattle.owner_writes.specs.inner.Codes.{list_code}
-use Rattle.round_tables.specs.Histories.{HistoriesView}
+use Rattle.round_histories.specs.Histories.{HistoriesView}
 use Rattle.simulation.specs.declared.clusters.Cluster.{Cluster}
 use Rattle.model.specs.Table.{Table}
 use Rattle.scenario.specs.Settings.{Settings}

@@ -17,7 +17,7 @@ use Rattle.round_plan.specs.declared.owners.OwnWrite.{OwnWrite}
 use Rattle.round_plan.specs.Generations.{generation_upto}
 use Rattle.model.specs.calls.OwnParts.{OwnPartIsLastWrites}
 use Rattle.model.specs.calls.Writes.{AreBornBy}
-use Rattle.round_tables.specs.Histories.{HistoriesView, StaysBesideLists, own_list, StandsBeside}
+use Rattle.round_histories.specs.Histories.{HistoriesView, StaysBesideLists, own_list, StandsBeside}
 use Rattle.simulation.specs.calls.Simulation.{MayWriteAll}
 use Rattle.simulation.specs.calls.Standing.{IsOwnerOf, IsOwner}
 

@@ -13,7 +13,7 @@ use bench_types::{Entry, Fault, Mode};
 use fixtures::changed;
 use model::MemoryTable;
 use node_table::NodeTable;
-use round_tables::RoundHistories;
+use round_histories::RoundHistories;
 use scenario::{Scenario, read};
 use simulation::Sim as SimOf;
 use std::alloc::{AllocError, AllocGlobal, Global};

@@ -7,7 +7,7 @@ use crew::{Crew, NoJob};
 use fixtures::{FOUR_MODES, Team};
 use model::{Exchanging, MemoryTable};
 use node_table::NodeTable;
-use round_tables::{Counted, Resources, RoundHistories, TakesAll};
+use round_histories::{Counted, Resources, RoundHistories, TakesAll};
 use scenario::read;
 use simulation::Sim as SimOf;
 use std::alloc::Global;
@@ -47,7 +47,7 @@ impl<T: MemoryTable, H: RoundHistories<T>> RoundHistories<T> for Refusing<H> {
     ghost use Rattle.std.specs.Prelude.{IfOk, IsOkUnless};
     ghost use denote.Param.Send.{IsSync};
     ghost use Rattle.bench_types.specs.declared.faults.Fault.TheVariants.{OutOfMemory};
-    ghost use Rattle.round_tables.specs.Histories.{AreFiguresCounted, StandAtRoundEnd};
+    ghost use Rattle.round_histories.specs.Histories.{AreFiguresCounted, StandAtRoundEnd};
 
     type Job = NoJob;
 

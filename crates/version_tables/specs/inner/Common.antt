@@ -38,7 +38,7 @@ pub use Rattle.owner_writes.specs.Numbered.{AreEnds, AreMadeBy, IsHistory, IsNum
 pub use Rattle.planes.specs.Elementwise.{AreChanged}
 pub use Rattle.planes.specs.Planes.{ArePlanesChanged, ArePlanesChangedUpto, AreRaised, Cells, HasEach, HasEachPlace, HasNoneAbove, IsGrid, IsRaised, cell, count_between, most_ahead, number_raised, numbers_taken, total_above}
 pub use Rattle.planes.specs.declared.ends.Ends.{Ends}
-pub use Rattle.round_tables.specs.Histories.{AreFiguresCounted, AreWrittenBy, HistoriesView, KeepLimits, StandAtRoundEnd, StandsAmong, round_ended}
+pub use Rattle.round_histories.specs.Histories.{AreFiguresCounted, AreWrittenBy, HistoriesView, KeepLimits, StandAtRoundEnd, StandsAmong, round_ended}
 pub use Rattle.version_lags.specs.Bounds.{AreBounds, IsStretchOf}
 pub use Rattle.version_lags.specs.Missed.{IsLastNumber}
 pub use Rattle.version_lags.specs.Pieces.{AreNumbersAt, AreNumbersOf, AreRoundNumbers, Counts, MayBeCounted, histories_of, numbers_at, numbers_in}

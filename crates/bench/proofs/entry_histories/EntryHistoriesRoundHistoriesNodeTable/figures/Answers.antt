@@ -1,7 +1,7 @@
 use Rattle.std.proofs.Common.{All, sym, subst}
 use Rattle.model.specs.calls.OwnerListView.{lists_in}
 use Rattle.model.specs.calls.Writes.{AreBornBy}
-use Rattle.round_tables.specs.Histories.{HistoriesView, AreWrittenBy}
+use Rattle.round_histories.specs.Histories.{HistoriesView, AreWrittenBy}
 use Rattle.bench.proofs.Born.{lists_born}
 use Rattle.bench.proofs.entry_histories.EntryHistoriesRoundHistoriesNodeTable.figures.Goals as goal
 

@@ -3,8 +3,8 @@ use Rattle.list_order.specs.Carrying.{AreExchanged}
 use Rattle.simulation.specs.inner.InMemory.{HasBegun}
 use Rattle.simulation.specs.inner.Plans.{IsDrawnAfter}
 use Rattle.simulation.specs.inner.Steps.{HaveEnded, IsPlayedFrom}
-use Rattle.round_tables.specs.Histories.{AreFiguresCounted}
-use Rattle.round_tables.specs.declared.round_tables.Counted.{Counted}
+use Rattle.round_histories.specs.Histories.{AreFiguresCounted}
+use Rattle.round_histories.specs.declared.round_histories.Counted.{Counted}
 use Rattle.simulation.proofs.Playing.{IsLeft, lawful_budget, is_left, each_begun, nodes_cluster, standing_cluster, one_list_each, one_record_each, round_is, played_is}
 use Rattle.simulation.proofs.Standing.{written_by}
 use Rattle.simulation.proofs.clusters.Cluster.play.Given as given

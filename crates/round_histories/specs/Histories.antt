@@ -11,7 +11,7 @@ use Rattle.model.specs.calls.OwnerListView.{OwnerListView, all_writes, written, 
 use Rattle.model.specs.Copies.{HoldsWrites}
 use Rattle.model.specs.Figures.{figures_of}
 use Rattle.model.specs.calls.OwnParts.{OwnPartIsLastWrites}
-use Rattle.round_tables.specs.declared.round_tables.Counted.{Counted}
+use Rattle.round_histories.specs.declared.round_histories.Counted.{Counted}
 
 -- what contracts see of histories: what the owners wrote so far, how many keys each has, and how many rounds' writes
 -- were ended

@@ -28,7 +28,7 @@ pub trait RoundHistories<T: MemoryTable>: Exchanging<T> + Drop {
     ghost use Rattle.model.specs.Table.{Table, empty_table, with_own_write, without_others, without_all};
     ghost use Rattle.model.specs.calls.OwnerListView.{list_of_owner, lists_in};
     ghost use Rattle.model.specs.Figures.{figures_of};
-    ghost use Rattle.round_tables.specs.Histories.{HistoriesView, round_ended, AreNewHistories, AreWrittenBy, StandsAmong, MayWrite, MayForget, AddsWrite, BeginsGeneration, AreFiguresCounted, StandAtRoundEnd};
+    ghost use Rattle.round_histories.specs.Histories.{HistoriesView, round_ended, AreNewHistories, AreWrittenBy, StandsAmong, MayWrite, MayForget, AddsWrite, BeginsGeneration, AreFiguresCounted, StandAtRoundEnd};
 
     /// What a thread is given that counts a part of the figures.
     type Job: Job + Send;

@@ -10,7 +10,7 @@
 #![tactic(auto)]
 
 mod resources;
-mod round_tables;
+mod round_histories;
 
 pub use resources::{Hands, Resources};
-pub use round_tables::{Counted, RoundHistories, TakesAll};
+pub use round_histories::{Counted, RoundHistories, TakesAll};

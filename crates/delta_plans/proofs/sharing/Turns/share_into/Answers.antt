@@ -14,7 +14,8 @@ loop-turn-preserved g c =
     }
 
 pub pass_many-reached-requires : goal.pass_many-reached-requires
-pass_many-reached-requires g c = record { are = c.requires.counts.are; known = c.requires.counts.known; so_far = turns-start c.requires.counts.are c.requires.mark }
+pass_many-reached-requires g c =
+    record { are = c.requires.counts.are; known = c.requires.counts.known; so_far = turns-start c.requires.counts.are c.requires.mark }
 
 pub number_at-far-requires : goal.number_at-far-requires
 number_at-far-requires g c =

@@ -56,7 +56,8 @@ module _ {N : Type 0} {number : N → ℕ} {most : ℕ} {offer : Offer N} (is : 
   open parts_of number offer use {low}
 
   -- the first level
-  pub level-first : {near : Vec N Global} {is : ℕ → ℕ → Type 0} {step : Step N} → near.items ≡ offer.low.now → IsStep number offer (marks number near.items) is step
+  pub level-first : {near : Vec N Global} {is : ℕ → ℕ → Type 0} {step : Step N} → near.items ≡ offer.low.now
+      → IsStep number offer (marks number near.items) is step
       → IsLevelSoFar number offer (record { near = near; far = step.marks; whole = 0; left = amount_of offer.budget }) step.more
   level-first start step =
       let at = λ (owner : ℕ). ap (λ xs. marks number xs owner) start in

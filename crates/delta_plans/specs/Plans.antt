@@ -11,7 +11,7 @@ abbrev pub IsNextMark : Cells → ℕ → ℕ → ℕ → ℕ → Type 0
 IsNextMark cells keys owner mark next =
     (HasNoneAbove cells keys owner mark × (next ≡ mark)) ⊎ IsLeastAbove cells keys owner mark next
 
--- marks of one level more, each as a relation of owner and mark says and none lower than before, and so many numbers more
+-- marks of one level more, each as a relation of owner and mark says, none lower than before, and so many numbers more
 pub record IsStep {N : Type 0} (number : N → ℕ) (offer : Offer N) (near : ℕ → ℕ) (is : ℕ → ℕ → Type 0)
     (step : Step N) : Type 0 where
   pub count : length step.marks.items ≡ offer.grid.size.nodes

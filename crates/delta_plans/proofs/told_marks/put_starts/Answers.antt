@@ -15,6 +15,13 @@ returns-then-none_upto g c =
           (c.lower.ensures.least.each r lt);
     }
 
+pub bounds-lists-r : goal.bounds-lists-r
+bounds-lists-r g c = omega (arith, length-map c.args.numbers.now g.N.Number.number, c.requires.count, c.loop-r-test.true)
+
+pub bounds-bases-r : goal.bounds-bases-r
+bounds-bases-r g c =
+    omega (arith, length-map c.args.numbers.now g.N.Number.number, length-map c.args.owners.bases.now g.N.Number.number, c.requires.count, c.loop-r-test.true)
+
 pub start_of-requires : goal.start_of-requires
 start_of-requires g c =
     let number = g.N.Number.number in

@@ -1,4 +1,4 @@
-use Rattle.delta_plans.proofs.Common.{arith, cells_in}
+use Rattle.delta_plans.proofs.Common.{length, ap, arith, cells_in}
 use Rattle.delta_plans.proofs.StopSteps.{few-from}
 use Rattle.delta_plans.proofs.TurnSteps.{part-few, turns-end, turns-few, turns-next, turns-shared, turns-start}
 use Rattle.delta_plans.proofs.sharing.Turns.share_into.Goals as goal
@@ -14,7 +14,16 @@ loop-turn-preserved g c =
     }
 
 pub pass_many-reached-requires : goal.pass_many-reached-requires
-pass_many-reached-requires g c = record { are = c.requires.counts.are; known = c.requires.counts.known; so_far = turns-start c.requires.counts.are c.requires.mark }
+pass_many-reached-requires g c =
+    record { are = c.requires.counts.are; known = c.requires.counts.known; so_far = turns-start c.requires.counts.are c.requires.mark }
+
+pub number_at-far-requires : goal.number_at-far-requires
+number_at-far-requires g c =
+    omega (arith, ap length c.deref.ensures.value, c.loop-turn.invariant.are.level.far, c.owner_of_turn-owner.ensures.below)
+
+pub number_at-near-requires : goal.number_at-near-requires
+number_at-near-requires g c =
+    omega (arith, ap length c.deref-then-left-weight.ensures.value, c.loop-turn.invariant.are.level.near, c.owner_of_turn-owner.ensures.below)
 
 pub overflow_add-sent : goal.overflow_add-sent
 overflow_add-sent g c =

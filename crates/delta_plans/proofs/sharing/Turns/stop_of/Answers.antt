@@ -5,8 +5,10 @@ use Rattle.delta_plans.proofs.sharing.Turns.stop_of.Goals as goal
 pub loop-middle-init : goal.loop-middle-init
 loop-middle-init g c =
     let level = c.args.self.now.level.now in
-    let near : c.widen-fits.result ≡ marks g.N.Number.number level.near.items c.args.owner = omega (arith, rw c.deref.ensures.value at c.number_at.ensures) in
-    let far : c.widen-beyond.result ≡ marks g.N.Number.number level.far.items c.args.owner = omega (arith, rw c.deref-2.ensures.value at c.number_at-2.ensures) in
+    let near : c.widen-fits.result ≡ marks g.N.Number.number level.near.items c.args.owner =
+    omega (arith, rw c.deref.ensures.value at c.number_at.ensures) in
+    let far : c.widen-beyond.result ≡ marks g.N.Number.number level.far.items c.args.owner =
+    omega (arith, rw c.deref-2.ensures.value at c.number_at-2.ensures) in
     record {
       so_far = rw (near, far) (stop-first (c.requires.turns.level.farther c.args.owner c.requires.owner).2 c.requires.beyond);
       fits = omega (arith, c.widen-fits.ensures, c.min_with.ensures, c.greatest-most.ensures);

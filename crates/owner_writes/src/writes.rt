@@ -127,10 +127,8 @@ impl OwnerWrites {
         ensures { MatchOption result (write_numbered (entries_of self.now) number ≡ None)
             (λ kept. write_numbered (entries_of self.now) number ≡ Some (entry_kept kept.now)) }
     {
-        match number.checked_sub(1) {
-            Some(place) => self.kept.get(place as usize),
-            None => None,
-        }
+        let place = number.checked_sub(1)?;
+        self.kept.get(place as usize)
     }
 
     /// How many writes there were before the generation of a number's write, 0 where there is no such write.

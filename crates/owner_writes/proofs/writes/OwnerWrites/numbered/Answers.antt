@@ -3,12 +3,12 @@ use Rattle.owner_writes.proofs.Keeping.{entries_whole}
 use Rattle.owner_writes.proofs.Numbers.{numbered-here, numbered-past}
 use Rattle.owner_writes.proofs.writes.OwnerWrites.numbered.Goals as goal
 
-pub returns-in-Some : goal.returns-in-Some
-returns-in-Some c =
+pub returns : goal.returns
+returns c =
     let w = c.self.inside in
     let xs = c.deref.result.now in
-    let place = c.in-Some.place in
-    let next : suc place ≡ c.args.number = omega (arith, c.in-Some.ensures.0, c.in-Some.ensures.1) in
+    let place = c.in_ok-place.place in
+    let next : suc place ≡ c.args.number = omega (arith, c.in_ok-place.ensures.0, c.in_ok-place.ensures.1) in
     let whole : write_numbered (entries_of c.args.self.now) c.args.number ≡ write_numbered (map entry_kept xs) c.args.number =
     sym (ap (λ (es : List Entry). write_numbered es c.args.number) (ap (map entry_kept) c.deref.ensures.value ∙ sym (entries_whole w.kept.items w.earlier w.generation) ∙ ap entries_of c.self.view_is)) in
     elim c.get.result as (λ r. IsGetResult xs place place r → MatchOption r (write_numbered (entries_of c.args.self.now) c.args.number ≡ None) (λ kept. write_numbered (entries_of c.args.self.now) c.args.number ≡ Some (entry_kept kept.now))) [

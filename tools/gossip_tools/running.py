@@ -12,7 +12,8 @@ import time
 from gossip_tools.commands import Refused, Stopped, refuse_if, shown
 from gossip_tools.texts import speaker
 
-# In large pages, and much of it at a time, the C library gives memory faster. What the caller says to it goes before that.
+# In large pages, and much of it at a time, the C library gives memory faster. What the caller says to it goes before
+# that.
 LARGE_PAGES = {"GLIBC_TUNABLES": "glibc.malloc.hugetlb=1:glibc.malloc.top_pad=67108864"}
 # A machine of HOSTS: `:` or its name, with or without a user, and before that how many cores it has.
 NAME = "[A-Za-z0-9_.][A-Za-z0-9_.-]*"

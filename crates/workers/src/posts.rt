@@ -219,7 +219,10 @@ impl<T: MemoryTable, X: Exchanging<T> + Drop, G: Gate + Drop, J: Job> Crew<J>
                 self.yard.give(rt, i, Duty::Job(job));
             }
         }
-        for job in own.into_iter().chain(jobs) {
+        if let Some(job) = own {
+            job.carry_out(rt);
+        }
+        for job in jobs {
             job.carry_out(rt);
         }
         self.yard.wait(rt);
@@ -295,8 +298,7 @@ impl<
             rt,
             move |scope|
                 requires { F.pre body lent }
-                ensures done { IfOk result (F.post body lent) }
-                ensures back { IfErr result (λ left. left ≡ lent) }
+                ensures { MatchResult result (F.post body lent) (λ left. left ≡ lent) }
             {
                 if self.start(scope, rt).is_err() {
                     return Err(lent);

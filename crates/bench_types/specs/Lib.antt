@@ -6,3 +6,4 @@ pub mod Mode
 pub mod Output
 pub mod Sums
 pub mod calls
+pub mod inner

@@ -2,6 +2,7 @@
 
 ghost use Rattle.std.specs.Prelude.{◌≡◌, ◌+◌, ◌<◌, ◌++◌, length, Some};
 ghost use Rattle.bench_types.specs.calls.FaultLine.{fault_line, filling_text};
+ghost use Rattle.bench_types.specs.inner.FaultParts.{filling_of, tail_of};
 ghost use Rattle.bench_types.specs.declared.faults.Fault.TheVariants.{OutOfMemory};
 
 use crate::fields::{Field, TableName};
@@ -42,67 +43,61 @@ impl Fault {
         ensures line { result.0.now ++ (filling_text result.1 ++ result.2.now) ≡ fault_line self.now }
         ensures room { length result.0.now + length result.2.now < 60 }
     {
+        (self.head(), self.filling(), self.tail())
+    }
+
+    // (the three apart, as to make the three at once in each arm is dear to prove)
+    fn head(&self) -> &'static str
+        ensures line { result.now ++ (filling_text (filling_of self.now) ++ tail_of self.now) ≡ fault_line self.now }
+        ensures room { length result.now + length (tail_of self.now) < 60 }
+    {
         match self {
-            Fault::OutOfMemory => ("fault 1: out of memory", Filling::Nothing, ""),
-            Fault::NotToml => ("fault 2: input is not TOML", Filling::Nothing, ""),
-            Fault::TooLong => (
-                "fault 3: input is longer than ",
-                Filling::Number(MOST_BYTES as u64),
-                " bytes",
-            ),
-            Fault::Missing(field) => ("fault 4: missing field ", Filling::Field(*field), ""),
-            Fault::WrongType(field) => (
-                "fault 5: wrong type of field ",
-                Filling::Field(*field),
-                "",
-            ),
-            Fault::OutOfRange(field) => (
-                "fault 6: field ",
-                Filling::Field(*field),
-                " is out of range",
-            ),
-            Fault::UnknownField(table) => (
-                "fault 7: unknown field in table ",
-                Filling::Table(*table),
-                "",
-            ),
-            Fault::TooLarge => (
-                "fault 8: nodes * nodes * keys is above ",
-                Filling::Number(MOST_ENTRIES),
-                "",
-            ),
-            Fault::NoThread => (
-                "fault 9: a thread could not be started",
-                Filling::Nothing,
-                "",
-            ),
-            Fault::Broken => ("fault 10: broken by an earlier fault", Filling::Nothing, ""),
-            Fault::Finished => ("fault 11: no round is left", Filling::Nothing, ""),
-            Fault::ReadFailed => ("fault 12: reading failed", Filling::Nothing, ""),
-            Fault::WriteFailed => ("fault 13: writing failed", Filling::Nothing, ""),
-            Fault::Stranger => ("fault 14: no exchange has this stamp", Filling::Nothing, ""),
-            Fault::Double => ("fault 15: this stamp has a record", Filling::Nothing, ""),
-            Fault::NoRecord(exchange) => (
-                "fault 16: no record of exchange ",
-                Filling::Number(u64::from(*exchange)),
-                "",
-            ),
-            Fault::Unfinished => ("fault 17: exchanges are unfinished", Filling::Nothing, ""),
-            Fault::NotAllowed => (
-                "fault 18: this exchange may not start",
-                Filling::Nothing,
-                "",
-            ),
-            Fault::NotRunning => (
-                "fault 19: this exchange is not running",
-                Filling::Nothing,
-                "",
-            ),
-            Fault::BudgetTooSmall => (
-                "fault 20: budget_bytes is below ",
-                Filling::Number(u64::from(MOST_ENTRY_SIZE)),
-                "",
-            ),
+            Fault::OutOfMemory => "fault 1: out of memory",
+            Fault::NotToml => "fault 2: input is not TOML",
+            Fault::TooLong => "fault 3: input is longer than ",
+            Fault::Missing(_) => "fault 4: missing field ",
+            Fault::WrongType(_) => "fault 5: wrong type of field ",
+            Fault::OutOfRange(_) => "fault 6: field ",
+            Fault::UnknownField(_) => "fault 7: unknown field in table ",
+            Fault::TooLarge => "fault 8: nodes * nodes * keys is above ",
+            Fault::NoThread => "fault 9: a thread could not be started",
+            Fault::Broken => "fault 10: broken by an earlier fault",
+            Fault::Finished => "fault 11: no round is left",
+            Fault::ReadFailed => "fault 12: reading failed",
+            Fault::WriteFailed => "fault 13: writing failed",
+            Fault::Stranger => "fault 14: no exchange has this stamp",
+            Fault::Double => "fault 15: this stamp has a record",
+            Fault::NoRecord(_) => "fault 16: no record of exchange ",
+            Fault::Unfinished => "fault 17: exchanges are unfinished",
+            Fault::NotAllowed => "fault 18: this exchange may not start",
+            Fault::NotRunning => "fault 19: this exchange is not running",
+            Fault::BudgetTooSmall => "fault 20: budget_bytes is below ",
+        }
+    }
+
+    fn filling(&self) -> Filling
+        ensures { result ≡ filling_of self.now }
+    {
+        match self {
+            Fault::TooLong => Filling::Number(MOST_BYTES as u64),
+            Fault::Missing(field) | Fault::WrongType(field) | Fault::OutOfRange(field) => {
+                Filling::Field(*field)
+            }
+            Fault::UnknownField(table) => Filling::Table(*table),
+            Fault::TooLarge => Filling::Number(MOST_ENTRIES),
+            Fault::NoRecord(exchange) => Filling::Number(u64::from(*exchange)),
+            Fault::BudgetTooSmall => Filling::Number(u64::from(MOST_ENTRY_SIZE)),
+            _ => Filling::Nothing,
+        }
+    }
+
+    fn tail(&self) -> &'static str
+        ensures { result.now ≡ tail_of self.now }
+    {
+        match self {
+            Fault::TooLong => " bytes",
+            Fault::OutOfRange(_) => " is out of range",
+            _ => "",
         }
     }
 }

@@ -9,3 +9,4 @@ pub mod Workshops
 pub mod Shifts
 pub mod Handed
 pub mod Works
+pub mod Loans

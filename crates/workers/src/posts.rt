@@ -8,6 +8,7 @@ ghost use Rattle.list_order.specs.Carrying.{MayCarryOut, IsBatchDone};
 ghost use Rattle.crew.specs.Named.{post_count};
 ghost use Rattle.workers.specs.inner.Handed.{MayHandOut};
 ghost use Rattle.workers.specs.inner.Joined.{HasSharedOut};
+ghost use Rattle.workers.specs.inner.Loans.{IsLoanDone, MayBeLent};
 ghost use Rattle.workers.specs.inner.Outcomes.{ComesTo};
 ghost use Rattle.workers.specs.inner.Works.{MayShareOut};
 
@@ -41,6 +42,14 @@ impl<T: MemoryTable, X: Exchanging<T> + Drop, G: Gate + Drop, J: Job> Duty<T, X,
             Duty::Job(job) => job.carry_out(rt),
         }
     }
+}
+
+/// One list with its tables, and what is called meanwhile.
+#[derive(Drop)]
+pub(crate) struct Loan<'a, T, X, G, F> {
+    pub batch: Batch<'a, X, G>,
+    pub tables: Vec<T>,
+    pub meanwhile: F,
 }
 
 /// Where workers are given lists to carry out, or jobs of another kind. Each has a thread of its own, but that the
@@ -210,7 +219,10 @@ impl<T: MemoryTable, X: Exchanging<T> + Drop, G: Gate + Drop, J: Job> Crew<J>
                 self.yard.give(rt, i, Duty::Job(job));
             }
         }
-        for job in own.into_iter().chain(jobs) {
+        if let Some(job) = own {
+            job.carry_out(rt);
+        }
+        for job in jobs {
             job.carry_out(rt);
         }
         self.yard.wait(rt);
@@ -223,36 +235,44 @@ impl<
     G: Gate + Send + Sync + Drop,
     J: Job + Send,
 > Posts<T, X, G, J> {
-    /// Starts the threads, if there are several workers, lends them one list with its tables and what is called
-    /// meanwhile, and sends them home.
+    /// Starts the threads, if there are several workers, lends them one list, and sends them home.
     pub(crate) fn carry_out_once<R: Threads + Wait + Sync, F: FnOnce() -> M + Drop, M: Drop>(
         self,
         rt: &R,
-        lent: (Batch<X, G>, Vec<T>, F),
+        loan: Loan<T, X, G, F>,
     ) -> Result<Done<T, X, M>, Fault>
-        requires tables { MayShareOut T.table X.fits lent.0 lent.1.items }
-        requires meanwhile { F.pre lent.2 }
-        ensures { MatchResult result
-            (IsBatchDone T.table lent.entry.0 lent.entry.1.items (F.post lent.entry.2)) (IsFaultOfWorkers self) }
+        requires { MayBeLent T.table X.fits F.pre loan }
+        ensures { MatchResult result (IsLoanDone T.table F.post loan.entry) (IsFaultOfWorkers self) }
     {
         let posts = &self;
         let answer = posts.with_threads(
             rt,
-            lent,
-            move |lent|
-                requires tables { MayShareOut T.table X.fits lent.0 lent.1.items }
-                requires meanwhile { F.pre lent.2 }
-                ensures done { IfOk result (IsBatchDone T.table lent.entry.0 lent.entry.1.items (F.post lent.entry.2)) }
-                ensures only { IsOkUnless result OutOfMemory }
-            {
-                let (batch, tables, meanwhile) = lent;
-                posts.carry_out(rt, batch, tables, meanwhile)
-            },
+            loan,
+            move |loan|
+                requires { MayBeLent T.table X.fits F.pre loan }
+                ensures { ComesTo result (IsLoanDone T.table F.post loan.entry) }
+            { posts.carry_out_loan(rt, loan) },
         );
         match answer {
             Ok(done) => done,
             Err(_) => Err(Fault::NoThread),
         }
+    }
+
+    fn carry_out_loan<R: Wait, F: FnOnce() -> M + Drop, M: Drop>(
+        &self,
+        rt: &R,
+        loan: Loan<T, X, G, F>,
+    ) -> Result<Done<T, X, M>, Fault>
+        requires { MayBeLent T.table X.fits F.pre loan }
+        ensures { ComesTo result (IsLoanDone T.table F.post loan.entry) }
+    {
+        let Loan {
+            batch,
+            tables,
+            meanwhile,
+        } = loan;
+        self.carry_out(rt, batch, tables, meanwhile)
     }
 
     /// Starts the threads, if there are several workers, calls `body` with what is lent and sends them home. Where one
@@ -278,8 +298,7 @@ impl<
             rt,
             move |scope|
                 requires { F.pre body lent }
-                ensures done { IfOk result (F.post body lent) }
-                ensures back { IfErr result (λ left. left ≡ lent) }
+                ensures { MatchResult result (F.post body lent) (λ left. left ≡ lent) }
             {
                 if self.start(scope, rt).is_err() {
                     return Err(lent);

@@ -5,7 +5,7 @@ ghost use Rattle.model.specs.Runs.{AreWorkers, IsFaultOfWorkers};
 ghost use Rattle.list_order.specs.Carrying.{MayCarryOut, AreExchanged};
 
 use crate::lent::Lent;
-use crate::posts::Posts;
+use crate::posts::{Loan, Posts};
 use bench_types::{Fault, Record};
 use crew::NoJob;
 use list_order::{Batch, Gate, Work};
@@ -58,6 +58,11 @@ pub fn run_list_with<
         rules: work.rules,
         gate: work.gate,
     };
-    let done = posts.carry_out_once(rt, (batch, tables, meanwhile))?;
+    let loan = Loan {
+        batch,
+        tables,
+        meanwhile,
+    };
+    let done = posts.carry_out_once(rt, loan)?;
     Ok((done.tables, done.records, done.made))
 }

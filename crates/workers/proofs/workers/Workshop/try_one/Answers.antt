@@ -1,4 +1,6 @@
 use Rattle.workers.proofs.Common.{◌≡◌, ℕ, List, [], ◌∷◌, ◌++◌, map, All, sym, ap, ◌∙◌, subst, append_assoc, map-append, All-push, SeatView, BoardPlan, Freed, as_list, plan_of, seat_view, IsHoldOf, now_held}
+use Rattle.board.specs.Boards.{IsPutBack}
+use Rattle.board.specs.SeatView.{with_held}
 use Rattle.workers.specs.declared.gathering.Stamped.{Stamped}
 use Rattle.deques.specs.Pushes.{pushed}
 use Rattle.workers.specs.inner.Returns.{HasDone, IsRecordOf, AreRecordsOf}
@@ -8,16 +10,22 @@ use Rattle.workers.proofs.workers.Workshop.try_one.Goals as goal
 both_behind : (l m n first second : List ℕ) → m ≡ l ++ first → n ≡ m ++ second → n ≡ l ++ (first ++ second)
 both_behind l m n first second once twice = twice ∙ ap (λ k. k ++ second) once ∙ append_assoc l first second
 
--- with one more, after a claim that leaves what was made
--- The records that a worker keeps.
-one_more_record : (plan : BoardPlan) (old claimed new : SeatView) (stamps more : List Stamped) (i : ℕ) (stamped : Stamped) (freed : Freed)
-    → claimed.made ≡ old.made → more ≡ stamps ++ stamped ∷ []
+-- what a claim and then the release of what waited for it have freed
+freed_more : (plan : BoardPlan) (old claimed new : SeatView) (i j : ℕ) (freed : Freed) → claimed ≡ with_held old j
+    → IsPutBack plan claimed i freed new → new.freed ≡ old.freed ++ (as_list freed.first ++ as_list freed.second)
+freed_more plan old claimed new i j freed held put_back =
+    both_behind old.freed (claimed.freed ++ as_list freed.first) new.freed (as_list freed.first) (as_list freed.second)
+    (ap (λ (v : SeatView). v.freed ++ as_list freed.first) held) (ap (λ (v : SeatView). v.freed) put_back.seat)
+
+-- the records that a worker keeps, with one more
+one_more_record : (plan : BoardPlan) (old claimed new : SeatView) (stamps more : List Stamped) (i j : ℕ) (stamped : Stamped) (freed : Freed)
+    → claimed ≡ with_held old j → more ≡ stamps ++ stamped ∷ []
     → AreRecordsOf plan old stamps → HasDone plan claimed i stamped freed new → AreRecordsOf plan new more
-one_more_record plan old claimed new stamps more i stamped freed same pushed so_far done = record {
+one_more_record plan old claimed new stamps more i j stamped freed held pushed so_far done = record {
   made =
       ap (map (λ (s : Stamped). s.index)) pushed
       ∙ map-append (λ (s : Stamped). s.index) stamps (stamped ∷ [])
-      ∙ ap (λ l. l ++ stamped.index ∷ []) (so_far.made ∙ sym same)
+      ∙ ap (λ l. l ++ stamped.index ∷ []) (so_far.made ∙ sym (ap (λ (v : SeatView). v.made) held))
       ∙ ap (λ j. claimed.made ++ j ∷ []) done.index
       ∙ sym (ap (λ (v : SeatView). v.made) done.put_back.seat);
   each = subst (All (IsRecordOf plan)) (sym pushed) (All-push (IsRecordOf plan) stamps stamped so_far.each done.stamp);
@@ -35,21 +43,22 @@ carry_out-requires-clause-hold g c =
 
 pub returns-clause-worked : goal.returns-clause-worked
 returns-clause-worked g c =
+    let plan = plan_of g.T.MemoryTable.table c.args.self.now.board in
     let old = seat_view c.args.worker.now.seat in
-    let first : List ℕ = as_list c.in_ok-stamped.freed.first in
-    let second : List ℕ = as_list c.in_ok-stamped.freed.second in
+    let claimed = seat_view c.claim.new.seat in
+    let new = seat_view c.carry_out.new.seat in
+    let i = c.in-Held.hold.index in
+    let freed = c.in_ok-stamped.freed in
+    let held = c.in-Held.ensures.claim.1 in
     let done = c.in_ok-stamped.ensures.done in
     record {
       records =
-          one_more_record (plan_of g.T.MemoryTable.table c.args.self.now.board) old (seat_view c.claim.new.seat) (seat_view c.carry_out.new.seat)
-          c.args.worker.now.stamps.items c.push.new.self.items c.in-Held.hold.index c.in_ok-stamped.stamped c.in_ok-stamped.freed
-          (ap (λ (v : SeatView). v.made) c.in-Held.ensures.claim.1) c.in_ok-push.ensures.items c.requires.worker.records done;
+          one_more_record plan old claimed new c.args.worker.now.stamps.items c.push.new.self.items i c.args.i c.in_ok-stamped.stamped freed
+          held c.in_ok-push.ensures.items c.requires.worker.records done;
       pushes = record {
-        ready = first ++ second;
-        freed = both_behind old.freed ((seat_view c.claim.new.seat).freed ++ first) (seat_view c.carry_out.new.seat).freed first second
-            (ap (λ (v : SeatView). v.freed ++ first) c.in-Held.ensures.claim.1)
-            (ap (λ (v : SeatView). v.freed) done.put_back.seat);
-        pushed = both_behind (pushed c.args.worker.now.tasks) (pushed c.push_freed.new.self) (pushed c.push_freed-2.new.self) first second
-            c.in_ok-push_freed.ensures.pushed c.in_ok-push_freed-2.ensures.pushed;
+        ready = as_list freed.first ++ as_list freed.second;
+        freed = freed_more plan old claimed new i c.args.i freed held done.put_back;
+        pushed = both_behind (pushed c.args.worker.now.tasks) (pushed c.push_freed.new.self) (pushed c.push_freed-2.new.self)
+            (as_list freed.first) (as_list freed.second) c.in_ok-push_freed.ensures.pushed c.in_ok-push_freed-2.ensures.pushed;
       };
     }

@@ -1,7 +1,7 @@
 -- Runs of an offer, gone over as long as they fit.
 -- Serves `depth` and `next_runs`.
-use Rattle.delta_plans.proofs.Common.{◌≡◌, ℕ, ◌+◌, ◌-◌, ◌*◌, ◌<◌, ◌≤◌, cond, eqb, leb, ltb, List, length, get_or, map, inl, inr, Some, Vec, Global, sym, ap, ◌∙◌, subst, arith, nat_tests, cases_eq, length-map, amount_of, Cells, count_above, count_between, HasNoneAbove, HasEach, AreChanged, count_le, sum_below, sum_below-same, MOST_KEYS, Offer, Level, Step, Oldest, Newest, cells_in, low_in, high_in, owner_count_in, marks, weights_in, weight_in, IsLeftOf, IsOffer, AreMarksFrom, AreRunsFrom, AreNextRuns, AreLevelMarks, weight_of}
-use Rattle.delta_plans.proofs.WeightLaws.{parts_of, offer-none, sum_below-each_none, sum_below-none, weight_of-none, where_true}
+use Rattle.delta_plans.proofs.Common.{◌≡◌, ℕ, ◌+◌, ◌-◌, ◌*◌, ◌<◌, ◌≤◌, cond, eqb, leb, ltb, List, length, get_or, map, inl, inr, Some, Vec, Global, sym, ap, ◌∙◌, subst, arith, nat_tests, cases_eq, length-map, amount_of, Cells, count_above, count_between, HasNoneAbove, HasEach, count_le, sum_below-same, MOST_KEYS, Offer, Level, Step, Oldest, Newest, cells_in, low_in, high_in, owner_count_in, marks, weights_in, weight_in, IsLeftOf, IsOffer, AreMarksFrom, AreRunsFrom, AreNextRuns, step_of, AreLevelMarks, weight_of}
+use Rattle.delta_plans.proofs.WeightLaws.{offer-none, owner-most, parts_of, weight_of-none}
 use Rattle.delta_plans.proofs.LevelSteps.{IsLevelSoFar, level-first, level-left, level-next, step-is}
 
 module _ (cells : Cells) (keys owner low high : ℕ) (covered : HasNoneAbove cells keys owner high) where
@@ -12,14 +12,9 @@ module _ (cells : Cells) (keys owner low high : ℕ) (covered : HasNoneAbove cel
   count-covered : count_between cells keys owner low high ≡ above
   count-covered = sum_below-same keys _ _ (λ key lt. let le = covered key lt in grind (arith, nat_tests))
 
-  -- where there is nothing above the mark, nothing weighs
-  weight-empty : (weight : ℕ → ℕ) → above ≡ 0 → weight_of weight cells keys owner low high ≡ 0
-  weight-empty weight none = sum_below-none keys _ (λ key lt.
-      let out = sum_below-each_none keys (λ k. where_true (ltb low (cells owner k)) 1) none key lt in grind (arith, nat_tests))
-
   -- one owner's part of the next runs
-  run-told : (size near next found : ℕ) → found ≡ above → 0 < size → near ≡ cond (leb (size + 1) above) high low → next ≡ cond (eqb found size) high near
-      → (next ≡ cond (leb size above) high low) × (near ≤ next) × (where_true (eqb found size) 1 * size ≡ count_between cells keys owner near next)
+  pub run-told : (size near next found : ℕ) → found ≡ above → 0 < size → near ≡ cond (leb (size + 1) above) high low → next ≡ cond (eqb found size) high near
+      → (next ≡ cond (leb size above) high low) × (near ≤ next) × (cond (ltb near next) 1 0 * size ≡ count_between cells keys owner near next)
   run-told size near next found counted some longer is = elim (cases_eq above size) [
     | inl same ↦
         let from : near ≡ low = grind (arith, nat_tests) in
@@ -32,19 +27,6 @@ module _ (cells : Cells) (keys owner low high : ℕ) (covered : HasNoneAbove cel
         let none = weight_of-none (λ _. 1) cells keys owner near next (omega (arith, stays)) in
         grind (arith, nat_tests)
   ]
-
--- what a step over the owners' runs writes
-pub next-runs : {N : Type 0} {number : N → ℕ} {most : ℕ} {offer : Offer N} {counts near : List N} {size : ℕ}
-    → AreRunsFrom number most offer counts near size → (old new : List N) (owners : ℕ) (step : Step N) → old ≡ near
-    → step.marks.items ≡ new → step.more ≡ owners * size
-    → AreChanged (λ r x y. y ≡ cond (eqb (get_or (map number counts) r 0) size) (get_or (map number offer.high.now) r 0) x) (map number old) (map number new)
-    × (owners ≡ sum_below (length old) (λ r. cond (eqb (get_or (map number counts) r 0) size) 1 0))
-    → AreNextRuns number offer (marks number near) size step
-next-runs {number = number} {offer = offer} {counts} {near} {size} from old new owners step same whole more done =
-    step-is number offer (marks number near) size _ _ old new owners step (ap length same ∙ from.each_near) whole more done (λ r lt made.
-    run-told (cells_in number offer) offer.grid.size.keys r (low_in number offer r) (high_in number offer r) (from.is_offer.covered r lt) size
-    (marks number near r) (marks number step.marks.items r) (get_or (map number counts) r 0) (from.counts_are.each r lt) from.some (from.longer r lt)
-    (made ∙ (λ i. cond (eqb (get_or (map number counts) r 0) size) (high_in number offer r) (marks number (same i) r))))
 
 -- runs as far as they were gone over: the longer ones fit, and those of this size are next
 pub record HasRuns {N : Type 0} (number : N → ℕ) (most : ℕ) (offer : Offer N) (counts : List N) (level : Level N) (size more : ℕ) : Type 0 where
@@ -66,7 +48,8 @@ module _ {N : Type 0} {number : N → ℕ} {most : ℕ} {offer : Offer N} (is : 
       all none owner lt =
           let here = longer owner lt in
           let nothing = weight_of-none (weights_in offer owner) cells keys owner (low owner) (low owner) (omega arith) in
-          let empty = weight-empty cells keys owner (low owner) (high owner) (is.covered owner lt) (weights_in offer owner) in
+          let few = owner-most number offer keys owner (low owner) (high owner) in
+          let counted = count-covered cells keys owner (low owner) (high owner) (is.covered owner lt) in
           grind (arith, nat_tests)
 
   module _ (beyond : amount_of offer.budget < weight_in number offer low high) where
@@ -89,11 +72,6 @@ module _ {N : Type 0} {number : N → ℕ} {most : ℕ} {offer : Offer N} (is : 
             let its = known.each r lt in
             grind (arith, nat_tests)
 
-    pub runs-first : {counts : List N} {size : ℕ} {near : Vec N Global} {step : Step N} → AreRunsFrom number most offer counts near.items size
-        → near.items ≡ offer.low.now → AreNextRuns number offer (marks number near.items) size step
-        → HasRuns number most offer counts (record { near = near; far = step.marks; whole = 0; left = amount_of offer.budget }) size step.more
-    runs-first from start runs = record { so_far = level-first is start runs; from = from; next = runs.next }
-
     module _ {counts : List N} {level : Level N} {size more : ℕ} (has : HasRuns number most offer counts level size more)
         {left : ℕ} (fits : IsLeftOf level.left (weight_in number offer (marks number level.near.items) (marks number level.far.items)) (Some left)) where
       -- and then those of one number less
@@ -108,10 +86,6 @@ module _ {N : Type 0} {number : N → ℕ} {most : ℕ} {offer : Offer N} (is : 
             few = omega (arith, has.from.few);
             longer = longer;
           }
-
-      pub runs-next : {step : Step N} → AreNextRuns number offer (marks number level.far.items) (size - 1) step → HasRuns number most offer counts
-          (record { near = level.far; far = step.marks; whole = level.whole + more; left = left }) (size - 1) step.more
-      runs-next runs = record { so_far = level-next is has.so_far fits runs; from = runs-from_next; next = runs.next }
 
   -- the level at which they end
   pub level-of_runs : {counts : List N} {level : Level N} {size more : ℕ} → HasRuns number most offer counts level size more

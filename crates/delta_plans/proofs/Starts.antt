@@ -10,12 +10,6 @@ pub all_writes-here : (lists : List OwnerListView) (owner : ℕ) (x : OwnerListV
     → all_writes lists owner ≡ entries_of x
 all_writes-here lists owner x lt is = ap entries_of (list-here lists owner x lt is)
 
-pub start-upto : (writes : List Entry) (number : ℕ) → start_of writes number ≤ number
-start-upto writes number = elim (write_numbered writes number) as (λ o. start_before number o ≤ number) [
-  | None ↦ omega arith
-  | Some e ↦ omega arith
-]
-
 -- a write of an owner's own generation has all those of earlier ones before it
 pub start_own : (v : OwnerListView) (number : ℕ) → AreWrites v → length v.earlier < number → number ≤ length (entries_of v)
     → start_of (entries_of v) number ≡ length v.earlier
@@ -33,7 +27,8 @@ pub start-lower : (most : ℕ) (v : OwnerListView) (x base y : ℕ) → IsKnown 
 start-lower most v x base y known own lower =
     let behind : base < x → start_of (entries_of v) x ≡ base = λ lt.
     start_own v x known.writes (omega (arith, lt, known.based)) known.within ∙ sym known.based in
-    grind (arith, lower, own, behind, start-upto (entries_of v) x)
+    let none : x ≡ 0 → start_of (entries_of v) x ≡ 0 = ap (start_of (entries_of v)) in
+    grind (arith, lower, own, behind, none)
 
 -- the receiver's own mark is put
 pub told-set : (kind : DigestKind) (most node : ℕ) (lists : ℕ → List Entry) (old new : List ℕ)

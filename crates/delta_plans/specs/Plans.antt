@@ -89,7 +89,3 @@ pub record AreRunsFrom {N : Type 0} (number : N → ℕ) (most : ℕ) (offer : O
   pub some : 0 < size
   pub few : size ≤ MOST_KEYS
   pub longer : AreMarksFrom number offer (size + 1) (marks number near)
-
--- and those of that size are next
-abbrev pub AreNextRuns : {N : Type 0} → (N → ℕ) → Offer N → (ℕ → ℕ) → ℕ → Step N → Type 0
-AreNextRuns number offer near size = IsStep number offer near (IsMarkFrom number offer size)

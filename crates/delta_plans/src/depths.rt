@@ -4,7 +4,7 @@ ghost use Rattle.std.specs.Prelude.{ℕ, ◌<◌, ◌≤◌, length, map, slice_
 ghost use Rattle.delta_plans.specs.Common.{MOST_KEYS, ScuttleDepth};
 ghost use Rattle.delta_plans.specs.Marked.{IsLevelOf};
 ghost use Rattle.delta_plans.specs.OfferInMemory.{marks, IfGranted, IsTooLarge};
-ghost use Rattle.delta_plans.specs.Plans.{AreNextRuns, AreRunsFrom};
+ghost use Rattle.delta_plans.specs.Plans.{AreRunsFrom, IsMarkFrom, IsStep};
 
 use crate::offers::{Level, Offer, Step, step_to};
 use bench_types::Fault;
@@ -34,7 +34,7 @@ fn next_runs<N: Number>(
 ) -> Result<Step<N>, Fault>
     requires { AreRunsFrom N.number N.most offer.now counts.now near.now size }
     ensures { IfGranted result
-        (λ s. AreNextRuns N.number offer.now (marks N.number near.now) size s) }
+        (IsStep N.number offer.now (marks N.number near.now) (IsMarkFrom N.number offer.now size)) }
 {
     let mut far = Vec::from_slice(alloc, near)?;
     let high = offer.high;

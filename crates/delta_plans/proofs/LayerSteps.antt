@@ -1,8 +1,8 @@
 -- Layers of an offer, gone over as long as they fit.
 -- Serves `breadth` and `one_more`.
-use Rattle.delta_plans.proofs.Common.{◌≡◌, ℕ, ◌+◌, ◌-◌, ◌*◌, ◌<◌, ◌≤◌, cond, leb, ltb, List, length, get_or, inl, inr, Some, Vec, Global, sym, ◌∙◌, arith, nat_tests, cases_lt, le-leb, lt-leb, lt-ltb, le-ltb, amount_of, Cells, count_between, HasEach, IsNextAbove, IsLeastAbove, sum_below-same, NumbersDiffer, Oldest, Offer, Level, Step, cells_in, low_in, marks, weights_in, weight_in, count_in, IsLeftOf, IsOffer, IsNextLayer, IsNextMark, step_of, AreLevelMarks, rank_above}
+use Rattle.delta_plans.proofs.Common.{◌≡◌, ℕ, ◌+◌, ◌-◌, ◌*◌, ◌<◌, ◌≤◌, cond, leb, ltb, inl, inr, Some, Vec, Global, sym, ◌∙◌, arith, nat_tests, cases_lt, le-leb, lt-leb, lt-ltb, le-ltb, amount_of, Cells, count_between, IsNextAbove, IsLeastAbove, sum_below-same, NumbersDiffer, Oldest, Offer, Level, Step, cells_in, low_in, marks, weights_in, weight_in, count_in, IsLeftOf, IsOffer, IsNextLayer, IsNextMark, AreLevelMarks, rank_above}
 use Rattle.delta_plans.proofs.WeightLaws.{offer-beyond, offer-parts, part, parts_of, sum_below-each_none, weight_of-none, weight_of-one, weight_of-split}
-use Rattle.delta_plans.proofs.LevelSteps.{IsLevelSoFar, level-first, level-left, level-next, step-is}
+use Rattle.delta_plans.proofs.LevelSteps.{IsLevelSoFar, level-first, level-left, level-next}
 
 -- a mark that lets through an owner's first so many numbers above another, or all where there are no more
 pub record IsLayerMark (cells : Cells) (keys owner low layers mark : ℕ) : Type 0 where

@@ -57,7 +57,7 @@ module _ {N : Type 0} {number : N → ℕ} {most : ℕ} {offer : Offer N} (is : 
     pub level-few : level.whole + more ≤ MOST_NODES * MOST_KEYS
     level-few = omega (arith, so_far.whole, so_far.added, split one_each, offer-few is low far)
 
-    -- whether what lies between the marks fits is asked
+    -- so many numbers lie between the marks
     pub level-asked : AreCounted number most offer more level.near.items level.far.items
     level-asked = record { has_marks = record { is_offer = is; each_low = so_far.near; each_high = so_far.far }; counted = so_far.added }
 

@@ -34,11 +34,12 @@ module _ {N : Type 0} {number : N → ℕ} {most : ℕ} (rounds : Rounds N) (is 
   offered = is.too_large.is_offer
 
   -- how many are above marks, and up to them
-  pub rounds-count : (mark : ℕ → ℕ) → ((r : ℕ) → r < nodes → low r ≤ mark r) → {above : ℕ} → above ≡ total_of nodes keys (λ r k. nat_lt (mark r) (cells r k))
-      → (above ≡ count_on Newest number offer mark) × (count_on Oldest number offer mark + above ≡ offer.found)
-  rounds-count mark raised told =
-      let counted = told ∙ count-above cells nodes keys high offered.covered mark in
-      (counted, omega (arith, offered.found, counted, offer-parts offered one_each mark raised))
+  pub rounds-count : {mark : List N} → AreRaised number most rounds mark → {above : ℕ}
+      → above ≡ total_of nodes keys (λ r k. nat_lt (marks number mark r) (cells r k))
+      → (above ≡ count_on Newest number offer (marks number mark)) × (count_on Oldest number offer (marks number mark) + above ≡ offer.found)
+  rounds-count {mark} raised told =
+      let counted = told ∙ count-above cells nodes keys high offered.covered (marks number mark) in
+      (counted, omega (arith, offered.found, counted, offer-parts offered one_each (marks number mark) raised.above))
 
   module _ (owner key : ℕ) (in_nodes : owner < nodes) (in_keys : key < keys) where
     -- a number is up to a round's end where it was written by then
@@ -112,12 +113,8 @@ module _ {N : Type 0} {number : N → ℕ} {most : ℕ} (rounds : Rounds N) (is 
       -- one more look finds more rounds that fit
       pub further : {found : Fit} → IsFound number rounds (marks number items) (Some found) → count < enough
           → AreFewAndEnough number rounds count enough found
-      further {found} look lt = record {
-        below = lt;
-        bound = so_far.bound;
-        fits = rw (← let_through one_each, ← let_through (weights_in offer)) look;
-        beyond = so_far.beyond;
-      }
+      further look lt =
+          record { below = lt; bound = so_far.bound; fits = rw (← let_through one_each, ← let_through (weights_in offer)) look; beyond = so_far.beyond }
 
       -- or that fewer are enough
       pub nearer : IsFound number rounds (marks number items) None → few < count → count ≤ enough → AreFewAndEnough number rounds few count fit

@@ -1,6 +1,6 @@
 -- Where generations start in an owner's list.
 -- Serves `put_starts`, `told` and `version_tables`.
-use Rattle.delta_plans.proofs.Common.{◌≡◌, ℕ, ◌-◌, ◌<◌, ◌≤◌, min, List, length, get_or, set, Some, None, inl, inr, refl, sym, ap, ◌∙◌, arith, nat_tests, cases_eq, get_or_default, get_or-append_right, get_or-set_same, get_or-set_other, length-set, length-append, Entry, DigestKind, write_numbered, OwnerListView, all_writes, entries_of, list_of_owner, no_writes, AreWrites, AreChanged, start_before, start_of, numbered-placed, numbered-some, told_by, told_number, IsKnown}
+use Rattle.delta_plans.proofs.Common.{◌≡◌, ℕ, ◌-◌, ◌<◌, ◌≤◌, min, List, length, get_or, set, inl, inr, refl, sym, ap, ◌∙◌, arith, nat_tests, cases_eq, get_or_default, get_or-append_right, get_or-set_same, get_or-set_other, length-set, length-append, Entry, DigestKind, OwnerListView, all_writes, entries_of, list_of_owner, no_writes, AreWrites, AreChanged, start_before, start_of, numbered-placed, numbered-some, told_by, told_number, IsKnown}
 
 -- an owner's writes are those of its list
 pub list-here : (lists : List OwnerListView) (owner : ℕ) (x : OwnerListView) → owner < length lists → x ≡ get_or lists owner x → list_of_owner lists owner ≡ x

@@ -36,7 +36,7 @@ module _ (t : Table) (proper : IsProper t) where
       sym (tied-stands_at (get_or (items_of t) i d).owner (get_or (items_of t) i d).entry.key (get_or (items_of t) j d))
       ∙ ap is_eq (apart-items_of t proper i j d lt in_range)
 
-  -- the items of a place
+  -- a sum over the items of a place
   at_place : (f : Item → ℕ) (owner key : ℕ) → sum_at f (items_of t) owner key ≡ number_there f t owner key
   at_place f owner key =
       sym (sum_by-filter (stands_at owner key) f (items_of t))

@@ -1,5 +1,5 @@
 -- The owners' turns in a level.
--- Serves the functions of `rounds` and `sharing` and `RoundMarks`.
+-- Serves `Turns::count_of_parts`, `Turns::pass_many`, `Turns::share_into`, `Turns::weight_of_part` and `RoundMarks`.
 use Rattle.delta_plans.proofs.Common.{◌≡◌, ◌≢◌, ℕ, suc, ◌+◌, ◌-◌, ◌*◌, ◌<◌, ◌≤◌, cond, ltb, List, get_or, set, map, inl, inr, refl, sym, ap, ◌∙◌, subst, transport, arith, nat_tests, get_or-set_same, get_or-set_other, length-map, map-set, Entries, MOST_NODES, MOST_KEYS, MOST_ENTRY_SIZE, cases_eq, Cells, HasNoneAbove, sum_below-same, rotated, rotated-injective, rotated-is, First, Oldest, Newest, Reached, Turns, by_first, marks, weights_in, AreFarther, lt-ltb, le-ltb, IsStopOf, weight_to, part_weight, parts_count, reached_after, AreTurns, HasReached, AreSharedBy, length-set, weight_of, weight_from, weight_through, one_each}
 use Rattle.delta_plans.proofs.WeightLaws.{offer-few, owner-entries, owner-most, parts_of, sum_below-changed, sum_below-longer, weight_of-parts, weight_of-split}
 use Rattle.delta_plans.proofs.StopSteps.{few-from, stop-tells}

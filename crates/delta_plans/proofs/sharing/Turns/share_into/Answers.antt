@@ -54,3 +54,8 @@ count_of_part-count-requires g c =
 pub weight_of_part-weight-requires : goal.weight_of_part-weight-requires
 weight_of_part-weight-requires g c =
     record { turns = c.loop-turn.invariant.are; owner = c.owner_of_turn-owner.ensures.below; count = c.count_of_part-count.ensures.count }
+
+pub stop_of-stop-requires : goal.stop_of-stop-requires
+stop_of-stop-requires g c =
+    let beyond = rw c.weight_of_part-weight.ensures at c.if-left-weight.true in
+    record { turns = c.loop-turn.invariant.are; owner = c.owner_of_turn-owner.ensures.below; beyond = beyond }

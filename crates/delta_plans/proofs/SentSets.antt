@@ -1,6 +1,6 @@
 -- Any set of candidates that is closed downwards, fits, and lets nothing more in is what is sent.
 -- Serves `deltas_have_their_sets` and `DeltaMarks`.
-use Rattle.delta_plans.proofs.Common.{is_lacked, ◌≡◌, ◌≢◌, ℕ, suc, ◌+◌, ◌-◌, ◌<◌, ◌≤◌, Bool, true, false, cond, not, List, [], ◌∷◌, refl, sym, ap, ◌∙◌, subst, arith, nat_tests, count_by, filter, IsPermutation, Contains, sum_by, Ordering, Less, Equal, Greater, is_lt, ordering_reverse, IsTotalOrder, tied_itself, both_ways, le-leb, lt-leb, AllPairs-filter, length_permutation, get_or-le-sum_by, sum_by-cons, length-filter, Item, items_of, stands_at, IsApart, candidates, DeltaView, delta_between, sending_order, sending_order-total, sending_order-strict, Contains-filter, Contains-kept, same_members, before_count, size_through, fits, sent, cut_count, Contains-first_places, first_places-Contains, sent_apart, size_in, IsKeptOut, IsSentSet, DeltasHaveTheirSets}
+use Rattle.delta_plans.proofs.Common.{is_lacked, ◌≡◌, ℕ, suc, ◌+◌, ◌-◌, ◌<◌, ◌≤◌, Bool, true, false, cond, not, List, [], ◌∷◌, refl, sym, ap, ◌∙◌, subst, arith, nat_tests, count_by, filter, IsPermutation, Contains, sum_by, Ordering, Less, Equal, Greater, is_lt, ordering_reverse, IsTotalOrder, tied_itself, both_ways, le-leb, lt-leb, AllPairs-filter, length_permutation, get_or-le-sum_by, sum_by-cons, length-filter, Item, items_of, stands_at, IsApart, candidates, DeltaView, delta_between, sending_order, sending_order-total, sending_order-strict, Contains-filter, Contains-kept, same_members, before_count, size_through, fits, sent, cut_count, Contains-first_places, first_places-Contains, sent_apart, size_in, IsKeptOut, IsSentSet, DeltasHaveTheirSets}
 use Rattle.delta_plans.proofs.Candidates.{table_apart}
 
 -- a sum over a list whose terms are no greater, and by how much, for the elements of the list
@@ -20,11 +20,6 @@ is_less : (r : Ordering) → is_lt r ≡ true → r ≡ Less
 is_less Less e = refl
 is_less Equal e = cc
 is_less Greater e = cc
-
-not_less : (r : Ordering) → r ≢ Less → is_lt r ≡ false
-not_less Less e = absurd (e refl)
-not_less Equal e = refl
-not_less Greater e = refl
 
 module _ {X : Type 0} {order : X → X → Ordering} {cs : List X} {size : X → ℕ} {is_in : X → Bool} {budget : ℕ} (total : IsTotalOrder order)
     (strict : (c d : X) → Contains cs c → Contains cs d → order c d ≡ Equal → c ≡ d) (is : IsSentSet order cs size is_in budget) where
@@ -53,7 +48,8 @@ module _ {X : Type 0} {order : X → X → Ordering} {cs : List X} {size : X →
       → size_in order cs size is_in + size out.next ≤ size_through order cs size c
   kept_out c at_c no' out = sum_by-more term (through c) cs (size out.next) out.next out.candidate
       (λ d at_d. let before = before_in c d at_c at_d in grind (arith, nat_tests))
-      (let no_later = not_less (order c out.next) out.no_later in grind (arith, nat_tests, out.outside))
+      (let no_later = λ (before : is_lt (order c out.next) ≡ true). out.no_later (is_less (order c out.next) before) in
+      grind (arith, nat_tests, out.outside, no_later))
 
   -- a candidate fits where it is in the set
   fits-is : (c : X) → Contains cs c → fits order cs size budget c ≡ is_in c

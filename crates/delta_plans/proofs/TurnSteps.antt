@@ -142,8 +142,7 @@ module _ {N : Type 0} {number : N → ℕ} {most : ℕ} {turns : Turns N} (are :
     -- a part without numbers weighs nothing
     pub part-none : count ≡ 0 → 0 ≡ part_weight number (weights_in offer owner) turns owner
     part-none none =
-        let low = by_first turns.first (near owner) (far owner) in
-        let most = owner-most number offer keys owner low (by_first turns.first (far owner) (near owner)) in
+        let most = owner-most number offer keys owner (by_first turns.first (near owner) (far owner)) (by_first turns.first (far owner) (near owner)) in
         omega (arith, most, ap (λ n. n * MOST_ENTRY_SIZE) (sym its ∙ none))
 
   -- owners in a row have their turns one after another: where entries are counted and the parts of all fit, one more has its

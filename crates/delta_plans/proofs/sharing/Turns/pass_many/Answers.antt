@@ -5,11 +5,6 @@ use Rattle.delta_plans.proofs.sharing.Turns.pass_many.Goals as goal
 pub loop-i-init : goal.loop-i-init
 loop-i-init g c = turns-same c.loop-reached.invariant.so_far (omega arith) (omega arith) (omega arith)
 
-pub count_of_parts-count-requires : goal.count_of_parts-count-requires
-count_of_parts-count-requires g c =
-    let below = c.owner_of_turn-owner.ensures.below in
-    record { are = c.requires.are; known = c.loop-reached.invariant.known; within = omega (arith, c.min-size.ensures, c.max.ensures, below) }
-
 pub number_at-requires : goal.number_at-requires
 number_at-requires g c =
     let owner = c.owner_of_turn-owner.ensures.below in

@@ -46,16 +46,3 @@ returns-then-left-weight g c =
 
 pub unreachable-requires : goal.unreachable-requires
 unreachable-requires g c = turns-end c.loop-turn.invariant.are c.loop-turn.invariant.so_far c.loop-turn-test.false
-
-pub count_of_part-count-requires : goal.count_of_part-count-requires
-count_of_part-count-requires g c =
-    record { are = c.loop-turn.invariant.are; known = c.loop-turn.invariant.known; within = omega (arith, c.owner_of_turn-owner.ensures.below) }
-
-pub weight_of_part-weight-requires : goal.weight_of_part-weight-requires
-weight_of_part-weight-requires g c =
-    record { turns = c.loop-turn.invariant.are; owner = c.owner_of_turn-owner.ensures.below; count = c.count_of_part-count.ensures.count }
-
-pub stop_of-stop-requires : goal.stop_of-stop-requires
-stop_of-stop-requires g c =
-    let beyond = rw c.weight_of_part-weight.ensures at c.if-left-weight.true in
-    record { turns = c.loop-turn.invariant.are; owner = c.owner_of_turn-owner.ensures.below; beyond = beyond }

@@ -1,7 +1,7 @@
 -- The items of a table are those of its places, so a sum over them is one over all places; candidates by their numbers,
 -- and sums over these.
 -- Serves `DeltaMarks`, `SentSets` and `version_tables`.
-use Rattle.delta_plans.proofs.Common.{◌≡◌, ◌≢◌, ℕ, suc, ◌<◌, Bool, true, false, cond, eqb, List, [], ◌∷◌, get_or, Some, None, refl, sym, ap, ◌∙◌, subst, arith, nat_tests, filter, Contains, Contains-get_or, ◌&&◌, sum_by, is_eq, sum_by-cons, Item, Mode, candidates, Table, entry_at, items_of, IsProper, stands_at, items_at, items_at-none, items_at-apart, IsApart, entry_at-items_of, Contains-items_of, apart-items_of, tied-stands_at, sum_below, sum_below-same, number_here, number_there, sum_over, ltb, inl, inr, cases_lt, cases_eq, le-ltb, both_ways, same_Some, Entry, generation_held, IsInPlace, Contains-filter, Contains-kept, rank_among, owner_count, IsHistory, write_numbered, Cells, count_above, versions-rise, number-of_version, Offers, is_lacked, item_number, offered_sum, rank_above}
+use Rattle.delta_plans.proofs.Common.{◌≡◌, ◌≢◌, ℕ, suc, ◌<◌, Bool, true, cond, eqb, List, [], ◌∷◌, get_or, Some, None, refl, sym, ap, ◌∙◌, subst, arith, nat_tests, filter, Contains, Contains-get_or, ◌&&◌, sum_by, is_eq, sum_by-cons, Item, Mode, candidates, Table, entry_at, items_of, IsProper, stands_at, items_at, items_at-none, items_at-apart, IsApart, entry_at-items_of, Contains-items_of, apart-items_of, tied-stands_at, sum_below, sum_below-same, number_here, number_there, sum_over, ltb, inl, inr, cases_lt, cases_eq, le-ltb, both_ways, same_Some, Entry, generation_held, IsInPlace, Contains-filter, Contains-kept, rank_among, owner_count, IsHistory, write_numbered, Cells, count_above, versions-rise, number-of_version, Offers, is_lacked, item_number, offered_sum, rank_above}
 use Rattle.delta_plans.proofs.WeightLaws.{sum_below-changed, sum_below-none, sum_below-one, where_true}
 
 -- a sum over those that pass a test
@@ -36,17 +36,14 @@ module _ (t : Table) (proper : IsProper t) where
       sym (tied-stands_at (get_or (items_of t) i d).owner (get_or (items_of t) i d).entry.key (get_or (items_of t) j d))
       ∙ ap is_eq (apart-items_of t proper i j d lt in_range)
 
-  -- the items of a place
-  none_at : (owner key : ℕ) → entry_at t owner key ≡ None → (i : Item) → Contains (items_of t) i → stands_at owner key i ≡ false
-  none_at owner key none i there = grind (arith, nat_tests, entry_at-items_of t i proper there)
-
+  -- a sum over the items of a place
   at_place : (f : Item → ℕ) (owner key : ℕ) → sum_at f (items_of t) owner key ≡ number_there f t owner key
   at_place f owner key =
       sym (sum_by-filter (stands_at owner key) f (items_of t))
       ∙ elim (entry_at t owner key) as (λ o. entry_at t owner key ≡ o → sum_by f (items_at owner key (items_of t)) ≡ number_here f owner o) [
         | None ↦ λ none.
-            ap (sum_by f) (items_at-none (items_of t) owner key
-            (λ k d lt. none_at owner key none (get_or (items_of t) k d) (Contains-get_or (items_of t) k d lt)))
+            ap (sum_by f) (items_at-none (items_of t) owner key (λ k d lt.
+            grind (arith, nat_tests, entry_at-items_of t (get_or (items_of t) k d) proper (Contains-get_or (items_of t) k d lt))))
         | Some e ↦ λ held.
             let i : Item = record { owner = owner; entry = e } in
             let alone = items_at-apart (items_of t) i table_apart (Contains-items_of t owner key e held) in

@@ -1,8 +1,8 @@
 -- Layers of an offer, gone over as long as they fit.
 -- Serves `breadth` and `one_more`.
-use Rattle.delta_plans.proofs.Common.{◌≡◌, ℕ, ◌+◌, ◌-◌, ◌*◌, ◌<◌, ◌≤◌, cond, leb, ltb, List, length, get_or, map, inl, inr, Some, Vec, Global, sym, ap, ◌∙◌, arith, nat_tests, cases_lt, le-leb, lt-leb, lt-ltb, le-ltb, length-map, amount_of, Cells, count_between, HasEach, IsNextAbove, IsLeastAbove, AreChanged, sum_below, sum_below-same, NumbersDiffer, Oldest, Offer, Level, Step, cells_in, low_in, marks, weights_in, weight_in, count_in, IsLeftOf, IsOffer, IsNextLayer, IsNextMark, AreLevelMarks, rank_above}
-use Rattle.delta_plans.proofs.WeightLaws.{part, parts_of, sum_below-each_none, weight_of-all, weight_of-none, weight_of-one, weight_of-split}
-use Rattle.delta_plans.proofs.LevelSteps.{IsLevelSoFar, level-first, level-left, level-next, step-is}
+use Rattle.delta_plans.proofs.Common.{◌≡◌, ℕ, ◌+◌, ◌-◌, ◌*◌, ◌<◌, ◌≤◌, cond, leb, ltb, inl, inr, Some, Vec, Global, sym, ◌∙◌, arith, nat_tests, cases_lt, le-leb, lt-leb, lt-ltb, le-ltb, amount_of, Cells, count_between, IsNextAbove, IsLeastAbove, sum_below-same, NumbersDiffer, Oldest, Offer, Level, Step, cells_in, low_in, marks, weights_in, weight_in, count_in, IsLeftOf, IsOffer, IsNextLayer, IsNextMark, AreLevelMarks, rank_above}
+use Rattle.delta_plans.proofs.WeightLaws.{offer-beyond, offer-parts, part, parts_of, sum_below-each_none, weight_of-none, weight_of-one, weight_of-split}
+use Rattle.delta_plans.proofs.LevelSteps.{IsLevelSoFar, level-first, level-left, level-next}
 
 -- a mark that lets through an owner's first so many numbers above another, or all where there are no more
 pub record IsLayerMark (cells : Cells) (keys owner low layers mark : ℕ) : Type 0 where
@@ -27,14 +27,14 @@ module _ (cells : Cells) (keys owner : ℕ) where
       grind (arith, nat_tests, here)
 
   -- the next number, or else the mark itself, which is counted where it is a number
-  next-told : (most mark least y : ℕ) → ((key : ℕ) → key < keys → cells owner key < most) → NumbersDiffer cells keys owner
+  pub next-told : (most mark least y : ℕ) → ((key : ℕ) → key < keys → cells owner key < most) → NumbersDiffer cells keys owner
       → IsNextAbove most cells keys owner mark least → y ≡ cond (ltb least most) least mark
-      → IsNextMark cells keys owner mark y × (mark ≤ y) × (cond (ltb least most) 1 0 * 1 ≡ count mark y)
+      → IsNextMark cells keys owner mark y × (mark ≤ y) × (cond (ltb mark y) 1 0 * 1 ≡ count mark y)
   next-told most mark least y below differ next settled = elim next [
     | inl none ↦
         let same : y ≡ mark = grind (arith, nat_tests, none.1) in
         let nothing = weight_of-none (λ _. 1) cells keys owner mark y (omega (arith, same)) in
-        (inl (none.0, same), omega (arith, same), grind (arith, nat_tests, none.1))
+        (inl (none.0, same), omega (arith, same), grind (arith, nat_tests))
     | inr some ↦
         let number : least < most = omega (arith, some.is, below some.key some.below) in
         let same : y ≡ least = grind (arith, nat_tests) in
@@ -69,19 +69,6 @@ module _ (cells : Cells) (keys owner : ℕ) where
           let full = is.full some.key some.below (omega (arith, some.is, some.above)) in
           omega (arith, is.above, some.above, split, one-next mark next differ some, full)
     ]
-
--- what a step over the owners' next numbers writes
-pub next-layer : {N : Type 0} {number : N → ℕ} {most : ℕ} {offer : Offer N} → IsOffer number most offer
-    → (near : ℕ → ℕ) (items old new : List N) (count : ℕ) (step : Step N) → old ≡ items
-    → HasEach offer.grid.size.nodes (λ r n. IsNextAbove most (cells_in number offer) offer.grid.size.keys r (near r) n) (map number items)
-    → step.marks.items ≡ new → step.more ≡ count
-    → AreChanged (λ r x y. y ≡ cond (ltb x most) x (near r)) (map number old) (map number new)
-    × (count ≡ sum_below (length old) (λ r. cond (ltb (get_or (map number old) r 0) most) 1 0))
-    → IsNextLayer number offer near step
-next-layer {number = number} {most = most} {offer = offer} is near items old new count step same found whole more done =
-    step-is number offer near 1 _ _ old new count step (ap length same ∙ sym (length-map items number) ∙ found.size) whole (omega (arith, more)) done
-    (λ r lt. next-told (cells_in number offer) offer.grid.size.keys r most (near r) (get_or (map number old) r 0) (marks number step.marks.items r)
-    (λ key in_keys. is.below r key lt in_keys) (is.differ r lt) (rw same (found.each r lt)))
 
 -- marks of so many layers
 abbrev pub AreLayerMarks : {N : Type 0} → (N → ℕ) → Offer N → ℕ → (ℕ → ℕ) → Type 0
@@ -136,12 +123,13 @@ module _ {N : Type 0} {number : N → ℕ} {most : ℕ} {offer : Offer N} (is : 
         where
           -- (a number beyond both would be of the next layer)
           all : count_in number offer near far ≡ 0 → weight_in number offer low far ≡ weight_in number offer low high
-          all none = sum_below-same offer.grid.size.nodes _ _ (λ owner lt.
+          all none =
+              let nothing = offer-beyond is (weights_in offer) far (λ owner lt key in_keys.
               let farther = has.so_far.farther owner lt in
               let split = weight_of-split (λ _. 1) cells offer.grid.size.keys owner (low owner) (near owner) (far owner) farther.0 farther.2 in
               let empty = sum_below-each_none offer.grid.size.nodes _ none owner lt in
-              weight_of-all (weights_in offer owner) cells offer.grid.size.keys owner (low owner) (far owner) (high owner) (is.covered owner lt)
-              (λ key in_keys. grind (arith, (has.near_is owner lt).count, (has.far_is owner lt).full key in_keys)))
+              grind (arith, (has.near_is owner lt).count, (has.far_is owner lt).full key in_keys)) in
+              omega (arith, nothing, offer-parts is (weights_in offer) far (λ r lt. (has.so_far.farther r lt).1))
 
       -- one layer more
       pub layers-next : {step : Step N} → IsNextLayer number offer far step

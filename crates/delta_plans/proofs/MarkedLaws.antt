@@ -1,7 +1,7 @@
 -- Marks of all that is offered, or of a level that was shared out.
 -- Serves `planned` and `version_tables`.
-use Rattle.delta_plans.proofs.Common.{◌≡◌, ℕ, ◌-◌, ◌<◌, ◌≤◌, true, List, length, inl, inr, sym, ap, ◌∙◌, subst, arith, lt-ltb, le-leb, Mode, amount_of, sum_below-le, First, Oldest, Newest, Offer, Level, by_first, first_sent, lets_through, KeepsLow, AreMarked, IsLevelOf, cells_in, marks, weights_in, weight_in, count_in, IsOffer, count_on, AreShared, weight_between, weight_through, one_each}
-use Rattle.delta_plans.proofs.WeightLaws.{parts_of, weight_of-upto}
+use Rattle.delta_plans.proofs.Common.{◌≡◌, ℕ, ◌-◌, ◌<◌, ◌≤◌, true, List, length, inl, inr, sym, ap, ◌∙◌, subst, arith, lt-ltb, le-leb, Mode, amount_of, First, Oldest, Newest, Offer, Level, by_first, first_sent, lets_through, KeepsLow, AreMarked, IsLevelOf, cells_in, marks, weights_in, weight_in, count_in, IsOffer, count_on, AreShared, weight_between, weight_through, one_each}
+use Rattle.delta_plans.proofs.WeightLaws.{offer-parts, parts_of}
 
 module _ {N : Type 0} (number : N → ℕ) (most : ℕ) (offer : Offer N) (is : IsOffer number most offer) where
   open parts_of number offer use {cells, low, high}
@@ -9,16 +9,8 @@ module _ {N : Type 0} (number : N → ℕ) (most : ℕ) (offer : Offer N) (is : 
   -- marks above the low ones let through no more than all
   above-tells : (first : First) (mark : ℕ → ℕ) → ((r : ℕ) → r < offer.grid.size.nodes → low r ≤ mark r)
       → (count_on first number offer mark ≤ count_in number offer low high) × KeepsLow first offer.grid.size.nodes low mark
-  above-tells Oldest mark above = (
-    sum_below-le offer.grid.size.nodes _ _ (λ owner lt.
-        weight_of-upto (λ _. 1) cells offer.grid.size.keys owner (low owner) (mark owner) (high owner) (is.covered owner lt) (low owner) (omega arith)),
-    tt,
-  )
-  above-tells Newest mark above = (
-    sum_below-le offer.grid.size.nodes _ _ (λ owner lt.
-        weight_of-upto (λ _. 1) cells offer.grid.size.keys owner (mark owner) (high owner) (high owner) (is.covered owner lt) (low owner) (above owner lt)),
-    above,
-  )
+  above-tells Oldest mark above = (omega (arith, offer-parts is one_each mark above), tt)
+  above-tells Newest mark above = (omega (arith, offer-parts is one_each mark above), above)
 
   -- the marks that let all through: the high ones, or from the newest on the low ones
   abbrev whole_marks : First → List N

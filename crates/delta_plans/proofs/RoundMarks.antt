@@ -1,8 +1,7 @@
 -- What marks at the ends of rounds let through.
--- Serves `Rounds::count`, `Rounds::few_rounds`, `Rounds::left_of_few`, `Rounds::level`, `Rounds::look` and
--- `version_tables`.
-use Rattle.delta_plans.proofs.Common.{◌≡◌, ℕ, ◌+◌, ◌-◌, ◌*◌, ◌<◌, ◌≤◌, MOST_ENTRY_SIZE, map, ltb, leb, List, Some, None, inl, inr, sym, ap, ◌∙◌, subst, arith, nat_tests, nat_lt, length-map, cases_lt, amount_of, all_writes, Cells, cell, total_of, HasNoneAbove, sum_below-same, sum_below-plus, numbered-some, write_numbered, First, Oldest, Newest, by_first, Level, Fit, Rounds, marks, weights_in, count_on, weight_on, AreFarther, end_mark, mark_of_rounds, AreFewAndEnough, AreRaised, AreRoundMarks, IsAsked, IsFound, IsLevelOfRounds, AreLevelMarks, round_of, IsOn, weight_through, count_all_between, one_each}
-use Rattle.delta_plans.proofs.WeightLaws.{offer-most, part, parts_of, sum_below-none, weight_of-all, weight_of-none, where_true}
+-- Serves `Rounds::count`, `Rounds::level` and `version_tables`.
+use Rattle.delta_plans.proofs.Common.{◌≡◌, ℕ, ◌+◌, ◌-◌, ◌<◌, ◌≤◌, map, leb, List, Some, None, inl, inr, sym, ap, ◌∙◌, subst, arith, nat_tests, nat_lt, length-map, cases_lt, amount_of, all_writes, Cells, cell, total_of, HasNoneAbove, sum_below-same, numbered-some, write_numbered, First, Oldest, Newest, by_first, Level, Fit, Rounds, marks, weights_in, count_on, weight_on, AreFarther, end_mark, mark_of_rounds, AreFewAndEnough, AreRaised, AreRoundMarks, IsAsked, IsOffer, IsFound, IsLevelOfRounds, AreLevelMarks, round_of, IsOn, weight_through, count_all_between, one_each}
+use Rattle.delta_plans.proofs.WeightLaws.{offer-beyond, offer-parts, parts_of, sum_below-none, weight_of-none}
 use Rattle.delta_plans.proofs.TurnSteps.{through-same}
 
 -- how many are above marks
@@ -10,16 +9,6 @@ pub count-above : (cells : Cells) (nodes keys : ℕ) (high : ℕ → ℕ) → ((
     → (mark : ℕ → ℕ) → total_of nodes keys (λ r k. nat_lt (mark r) (cells r k)) ≡ count_all_between cells nodes keys mark high
 count-above cells nodes keys high covered mark = sum_below-same nodes _ _ (λ owner in_nodes. sum_below-same keys _ _
     (λ key in_keys. let le = covered owner in_nodes key in_keys in grind (arith, nat_tests)))
-
--- and so how many are up to them
-pub count-upto : {cells : Cells} {nodes keys : ℕ} {high : ℕ → ℕ} → ((owner : ℕ) → owner < nodes → HasNoneAbove cells keys owner (high owner))
-    → (low mark : ℕ → ℕ) → ((owner : ℕ) → owner < nodes → low owner ≤ mark owner) → count_all_between cells nodes keys low high
-    ≡ count_all_between cells nodes keys low mark + total_of nodes keys (λ r k. nat_lt (mark r) (cells r k))
-count-upto {cells} {nodes} {keys} covered low mark raised =
-    sum_below-same nodes _ _ (λ owner in_nodes.
-    sum_below-same keys _ (λ key. part (λ _. 1) (low owner) (mark owner) (cells owner key) + where_true (ltb (mark owner) (cells owner key)) 1)
-    (λ key in_keys. let le = covered owner in_nodes key in_keys in let lower = raised owner in_nodes in grind (arith, nat_tests)) ∙ sum_below-plus keys _ _)
-    ∙ sum_below-plus nodes _ _
 
 module _ {N : Type 0} {number : N → ℕ} {most : ℕ} (rounds : Rounds N) (is : IsAsked number most rounds.offer.now rounds.ends) where
   open rounds.offer use {now as offer}
@@ -40,6 +29,17 @@ module _ {N : Type 0} {number : N → ℕ} {most : ℕ} (rounds : Rounds N) (is 
   -- the round in which a number was written
   abbrev born : ℕ → ℕ → ℕ
   born owner number = round_of (write_numbered (all_writes offer.lists.now owner) number)
+
+  offered : IsOffer number most offer
+  offered = is.too_large.is_offer
+
+  -- how many are above marks, and up to them
+  pub rounds-count : {mark : List N} → AreRaised number most rounds mark → {above : ℕ}
+      → above ≡ total_of nodes keys (λ r k. nat_lt (marks number mark r) (cells r k))
+      → (above ≡ count_on Newest number offer (marks number mark)) × (count_on Oldest number offer (marks number mark) + above ≡ offer.found)
+  rounds-count {mark} raised told =
+      let counted = told ∙ count-above cells nodes keys high offered.covered (marks number mark) in
+      (counted, omega (arith, offered.found, counted, offer-parts offered one_each (marks number mark) raised.above))
 
   module _ (owner key : ℕ) (in_nodes : owner < nodes) (in_keys : key < keys) where
     -- a number is up to a round's end where it was written by then
@@ -75,15 +75,14 @@ module _ {N : Type 0} {number : N → ℕ} {most : ℕ} (rounds : Rounds N) (is 
   no_rounds : (first : First) (weights : ℕ → ℕ → ℕ) → through first weights (mark first 0) ≡ 0
   no_rounds Oldest weights = sum_below-none nodes _ (λ owner in_nodes.
       weight_of-none (weights owner) cells keys owner (low owner) (end 0 owner) (omega (arith, none-made owner in_nodes)))
-  no_rounds Newest weights = sum_below-none nodes _ (λ owner in_nodes. sum_below-none keys _ (λ key in_keys.
-      let le = subst (λ round. cells owner key ≤ end round owner) {x = last} {y = last - 0} (omega arith) (all-made owner key in_nodes in_keys) in
-      grind (arith, nat_tests)))
+  no_rounds Newest weights = offer-beyond offered weights (end (last - 0)) (λ owner in_nodes key in_keys.
+      subst (λ round. cells owner key ≤ end round owner) {x = last} {y = last - 0} (omega arith) (all-made owner key in_nodes in_keys))
 
   -- all rounds let all through
   all_rounds : (first : First) (weights : ℕ → ℕ → ℕ) → through first weights (mark first last) ≡ through Oldest weights high
-  all_rounds Oldest weights = sum_below-same nodes _ _ (λ owner in_nodes.
-      weight_of-all (weights owner) cells keys owner (low owner) (end last owner) (high owner) (is.too_large.is_offer.covered owner in_nodes)
-      (λ key in_keys. all-made owner key in_nodes in_keys))
+  all_rounds Oldest weights =
+      let nothing = offer-beyond offered weights (end last) (λ owner in_nodes key in_keys. all-made owner key in_nodes in_keys) in
+      omega (arith, nothing, offer-parts offered weights (end last) (λ owner in_nodes. omega arith))
   all_rounds Newest weights = through-same weights cells nodes keys low high low (mark Newest last) Newest
       (λ owner in_nodes. ap (λ round. end round owner) {x = last - last} {y = 0} (omega arith) ∙ none-made owner in_nodes)
 
@@ -101,11 +100,6 @@ module _ {N : Type 0} {number : N → ℕ} {most : ℕ} (rounds : Rounds N) (is 
       too_many : amount_of offer.budget < weight_on rounds.first number offer (mark rounds.first last)
       too_many = omega (arith, is.too_large.beyond, all_rounds rounds.first (weights_in offer))
 
-  -- marks let through no more than so many times the largest size
-  pub on-most : (first : First) (mark : ℕ → ℕ) → weight_on first number offer mark ≤ count_on first number offer mark * MOST_ENTRY_SIZE
-  on-most Oldest mark = offer-most number offer low mark
-  on-most Newest mark = offer-most number offer mark high
-
   module _ (count : ℕ) (items : List N) (are : AreRoundMarks number rounds count items) where
     -- such marks aren't below the low ones
     pub rounds-raised : AreRaised number most rounds items
@@ -119,11 +113,16 @@ module _ {N : Type 0} {number : N → ℕ} {most : ℕ} (rounds : Rounds N) (is 
       -- one more look finds more rounds that fit
       pub further : {found : Fit} → IsFound number rounds (marks number items) (Some found) → count < enough
           → AreFewAndEnough number rounds count enough found
-      further {found} look lt = search (arith, let_through one_each, ← let_through (weights_in offer))
+      further look lt =
+          record { below = lt; bound = so_far.bound; fits = rw (← let_through one_each, ← let_through (weights_in offer)) look; beyond = so_far.beyond }
 
       -- or that fewer are enough
       pub nearer : IsFound number rounds (marks number items) None → few < count → count ≤ enough → AreFewAndEnough number rounds few count fit
       nearer no_fit lt le = search (arith, let_through (weights_in offer))
+
+    -- so it is of the marks of the last rounds that fitted
+    pub fitted : {enough : ℕ} {fit : Fit} → AreFewAndEnough number rounds count enough fit → IsFound number rounds (marks number items) (Some fit)
+    fitted found = rw (let_through one_each, let_through (weights_in offer)) found.fits
 
   -- one round more lets through more
   farther : (first : First) (few enough owner : ℕ) → enough ≡ few + 1 → enough ≤ last → owner < nodes
@@ -138,18 +137,18 @@ module _ {N : Type 0} {number : N → ℕ} {most : ℕ} (rounds : Rounds N) (is 
       on Newest = rises (last - enough) (last - few) (omega (arith, is_next, le)) (omega (arith, is_next, le))
 
   -- the level that a few rounds and one more are
-  pub rounds-level : {enough : ℕ} {level : Level N} {fit : Fit} → AreFewAndEnough number rounds (enough - 1) enough fit → level.whole ≡ fit.count
-      → AreRoundMarks number rounds (enough - 1) level.near.items → AreRoundMarks number rounds enough level.far.items
+  pub rounds-level : {few enough : ℕ} {level : Level N} {fit : Fit} → AreFewAndEnough number rounds few enough fit → enough ≤ few + 1
+      → level.whole ≡ fit.count → AreRoundMarks number rounds few level.near.items → AreRoundMarks number rounds enough level.far.items
       → weight_on rounds.first number offer (marks number level.near.items) + level.left ≡ amount_of offer.budget
       → IsLevelOfRounds number rounds level
-  rounds-level {enough} {level} found whole near far left = record {
+  rounds-level {few} {enough} {level} found last_one whole near far left = record {
     is_level = record {
       has_levels = record {
-        near = (rounds-raised (enough - 1) level.near.items near).size;
+        near = (rounds-raised few level.near.items near).size;
         far = (rounds-raised enough level.far.items far).size;
         farther = λ owner in_nodes. rw (near.each owner in_nodes, far.each owner in_nodes)
-            (farther rounds.first (enough - 1) enough owner (omega (arith, found.below)) found.bound in_nodes);
-        whole = whole ∙ found.fits.count ∙ sym (let_through (enough - 1) level.near.items near one_each);
+            (farther rounds.first few enough owner next found.bound in_nodes);
+        whole = whole ∙ (fitted few level.near.items near found).counted;
         left = left;
       };
       beyond = omega (arith, found.beyond, let_through enough level.far.items far (weights_in offer));
@@ -157,19 +156,21 @@ module _ {N : Type 0} {number : N → ℕ} {most : ℕ} (rounds : Rounds N) (is 
     shape = shape rounds.first near.each far.each;
   }
     where
-      shape : (f : First) → ((owner : ℕ) → owner < nodes → marks number level.near.items owner ≡ mark f (enough - 1) owner)
+      next : enough ≡ few + 1
+      next = omega (arith, last_one, found.below)
+
+      shape : (f : First) → ((owner : ℕ) → owner < nodes → marks number level.near.items owner ≡ mark f few owner)
           → ((owner : ℕ) → owner < nodes → marks number level.far.items owner ≡ mark f enough owner)
           → AreLevelMarks f f born cells nodes keys low (marks number level.near.items) (marks number level.far.items)
       shape Oldest nears fars = record {
         next = enough;
-        near_is = λ r key lt in_keys over.
-            grind (arith, nat_tests, written-by r key lt in_keys (enough - 1) (omega (arith, found.bound)) over, nears r lt, found.below);
+        near_is = λ r key lt in_keys over. grind (arith, nat_tests, written-by r key lt in_keys few (omega (arith, found.bound, next)) over, nears r lt, next);
         far_is = λ r key lt in_keys over. grind (arith, nat_tests, written-by r key lt in_keys enough found.bound over, fars r lt);
       }
       shape Newest nears fars = record {
-        next = last - (enough - 1);
-        near_is = λ r key lt in_keys over. grind (arith, nat_tests, written-by r key lt in_keys (last - (enough - 1)) (omega arith) over, nears r lt);
+        next = last - few;
+        near_is = λ r key lt in_keys over. grind (arith, nat_tests, written-by r key lt in_keys (last - few) (omega arith) over, nears r lt);
         far_is = λ r key lt in_keys over.
-            let one : last - (enough - 1) ≡ last - enough + 1 = omega (arith, found.below, found.bound) in
+            let one : last - few ≡ last - enough + 1 = omega (arith, next, found.bound) in
             grind (arith, nat_tests, written-by r key lt in_keys (last - enough) (omega arith) over, fars r lt);
       }

@@ -1,8 +1,8 @@
 -- Runs of an offer, gone over as long as they fit.
 -- Serves `depth` and `next_runs`.
-use Rattle.delta_plans.proofs.Common.{◌≡◌, ℕ, ◌+◌, ◌-◌, ◌*◌, ◌<◌, ◌≤◌, cond, eqb, leb, ltb, List, length, get_or, map, inl, inr, Some, Vec, Global, sym, ap, ◌∙◌, subst, arith, nat_tests, cases_eq, length-map, amount_of, Cells, count_above, count_between, HasNoneAbove, HasEach, AreChanged, count_le, sum_below, sum_below-same, MOST_KEYS, Offer, Level, Step, Oldest, Newest, cells_in, low_in, high_in, owner_count_in, marks, weights_in, weight_in, IsLeftOf, IsOffer, AreMarksFrom, AreRunsFrom, AreNextRuns, AreLevelMarks, weight_of}
-use Rattle.delta_plans.proofs.WeightLaws.{parts_of, offer-none, sum_below-each_none, sum_below-none, weight_of-none, where_true}
-use Rattle.delta_plans.proofs.LevelSteps.{IsLevelSoFar, level-first, level-left, level-next, step-is}
+use Rattle.delta_plans.proofs.Common.{◌≡◌, ℕ, ◌+◌, ◌-◌, ◌*◌, ◌<◌, ◌≤◌, cond, eqb, leb, ltb, List, length, get_or, map, inl, inr, Some, ◌∙◌, arith, nat_tests, cases_eq, length-map, amount_of, Cells, count_above, count_between, HasNoneAbove, HasEach, count_le, sum_below-same, MOST_KEYS, Offer, Level, Oldest, Newest, owner_count_in, marks, weights_in, weight_in, IsLeftOf, IsOffer, AreMarksFrom, AreRunsFrom, AreLevelMarks, weight_of}
+use Rattle.delta_plans.proofs.WeightLaws.{offer-none, owner-most, parts_of, weight_of-none}
+use Rattle.delta_plans.proofs.LevelSteps.{IsLevelSoFar, level-left}
 
 module _ (cells : Cells) (keys owner low high : ℕ) (covered : HasNoneAbove cells keys owner high) where
   abbrev above : ℕ
@@ -12,14 +12,9 @@ module _ (cells : Cells) (keys owner low high : ℕ) (covered : HasNoneAbove cel
   count-covered : count_between cells keys owner low high ≡ above
   count-covered = sum_below-same keys _ _ (λ key lt. let le = covered key lt in grind (arith, nat_tests))
 
-  -- where there is nothing above the mark, nothing weighs
-  weight-empty : (weight : ℕ → ℕ) → above ≡ 0 → weight_of weight cells keys owner low high ≡ 0
-  weight-empty weight none = sum_below-none keys _ (λ key lt.
-      let out = sum_below-each_none keys (λ k. where_true (ltb low (cells owner k)) 1) none key lt in grind (arith, nat_tests))
-
   -- one owner's part of the next runs
-  run-told : (size near next found : ℕ) → found ≡ above → 0 < size → near ≡ cond (leb (size + 1) above) high low → next ≡ cond (eqb found size) high near
-      → (next ≡ cond (leb size above) high low) × (near ≤ next) × (where_true (eqb found size) 1 * size ≡ count_between cells keys owner near next)
+  pub run-told : (size near next found : ℕ) → found ≡ above → 0 < size → near ≡ cond (leb (size + 1) above) high low → next ≡ cond (eqb found size) high near
+      → (next ≡ cond (leb size above) high low) × (near ≤ next) × (cond (ltb near next) 1 0 * size ≡ count_between cells keys owner near next)
   run-told size near next found counted some longer is = elim (cases_eq above size) [
     | inl same ↦
         let from : near ≡ low = grind (arith, nat_tests) in
@@ -33,19 +28,6 @@ module _ (cells : Cells) (keys owner low high : ℕ) (covered : HasNoneAbove cel
         grind (arith, nat_tests)
   ]
 
--- what a step over the owners' runs writes
-pub next-runs : {N : Type 0} {number : N → ℕ} {most : ℕ} {offer : Offer N} {counts near : List N} {size : ℕ}
-    → AreRunsFrom number most offer counts near size → (old new : List N) (owners : ℕ) (step : Step N) → old ≡ near
-    → step.marks.items ≡ new → step.more ≡ owners * size
-    → AreChanged (λ r x y. y ≡ cond (eqb (get_or (map number counts) r 0) size) (get_or (map number offer.high.now) r 0) x) (map number old) (map number new)
-    × (owners ≡ sum_below (length old) (λ r. cond (eqb (get_or (map number counts) r 0) size) 1 0))
-    → AreNextRuns number offer (marks number near) size step
-next-runs {number = number} {offer = offer} {counts} {near} {size} from old new owners step same whole more done =
-    step-is number offer (marks number near) size _ _ old new owners step (ap length same ∙ from.each_near) whole more done (λ r lt made.
-    run-told (cells_in number offer) offer.grid.size.keys r (low_in number offer r) (high_in number offer r) (from.is_offer.covered r lt) size
-    (marks number near r) (marks number step.marks.items r) (get_or (map number counts) r 0) (from.counts_are.each r lt) from.some (from.longer r lt)
-    (made ∙ (λ i. cond (eqb (get_or (map number counts) r 0) size) (high_in number offer r) (marks number (same i) r))))
-
 -- runs as far as they were gone over: the longer ones fit, and those of this size are next
 pub record HasRuns {N : Type 0} (number : N → ℕ) (most : ℕ) (offer : Offer N) (counts : List N) (level : Level N) (size more : ℕ) : Type 0 where
   pub so_far : IsLevelSoFar number offer level more
@@ -56,32 +38,32 @@ module _ {N : Type 0} {number : N → ℕ} {most : ℕ} {offer : Offer N} (is : 
   open parts_of number offer use {cells, low, high}
   open offer.grid.size use {keys}
 
-  -- where what fits isn't all, the runs that are next have something
-  runs-some : {size : ℕ} {near : ℕ → ℕ} → AreMarksFrom number offer (size + 1) near → weight_in number offer low near ≤ amount_of offer.budget
-      → amount_of offer.budget < weight_in number offer low high → 0 < size
-  runs-some {size} {near} longer within cut = grind (arith, λ (none : size ≡ 0). sum_below-same offer.grid.size.nodes _ _ (all none))
-    where
-      all : size ≡ 0 → (owner : ℕ) → owner < offer.grid.size.nodes → weight_of (weights_in offer owner) cells keys owner (low owner) (near owner)
-          ≡ weight_of (weights_in offer owner) cells keys owner (low owner) (high owner)
-      all none owner lt =
-          let here = longer owner lt in
-          let nothing = weight_of-none (weights_in offer owner) cells keys owner (low owner) (low owner) (omega arith) in
-          let empty = weight-empty cells keys owner (low owner) (high owner) (is.covered owner lt) (weights_in offer owner) in
-          grind (arith, nat_tests)
-
   module _ (beyond : amount_of offer.budget < weight_in number offer low high) where
-    -- the longest runs are next
+    -- where longer runs fit, and not all, those of a size are next, which is one at least
+    runs-from : {counts near : List N} {size : ℕ} → HasEach offer.grid.size.nodes (λ r n. n ≡ owner_count_in number offer r) (map number counts)
+        → length near ≡ offer.grid.size.nodes → size ≤ MOST_KEYS → AreMarksFrom number offer (size + 1) (marks number near)
+        → weight_in number offer low (marks number near) ≤ amount_of offer.budget → AreRunsFrom number most offer counts near size
+    runs-from {near = near} {size} known long short longer within =
+        record { is_offer = is; counts_are = known; each_near = long; some = some; few = short; longer = longer }
+      where
+        all : size ≡ 0 → (r : ℕ) → r < offer.grid.size.nodes → weight_of (weights_in offer r) cells keys r (low r) (marks number near r)
+            ≡ weight_of (weights_in offer r) cells keys r (low r) (high r)
+        all none r lt =
+            let here = longer r lt in
+            let nothing = weight_of-none (weights_in offer r) cells keys r (low r) (low r) (omega arith) in
+            let few = owner-most number offer keys r (low r) (high r) in
+            let counted = count-covered cells keys r (low r) (high r) (is.covered r lt) in
+            grind (arith, nat_tests)
+
+        some : 0 < size
+        some = grind (arith, λ (none : size ≡ 0). sum_below-same offer.grid.size.nodes _ _ (all none))
+
+    -- so the longest ones at first
     pub runs-from_low : {counts near : List N} {size : ℕ} → HasEach offer.grid.size.nodes (λ r n. n ≡ owner_count_in number offer r) (map number counts)
         → ((r : ℕ) → r < length counts → get_or (map number counts) r 0 ≤ size) → size ≤ MOST_KEYS → near ≡ offer.low.now
         → AreRunsFrom number most offer counts near size
-    runs-from_low {counts} {size = size} known longest short start = record {
-      is_offer = is;
-      counts_are = known;
-      each_near = ap length start ∙ is.low;
-      some = runs-some none (omega (arith, offer-none number offer (weights_in offer) low)) beyond;
-      few = short;
-      longer = subst (λ xs. AreMarksFrom number offer (size + 1) (marks number xs)) (sym start) none;
-    }
+    runs-from_low {counts} {size = size} known longest short start =
+        rw start (runs-from known is.low short none (omega (arith, offer-none number offer (weights_in offer) low)))
       where
         none : AreMarksFrom number offer (size + 1) low
         none r lt =
@@ -89,29 +71,14 @@ module _ {N : Type 0} {number : N → ℕ} {most : ℕ} {offer : Offer N} (is : 
             let its = known.each r lt in
             grind (arith, nat_tests)
 
-    pub runs-first : {counts : List N} {size : ℕ} {near : Vec N Global} {step : Step N} → AreRunsFrom number most offer counts near.items size
-        → near.items ≡ offer.low.now → AreNextRuns number offer (marks number near.items) size step
-        → HasRuns number most offer counts (record { near = near; far = step.marks; whole = 0; left = amount_of offer.budget }) size step.more
-    runs-first from start runs = record { so_far = level-first is start runs; from = from; next = runs.next }
-
-    module _ {counts : List N} {level : Level N} {size more : ℕ} (has : HasRuns number most offer counts level size more)
-        {left : ℕ} (fits : IsLeftOf level.left (weight_in number offer (marks number level.near.items) (marks number level.far.items)) (Some left)) where
-      -- and then those of one number less
-      pub runs-from_next : AreRunsFrom number most offer counts level.far.items (size - 1)
-      runs-from_next =
-          let same : size - 1 + 1 ≡ size = omega (arith, has.from.some) in
-          let longer : AreMarksFrom number offer (size - 1 + 1) (marks number level.far.items) = rw same has.next in record {
-            is_offer = is;
-            counts_are = has.from.counts_are;
-            each_near = has.so_far.far;
-            some = runs-some longer (omega (arith, level-left is has.so_far fits)) beyond;
-            few = omega (arith, has.from.few);
-            longer = longer;
-          }
-
-      pub runs-next : {step : Step N} → AreNextRuns number offer (marks number level.far.items) (size - 1) step → HasRuns number most offer counts
-          (record { near = level.far; far = step.marks; whole = level.whole + more; left = left }) (size - 1) step.more
-      runs-next runs = record { so_far = level-next is has.so_far fits runs; from = runs-from_next; next = runs.next }
+    -- and then those of one number less
+    pub runs-from_next : {counts : List N} {level : Level N} {size more left : ℕ} → HasRuns number most offer counts level size more
+        → IsLeftOf level.left (weight_in number offer (marks number level.near.items) (marks number level.far.items)) (Some left)
+        → AreRunsFrom number most offer counts level.far.items (size - 1)
+    runs-from_next {size = size} has fits =
+        let same : size - 1 + 1 ≡ size = omega (arith, has.from.some) in
+        let within = level-left is has.so_far fits in
+        runs-from has.from.counts_are has.so_far.far (omega (arith, has.from.few)) (rw same has.next) (omega (arith, within))
 
   -- the level at which they end
   pub level-of_runs : {counts : List N} {level : Level N} {size more : ℕ} → HasRuns number most offer counts level size more

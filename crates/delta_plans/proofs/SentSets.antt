@@ -1,34 +1,25 @@
 -- Any set of candidates that is closed downwards, fits, and lets nothing more in is what is sent.
 -- Serves `deltas_have_their_sets` and `DeltaMarks`.
-use Rattle.delta_plans.proofs.Common.{is_lacked, ◌≡◌, ◌≢◌, ℕ, zero, suc, ◌+◌, ◌<◌, ◌≤◌, Bool, true, false, cond, not, List, [], ◌∷◌, refl, sym, ap, ◌∙◌, subst, arith, nat_tests, count_by, filter, IsPermutation, Contains, sum_by, Ordering, Less, Equal, Greater, is_lt, ordering_reverse, IsTotalOrder, tied_itself, both_ways, le-leb, lt-leb, AllPairs-filter, length_permutation, sum_by-cons, length-filter, Item, items_of, stands_at, IsApart, candidates, DeltaView, delta_between, sending_order, sending_order-total, sending_order-strict, Contains-filter, Contains-kept, same_members, before_count, size_through, fits, sent, cut_count, Contains-first_places, first_places-Contains, sent_apart, size_in, IsKeptOut, IsSentSet, DeltasHaveTheirSets}
+use Rattle.delta_plans.proofs.Common.{is_lacked, ◌≡◌, ℕ, suc, ◌+◌, ◌-◌, ◌<◌, ◌≤◌, Bool, true, false, cond, not, List, [], ◌∷◌, refl, sym, ap, ◌∙◌, subst, arith, nat_tests, count_by, filter, IsPermutation, Contains, sum_by, Ordering, Less, Equal, Greater, is_lt, ordering_reverse, IsTotalOrder, tied_itself, both_ways, le-leb, lt-leb, AllPairs-filter, length_permutation, get_or-le-sum_by, sum_by-cons, length-filter, Item, items_of, stands_at, IsApart, candidates, DeltaView, delta_between, sending_order, sending_order-total, sending_order-strict, Contains-filter, Contains-kept, same_members, before_count, size_through, fits, sent, cut_count, Contains-first_places, first_places-Contains, sent_apart, size_in, IsKeptOut, IsSentSet, DeltasHaveTheirSets}
 use Rattle.delta_plans.proofs.Candidates.{table_apart}
 
--- a sum over a list whose terms are no greater, for the elements of the list
-sum_by-le : {X : Type 0} (f g : X → ℕ) (xs : List X) → ((x : X) → Contains xs x → f x ≤ g x) → sum_by f xs ≤ sum_by g xs
-sum_by-le f g [] le = omega arith
-sum_by-le f g (x ∷ xs) le =
-    omega (arith, sum_by-cons f x xs, sum_by-cons g x xs, le x (0, omega arith, refl), sum_by-le f g xs (λ y (k, lt, is). le y (suc k, omega (arith, lt), is)))
+-- a sum over a list whose terms are no greater, and by how much, for the elements of the list
+sum_by-gap : {X : Type 0} (f g : X → ℕ) (xs : List X) → ((x : X) → Contains xs x → f x ≤ g x) → sum_by f xs + sum_by (λ x. g x - f x) xs ≤ sum_by g xs
+sum_by-gap f g [] le = omega arith
+sum_by-gap f g (x ∷ xs) le =
+    let rest = sum_by-gap f g xs (λ y (k, lt, is). le y (suc k, omega (arith, lt), is)) in
+    omega (arith, sum_by-cons f x xs, sum_by-cons g x xs, sum_by-cons (λ y. g y - f y) x xs, le x (0, omega arith, refl), rest)
 
--- and where one of them is 0 and is greater by n there
+-- and where one of them is greater by n
 sum_by-more : {X : Type 0} (f g : X → ℕ) (xs : List X) (n : ℕ) (y : X) → Contains xs y
     → ((x : X) → Contains xs x → f x ≤ g x) → f y + n ≤ g y → sum_by f xs + n ≤ sum_by g xs
-sum_by-more f g [] n y (k, lt, is) le more = absurd (omega (arith, lt))
-sum_by-more f g (x ∷ xs) n y (zero, lt, is) le more =
-    let at : f x + n ≤ g x = subst (λ z. f z + n ≤ g z) (sym is) more in
-    omega (arith, sum_by-cons f x xs, sum_by-cons g x xs, at, sum_by-le f g xs (λ z (k, lt, is). le z (suc k, omega (arith, lt), is)))
-sum_by-more f g (x ∷ xs) n y (suc k, lt, is) le more =
-    let rest = sum_by-more f g xs n y (k, omega (arith, lt), is) (λ z (j, lt, is). le z (suc j, omega (arith, lt), is)) more in
-    omega (arith, sum_by-cons f x xs, sum_by-cons g x xs, le x (0, omega arith, refl), rest)
+sum_by-more f g xs n y (k, lt, is) le more =
+    omega (arith, sum_by-gap f g xs le, get_or-le-sum_by (λ x. g x - f x) xs k y lt, ap (λ x. g x - f x) is, more)
 
 is_less : (r : Ordering) → is_lt r ≡ true → r ≡ Less
 is_less Less e = refl
 is_less Equal e = cc
 is_less Greater e = cc
-
-not_less : (r : Ordering) → r ≢ Less → is_lt r ≡ false
-not_less Less e = absurd (e refl)
-not_less Equal e = refl
-not_less Greater e = refl
 
 module _ {X : Type 0} {order : X → X → Ordering} {cs : List X} {size : X → ℕ} {is_in : X → Bool} {budget : ℕ} (total : IsTotalOrder order)
     (strict : (c d : X) → Contains cs c → Contains cs d → order c d ≡ Equal → c ≡ d) (is : IsSentSet order cs size is_in budget) where
@@ -50,13 +41,15 @@ module _ {X : Type 0} {order : X → X → Ordering} {cs : List X} {size : X →
   ] refl
 
   sent_fits : (c : X) → Contains cs c → is_in c ≡ true → size_through order cs size c ≤ size_in order cs size is_in
-  sent_fits c at_c yes' = sum_by-le (through c) term cs (λ d at_d. let behind = behind_in c d at_c at_d in grind (arith, nat_tests))
+  sent_fits c at_c yes' =
+      omega (arith, sum_by-gap (through c) term cs (λ d at_d. let behind = behind_in c d at_c at_d in grind (arith, nat_tests)))
 
   kept_out : (c : X) → Contains cs c → is_in c ≡ false → (out : IsKeptOut order cs size is_in budget c)
       → size_in order cs size is_in + size out.next ≤ size_through order cs size c
   kept_out c at_c no' out = sum_by-more term (through c) cs (size out.next) out.next out.candidate
       (λ d at_d. let before = before_in c d at_c at_d in grind (arith, nat_tests))
-      (let no_later = not_less (order c out.next) out.no_later in grind (arith, nat_tests, out.outside))
+      (let no_later = λ (before : is_lt (order c out.next) ≡ true). out.no_later (is_less (order c out.next) before) in
+      grind (arith, nat_tests, out.outside, no_later))
 
   -- a candidate fits where it is in the set
   fits-is : (c : X) → Contains cs c → fits order cs size budget c ≡ is_in c
@@ -81,7 +74,7 @@ module _ {X : Type 0} {order : X → X → Ordering} {cs : List X} {size : X →
 
   place_set : (c : X) → Contains cs c → before_count order cs c < places → is_in c ≡ true
   place_set c at_c lt =
-      let le = λ (e : is_in c ≡ false). sum_by-le (λ d. one (fits order cs size budget d)) (λ d. one (is_lt (order d c))) cs
+      let le = λ (e : is_in c ≡ false). sum_by-gap (λ d. one (fits order cs size budget d)) (λ d. one (is_lt (order d c))) cs
       (λ d at_d. let behind = behind_in d c at_d at_c in grind (arith, nat_tests, fits-is d at_d)) in
       grind (arith, nat_tests, le)
 
@@ -93,8 +86,8 @@ module _ {X : Type 0} {order : X → X → Ordering} {cs : List X} {size : X →
 
   pub cut-is : cut_count order cs size budget ≡ count_by (λ c. not (is_in c)) cs
   cut-is =
-      let le = sum_by-le (λ c. one (not (fits order cs size budget c))) (λ c. one (not (is_in c))) cs (λ c at_c. grind (arith, nat_tests, fits-is c at_c)) in
-      let ge = sum_by-le (λ c. one (not (is_in c))) (λ c. one (not (fits order cs size budget c))) cs (λ c at_c. grind (arith, nat_tests, fits-is c at_c)) in
+      let le = sum_by-gap (λ c. one (not (fits order cs size budget c))) (λ c. one (not (is_in c))) cs (λ c at_c. grind (arith, nat_tests, fits-is c at_c)) in
+      let ge = sum_by-gap (λ c. one (not (is_in c))) (λ c. one (not (fits order cs size budget c))) cs (λ c at_c. grind (arith, nat_tests, fits-is c at_c)) in
       omega (arith, le, ge)
 
 module _ {X : Type 0} {order : X → X → Ordering} {cs : List X} {size : X → ℕ} {is_in : X → Bool} {budget : ℕ} where

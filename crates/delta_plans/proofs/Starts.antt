@@ -1,6 +1,6 @@
 -- Where generations start in an owner's list.
 -- Serves `put_starts`, `told` and `version_tables`.
-use Rattle.delta_plans.proofs.Common.{◌≡◌, ℕ, ◌-◌, ◌<◌, ◌≤◌, min, List, length, get_or, set, Some, None, inl, inr, refl, sym, ap, ◌∙◌, arith, nat_tests, cases_eq, get_or_default, get_or-append_right, get_or-set_same, get_or-set_other, length-set, length-append, Entry, DigestKind, write_numbered, OwnerListView, all_writes, entries_of, list_of_owner, no_writes, AreWrites, AreChanged, start_before, start_of, numbered-placed, numbered-some, told_by, told_number, IsKnown}
+use Rattle.delta_plans.proofs.Common.{◌≡◌, ℕ, ◌-◌, ◌<◌, ◌≤◌, min, List, length, get_or, set, inl, inr, refl, sym, ap, ◌∙◌, arith, nat_tests, cases_eq, get_or_default, get_or-append_right, get_or-set_same, get_or-set_other, length-set, length-append, Entry, DigestKind, OwnerListView, all_writes, entries_of, list_of_owner, no_writes, AreWrites, AreChanged, start_before, start_of, numbered-placed, numbered-some, told_by, told_number, IsKnown}
 
 -- an owner's writes are those of its list
 pub list-here : (lists : List OwnerListView) (owner : ℕ) (x : OwnerListView) → owner < length lists → x ≡ get_or lists owner x → list_of_owner lists owner ≡ x
@@ -9,12 +9,6 @@ list-here lists owner x lt is = get_or_default lists owner no_writes x lt ∙ sy
 pub all_writes-here : (lists : List OwnerListView) (owner : ℕ) (x : OwnerListView) → owner < length lists → x ≡ get_or lists owner x
     → all_writes lists owner ≡ entries_of x
 all_writes-here lists owner x lt is = ap entries_of (list-here lists owner x lt is)
-
-pub start-upto : (writes : List Entry) (number : ℕ) → start_of writes number ≤ number
-start-upto writes number = elim (write_numbered writes number) as (λ o. start_before number o ≤ number) [
-  | None ↦ omega arith
-  | Some e ↦ omega arith
-]
 
 -- a write of an owner's own generation has all those of earlier ones before it
 pub start_own : (v : OwnerListView) (number : ℕ) → AreWrites v → length v.earlier < number → number ≤ length (entries_of v)
@@ -33,7 +27,8 @@ pub start-lower : (most : ℕ) (v : OwnerListView) (x base y : ℕ) → IsKnown 
 start-lower most v x base y known own lower =
     let behind : base < x → start_of (entries_of v) x ≡ base = λ lt.
     start_own v x known.writes (omega (arith, lt, known.based)) known.within ∙ sym known.based in
-    grind (arith, lower, own, behind, start-upto (entries_of v) x)
+    let none : x ≡ 0 → start_of (entries_of v) x ≡ 0 = ap (start_of (entries_of v)) in
+    grind (arith, lower, own, behind, none)
 
 -- the receiver's own mark is put
 pub told-set : (kind : DigestKind) (most node : ℕ) (lists : ℕ → List Entry) (old new : List ℕ)

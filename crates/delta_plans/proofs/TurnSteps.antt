@@ -1,16 +1,8 @@
 -- The owners' turns in a level.
--- Serves the functions of `rounds` and `sharing` and `RoundMarks`.
-use Rattle.delta_plans.proofs.Common.{◌≡◌, ◌≢◌, ℕ, suc, ◌+◌, ◌-◌, ◌*◌, ◌<◌, ◌≤◌, cond, ltb, List, get_or, set, map, inl, inr, refl, sym, ap, ◌∙◌, subst, transport, arith, nat_tests, get_or-set_same, get_or-set_other, length-map, map-set, Entries, MOST_NODES, MOST_KEYS, MOST_ENTRY_SIZE, cases_eq, Cells, HasNoneAbove, sum_below-same, sum_below-plus, rotated, rotated-injective, rotated-is, First, Oldest, Newest, Offer, Reached, Turns, by_first, low_in, high_in, marks, weights_in, IsOffer, count_on, AreFarther, lt-ltb, le-ltb, IsStopOf, weight_to, part_weight, parts_count, reached_after, AreTurns, HasReached, AreSharedBy, length-set, weight_of, weight_from, weight_through, one_each}
-use Rattle.delta_plans.proofs.WeightLaws.{offer-few, owner-entries, owner-most, part, parts_of, sum_below-changed, sum_below-longer, weight_of-split}
+-- Serves `Turns::count_of_parts`, `Turns::pass_many`, `Turns::share_into`, `Turns::weight_of_part` and `RoundMarks`.
+use Rattle.delta_plans.proofs.Common.{◌≡◌, ◌≢◌, ℕ, suc, ◌+◌, ◌-◌, ◌*◌, ◌<◌, ◌≤◌, cond, ltb, List, get_or, set, map, inl, inr, refl, sym, ap, ◌∙◌, subst, transport, arith, nat_tests, get_or-set_same, get_or-set_other, length-map, map-set, Entries, MOST_NODES, MOST_KEYS, MOST_ENTRY_SIZE, cases_eq, Cells, HasNoneAbove, sum_below-same, rotated, rotated-injective, rotated-is, First, Oldest, Newest, Reached, Turns, by_first, marks, weights_in, AreFarther, lt-ltb, le-ltb, IsStopOf, weight_to, part_weight, parts_count, reached_after, AreTurns, HasReached, AreSharedBy, length-set, weight_of, weight_from, weight_through, one_each}
+use Rattle.delta_plans.proofs.WeightLaws.{offer-few, owner-entries, owner-most, parts_of, sum_below-changed, sum_below-longer, weight_of-parts, weight_of-split}
 use Rattle.delta_plans.proofs.StopSteps.{few-from, stop-tells}
-
--- the weights from a lower mark on and from a higher one, which may be above all numbers
-split-covered : (weight : ℕ → ℕ) (cells : Cells) (keys owner low mark high : ℕ) → low ≤ mark → HasNoneAbove cells keys owner high
-    → weight_of weight cells keys owner low high ≡ weight_of weight cells keys owner mark high + weight_of weight cells keys owner low mark
-split-covered weight cells keys owner low mark high le covered =
-    sum_below-same keys _ (λ key. part weight mark high (cells owner key) + part weight low mark (cells owner key))
-    (λ key lt. let upto = covered key lt in grind (arith, nat_tests))
-    ∙ sum_below-plus keys _ _
 
 module _ (weights : ℕ → ℕ → ℕ) (cells : Cells) (nodes keys : ℕ) (low high : ℕ → ℕ) (mark next : ℕ → ℕ) where
   -- marks that are the same for each owner
@@ -29,13 +21,7 @@ module _ (weights : ℕ → ℕ → ℕ) (cells : Cells) (nodes keys : ℕ) (low
         (weight_of-split (weights owner) cells keys owner (low owner) (mark owner) (next owner) ordered.0 ordered.2)
     through-changed Newest covered ordered =
         sum_below-changed nodes owner _ _ _ in_nodes (λ r lt ne. ap (λ m. weight_of (weights r) cells keys r m (high r)) (others r lt ne))
-        (split-covered (weights owner) cells keys owner (next owner) (mark owner) (high owner) ordered.2 covered)
-
--- so many at most
-pub count_on-few : {N : Type 0} {number : N → ℕ} {most : ℕ} {offer : Offer N} (first : First) → IsOffer number most offer → (mark : ℕ → ℕ)
-    → count_on first number offer mark ≤ MOST_NODES * MOST_KEYS
-count_on-few {number = number} {offer = offer} first is mark =
-    offer-few is (λ owner. by_first first (low_in number offer owner) (mark owner)) (λ owner. by_first first (mark owner) (high_in number offer owner))
+        (omega (arith, weight_of-parts (weights owner) cells keys owner (next owner) (mark owner) (high owner) ordered.2 (inr covered)))
 
 -- what is reached, in other words
 pub turns-same : {N : Type 0} {number : N → ℕ} {turns : Turns N} {mark : List N} {reached other : Reached} → HasReached number turns mark reached
@@ -70,7 +56,9 @@ module _ {N : Type 0} {number : N → ℕ} {most : ℕ} {turns : Turns N} (are :
   module _ {mark : List N} {reached : Reached} (so_far : HasReached number turns mark reached) where
     -- so many numbers at most
     pub turns-few : reached.sent ≤ MOST_NODES * MOST_KEYS
-    turns-few = omega (arith, so_far.count, count_on-few turns.first are.offer (marks number mark))
+    turns-few =
+        let last = marks number mark in
+        omega (arith, so_far.count, offer-few are.offer (λ r. by_first turns.first (low r) (last r)) (λ r. by_first turns.first (last r) (high r)))
 
     -- not all owners have their turns
     pub turns-end : nodes ≤ reached.turn → ⊥
@@ -154,8 +142,7 @@ module _ {N : Type 0} {number : N → ℕ} {most : ℕ} {turns : Turns N} (are :
     -- a part without numbers weighs nothing
     pub part-none : count ≡ 0 → 0 ≡ part_weight number (weights_in offer owner) turns owner
     part-none none =
-        let low = by_first turns.first (near owner) (far owner) in
-        let most = owner-most number offer keys owner low (by_first turns.first (far owner) (near owner)) in
+        let most = owner-most number offer keys owner (by_first turns.first (near owner) (far owner)) (by_first turns.first (far owner) (near owner)) in
         omega (arith, most, ap (λ n. n * MOST_ENTRY_SIZE) (sym its ∙ none))
 
   -- owners in a row have their turns one after another: where entries are counted and the parts of all fit, one more has its

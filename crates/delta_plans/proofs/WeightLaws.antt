@@ -62,12 +62,26 @@ pub weight_of-one : (weight : ℕ → ℕ) (cells : Cells) (keys owner low high 
 weight_of-one weight cells keys owner low high key in_keys above upto one =
     sum_below-one keys key _ in_keys (λ k lt other. let same = one k lt in grind (arith, nat_tests)) ∙ grind (arith, nat_tests)
 
--- the weights up to a mark and from it on
+-- the weights up to a mark and from it on, where it is no higher than the last mark, or nothing is above that
+pub weight_of-parts : (weight : ℕ → ℕ) (cells : Cells) (keys owner low mark high : ℕ) → low ≤ mark → (mark ≤ high) ⊎ HasNoneAbove cells keys owner high
+    → weight_of weight cells keys owner low high ≡ weight_of weight cells keys owner low mark + weight_of weight cells keys owner mark high
+weight_of-parts weight cells keys owner low mark high below above =
+    sum_below-same keys _ (λ key. part weight low mark (cells owner key) + part weight mark high (cells owner key)) (λ key lt. elim above [
+      | inl le ↦ grind (arith, nat_tests)
+      | inr covered ↦ let upto = covered key lt in grind (arith, nat_tests)
+    ])
+    ∙ sum_below-plus keys _ _
+
 pub weight_of-split : (weight : ℕ → ℕ) (cells : Cells) (keys owner low mark high : ℕ) → low ≤ mark → mark ≤ high
     → weight_of weight cells keys owner low high ≡ weight_of weight cells keys owner low mark + weight_of weight cells keys owner mark high
-weight_of-split weight cells keys owner low mark high below above =
-    sum_below-same keys _ (λ key. part weight low mark (cells owner key) + part weight mark high (cells owner key)) (λ key lt. grind (arith, nat_tests))
-    ∙ sum_below-plus keys _ _
+weight_of-split weight cells keys owner low mark high below above = weight_of-parts weight cells keys owner low mark high below (inl above)
+
+-- and so for all owners
+pub weight_between-parts : (weights : ℕ → ℕ → ℕ) (cells : Cells) (nodes keys : ℕ) (low mark high : ℕ → ℕ)
+    → ((r : ℕ) → r < nodes → (low r ≤ mark r) × ((mark r ≤ high r) ⊎ HasNoneAbove cells keys r (high r))) → weight_between weights cells nodes keys low high
+    ≡ weight_between weights cells nodes keys low mark + weight_between weights cells nodes keys mark high
+weight_between-parts weights cells nodes keys low mark high are =
+    sum_below-same nodes _ _ (λ r lt. weight_of-parts (weights r) cells keys r (low r) (mark r) (high r) (are r lt).0 (are r lt).1) ∙ sum_below-plus nodes _ _
 
 -- no more than so many times the largest
 weight_of-most : (weight : ℕ → ℕ) (most : ℕ) (cells : Cells) (keys owner low high : ℕ) → ((number : ℕ) → weight number ≤ most)
@@ -85,14 +99,6 @@ weight_between-most weights most cells nodes keys low high le =
 pub count_between-most : (cells : Cells) (keys owner low high : ℕ) → count_between cells keys owner low high ≤ keys
 count_between-most cells keys owner low high =
     omega (arith, sum_below-most (λ key. part (λ _. 1) low high (cells owner key)) keys 1 (λ key lt. grind (arith, nat_tests)))
-
--- marks above all numbers let through as much as any such
-module _ (weight : ℕ → ℕ) (cells : Cells) (keys owner low mark high : ℕ) (covered : HasNoneAbove cells keys owner high) where
-  pub weight_of-upto : (from : ℕ) → from ≤ low → weight_of weight cells keys owner low mark ≤ weight_of weight cells keys owner from high
-  weight_of-upto from lower = sum_below-le keys _ _ (λ key lt. let le = covered key lt in grind (arith, nat_tests))
-
-  pub weight_of-all : HasNoneAbove cells keys owner mark → weight_of weight cells keys owner low mark ≡ weight_of weight cells keys owner low high
-  weight_of-all none = sum_below-same keys _ _ (λ key lt. let le = covered key lt in let le' = none key lt in grind (arith, nat_tests))
 
 -- no write takes more than the largest share
 pub share-most : (budget : Budget) (o : Option Entry) → share_or_none budget o ≤ MOST_ENTRY_SIZE
@@ -129,6 +135,20 @@ module _ {N : Type 0} (number : N → ℕ) (offer : Offer N) where
   owner-most keys owner low high = weight_of-most (weights_in offer owner) MOST_ENTRY_SIZE cells keys owner low high (most owner)
 
 module _ {N : Type 0} {number : N → ℕ} {most : ℕ} {offer : Offer N} (is : IsOffer number most offer) where
+  open parts_of number offer use {cells, low, high}
+  open offer.grid.size use {nodes, keys}
+
+  -- what marks above the low ones let through, and what is beyond them
+  pub offer-parts : (weights : ℕ → ℕ → ℕ) (mark : ℕ → ℕ) → ((r : ℕ) → r < nodes → low r ≤ mark r)
+      → weight_between weights cells nodes keys low high ≡ weight_between weights cells nodes keys low mark + weight_between weights cells nodes keys mark high
+  offer-parts weights mark above = weight_between-parts weights cells nodes keys low mark high (λ r lt. (above r lt, inr (is.covered r lt)))
+
+  -- nothing is beyond marks that are above all numbers
+  pub offer-beyond : (weights : ℕ → ℕ → ℕ) (mark : ℕ → ℕ) → ((r : ℕ) → r < nodes → HasNoneAbove cells keys r (mark r))
+      → weight_between weights cells nodes keys mark high ≡ 0
+  offer-beyond weights mark none =
+      sum_below-none nodes _ (λ r lt. sum_below-none keys _ (λ key in_keys. let le = none r lt key in_keys in grind (arith, nat_tests)))
+
   pub offer-few : (low high : ℕ → ℕ) → count_in number offer low high ≤ MOST_NODES * MOST_KEYS
   offer-few low high =
       let keys = offer.grid.size.keys in

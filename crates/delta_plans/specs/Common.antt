@@ -32,7 +32,7 @@ pub use Rattle.model.specs.Table.{IsInPlace, IsProper, Table, entry_at, generati
 pub use Rattle.model.specs.calls.Numbers.{write_numbered}
 pub use Rattle.model.specs.calls.OwnerListView.{AreWrites, OwnerListView, all_writes, entries_of, list_of_owner, no_writes}
 pub use Rattle.owner_writes.specs.Numbered.{AreEnds, AreMadeBy, IsHistory, IsNumberedHistory, start_before, start_of}
-pub use Rattle.planes.specs.Elementwise.{AreChanged, AreChangedUpto}
+pub use Rattle.planes.specs.Elementwise.{AreChanged}
 pub use Rattle.planes.specs.Grids.{IsGridOf}
 pub use Rattle.planes.specs.Planes.{Cells, HasEach, HasNoneAbove, IsLeastAbove, IsNextAbove, cell, count_above, count_between, number_ahead, total_of}
 pub use Rattle.planes.specs.declared.ends.Ends.{Ends}

@@ -52,7 +52,13 @@ pub record AreKnown (most : ℕ) (lists : List OwnerListView) (numbers bases : L
   pub each : (owner : ℕ) → owner < length lists
       → IsKnown most (list_of_owner lists owner) (slice_index numbers owner) (slice_index bases owner)
 
--- so it is of numbers in memory
+-- so it is of one owner's number in memory
+pub record IsKnownOf {N : Type 0} (number : N → ℕ) (most : ℕ) (owners : Owners N) (owner n : ℕ) : Type 0 where
+  pub within : owner < length owners.lists.now
+  pub base_within : owner < length owners.bases.now
+  pub is_known : IsKnown most (list_of_owner owners.lists.now owner) n (slice_index (map number owners.bases.now) owner)
+
+-- and of all
 abbrev pub AreKnownOf : {N : Type 0} → (N → ℕ) → ℕ → Owners N → List N → Type 0
 AreKnownOf number most owners numbers =
     AreKnown most owners.lists.now (map number numbers) (map number owners.bases.now)

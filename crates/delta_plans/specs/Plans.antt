@@ -1,7 +1,8 @@
 -- Levels of what is offered, as marks: near marks let through whole levels, and far marks one level more, which doesn't
 -- fit. Source: this project.
-use Rattle.std.specs.Prelude.{◌≡◌, ◌⊎◌, ℕ, ◌+◌, ◌<◌, ◌≤◌, nat_le, List, length, map, if◌then◌else◌}
-use Rattle.delta_plans.specs.Common.{First, amount_of, Cells, HasEach, HasNoneAbove, IsLeastAbove, MOST_KEYS, Offer, Level, Step}
+use Rattle.std.specs.Prelude.{◌≡◌, ◌⊎◌, ℕ, ◌+◌, ◌*◌, ◌<◌, ◌≤◌, nat_le, nat_lt, List, Vec, length, map, if◌then◌else◌}
+use Rattle.delta_plans.specs.Common.{First, amount_of, Cells, HasEach, HasNoneAbove, IsLeastAbove, MOST_KEYS, Offer, Level, Step, sum_below}
+use Rattle.std.specs.declared.alloc.Global.{Global}
 use Rattle.delta_plans.specs.OfferInMemory.{cells_in, low_in, high_in, owner_count_in, marks, weights_in, count_in, IsOffer}
 use Rattle.delta_plans.specs.LevelMarks.{AreLevelMarks, IsOn}
 use Rattle.delta_plans.specs.Weights.{weight_through, one_each}
@@ -18,6 +19,13 @@ pub record IsStep {N : Type 0} (number : N → ℕ) (offer : Offer N) (near : �
   pub rises : (owner : ℕ) → owner < offer.grid.size.nodes → near owner ≤ marks number step.marks.items owner
   pub more : step.more ≡ count_in number offer near (marks number step.marks.items)
   pub next : (owner : ℕ) → owner < offer.grid.size.nodes → is owner (marks number step.marks.items owner)
+
+-- the step to far marks, of which each that is higher than its near one lets so many numbers more through
+abbrev pub step_of : {N : Type 0} → (N → ℕ) → List N → Vec N Global → ℕ → Step N
+step_of number near far size = record {
+  marks = far;
+  more = sum_below (length near) (λ r. if nat_lt (marks number near r) (marks number far.items r) then 1 else 0) * size;
+}
 
 -- one number more of each owner that has one
 abbrev pub IsNextLayer : {N : Type 0} → (N → ℕ) → Offer N → (ℕ → ℕ) → Step N → Type 0
@@ -81,7 +89,3 @@ pub record AreRunsFrom {N : Type 0} (number : N → ℕ) (most : ℕ) (offer : O
   pub some : 0 < size
   pub few : size ≤ MOST_KEYS
   pub longer : AreMarksFrom number offer (size + 1) (marks number near)
-
--- and those of that size are next
-abbrev pub AreNextRuns : {N : Type 0} → (N → ℕ) → Offer N → (ℕ → ℕ) → ℕ → Step N → Type 0
-AreNextRuns number offer near size = IsStep number offer near (IsMarkFrom number offer size)

@@ -28,16 +28,17 @@ pub record AreRaised {N : Type 0} (number : N → ℕ) (most : ℕ) (rounds : Ro
   pub above : (r : ℕ) → r < rounds.offer.now.grid.size.nodes
       → low_in number rounds.offer.now r ≤ marks number mark r
 
--- what marks let through fits, is so many numbers, and leaves so much if that is known
-pub record IsFit {N : Type 0} (number : N → ℕ) (rounds : Rounds N) (mark : ℕ → ℕ) (fit : Fit) : Type 0 where
-  pub count : fit.count ≡ count_on rounds.first number rounds.offer.now mark
-  pub within : weight_on rounds.first number rounds.offer.now mark ≤ amount_of rounds.offer.now.budget
-  pub known : IfSome fit.left
-      (λ left. weight_on rounds.first number rounds.offer.now mark + left ≡ amount_of rounds.offer.now.budget)
+-- so many numbers take so much, which fits, and leave so much if that is known
+pub record IsFit (room weight count : ℕ) (fit : Fit) : Type 0 where
+  pub counted : fit.count ≡ count
+  pub within : weight ≤ room
+  pub known : IfSome fit.left (λ left. weight + left ≡ room)
 
--- so it is found, or that it doesn't fit
+-- so it is found of what marks let through, or that it doesn't fit
 abbrev pub IsFound : {N : Type 0} → (N → ℕ) → Rounds N → (ℕ → ℕ) → Option Fit → Type 0
-IsFound number rounds mark (Some fit) = IsFit number rounds mark fit
+IsFound number rounds mark (Some fit) =
+    IsFit (amount_of rounds.offer.now.budget) (weight_on rounds.first number rounds.offer.now mark)
+    (count_on rounds.first number rounds.offer.now mark) fit
 IsFound number rounds mark None =
     weight_on rounds.first number rounds.offer.now mark ≤ amount_of rounds.offer.now.budget → ⊥
 
@@ -55,7 +56,7 @@ AreRoundMarks number rounds count mark =
 pub record AreFewAndEnough {N : Type 0} (number : N → ℕ) (rounds : Rounds N) (few enough : ℕ) (fit : Fit) : Type 0 where
   pub below : few < enough
   pub bound : enough ≤ rounds.ends.rounds
-  pub fits : IsFit number rounds (mark_of_rounds number rounds few) fit
+  pub fits : IsFound number rounds (mark_of_rounds number rounds few) (Some fit)
   pub beyond : amount_of rounds.offer.now.budget
       < weight_on rounds.first number rounds.offer.now (mark_of_rounds number rounds enough)
 

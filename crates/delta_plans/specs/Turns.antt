@@ -94,7 +94,7 @@ pub record HaveParts {N : Type 0} (number : N → ℕ) (most : ℕ) (turns : Tur
   pub known : AreKnownFor number most turns counts
   pub within : owner + size ≤ turns.offer.now.grid.size.nodes
 
--- marks that share its level out
+-- a mark for each owner, by which turns share their level out
 pub record AreSharedBy {N : Type 0} (number : N → ℕ) (turns : Turns N) (mark : List N) (sent : ℕ) : Type 0 where
   pub size : length mark ≡ turns.offer.now.grid.size.nodes
   pub shared : AreShared turns.first turns.rotation number turns.offer.now (marks number turns.level.now.near.items)

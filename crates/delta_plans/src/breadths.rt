@@ -5,7 +5,7 @@ ghost use Rattle.delta_plans.specs.Marked.{IsLevelOf};
 ghost use Rattle.delta_plans.specs.OfferInMemory.{marks, HasMarks, IfGranted, IsTooLarge};
 ghost use Rattle.delta_plans.specs.Plans.{IsNextLayer};
 
-use crate::offers::{Level, Offer, Step, one_if};
+use crate::offers::{Level, Offer, Step, step_to};
 use bench_types::Fault;
 use planes::{Number, least_above, pick};
 use std::alloc::Global;
@@ -15,16 +15,12 @@ fn one_more<N: Number>(alloc: Global, offer: &Offer<N>, near: &[N]) -> Result<St
     requires { HasMarks N.number N.most offer.now near.now offer.now.high.now }
     ensures { IfGranted result (IsNextLayer N.number offer.now (marks N.number near.now)) }
 {
-    let mut marks = least_above(alloc, offer.grid, near)?;
-    let all: &mut [N] = &mut marks;
-    let mut more = 0;
-    for r in 0..all.len() {
-        let least = all[r];
-        let found = N::greatest().is_above(least);
-        more += one_if(found);
-        all[r] = pick(found, least, near[r]);
-    }
-    Ok(Step { marks, more })
+    let mut far = least_above(alloc, offer.grid, near)?;
+    planes::change(
+        &mut far,
+        |r, least| pick(N::greatest().is_above(least), least, near[r]),
+    );
+    Ok(step_to(near, far, 1))
 }
 
 /// Layers as long as they fit, and the first that doesn't.

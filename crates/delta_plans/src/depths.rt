@@ -4,9 +4,9 @@ ghost use Rattle.std.specs.Prelude.{ℕ, ◌<◌, ◌≤◌, length, map, slice_
 ghost use Rattle.delta_plans.specs.Common.{MOST_KEYS, ScuttleDepth};
 ghost use Rattle.delta_plans.specs.Marked.{IsLevelOf};
 ghost use Rattle.delta_plans.specs.OfferInMemory.{marks, IfGranted, IsTooLarge};
-ghost use Rattle.delta_plans.specs.Plans.{AreNextRuns, AreRunsFrom};
+ghost use Rattle.delta_plans.specs.Plans.{AreRunsFrom, IsMarkFrom, IsStep};
 
-use crate::offers::{Level, Offer, Step, one_if};
+use crate::offers::{Level, Offer, Step, step_to};
 use bench_types::Fault;
 use planes::{Number, counts_above, pick};
 use std::alloc::Global;
@@ -34,19 +34,15 @@ fn next_runs<N: Number>(
 ) -> Result<Step<N>, Fault>
     requires { AreRunsFrom N.number N.most offer.now counts.now near.now size }
     ensures { IfGranted result
-        (λ s. AreNextRuns N.number offer.now (marks N.number near.now) size s) }
+        (IsStep N.number offer.now (marks N.number near.now) (IsMarkFrom N.number offer.now size)) }
 {
-    let mut marks = Vec::from_slice(alloc, near)?;
-    let all: &mut [N] = &mut marks;
+    let mut far = Vec::from_slice(alloc, near)?;
     let high = offer.high;
-    let mut owners = 0;
-    for r in 0..all.len() {
-        let found = counts[r].widen() == size;
-        owners += one_if(found);
-        all[r] = pick(found, high[r], all[r]);
-    }
-    let more = owners * size;
-    Ok(Step { marks, more })
+    planes::change(
+        &mut far,
+        |r, mark| pick(counts[r].widen() == size, high[r], mark),
+    );
+    Ok(step_to(near, far, size))
 }
 
 /// Runs as long as they fit, the longest first, and the first that don't.

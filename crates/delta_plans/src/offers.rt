@@ -3,6 +3,7 @@
 ghost use Rattle.std.specs.Prelude.{◌≡◌, ◌+◌, ◌^◌, ◌*◌, ◌<◌, ◌≤◌, ◌↔◌, IsTrue, length, if◌then◌else◌};
 ghost use Rattle.delta_plans.specs.Common.{MOST_ENTRY_SIZE, MOST_KEYS, MOST_NODES, amount_of, count_between};
 ghost use Rattle.delta_plans.specs.OfferInMemory.{cells_in, high_in, low_in, marks, weight_in, weights_in, AreCounted, HasMarks, HasOwner, IsLeftOf, IsOffer};
+ghost use Rattle.delta_plans.specs.Plans.{step_of};
 ghost use Rattle.delta_plans.specs.Weights.{weight_of};
 
 use bench_types::limits::MOST_ENTRY_SIZE;
@@ -53,7 +54,19 @@ pub(crate) struct Step<N: Number> {
     pub(crate) more: u32,
 }
 
-pub(crate) fn one_if(test: bool) -> u32
+/// The step from near marks to far ones, of which each that is higher lets so many numbers more through.
+pub(crate) fn step_to<N: Number>(near: &[N], far: Vec<N>, size: u32) -> Step<N>
+    requires marks { length far.items ≡ length near.now }
+    requires nodes { length near.now ≤ MOST_NODES }
+    requires size { size ≤ MOST_KEYS }
+    ensures { result ≡ step_of N.number near.now far size }
+{
+    let risen = planes::how_many(&far, |r, mark| mark.is_above(near[r]));
+    let more = risen * size;
+    Step { marks: far, more }
+}
+
+fn one_if(test: bool) -> u32
     ensures { result ≡ (if test then 1 else 0) }
 {
     u32::from(test)
@@ -157,12 +170,11 @@ impl<'a, N: Number> Offer<'a, N> {
 
     /// Whether so many surely fit, by their count alone. Where entries are counted, no such test is needed.
     pub(crate) fn surely_fit(&self, count: u32) -> bool
-        requires { count ≤ MOST_NODES * MOST_KEYS }
         ensures { IsTrue result → count * MOST_ENTRY_SIZE ≤ amount_of self.now.budget }
     {
         match self.budget {
             Budget::Entries(_) => false,
-            Budget::Bytes(amount) => count * MOST_ENTRY_SIZE <= amount,
+            Budget::Bytes(amount) => count <= amount / MOST_ENTRY_SIZE,
         }
     }
 

@@ -1,10 +1,10 @@
 //! Rounds: all that was written in a round, the oldest or the newest first, as long as they fit.
 
-ghost use Rattle.std.specs.Prelude.{◌≡◌, ◌+◌, ◌-◌, ◌<◌, ◌≤◌, length, map, max, slice_index};
+ghost use Rattle.std.specs.Prelude.{◌≡◌, ◌+◌, ◌<◌, ◌≤◌, length, map, max, slice_index, Some};
 ghost use Rattle.bench_types.specs.Budget.{amount_of};
 ghost use Rattle.delta_plans.specs.OfferInMemory.{marks, IfGranted, IsLeftOf};
 ghost use Rattle.delta_plans.specs.Plans.{count_on, weight_on};
-ghost use Rattle.delta_plans.specs.RoundLevels.{AreFewAndEnough, AreRaised, AreRoundMarks, IsAsked, IsFound, IsLevelOfRounds};
+ghost use Rattle.delta_plans.specs.RoundLevels.{AreRaised, AreRoundMarks, IsAsked, IsFound, IsLevelOfRounds};
 
 use crate::marked::First;
 use crate::offers::{Level, Offer};
@@ -19,13 +19,6 @@ struct Fit {
     left: Option<u32>,
 }
 
-// So many rounds don't fit, and one less do.
-#[derive(Clone, Copy)]
-struct Few {
-    enough: u32,
-    fit: Fit,
-}
-
 /// Rounds of what is offered: where they end, and from which end on rounds are sent.
 #[derive(Drop)]
 pub(crate) struct Rounds<'a, 'b, N: Number> {
@@ -35,45 +28,11 @@ pub(crate) struct Rounds<'a, 'b, N: Number> {
 }
 
 impl<'a, 'b, N: Number> Rounds<'a, 'b, N> {
-    /// The first round that doesn't fit with those before it, from the oldest on or from the newest on.
+    /// The first round that doesn't fit with those before it, from the oldest on or from the newest on. It halves the
+    /// rounds between few enough to fit and so many that they don't, with steps that double from the first on.
     pub(crate) fn level(&self, alloc: Global) -> Result<Level<N>, Fault>
         requires { IsAsked N.number N.most self.now.offer.now self.now.ends }
         ensures { IfGranted result (IsLevelOfRounds N.number self.now) }
-    {
-        let few = self.few_rounds(alloc)?;
-        let near = self.mark_after(alloc, few.enough - 1)?;
-        let far = self.mark_after(alloc, few.enough)?;
-        let left = self.left_of_few(few, &near);
-        Ok(Level {
-            near,
-            far,
-            whole: few.fit.count,
-            left,
-        })
-    }
-
-    fn left_of_few(&self, few: Few, near: &[N]) -> u32
-        requires rounds { IsAsked N.number N.most self.now.offer.now self.now.ends }
-        requires few { AreFewAndEnough N.number self.now (few.enough - 1) few.enough few.fit }
-        requires near { AreRoundMarks N.number self.now (few.enough - 1) near.now }
-        ensures { weight_on self.now.first N.number self.now.offer.now (marks N.number near.now) + result
-            ≡ amount_of self.now.offer.now.budget }
-    {
-        match few.fit.left {
-            Some(left) => left,
-            None => match self.weighed(few.fit.count, near) {
-                Some(left) => left,
-                None => unreachable!(),
-            },
-        }
-    }
-
-    // Halves the rounds between few enough to fit and so many that they don't, with steps that double from the first
-    // on.
-    fn few_rounds(&self, alloc: Global) -> Result<Few, Fault>
-        requires { IsAsked N.number N.most self.now.offer.now self.now.ends }
-        ensures { IfGranted result
-            (λ few. AreFewAndEnough N.number self.now (few.enough - 1) few.enough few.fit) }
     {
         let mut few = 0;
         let mut enough = self.ends.rounds;
@@ -94,7 +53,31 @@ impl<'a, 'b, N: Number> Rounds<'a, 'b, N> {
                 None => enough = few + by,
             }
         }
-        Ok(Few { enough, fit })
+        let near = self.mark_after(alloc, few)?;
+        let far = self.mark_after(alloc, enough)?;
+        let left = self.left_of_fit(fit, &near);
+        Ok(Level {
+            near,
+            far,
+            whole: fit.count,
+            left,
+        })
+    }
+
+    // What the numbers leave that marks let through, which fit.
+    fn left_of_fit(&self, fit: Fit, mark: &[N]) -> u32
+        requires mark { AreRaised N.number N.most self.now mark.now }
+        requires fit { IsFound N.number self.now (marks N.number mark.now) (Some fit) }
+        ensures { weight_on self.now.first N.number self.now.offer.now (marks N.number mark.now) + result
+            ≡ amount_of self.now.offer.now.budget }
+    {
+        match fit.left {
+            Some(left) => left,
+            None => match self.weighed(fit.count, mark) {
+                Some(left) => left,
+                None => unreachable!(),
+            },
+        }
     }
 
     // What marks let through, if it fits. What surely fits by its count isn't weighed.

@@ -1,9 +1,10 @@
 //! What is offered to a receiver, by marks for each owner.
 
 ghost use Rattle.std.specs.Prelude.{◌≡◌, ◌<◌, length, map, slice_index, IfOk, IsOkUnless};
-ghost use Rattle.delta_plans.specs.Common.{OutOfMemory, Precise, all_writes, entries_of, HasEach, AreChanged, start_of};
-ghost use Rattle.delta_plans.specs.Offers.{told_by, told_number, AreKnownOf, IsKnown};
+ghost use Rattle.delta_plans.specs.Common.{OutOfMemory, Precise, all_writes, HasEach, AreChanged, start_of};
+ghost use Rattle.delta_plans.specs.Offers.{told_by, told_number, AreKnownOf, IsKnownOf};
 
+use crate::offers::number_at;
 use bench_types::{DigestKind, Fault};
 use owner_writes::OwnerWrites;
 use planes::Number;
@@ -58,22 +59,21 @@ fn put_starts<N: Number>(numbers: &mut [N], owners: Owners<N>)
     ensures { AreChanged (λ r x y. y ≡ start_of (all_writes owners.entry.lists.now r) x) (map N.number numbers.old)
         (map N.number numbers.new) }
 {
-    let Owners { lists, bases } = owners;
-    if planes::none_upto(numbers, bases) {
-        planes::lower(numbers, bases);
+    if planes::none_upto(numbers, owners.bases) {
+        planes::lower(numbers, owners.bases);
         return;
     }
-    for r in 0..numbers.len() {
-        numbers[r] = start_of(&lists[r], numbers[r], bases[r]);
-    }
+    planes::change(numbers, |r, number| start_of(owners, r, number));
 }
 
-// Where the generation of a number's write starts. That of the owner's own generation is given.
+// Where the generation of the write of an owner's number starts. That of the owner's own generation is given.
 #[tactic(auto, using(crate::proofs::Starts::start_own))]
-fn start_of<N: Number>(list: &OwnerWrites, number: N, base: N) -> N
-    requires { IsKnown N.most list.now (N.number number) (N.number base) }
-    ensures { N.number result ≡ start_of (entries_of list.now) (N.number number) }
+fn start_of<N: Number>(owners: Owners<N>, owner: usize, number: N) -> N
+    requires { IsKnownOf N.number N.most owners owner (N.number number) }
+    ensures { N.number result ≡ start_of (all_writes owners.entry.lists.now owner) (N.number number) }
 {
+    let list = &owners.lists[owner];
+    let base = number_at(owners.bases, owner);
     if number.is_above(base) {
         base
     } else {

@@ -1,42 +1,22 @@
-use Rattle.delta_plans.proofs.Common.{length, refl, ap, ◌∙◌, arith, if◌then◌else◌, length-map, with_items_is, number-at, marks}
-use Rattle.delta_plans.proofs.LayerSteps.{next-layer}
-use Rattle.delta_plans.proofs.LevelSteps.{count_fits, counted_next, counted_all}
+use Rattle.delta_plans.proofs.Common.{length, cond, ltb, sym, ap, ◌∙◌, arith, rules, length-map, with_items_is, made-as, number-at, marks, cells_in}
+use Rattle.delta_plans.proofs.LayerSteps.{next-told}
+use Rattle.delta_plans.proofs.LevelSteps.{step-is}
 use Rattle.delta_plans.proofs.breadths.one_more.Goals as goal
-
-pub overflow_add-more : goal.overflow_add-more
-overflow_add-more g c =
-    let size = length-map c.in_ok-marks.marks.items g.N.Number.number in
-    count_fits _ _ c.loop-r.invariant.count c.one_if-more.ensures c.loop-r-test.true
-    (omega (arith, ap length c.deref_mut-all.ensures.value, size, c.in_ok-marks.ensures.least.size, c.requires.is_offer.grid.few_nodes))
-
-pub bounds-near-r : goal.bounds-near-r
-bounds-near-r g c =
-    let size = length-map c.in_ok-marks.marks.items g.N.Number.number in
-    omega (arith, ap length c.deref_mut-all.ensures.value, size, c.in_ok-marks.ensures.least.size, c.requires.each_low)
-
-pub loop-r-preserved : goal.loop-r-preserved
-loop-r-preserved g c =
-    let number = g.N.Number.number in
-    let r = c.loop-r.r in
-    let least = number-at number c.loop-r.all r c.index-all-r.result (omega (arith, c.loop-r-test.true, c.loop-r.auto.all)) c.index-all-r.is
-    ∙ c.loop-r.invariant.numbers.from r (omega arith) in
-    let long = ap length c.deref_mut-all.ensures.value in
-    let size = length-map c.in_ok-marks.marks.items number in
-    let mark = number-at number c.args.near.now r c.index-near-r.result
-    (omega (arith, c.loop-r-test.true, long, size, c.in_ok-marks.ensures.least.size, c.requires.each_low)) c.index-near-r.is in
-    let found = rw (c.greatest.ensures, least) at c.is_above-found.ensures in
-    counted_next number c.deref_mut-all.result.now c.loop-r.all c.loop-r.invariant c.pick.result c.loop-r-test.true
-    (c.pick.ensures ∙ (λ i. if found i then least i else mark i))
-    (c.one_if-more.ensures ∙ (λ i. if found i then 1 else 0))
 
 pub returns : goal.returns
 returns g c =
-    let old = c.deref_mut-all.result.now in
-    let new = c.loop-r.all in
-    let v = c.in_ok-marks.marks in
-    let whole = with_items_is v new (c.loop-r.auto.all ∙ c.deref_mut-all.ensures.len) in
-    let done = counted_all g.N.Number.number old new c.loop-r.invariant c.loop-r-test.false c.loop-r.auto.r-end in (
-      next-layer c.requires.is_offer (marks g.N.Number.number c.args.near.now) v.items old new c.loop-r.more _ c.deref_mut-all.ensures.value
-          c.in_ok-marks.ensures.least whole refl done,
+    let number = g.N.Number.number in
+    let offer = c.args.offer.now in
+    let is = c.requires.is_offer in
+    let near = c.args.near.now in
+    let least = c.in_ok-far.ensures.least in
+    let long = ap length c.deref_mut.ensures.value ∙ sym (length-map c.in_ok-far.far.items number) ∙ least.size in
+    let whole = with_items_is c.in_ok-far.far c.change.new.numbers (c.change.auto.numbers ∙ c.deref_mut.ensures.len) in (
+      rw c.step_to.ensures (step-is near 1 _ c.requires.each_low (rw whole (c.change.auto.numbers ∙ long)) (λ r lt.
+          next-told (cells_in number offer) offer.grid.size.keys r g.N.Number.most (marks number near r) (marks number c.in_ok-far.far.items r) _
+          (λ key in_keys. is.below r key lt in_keys) (is.differ r lt) (least.each r lt)
+          (rw whole (made-as number _ r _ _ (λ x. cond (ltb x g.N.Number.most) x (marks number near r))
+          (rw c.deref_mut.ensures.value at (c.change.ensures.each r (omega (arith, lt, long, length-map c.deref_mut.result.now number))))
+          (λ n m call. search (rules, number-at number near r)))))),
       tt,
     )

@@ -1,11 +1,6 @@
 use Rattle.delta_plans.proofs.Common.{arith, high_in, low_in}
-use Rattle.delta_plans.proofs.WeightLaws.{offer-few, offer-most}
+use Rattle.delta_plans.proofs.WeightLaws.{offer-most}
 use Rattle.delta_plans.proofs.offers.Offer.fits.Goals as goal
-
-pub surely_fit-requires : goal.surely_fit-requires
-surely_fit-requires g c =
-    let few = offer-few c.requires (low_in g.N.Number.number c.args.self.now) (high_in g.N.Number.number c.args.self.now) in
-    omega (arith, c.requires.found, few)
 
 pub returns-then-surely_fit : goal.returns-then-surely_fit
 returns-then-surely_fit g c =

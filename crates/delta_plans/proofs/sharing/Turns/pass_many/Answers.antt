@@ -7,15 +7,8 @@ loop-i-init g c = turns-same c.loop-reached.invariant.so_far (omega arith) (omeg
 
 pub number_at-requires : goal.number_at-requires
 number_at-requires g c =
-    omega (
-      arith,
-      ap length c.deref-far.ensures.value,
-      c.requires.are.level.far,
-      c.min-size.ensures,
-      c.max.ensures,
-      c.owner_of_turn-owner.ensures.below,
-      c.loop-i-test.true,
-    )
+    let owner = c.owner_of_turn-owner.ensures.below in
+    omega (arith, ap length c.deref-far.ensures.value, c.requires.are.level.far, c.min-size.ensures, c.max.ensures, owner, c.loop-i-test.true)
 
 pub loop-i-preserved : goal.loop-i-preserved
 loop-i-preserved g c =

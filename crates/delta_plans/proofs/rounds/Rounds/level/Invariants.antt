@@ -1,5 +1,5 @@
 use Rattle.delta_plans.proofs.Common.{◌-◌, ◌<◌, AreFewAndEnough}
-use Rattle.delta_plans.proofs.rounds.Rounds.few_rounds.Given as goal
+use Rattle.delta_plans.proofs.rounds.Rounds.level.Given as goal
 
 abbrev pub invariant-loop-few : goal.invariant-loop-few
 invariant-loop-few g l = record { found : AreFewAndEnough g.N.Number.number l.self l.few l.enough l.fit; step : 0 < l.step }

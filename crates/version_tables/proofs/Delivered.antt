@@ -1,5 +1,5 @@
 -- From an offer's marks to the marks of a delta between two tables.
--- Serves `marks_sent` and `Merged`.
+-- Serves `delta_above` and `Merged`.
 use Rattle.version_tables.proofs.Common.{◌≡◌, ℕ, ◌<◌, ◌≤◌, List, length, get_or, map, inl, inr, refl, sym, ap, ◌∙◌, subst, arith, nat_lt, ◌&&◌, total_above, cases_eq, length-map, nat_tests, Entry, First, Oldest, Newest, Rules, DigestKind, Scuttle, Precise, digest_kind, first_sent, Table, candidates, delta_between, write_numbered, all_writes, Cells, cell, HasEach, HasNoneAbove, Offer, HasSet, by_first, AreMarked, KeepsLow, IsOffer, IsHistory, Offers, offered_by, told_by, told_number, lets_through, NumbersDiffer, IsOffered, candidate-place, candidate-number, lets, count-above, count-sent, count-cut, are-sent, shared-sent, whole-sent, numbered-some, VersionTableView, HistoriesView, table_in, is_taken_at, AreLaidBoth, AreMarksOf, AreLow, AreOffered, is_taken}
 use Rattle.version_tables.proofs.Fitting.{turned, first-keyed, first-upto}
 use Rattle.version_tables.proofs.Told.{told-offers, offered-is, offered-upto}

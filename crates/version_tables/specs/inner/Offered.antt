@@ -31,10 +31,9 @@ AreOffered kind from to low cells =
 
 -- the numbers offered over low marks, and how many these are
 pub record IsOffered {N : Type 0} (number : N → ℕ) (kind : DigestKind) (from to : VersionTableView)
-    (offered : Offered N) : Type 0 where
-  pub cells : AreOffered kind from to (map number offered.low.now) (map number offered.cells.now)
-  pub found : offered.found
-      ≡ total_above from.nodes from.keys (map number offered.cells.now) (map number offered.low.now)
+    (low : List N) (offered : Offered N) : Type 0 where
+  pub cells : AreOffered kind from to (map number low) (map number offered.cells.now)
+  pub found : offered.found ≡ total_above from.nodes from.keys (map number offered.cells.now) (map number low)
 
 -- beside the low marks these are the marks of a delta, in memory: up to them or above them, by what goes first
 abbrev pub AreMarksBy : {N : Type 0} → (N → ℕ) → (ℕ → List Entry) → Rules → ℕ → VersionTableView

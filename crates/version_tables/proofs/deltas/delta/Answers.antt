@@ -31,29 +31,22 @@ told-requires-clause-known g c =
           };
     })
 
-pub marks_sent-requires-clause-told : goal.marks_sent-requires-clause-told
-marks_sent-requires-clause-told g c = record {
+pub delta_above-requires-clause-told : goal.delta_above-requires-clause-told
+delta_above-requires-clause-told g c = record {
   may = c.requires;
   kept = c.greatest.ensures.kept;
-  told =
-      rw c.deref.ensures.value
-      (rw (c.lists.ensures.value, c.greatest.ensures.value, c.node-own.ensures.value, c.digest_kind-kind.ensures) at c.in_ok-low.ensures.told);
+  told = rw (c.lists.ensures.value, c.greatest.ensures.value, c.node-own.ensures.value, c.digest_kind-kind.ensures) at c.in_ok-low.ensures.told;
 }
 
-pub marks_sent-requires-in-Precise-clause-told : goal.marks_sent-requires-in-Precise-clause-told
-marks_sent-requires-in-Precise-clause-told g c = record {
+pub delta_above-requires-in-Precise-clause-told : goal.delta_above-requires-in-Precise-clause-told
+delta_above-requires-in-Precise-clause-told g c = record {
   may = c.requires;
   kept = c.greatest.ensures.kept;
-  told =
-      rw c.deref-in-Precise-3.ensures.value
-      (rw (c.lists.ensures.value, c.greatest.ensures.value, c.node-own.ensures.value, c.digest_kind-kind.ensures) at c.in_ok-low.ensures.told);
+  told = rw (c.lists.ensures.value, c.greatest.ensures.value, c.node-own.ensures.value, c.digest_kind-kind.ensures) at c.in_ok-low.ensures.told;
 }
 
-pub returns-in_ok-marked-in-Precise-clause-delta : goal.returns-in_ok-marked-in-Precise-clause-delta
-returns-in_ok-marked-in-Precise-clause-delta g c = record {
-  marks = rw (← c.deref-in-Precise-3.ensures.value) c.in_ok-marked-in-Precise.ensures.marks;
-  digest =
-      c.in_ok-ahead-in-Precise.ensures.ahead.held
-      ∙ cells-size g.H.Written.lists c.args.sender.now c.grid-grid.ensures.kept g.N.Number.number c.grid-grid.result.cells.now c.grid-grid.ensures.cells
-      ∙ (λ i. digest_size ((sym c.in-Precise.is ∙ c.digest_kind-kind.ensures) i) (table_in g.H.Written.lists c.args.sender.now));
-}
+pub delta_above-requires-in-Precise-clause-digest : goal.delta_above-requires-in-Precise-clause-digest
+delta_above-requires-in-Precise-clause-digest g c =
+    c.in_ok-ahead-in-Precise.ensures.ahead.held
+    ∙ cells-size g.H.Written.lists c.args.sender.now c.grid-grid.ensures.kept g.N.Number.number c.grid-grid.result.cells.now c.grid-grid.ensures.cells
+    ∙ (λ i. digest_size ((sym c.in-Precise.is ∙ c.digest_kind-kind.ensures) i) (table_in g.H.Written.lists c.args.sender.now))

@@ -20,7 +20,7 @@ pub record IsMostAhead (from to : VersionTableView) (most : ℕ) : Type 0 where
   pub is : most ≡ most_ahead from.nodes from.keys from.greatest to.greatest
 
 -- these surely fit, as few as the greatest numbers are apart, or as they are counted
-abbrev pub SurelyFits : Budget → VersionTableView → VersionTableView → Type 0
+unfoldable pub SurelyFits : Budget → VersionTableView → VersionTableView → Type 0
 SurelyFits budget from to =
     (most_ahead from.nodes from.keys from.greatest to.greatest * largest_share budget ≤ amount_of budget)
     ⊎ (count_ahead from to * largest_share budget ≤ amount_of budget)

@@ -1,4 +1,4 @@
-use Rattle.version_tables.proofs.Common.{◌<◌, inl, inr, sym, ◌∙◌, arith, digest_size, table_in}
+use Rattle.version_tables.proofs.Common.{◌<◌, inl, inr, refl, sym, ◌∙◌, subst, arith, map, digest_size, table_in, AreOffered}
 use Rattle.version_tables.proofs.DigestSizes.{cells-size}
 use Rattle.version_tables.proofs.Fitting.{so-far-upto}
 use Rattle.version_tables.proofs.deltas.delta.Goals as goal
@@ -44,6 +44,28 @@ delta_above-requires-in-Precise-clause-told g c = record {
   kept = c.greatest.ensures.kept;
   told = rw (c.lists.ensures.value, c.greatest.ensures.value, c.node-own.ensures.value, c.digest_kind-kind.ensures) at c.in_ok-low.ensures.told;
 }
+
+pub delta_above-requires-clause-offered : goal.delta_above-requires-clause-offered
+delta_above-requires-clause-offered g c =
+    let cells = map g.N.Number.number c.grid-grid.result.cells.now in
+    record {
+      cells = subst (λ kind. AreOffered kind c.args.sender.now c.args.receiver.now (map g.N.Number.number c.in_ok-low.low.items) cells)
+          (sym c.in-Scuttle.is ∙ c.digest_kind-kind.ensures)
+          (rw c.grid-grid.ensures.cells (record { size = c.grid-grid.ensures.kept.numbers.size; each = λ _ _ _ _. refl }));
+      found = rw (c.grid-grid.ensures.nodes, c.grid-grid.ensures.keys, c.deref.ensures.value) at c.total_above.ensures;
+    }
+
+pub delta_above-requires-in-Precise-clause-offered : goal.delta_above-requires-in-Precise-clause-offered
+delta_above-requires-in-Precise-clause-offered g c =
+    let ahead = c.in_ok-ahead-in-Precise.ensures.ahead in
+    let numbers = rw (c.grid-grid.ensures.nodes, c.grid-grid.ensures.keys, c.grid-grid.ensures.cells, c.cells.ensures.value, c.deref-in-Precise.ensures.value)
+    at ahead.numbers in
+    rw c.deref-in-Precise-2.ensures.value (record {
+      cells = subst (λ kind. AreOffered kind c.args.sender.now c.args.receiver.now (map g.N.Number.number c.in_ok-low.low.items)
+          (map g.N.Number.number c.in_ok-ahead-in-Precise.ahead.numbers.items))
+          (sym c.in-Precise.is ∙ c.digest_kind-kind.ensures) (rw (← c.requires.both.size.nodes) numbers);
+      found = rw (c.grid-grid.ensures.nodes, c.grid-grid.ensures.keys, c.deref-in-Precise.ensures.value) at ahead.count;
+    })
 
 pub delta_above-requires-in-Precise-clause-digest : goal.delta_above-requires-in-Precise-clause-digest
 delta_above-requires-in-Precise-clause-digest g c =

@@ -1,4 +1,4 @@
-use Rattle.version_tables.proofs.Common.{rules, ◌≡◌, ◌+◌, ◌*◌, length, map, set, ap, subst, sym, ◌∙◌, all_writes, list_of_owner, with_write, ListBecomes, HistoriesView, MayAddWrite}
+use Rattle.version_tables.proofs.Common.{rules, ◌≡◌, ◌+◌, ◌*◌, arith, mul-le-mul_right, length, map, set, ap, subst, sym, ◌∙◌, all_writes, list_of_owner, with_write, ListBecomes, HistoriesView, MayAddWrite}
 use Rattle.version_tables.proofs.HistoryCalls.{count-read, histories-written, list-becomes, nodes-are, numbers-set}
 use Rattle.version_tables.proofs.Laid.{seen}
 use Rattle.version_tables.proofs.histories.Histories.write.Goals as goal
@@ -29,3 +29,11 @@ invariant_of-self-2 g c =
 pub returns-clause-number : goal.returns-clause-number
 returns-clause-number g c = subst (λ (h : HistoriesView). g.N.Number.number c.plus-number.result ≡ length
     (all_writes h.lists c.args.owner) + 1) c.self.view_is (counted g c)
+
+pub overflow_mul-key : goal.overflow_mul-key
+overflow_mul-key g c =
+    omega (arith, mul-le-mul_right {m = c.args.key} {n = 4294967296} c.len-nodes.result (omega arith), c.self.invariant.limits.few_nodes, c.self.inside.lists.ok.0)
+
+pub overflow_add-key : goal.overflow_add-key
+overflow_add-key g c =
+    omega (arith, mul-le-mul_right {m = c.args.key} {n = 4294967296} c.len-nodes.result (omega arith), c.self.invariant.limits.few_nodes, c.self.inside.lists.ok.0)

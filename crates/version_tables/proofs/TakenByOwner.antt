@@ -141,8 +141,6 @@ module _ {rules : Rules} {rotation : ℕ} {written : ℕ → List Entry} {most :
 
   record Newest : Type 0 where
     key : ℕ
-    in_keys : key < to.keys
-    at : y key ≡ greatest
     entry : Entry
     is : write_numbered writes greatest ≡ Some entry
     stood : Stands key entry
@@ -155,8 +153,6 @@ module _ {rules : Rules} {rotation : ℕ} {written : ℕ → List Entry} {most :
       let is : write_numbered writes greatest ≡ Some e.0 = ap (write_numbered writes) (sym at.2) ∙ e.1 in
       record {
         key = at.0;
-        in_keys = at.1;
-        at = at.2;
         entry = e.0;
         is = is;
         stood = e.2;
@@ -249,11 +245,11 @@ module _ {rules : Rules} {rotation : ℕ} {written : ℕ → List Entry} {most :
     held = elim (cases_lt 0 greatest) [
       | inr none ↦ inl (omega (arith, none))
       | inl some ↦
+          let (key, lt, at) = greatest-at some in
           let top = newest some in
           let counted = so_far.numbered.counted greatest top.entry top.is in
           let begins = ap (start_before greatest) top.is in
-          let at = top.at in
-          inr (top.key, top.in_keys, taken.kept.each owner top.key in_nodes top.in_keys ∙ grind (arith, nat_tests))
+          inr (key, lt, taken.kept.each owner key in_nodes lt ∙ grind (arith, nat_tests))
     ];
   }
 

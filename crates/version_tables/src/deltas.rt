@@ -1,9 +1,9 @@
 //! What one table sends another, as marks.
 
 ghost use Rattle.std.specs.Prelude.{◌≡◌};
-ghost use Rattle.version_tables.specs.inner.Common.{IfOk, IsOkUnless, OutOfMemory, digest_kind, digest_size, table_in, IsKept};
+ghost use Rattle.version_tables.specs.inner.Common.{map, IfOk, IsOkUnless, OutOfMemory, digest_kind, digest_size, table_in, IsKept};
 ghost use Rattle.version_tables.specs.inner.Deltas.{MaySend};
-ghost use Rattle.version_tables.specs.inner.Offered.{IsDelta, IsOffered, MaySendTold};
+ghost use Rattle.version_tables.specs.inner.Offered.{IsDelta, IsOffered, IsTold};
 
 use crate::digests::digest_size;
 use crate::histories::Histories;
@@ -97,8 +97,11 @@ fn delta_above<N: Number, H: Written>(
     offered: Offered<N>,
     course: &Course<N, H>,
 ) -> Result<DeltaMarks<N>, Fault>
-    requires told { MaySendTold N.number N.most H.lists course.now.rules.now course.now.plan.now.rotation
-        course.now.histories.now sender.now receiver.now low.items }
+    requires may { MaySend course.now.rules.now course.now.plan.now.rotation H.lists course.now.histories.now
+        sender.now receiver.now }
+    requires kept { IsKept H.lists receiver.now }
+    requires told { IsTold (digest_kind course.now.rules.now.mode) N.most course.now.histories.now receiver.now
+        (map N.number low.items) }
     requires offered { IsOffered N.number (digest_kind course.now.rules.now.mode) sender.now receiver.now low.items
         offered }
     requires digest { offered.digest ≡ digest_size (digest_kind course.now.rules.now.mode)

@@ -55,7 +55,8 @@ pub record BothStayMerged (written : ℕ → List Entry) (initiator responder : 
   pub second : (new : VersionTableView) → HasMerged initiator responder new → IsKept written new
 
 -- and each has taken it, so many numbers
-pub record HaveMerged (initiator responder new_initiator new_responder : VersionTableView) (came : BothCounts) : Type 0 where
+pub record HaveMerged (initiator responder new_initiator new_responder : VersionTableView)
+    (came : BothCounts) : Type 0 where
   pub first : HasMerged responder initiator new_initiator
   pub second : HasMerged initiator responder new_responder
   pub back : came.first ≡ count_ahead responder initiator

@@ -4,15 +4,12 @@ use Rattle.version_tables.specs.inner.Common.{ℕ, List, length, map, slice_inde
 use Rattle.delta_plans.specs.declared.marked.Marked.{Marked}
 use Rattle.version_tables.specs.declared.deltas.DeltaMarks.{DeltaMarks}
 use Rattle.version_tables.specs.declared.deltas.Offered.{Offered}
-use Rattle.version_tables.specs.inner.Deltas.{AreMarksOf, MaySend}
+use Rattle.version_tables.specs.inner.Deltas.{AreMarksOf}
 
--- a sender may send a delta to a receiver by the marks that this tells
-pub record MaySendTold {N : Type 0} (number : N → ℕ) (most : ℕ) (written : ℕ → List Entry) (rules : Rules) (turn : ℕ)
-    (h : HistoriesView) (from to : VersionTableView) (low : List N) : Type 0 where
-  pub may : MaySend rules turn written h from to
-  pub kept : IsKept written to
-  pub told : HasEach (length h.lists) (λ r n. n
-      ≡ told_number (digest_kind rules.mode) most to.node (all_writes h.lists) (slice_index to.greatest) r) (map number low)
+-- what a receiver tells of each owner
+abbrev pub IsTold : DigestKind → ℕ → HistoriesView → VersionTableView → List ℕ → Type 0
+IsTold kind most h to =
+    HasEach (length h.lists) (λ r n. n ≡ told_number kind most to.node (all_writes h.lists) (slice_index to.greatest) r)
 
 -- low marks above which a receiver lacks what a sender has: what is told of other owners, and of itself no less than
 -- both have

@@ -50,8 +50,8 @@ HasTakenUnless true lists to sent low high new = new ≡ to
 HasTakenUnless false lists to sent low high new = HasTaken lists to sent low high new
 
 -- this comes of a delta, by what goes first and a sender's greatest numbers, unless it has none or is lost
-pub record IsArrivalOf {N : Type 0} (number : N → ℕ) (delta : DeltaMarks N) (greatest : List ℕ) (first : First) (is_lost : Bool)
-    (arrival : Arrival N) : Type 0 where
+pub record IsArrivalOf {N : Type 0} (number : N → ℕ) (delta : DeltaMarks N) (greatest : List ℕ) (first : First)
+    (is_lost : Bool) (arrival : Arrival N) : Type 0 where
   pub low : map number arrival.low.now
       ≡ by_first first (map number delta.low.items) (map number delta.marked.mark.items)
   pub high : map number arrival.high.now ≡ by_first first (map number delta.marked.mark.items) greatest

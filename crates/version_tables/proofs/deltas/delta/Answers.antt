@@ -32,18 +32,12 @@ told-requires-clause-known g c =
     })
 
 pub delta_above-requires-clause-told : goal.delta_above-requires-clause-told
-delta_above-requires-clause-told g c = record {
-  may = c.requires;
-  kept = c.greatest.ensures.kept;
-  told = rw (c.lists.ensures.value, c.greatest.ensures.value, c.node-own.ensures.value, c.digest_kind-kind.ensures) at c.in_ok-low.ensures.told;
-}
+delta_above-requires-clause-told g c =
+    rw (c.lists.ensures.value, c.greatest.ensures.value, c.node-own.ensures.value, c.digest_kind-kind.ensures) at c.in_ok-low.ensures.told
 
 pub delta_above-requires-in-Precise-clause-told : goal.delta_above-requires-in-Precise-clause-told
-delta_above-requires-in-Precise-clause-told g c = record {
-  may = c.requires;
-  kept = c.greatest.ensures.kept;
-  told = rw (c.lists.ensures.value, c.greatest.ensures.value, c.node-own.ensures.value, c.digest_kind-kind.ensures) at c.in_ok-low.ensures.told;
-}
+delta_above-requires-in-Precise-clause-told g c =
+    rw (c.lists.ensures.value, c.greatest.ensures.value, c.node-own.ensures.value, c.digest_kind-kind.ensures) at c.in_ok-low.ensures.told
 
 pub delta_above-requires-clause-offered : goal.delta_above-requires-clause-offered
 delta_above-requires-clause-offered g c =

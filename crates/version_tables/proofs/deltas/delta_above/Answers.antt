@@ -6,9 +6,9 @@ module _ (g : _) (c : goal.After-ends g) where
   two : AreLaidBoth g.H.Written.lists g.N.Number.most c.args.course.now.histories.now c.args.sender.now c.args.receiver.now
   two = record {
     known = c.lists.ensures.known;
-    both = c.requires.told.may.both;
+    both = c.requires.may.both;
     first = c.grid.ensures.kept;
-    second = c.requires.told.kept;
+    second = c.requires.kept;
   }
 
   of-both : IsOfferOf g.N.Number.number c.args.course.now.rules.now c.args.course.now.histories.now c.args.sender.now c.args.receiver.now (record {
@@ -25,7 +25,7 @@ module _ (g : _) (c : goal.After-ends g) where
     lists = c.lists.ensures.value;
     budget = refl;
     high = c.greatest.ensures.value;
-    low = told-low two (digest_kind c.args.course.now.rules.now.mode) (map g.N.Number.number c.args.low.items) c.requires.told.told;
+    low = told-low two (digest_kind c.args.course.now.rules.now.mode) (map g.N.Number.number c.args.low.items) c.requires.told;
     offered = c.requires.offered.cells;
     found = c.requires.offered.found;
   })
@@ -40,7 +40,7 @@ returns-clause-delta g c =
     record {
       marks = rw (c.greatest.ensures.value, c.deref.ensures.value)
           at (delta-marks g.N.Number.number (two g ends) c.args.course.now.rules.now _ (of-both g ends) c.args.course.now.plan.now.rotation
-          c.requires.told.may.rotation (map g.N.Number.number marked.mark.items) marked.counts.sent marked.counts.cut c.in_ok-marked.ensures.marked
+          c.requires.may.rotation (map g.N.Number.number marked.mark.items) marked.counts.sent marked.counts.cut c.in_ok-marked.ensures.marked
           (length-map marked.mark.items g.N.Number.number ∙ c.in_ok-marked.ensures.size ∙ c.grid.ensures.nodes));
       digest = c.requires.digest;
     }

@@ -1,4 +1,4 @@
-use Rattle.version_tables.proofs.Common.{◌≡◌, ℕ, ap, ◌∙◌, arith, List, length, length-map, nat_tests, number-at, slice_index}
+use Rattle.version_tables.proofs.Common.{ℕ, ap, ◌∙◌, arith, List, length, length-map, nat_tests, number-at, slice_index}
 use Rattle.version_tables.proofs.merging.has_no_newer.Goals as goal
 
 pub returns : goal.returns

@@ -1,6 +1,6 @@
 -- What is offered from one table to another, in memory. Source: this project.
 use Rattle.std.specs.Prelude.{◌≡◌, ◌≢◌, ◌<◌, ◌≤◌}
-use Rattle.version_tables.specs.inner.Common.{ℕ, List, length, map, slice_index, Entry, DigestKind, Rules, by_first, first_sent, digest_kind, digest_size, all_writes, cell, total_above, HasEach, HasEachPlace, HistoriesView, VersionTableView, IsKept, offered_by, told_by, told_number, table_in}
+use Rattle.version_tables.specs.inner.Common.{ℕ, List, length, map, slice_index, Entry, DigestKind, Rules, by_first, first_sent, digest_kind, digest_size, all_writes, cell, total_above, HasEach, HasEachPlace, HistoriesView, VersionTableView, offered_by, told_by, told_number, table_in}
 use Rattle.delta_plans.specs.declared.marked.Marked.{Marked}
 use Rattle.version_tables.specs.declared.deltas.DeltaMarks.{DeltaMarks}
 use Rattle.version_tables.specs.declared.deltas.Offered.{Offered}

@@ -1,5 +1,5 @@
 -- The entries that the model's table has once it has taken what another sent it.
--- Serves `Merged`, `TakenByOwner` and `TakenViews`.
+-- Serves `Merged` and `TakenViews`.
 use Rattle.version_tables.proofs.Common.{◌≡◌, ℕ, ◌≤◌, List, Option, Some, None, ◌⊎◌, inl, inr, refl, ap, arith, Contains, Entry, Item, Mark, DigestKind, Scuttle, Precise, Rules, mark_of, mark_held, IsUpTo, digest_kind, Table, entry_at, greatest_mark, generation_held, IsProper, greatest_mark-from, entry_at-applied_from, applied, Lacks, candidates-lacked, sent-candidate, sent-held, received-proper, kept, sent-up_to, VersionTableView, HistoriesView, table_in, delta_of_views, AreLaidBoth}
 
 -- nothing that a receiver lacks is of an older generation than its copy

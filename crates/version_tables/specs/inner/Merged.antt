@@ -14,11 +14,6 @@ AreCurrent bases v =
 abbrev pub count_ahead : VersionTableView → VersionTableView → ℕ
 count_ahead from to = total_above from.nodes from.keys from.cells to.greatest
 
--- no more than these, as the greatest numbers of two tables of one size are apart
-pub record IsMostAhead (from to : VersionTableView) (most : ℕ) : Type 0 where
-  pub nodes : from.nodes ≡ to.nodes
-  pub is : most ≡ most_ahead from.nodes from.keys from.greatest to.greatest
-
 -- these surely fit, as few as the greatest numbers are apart, or as they are counted
 unfoldable pub SurelyFits : Budget → VersionTableView → VersionTableView → Type 0
 SurelyFits budget from to =

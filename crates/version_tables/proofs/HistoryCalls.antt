@@ -281,7 +281,7 @@ module _ {written : ℕ → List Entry} {most : ℕ} {h : HistoriesView} {nodes 
         → P (rounds + 1) (length (all_writes lists owner))
         → (round : ℕ) → round ≤ rounds + 1 → P round (cell (ends ++ counts) nodes owner round)
     each-round P before after round upto = elim (cases_lt rounds round) [
-      | inl new ↦ subst (λ m. P m (cell (ends ++ counts) nodes owner m)) {x = rounds + 1} (omega (arith, new, upto)) (subst (P (rounds + 1)) (sym row-last) after)
+      | inl new ↦ subst (λ m. P m (cell (ends ++ counts) nodes owner m)) {x = rounds + 1} (omega arith) (subst (P (rounds + 1)) (sym row-last) after)
       | inr not_new ↦ let old : round ≤ rounds = omega (arith, not_new) in subst (P round) (sym (row-before round old)) (before round old)
     ]
 

@@ -1,5 +1,5 @@
 -- What a digest tells, by numbers: which of the sender's writes the receiver lacks.
--- Serves `Delivered` and `TakenViews`.
+-- Serves `delta`, `Delivered` and `TakenViews`.
 use Rattle.version_tables.proofs.Common.{◌≡◌, ℕ, zero, suc, ◌-◌, ◌<◌, ◌≤◌, max, List, length, Option, Some, None, inl, inr, refl, sym, ap, ◌∙◌, subst, arith, nat_lt, cases_eq, lt-ltb, le-ltb, Entry, Item, Mark, Mode, DigestKind, Scuttle, Precise, mark_of, mark_held, is_before, IsUpTo, digest_kind, absent-first, Table, mark_at, greatest_mark, greatest_mark-unique, known_mark, write_numbered, Cells, start_before, start_of, Offers, is_lacked, told_by, offered_by, numbers-before, numbered-none, numbered-some, numbered-within, numbers-up_to, numbers-compare, all_writes, cell, get_or, entry_at, nat_tests, VersionTableView, HistoriesView, table_in, AreLaidBoth, AreLow, AreOffered, IsGreatest, IsWrittenSoFar}
 use Rattle.version_tables.proofs.Fitting.{turned, first-cells, first-held, first-upto}
 

@@ -61,8 +61,8 @@ pub(crate) fn delta<N: Number, H: Written>(
         bases: histories.bases(),
     };
     let own = receiver.node() as usize;
-    let low = told(course.alloc, kind, own, receiver.greatest(), owners)?;
     let grid = sender.grid();
+    let low = told(course.alloc, kind, own, receiver.greatest(), owners)?;
     match kind {
         DigestKind::Scuttle => {
             let offered = Offered {

@@ -31,8 +31,8 @@ pub record IsOffered {N : Type 0} (number : N → ℕ) (kind : DigestKind) (from
   pub cells : AreOffered kind from to (map number low) (map number offered.cells.now)
   pub found : offered.found ≡ total_above from.nodes from.keys (map number offered.cells.now) (map number low)
 
--- beside the low marks these are the marks of a delta, up to them or above them, by what goes first; and the size of the
--- sender's digest
+-- beside the low marks these are the marks of a delta, up to them or above them, by what goes first; and this is the
+-- size of the sender's digest
 pub record IsDelta {N : Type 0} (number : N → ℕ) (written : ℕ → List Entry) (rules : Rules) (rotation : ℕ)
     (from to : VersionTableView) (delta : DeltaMarks N) : Type 0 where
   pub marks : AreMarksOf rules rotation written from to

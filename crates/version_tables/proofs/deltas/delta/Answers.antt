@@ -1,34 +1,25 @@
-use Rattle.version_tables.proofs.Common.{◌<◌, inl, inr, refl, sym, ◌∙◌, subst, arith, map, digest_size, table_in, AreOffered}
+use Rattle.version_tables.proofs.Common.{refl, sym, ◌∙◌, subst, arith, map, digest_size, table_in, AreLaidBoth, AreOffered}
 use Rattle.version_tables.proofs.DigestSizes.{cells-size}
-use Rattle.version_tables.proofs.Fitting.{so-far-upto}
+use Rattle.version_tables.proofs.Told.{greatest-within}
 use Rattle.version_tables.proofs.deltas.delta.Goals as goal
 
 pub told-requires-clause-known : goal.told-requires-clause-known
 told-requires-clause-known g c =
-    let v = c.args.receiver.now in
     let kept = c.greatest.ensures.kept in
+    let nodes = c.requires.both.second.nodes in
+    let two : AreLaidBoth g.H.Written.lists g.N.Number.most c.args.course.now.histories.now c.args.sender.now c.args.receiver.now =
+    record { known = c.lists.ensures.known; both = c.requires.both; first = c.grid-grid.ensures.kept; second = kept } in
     rw (c.lists.ensures.value, c.greatest.ensures.value) (record {
-      count = kept.most.size ∙ c.requires.both.second.nodes;
+      count = kept.most.size ∙ nodes;
       base_count = c.bases.ensures.size;
-      few_nodes = omega (arith, c.requires.both.second.nodes, kept.proper.nodes_limit);
-      each = λ owner lt.
-          let in_nodes : owner < v.nodes = omega (arith, lt, c.requires.both.second.nodes) in
-          let so_far = c.lists.ensures.known.so_far owner in
-          record {
-            few = so_far.few;
-            within = elim (kept.most.each owner in_nodes).held [
-              | inl none ↦ omega (arith, none)
-              | inr (key, in_keys, is) ↦ omega (
-                arith,
-                is,
-                so-far-upto g.H.Written.lists v kept _ owner so_far.begins
-                    (c.requires.both.second.holds owner) key in_nodes in_keys,
-              )
-            ];
-            based = c.bases.ensures.each owner lt;
-            writes = c.lists.ensures.known.writes owner;
-            numbered = so_far.numbered;
-          };
+      few_nodes = omega (arith, nodes, kept.proper.nodes_limit);
+      each = λ owner lt. record {
+        few = (two.known.so_far owner).few;
+        within = greatest-within two owner (omega (arith, lt, nodes));
+        based = c.bases.ensures.each owner lt;
+        writes = two.known.writes owner;
+        numbered = (two.known.so_far owner).numbered;
+      };
     })
 
 pub delta_above-requires-clause-told : goal.delta_above-requires-clause-told

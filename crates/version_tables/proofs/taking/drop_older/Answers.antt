@@ -1,4 +1,4 @@
-use Rattle.version_tables.proofs.Common.{◌≡◌, subst, arith, map, ap, refl, nat_tests, length-map, all_writes, number-at, owners-next, owners-all, IsNumberedHistory, all_writes-here, drop_starts, number_kept}
+use Rattle.version_tables.proofs.Common.{◌≡◌, subst, arith, map, ap, length-map, all_writes, number-at, owners-next, owners-all, IsNumberedHistory, all_writes-here, drop_starts, number_kept}
 use Rattle.version_tables.proofs.taking.drop_older.Goals as goal
 
 -- what an owner's numbers are dropped up to
@@ -30,15 +30,6 @@ loop-owner-preserved g c =
     c.args.size.nodes c.args.size.keys (map number c.args.cells.now) c.loop-owner.owner (λ r k x. number_kept c.drop_from-start.result x)
     (map number c.loop-owner.cells) _ c.loop-owner.invariant c.drop_owner.ensures
     (λ k x. ap (λ n. number_kept n x) (starts g c))
-
--- nothing is dropped where no old number is of an earlier generation
-pub returns-then-none_upto : goal.returns-then-none_upto
-returns-then-none_upto g c = record {
-  size = refl;
-  each = λ owner key lt _.
-      let none = (c.none_upto.ensures.0 c.if-none_upto.true) owner (omega (arith, lt, length-map c.args.before.now g.N.Number.number, c.requires.before_count)) in
-      grind (arith, nat_tests);
-}
 
 pub returns : goal.returns
 returns g c =

@@ -1,4 +1,4 @@
-use Rattle.version_tables.proofs.Common.{◌++◌, ◌<◌, ◌∙◌, ap, arith, map, map-append, subst, sym, MOST_ROUNDS, HistoriesView}
+use Rattle.version_tables.proofs.Common.{◌++◌, ◌<◌, ◌∙◌, ap, map, map-append, subst, sym, MOST_ROUNDS, HistoriesView}
 use Rattle.version_tables.proofs.HistoryCalls.{histories-ended}
 use Rattle.version_tables.proofs.histories.Histories.end_round.Goals as goal
 
@@ -9,6 +9,3 @@ invariant_of-self-2 g c =
     histories-ended c.self.invariant (ap (map number) (c.in_ok-extend_from_slice.ensures.items ∙ ap (λ xs. ends ++ xs) c.deref.ensures.value)
     ∙ map-append number ends c.self.inside.counts.items)
     (subst (λ (h : HistoriesView). h.rounds < MOST_ROUNDS) (sym c.self.view_is) c.requires)
-
-pub overflow_add-self : goal.overflow_add-self
-overflow_add-self g c = omega (arith, ap (λ (h : HistoriesView). h.rounds) c.self.view_is, c.requires)

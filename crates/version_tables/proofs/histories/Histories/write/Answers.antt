@@ -1,4 +1,4 @@
-use Rattle.version_tables.proofs.Common.{rules, ◌≡◌, ◌+◌, ◌*◌, arith, mul-le-mul_right, length, map, set, ap, subst, sym, ◌∙◌, all_writes, list_of_owner, with_write, ListBecomes, HistoriesView, MayAddWrite}
+use Rattle.version_tables.proofs.Common.{rules, ◌≡◌, ◌+◌, ◌*◌, length, map, set, ap, subst, sym, ◌∙◌, all_writes, list_of_owner, with_write, ListBecomes, HistoriesView, MayAddWrite}
 use Rattle.version_tables.proofs.HistoryCalls.{count-read, histories-written, list-becomes, nodes-are, numbers-set}
 use Rattle.version_tables.proofs.Laid.{seen}
 use Rattle.version_tables.proofs.histories.Histories.write.Goals as goal
@@ -8,8 +8,10 @@ module _ (g : _) (c : goal.After-self-3-1 g) where
   may = subst (λ h. MayAddWrite g.H.Written.lists g.N.Number.most h c.args.owner c.args.key c.args.value) (sym c.self.view_is) c.requires
 
   counted : g.N.Number.number c.plus-number.result ≡ length (all_writes c.self.inside.lists.items c.args.owner) + 1
-  counted = c.plus-number.ensures
-      ∙ ap (λ n. n + 1) (count-read g.N.Number.number c.self.inside.counts.items c.self.invariant c.args.owner c.index.result.now may.owner_below c.index.ensures)
+  counted =
+      let counts = c.self.inside.counts.items in
+      c.plus-number.ensures
+      ∙ ap (λ n. n + 1) (count-read g.N.Number.number counts c.self.invariant c.args.owner c.index.result.now may.owner_below c.index.ensures)
 
   becomes : ListBecomes c.args.owner (with_write (list_of_owner c.self.inside.lists.items c.args.owner) c.args.key c.args.value (c.self.inside.rounds + 1))
       c.self.inside.lists.items (set c.self.inside.lists.items c.args.owner c.write.new.self)
@@ -29,11 +31,3 @@ invariant_of-self-2 g c =
 pub returns-clause-number : goal.returns-clause-number
 returns-clause-number g c = subst (λ (h : HistoriesView). g.N.Number.number c.plus-number.result ≡ length
     (all_writes h.lists c.args.owner) + 1) c.self.view_is (counted g c)
-
-pub overflow_mul-key : goal.overflow_mul-key
-overflow_mul-key g c =
-    omega (arith, mul-le-mul_right {m = c.args.key} {n = 4294967296} c.len-nodes.result (omega arith), c.self.invariant.limits.few_nodes, c.self.inside.lists.ok.0)
-
-pub overflow_add-key : goal.overflow_add-key
-overflow_add-key g c =
-    omega (arith, mul-le-mul_right {m = c.args.key} {n = 4294967296} c.len-nodes.result (omega arith), c.self.invariant.limits.few_nodes, c.self.inside.lists.ok.0)

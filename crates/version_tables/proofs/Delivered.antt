@@ -1,6 +1,6 @@
 -- From an offer's marks to the marks of a delta between two tables.
--- Serves `marks_sent` and `Merged`.
-use Rattle.version_tables.proofs.Common.{◌≡◌, ℕ, ◌<◌, ◌≤◌, List, length, get_or, map, inl, inr, refl, sym, ap, ◌∙◌, subst, arith, nat_lt, ◌&&◌, total_above, cases_eq, length-map, nat_tests, Entry, First, Oldest, Newest, Rules, DigestKind, Scuttle, Precise, digest_kind, first_sent, Table, candidates, delta_between, write_numbered, all_writes, Cells, cell, HasEach, HasNoneAbove, Offer, HasSet, by_first, AreMarked, KeepsLow, IsOffer, IsHistory, Offers, offered_by, told_by, told_number, lets_through, NumbersDiffer, IsOffered, candidate-place, candidate-number, lets, count-above, count-sent, count-cut, are-sent, shared-sent, whole-sent, numbered-some, VersionTableView, HistoriesView, table_in, is_taken_at, AreLaidBoth, AreMarksOf, AreLow, AreOffered, is_taken}
+-- Serves `delta_above` and `Merged`.
+use Rattle.version_tables.proofs.Common.{◌≡◌, ℕ, ◌<◌, ◌≤◌, List, length, get_or, map, inl, inr, refl, sym, ap, ◌∙◌, subst, arith, nat_lt, ◌&&◌, total_above, cases_eq, length-map, nat_tests, Entry, First, Oldest, Newest, Rules, DigestKind, Scuttle, Precise, digest_kind, first_sent, Table, candidates, delta_between, write_numbered, all_writes, Cells, cell, HasNoneAbove, Offer, HasSet, by_first, AreMarked, KeepsLow, IsOffer, IsHistory, Offers, offered_by, told_by, lets_through, NumbersDiffer, IsOffered, candidate-place, candidate-number, lets, count-above, count-sent, count-cut, are-sent, shared-sent, whole-sent, numbered-some, VersionTableView, HistoriesView, table_in, is_taken_at, AreLaidBoth, AreMarksOf, AreLow, AreOffered, IsTold, is_taken}
 use Rattle.version_tables.proofs.Fitting.{turned, first-keyed, first-upto}
 use Rattle.version_tables.proofs.Told.{told-offers, offered-is, offered-upto}
 
@@ -116,12 +116,9 @@ module _ {N : Type 0} (number : N → ℕ) {written : ℕ → List Entry} {most 
     high = sym (length-map given.high.now number) ∙ ap length is.high ∙ two.first.most.size;
     lists = sym two.both.first.nodes;
     written = λ owner key in_nodes in_keys. omega (arith, cells-upto owner key in_nodes in_keys, first-upto two owner key in_nodes in_keys);
-    below = λ owner key in_nodes in_keys. omega (
-      arith,
-      cells-upto owner key in_nodes in_keys,
-      first-upto two owner key in_nodes in_keys,
-      (two.known.so_far owner).few,
-    );
+    below = λ owner key in_nodes in_keys.
+        let upto = first-upto two owner key in_nodes in_keys in
+        omega (arith, cells-upto owner key in_nodes in_keys, upto, (two.known.so_far owner).few);
     differ = differ;
     covered = covered;
     found = is.found ∙ count-above cells from.nodes from.keys high covered low;
@@ -155,12 +152,9 @@ module _ {N : Type 0} (number : N → ℕ) {written : ℕ → List Entry} {most 
     told-upto : (owner key : ℕ) → owner < to.nodes → key < to.keys → kind ≡ Scuttle → receiver owner key ≤ low owner
     told-upto owner key in_to in_keys is_scuttle = elim (cases_eq owner to.node) [
       | inl own ↦ subst (λ o. receiver o key ≤ low o) (sym own) (is.low.held key in_keys)
-      | inr other ↦ omega (
-        arith,
-        is.low.others owner in_to other,
-        ap (λ k. told_by k (lists owner) (get_or to.greatest owner 0)) is_scuttle,
-        (two.second.most.each owner in_to).upto key in_keys,
-      )
+      | inr other ↦
+          let told = is.low.others owner in_to other ∙ ap (λ k. told_by k (lists owner) (get_or to.greatest owner 0)) is_scuttle in
+          omega (arith, told, (two.second.most.each owner in_to).upto key in_keys)
     ]
 
     taken-is : (owner key : ℕ) → owner < from.nodes → key < from.keys
@@ -189,16 +183,13 @@ module _ {N : Type 0} (number : N → ℕ) {written : ℕ → List Entry} {most 
 -- what is told makes low marks: of the receiver itself the most, which no number is
 pub told-low : {written : ℕ → List Entry} {most : ℕ} {h : HistoriesView} {from to : VersionTableView} (two : AreLaidBoth written most h from to)
     (kind : DigestKind) (low : List ℕ)
-    → HasEach (length h.lists) (λ r n. n ≡ told_number kind most to.node (all_writes h.lists) (λ r. get_or to.greatest r 0) r) low → AreLow kind h from to low
+    → IsTold kind most h to low → AreLow kind h from to low
 told-low {most = most} {h = h} {from = from} {to = to} two kind low told = record {
   count = told.size ∙ sym two.both.second.nodes;
   others = λ owner lt other. let is = told.each owner (omega (arith, lt, two.both.second.nodes)) in grind (arith, nat_tests);
-  sent = λ key in_keys. omega (
-    arith,
-    own,
-    first-upto two to.node key (omega (arith, two.second.proper.node_below, two.both.size.nodes)) in_keys,
-    (two.known.so_far to.node).few,
-  );
+  sent = λ key in_keys.
+      let upto = first-upto two to.node key (omega (arith, two.second.proper.node_below, two.both.size.nodes)) in_keys in
+      omega (arith, own, upto, (two.known.so_far to.node).few);
   held = λ key in_keys. omega (arith, own, first-upto (turned two) to.node key two.second.proper.node_below in_keys, (two.known.so_far to.node).few);
 }
   where

@@ -62,12 +62,8 @@ module _ (written : ℕ → List Entry) (v : VersionTableView) (kept : IsKept wr
               let held : entry_at t r key ≡ Some there.0 = has r key in_nodes lt ∙ there.1 in
               let mark : mark_at t r key ≡ mark_held (Some there.0) = ap mark_held held in
               let later = (mark_at-up_to_greatest t r key lt).version in
-              let version : 0 < greatest_version t r = omega (
-                arith,
-                (kept.proper.in_place r key there.0 held).written,
-                ap (λ (m : Mark). m.version) mark,
-                later (omega (arith, ap (λ (m : Mark). m.generation) mark, kept.proper.copies r key there.0 held)),
-              ) in
+              let upto = later (omega (arith, ap (λ (m : Mark). m.generation) mark, kept.proper.copies r key there.0 held)) in
+              let version : 0 < greatest_version t r = omega (arith, (kept.proper.in_place r key there.0 held).written, ap (λ (m : Mark). m.version) mark) in
               grind (arith, nat_tests)
         ]
       ]

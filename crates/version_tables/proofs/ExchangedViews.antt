@@ -3,7 +3,7 @@
 use Rattle.version_tables.proofs.Common.{◌≡◌, ℕ, ◌<◌, Bool, true, false, eqb, List, [], ◌∷◌, length, if◌then◌else◌, refl, sym, ap, ◌∙◌, arith, ◌||◌, both_ways, eqb-true, Entry, Item, Exchange, Fate, Record, Rules, digest_kind, Exchanged, initiator_after, last_fate, responder_after, sent_until, MakesOf, Table, applied, DeltaView, digest_size, numbers_taken, VersionTableView, HistoriesView, table_in, delta_of_views, AreLaidBoth, AreMarksOf, HasTakenUnless, StaysOne}
 use Rattle.version_tables.proofs.Fitting.{turned}
 use Rattle.version_tables.proofs.Laid.{lies-kept, lies-table}
-use Rattle.version_tables.proofs.TakenViews.{becomes, same_taken}
+use Rattle.version_tables.proofs.TakenViews.{becomes, same-taken}
 
 -- where nothing is sent nothing changes
 nothing_applied : (t : Table) (items : List Item) → length items ≡ 0 → applied t items ≡ t
@@ -39,7 +39,7 @@ module _ {rules : Rules} {written : ℕ → List Entry} {most : ℕ} {h : Histor
   same_after : (nothing : Bool) (after : VersionTableView) → TakesBack nothing after → (owner key : ℕ) → owner < q.nodes → key < q.keys
       → numbers_taken q.nodes q.cells after.cells flow fhigh owner key ≡ numbers_taken q.nodes q.cells p.cells flow fhigh owner key
   same_after true after is owner key _ _ = ap (λ (v : VersionTableView). numbers_taken q.nodes q.cells v.cells flow fhigh owner key) is
-  same_after false after took owner key in_nodes in_keys = same_taken two forth took owner key in_nodes in_keys
+  same_after false after took owner key in_nodes in_keys = same-taken two back forth took owner key in_nodes in_keys
 
   back_is : (nothing : Bool) → nothing ≡ eqb back_sent 0 → (after : VersionTableView) → TakesBack nothing after
       → table_in written after ≡ applied (table_in written p) back_of.items

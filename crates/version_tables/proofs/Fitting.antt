@@ -1,6 +1,6 @@
 -- Tables beside the histories: the numbers that they hold are of writes made so far.
 -- Serves most of the crate.
-use Rattle.version_tables.proofs.Common.{◌≡◌, ℕ, suc, ◌<◌, ◌≤◌, List, length, Some, inl, inr, sym, ap, ◌∙◌, arith, Contains, cases_lt, Entry, Exchange, Rules, mark_held, entry_at, generation_held, write_from-here, write_numbered, all_writes, Cells, cell, HasCells, numbered-some, VersionTableView, HistoriesView, table_in, IsKept, AreLaidBoth, IsBeginning, IsReadyExchange, subst, get_or_append_left, OwnerListView, entries_of, AreWrites, numbered-placed}
+use Rattle.version_tables.proofs.Common.{◌≡◌, ℕ, suc, ◌<◌, ◌≤◌, List, length, Some, inl, inr, sym, ap, ◌∙◌, arith, Contains, cases_lt, Entry, Exchange, Rules, entry_at, write_from-here, write_numbered, all_writes, Cells, cell, HasCells, numbered-some, VersionTableView, HistoriesView, table_in, IsKept, AreLaidBoth, IsBeginning, IsReadyExchange, subst, get_or_append_left, OwnerListView, entries_of, AreWrites, numbered-placed}
 use Rattle.version_tables.proofs.Laid.{has_cells}
 
 -- writes of earlier generations are of older ones than the owner's own
@@ -35,10 +35,6 @@ module _ (written : ℕ → List Entry) (v : VersionTableView) (kept : IsKept wr
         ]
   ]
 
--- the generation of a number's write
-abbrev pub generation_of : List Entry → ℕ → ℕ
-generation_of writes number = (mark_held (write_numbered writes number)).generation
-
 -- two tables beside the histories
 module _ {written : ℕ → List Entry} {most : ℕ} {h : HistoriesView} {from to : VersionTableView} (two : AreLaidBoth written most h from to) where
   pub turned : AreLaidBoth written most h to from
@@ -70,14 +66,12 @@ module _ {written : ℕ → List Entry} {most : ℕ} {h : HistoriesView} {from t
       → write_numbered (all_writes h.lists owner) (numbers owner key) ≡ Some e → e.key ≡ key
   first-keyed owner key e in_nodes in_keys is = (two.first.proper.in_place owner key e (first-cells owner key in_nodes in_keys ∙ is)).keyed
 
-  -- one that isn't 0 is of a write that it holds, of its copy's generation
+  -- one that isn't 0 is of a write that it holds
   pub first-held : (owner key : ℕ) → owner < from.nodes → key < from.keys → 0 < numbers owner key
-      → (e : Entry) × (write_numbered (all_writes h.lists owner) (numbers owner key) ≡ Some e) × (entry_at (table_in written from) owner key ≡ Some e) ×
-      (generation_of (all_writes h.lists owner) (numbers owner key) ≡ generation_held (table_in written from) owner)
+      → (e : Entry) × (write_numbered (all_writes h.lists owner) (numbers owner key) ≡ Some e) × (entry_at (table_in written from) owner key ≡ Some e)
   first-held owner key in_nodes in_keys some =
       let there = numbered-some (all_writes h.lists owner) (numbers owner key) some (first-upto owner key in_nodes in_keys) in
-      let held = first-cells owner key in_nodes in_keys ∙ there.1 in
-      (there.0, there.1, held, ap (λ o. (mark_held o).generation) there.1 ∙ two.first.proper.copies owner key there.0 held)
+      (there.0, there.1, first-cells owner key in_nodes in_keys ∙ there.1)
 
 -- two such tables of which an exchange may be made
 pub ready : {written : ℕ → List Entry} {most : ℕ} {rules : Rules} {plan : Exchange} {h : HistoriesView} {p q : VersionTableView}

@@ -1,6 +1,6 @@
 -- What the calls of the histories make of all that is kept of the owners' writes.
 -- Serves `Histories::begin_generation`, `Histories::end_round`, `Histories::new` and `Histories::write`.
-use Rattle.version_tables.proofs.Common.{◌≡◌, ◌≢◌, ℕ, zero, suc, ◌+◌, ◌*◌, ◌<◌, ◌≤◌, ◌==◌, cond, List, [], ◌∷◌, ◌++◌, length, get_or, set, map, Some, ◌⊎◌, inl, inr, refl, sym, ap, ◌∙◌, subst, transport, arith, length-append, cases_lt, cases_eq, current-numbered, eq-eqb, ne_eqb, get_or-set_same, get_or-set_other, get_or_append_left, get_or_push, length-set, get_or-append-add, get_or_default, length-map, map-append, map-set, append_assoc, append-nil, same_Some, number-at, Entry, AreSizes, MOST_ROUNDS, write_numbered, OwnerListView, all_writes, entries_of, list_of_owner, no_writes, next_entry, with_write, begun_generation, AreWrites, ListBecomes, writes_more, writes_begun, HasEach, HasEachPlace, ArePlanesChanged, cell, nat_tests, number_kept, AreMadeBy, IsHistory, IsNumberedHistory, IsRoundMark, IsLastNumber, numbered-within, write_from-here, HistoriesView, round_ended, AreHistories, AreNoWrites, bases_in, IsWrittenSoFar, IsWriteUnder}
+use Rattle.version_tables.proofs.Common.{◌≡◌, ◌≢◌, ℕ, zero, suc, ◌+◌, ◌*◌, ◌<◌, ◌≤◌, ◌==◌, cond, List, [], ◌∷◌, ◌++◌, length, get_or, set, map, Some, ◌⊎◌, inl, inr, refl, sym, ap, ◌∙◌, subst, transport, arith, length-append, cases_lt, cases_eq, current-numbered, eq-eqb, ne_eqb, get_or-set_same, get_or-set_other, get_or_append_left, get_or_push, length-set, get_or-append-add, get_or_default, length-map, map-set, append_assoc, append-nil, same_Some, number-at, Entry, AreSizes, MOST_ROUNDS, write_numbered, OwnerListView, all_writes, entries_of, list_of_owner, no_writes, next_entry, with_write, begun_generation, AreWrites, ListBecomes, writes_more, writes_begun, HasEach, HasEachPlace, ArePlanesChanged, cell, nat_tests, number_kept, AreMadeBy, IsHistory, IsNumberedHistory, IsRoundMark, IsLastNumber, numbered-within, write_from-here, HistoriesView, round_ended, AreHistories, AreNoWrites, bases_in, IsWrittenSoFar, MayAddWrite}
 use Rattle.version_tables.proofs.Fitting.{earlier-at}
 use Rattle.version_tables.proofs.OwnCalls.{each-set, place-set, place-within}
 
@@ -204,14 +204,14 @@ module _ {written : ℕ → List Entry} {most : ℕ} {h : HistoriesView} {nodes 
             (λ r _ lt. kept.reached r round lt upto) (λ lt. omega (arith, kept.reached owner round lt upto, longer)) r lt;
       }
 
-    pub histories-written : (key value : ℕ) {counts' lasts' : List ℕ} → ListBecomes owner (with_write list key value (rounds + 1)) lists new
-        → IsWriteUnder written most owner (n + 1) (next_entry list key value (rounds + 1)) → key < keys
+    pub histories-written : (key value : ℕ) {counts' lasts' : List ℕ} → MayAddWrite written most h owner key value
+        → ListBecomes owner (with_write list key value (rounds + 1)) lists new
         → counts' ≡ set counts owner (n + 1) → lasts' ≡ set lasts (key * nodes + owner) (n + 1)
         → AreHistories written most after-call nodes counts' bases lasts' ends
-    histories-written key value changes under in_keys is last_is =
+    histories-written key value may changes is last_is =
         let more = longer key value are so_far in
         transport (λ i. AreHistories written most after-call nodes (sym is i) bases (sym last_is i) ends)
-        (histories-changed changes (writes_more list are key value (rounds + 1)) (so_far-more key value are so_far under.is under.below)
+        (histories-changed changes (writes_more list are key value (rounds + 1)) (so_far-more key value are so_far may.under.is may.under.below)
         (each-set (λ r m. m ≡ length (all_writes new r)) counts nodes owner (n + 1) kept.counted.size in_nodes
         (sym (ap (λ (v : OwnerListView). length (entries_of v)) changes.changed ∙ more))
         (λ r lt other. kept.counted.each r lt ∙ ap (λ (v : OwnerListView). length (entries_of v)) (sym (changes.others r other))))
@@ -219,7 +219,7 @@ module _ {written : ℕ → List Entry} {most : ℕ} {h : HistoriesView} {nodes 
           size = kept.based.size;
           each = λ r lt. kept.based.each r lt ∙ each-list changes (λ r v. bases_in lists r ≡ length v.earlier) (λ _ _. refl) refl r;
         })
-        (place-set (λ r k m. IsLastNumber (list_of_owner new r) k m) lasts nodes keys owner key (n + 1) kept.last.size in_nodes in_keys
+        (place-set lasts nodes keys owner key (n + 1) kept.last.size in_nodes may.key_below (λ r k m. IsLastNumber (list_of_owner new r) k m)
         (subst (λ v. IsLastNumber v key (n + 1)) (sym changes.changed) (last-own key value are so_far))
         (λ r k lt in_key. each-list changes (λ r v. r < nodes → (r ≢ owner) ⊎ (k ≢ key) → IsLastNumber v k (cell lasts nodes r k))
         (λ r _ lt _. kept.last.each r k lt in_key)
@@ -272,17 +272,16 @@ module _ {written : ℕ → List Entry} {most : ℕ} {h : HistoriesView} {nodes 
         get_or_append_left ends counts 0 (round * nodes + owner)
         (omega (arith, place-within nodes (rounds + 1) owner round lt (omega (arith, upto)), kept.ends_size))
 
-    row-last : (round : ℕ) → round ≡ rounds + 1 → cell (ends ++ counts) nodes owner round ≡ length (all_writes lists owner)
-    row-last round last =
-        ap (λ i. get_or (ends ++ counts) i 0) {x = round * nodes + owner} {y = length ends + owner}
-        (omega (arith, ap (λ (n : ℕ). n * nodes) last, kept.ends_size))
+    row-last : cell (ends ++ counts) nodes owner (rounds + 1) ≡ length (all_writes lists owner)
+    row-last =
+        ap (λ i. get_or (ends ++ counts) i 0) {x = (rounds + 1) * nodes + owner} {y = length ends + owner} (omega (arith, kept.ends_size))
         ∙ get_or-append-add ends counts owner 0 ∙ kept.counted.each owner lt
 
     each-round : (P : ℕ → ℕ → Type 0) → ((round : ℕ) → round ≤ rounds → P round (cell ends nodes owner round))
-        → ((round : ℕ) → round ≡ rounds + 1 → P round (length (all_writes lists owner)))
+        → P (rounds + 1) (length (all_writes lists owner))
         → (round : ℕ) → round ≤ rounds + 1 → P round (cell (ends ++ counts) nodes owner round)
     each-round P before after round upto = elim (cases_lt rounds round) [
-      | inl new ↦ let last : round ≡ rounds + 1 = omega (arith, new, upto) in subst (P round) (sym (row-last round last)) (after round last)
+      | inl new ↦ subst (λ m. P m (cell (ends ++ counts) nodes owner m)) {x = rounds + 1} (omega arith) (subst (P (rounds + 1)) (sym row-last) after)
       | inr not_new ↦ let old : round ≤ rounds = omega (arith, not_new) in subst (P round) (sym (row-before round old)) (before round old)
     ]
 
@@ -291,14 +290,15 @@ module _ {written : ℕ → List Entry} {most : ℕ} {h : HistoriesView} {nodes 
       | inl early ↦ omega (arith, row-before round (omega (arith, early)), row-before (round + 1) (omega (arith, early)), kept.ended.rise owner round lt early)
       | inr late ↦
           let upto : round ≤ rounds = omega (arith, before) in
-          omega (arith, row-before round upto, row-last (round + 1) (omega (arith, before, late)), kept.reached owner round lt upto)
+          let last : rounds ≡ round = omega (arith, before, late) in
+          omega (arith, row-before round upto, ap (λ m. cell (ends ++ counts) nodes owner (m + 1)) last, row-last, kept.reached owner round lt upto)
     ]
 
     parts-ended : (round : ℕ) → round ≤ rounds + 1 → IsRoundMark (all_writes lists owner) 0 round (cell (ends ++ counts) nodes owner round)
     parts-ended = each-round (λ round mark. IsRoundMark (all_writes lists owner) 0 round mark) (λ round. kept.ended.parts owner round lt)
-        (λ round last. record {
-          upto = λ number d some is le. omega (arith, (kept.known.so_far owner).made.last number d is, last);
-          above = λ number d some is behind. absurd (omega (arith, behind, (numbered-within (all_writes lists owner) number d is).1));
+        (record {
+          upto = λ number d _ is _. (kept.known.so_far owner).made.last number d is;
+          above = λ number d _ is behind. absurd (omega (arith, behind, (numbered-within (all_writes lists owner) number d is).1));
         })
 
   pub histories-ended : {ends' : List ℕ} → ends' ≡ ends ++ counts → rounds < MOST_ROUNDS
@@ -328,7 +328,7 @@ module _ {written : ℕ → List Entry} {most : ℕ} {h : HistoriesView} {nodes 
       parts = λ owner round lt. parts-ended owner lt round;
     };
     reached = λ owner round lt. each-round owner lt (λ _ mark. mark ≤ length (all_writes lists owner)) (λ round. kept.reached owner round lt)
-        (λ _ _. omega arith) round;
+        (omega arith) round;
   })
 
 -- there are as many lists as nodes
@@ -421,8 +421,3 @@ list-becomes lists owner held list f lt here is = record {
 pub numbers-set : {A : Type 0} (number : A → ℕ) (xs : List A) (owner : ℕ) (x : A) (n : ℕ) → number x ≡ n
     → map number (set xs owner x) ≡ set (map number xs) owner n
 numbers-set number xs owner x n is = map-set number xs owner x ∙ ap (set (map number xs) owner) is
-
--- numbers behind others
-pub numbers-appended : {A : Type 0} (number : A → ℕ) (old held more new : List A) → new ≡ old ++ held → held ≡ more
-    → map number new ≡ map number old ++ map number more
-numbers-appended number old held more new is same = ap (map number) (is ∙ ap (λ xs. old ++ xs) same) ∙ map-append number old more

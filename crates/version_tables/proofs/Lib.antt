@@ -6,7 +6,6 @@ pub mod Fitting
 pub mod OwnCalls
 pub mod NextWrites
 pub mod Standing
-pub mod TakenByOwner
 pub mod TakenViews
 pub mod ExchangedViews
 pub mod Merged

@@ -6,6 +6,7 @@ use Rattle.version_tables.proofs.Fitting.{turned}
 use Rattle.version_tables.proofs.Laid.{LiesAs, lies-kept, lies-table}
 use Rattle.version_tables.proofs.TakenEntries.{after}
 use Rattle.version_tables.proofs.TakenViews.{becomes}
+use Rattle.version_tables.specs.inner.Merged.{SurelyFits}
 
 -- marks that let all through are the high ones, or from the newest on the low ones, beside which are the others
 whole-marks : (first : First) (low high : List ℕ) (P : List ℕ → List ℕ → Type 0)
@@ -20,12 +21,9 @@ module _ (cells : Cells) (owner : ℕ) where
   one-between (suc keys) low high le differ = elim (part-cases (λ _. 1) low high (cells owner keys)) [
     | inr none ↦ omega (arith, none, one-between keys low high le (λ k l k_lt l_lt. differ k l (omega (arith, k_lt)) (omega (arith, l_lt))))
     | inl here ↦
-        omega (
-          arith,
-          here.2,
-          sum_below-none keys (λ key. part (λ _. 1) low high (cells owner key))
-              (λ key lt. let apart = differ key keys (omega (arith, lt)) (omega arith) in grind (arith, nat_tests)),
-        )
+        let none = sum_below-none keys (λ key. part (λ _. 1) low high (cells owner key))
+        (λ key lt. let apart = differ key keys (omega (arith, lt)) (omega arith) in grind (arith, nat_tests)) in
+        omega (arith, here.2, none)
   ]
 
   few-upto : (keys apart low high : ℕ) → high ≤ low + apart → NumbersDiffer cells keys owner → count_between cells keys owner low high ≤ apart
@@ -97,29 +95,23 @@ module _ (rules : Rules) (rotation : ℕ) {written : ℕ → List Entry} {most :
   count = count_all_between cells from.nodes from.keys low high
 
   count-few : count ≤ most_ahead from.nodes from.keys from.greatest to.greatest
-  count-few = sum_below-le from.nodes _ _ (λ r lt. omega (
-    arith,
-    few-upto cells r from.keys (high r - low r) (low r) (high r) (omega arith)
-        (simp map-id at (is-offer.differ r lt)),
-    count_between-most cells from.keys r (low r) (high r),
-  ))
+  count-few = sum_below-le from.nodes _ _ (λ r lt.
+      let few = few-upto cells r from.keys (high r - low r) (low r) (high r) (omega arith) (simp map-id at (is-offer.differ r lt)) in
+      omega (arith, few, count_between-most cells from.keys r (low r) (high r)))
 
   same-total : total_above from.nodes from.keys from.cells to.greatest ≡ count
   same-total = simp map-id at is-offer.found
 
   -- so all of it fits
   within : weight_between (number_shares rules.budget (all_writes h.lists)) cells from.nodes from.keys low high ≤ amount_of rules.budget
+  unfolding SurelyFits
   within =
       let weighs = weight_between-most (number_shares rules.budget (all_writes h.lists)) (largest_share rules.budget) cells from.nodes from.keys low high
       (λ owner number. largest-share rules.budget (write_numbered (all_writes h.lists owner) number)) in
       elim may.fits [
-        | inl apart ↦ omega (
-          arith,
-          weighs,
-          mul-le-mul_right {m = count} {n = most_ahead from.nodes from.keys from.greatest to.greatest}
-              (largest_share rules.budget) count-few,
-          apart,
-        )
+        | inl apart ↦
+            let few = mul-le-mul_right {m = count} {n = most_ahead from.nodes from.keys from.greatest to.greatest} (largest_share rules.budget) count-few in
+            omega (arith, weighs, few, apart)
         | inr counted ↦ omega (arith, weighs, rw same-total at counted)
       ]
 
@@ -135,11 +127,9 @@ module _ (rules : Rules) (rotation : ℕ) {written : ℕ → List Entry} {most :
   -- what it then has was taken
   module _ {new : VersionTableView} (merged : HasMerged from to new) where
     here-sent : (owner key : ℕ) → owner < to.nodes → key < to.keys → cell from.cells to.nodes owner key ≤ high owner
-    here-sent owner key in_owners in_keys = omega (
-      arith,
-      ap (λ n. cell from.cells n owner key) two.both.size.nodes,
-      sender-upto owner key (omega (arith, in_owners, two.both.size.nodes)) (omega (arith, in_keys, two.both.size.keys)),
-    )
+    here-sent owner key in_owners in_keys =
+        let upto = sender-upto owner key (omega (arith, in_owners, two.both.size.nodes)) (omega (arith, in_keys, two.both.size.keys)) in
+        omega (arith, upto, ap (λ n. cell from.cells n owner key) two.both.size.nodes)
 
     taken : HasTaken h.lists to from.cells to.greatest from.greatest new
     taken = record {

@@ -48,12 +48,9 @@ module _ (written : ℕ → List Entry) (v : VersionTableView) (kept : IsKept wr
   first (suc place) lt same =
       let is = begins (suc place) (omega (arith, lt)) ∙ same ∙ under.is in
       elim (cases_lt (length list.earlier) (suc place)) [
-        | inl behind ↦ omega (
-          arith,
-          (current-numbered list are (suc place) (next_entry list key value born) is behind).version,
-          lt,
-          length-append list.earlier list.current,
-        )
+        | inl behind ↦
+            let version = (current-numbered list are (suc place) (next_entry list key value born) is behind).version in
+            omega (arith, version, lt, length-append list.earlier list.current)
         | inr early ↦ omega (arith, earlier-at list are (suc place) (next_entry list key value born) is (omega (arith, early)))
       ]
 

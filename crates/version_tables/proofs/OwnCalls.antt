@@ -1,7 +1,7 @@
 -- A node's own calls on its table: its numbers lie as those of the table that the model has then.
 -- Serves `VersionTable::forget_all`, `VersionTable::forget_others`, `VersionTable::new`, `VersionTable::write_own`
 -- and `HistoryCalls`.
-use Rattle.version_tables.proofs.Common.{◌≡◌, ◌≢◌, ℕ, ◌+◌, ◌*◌, ◌<◌, ◌≤◌, ◌==◌, Bool, true, false, cond, List, length, get_or, set, Some, None, ◌⊎◌, refl, same_from_place, inl, inr, sym, ap, ◌∙◌, subst, arith, mul-le-mul_right, cases_eq, get_or-set_same, get_or-set_other, length-set, same_Some, Entry, AreSizes, Table, entry_at, empty_table, KeepsFrame, with_own_write, without_others, without_all, IsProper, entry_at-own_write, entry_at-own_write_other, entry_at-without_others, entry_at-without_all, entry_at-empty_table, proper-empty_table, proper-with_own_write, proper-without_others, proper-without_all, Cells, cell, ArePlanesChanged, HasEach, HasEachPlace, AreChanged, numbered-within, VersionTableView, table_in, IsKept, IsNextWrite, HasOwnWrite, IsGreatest}
+use Rattle.version_tables.proofs.Common.{◌≡◌, ◌≢◌, ℕ, ◌+◌, ◌*◌, ◌<◌, ◌≤◌, ◌==◌, Bool, true, false, cond, List, length, get_or, set, Some, None, ◌⊎◌, refl, same_from_place, inl, inr, sym, ap, ◌∙◌, subst, transport, arith, mul-le-mul_right, cases_eq, get_or-set_same, get_or-set_other, length-set, same_Some, Entry, AreSizes, Table, entry_at, empty_table, KeepsFrame, with_own_write, without_others, without_all, IsProper, entry_at-own_write, entry_at-own_write_other, entry_at-without_others, entry_at-without_all, entry_at-empty_table, proper-empty_table, proper-with_own_write, proper-without_others, proper-without_all, Cells, cell, ArePlanesChanged, HasEach, HasEachPlace, AreChanged, numbered-within, VersionTableView, table_in, IsKept, IsNextWrite, HasOwnWrite, IsGreatest}
 use Rattle.version_tables.proofs.Laid.{HoldsNumber, LiesAs, holds-same, kept-number, lies-table, no-number}
 
 pub place-within : (nodes keys r k : ℕ) → r < nodes → k < keys → k * nodes + r < keys * nodes
@@ -26,27 +26,29 @@ each-set is xs nodes owner n size in_nodes own others = record {
 }
 
 -- one number in planes is set
-pub place-set : (is : ℕ → ℕ → ℕ → Type 0) (xs : List ℕ) (nodes keys owner key n : ℕ) → length xs ≡ keys * nodes → owner < nodes → key < keys → is owner key n
-    → ((r k : ℕ) → r < nodes → k < keys → (r ≢ owner) ⊎ (k ≢ key) → is r k (cell xs nodes r k)) → HasEachPlace nodes keys is (set xs (key * nodes + owner) n)
-place-set is xs nodes keys owner key n size in_nodes in_keys own others = record {
-  size = length-set xs index n ∙ size;
-  each = λ r k lt in_key. elim (cases_eq r owner) [
-    | inr other ↦ elsewhere r k lt in_key (inl other)
-    | inl same ↦ elim (cases_eq k key) [
-      | inr other ↦ elsewhere r k lt in_key (inr other)
-      | inl same_key ↦
-          subst (λ o. is o k (cell (set xs index n) nodes o k)) (sym same) (subst (λ j. is owner j (cell (set xs index n) nodes owner j)) (sym same_key)
-          (subst (is owner key) (sym (get_or-set_same xs index n 0 (omega (arith, size, place-within nodes keys owner key in_nodes in_keys)))) own))
-    ]
-  ];
-}
-  where
-    index : ℕ
-    index = key * nodes + owner
+module _ (xs : List ℕ) (nodes keys owner key n : ℕ) (size : length xs ≡ keys * nodes) (in_nodes : owner < nodes) (in_keys : key < keys) where
+  abbrev index : ℕ
+  index = key * nodes + owner
 
-    elsewhere : (r k : ℕ) → r < nodes → k < keys → (r ≢ owner) ⊎ (k ≢ key) → is r k (cell (set xs index n) nodes r k)
-    elsewhere r k lt in_key other = subst (is r k) (sym (get_or-set_other xs index (k * nodes + r) n 0 (other-place nodes r k owner key lt in_nodes other)))
-        (others r k lt in_key other)
+  place-here : cell (set xs index n) nodes owner key ≡ n
+  place-here = get_or-set_same xs index n 0 (omega (arith, size, place-within nodes keys owner key in_nodes in_keys))
+
+  place-other : (r k : ℕ) → r < nodes → (r ≢ owner) ⊎ (k ≢ key) → cell (set xs index n) nodes r k ≡ cell xs nodes r k
+  place-other r k lt other = get_or-set_other xs index (k * nodes + r) n 0 (other-place nodes r k owner key lt in_nodes other)
+
+  pub place-set : (is : ℕ → ℕ → ℕ → Type 0) → is owner key n
+      → ((r k : ℕ) → r < nodes → k < keys → (r ≢ owner) ⊎ (k ≢ key) → is r k (cell xs nodes r k)) → HasEachPlace nodes keys is (set xs index n)
+  place-set is own others = record {
+    size = length-set xs index n ∙ size;
+    each = λ r k lt in_key. elim (cases_eq r owner) [
+      | inr other ↦ subst (is r k) (sym (place-other r k lt (inl other))) (others r k lt in_key (inl other))
+      | inl same ↦ elim (cases_eq k key) [
+        | inr other ↦ subst (is r k) (sym (place-other r k lt (inr other))) (others r k lt in_key (inr other))
+        | inl same_key ↦ transport (λ i. is (sym same i) (sym same_key i) (cell (set xs index n) nodes (sym same i) (sym same_key i)))
+            (subst (is owner key) (sym place-here) own)
+      ]
+    ];
+  }
 
 -- one that holds nothing
 blank : {written : ℕ → List Entry} {v : VersionTableView} {t : Table} → KeepsFrame (table_in written v) t → IsProper t
@@ -133,11 +135,6 @@ module _ (written : ℕ → List Entry) (v : VersionTableView) (kept : IsKept wr
     in_nodes : v.node < v.nodes
     in_nodes = kept.proper.node_below
 
-    -- a relation that holds of the number at its place, and of the others where they are
-    each-now : (is : ℕ → ℕ → ℕ → Type 0) → is v.node key number
-        → ((r k : ℕ) → r < v.nodes → k < v.keys → (r ≢ v.node) ⊎ (k ≢ key) → is r k (cell v.cells v.nodes r k)) → HasEachPlace v.nodes v.keys is cells
-    each-now is = place-set is v.cells v.nodes v.keys v.node key number kept.numbers.size in_nodes in_keys
-
     own : HoldsNumber (written v.node) key (entry_at after v.node key) number
     own = record {
       is = record {
@@ -148,31 +145,28 @@ module _ (written : ℕ → List Entry) (v : VersionTableView) (kept : IsKept wr
       holds = entry_at-own_write t key e.value e.born ∙ sym (write.is ∙ ap Some write.next);
     }
 
+    stands : cell cells v.nodes v.node key ≡ number
+    stands = place-here v.cells v.nodes v.keys v.node key number kept.numbers.size in_nodes in_keys
+
+    stays : (r k : ℕ) → r < v.nodes → (r ≢ v.node) ⊎ (k ≢ key) → cell cells v.nodes r k ≡ cell v.cells v.nodes r k
+    stays = place-other v.cells v.nodes v.keys v.node key number kept.numbers.size in_nodes in_keys
+
+    upto : (k : ℕ) → k < v.keys → cell cells v.nodes v.node k ≤ number
+    upto k lt = elim (cases_eq k key) [
+      | inl same ↦ omega (arith, ap (cell cells v.nodes v.node) same, stands)
+      | inr other ↦ omega (arith, stays v.node k in_nodes (inr other), (kept.most.each v.node in_nodes).upto k lt, write.above)
+    ]
+
     pub writes : LiesAs written (record v { cells = cells; greatest = set v.greatest v.node number }) after
     writes = record {
       frame = record { node = refl; nodes = refl; keys = refl; generation = refl };
       proper = proper-with_own_write t key e.value e.born kept.proper in_keys;
-      numbers = each-now (λ r k n. HoldsNumber (written r) k (entry_at after r k) n) own
+      numbers = place-set v.cells v.nodes v.keys v.node key number kept.numbers.size in_nodes in_keys
+          (λ r k n. HoldsNumber (written r) k (entry_at after r k) n) own
           (λ r k lt lt' other. holds-same (entry_at-own_write_other t key e.value e.born r k other) refl (kept-number kept r k lt lt'));
       most = each-set (λ r n. IsGreatest (cell cells v.nodes) v.keys r n) v.greatest v.nodes v.node number kept.most.size in_nodes
-          (record {
-            upto = λ k lt. (each-now (λ r _ n. r ≡ v.node → n ≤ number) (λ _. omega arith)
-                (λ r k lt lt' _ own. omega (
-                  arith,
-                  (kept.most.each r lt).upto k lt',
-                  ap
-                      (λ o. get_or v.greatest o 0) own,
-                  write.above,
-                ))).each v.node k in_nodes lt refl;
-            held = inr (
-              key,
-              in_keys,
-              (each-now (λ r k n. r ≡ v.node → k ≡ key → n ≡ number) (λ _ _. refl)
-                  (λ r k _ _ other own here. absurd (elim other [ inl ne ↦ ne own | inr ne ↦ ne here ]))).each v.node key in_nodes in_keys refl refl,
-            );
-          })
-          (λ r lt other. kept-greatest true (kept.most.each r lt)
-          (λ k lt'. (each-now (λ r k n. r ≢ v.node → n ≡ cell v.cells v.nodes r k) (λ ne. absurd (ne refl)) (λ _ _ _ _ _ _. refl)).each r k lt lt' other) refl);
+          (record { upto = upto; held = inr (key, in_keys, stands) })
+          (λ r lt other. kept-greatest true (kept.most.each r lt) (λ k _. stays r k lt (inl other)) refl);
     }
 
     pub writes-table : HasOwnWrite written v number (record v { cells = cells; greatest = set v.greatest v.node number })

@@ -1,5 +1,5 @@
 -- What a digest tells, by numbers: which of the sender's writes the receiver lacks.
--- Serves `Delivered`.
+-- Serves `delta`, `Delivered` and `TakenViews`.
 use Rattle.version_tables.proofs.Common.{◌≡◌, ℕ, zero, suc, ◌-◌, ◌<◌, ◌≤◌, max, List, length, Option, Some, None, inl, inr, refl, sym, ap, ◌∙◌, subst, arith, nat_lt, cases_eq, lt-ltb, le-ltb, Entry, Item, Mark, Mode, DigestKind, Scuttle, Precise, mark_of, mark_held, is_before, IsUpTo, digest_kind, absent-first, Table, mark_at, greatest_mark, greatest_mark-unique, known_mark, write_numbered, Cells, start_before, start_of, Offers, is_lacked, told_by, offered_by, numbers-before, numbered-none, numbered-some, numbered-within, numbers-up_to, numbers-compare, all_writes, cell, get_or, entry_at, nat_tests, VersionTableView, HistoriesView, table_in, AreLaidBoth, AreLow, AreOffered, IsGreatest, IsWrittenSoFar}
 use Rattle.version_tables.proofs.Fitting.{turned, first-cells, first-held, first-upto}
 
@@ -37,7 +37,7 @@ module _ {written : ℕ → List Entry} {most : ℕ} {h : HistoriesView} {from t
   mark-here key in_keys = ap mark_held (has key in_keys)
 
   -- the greatest number is that of a write, or 0
-  greatest-within : greatest ≤ length writes
+  pub greatest-within : greatest ≤ length writes
   greatest-within = elim top.held [
     | inl none ↦ omega (arith, none)
     | inr (key, in_keys, is) ↦ omega (arith, is, upto key in_keys)
@@ -50,7 +50,7 @@ module _ {written : ℕ → List Entry} {most : ℕ} {h : HistoriesView} {from t
       let e = numbered-some writes greatest (omega (arith, le)) greatest-within in
       rw (d.1, e.1) (numbers-up_to writes so_far.history (suc place) greatest d.0 e.0 d.1 e.1 le)
 
-  greatest-mark : greatest_mark T owner ≡ mark_numbered greatest
+  pub greatest-mark : greatest_mark T owner ≡ mark_numbered greatest
   greatest-mark = greatest_mark-unique T owner (mark_numbered greatest)
       (λ key in_keys. rw (mark-here key in_keys) (up_to-greatest (held key) (top.upto key in_keys)))
       (elim top.held [

@@ -1,8 +1,9 @@
 //! What one table sends another, as marks.
 
-ghost use Rattle.version_tables.specs.inner.Common.{IfOk, IsOkUnless, OutOfMemory, digest_kind, IsKept};
+ghost use Rattle.std.specs.Prelude.{◌≡◌};
+ghost use Rattle.version_tables.specs.inner.Common.{map, IfOk, IsOkUnless, OutOfMemory, digest_kind, digest_size, table_in, IsKept};
 ghost use Rattle.version_tables.specs.inner.Deltas.{MaySend};
-ghost use Rattle.version_tables.specs.inner.Offered.{AreMarksBy, IsDelta, IsOffered, MaySendTold};
+ghost use Rattle.version_tables.specs.inner.Offered.{IsDelta, IsOffered, IsTold};
 
 use crate::digests::digest_size;
 use crate::histories::Histories;
@@ -22,12 +23,12 @@ pub(crate) struct DeltaMarks<N: Number> {
     pub(crate) digest: u32,
 }
 
-// The numbers that are offered, the low marks, and how many are above these.
+// The numbers that are offered, how many are above the low marks, and the size of the sender's digest.
 #[derive(Clone, Copy)]
 struct Offered<'a, N: Number> {
     cells: &'a [N],
-    low: &'a [N],
     found: u32,
+    digest: u32,
 }
 
 /// What an exchange goes by: where its memory comes from, all writes so far, the rules of the run and its own plan.
@@ -60,22 +61,16 @@ pub(crate) fn delta<N: Number, H: Written>(
         bases: histories.bases(),
     };
     let own = receiver.node() as usize;
-    let low = told(course.alloc, kind, own, receiver.greatest(), owners)?;
     let grid = sender.grid();
+    let low = told(course.alloc, kind, own, receiver.greatest(), owners)?;
     match kind {
         DigestKind::Scuttle => {
             let offered = Offered {
                 cells: grid.cells,
-                low: &low,
                 found: planes::total_above(grid, &low, sender.greatest()),
+                digest: digest_size(sender, mode),
             };
-            let marked = marks_sent(sender, receiver, offered, course)?;
-            let digest = digest_size(sender, mode);
-            Ok(DeltaMarks {
-                low,
-                marked,
-                digest,
-            })
+            delta_above(sender, receiver, low, offered, course)
         }
         DigestKind::Precise => {
             let peer = Peer {
@@ -86,31 +81,33 @@ pub(crate) fn delta<N: Number, H: Written>(
             let ahead = grids::ahead(course.alloc, grid, peer)?;
             let offered = Offered {
                 cells: &ahead.numbers,
-                low: &low,
                 found: ahead.count,
+                digest: ahead.held,
             };
-            let marked = marks_sent(sender, receiver, offered, course)?;
-            let digest = ahead.held;
-            Ok(DeltaMarks {
-                low,
-                marked,
-                digest,
-            })
+            delta_above(sender, receiver, low, offered, course)
         }
     }
 }
 
-fn marks_sent<N: Number, H: Written>(
+// What is sent of the numbers that are offered above the low marks.
+fn delta_above<N: Number, H: Written>(
     sender: &VersionTable<N, H>,
     receiver: &VersionTable<N, H>,
+    low: Vec<N>,
     offered: Offered<N>,
     course: &Course<N, H>,
-) -> Result<Marked<N>, Fault>
-    requires told { MaySendTold N.number N.most H.lists course.now.rules.now course.now.plan.now.rotation
-        course.now.histories.now sender.now receiver.now offered.low.now }
-    requires offered { IsOffered N.number (digest_kind course.now.rules.now.mode) sender.now receiver.now offered }
-    ensures marks { IfOk result (AreMarksBy N.number H.lists course.now.rules.now course.now.plan.now.rotation
-        sender.now receiver.now offered.entry.low.now) }
+) -> Result<DeltaMarks<N>, Fault>
+    requires may { MaySend course.now.rules.now course.now.plan.now.rotation H.lists course.now.histories.now
+        sender.now receiver.now }
+    requires kept { IsKept H.lists receiver.now }
+    requires told { IsTold (digest_kind course.now.rules.now.mode) N.most course.now.histories.now receiver.now
+        (map N.number low.items) }
+    requires offered { IsOffered N.number (digest_kind course.now.rules.now.mode) sender.now receiver.now low.items
+        offered }
+    requires digest { offered.digest ≡ digest_size (digest_kind course.now.rules.now.mode)
+        (table_in H.lists sender.now) }
+    ensures delta { IfOk result (IsDelta N.number H.lists course.now.rules.now course.now.plan.now.rotation
+        sender.now receiver.now) }
     ensures only { IsOkUnless result OutOfMemory }
 {
     let histories = course.histories;
@@ -119,7 +116,7 @@ fn marks_sent<N: Number, H: Written>(
     let size = sender.grid().size;
     let offer = Offer {
         grid: Grid { cells, size },
-        low: offered.low,
+        low: &low,
         high: sender.greatest(),
         lists: histories.lists(),
         budget: rules.budget,
@@ -127,5 +124,9 @@ fn marks_sent<N: Number, H: Written>(
     };
     let rotation = course.plan.rotation as usize;
     let marked = planned(course.alloc, &offer, rules.mode, rotation, histories.ends())?;
-    Ok(marked)
+    Ok(DeltaMarks {
+        low,
+        marked,
+        digest: offered.digest,
+    })
 }

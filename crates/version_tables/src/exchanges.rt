@@ -1,8 +1,7 @@
 //! The exchange of an initiator and a responder whose tables keep versions alone.
 
 ghost use Rattle.std.specs.Prelude.{◌≡◌};
-ghost use Rattle.version_tables.specs.inner.Common.{IfOk, OnErr, IsOkUnless, OutOfMemory, MakesOf, table_in};
-ghost use Rattle.version_tables.specs.inner.Deltas.{HasCome};
+ghost use Rattle.version_tables.specs.inner.Common.{false, IfOk, OnErr, IsOkUnless, OutOfMemory, MakesOf, table_in};
 ghost use Rattle.version_tables.specs.inner.Histories.{IsReadyExchange};
 ghost use Rattle.version_tables.specs.inner.Taken.{BothStay};
 
@@ -63,8 +62,9 @@ fn exchange_deltas<N: Number, H: Written>(
     initiator: &mut VersionTable<N, H>,
     responder: &mut VersionTable<N, H>,
 ) -> Result<Record, Fault>
-    requires { HasCome H.lists N.most course.now.rules.now course.now.plan.now course.now.histories.now
-        initiator.old responder.old }
+    requires came { course.now.plan.now.lost1 ≡ false }
+    requires ready { IsReadyExchange H.lists N.most course.now.rules.now course.now.plan.now course.now.histories.now
+        (table_in H.lists initiator.old) (table_in H.lists responder.old) }
     ensures ok { IfOk result
         (MakesOf (table_in H.lists) course.now.rules.now course.now.plan.now initiator.old responder.old
         initiator.new responder.new) }

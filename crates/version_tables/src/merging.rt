@@ -2,10 +2,10 @@
 //! numbers, both ways in one pass. Nothing is planned, and no memory is taken.
 
 ghost use Rattle.std.specs.Prelude.{◌≡◌, ◌*◌, ◌≤◌, ◌↔◌};
-ghost use Rattle.version_tables.specs.inner.Common.{IsTrue, amount_of, largest_share};
+ghost use Rattle.version_tables.specs.inner.Common.{IsTrue, amount_of, largest_share, most_ahead};
 ghost use Rattle.version_tables.specs.inner.Deltas.{AreOfOneSize, FitBoth};
 ghost use Rattle.version_tables.specs.inner.Histories.{bases_in};
-ghost use Rattle.version_tables.specs.inner.Merged.{AreCurrent, BothStayMerged, HasNoNewer, HaveMerged, IsMostAhead, MayMerge, SurelyFits};
+ghost use Rattle.version_tables.specs.inner.Merged.{AreCurrent, BothStayMerged, HasNoNewer, HaveMerged, MayMerge, SurelyFits};
 
 use crate::histories::Histories;
 use crate::tables::{VersionTable, Written};
@@ -27,13 +27,15 @@ fn surely_fit(budget: Budget, count: u32) -> bool
 
 // Whether all that one table has above another's greatest numbers surely fits. It is counted only where it doesn't fit
 // by how far these are apart.
+#[tactic(auto, unfolding(crate::specs::inner::Merged::SurelyFits))]
 fn all_ahead_fits<N: Number, H: Written>(
     from: &VersionTable<N, H>,
     to: &VersionTable<N, H>,
     budget: Budget,
     most: u32,
 ) -> bool
-    requires { IsMostAhead from.now to.now most }
+    requires nodes { from.now.nodes ≡ to.now.nodes }
+    requires most { most ≡ most_ahead from.now.nodes from.now.keys from.now.greatest to.now.greatest }
     ensures { IsTrue result ↔ SurelyFits budget from.now to.now }
 {
     let grid = from.grid();

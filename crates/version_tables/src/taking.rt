@@ -1,8 +1,9 @@
 //! What a table holds once it has taken a delta.
 
 ghost use Rattle.std.specs.Prelude.{◌≡◌};
-ghost use Rattle.version_tables.specs.inner.Common.{map, all_writes, entries_of, number_kept, HasColumn, IsOwnerKept, ArePlanesChanged, IsNumberedHistory};
-ghost use Rattle.version_tables.specs.inner.Taken.{drop_start, drop_starts, HasArrived, IsArrivalOf, MayArrive, MayDrop};
+ghost use Rattle.version_tables.specs.inner.Common.{length, map, all_writes, entries_of, number_kept, HasColumn, IsOwnerKept, ArePlanesChanged, IsGrid, IsNumberedHistory};
+ghost use Rattle.version_tables.specs.inner.Histories.{AreOwners};
+ghost use Rattle.version_tables.specs.inner.Taken.{drop_start, drop_starts, HasTakenUnless, IsArrivalOf, MayArrive};
 
 use crate::deltas::DeltaMarks;
 use crate::histories::Histories;
@@ -42,7 +43,10 @@ fn drop_older<N: Number>(
     greatest: &[N],
     owners: Owners<N>,
 )
-    requires { MayDrop N.number size.nodes size.keys cells.old before.now greatest.now owners }
+    requires grid { IsGrid size.nodes size.keys (length cells.old) }
+    requires before_count { length before.now ≡ size.nodes }
+    requires greatest_count { length greatest.now ≡ size.nodes }
+    requires known { AreOwners N.number size.nodes owners }
     ensures { ArePlanesChanged (λ r k x y. y ≡ number_kept
         (drop_starts (all_writes owners.entry.lists.now) (map N.number before.now)
         (map N.number owners.entry.bases.now) (map N.number greatest.now) r) x) size.nodes size.keys
@@ -103,7 +107,8 @@ pub(crate) fn take_unless<N: Number, H: Written>(
 )
     requires may { MayArrive N.number H.lists histories.now table.old (map N.number cells.now) arrival }
     requires before { map N.number before.now ≡ table.old.greatest }
-    ensures { HasArrived N.number histories.now table.old (map N.number cells.now) arrival.entry table.new }
+    ensures { HasTakenUnless arrival.entry.nothing histories.now.lists table.old (map N.number cells.now)
+        (map N.number arrival.entry.low.now) (map N.number arrival.entry.high.now) table.new }
 {
     if arrival.nothing {
         return;

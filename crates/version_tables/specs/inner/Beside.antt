@@ -18,10 +18,12 @@ pub record AreNumbersBeside {N : Type 0} (number : N → ℕ) (most : ℕ) (writ
 -- a part of the tables may be counted
 abbrev pub MayCountStretch : {N H : Type 0} → (ℕ → List Entry) → Ended N H → ℕ → ℕ → Type 0
 MayCountStretch written ended from to =
-    StandAtRoundEnd (table_in written) ended.tables.items ended.histories × IsStretchOf (length ended.tables.items) from to
+    StandAtRoundEnd (table_in written) ended.tables.items ended.histories
+    × IsStretchOf (length ended.tables.items) from to
 
 -- and is
-abbrev pub CountsStretch : {N H : Type 0} → (N → ℕ) → ℕ → (ℕ → List Entry) → Ended N H → ℕ → ℕ → Result (Piece N) Fault → Type 0
+abbrev pub CountsStretch : {N H : Type 0} → (N → ℕ) → ℕ → (ℕ → List Entry) → Ended N H → ℕ → ℕ
+    → Result (Piece N) Fault → Type 0
 CountsStretch {N} number most written ended from to answer =
     (numbers : RoundNumbers N) → AreNumbersBeside number most written ended.tables.items ended.histories numbers
     → Counts number numbers from to answer

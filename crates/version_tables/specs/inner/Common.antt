@@ -2,7 +2,7 @@
 -- Declares nothing.
 pub use Rattle.std.specs.Coded.{Coded, code_by, coded_list, coded_ℕ, coded×}
 pub use Rattle.std.specs.FinMap.{entries, len-entries}
-pub use Rattle.std.specs.Prelude.{All, Bool, Contains, IfOk, IfSome, IsOkUnless, IsTrue, List, OnErr, OnOk, Result, Some, count_by, false, if◌then◌else◌, length, map, max, nat_le, nat_lt, refl, slice_index, take, true, ℕ, ◌&&◌, ◌*◌, ◌+◌, ◌<◌, ◌==◌, ◌^◌, ◌||◌, ◌↔◌, ◌≡◌, ◌≢◌, ◌≤◌, ◌⊎◌}
+pub use Rattle.std.specs.Prelude.{All, Bool, Contains, IfOk, IsOkUnless, IsTrue, List, OnErr, Result, Some, count_by, false, length, map, max, nat_le, nat_lt, refl, slice_index, take, true, ℕ, ◌||◌}
 pub use Rattle.bench_types.specs.Budget.{amount_of, largest_share}
 pub use Rattle.bench_types.specs.Mark.{mark_of}
 pub use Rattle.bench_types.specs.Mode.{digest_kind}

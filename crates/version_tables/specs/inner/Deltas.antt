@@ -1,7 +1,7 @@
 -- A delta as marks for each owner. Source: this project.
 use Rattle.std.specs.Prelude.{◌≡◌, ◌<◌}
-use Rattle.version_tables.specs.inner.Common.{ℕ, Bool, false, List, length, slice_index, Entry, Exchange, Rules, IsLawfulBudget, cell, DeltaView, delta_between, HistoriesView, VersionTableView, table_in, IsKept, AreSent}
-use Rattle.version_tables.specs.inner.Histories.{AreKnown, FitsHistories, IsReadyExchange}
+use Rattle.version_tables.specs.inner.Common.{ℕ, Bool, List, length, slice_index, Entry, Rules, IsLawfulBudget, cell, DeltaView, delta_between, HistoriesView, VersionTableView, table_in, IsKept, AreSent}
+use Rattle.version_tables.specs.inner.Histories.{AreKnown, FitsHistories}
 use Rattle.version_tables.specs.inner.Taken.{is_taken}
 
 -- the delta from one table to another, where this is what the owners write
@@ -50,9 +50,3 @@ pub record AreMarksOf (rules : Rules) (rotation : ℕ) (written : ℕ → List E
       (is_taken_at from to low high)
   pub count : sent ≡ length (delta_of_views rules rotation written from to).items
   pub left : cut ≡ (delta_of_views rules rotation written from to).cut
-
--- an exchange of which the first message came
-pub record HasCome (written : ℕ → List Entry) (most : ℕ) (rules : Rules) (plan : Exchange) (h : HistoriesView)
-    (initiator responder : VersionTableView) : Type 0 where
-  pub came : plan.lost1 ≡ false
-  pub ready : IsReadyExchange written most rules plan h (table_in written initiator) (table_in written responder)

@@ -14,13 +14,8 @@ AreCurrent bases v =
 abbrev pub count_ahead : VersionTableView → VersionTableView → ℕ
 count_ahead from to = total_above from.nodes from.keys from.cells to.greatest
 
--- no more than these, as the greatest numbers of two tables of one size are apart
-pub record IsMostAhead (from to : VersionTableView) (most : ℕ) : Type 0 where
-  pub nodes : from.nodes ≡ to.nodes
-  pub is : most ≡ most_ahead from.nodes from.keys from.greatest to.greatest
-
 -- these surely fit, as few as the greatest numbers are apart, or as they are counted
-abbrev pub SurelyFits : Budget → VersionTableView → VersionTableView → Type 0
+unfoldable pub SurelyFits : Budget → VersionTableView → VersionTableView → Type 0
 SurelyFits budget from to =
     (most_ahead from.nodes from.keys from.greatest to.greatest * largest_share budget ≤ amount_of budget)
     ⊎ (count_ahead from to * largest_share budget ≤ amount_of budget)
@@ -55,7 +50,8 @@ pub record BothStayMerged (written : ℕ → List Entry) (initiator responder : 
   pub second : (new : VersionTableView) → HasMerged initiator responder new → IsKept written new
 
 -- and each has taken it, so many numbers
-pub record HaveMerged (initiator responder new_initiator new_responder : VersionTableView) (came : BothCounts) : Type 0 where
+pub record HaveMerged (initiator responder new_initiator new_responder : VersionTableView)
+    (came : BothCounts) : Type 0 where
   pub first : HasMerged responder initiator new_initiator
   pub second : HasMerged initiator responder new_responder
   pub back : came.first ≡ count_ahead responder initiator

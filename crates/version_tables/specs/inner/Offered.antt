@@ -1,18 +1,14 @@
 -- What is offered from one table to another, in memory. Source: this project.
 use Rattle.std.specs.Prelude.{◌≡◌, ◌≢◌, ◌<◌, ◌≤◌}
-use Rattle.version_tables.specs.inner.Common.{ℕ, List, length, map, slice_index, Entry, DigestKind, Rules, by_first, first_sent, digest_kind, digest_size, all_writes, cell, total_above, HasEach, HasEachPlace, HistoriesView, VersionTableView, IsKept, offered_by, told_by, told_number, table_in}
-use Rattle.delta_plans.specs.declared.marked.Marked.{Marked}
+use Rattle.version_tables.specs.inner.Common.{ℕ, List, length, map, slice_index, Entry, DigestKind, Rules, by_first, first_sent, digest_kind, digest_size, all_writes, cell, total_above, HasEach, HasEachPlace, HistoriesView, VersionTableView, offered_by, told_by, told_number, table_in}
 use Rattle.version_tables.specs.declared.deltas.DeltaMarks.{DeltaMarks}
 use Rattle.version_tables.specs.declared.deltas.Offered.{Offered}
-use Rattle.version_tables.specs.inner.Deltas.{AreMarksOf, MaySend}
+use Rattle.version_tables.specs.inner.Deltas.{AreMarksOf}
 
--- a sender may send a delta to a receiver by the marks that this tells
-pub record MaySendTold {N : Type 0} (number : N → ℕ) (most : ℕ) (written : ℕ → List Entry) (rules : Rules) (turn : ℕ)
-    (h : HistoriesView) (from to : VersionTableView) (low : List N) : Type 0 where
-  pub may : MaySend rules turn written h from to
-  pub kept : IsKept written to
-  pub told : HasEach (length h.lists) (λ r n. n
-      ≡ told_number (digest_kind rules.mode) most to.node (all_writes h.lists) (slice_index to.greatest) r) (map number low)
+-- what a receiver tells of each owner
+abbrev pub IsTold : DigestKind → ℕ → HistoriesView → VersionTableView → List ℕ → Type 0
+IsTold kind most h to =
+    HasEach (length h.lists) (λ r n. n ≡ told_number kind most to.node (all_writes h.lists) (slice_index to.greatest) r)
 
 -- low marks above which a receiver lacks what a sender has: what is told of other owners, and of itself no less than
 -- both have
@@ -31,22 +27,16 @@ AreOffered kind from to low cells =
 
 -- the numbers offered over low marks, and how many these are
 pub record IsOffered {N : Type 0} (number : N → ℕ) (kind : DigestKind) (from to : VersionTableView)
-    (offered : Offered N) : Type 0 where
-  pub cells : AreOffered kind from to (map number offered.low.now) (map number offered.cells.now)
-  pub found : offered.found
-      ≡ total_above from.nodes from.keys (map number offered.cells.now) (map number offered.low.now)
+    (low : List N) (offered : Offered N) : Type 0 where
+  pub cells : AreOffered kind from to (map number low) (map number offered.cells.now)
+  pub found : offered.found ≡ total_above from.nodes from.keys (map number offered.cells.now) (map number low)
 
--- beside the low marks these are the marks of a delta, in memory: up to them or above them, by what goes first
-abbrev pub AreMarksBy : {N : Type 0} → (N → ℕ) → (ℕ → List Entry) → Rules → ℕ → VersionTableView
-    → VersionTableView → List N → Marked N → Type 0
-AreMarksBy number written rules rotation from to low marked =
-    AreMarksOf rules rotation written from to
-    (by_first (first_sent rules.mode) (map number low) (map number marked.mark.items))
-    (by_first (first_sent rules.mode) (map number marked.mark.items) from.greatest)
-    marked.counts.sent marked.counts.cut
-
--- a delta, with the size of the sender's digest
+-- beside the low marks these are the marks of a delta, up to them or above them, by what goes first; and this is the
+-- size of the sender's digest
 pub record IsDelta {N : Type 0} (number : N → ℕ) (written : ℕ → List Entry) (rules : Rules) (rotation : ℕ)
     (from to : VersionTableView) (delta : DeltaMarks N) : Type 0 where
-  pub marks : AreMarksBy number written rules rotation from to delta.low.items delta.marked
+  pub marks : AreMarksOf rules rotation written from to
+      (by_first (first_sent rules.mode) (map number delta.low.items) (map number delta.marked.mark.items))
+      (by_first (first_sent rules.mode) (map number delta.marked.mark.items) from.greatest)
+      delta.marked.counts.sent delta.marked.counts.cut
   pub digest : delta.digest ≡ digest_size (digest_kind rules.mode) (table_in written from)

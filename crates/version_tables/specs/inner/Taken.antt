@@ -1,9 +1,9 @@
 -- The cells of a table that has taken a delta. Source: this project.
 use Rattle.std.specs.Prelude.{◌≡◌, ◌&&◌, ◌==◌, ◌||◌, if◌then◌else◌}
-use Rattle.version_tables.specs.inner.Common.{ℕ, Bool, true, false, max, nat_lt, nat_le, List, length, map, slice_index, Entry, number_kept, numbers_taken, ArePlanesChanged, AreRaised, IsGrid, VersionTableView, IsKept, OwnerListView, all_writes, Owners, First, by_first, HistoriesView, start_of}
+use Rattle.version_tables.specs.inner.Common.{ℕ, Bool, true, false, max, nat_lt, nat_le, List, length, map, slice_index, Entry, number_kept, numbers_taken, ArePlanesChanged, AreRaised, VersionTableView, IsKept, OwnerListView, all_writes, First, by_first, HistoriesView, start_of}
 use Rattle.version_tables.specs.declared.deltas.DeltaMarks.{DeltaMarks}
 use Rattle.version_tables.specs.declared.taking.Arrival.{Arrival}
-use Rattle.version_tables.specs.inner.Histories.{bases_in, AreOwners}
+use Rattle.version_tables.specs.inner.Histories.{bases_in}
 
 -- a sent number is taken that is above the receiver's and one mark, and up to another
 abbrev pub is_taken : ℕ → ℕ → ℕ → ℕ → Bool
@@ -19,14 +19,6 @@ drop_start writes old base new =
 abbrev pub drop_starts : (ℕ → List Entry) → List ℕ → List ℕ → List ℕ → ℕ → ℕ
 drop_starts lists before bases greatest owner =
     drop_start (lists owner) (slice_index before owner) (slice_index bases owner) (slice_index greatest owner)
-
--- as many numbers before, and greatest ones, as there are owners, whose planes these are
-pub record MayDrop {N : Type 0} (number : N → ℕ) (nodes keys : ℕ) (cells before greatest : List N)
-    (owners : Owners N) : Type 0 where
-  pub grid : IsGrid nodes keys (length cells)
-  pub before_count : length before ≡ nodes
-  pub greatest_count : length greatest ≡ nodes
-  pub known : AreOwners number nodes owners
 
 -- a table has taken numbers that are sent, and dropped what is of older generations: its numbers alone have changed
 pub record HasTaken (lists : List OwnerListView) (to : VersionTableView) (sent low high : List ℕ)
@@ -50,8 +42,8 @@ HasTakenUnless true lists to sent low high new = new ≡ to
 HasTakenUnless false lists to sent low high new = HasTaken lists to sent low high new
 
 -- this comes of a delta, by what goes first and a sender's greatest numbers, unless it has none or is lost
-pub record IsArrivalOf {N : Type 0} (number : N → ℕ) (delta : DeltaMarks N) (greatest : List ℕ) (first : First) (is_lost : Bool)
-    (arrival : Arrival N) : Type 0 where
+pub record IsArrivalOf {N : Type 0} (number : N → ℕ) (delta : DeltaMarks N) (greatest : List ℕ) (first : First)
+    (is_lost : Bool) (arrival : Arrival N) : Type 0 where
   pub low : map number arrival.low.now
       ≡ by_first first (map number delta.low.items) (map number delta.marked.mark.items)
   pub high : map number arrival.high.now ≡ by_first first (map number delta.marked.mark.items) greatest
@@ -66,12 +58,6 @@ pub record MayArrive {N : Type 0} (number : N → ℕ) (written : ℕ → List E
   pub low_count : length arrival.low.now ≡ to.nodes
   pub high_count : length arrival.high.now ≡ to.nodes
   pub stays : StaysOne written h.lists to sent (map number arrival.low.now) (map number arrival.high.now)
-
--- and it has taken that
-abbrev pub HasArrived :
-    {N : Type 0} → (N → ℕ) → HistoriesView → VersionTableView → List ℕ → Arrival N → VersionTableView → Type 0
-HasArrived number h to sent arrival new =
-    HasTakenUnless arrival.nothing h.lists to sent (map number arrival.low.now) (map number arrival.high.now) new
 
 -- neither of two tables has changed
 abbrev pub BothStay : VersionTableView → VersionTableView → VersionTableView → VersionTableView → Type 0

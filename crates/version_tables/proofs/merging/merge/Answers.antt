@@ -15,21 +15,10 @@ module _ (g : _) (c : goal.After-responder-2-1 g) where
   size : AreOfOneSize p q
   size = rw (c.initiator.view_is, c.responder.view_is) c.requires.size
 
-  abbrev p' : VersionTableView
-  p' = record p {
+  came : HasMerged q p (record p {
     cells = map number (with_items c.initiator.inside.cells c.merge-came.new.first).items;
-    greatest = map number
-        (with_items c.initiator.inside.greatest c.raise_both.new.first).items;
-  }
-
-  abbrev q' : VersionTableView
-  q' = record q {
-    cells = map number (with_items c.responder.inside.cells c.merge-came.new.second).items;
-    greatest = map number
-        (with_items c.responder.inside.greatest c.raise_both.new.second).items;
-  }
-
-  came : HasMerged q p p'
+    greatest = map number (with_items c.initiator.inside.greatest c.raise_both.new.first).items;
+  })
   came =
       let cells = with_items_is c.initiator.inside.cells c.merge-came.new.first (c.merge-came.auto.first ∙ c.deref_mut.ensures.len) in
       let greatest = with_items_is c.initiator.inside.greatest c.raise_both.new.first (c.raise_both.auto.first ∙ c.deref_mut-3.ensures.len) in
@@ -39,7 +28,10 @@ module _ (g : _) (c : goal.After-responder-2-1 g) where
         rest = refl;
       }
 
-  went : HasMerged p q q'
+  went : HasMerged p q (record q {
+    cells = map number (with_items c.responder.inside.cells c.merge-came.new.second).items;
+    greatest = map number (with_items c.responder.inside.greatest c.raise_both.new.second).items;
+  })
   went =
       let cells = with_items_is c.responder.inside.cells c.merge-came.new.second (c.merge-came.auto.second ∙ c.deref_mut-2.ensures.len) in
       let greatest = with_items_is c.responder.inside.greatest c.raise_both.new.second (c.raise_both.auto.second ∙ c.deref_mut-4.ensures.len) in

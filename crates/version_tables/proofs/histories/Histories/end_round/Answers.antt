@@ -1,8 +1,11 @@
-use Rattle.version_tables.proofs.Common.{◌<◌, subst, sym, MOST_ROUNDS, HistoriesView}
-use Rattle.version_tables.proofs.HistoryCalls.{histories-ended, numbers-appended}
+use Rattle.version_tables.proofs.Common.{◌++◌, ◌<◌, ◌∙◌, ap, map, map-append, subst, sym, MOST_ROUNDS, HistoriesView}
+use Rattle.version_tables.proofs.HistoryCalls.{histories-ended}
 use Rattle.version_tables.proofs.histories.Histories.end_round.Goals as goal
 
 pub invariant_of-self-2 : goal.invariant_of-self-2
 invariant_of-self-2 g c =
-    histories-ended c.self.invariant (numbers-appended g.N.Number.number _ _ _ _ c.in_ok-extend_from_slice.ensures.items c.deref.ensures.value)
+    let number = g.N.Number.number in
+    let ends = c.self.inside.ends.items in
+    histories-ended c.self.invariant (ap (map number) (c.in_ok-extend_from_slice.ensures.items ∙ ap (λ xs. ends ++ xs) c.deref.ensures.value)
+    ∙ map-append number ends c.self.inside.counts.items)
     (subst (λ (h : HistoriesView). h.rounds < MOST_ROUNDS) (sym c.self.view_is) c.requires)

@@ -1,29 +1,29 @@
-use Rattle.version_tables.proofs.Common.{rules, ◌≡◌, ◌+◌, ◌*◌, ◌<◌, length, map, set, ap, subst, sym, ◌∙◌, all_writes, list_of_owner, next_entry, with_write, ListBecomes, HistoriesView, IsWriteUnder}
+use Rattle.version_tables.proofs.Common.{rules, ◌≡◌, ◌+◌, ◌*◌, length, map, set, ap, subst, sym, ◌∙◌, all_writes, list_of_owner, with_write, ListBecomes, HistoriesView, MayAddWrite}
 use Rattle.version_tables.proofs.HistoryCalls.{count-read, histories-written, list-becomes, nodes-are, numbers-set}
+use Rattle.version_tables.proofs.Laid.{seen}
 use Rattle.version_tables.proofs.histories.Histories.write.Goals as goal
 
 module _ (g : _) (c : goal.After-self-3-1 g) where
-  in_range : c.args.owner < length c.self.inside.lists.items
-  in_range = subst (λ (h : HistoriesView). c.args.owner < length h.lists) (sym c.self.view_is) c.requires.owner_below
+  may : MayAddWrite g.H.Written.lists g.N.Number.most (seen c.self.view_is) c.args.owner c.args.key c.args.value
+  may = subst (λ h. MayAddWrite g.H.Written.lists g.N.Number.most h c.args.owner c.args.key c.args.value) (sym c.self.view_is) c.requires
 
   counted : g.N.Number.number c.plus-number.result ≡ length (all_writes c.self.inside.lists.items c.args.owner) + 1
-  counted = c.plus-number.ensures
-      ∙ ap (λ n. n + 1) (count-read g.N.Number.number c.self.inside.counts.items c.self.invariant c.args.owner c.index.result.now in_range c.index.ensures)
+  counted =
+      let counts = c.self.inside.counts.items in
+      c.plus-number.ensures
+      ∙ ap (λ n. n + 1) (count-read g.N.Number.number counts c.self.invariant c.args.owner c.index.result.now may.owner_below c.index.ensures)
 
   becomes : ListBecomes c.args.owner (with_write (list_of_owner c.self.inside.lists.items c.args.owner) c.args.key c.args.value (c.self.inside.rounds + 1))
       c.self.inside.lists.items (set c.self.inside.lists.items c.args.owner c.write.new.self)
   becomes = list-becomes c.self.inside.lists.items c.args.owner c.index_mut.result.now c.write.new.self
-      (λ v. with_write v c.args.key c.args.value (c.self.inside.rounds + 1)) in_range c.index_mut.ensures.value c.in_ok-write.ensures.ok
+      (λ v. with_write v c.args.key c.args.value (c.self.inside.rounds + 1)) may.owner_below c.index_mut.ensures.value c.in_ok-write.ensures.ok
 
 pub invariant_of-self-2 : goal.invariant_of-self-2
 invariant_of-self-2 g c =
     let lists = c.self.inside.lists.items in
     let owner = c.args.owner in
     let count : c.len-nodes.result ≡ length lists = search rules in
-    nodes-are (histories-written c.self.invariant (set lists owner c.write.new.self) owner (in_range g c) c.args.key c.args.value (becomes g c)
-    (subst (λ (h : HistoriesView). IsWriteUnder g.H.Written.lists g.N.Number.most owner (length (all_writes h.lists owner) + 1)
-    (next_entry (list_of_owner h.lists owner) c.args.key c.args.value (h.rounds + 1))) (sym c.self.view_is) c.requires.under)
-    (subst (λ (h : HistoriesView). c.args.key < h.keys) (sym c.self.view_is) c.requires.key_below)
+    nodes-are (histories-written c.self.invariant (set lists owner c.write.new.self) owner (may g c).owner_below c.args.key c.args.value (may g c) (becomes g c)
     (numbers-set g.N.Number.number _ owner c.plus-number.result _ (counted g c))
     (numbers-set g.N.Number.number _ (c.args.key * c.len-nodes.result + owner) c.plus-number.result _ (counted g c)
     ∙ ap (λ n. set (map g.N.Number.number c.self.inside.lasts.items) (c.args.key * n + owner) (length (all_writes lists owner) + 1)) count))

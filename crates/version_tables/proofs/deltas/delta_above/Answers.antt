@@ -1,43 +1,46 @@
 use Rattle.version_tables.proofs.Common.{refl, ◌∙◌, map, length-map, digest_kind, AreLaidBoth}
 use Rattle.version_tables.proofs.Delivered.{IsOfferOf, offer-is, delta-marks, told-low}
-use Rattle.version_tables.proofs.deltas.marks_sent.Goals as goal
+use Rattle.version_tables.proofs.deltas.delta_above.Goals as goal
 
 module _ (g : _) (c : goal.After-ends g) where
   two : AreLaidBoth g.H.Written.lists g.N.Number.most c.args.course.now.histories.now c.args.sender.now c.args.receiver.now
   two = record {
     known = c.lists.ensures.known;
-    both = c.requires.told.may.both;
+    both = c.requires.may.both;
     first = c.grid.ensures.kept;
-    second = c.requires.told.kept;
+    second = c.requires.kept;
   }
 
   of-both : IsOfferOf g.N.Number.number c.args.course.now.rules.now c.args.course.now.histories.now c.args.sender.now c.args.receiver.now (record {
     grid = record { cells = c.args.offered.cells; size = c.grid.result.size };
-    low = c.args.offered.low;
+    low = c.deref.result;
     high = c.greatest.result;
     lists = c.lists.result;
     budget = c.args.course.now.rules.now.budget;
     found = c.args.offered.found;
   })
-  of-both = record {
+  of-both = rw c.deref.ensures.value (record {
     nodes = c.grid.ensures.nodes;
     keys = c.grid.ensures.keys;
     lists = c.lists.ensures.value;
     budget = refl;
     high = c.greatest.ensures.value;
-    low = told-low two (digest_kind c.args.course.now.rules.now.mode) (map g.N.Number.number c.args.offered.low.now) c.requires.told.told;
+    low = told-low two (digest_kind c.args.course.now.rules.now.mode) (map g.N.Number.number c.args.low.items) c.requires.told;
     offered = c.requires.offered.cells;
     found = c.requires.offered.found;
-  }
+  })
 
 pub planned-requires-clause-offer : goal.planned-requires-clause-offer
 planned-requires-clause-offer g c = offer-is g.N.Number.number (two g c) c.args.course.now.rules.now _ (of-both g c)
 
-pub returns-clause-marks : goal.returns-clause-marks
-returns-clause-marks g c =
+pub returns-clause-delta : goal.returns-clause-delta
+returns-clause-delta g c =
     let marked = c.in_ok-marked.marked in
     let ends = c.before.before.before in
-    rw c.greatest.ensures.value
-    at (delta-marks g.N.Number.number (two g ends) c.args.course.now.rules.now _ (of-both g ends) c.args.course.now.plan.now.rotation
-    c.requires.told.may.rotation (map g.N.Number.number marked.mark.items) marked.counts.sent marked.counts.cut c.in_ok-marked.ensures.marked
-    (length-map marked.mark.items g.N.Number.number ∙ c.in_ok-marked.ensures.size ∙ c.grid.ensures.nodes))
+    record {
+      marks = rw (c.greatest.ensures.value, c.deref.ensures.value)
+          at (delta-marks g.N.Number.number (two g ends) c.args.course.now.rules.now _ (of-both g ends) c.args.course.now.plan.now.rotation
+          c.requires.may.rotation (map g.N.Number.number marked.mark.items) marked.counts.sent marked.counts.cut c.in_ok-marked.ensures.marked
+          (length-map marked.mark.items g.N.Number.number ∙ c.in_ok-marked.ensures.size ∙ c.grid.ensures.nodes));
+      digest = c.requires.digest;
+    }

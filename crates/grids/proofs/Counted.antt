@@ -1,6 +1,11 @@
 -- Planes of which some places are counted.
--- Serves `above_peer`, `ahead`, `count_behind`, `keep_ahead` and `merge`.
-use Rattle.grids.proofs.Common.{◌≡◌, ℕ, Fits, w32, ◌+◌, ◌*◌, ◌<◌, ◌≤◌, Bool, cond, nat_tests, List, length, get_or, map, take, drop, nat_lt, max, sym, ◌∙◌, ap, arith, length-map, put_mid, MOST_NODES, sum_below, sum_below-most, cell, number_ahead, total_above, total_of, IsGrid, ArePlanesChangedUpto, ArePlanesChanged, AreCountedUpto, AreRaisedUpto, number_raised, count_passing, HasNoOtherMark, HasEachPlace, HasNoneUptoMark, number_kept, cases_eq, inl, inr, changed_all, count_le, sum_next, plane-cells, plane_count, planes-all, planes-written, block-cells, plane-within, total-places, total-same, total_whole}
+-- Serves `above_peer`, `ahead`, `ahead_of_both`, `change_counting`, `change_some_counting`, `count_behind` and `merge`.
+use Rattle.grids.proofs.Common.{◌≡◌, ℕ, Fits, AreChangedUpto, subst, w32, ◌+◌, ◌*◌, ◌<◌, ◌≤◌, Bool, cond, nat_tests, List, length, get_or, map, take, drop, nat_lt, max, sym, ◌∙◌, ap, arith, length-map, put_mid, MOST_NODES, sum_below, sum_below-most, cell, number_ahead, total_above, total_of, IsGrid, ArePlanesChangedUpto, ArePlanesChanged, AreCountedUpto, AreRaisedUpto, number_raised, count_passing, HasNoOtherMark, HasEachPlace, HasNoneUptoMark, number_kept, cases_eq, inl, inr, changed_all, count_le, sum_next, plane-cells, plane_count, planes-all, planes-written, block-cells, plane-within, total-places, total-same, total_whole}
+
+-- the same numbers are changed, where their bound is written in another way
+pub changed-same : (changed : ℕ → ℕ → ℕ → Type 0) (old new : List ℕ) (bound to : ℕ) → AreChangedUpto changed old new bound → bound ≡ to
+    → AreChangedUpto changed old new to
+changed-same changed old new bound to is same = subst (AreChangedUpto changed old new) same is
 
 -- the planes of the keys below a bound are changed, and so many places of them pass a test
 pub record ArePlanesCounted (changed : ℕ → ℕ → ℕ → ℕ → Type 0) (test : ℕ → ℕ → Bool) (nodes : ℕ) (old new : List ℕ) (bound passed : ℕ) : Type 0 where
@@ -51,10 +56,10 @@ merged-next number nodes key n others low passed old zs xs ys came count more is
     (λ r x y lt made. made ∙ (λ i. number_raised x (block r lt i) (get_or low r 0))) (λ r lt i. nat_lt (get_or low r 0) (block r lt i))
 
 -- how many are kept: such a number is above the mark, and 0 isn't
-pub total-kept : (nodes keys : ℕ) (peer : ℕ → ℕ → ℕ) (low old new : List ℕ) (count : ℕ)
-    → count ≡ total_of nodes keys (λ r k. nat_lt (max (peer r k) (get_or low r 0)) (cell old nodes r k))
-    → ArePlanesChanged (λ r k x y. y ≡ number_ahead x (peer r k) (get_or low r 0)) nodes keys old new → count ≡ total_above nodes keys new low
-total-kept nodes keys peer low old new count is kept =
+pub total-kept : (nodes keys : ℕ) (cells peer : ℕ → ℕ → ℕ) (low old new : List ℕ) (count : ℕ)
+    → count ≡ total_of nodes keys (λ r k. nat_lt (max (peer r k) (get_or low r 0)) (cells r k))
+    → ArePlanesChanged (λ r k x y. y ≡ number_ahead (cells r k) (peer r k) (get_or low r 0)) nodes keys old new → count ≡ total_above nodes keys new low
+total-kept nodes keys cells peer low old new count is kept =
     is ∙ total-same nodes keys _ _ (λ r k in_nodes in_keys. let now = kept.each r k in_nodes in_keys in grind (arith, nat_tests))
 
 -- all planes are gone over as one

@@ -1,5 +1,5 @@
 -- One owner's numbers, key by key. Source: this project.
-use Rattle.std.specs.Prelude.{◌≡◌, ℕ, ◌<◌, ◌==◌, List, length, map, if◌then◌else◌}
+use Rattle.std.specs.Prelude.{◌≡◌, ℕ, ◌<◌, ◌≤◌, ◌==◌, List, length, map, if◌then◌else◌}
 use Rattle.planes.specs.Planes.{cell, count_above, number_raised, ArePlanesChanged, HasNoneAbove, IsRaised}
 use Rattle.grids.specs.Grids.{IsBeside}
 use Rattle.grids.specs.declared.grids.Sent.{Sent}
@@ -10,6 +10,7 @@ pub record HasRaisedOwner {N : Type 0} (number : N → ℕ) (nodes keys owner : 
     (old new : List N) (raised : ℕ) : Type 0 where
   pub cells : ArePlanesChanged (λ r k x y. y ≡ (if r == owner then number_raised x (cell (map number others) nodes r k)
       (number low) else x)) nodes keys (map number old) (map number new)
+  pub upto : raised ≤ keys
   pub count : raised ≡ count_above (cell (map number others) nodes) keys owner (number low)
 
 -- an owner's numbers, of which none is above its greatest one, may take what is sent

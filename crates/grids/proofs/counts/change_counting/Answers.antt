@@ -2,6 +2,16 @@ use Rattle.grids.proofs.Common.{refl, arith, count_same}
 use Rattle.grids.proofs.Counted.{changed-same}
 use Rattle.grids.proofs.counts.change_counting.Goals as goal
 
+pub loop-numbers-init : goal.loop-numbers-init
+loop-numbers-init g c = record {
+  within = omega arith;
+  first_upto = omega arith;
+  second_upto = omega arith;
+  numbers = λ made is. record { size = refl; below = λ r lt. absurd (omega arith); from = λ r le. refl };
+  first = λ test is. refl;
+  second = λ test is. refl;
+}
+
 pub loop-numbers-preserved : goal.loop-numbers-preserved
 loop-numbers-preserved g c =
     let held = c.loop-numbers.invariant in

@@ -36,7 +36,7 @@ pub fn all_of<N: Number>(alloc: Global, count: usize, number: N) -> Result<Vec<N
     let mut numbers = Vec::with_capacity(alloc, count)?;
     let mut filled = 0;
     while filled < count {
-        filled = (filled + FILLED).min(count);
+        filled += FILLED.min(count - filled);
         numbers.resize(filled, number)?;
     }
     Ok(numbers)

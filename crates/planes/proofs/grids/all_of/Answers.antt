@@ -1,4 +1,4 @@
-use Rattle.planes.proofs.Common.{◌≡◌, ◌-◌, take, replicate, All-append, All-nil, All-replicate, All-take, refl, ap, ◌∙◌, ◌<◌, arith, get_or-map, length, length-map}
+use Rattle.planes.proofs.Common.{◌≡◌, ℕ, ◌+◌, ◌-◌, take, replicate, All-append, All-nil, All-replicate, All-take, refl, ap, ◌∙◌, ◌<◌, arith, get_or-map, length, length-map}
 use Rattle.std.specs.Vec.{vec_len}
 use Rattle.planes.proofs.grids.all_of.Goals as goal
 
@@ -11,7 +11,7 @@ loop-filled-init g c = record {
 
 pub loop-filled-preserved : goal.loop-filled-preserved
 loop-filled-preserved g c =
-    let upto = c.min-filled.result in
+    let upto : ℕ = c.loop-filled.filled + c.min-filled.result in
     let old = c.loop-filled.numbers.items in
     let x = c.args.number in
     let more = upto - vec_len c.loop-filled.numbers in

@@ -1,7 +1,21 @@
-use Rattle.version_lags.proofs.Common.{◌≡◌, ℕ, max, length, map, length-map, leb-true, number-at, refl, sym, ◌∙◌, arith, rules, cell, get_or_default, list_of_owner, no_writes, most_lag}
+use Rattle.version_lags.proofs.Common.{◌≡◌, ℕ, max, length, map, length-map, leb-true, ap, subst, number-at, IsGrid, refl, sym, ◌∙◌, arith, rules, cell, get_or_default, list_of_owner, no_writes, most_lag}
+use Rattle.version_lags.proofs.Parts.{grids-of}
 use Rattle.version_lags.proofs.Walks.{lag-recent, most-next}
 use Rattle.version_lags.proofs.Whole.{may-walk, figures-are}
 use Rattle.version_lags.proofs.lags.Piece.figures.Goals as goal
+
+pub least_behind-requires : goal.least_behind-requires
+least_behind-requires g c =
+    let number = g.N.Number.number in
+    let numbers = c.args.numbers.now in
+    let last = length-map numbers.last.now number in
+    let least = length-map c.args.self.now.least.items number in
+    record {
+      beside = record {
+        shape = subst (IsGrid _ numbers.keys) last (grids-of number _ numbers _ c.requires.are).grid;
+        count = omega (arith, ap length c.deref.ensures.value, c.requires.whole.least_is.size, c.requires.are.are.lasts.size);
+      };
+    }
 
 pub lag_of_owner-lag-requires : goal.lag_of_owner-lag-requires
 lag_of_owner-lag-requires g c =

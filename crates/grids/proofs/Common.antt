@@ -1,6 +1,5 @@
 -- What these proofs cite of other libraries and of this crate's definitions, passed on from one place.
--- Serves the functions of `counts`, `grids`, `lags`, `merges` and `owners`, `ByOwner`, `Counted` and
--- `version_lags`.
+-- Serves the functions of `counts`, `grids`, `lags`, `merges` and `owners`, `ByOwner`, `Counted` and `version_lags`.
 pub use Rattle.planes.proofs.Common.{AreChangedUpto, AreCountedUpto, ArePlanesChanged, ArePlanesChangedUpto, Bool, Cells, Fits, HasEach, HasNoneAbove, IfOk-weaker, IsGrid, IsLeastOf, IsRaised, List, MOST_KEYS, MOST_NODES, ap, arith, below_more, cases_lt, cell, cond, count_above, count_passing, drop, false, get_or, get_or-map, get_or-set_other, get_or-set_same, if◌then◌else◌, inl, inr, le-ltb, length, length-drop, length-map, length-set, length-take-le, lt-ltb, ltb-false, ltb-true, map, map-set, max, min, mul-le-mul_right, nat_le, nat_lt, nat_tests, number_ahead, number_raised, number_taken, put_mid, refl, rules, set, slice_index, subst, sum_below, sum_below-most, sum_below-same, sym, take, total_above, total_of, w32, with_items_is, ℕ, ◌&&◌, ◌*◌, ◌+◌, ◌-◌, ◌<◌, ◌==◌, ◌∙◌, ◌≡◌, ◌≢◌, ◌≤◌}
 pub use Rattle.planes.specs.Planes.{HasEachPlace}
 pub use Rattle.std.proofs.lemmas.Bool.{cases_eq}

@@ -1,5 +1,5 @@
 -- Planes of which some places are counted.
--- Serves `above_peer`, `ahead`, `ahead_of_both`, `change_counting`, `change_some_counting`, `count_behind` and `merge`.
+-- Serves the functions of `counts`, `grids`, `lags` and `merges`.
 use Rattle.grids.proofs.Common.{◌≡◌, ℕ, Fits, AreChangedUpto, subst, w32, ◌+◌, ◌*◌, ◌<◌, ◌≤◌, Bool, cond, nat_tests, List, length, get_or, map, take, drop, nat_lt, max, sym, ◌∙◌, ap, arith, length-map, put_mid, MOST_NODES, sum_below, sum_below-most, cell, number_ahead, total_above, total_of, IsGrid, ArePlanesChangedUpto, ArePlanesChanged, AreCountedUpto, AreRaisedUpto, number_raised, count_passing, HasNoOtherMark, HasEachPlace, HasNoneUptoMark, number_kept, cases_eq, inl, inr, changed_all, count_le, sum_next, plane-cells, plane_count, planes-all, planes-written, block-cells, plane-within, total-places, total-same, total_whole}
 
 -- the same numbers are changed, where their bound is written in another way

@@ -1,6 +1,7 @@
 //! Loops over one plane, or all planes as one, that count.
 
-ghost use Rattle.grids.specs.inner.Loops.{AreCounted, ArePartCounted, MayCount, MayCountPart};
+ghost use Rattle.std.specs.Prelude.{length};
+ghost use Rattle.grids.specs.inner.Loops.{AreCounted, MayCount, MayCountPart};
 
 use planes::Number;
 
@@ -11,7 +12,7 @@ pub fn change_counting<N: Number, F: Fn(usize, N) -> (N, bool, bool)>(
     to: F,
 ) -> (u32, u32)
     requires { MayCount (F.pre to) numbers.old }
-    ensures { AreCounted N.number (F.post to) numbers.old numbers.new result }
+    ensures { AreCounted N.number (F.post to) numbers.old numbers.new 0 (length numbers.old) result }
 {
     let size = N::at_a_time();
     let mut first = 0;
@@ -36,7 +37,7 @@ fn change_some_counting<N: Number, F: Fn(usize, N) -> (N, bool, bool)>(
     to: F,
 ) -> (u32, u32)
     requires { MayCountPart N.most (F.pre to) numbers.old from size }
-    ensures { ArePartCounted N.number (F.post to) numbers.old numbers.new from size result }
+    ensures { AreCounted N.number (F.post to) numbers.old numbers.new from size result }
 {
     let mut first = N::zero();
     let mut second = N::zero();

@@ -38,20 +38,8 @@ AreRaisedUpto others low old new bound count =
     AreCountedUpto (λ r x y. y ≡ number_raised x (slice_index others r) (slice_index low r))
     (λ r. nat_lt (slice_index low r) (slice_index others r)) old new bound count
 
--- each number is changed, and so many are counted, as calls say
+-- so many numbers from one on are changed and counted as calls say, where those before it were
 pub record AreCounted {N : Type 0} (number : N → ℕ) (makes : ℕ → N → Made N → Type 0) (old new : List N)
-    (passed : ℕ × ℕ) : Type 0 where
-  pub first_upto : passed.0 ≤ length old
-  pub second_upto : passed.1 ≤ length old
-  pub numbers : (made : ℕ → ℕ → ℕ) → MakesAs number makes (length old) made
-      → AreChangedUpto (λ r x y. y ≡ made r x) (map number old) (map number new) (length old)
-  pub first : (test : ℕ → Bool) → AnswersBy (λ all. all.1) makes (length old) test
-      → passed.0 ≡ count_passing (length old) test
-  pub second : (test : ℕ → Bool) → AnswersBy (λ all. all.2) makes (length old) test
-      → passed.1 ≡ count_passing (length old) test
-
--- so many numbers from one on, of which those before it were changed and counted
-pub record ArePartCounted {N : Type 0} (number : N → ℕ) (makes : ℕ → N → Made N → Type 0) (old new : List N)
     (from size : ℕ) (passed : ℕ × ℕ) : Type 0 where
   pub first_upto : passed.0 ≤ size
   pub second_upto : passed.1 ≤ size

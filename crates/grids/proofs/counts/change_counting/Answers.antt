@@ -1,38 +1,20 @@
-use Rattle.grids.proofs.Common.{refl, arith, count_same}
-use Rattle.grids.proofs.Counted.{changed-same}
+use Rattle.grids.proofs.Common.{◌≡◌, ◌+◌, ◌-◌, arith, length}
+use Rattle.grids.proofs.Counted.{counted_none, counted_joined}
 use Rattle.grids.proofs.counts.change_counting.Goals as goal
 
 pub loop-numbers-init : goal.loop-numbers-init
-loop-numbers-init g c = record {
-  within = omega arith;
-  first_upto = omega arith;
-  second_upto = omega arith;
-  numbers = λ made is. record { size = refl; below = λ r lt. absurd (omega arith); from = λ r le. refl };
-  first = λ test is. refl;
-  second = λ test is. refl;
-}
+loop-numbers-init g c = record { within = omega arith; counted = counted_none g.N.Number.number _ c.args.numbers.now 0 }
 
 pub loop-numbers-preserved : goal.loop-numbers-preserved
-loop-numbers-preserved g c =
-    let held = c.loop-numbers.invariant in
-    let part = c.change_some_counting-part.ensures in
-    record {
-      within = omega arith;
-      first_upto = omega arith;
-      second_upto = omega arith;
-      numbers = λ made is. part.numbers made (λ r n all lt. is r n all (omega arith)) _ (held.numbers made is);
-      first = λ test is. part.first test (λ r n all lt. is r n all (omega arith)) _ (held.first test is);
-      second = λ test is. part.second test (λ r n all lt. is r n all (omega arith)) _ (held.second test is);
-    }
+loop-numbers-preserved g c = record {
+  within = omega arith;
+  counted = counted_joined g.N.Number.number _ _ _ _ 0 _ _ _ _ _ c.loop-numbers.invariant.counted c.change_some_counting-part.ensures (omega arith)
+      c.loop-numbers.auto.numbers;
+}
 
 pub returns : goal.returns
 returns g c =
-    let held = c.loop-numbers.invariant in
-    let part = c.change_some_counting-part-2.ensures in
-    record {
-      first_upto = omega arith;
-      second_upto = omega arith;
-      numbers = λ made is. changed-same _ _ _ _ _ (part.numbers made (λ r n all lt. is r n all (omega arith)) _ (held.numbers made is)) (omega arith);
-      first = λ test is. count_same _ _ _ _ _ (part.first test (λ r n all lt. is r n all (omega arith)) _ (held.first test is)) (omega arith) refl;
-      second = λ test is. count_same _ _ _ _ _ (part.second test (λ r n all lt. is r n all (omega arith)) _ (held.second test is)) (omega arith) refl;
-    }
+    let whole : c.loop-numbers.from + (length c.loop-numbers.numbers - c.loop-numbers.from) ≡ length c.args.numbers.now = omega arith in
+    rw (← whole)
+    (counted_joined g.N.Number.number _ _ _ _ 0 _ _ _ _ _ c.loop-numbers.invariant.counted c.change_some_counting-part-2.ensures (omega arith)
+    c.loop-numbers.auto.numbers)

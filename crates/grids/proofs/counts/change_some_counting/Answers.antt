@@ -1,6 +1,9 @@
-use Rattle.grids.proofs.Common.{ℕ, ◌+◌, ◌<◌, ap, ◌∙◌, arith, length, length-map, if◌then◌else◌, number-waits, written_next, count_next, count_same, one_le}
-use Rattle.grids.proofs.Counted.{changed-same}
+use Rattle.grids.proofs.Common.{◌≡◌, ℕ, ◌+◌, ◌<◌, ap, ◌∙◌, arith, length, length-map, if◌then◌else◌, number-waits, written_next, count_next, one_le}
+use Rattle.grids.proofs.Counted.{changed-same, counted_none}
 use Rattle.grids.proofs.counts.change_some_counting.Goals as goal
+
+pub loop-i-init : goal.loop-i-init
+loop-i-init g c = rw (c.zero-first.ensures, c.zero-second.ensures) (counted_none g.N.Number.number _ c.args.numbers.now c.args.from)
 
 pub loop-i-preserved : goal.loop-i-preserved
 loop-i-preserved g c =
@@ -28,11 +31,5 @@ loop-i-preserved g c =
 
 pub returns : goal.returns
 returns g c =
-    let held = c.loop-i.invariant in
-    record {
-      first_upto = omega arith;
-      second_upto = omega arith;
-      numbers = λ made is old before. changed-same _ old _ _ _ (held.numbers made is old before) (omega arith);
-      first = λ test is before was. count_same _ _ _ _ _ (held.first test is before was) (omega arith) (omega arith);
-      second = λ test is before was. count_same _ _ _ _ _ (held.second test is before was) (omega arith) (omega arith);
-    }
+    let all : c.loop-i.i ≡ c.args.size = omega arith in
+    rw (← all, c.widen.ensures, c.widen-2.ensures) c.loop-i.invariant

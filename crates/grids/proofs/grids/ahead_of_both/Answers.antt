@@ -1,5 +1,5 @@
 use Rattle.grids.proofs.Common.{ℕ, ◌+◌, ◌*◌, ◌-◌, ◌≤◌, drop, length-drop, length-take-le, ap, ◌∙◌, arith, length, map, max, nat_lt, slice_index, length-map, with_items_is, cell, number_ahead, plane-within}
-use Rattle.grids.proofs.Counted.{planes_counted-next, planes_counted-all, total-kept}
+use Rattle.grids.proofs.Counted.{counted-as, planes_counted-next, planes_counted-all, total-kept}
 use Rattle.grids.proofs.grids.ahead_of_both.Goals as goal
 
 pub loop-key-preserved : goal.loop-key-preserved
@@ -23,10 +23,8 @@ loop-key-preserved g c =
       upto = omega arith;
       kept =
           planes_counted-next _ _ nodes _ number c.loop-key.all c.change_counting-kept.new.numbers key _ _ _ _ _ (omega arith) c.loop-key.invariant.kept room
-          (record {
-            numbers = kept.numbers (λ r x. number_ahead (plane r) (of_peer r) (low r)) (λ r n all lt called. called.0);
-            count = kept.first (λ r. nat_lt (max (of_peer r) (low r)) (plane r)) (λ r n all lt called. called.1);
-          })
+          (counted-as number _ _ _ _ _ kept (λ r x. number_ahead (plane r) (of_peer r) (low r)) (λ r. nat_lt (max (of_peer r) (low r)) (plane r))
+          (λ r n all lt called. called.0) (λ r n all lt called. called.1))
           (λ r x y lt now. now ∙ (λ i. number_ahead (at_plane r lt i) (at_peer r lt i) (low r)))
           (λ r lt i. nat_lt (max (at_peer r lt i) (low r)) (at_plane r lt i));
     }

@@ -1,5 +1,6 @@
 use Rattle.grids.proofs.Common.{sym, ◌∙◌, arith, ltb-false, ltb-true, number-at}
-use Rattle.grids.proofs.ByOwner.{come-next, come-passed}
+use Rattle.planes.proofs.Counts.{sum_whole}
+use Rattle.grids.proofs.ByOwner.{come-next, come-passed, owners-all}
 use Rattle.grids.proofs.owners.merge_owners.Goals as goal
 use Rattle.grids.proofs.owners.merge_owners.Goals.{then-is_above, else-is_above+then-is_above-2, else-is_above+else-is_above-2}
 
@@ -34,3 +35,13 @@ loop-owner-preserved g c =
         second = second_passes (omega (arith, ltb-false _ _ (sym w.is_above-else-is_above.ensures ∙ w.if-is_above-2.false)));
       })
     ]
+
+pub returns : goal.returns
+returns g c =
+    let held = c.loop-owner.invariant in
+    record {
+      first = owners-all _ _ _ _ c.loop-owner.owner _ c.loop-owner-test.false held.first.cells;
+      second = owners-all _ _ _ _ c.loop-owner.owner _ c.loop-owner-test.false held.second.cells;
+      first_count = sum_whole _ c.loop-owner.owner _ _ held.first.count c.loop-owner-test.false c.loop-owner.auto.owner-end;
+      second_count = sum_whole _ c.loop-owner.owner _ _ held.second.count c.loop-owner-test.false c.loop-owner.auto.owner-end;
+    }

@@ -1,6 +1,51 @@
 -- Planes of which some places are counted.
--- Serves `above_peer`, `ahead`, `count_behind`, `keep_ahead` and `merge`.
-use Rattle.grids.proofs.Common.{◌≡◌, ℕ, Fits, w32, ◌+◌, ◌*◌, ◌<◌, ◌≤◌, Bool, cond, nat_tests, List, length, get_or, map, take, drop, nat_lt, max, sym, ◌∙◌, ap, arith, length-map, put_mid, MOST_NODES, sum_below, sum_below-most, cell, number_ahead, total_above, total_of, IsGrid, ArePlanesChangedUpto, ArePlanesChanged, AreCountedUpto, AreRaisedUpto, number_raised, count_passing, HasNoOtherMark, HasEachPlace, HasNoneUptoMark, number_kept, cases_eq, inl, inr, changed_all, count_le, sum_next, plane-cells, plane_count, planes-all, planes-written, block-cells, plane-within, total-places, total-same, total_whole}
+-- Serves the functions of `counts`, `grids`, `lags` and `merges`.
+use Rattle.grids.proofs.Common.{◌≡◌, ℕ, Fits, AreChangedUpto, AnswersBy, MakesAs, Made, AreCounted, refl, count_same, subst, w32, ◌+◌, ◌*◌, ◌<◌, ◌≤◌, Bool, cond, nat_tests, List, length, get_or, map, take, drop, nat_lt, max, sym, ◌∙◌, ap, arith, length-map, put_mid, MOST_NODES, sum_below, sum_below-most, cell, number_ahead, total_above, total_of, IsGrid, ArePlanesChangedUpto, ArePlanesChanged, AreCountedUpto, AreRaisedUpto, number_raised, count_passing, HasNoOtherMark, HasEachPlace, HasNoneUptoMark, number_kept, cases_eq, inl, inr, changed_all, count_le, sum_next, plane-cells, plane_count, planes-all, planes-written, block-cells, plane-within, total-places, total-same, total_whole}
+
+-- the same numbers are changed, where their bound is written in another way
+pub changed-same : (changed : ℕ → ℕ → ℕ → Type 0) (old new : List ℕ) (bound to : ℕ) → AreChangedUpto changed old new bound → bound ≡ to
+    → AreChangedUpto changed old new to
+changed-same changed old new bound to is same = subst (AreChangedUpto changed old new) same is
+
+-- numbers that calls change and count: none, and a part behind another one
+module _ {N : Type 0} (number : N → ℕ) (makes : ℕ → N → Made N → Type 0) where
+  pub counted_none : (xs : List N) (from : ℕ) → AreCounted number makes xs xs from 0 (0, 0)
+  counted_none xs from = record {
+    first_upto = omega arith;
+    second_upto = omega arith;
+    numbers = λ made is whole before. changed-same _ whole _ _ _ before (omega arith);
+    first = λ test is before was. count_same test from _ before _ was (omega arith) (omega arith);
+    second = λ test is before was. count_same test from _ before _ was (omega arith) (omega arith);
+  }
+
+  pub counted_joined : (xs ys zs : List N) (start from mid size : ℕ) (one two : ℕ × ℕ) → AreCounted number makes xs ys start from one
+      → AreCounted number makes ys zs mid size two → start + from ≡ mid → length ys ≡ length xs
+      → AreCounted number makes xs zs start (from + size) (one.0 + two.0, one.1 + two.1)
+  counted_joined xs ys zs start from mid size one two before now at same = record {
+    first_upto = omega arith;
+    second_upto = omega arith;
+    numbers = λ made is whole none.
+        let front = changed-same _ whole _ _ _ (before.numbers made is whole none) at in
+        changed-same _ whole _ _ _ (now.numbers made (λ r n all lt. is r n all (omega arith)) whole front) (omega arith);
+    first = λ test is count was.
+        let front = count_same test _ _ _ _ (before.first test is count was) at refl in
+        count_same test _ _ _ _ (now.first test (λ r n all lt. is r n all (omega arith)) _ front) (omega arith) (omega arith);
+    second = λ test is count was.
+        let front = count_same test _ _ _ _ (before.second test is count was) at refl in
+        count_same test _ _ _ _ (now.second test (λ r n all lt. is r n all (omega arith)) _ front) (omega arith) (omega arith);
+  }
+
+  -- as a function and a test say
+  pub counted-as : (xs ys : List N) (size : ℕ) (passed : ℕ × ℕ) → AreCounted number makes xs ys 0 size passed → (made : ℕ → ℕ → ℕ) (test : ℕ → Bool)
+      → MakesAs number makes (length xs) made → AnswersBy (λ all. all.1) makes (length xs) test
+      → AreCountedUpto (λ r x y. y ≡ made r x) test (map number xs) (map number ys) size passed.0
+  counted-as xs ys size passed is made test as_made as_told =
+      let old = map number xs in
+      let none : AreChangedUpto (λ r x y. y ≡ made r x) old old 0 = record { size = refl; below = λ r lt. absurd (omega arith); from = λ r le. refl } in
+      record {
+        numbers = changed-same _ old _ _ _ (is.numbers made as_made old none) (omega arith);
+        count = count_same test _ _ _ _ (is.first test as_told 0 refl) (omega arith) (omega arith);
+      }
 
 -- the planes of the keys below a bound are changed, and so many places of them pass a test
 pub record ArePlanesCounted (changed : ℕ → ℕ → ℕ → ℕ → Type 0) (test : ℕ → ℕ → Bool) (nodes : ℕ) (old new : List ℕ) (bound passed : ℕ) : Type 0 where
@@ -51,10 +96,10 @@ merged-next number nodes key n others low passed old zs xs ys came count more is
     (λ r x y lt made. made ∙ (λ i. number_raised x (block r lt i) (get_or low r 0))) (λ r lt i. nat_lt (get_or low r 0) (block r lt i))
 
 -- how many are kept: such a number is above the mark, and 0 isn't
-pub total-kept : (nodes keys : ℕ) (peer : ℕ → ℕ → ℕ) (low old new : List ℕ) (count : ℕ)
-    → count ≡ total_of nodes keys (λ r k. nat_lt (max (peer r k) (get_or low r 0)) (cell old nodes r k))
-    → ArePlanesChanged (λ r k x y. y ≡ number_ahead x (peer r k) (get_or low r 0)) nodes keys old new → count ≡ total_above nodes keys new low
-total-kept nodes keys peer low old new count is kept =
+pub total-kept : (nodes keys : ℕ) (cells peer : ℕ → ℕ → ℕ) (low old new : List ℕ) (count : ℕ)
+    → count ≡ total_of nodes keys (λ r k. nat_lt (max (peer r k) (get_or low r 0)) (cells r k))
+    → ArePlanesChanged (λ r k x y. y ≡ number_ahead (cells r k) (peer r k) (get_or low r 0)) nodes keys old new → count ≡ total_above nodes keys new low
+total-kept nodes keys cells peer low old new count is kept =
     is ∙ total-same nodes keys _ _ (λ r k in_nodes in_keys. let now = kept.each r k in_nodes in_keys in grind (arith, nat_tests))
 
 -- all planes are gone over as one

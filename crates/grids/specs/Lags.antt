@@ -10,19 +10,14 @@ pub record IsLeastBehind (most : ℕ) (cells last : Cells) (keys owner least : �
   pub no_less : (key : ℕ) → key < keys → cells owner key < last owner key → least ≤ cells owner key
   pub is : (least ≡ most) ⊎ ((key : ℕ) × (key < keys) × (cells owner key < last owner key) × (cells owner key ≡ least))
 
--- numbers are lowered to those of a table
-abbrev pub AreLowered : {N : Type 0} → (N → ℕ) → Grid N → List N → List N → Type 0
-AreLowered number grid old new =
-    ArePlanesChanged (λ r k x y. y ≡ min x (cells_in number grid r k)) grid.size.nodes grid.size.keys
-    (map number old) (map number new)
-
 pub record HasLast {N : Type 0} (grid : Grid N) (least last : List N) : Type 0 where
   pub beside : IsBeside grid least
   pub last_count : length last ≡ length least
 
--- and so many of the table's are below the last ones
+-- numbers are lowered to those of a table, and so many of these are below the last ones
 pub record AreLoweredCounting {N : Type 0} (number : N → ℕ) (grid : Grid N) (last old new : List N)
     (behind : ℕ) : Type 0 where
-  pub least : AreLowered number grid old new
+  pub least : ArePlanesChanged (λ r k x y. y ≡ min x (cells_in number grid r k)) grid.size.nodes grid.size.keys
+      (map number old) (map number new)
   pub count : behind ≡ total_of grid.size.nodes grid.size.keys
       (λ r k. nat_lt (cells_in number grid r k) (cell (map number last) grid.size.nodes r k))

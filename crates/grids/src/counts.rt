@@ -1,42 +1,52 @@
 //! Loops over one plane, or all planes as one, that count.
 
-ghost use Rattle.grids.specs.inner.Loops.{AreCounted, ArePartCounted, MayCount, MayCountPart};
+ghost use Rattle.std.specs.Prelude.{length};
+ghost use Rattle.grids.specs.inner.Loops.{AreCounted, MayCount, MayCountPart};
 
 use planes::Number;
 
-/// Changes each number to the one that a closure makes of place and number. It answers how many times the
-/// closure says yes beside.
-pub fn change_counting<N: Number, F: Fn(usize, N) -> (N, bool)>(numbers: &mut [N], to: F) -> u32
+/// Changes each number to the one that a closure makes of place and number. It answers how many times the closure says
+/// yes beside, to each of two questions.
+pub fn change_counting<N: Number, F: Fn(usize, N) -> (N, bool, bool)>(
+    numbers: &mut [N],
+    to: F,
+) -> (u32, u32)
     requires { MayCount (F.pre to) numbers.old }
-    ensures { AreCounted N.number (F.post to) numbers.old numbers.new result }
+    ensures { AreCounted N.number (F.post to) numbers.old numbers.new 0 (length numbers.old) result }
 {
     let size = N::at_a_time();
-    let mut count = 0;
+    let mut first = 0;
+    let mut second = 0;
     let mut from = 0;
     while numbers.len() - from >= size {
-        count += change_some_counting(numbers, from, size, &to);
+        let part = change_some_counting(numbers, from, size, &to);
+        first += part.0;
+        second += part.1;
         from += size;
     }
     let rest = numbers.len() - from;
-    count + change_some_counting(numbers, from, rest, &to)
+    let part = change_some_counting(numbers, from, rest, &to);
+    (first + part.0, second + part.1)
 }
 
 // So many of them from one on.
-fn change_some_counting<N: Number, F: Fn(usize, N) -> (N, bool)>(
+fn change_some_counting<N: Number, F: Fn(usize, N) -> (N, bool, bool)>(
     numbers: &mut [N],
     from: usize,
     size: usize,
     to: F,
-) -> u32
+) -> (u32, u32)
     requires { MayCountPart N.most (F.pre to) numbers.old from size }
-    ensures { ArePartCounted N.number (F.post to) numbers.old numbers.new from size result }
+    ensures { AreCounted N.number (F.post to) numbers.old numbers.new from size result }
 {
-    let mut count = N::zero();
+    let mut first = N::zero();
+    let mut second = N::zero();
     for i in 0..size {
         let r = from + i;
-        let (number, is_counted) = to(r, numbers[r]);
+        let (number, is_first, is_second) = to(r, numbers[r]);
         numbers[r] = number;
-        count = count.plus(is_counted);
+        first = first.plus(is_first);
+        second = second.plus(is_second);
     }
-    count.widen()
+    (first.widen(), second.widen())
 }

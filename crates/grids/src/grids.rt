@@ -1,17 +1,18 @@
 //! Loops over all planes of a table: `cells[key * nodes + owner]`. Where one answers an error, it is lack of memory
 //! (`OutOfMemory`).
 
-ghost use Rattle.std.specs.Prelude.{◌≡◌, ◌<◌, ◌≤◌, ◌==◌, ◌↔◌, IsTrue, length, map, max, nat_lt, slice_index, IfOk, IsOkUnless};
+ghost use Rattle.std.specs.Prelude.{◌≡◌, ◌<◌, ◌≤◌, ◌↔◌, IsTrue, length, map, max, nat_lt, slice_index, IfOk, IsOkUnless};
 ghost use Rattle.bench_types.specs.declared.faults.Fault.TheVariants.{OutOfMemory};
 ghost use Rattle.planes.specs.Grids.{IsGridOf};
-ghost use Rattle.planes.specs.Planes.{cell, number_ahead, HasEach, IsGrid};
-ghost use Rattle.grids.specs.Grids.{AreSentTaken, HasColumn, HasPeer, IsAhead, IsOwnerKept, MayTake};
+ghost use Rattle.planes.specs.Planes.{cell, number_ahead};
+ghost use Rattle.grids.specs.Grids.{number_kept, AreSentTaken, HasColumn, HasPeer, IsAhead, IsOwnerKept, MayTake};
 ghost use Rattle.bench_types.specs.declared.limits.TheConstants.{MOST_NODES};
 ghost use Rattle.grids.specs.inner.Loops.{IsPlaneTaken, MayTakePlane};
-ghost use Rattle.grids.specs.inner.Masks.{AreAbovePeer, AreKeptAhead, HasNoneUptoMark, HasNoOtherMark};
+ghost use Rattle.grids.specs.inner.Masks.{AreAbovePeer, HasNoneUptoMark, HasNoOtherMark};
 
+use crate::counts::change_counting;
+use crate::owners;
 use crate::owners::FEW_TO_CHANGE;
-use crate::{counts, masks, owners};
 use bench_types::Fault;
 use planes::{Grid, Number, Size, are_few, plane_of};
 use std::alloc::Global;
@@ -64,20 +65,15 @@ pub fn drop_owner<N: Number>(cells: &mut [N], size: Size, owner: usize, mark: u3
     }
 }
 
-/// So many numbers are filled at a time, which takes fewer instructions than the C library's way to fill many more.
-const FILLED: usize = 512;
-
-fn zeros<N: Number>(alloc: Global, count: usize) -> Result<Vec<N>, Fault>
-    ensures zeros { IfOk result (λ v. HasEach count (λ r n. n ≡ 0) (map N.number v.items)) }
-    ensures only { IsOkUnless result OutOfMemory }
+// A number where it is above a mark, else 0; whether it is, and whether there is a number.
+fn kept_above<N: Number>(number: N, mark: N) -> (N, bool, bool)
+    ensures number { N.number result.0 ≡ number_kept (N.number mark) (N.number number) }
+    ensures is_kept { result.1 ≡ nat_lt (N.number mark) (N.number number) }
+    ensures is_held { result.2 ≡ nat_lt 0 (N.number number) }
 {
-    let mut numbers = Vec::with_capacity(alloc, count)?;
-    let mut filled = 0;
-    while filled < count {
-        filled = (filled + FILLED).min(count);
-        numbers.resize(filled, N::zero())?;
-    }
-    Ok(numbers)
+    let is_kept = number.is_above(mark);
+    let is_held = number.is_above(N::zero());
+    (planes::pick(is_kept, number, N::zero()), is_kept, is_held)
 }
 
 // The numbers above the peer's: all planes are gone over as one, without marks.
@@ -88,12 +84,12 @@ fn above_peer<N: Number>(alloc: Global, grid: Grid<N>, peer: &[N]) -> Result<Mas
     ensures only { IsOkUnless result OutOfMemory }
 {
     let cells = grid.cells;
-    let mut numbers = zeros(alloc, cells.len())?;
-    let tally = masks::mask(&mut numbers, cells, peer);
+    let mut numbers = planes::zeros(alloc, cells.len())?;
+    let counts = change_counting(&mut numbers, |r, _| kept_above(cells[r], peer[r]));
     Ok(Masked {
         numbers,
-        count: tally.kept,
-        held: tally.held,
+        count: counts.0,
+        held: counts.1,
     })
 }
 
@@ -111,45 +107,35 @@ fn has_none_upto<N: Number>(cells: &[N], size: Size, owner: usize, mark: N) -> b
     true
 }
 
-// Puts 0 in place of the numbers that aren't ahead, plane by plane. It answers how many are.
-fn keep_ahead<N: Number>(numbers: &mut [N], size: Size, peer: Peer<N>) -> u32
-    requires grid { IsGrid size.nodes size.keys (length numbers.old) }
-    requires peer { length peer.cells.now ≡ length numbers.old }
-    requires low { length peer.low.now ≡ size.nodes }
-    ensures { AreKeptAhead N.number size peer.entry numbers.old numbers.new result }
-{
-    let low = peer.low;
-    let mut count = 0;
-    for key in 0..size.keys {
-        let of_peer = plane_of(peer.cells, size.nodes, key);
-        let start = key * size.nodes;
-        let block = &mut numbers[start..start + size.nodes];
-        count += counts::change_counting(
-            block,
-            |r, number| -> (N, bool)
-                requires { (r < length of_peer.now) × (r < length low.now) }
-                ensures number { N.number result.0 ≡ number_ahead (N.number number)
-                    (slice_index (map N.number of_peer.entry.now) r) (slice_index (map N.number low.entry.now) r) }
-                ensures is_kept { result.1 ≡ nat_lt (max (slice_index (map N.number of_peer.entry.now) r)
-                    (slice_index (map N.number low.entry.now) r)) (N.number number) }
-            {
-                let is_ahead = number.is_above(of_peer[r].max_with(low[r]));
-                (planes::pick(is_ahead, number, N::zero()), is_ahead)
-            },
-        );
-    }
-    count
-}
-
-// The numbers ahead of both the peer's and any marks.
+// The numbers ahead of both the peer's and any marks, plane by plane.
 fn ahead_of_both<N: Number>(alloc: Global, grid: Grid<N>, peer: Peer<N>) -> Result<Masked<N>, Fault>
     requires peer { HasPeer grid peer }
     ensures ahead { IfOk result (IsAhead N.number grid.entry peer.entry) }
     ensures only { IsOkUnless result OutOfMemory }
 {
-    let held = planes::count_held(grid.cells);
-    let mut numbers = Vec::from_slice(alloc, grid.cells)?;
-    let count = keep_ahead(&mut numbers, grid.size, peer);
+    let Grid { cells, size } = grid;
+    let low = peer.low;
+    let held = planes::count_held(cells);
+    let mut numbers = planes::zeros(alloc, cells.len())?;
+    let all: &mut [N] = &mut numbers;
+    let mut count = 0;
+    for key in 0..size.keys {
+        let plane = plane_of(cells, size.nodes, key);
+        let of_peer = plane_of(peer.cells, size.nodes, key);
+        let start = key * size.nodes;
+        let block = &mut all[start..start + size.nodes];
+        let kept = change_counting(
+            block,
+            |r, _| -> (N, bool, bool)
+                requires { (r < length plane.now) × (r < length of_peer.now) × (r < length low.now) }
+                ensures number { N.number result.0 ≡ number_ahead (slice_index (map N.number plane.entry.now) r)
+                    (slice_index (map N.number of_peer.entry.now) r) (slice_index (map N.number low.entry.now) r) }
+                ensures is_kept { result.1 ≡ nat_lt (max (slice_index (map N.number of_peer.entry.now) r)
+                    (slice_index (map N.number low.entry.now) r)) (slice_index (map N.number plane.entry.now) r) }
+            { kept_above(plane[r], of_peer[r].max_with(low[r])) },
+        );
+        count += kept.0;
+    }
     Ok(Masked {
         numbers,
         count,

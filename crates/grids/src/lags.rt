@@ -3,22 +3,14 @@
 ghost use Rattle.std.specs.Prelude.{◌≡◌, ◌<◌, length, map, min, nat_lt, slice_index, IfOk, IsOkUnless};
 ghost use Rattle.bench_types.specs.declared.faults.Fault.TheVariants.{OutOfMemory};
 ghost use Rattle.grids.specs.Grids.{IsBeside};
-ghost use Rattle.grids.specs.Lags.{AreLowered, AreLoweredCounting, HasLast, IsLeastBehind};
+ghost use Rattle.grids.specs.Lags.{AreLoweredCounting, HasLast, IsLeastBehind};
 ghost use Rattle.planes.specs.Grids.{cells_in};
 ghost use Rattle.planes.specs.Planes.{cell, HasEach};
 
 use crate::counts::change_counting;
 use bench_types::Fault;
-use planes::{Grid, Number, least_of, lower};
+use planes::{Grid, Number, least_of};
 use std::alloc::Global;
-
-/// Lowers each number to another one: one pass over all planes as one.
-pub fn lower_all<N: Number>(least: &mut [N], grid: Grid<N>)
-    requires beside { IsBeside grid least.old }
-    ensures least { AreLowered N.number grid.entry least.old least.new }
-{
-    lower(least, grid.cells);
-}
 
 /// How many numbers are below the last ones. It lowers the least to each number: one pass over all planes as one.
 pub fn count_behind<N: Number>(least: &mut [N], grid: Grid<N>, last: &[N]) -> u32
@@ -26,18 +18,19 @@ pub fn count_behind<N: Number>(least: &mut [N], grid: Grid<N>, last: &[N]) -> u3
     ensures { AreLoweredCounting N.number grid.entry last.now least.old least.new result }
 {
     let cells = grid.cells;
-    change_counting(
+    let behind = change_counting(
         least,
-        |at, number| -> (N, bool)
+        |at, number| -> (N, bool, bool)
             requires { (at < length cells.now) × (at < length last.now) }
             ensures { (N.number result.0 ≡ min (N.number number) (slice_index (map N.number cells.entry.now) at))
                 × (result.1 ≡ nat_lt (slice_index (map N.number cells.entry.now) at)
                 (slice_index (map N.number last.entry.now) at)) }
         {
             let now = cells[at];
-            (number.min_with(now), last[at].is_above(now))
+            (number.min_with(now), last[at].is_above(now), false)
         },
-    )
+    );
+    behind.0
 }
 
 /// For each owner the least of its numbers that are below the last ones, or `N::greatest()` where none is. An error is

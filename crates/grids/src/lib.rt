@@ -24,10 +24,9 @@
 mod counts;
 mod grids;
 mod lags;
-mod masks;
 mod merges;
 mod owners;
 
 pub use grids::{Masked, Peer, Sent, ahead, drop_owner, take};
-pub use lags::{count_behind, least_behind, lower_all};
+pub use lags::{count_behind, least_behind};
 pub use merges::{BothCounts, BothMarks, merge, most_ahead, raise_both};

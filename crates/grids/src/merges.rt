@@ -25,8 +25,8 @@ pub struct BothMarks<'a, N: Number> {
     pub size: Size,
 }
 
-/// So many owners' leads are summed up in 16 bits, as each is no more than the keys.
-const SUMMED: usize = 256;
+/// The leads of so many owners are summed up in 16 bits, as each is no more than the keys.
+const OWNERS_AT_A_TIME: usize = 256;
 
 /// How many numbers may come to each of two tables, by their greatest ones: of an owner no more than keys, and where
 /// its numbers differ, no more than its two greatest ones are apart.
@@ -39,7 +39,7 @@ pub fn most_ahead<N: Number>(first: &[N], second: &[N], keys: u32) -> BothCounts
     let mut to_second = 0;
     let mut from = 0;
     while from < first.len() {
-        let end = (from + SUMMED).min(first.len());
+        let end = (from + OWNERS_AT_A_TIME).min(first.len());
         let mut few_to_first = 0;
         let mut few_to_second = 0;
         for r in from..end {

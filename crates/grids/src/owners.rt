@@ -1,9 +1,10 @@
 //! Loops over a few owners of a table, each over all of its keys. The others have nothing above one mark and up to
 //! another, and are passed over.
 
-ghost use Rattle.std.specs.Prelude.{◌<◌};
+ghost use Rattle.std.specs.Prelude.{◌≡◌, ◌<◌, length, map};
+ghost use Rattle.planes.specs.Planes.{cell, HasNoneAbove};
 ghost use Rattle.grids.specs.Grids.{AreBothCovered, AreBothRaised, AreSentTaken, IsBeside, MayTake};
-ghost use Rattle.grids.specs.inner.Owners.{HasRaisedOwner, HasTakenOwner, MayTakeOwner};
+ghost use Rattle.grids.specs.inner.Owners.{HasRaisedOwner, HasTakenOwner};
 
 use crate::grids::Sent;
 use crate::merges::{BothCounts, BothMarks};
@@ -15,7 +16,12 @@ pub(crate) const FEW_TO_CHANGE: usize = 8;
 // Raises an owner's numbers to those sent that are above one mark and up to another. It answers the greatest number
 // that the owner has then, and is given the one that it had.
 fn take_owner<N: Number>(cells: &mut [N], sent: Sent<N>, owner: usize, had: N) -> N
-    requires { MayTakeOwner N.number cells.old sent owner had }
+    requires beside { IsBeside sent.grid cells.old }
+    requires within { owner < sent.grid.size.nodes }
+    requires low { length sent.low.now ≡ sent.grid.size.nodes }
+    requires high { length sent.high.now ≡ sent.grid.size.nodes }
+    requires covered { HasNoneAbove (cell (map N.number cells.old) sent.grid.size.nodes) sent.grid.size.keys owner
+        (N.number had) }
     ensures { HasTakenOwner N.number sent.entry owner cells.old had cells.new result }
 {
     let numbers = sent.grid.cells;

@@ -1,6 +1,6 @@
 -- Sums that a loop counts.
 -- Serves the functions of `grids`, `owners` and `planes`, `Elementwise`, `delta_plans`, `grids` and `version_lags`.
-use Rattle.planes.proofs.Common.{◌≡◌, ℕ, suc, Fits, w32, ◌+◌, ◌-◌, ◌<◌, ◌≤◌, ◌==◌, ◌↔◌, Bool, true, false, cond, nat_lt, refl, ap, ◌∙◌, arith, IsTrue, le-ltb, eq-eqb, eqb-true, fold_below-join, sums, sum_below, sum_below-most, count_passing, MOST_KEYS, Cells, count_above, HasNoneAbove, IsGrid}
+use Rattle.planes.proofs.Common.{◌≡◌, ℕ, suc, ◌+◌, ◌-◌, ◌<◌, ◌≤◌, ◌==◌, ◌↔◌, Bool, true, false, cond, nat_lt, refl, ap, ◌∙◌, arith, IsTrue, le-ltb, eq-eqb, eqb-true, fold_below-join, sums, sum_below, sum_below-most, count_passing, Cells, count_above, HasNoneAbove}
 
 pub one_le : (b : Bool) → cond b 1 0 ≤ 1
 one_le true = omega arith
@@ -23,7 +23,8 @@ pub count_same : (test : ℕ → Bool) (bound to count now : ℕ) → count ≡ 
 count_same test bound to count now is at same = omega (arith, ap (λ n. count_passing n test) at)
 
 -- one place more is counted
-pub count_next : (test : ℕ → Bool) (bound to before passed now : ℕ) {more : ℕ} → before + passed ≡ count_passing bound test → bound + 1 ≡ to → now ≡ passed + more → more ≡ cond (test bound) 1 0 → before + now ≡ count_passing to test
+pub count_next : (test : ℕ → Bool) (bound to before passed now : ℕ) {more : ℕ} → before + passed ≡ count_passing bound test → bound + 1 ≡ to
+    → now ≡ passed + more → more ≡ cond (test bound) 1 0 → before + now ≡ count_passing to test
 count_next test bound to before passed now {more} is next plus one =
     omega (arith, sum_next (λ r. cond (test r) 1 0) bound (before + passed) more is one, ap (λ n. count_passing n test) next)
 
@@ -45,19 +46,18 @@ none-passes test n size count is whole = (
     fails false one = refl
 
 -- the numbers of one owner more are counted
-pub owner_counted : (cells : Cells) (keys : ℕ) (low : ℕ → ℕ) (owner total count mark : ℕ) → total ≡ sum_below owner (λ r. count_above cells keys r (low r)) → count ≡ count_above cells keys owner mark → mark ≡ low owner
+pub owner_counted : (cells : Cells) (keys : ℕ) (low : ℕ → ℕ) (owner total count mark : ℕ)
+    → total ≡ sum_below owner (λ r. count_above cells keys r (low r)) → count ≡ count_above cells keys owner mark → mark ≡ low owner
     → total + count ≡ sum_below (owner + 1) (λ r. count_above cells keys r (low r))
 owner_counted cells keys low owner total count mark is now same =
     sum_next (λ r. count_above cells keys r (low r)) owner total count is (now ∙ ap (count_above cells keys owner) same)
 
 -- or there are none
-pub owner_passed : (cells : Cells) (keys : ℕ) (low : ℕ → ℕ) (owner total high : ℕ) → total ≡ sum_below owner (λ r. count_above cells keys r (low r)) → HasNoneAbove cells keys owner high → high ≤ low owner
+pub owner_passed : (cells : Cells) (keys : ℕ) (low : ℕ → ℕ) (owner total high : ℕ)
+    → total ≡ sum_below owner (λ r. count_above cells keys r (low r)) → HasNoneAbove cells keys owner high → high ≤ low owner
     → total ≡ sum_below (owner + 1) (λ r. count_above cells keys r (low r))
 owner_passed cells keys low owner total high is covered le =
-    let none = sum_below-most (λ k. cond (nat_lt (low owner) (cells owner k)) 1 0) keys 0 (λ k lt. omega (arith, ap {B = ℕ} (λ b. cond b 1 0) (le-ltb (low owner) (cells owner k) (omega (arith, covered k lt))))) in
+    let none = sum_below-most (λ k. cond (nat_lt (low owner) (cells owner k)) 1 0) keys 0 (λ k lt.
+    omega (arith, ap {B = ℕ} (λ b. cond b 1 0) (le-ltb (low owner) (cells owner k) (omega (arith, covered k lt))))) in
     let one_more = sum_next (λ r. count_above cells keys r (low r)) owner total 0 is (omega arith) in
     omega arith
-
-pub owners-fit : (cells : Cells) (nodes keys size : ℕ) (low : ℕ → ℕ) (owner total : ℕ) → IsGrid nodes keys size → owner < nodes → total ≡ sum_below (owner + 1) (λ r. count_above cells keys r (low r)) → Fits w32 total
-owners-fit cells nodes keys size low owner total grid lt is =
-    omega (arith, sum_below-most (λ r. count_above cells keys r (low r)) (owner + 1) MOST_KEYS (λ r _. omega (arith, count_le keys (λ k. nat_lt (low r) (cells r k)))))

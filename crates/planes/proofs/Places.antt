@@ -6,7 +6,8 @@ use Rattle.planes.proofs.Common.{◌≡◌, ℕ, zero, suc, ◌+◌, ◌*◌, �
 pub plane-within : (nodes keys size key : ℕ) → IsGrid nodes keys size → key < keys → key * nodes + nodes ≤ size
 plane-within nodes keys size key grid lt = omega (arith, mul-le-mul_right {m = key + 1} {n = keys} nodes (omega arith))
 
-pub grid-within : {N : Type 0} (number : N → ℕ) (nodes keys key : ℕ) (xs : List N) → IsGrid nodes keys (length xs) → key < keys → key * nodes + nodes ≤ length (map number xs)
+pub grid-within : {N : Type 0} (number : N → ℕ) (nodes keys key : ℕ) (xs : List N) → IsGrid nodes keys (length xs) → key < keys
+    → key * nodes + nodes ≤ length (map number xs)
 grid-within number nodes keys key xs grid lt = omega (arith, length-map xs number, plane-within nodes keys (length xs) key grid lt)
 
 -- one more plane is counted
@@ -18,10 +19,13 @@ each-next nodes is next changed old new before now step = record {
 }
 
 -- sums of planes
-pub plane_count : (nodes : ℕ) (one other : ℕ → Bool) (n x : ℕ) → n ≡ nodes → x ≡ sum_below n (λ r. cond (one r) 1 0) → ((r : ℕ) → r < nodes → one r ≡ other r) → x ≡ sum_below nodes (λ r. cond (other r) 1 0)
-plane_count nodes one other n x size is same = is ∙ ap (λ m. sum_below m (λ r. cond (one r) 1 0)) size ∙ sum_below-same nodes _ _ (λ r lt. ap (λ b. cond b 1 0) (same r lt))
+pub plane_count : (nodes : ℕ) (one other : ℕ → Bool) (n x : ℕ) → n ≡ nodes → x ≡ sum_below n (λ r. cond (one r) 1 0)
+    → ((r : ℕ) → r < nodes → one r ≡ other r) → x ≡ sum_below nodes (λ r. cond (other r) 1 0)
+plane_count nodes one other n x size is same =
+    is ∙ ap (λ m. sum_below m (λ r. cond (one r) 1 0)) size ∙ sum_below-same nodes _ _ (λ r lt. ap (λ b. cond b 1 0) (same r lt))
 
-pub total_whole : (nodes keys key : ℕ) (test : ℕ → ℕ → Bool) (x : ℕ) → x ≡ sum_below key (λ k. sum_below nodes (λ r. cond (test r k) 1 0)) → keys ≤ key → key ≤ keys → x ≡ total_of nodes keys test
+pub total_whole : (nodes keys key : ℕ) (test : ℕ → ℕ → Bool) (x : ℕ) → x ≡ sum_below key (λ k. sum_below nodes (λ r. cond (test r k) 1 0)) → keys ≤ key
+    → key ≤ keys → x ≡ total_of nodes keys test
 total_whole nodes keys key test x is le ge =
     is
     ∙ ap (λ m. sum_below m (λ k. sum_below nodes (λ r. cond (test r k) 1 0))) {x = key} {y = keys} (omega arith)
@@ -42,10 +46,13 @@ pub total-places : (nodes keys : ℕ) (test : ℕ → Bool) → count_passing (k
 total-places nodes keys test =
     places_by_key nodes keys test ∙ sum_below-turned keys nodes (λ k r. cond (test (k * nodes + r)) 1 0)
 
-pub total-same : (nodes keys : ℕ) (one other : ℕ → ℕ → Bool) → ((r k : ℕ) → r < nodes → k < keys → one r k ≡ other r k) → total_of nodes keys one ≡ total_of nodes keys other
-total-same nodes keys one other same = sum_below-same nodes _ _ (λ r in_nodes. sum_below-same keys _ _ (λ k in_keys. ap (λ b. cond b 1 0) (same r k in_nodes in_keys)))
+pub total-same : (nodes keys : ℕ) (one other : ℕ → ℕ → Bool) → ((r k : ℕ) → r < nodes → k < keys → one r k ≡ other r k)
+    → total_of nodes keys one ≡ total_of nodes keys other
+total-same nodes keys one other same =
+    sum_below-same nodes _ _ (λ r in_nodes. sum_below-same keys _ _ (λ k in_keys. ap (λ b. cond b 1 0) (same r k in_nodes in_keys)))
 
-map-put_mid : {N : Type 0} (number : N → ℕ) (start nodes : ℕ) (xs ys : List N) → map number (put_mid start nodes xs ys) ≡ put_mid start nodes (map number xs) (map number ys)
+map-put_mid : {N : Type 0} (number : N → ℕ) (start nodes : ℕ) (xs ys : List N)
+    → map number (put_mid start nodes xs ys) ≡ put_mid start nodes (map number xs) (map number ys)
 map-put_mid number start nodes xs ys = simp (map-append, take-map, drop-map)
 
 -- a part of numbers is written anew
@@ -68,7 +75,8 @@ module _ {N : Type 0} (number : N → ℕ) (start n : ℕ) (xs ys : List N) (wit
   pub part-here : (r : ℕ) → r < n → get_or (map number (put_mid start n xs ys)) (start + r) 0 ≡ get_or (map number ys) r 0
   part-here r lt = rw (map-put_mid number start n xs ys) (search (rules, places, room_for, size_of))
 
-  pub part-written : (nodes : ℕ) (is : ℕ → ℕ → Type 0) → HasEach nodes is (map number xs) → ((r : ℕ) → r < n → is (start + r) (get_or (map number ys) r 0)) → HasEach nodes is (map number (put_mid start n xs ys))
+  pub part-written : (nodes : ℕ) (is : ℕ → ℕ → Type 0) → HasEach nodes is (map number xs) → ((r : ℕ) → r < n → is (start + r) (get_or (map number ys) r 0))
+      → HasEach nodes is (map number (put_mid start n xs ys))
   part-written nodes is before now = record {
     size = laid-length ∙ before.size;
     each = λ r lt. elim (cases_lt r start) [
@@ -77,7 +85,8 @@ module _ {N : Type 0} (number : N → ℕ) (start n : ℕ) (xs ys : List N) (wit
         | inr behind ↦ rw (laid-behind r (omega arith)) (before.each r lt)
         | inl here ↦
             let inside : r - start < n = omega arith in
-            subst (λ j. is j (get_or (map number (put_mid start n xs ys)) j 0)) {x = start + (r - start)} {y = r} (omega arith) (rw (part-here (r - start) inside) (now (r - start) inside))
+            subst (λ j. is j (get_or (map number (put_mid start n xs ys)) j 0)) {x = start + (r - start)} {y = r} (omega arith)
+            (rw (part-here (r - start) inside) (now (r - start) inside))
       ]
     ];
   }
@@ -88,14 +97,22 @@ module _ (changed : ℕ → ℕ → ℕ → ℕ → Type 0) (nodes : ℕ) (old :
   planes-all xs keys key is le = record { size = is.size; each = λ r k lt below. is.below r k lt (omega arith) }
 
 -- a part of a list
-pub window-at : {N : Type 0} (number : N → ℕ) (start count n : ℕ) (xs : List N) → n ≡ count → (r : ℕ) → r < count → get_or (map number (take n (drop start xs))) r 0 ≡ get_or (map number xs) (start + r) 0
+pub window-at : {N : Type 0} (number : N → ℕ) (start count n : ℕ) (xs : List N) → n ≡ count → (r : ℕ) → r < count
+    → get_or (map number (take n (drop start xs))) r 0 ≡ get_or (map number xs) (start + r) 0
 window-at number start count n xs is r lt =
-    rw (← take-map number n (drop start xs), ← drop-map number start xs, get_or-take n (drop start (map number xs)) r 0 (omega arith)) (get_or-drop start (map number xs) r 0)
+    rw (← take-map number n (drop start xs), ← drop-map number start xs, get_or-take n (drop start (map number xs)) r 0 (omega arith))
+    (get_or-drop start (map number xs) r 0)
 
 -- a plane of planes
-pub plane-cells : {N : Type 0} (number : N → ℕ) (nodes key n : ℕ) (xs : List N) → n ≡ nodes → key * nodes + nodes ≤ length xs → HasEach nodes (λ r m. m ≡ cell (map number xs) nodes r key) (map number (take n (drop (key * nodes) xs)))
+pub plane-cells : {N : Type 0} (number : N → ℕ) (nodes key n : ℕ) (xs : List N) → n ≡ nodes → key * nodes + nodes ≤ length xs
+    → HasEach nodes (λ r m. m ≡ cell (map number xs) nodes r key) (map number (take n (drop (key * nodes) xs)))
 plane-cells number nodes key n xs is within = record {
-  size = omega (arith, length-map (take n (drop (key * nodes) xs)) number, length-take-le n (drop (key * nodes) xs) (omega (arith, length-drop (key * nodes) xs)));
+  size = omega (
+    arith,
+    length-map (take n (drop (key * nodes) xs)) number,
+    length-take-le n (drop (key * nodes) xs)
+        (omega (arith, length-drop (key * nodes) xs)),
+  );
   each = window-at number (key * nodes) nodes n xs is;
 }
 
@@ -107,7 +124,8 @@ block-cells changed nodes old number xs key n is before within r lt =
     (plane-cells number nodes key n xs is (omega (arith, length-map xs number))).each r lt ∙ before.from (key * nodes + r) (omega arith)
 
 -- a block of planes is changed number by number
-pub planes-written : (changed : ℕ → ℕ → ℕ → ℕ → Type 0) (nodes : ℕ) (old : List ℕ) {N : Type 0} (number : N → ℕ) (xs ys : List N) (key n : ℕ) (in_block : ℕ → ℕ → ℕ → Type 0)
+pub planes-written : (changed : ℕ → ℕ → ℕ → ℕ → Type 0) (nodes : ℕ) (old : List ℕ) {N : Type 0}
+    (number : N → ℕ) (xs ys : List N) (key n : ℕ) (in_block : ℕ → ℕ → ℕ → Type 0)
     → n ≡ nodes → ArePlanesChangedUpto changed nodes old (map number xs) key → key * nodes + nodes ≤ length old
     → AreChanged in_block (map number (take n (drop (key * nodes) xs))) (map number ys)
     → ((r x y : ℕ) → r < nodes → in_block r x y → changed r key x y)
@@ -116,18 +134,17 @@ planes-written changed nodes old number xs ys key n in_block is before within no
     let room : key * nodes + nodes ≤ length xs = omega (arith, length-map xs number) in
     let block = plane-cells number nodes key n xs is room in
     let size : length ys ≡ nodes = omega (arith, length-map ys number) in
-    let written = (λ (r : ℕ) (lt : r < nodes). step r (cell old nodes r key) (get_or (map number ys) r 0) lt (subst (λ x. in_block r x (get_or (map number ys) r 0)) (block.each r lt ∙ before.from (key * nodes + r) (omega arith)) (now.each r (omega arith)))) in
+    let written = (λ (r : ℕ) (lt : r < nodes). step r (cell old nodes r key) (get_or (map number ys) r 0) lt
+    (subst (λ x. in_block r x (get_or (map number ys) r 0)) (block.each r lt ∙ before.from (key * nodes + r) (omega arith)) (now.each r (omega arith)))) in
     rw is (record {
       size = laid-length number (key * nodes) nodes xs ys room size ∙ before.size;
       below = λ r k lt. below_more (λ j. changed r j (cell old nodes r j) (cell (map number (put_mid (key * nodes) nodes xs ys)) nodes r j)) key
-          (λ j earlier. rw (laid-before number (key * nodes) nodes xs ys room size (j * nodes + r) (omega (arith, mul-le-mul_right {m = j + 1} {n = key} nodes (omega arith)))) (before.below r j lt earlier))
+          (λ j earlier.
+          let front = mul-le-mul_right {m = j + 1} {n = key} nodes (omega arith) in
+          rw (laid-before number (key * nodes) nodes xs ys room size (j * nodes + r) (omega arith)) (before.below r j lt earlier))
           (rw (part-here number (key * nodes) nodes xs ys room size r lt) (written r lt)) k;
       from = λ i le. laid-behind number (key * nodes) nodes xs ys room size i (omega arith) ∙ before.from i (omega arith);
     })
-
--- a loop over keys has come to its end
-pub each-whole : (is : ℕ → ℕ → ℕ → Type 0) (nodes key keys : ℕ) (xs : List ℕ) → keys ≤ key → key ≤ keys → HasEach nodes (is key) xs → HasEach nodes (is keys) xs
-each-whole is nodes key keys xs le ge before = subst (λ k. HasEach nodes (is k) xs) {x = key} {y = keys} (omega arith) before
 
 -- a mark raised to one number more
 pub raised-next : (cells : Cells) (key owner x y z : ℕ) → IsRaised cells key owner x y → z ≡ max y (cells owner key) → IsRaised cells (key + 1) owner x z

@@ -34,10 +34,16 @@ pub trait Number: Copy {
         ensures { result ≡ nat_lt (number other) (number self) };
 
     fn is_upto(self, other: Self) -> bool
-        ensures { result ≡ nat_le (number self) (number other) };
+        ensures { result ≡ nat_le (number self) (number other) }
+    {
+        !self.is_above(other)
+    }
 
     fn max_with(self, other: Self) -> Self
-        ensures { number result ≡ max (number self) (number other) };
+        ensures { number result ≡ max (number self) (number other) }
+    {
+        if self.is_above(other) { self } else { other }
+    }
 
     fn min_with(self, other: Self) -> Self
         ensures number { number result ≡ min (number self) (number other) }
@@ -84,14 +90,6 @@ impl Number for u8 {
 
     fn is_above(self, other: u8) -> bool {
         self > other
-    }
-
-    fn is_upto(self, other: u8) -> bool {
-        self <= other
-    }
-
-    fn max_with(self, other: u8) -> u8 {
-        self.max(other)
     }
 
     fn min_with(self, other: u8) -> u8 {
@@ -159,16 +157,6 @@ impl Number for Short {
         self.number > other.number
     }
 
-    fn is_upto(self, other: Short) -> bool {
-        self.number <= other.number
-    }
-
-    fn max_with(self, other: Short) -> Short {
-        Short {
-            number: self.number.max(other.number),
-        }
-    }
-
     fn min_with(self, other: Short) -> Short {
         Short {
             number: self.number.min(other.number),
@@ -215,14 +203,6 @@ impl Number for u32 {
 
     fn is_above(self, other: u32) -> bool {
         self > other
-    }
-
-    fn is_upto(self, other: u32) -> bool {
-        self <= other
-    }
-
-    fn max_with(self, other: u32) -> u32 {
-        self.max(other)
     }
 
     fn min_with(self, other: u32) -> u32 {

@@ -27,7 +27,8 @@ pub fn are_few<N: Number>(keys: usize, low: &[N], high: &[N], few: usize) -> boo
 
 fn owner_above<N: Number>(grid: Grid<N>, owner: usize, low: N) -> u32
     requires place { IsOwnerOf grid owner }
-    ensures { result ≡ count_above (cells_in N.number grid.entry) grid.entry.size.keys owner (N.number low) }
+    ensures upto { result ≤ grid.entry.size.keys }
+    ensures count { result ≡ count_above (cells_in N.number grid.entry) grid.entry.size.keys owner (N.number low) }
 {
     let Grid { cells, size } = grid;
     let mut count = 0;

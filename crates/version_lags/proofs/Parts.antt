@@ -1,5 +1,5 @@
 -- Pieces of tables as code counts them, table by table and part by part.
--- Serves `Piece::none`, `Piece::take_in`, `figures_of_pieces`, `piece_of` and `Whole`.
+-- Serves the functions of `lags` and `Whole`.
 use Rattle.version_lags.proofs.Common.{◌≡◌, ℕ, zero, suc, ◌+◌, ◌*◌, ◌<◌, ◌≤◌, min, Bool, cond, List, [], length, get_or, map, slice_index, sym, ap, ◌∙◌, arith, Bor, get_or-map, length-map, refl, MOST_NODES, MOST_KEYS, Table, sum_below, total_of, cell, ArePlanesChanged, sum_below-most, sum_below-same, count_le, sum_next, RoundNumbers, NumbersView, numbers_seen, numbers_at, is_stale, is_left, total_below, AreGrids, AreRoundNumbers, IsTotal, least_below, CountsPiece}
 use Rattle.version_lags.proofs.Pieces.{none_upto}
 

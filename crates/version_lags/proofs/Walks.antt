@@ -1,9 +1,8 @@
 -- The first write of an owner that some copy misses has been missed for longest.
 -- Serves `Piece::figures` and `lag_of_owner`.
-use Rattle.version_lags.proofs.Common.{◌≡◌, ℕ, zero, suc, ◌+◌, ◌-◌, ◌*◌, ◌<◌, ◌≤◌, max, List, length, map, get_or, Some, inl, inr, refl, sym, ap, ◌∙◌, arith, cases_lt, cell, Entry, OwnerListView, entries_of, get_or_default, list_of_owner, no_writes, write_numbered, most_below, rounds_behind, IsRoundMark, numbered-placed, numbered-within, number-at, RoundNumbers, base_of, number_staleness, NonePassUpto, MayWalk, WalksFrom, most_lag}
+use Rattle.version_lags.proofs.Common.{◌≡◌, ℕ, zero, suc, ◌+◌, ◌-◌, ◌*◌, ◌<◌, ◌≤◌, max, List, length, get_or, Some, inl, inr, refl, sym, ap, ◌∙◌, arith, cases_lt, Entry, OwnerListView, entries_of, write_numbered, most_below, rounds_behind, IsRoundMark, numbered-placed, numbered-within, number-at, plane-within, cells_in, Grid, base_of, number_staleness, NonePassUpto, MayWalk, WalksFrom, most_lag}
 use Rattle.version_lags.proofs.Missed.{numbers-born}
 use Rattle.version_lags.proofs.Lagging.{lag-upto, lag-since}
-use Rattle.planes.proofs.Places.{plane-within}
 
 most_below-le : (f : ℕ → ℕ) (m x : ℕ) → ((k : ℕ) → k < m → f k ≤ x) → most_below m f ≤ x
 most_below-le f zero x le = omega arith
@@ -69,28 +68,17 @@ module _ {list : OwnerListView} {keys round most first : ℕ} {least : ℕ → �
               (record { written = is; current = omega arith; keyed = refl; over = omega arith }),
         )
 
--- the same of an owner's list as code reads it
-module _ {N : Type 0} {number : N → ℕ} {most owner first : ℕ} {numbers : RoundNumbers N} {least : List N}
-    (may : MayWalk number most numbers least owner first) (d : OwnerListView) where
-  abbrev list : OwnerListView
-  list = get_or numbers.lists.now owner d
+-- the least number that is held of a write's key
+module _ {N : Type 0} {number : N → ℕ} {most owner round first : ℕ} {list : OwnerListView} {least : Grid N}
+    (may : MayWalk number most list least owner round first) (place : ℕ) (current : base_of list ≤ place)
+    (e : Entry) (is : write_numbered (entries_of list) (place + 1) ≡ Some e) where
+  pub walk-index : e.key * least.size.nodes + owner < length least.cells.now
+  walk-index =
+      let in_keys = may.walks.keyed (place + 1) e is (omega arith) in
+      omega (arith, plane-within least.size.nodes least.size.keys (length least.cells.now) e.key may.place.shape in_keys)
 
-  pub list-read : list ≡ list_of_owner numbers.lists.now owner
-  list-read = get_or_default numbers.lists.now owner d no_writes may.among
-
-  pub walks-read : WalksFrom list numbers.keys numbers.ends.rounds most first (cell (map number least) (length numbers.lists.now) owner)
-  walks-read = rw list-read may.walks
-
-  -- and the least number that is held of a write's key
-  module _ (place : ℕ) (current : base_of list ≤ place) (e : Entry) (is : write_numbered (entries_of list) (place + 1) ≡ Some e) where
-    pub walk-index : e.key * length numbers.lists.now + owner < length least
-    walk-index =
-        let in_keys = walks-read.keyed (place + 1) e is (omega arith) in
-        omega (arith, plane-within (length numbers.lists.now) numbers.keys (length least) e.key may.grid in_keys)
-
-    pub walk-read : (x : N) → x ≡ get_or least (e.key * length numbers.lists.now + owner) x
-        → number x ≡ cell (map number least) (length numbers.lists.now) owner e.key
-    walk-read x at = number-at number least (e.key * length numbers.lists.now + owner) x walk-index at
+  pub walk-read : (x : N) → x ≡ get_or least.cells.now (e.key * least.size.nodes + owner) x → number x ≡ cells_in number least owner e.key
+  walk-read x at = number-at number least.cells.now (e.key * least.size.nodes + owner) x walk-index at
 
 -- one more owner
 pub most-next : (f : ℕ → ℕ) (r x y z : ℕ) → x ≡ most_below r f → z ≡ max x y → y ≡ f r → z ≡ most_below (r + 1) f

@@ -1,12 +1,12 @@
 -- What is counted of all tables comes to the figures of a round.
 -- Serves `Piece::figures`.
-use Rattle.version_lags.proofs.Common.{◌≡◌, ℕ, ◌<◌, Bool, Some, cond, refl, ◌&&◌, inl, inr, List, length, get_or, map, nat_lt, nat_le, sym, ap, ◌∙◌, subst, arith, cases_lt, number-at, HasEach, IsGrid, IsLeastBehind, Entry, Figures, OwnerListView, entries_of, write_numbered, list_of_owner, lists_in, sum_below, most_below, total_of, cell, sum_below-same, most_below-same, leftover_at, stale_count, staleness_at, rounds_behind, figures_of, most_by_owner, table_of_node, length-map, base_of, number_staleness, IsNumberAt, IsLastNumber, AreAllCounted, Piece, RoundNumbers, NumbersView, numbers_seen, numbers_at, is_stale, is_left, least_below, IsTotal, MayWalk, most_lag}
+use Rattle.version_lags.proofs.Common.{Bor, Grid, ◌≡◌, ℕ, ◌<◌, Bool, Some, cond, refl, ◌&&◌, inl, inr, List, length, get_or, map, nat_lt, nat_le, sym, ap, ◌∙◌, subst, arith, cases_lt, number-at, HasEach, IsGrid, IsLeastBehind, Entry, Figures, OwnerListView, entries_of, write_numbered, list_of_owner, lists_in, sum_below, most_below, total_of, cell, sum_below-same, most_below-same, leftover_at, stale_count, staleness_at, rounds_behind, figures_of, most_by_owner, table_of_node, length-map, base_of, number_staleness, IsNumberAt, IsLastNumber, AreAllCounted, Piece, RoundNumbers, NumbersView, numbers_seen, numbers_at, is_stale, is_left, least_below, IsTotal, MayWalk, most_lag}
 use Rattle.version_lags.proofs.Lagging.{lag-least_below}
 use Rattle.version_lags.proofs.Parts.{grids-of, least_below-le}
 use Rattle.version_lags.proofs.Pieces.{key_within, place_staleness, place_stale, place_left}
 
 module _ {N : Type 0} {number : N → ℕ} {most : ℕ} {numbers : RoundNumbers N} {piece : Piece N}
-    (all : AreAllCounted number most numbers piece) {least : List N} (same : least ≡ piece.least.items) where
+    (all : AreAllCounted number most numbers piece) (cells : Bor (List N)) (same : cells.now ≡ piece.least.items) where
   abbrev lists : List OwnerListView
   lists = numbers.lists.now
 
@@ -26,7 +26,11 @@ module _ {N : Type 0} {number : N → ℕ} {most : ℕ} {numbers : RoundNumbers 
   held p = cell (numbers_at v.tables p) nodes
 
   abbrev least_held : ℕ → ℕ → ℕ
-  least_held = cell (map number least) nodes
+  least_held = cell (map number cells.now) nodes
+
+  -- the least numbers, as code has them
+  abbrev least : Grid N
+  least = record { cells = cells; size = record { nodes = nodes; keys = numbers.keys } }
 
   nodes_are : nodes ≡ length all.tables
   nodes_are = all.are.may.together.one_list_each
@@ -55,13 +59,12 @@ module _ {N : Type 0} {number : N → ℕ} {most : ℕ} {numbers : RoundNumbers 
         → base_of (list_of_owner lists owner) < m → e.key < numbers.keys
     keyed m e there current = key_within _ _ all.are.may.together owner m e (in_tables owner among) there current
 
-    size : length v.last ≡ length least
+    size : length v.last ≡ length cells.now
     size = all.are.are.lasts.size ∙ sym all.whole.least_is.size ∙ length-map piece.least.items number ∙ ap length (sym same)
 
-    pub may-walk : (first : N) → first ≡ get_or firsts owner first → MayWalk number most numbers least owner (number first)
+    pub may-walk : (first : N) → first ≡ get_or firsts owner first → MayWalk number most (list_of_owner lists owner) least owner round (number first)
     may-walk first is = record {
-      among = among;
-      grid = subst (IsGrid nodes numbers.keys) size (grids-of number most numbers all.tables all.are).grid;
+      place = record { shape = subst (IsGrid nodes numbers.keys) size (grids-of number most numbers all.tables all.are).grid; within = among };
       walks = record {
         round_limit = all.are.may.together.limits.few_rounds;
         writes = all.are.may.together.writes owner;
@@ -70,7 +73,7 @@ module _ {N : Type 0} {number : N → ℕ} {most : ℕ} {numbers : RoundNumbers 
         in_order = all.are.may.written.in_order owner;
         keyed = keyed;
         written = λ k in_k.
-            let least = least_below-le nodes (λ p. held p owner k) (last owner k) in
+            let upto = least_below-le nodes (λ p. held p owner k) (last owner k) in
             omega (arith, least_is owner k among in_k, (last_at owner k among in_k).written);
         start = λ m e there current le.
             let in_keys = keyed m e there current in

@@ -12,6 +12,8 @@ use Rattle.model.specs.calls.Tables.{IsCluster}
 use Rattle.model.specs.calls.OwnerListView.{OwnerListView, all_writes, entries_of, list_of_owner, lists_in, AreWrites}
 use Rattle.model.specs.calls.Numbers.{write_numbered}
 use Rattle.bench_types.specs.Sums.{sum_below, most_below}
+use Rattle.planes.specs.declared.sizes.Grid.{Grid}
+use Rattle.planes.specs.Grids.{cells_in, IsOwnerOf}
 use Rattle.planes.specs.Planes.{cell, total_of, HasEach, HasEachPlace, IsGrid}
 use Rattle.round_histories.specs.Histories.{HistoriesView, BirthsRise, AreWrittenBy, KeepLimits, StandsAmong}
 use Rattle.model.specs.Figures.{figures_of, rounds_behind}
@@ -47,14 +49,17 @@ histories_of numbers = record { lists = numbers.lists.now; keys = numbers.keys; 
 
 -- the numbers of what a node's table holds
 abbrev pub AreNumbersAt : List Table → HistoriesView → ℕ → List ℕ → Type 0
-AreNumbersAt tables h node cells = HasEachPlace (length h.lists) h.keys (IsNumberAt h.lists (table_of_node tables node)) cells
+AreNumbersAt tables h node cells =
+    HasEachPlace (length h.lists) h.keys (IsNumberAt h.lists (table_of_node tables node)) cells
 
 -- the numbers of all tables, and beside them the last numbers, and how many writes are of earlier generations
-pub record AreNumbersOf (tables : List Table) (h : HistoriesView) (cells : List (List ℕ)) (bases last : List ℕ) : Type 0 where
+pub record AreNumbersOf (tables : List Table) (h : HistoriesView) (cells : List (List ℕ))
+    (bases last : List ℕ) : Type 0 where
   pub count : length cells ≡ length h.lists
   pub cells_are : (p : ℕ) → p < length h.lists → AreNumbersAt tables h p (numbers_at cells p)
   pub based : HasEach (length h.lists) (λ r n. n ≡ base_of (list_of_owner h.lists r)) bases
-  pub lasts : HasEachPlace (length h.lists) h.keys (λ owner key number. IsLastNumber (list_of_owner h.lists owner) key number) last
+  pub lasts : HasEachPlace (length h.lists) h.keys
+      (λ owner key number. IsLastNumber (list_of_owner h.lists owner) key number) last
 
 -- the numbers alone, by which pieces are counted
 pub record NumbersView : Type 0 where
@@ -112,26 +117,30 @@ pub record CountsPiece (v : NumbersView) (from to stale leftover : ℕ) (least :
   pub least_is : HasEachPlace v.nodes v.keys
       (λ r k. IsLeastFrom (λ p. cell (numbers_at v.tables p) v.nodes r k) (cell v.last v.nodes r k) from to) least
 
+abbrev pub IsPieceOf : {N : Type 0} → (N → ℕ) → NumbersView → ℕ → ℕ → Piece N → Type 0
+IsPieceOf number v from to piece = CountsPiece v from to piece.stale piece.leftover (map number piece.least.items)
+
 abbrev pub HasCounted : {N : Type 0} → (N → ℕ) → RoundNumbers N → ℕ → ℕ → Piece N → Type 0
-HasCounted number numbers from to piece =
-    CountsPiece (numbers_seen number numbers) from to piece.stale piece.leftover (map number piece.least.items)
+HasCounted number numbers from to piece = IsPieceOf number (numbers_seen number numbers) from to piece
 
 -- it is counted, unless memory is refused
 abbrev pub Counts : {N : Type 0} → (N → ℕ) → RoundNumbers N → ℕ → ℕ → Result (Piece N) Fault → Type 0
 Counts number numbers from to result = IfOk result (HasCounted number numbers from to) × IsOkUnless result OutOfMemory
 
 -- one is of the tables behind those of another
-pub record AreBehindEachOther {N : Type 0} (number : N → ℕ) (numbers : RoundNumbers N) (piece others : Piece N) : Type 0 where
-  pub grids : AreGrids (numbers_seen number numbers)
+pub record AreBehindEachOther {N : Type 0} (number : N → ℕ) (piece others : Piece N) : Type 0 where
+  pub v : NumbersView
+  pub grids : AreGrids v
   pub from : ℕ
   pub mid : ℕ
   pub to : ℕ
-  pub part : IsStretchOf (length numbers.lists.now) mid to
-  pub first : HasCounted number numbers from mid piece
-  pub second : HasCounted number numbers mid to others
+  pub part : IsStretchOf v.nodes mid to
+  pub first : IsPieceOf number v from mid piece
+  pub second : IsPieceOf number v mid to others
 
 -- all tables are counted, in parts
-pub record ArePieces {N : Type 0} (number : N → ℕ) (numbers : RoundNumbers N) (pieces : List (Result (Piece N) Fault)) : Type 0 where
+pub record ArePieces {N : Type 0} (number : N → ℕ) (numbers : RoundNumbers N)
+    (pieces : List (Result (Piece N) Fault)) : Type 0 where
   pub bounds : List ℕ
   pub are : AreBounds (length numbers.lists.now) bounds
   pub one_each : length pieces + 1 ≡ length bounds
@@ -145,7 +154,8 @@ pub record AreRoundEnds {N : Type 0} (number : N → ℕ) (numbers : RoundNumber
       (cell (map number numbers.ends.numbers.now) (length numbers.lists.now))
 
 -- the numbers of these tables at the end of a round
-pub record AreRoundNumbers {N : Type 0} (number : N → ℕ) (most : ℕ) (numbers : RoundNumbers N) (tables : List Table) : Type 0 where
+pub record AreRoundNumbers {N : Type 0} (number : N → ℕ) (most : ℕ) (numbers : RoundNumbers N)
+    (tables : List Table) : Type 0 where
   pub may : MayBeCounted tables (histories_of numbers)
   pub few : (owner : ℕ) → length (all_writes numbers.lists.now owner) < most
   pub are : AreNumbersOf tables (histories_of numbers) (numbers_in number numbers.cells.now)
@@ -153,7 +163,8 @@ pub record AreRoundNumbers {N : Type 0} (number : N → ℕ) (most : ℕ) (numbe
   pub ends : AreRoundEnds number numbers
 
 -- the numbers of some tables, of which all are counted
-pub record AreAllCounted {N : Type 0} (number : N → ℕ) (most : ℕ) (numbers : RoundNumbers N) (piece : Piece N) : Type 0 where
+pub record AreAllCounted {N : Type 0} (number : N → ℕ) (most : ℕ) (numbers : RoundNumbers N)
+    (piece : Piece N) : Type 0 where
   pub tables : List Table
   pub are : AreRoundNumbers number most numbers tables
   pub whole : HasCounted number numbers 0 (length numbers.lists.now) piece
@@ -176,18 +187,12 @@ pub record WalksFrom (list : OwnerListView) (keys round most first : ℕ) (least
   pub written : (k : ℕ) → k < keys → least k ≤ length (entries_of list)
   pub start : NonePassUpto list least (max (base_of list) first)
 
--- it may be walked over, by numbers as code has them
-pub record MayWalk {N : Type 0} (number : N → ℕ) (most : ℕ) (numbers : RoundNumbers N) (least : List N) (owner first : ℕ) : Type 0 where
-  pub among : owner < length numbers.lists.now
-  pub grid : IsGrid (length numbers.lists.now) numbers.keys (length least)
-  pub walks : WalksFrom (list_of_owner numbers.lists.now owner) numbers.keys numbers.ends.rounds most first
-      (cell (map number least) (length numbers.lists.now) owner)
+-- it may be walked over, beside a grid of these numbers
+pub record MayWalk {N : Type 0} (number : N → ℕ) (most : ℕ) (list : OwnerListView) (least : Grid N)
+    (owner round first : ℕ) : Type 0 where
+  pub place : IsOwnerOf least owner
+  pub walks : WalksFrom list least.size.keys round most first (cells_in number least owner)
 
 -- the most rounds that a copy of an owner's keys has been behind
 abbrev pub most_lag : ℕ → ℕ → OwnerListView → (ℕ → ℕ) → ℕ
 most_lag keys round list least = most_below keys (λ k. rounds_behind (number_staleness round list k (least k)))
-
-abbrev pub owner_lag : {N : Type 0} → (N → ℕ) → RoundNumbers N → List N → ℕ → ℕ
-owner_lag number numbers least owner =
-    most_lag numbers.keys numbers.ends.rounds (list_of_owner numbers.lists.now owner)
-    (cell (map number least) (length numbers.lists.now) owner)

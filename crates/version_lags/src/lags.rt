@@ -1,16 +1,17 @@
 //! How far the copies lag behind their owners, told by numbers of writes: the figures of a round.
 
-ghost use Rattle.std.specs.Prelude.{◌≡◌, ℕ, ◌+◌, ◌-◌, ◌*◌, ◌/◌, ◌^◌, ◌<◌, ◌≤◌, List, length, IfOk, IsOkUnless};
+ghost use Rattle.std.specs.Prelude.{◌≡◌, ℕ, ◌≤◌, List, length, IfOk, IsOkUnless};
 ghost use Rattle.bench_types.specs.declared.faults.Fault.TheVariants.{OutOfMemory};
 ghost use Rattle.model.specs.Table.{Table};
+ghost use Rattle.planes.specs.Grids.{cells_in};
 ghost use Rattle.version_lags.specs.Bounds.{IsStretchOf};
-ghost use Rattle.version_lags.specs.Pieces.{numbers_seen, AreAllCounted, AreBehindEachOther, AreFigures, AreGrids, ArePieces, AreRoundNumbers, Counts, HasCounted, MayWalk, owner_lag};
+ghost use Rattle.version_lags.specs.Pieces.{numbers_seen, AreAllCounted, AreBehindEachOther, AreFigures, AreGrids, ArePieces, AreRoundNumbers, Counts, HasCounted, IsPieceOf, MayWalk, NumbersView, most_lag};
 
 use crate::bounds::{LEAST_BYTES_OF_A_THREAD, threads_for};
 use bench_types::{Fault, Figures};
-use grids::{count_behind, least_behind, lower_all};
+use grids::{count_behind, least_behind};
 use owner_writes::OwnerWrites;
-use planes::{Ends, Grid, Number, Size, total_upto};
+use planes::{Ends, Grid, Number, Size, lower, total_upto};
 use rayon::join;
 use round_histories::{Hands, Resources};
 use std::alloc::Global;
@@ -53,22 +54,14 @@ impl<N: Number> Piece<N> {
     }
 
     // Takes in what the tables behind these say.
-    fn take_in(&mut self, others: &Piece<N>, numbers: &RoundNumbers<N>)
-        requires { AreBehindEachOther N.number numbers.now self.old others.now }
-        ensures { (from mid to : ℕ) → HasCounted N.number numbers.entry.now from mid self.old
-            → HasCounted N.number numbers.entry.now mid to others.entry.now
-            → HasCounted N.number numbers.entry.now from to self.new }
+    fn take_in(&mut self, others: &Piece<N>)
+        requires { AreBehindEachOther N.number self.old others.now }
+        ensures { (v : NumbersView) (from mid to : ℕ) → AreGrids v → IsPieceOf N.number v from mid self.old
+            → IsPieceOf N.number v mid to others.entry.now → IsPieceOf N.number v from to self.new }
     {
         self.stale += others.stale;
         self.leftover += others.leftover;
-        let grid = Grid {
-            cells: &others.least,
-            size: Size {
-                nodes: numbers.lists.len(),
-                keys: numbers.keys,
-            },
-        };
-        lower_all(&mut self.least, grid);
+        lower(&mut self.least, &others.least);
     }
 
     // The figures, where all tables say this. An owner's list is read only where that may make the most rounds more
@@ -78,24 +71,24 @@ impl<N: Number> Piece<N> {
         ensures { AreFigures N.number N.most numbers.now result }
     {
         let nodes = numbers.lists.len();
-        let least: &[N] = &self.least;
-        let grid = Grid {
-            cells: least,
+        let round = numbers.ends.rounds;
+        let least = Grid {
+            cells: &self.least,
             size: Size {
                 nodes,
                 keys: numbers.keys,
             },
         };
-        let firsts = least_behind(alloc, grid, numbers.last)?;
+        let firsts = least_behind(alloc, least, numbers.last)?;
         let mut greatest = 0;
         for owner in 0..nodes {
             let first = firsts[owner];
-            let since = numbers.ends.rounds.saturating_sub(greatest);
+            let since = round.saturating_sub(greatest);
             let row = numbers.ends.row(nodes, since);
             if row[owner].is_upto(first) {
                 continue;
             }
-            let lag = lag_of_owner(numbers, least, owner, first);
+            let lag = lag_of_owner(&numbers.lists[owner], least, owner, round, first);
             greatest = greatest.max(lag);
         }
         Ok(Figures {
@@ -106,15 +99,19 @@ impl<N: Number> Piece<N> {
     }
 }
 
-// For how many rounds a copy of an owner has missed a write at most: since the first one that some copy misses, which
-// stands behind a number, the greatest where there is none.
-fn lag_of_owner<N: Number>(numbers: &RoundNumbers<N>, least: &[N], owner: usize, first: N) -> u32
-    requires { MayWalk N.number N.most numbers.now least.now owner (N.number first) }
-    ensures { result ≡ owner_lag N.number numbers.now least.now owner }
+// For how many rounds a copy of an owner has missed a write at most, by its list and the least numbers that are held:
+// since the first one that some copy misses, which stands behind a number, the greatest where there is none.
+fn lag_of_owner<N: Number>(
+    list: &OwnerWrites,
+    least: Grid<N>,
+    owner: usize,
+    round: u32,
+    first: N,
+) -> u32
+    requires { MayWalk N.number N.most list.now least owner round (N.number first) }
+    ensures { result ≡ most_lag least.entry.size.keys round list.now (cells_in N.number least.entry owner) }
 {
-    let round = numbers.ends.rounds;
-    let nodes = numbers.lists.len();
-    let list = &numbers.lists[owner];
+    let Grid { cells, size } = least;
     if first.widen() == N::greatest().widen() {
         return 0;
     }
@@ -122,7 +119,7 @@ fn lag_of_owner<N: Number>(numbers: &RoundNumbers<N>, least: &[N], owner: usize,
     for place in from..list.count() {
         match list.numbered(place as u32 + 1) {
             Some(write) => {
-                if least[write.key as usize * nodes + owner].widen() <= place as u32 {
+                if cells[write.key as usize * size.nodes + owner].widen() <= place as u32 {
                     return round - write.born + 1;
                 }
             }
@@ -208,19 +205,19 @@ fn rest_from<N: Number + Send + Sync>(
     { rest_from(resources, numbers, size, to) };
     let (first, others) = join(resources.rt, first, others);
     let mut piece = first?;
-    piece.take_in(&others?, numbers);
+    piece.take_in(&others?);
     Ok(piece)
 }
 
 /// The figures of the tables at the end of the last round, down nodes included: how many keys of copies are below the
-/// last writes in their owners' lists, by marks, each list of its owner's generation; the greatest number of rounds since
-/// the first write that one of them missed, that round included; and how many entries of copies are of an older
+/// last writes in their owners' lists, by marks, each list of its owner's generation; the greatest number of rounds
+/// since the first write that one of them missed, that round included; and how many entries of copies are of an older
 /// generation than their owner's.
 ///
 /// It works in threads where there is enough to count, and leaves up to 2 MiB to the caller's thread if one worker has
-/// carried out the round's exchanges; what it answers does not depend on how. Each thread goes once over the numbers of some of
-/// the tables. Then an owner's list is walked over from the first write that some copy misses, if any, to the next
-/// one, where that may be older than what was found so far. It takes memory for the numbers of a table for each
+/// carried out the round's exchanges; what it answers does not depend on how. Each thread goes once over the numbers of
+/// some of the tables. Then an owner's list is walked over from the first write that some copy misses, if any, to the
+/// next one, where that may be older than what was found so far. It takes memory for the numbers of a table for each
 /// part of the tables. An error is lack of that memory (`OutOfMemory`).
 pub fn figures<N: Number + Send + Sync>(
     resources: &Resources<impl Threads + Sync>,
@@ -234,8 +231,8 @@ pub fn figures<N: Number + Send + Sync>(
     whole.figures(resources.alloc, numbers)
 }
 
-/// The same figures, by what several threads have counted, each a part of the tables. It takes memory for the numbers of
-/// a table. An error is lack of memory (`OutOfMemory`), also of a thread's.
+/// The same figures, by what several threads have counted, each a part of the tables. It takes memory for the numbers
+/// of a table. An error is lack of memory (`OutOfMemory`), also of a thread's.
 pub fn figures_of_pieces<N: Number>(
     alloc: Global,
     numbers: &RoundNumbers<N>,
@@ -250,7 +247,7 @@ pub fn figures_of_pieces<N: Number>(
         let Ok(piece) = counted else {
             return Err(Fault::OutOfMemory);
         };
-        whole.take_in(piece, numbers);
+        whole.take_in(piece);
     }
     whole.figures(alloc, numbers)
 }

@@ -1,9 +1,9 @@
 -- What loops over one plane make of it, and what they ask. Source: this project.
 use Rattle.std.specs.Prelude.{◌≡◌, ℕ, ◌+◌, ◌*◌, ◌<◌, ◌≤◌, nat_lt, Bool, List, length, map, max, slice_index}
 use Rattle.bench_types.specs.declared.limits.TheConstants.{MOST_KEYS, MOST_NODES}
-use Rattle.planes.specs.Elementwise.{AreChanged}
+use Rattle.planes.specs.Elementwise.{AreChanged, AreChangedUpto}
 use Rattle.planes.specs.Grids.{cells_in}
-use Rattle.planes.specs.Loops.{AreCountedUpto, IsPart}
+use Rattle.planes.specs.Loops.{count_passing, AreCountedUpto, IsPart}
 use Rattle.planes.specs.Planes.{number_raised, number_taken}
 use Rattle.grids.specs.declared.grids.Sent.{Sent}
 use Rattle.grids.specs.declared.merges.BothCounts.{BothCounts}
@@ -18,11 +18,19 @@ pub record MayCountPart {N : Type 0} (most : ℕ) (may : ℕ → N → Type 0) (
   pub part : IsPart most (length numbers) from size
   pub to : (r : ℕ) (n : N) → r < length numbers → may r n
 
--- each call makes of a number another one, and answers, as a function and a test of owner and number do
-abbrev pub MakesAs : {N : Type 0} → (N → ℕ) → (ℕ → N → N × Bool → Type 0) → ℕ → (ℕ → ℕ → ℕ) → (ℕ → ℕ → Bool) → Type 0
-MakesAs {N} number makes bound made test =
-    (r : ℕ) (n : N) (both : N × Bool) → r < bound → makes r n both
-    → (number both.0 ≡ made r (number n)) × (both.1 ≡ test r (number n))
+-- what a call makes of a number, and its answers to two questions
+abbrev pub Made : Type 0 → Type 0
+Made N = N × Bool × Bool
+
+-- each call makes what a function of place and number does
+abbrev pub MakesAs : {N : Type 0} → (N → ℕ) → (ℕ → N → Made N → Type 0) → ℕ → (ℕ → ℕ → ℕ) → Type 0
+MakesAs {N} number makes bound made =
+    (r : ℕ) (n : N) (all : Made N) → r < bound → makes r n all → number all.0 ≡ made r (number n)
+
+-- each call answers one of the questions as a test of places does
+abbrev pub AnswersBy : {N : Type 0} → (Made N → Bool) → (ℕ → N → Made N → Type 0) → ℕ → (ℕ → Bool) → Type 0
+AnswersBy {N} answer makes bound test =
+    (r : ℕ) (n : N) (all : Made N) → r < bound → makes r n all → answer all ≡ test r
 
 -- the numbers below a bound are raised to others, where these are above their marks, and so many of them are
 abbrev pub AreRaisedUpto : List ℕ → List ℕ → List ℕ → List ℕ → ℕ → ℕ → Type 0
@@ -30,23 +38,18 @@ AreRaisedUpto others low old new bound count =
     AreCountedUpto (λ r x y. y ≡ number_raised x (slice_index others r) (slice_index low r))
     (λ r. nat_lt (slice_index low r) (slice_index others r)) old new bound count
 
--- each number is changed, and so many are counted, as calls say
-pub record AreCounted {N : Type 0} (number : N → ℕ) (makes : ℕ → N → N × Bool → Type 0) (old new : List N)
-    (passed : ℕ) : Type 0 where
-  pub upto : passed ≤ length old
-  pub done : (made : ℕ → ℕ → ℕ) (test : ℕ → ℕ → Bool) → MakesAs number makes (length old) made test
-      → AreCountedUpto (λ r x y. y ≡ made r x) (λ r. test r (slice_index (map number old) r)) (map number old)
-      (map number new) (length old) passed
-
--- so many numbers from one on, of which those before it were counted
-pub record ArePartCounted {N : Type 0} (number : N → ℕ) (makes : ℕ → N → N × Bool → Type 0) (old new : List N)
-    (from size passed : ℕ) : Type 0 where
-  pub upto : passed ≤ size
-  pub done : (made : ℕ → ℕ → ℕ) (test : ℕ → ℕ → Bool) → MakesAs number makes (length old) made test
-      → (whole : List ℕ) (before : ℕ)
-      → AreCountedUpto (λ r x y. y ≡ made r x) (λ r. test r (slice_index whole r)) whole (map number old) from before
-      → AreCountedUpto (λ r x y. y ≡ made r x) (λ r. test r (slice_index whole r)) whole (map number new)
-      (from + size) (before + passed)
+-- so many numbers from one on are changed and counted as calls say, where those before it were
+pub record AreCounted {N : Type 0} (number : N → ℕ) (makes : ℕ → N → Made N → Type 0) (old new : List N)
+    (from size : ℕ) (passed : ℕ × ℕ) : Type 0 where
+  pub first_upto : passed.0 ≤ size
+  pub second_upto : passed.1 ≤ size
+  pub numbers : (made : ℕ → ℕ → ℕ) → MakesAs number makes (length old) made
+      → (whole : List ℕ) → AreChangedUpto (λ r x y. y ≡ made r x) whole (map number old) from
+      → AreChangedUpto (λ r x y. y ≡ made r x) whole (map number new) (from + size)
+  pub first : (test : ℕ → Bool) → AnswersBy (λ all. all.1) makes (length old) test
+      → (before : ℕ) → before ≡ count_passing from test → before + passed.0 ≡ count_passing (from + size) test
+  pub second : (test : ℕ → Bool) → AnswersBy (λ all. all.2) makes (length old) test
+      → (before : ℕ) → before ≡ count_passing from test → before + passed.1 ≡ count_passing (from + size) test
 
 -- a plane, the greatest number of each owner and the marks are of the size of what is sent
 pub record MayTakePlane {N : Type 0} (plane greatest : List N) (sent : Sent N) (key : ℕ) : Type 0 where

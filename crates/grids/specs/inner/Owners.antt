@@ -1,7 +1,6 @@
 -- One owner's numbers, key by key. Source: this project.
-use Rattle.std.specs.Prelude.{◌≡◌, ℕ, ◌<◌, ◌==◌, List, length, map, if◌then◌else◌}
-use Rattle.planes.specs.Planes.{cell, count_above, number_raised, ArePlanesChanged, HasNoneAbove, IsRaised}
-use Rattle.grids.specs.Grids.{IsBeside}
+use Rattle.std.specs.Prelude.{◌≡◌, ℕ, ◌≤◌, ◌==◌, List, map, if◌then◌else◌}
+use Rattle.planes.specs.Planes.{cell, count_above, number_raised, ArePlanesChanged, IsRaised}
 use Rattle.grids.specs.declared.grids.Sent.{Sent}
 use Rattle.grids.specs.inner.Loops.{taken_by}
 
@@ -10,18 +9,10 @@ pub record HasRaisedOwner {N : Type 0} (number : N → ℕ) (nodes keys owner : 
     (old new : List N) (raised : ℕ) : Type 0 where
   pub cells : ArePlanesChanged (λ r k x y. y ≡ (if r == owner then number_raised x (cell (map number others) nodes r k)
       (number low) else x)) nodes keys (map number old) (map number new)
+  pub upto : raised ≤ keys
   pub count : raised ≡ count_above (cell (map number others) nodes) keys owner (number low)
 
--- an owner's numbers, of which none is above its greatest one, may take what is sent
-pub record MayTakeOwner {N : Type 0} (number : N → ℕ) (cells : List N) (sent : Sent N) (owner : ℕ)
-    (had : N) : Type 0 where
-  pub beside : IsBeside sent.grid cells
-  pub within : owner < sent.grid.size.nodes
-  pub low_count : length sent.low.now ≡ sent.grid.size.nodes
-  pub high_count : length sent.high.now ≡ sent.grid.size.nodes
-  pub covered : HasNoneAbove (cell (map number cells) sent.grid.size.nodes) sent.grid.size.keys owner (number had)
-
--- its numbers once it took that, and the greatest of them then, which was another one before
+-- an owner's numbers once it took what is sent, and the greatest of them then, which was another one before
 pub record HasTakenOwner {N : Type 0} (number : N → ℕ) (sent : Sent N) (owner : ℕ) (old : List N) (had : N)
     (new : List N) (now : N) : Type 0 where
   pub cells : ArePlanesChanged (λ r k x y. y ≡ (if r == owner then taken_by number sent r k x else x))

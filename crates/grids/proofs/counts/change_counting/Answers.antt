@@ -1,19 +1,20 @@
-use Rattle.grids.proofs.Common.{refl, arith, map, counted-same}
+use Rattle.grids.proofs.Common.{◌≡◌, ◌+◌, ◌-◌, arith, length}
+use Rattle.grids.proofs.Counted.{counted_none, counted_joined}
 use Rattle.grids.proofs.counts.change_counting.Goals as goal
+
+pub loop-numbers-init : goal.loop-numbers-init
+loop-numbers-init g c = record { within = omega arith; counted = counted_none g.N.Number.number _ c.args.numbers.now 0 }
 
 pub loop-numbers-preserved : goal.loop-numbers-preserved
 loop-numbers-preserved g c = record {
   within = omega arith;
-  upto = omega arith;
-  done = λ made test is.
-      c.change_some_counting-count.ensures.done made test (λ r n both lt. is r n both (omega arith)) _ _ (c.loop-numbers.invariant.done made test is);
+  counted = counted_joined g.N.Number.number _ _ _ _ 0 _ _ _ _ _ c.loop-numbers.invariant.counted c.change_some_counting-part.ensures (omega arith)
+      c.loop-numbers.auto.numbers;
 }
 
 pub returns : goal.returns
-returns g c = record {
-  upto = omega arith;
-  done = λ made test is.
-      counted-same _ (map g.N.Number.number c.args.numbers.now) _ _ _ _ _ _
-      (c.change_some_counting.ensures.done made test (λ r n both lt. is r n both (omega arith)) _ _ (c.loop-numbers.invariant.done made test is))
-      (omega arith) refl;
-}
+returns g c =
+    let whole : c.loop-numbers.from + (length c.loop-numbers.numbers - c.loop-numbers.from) ≡ length c.args.numbers.now = omega arith in
+    rw (← whole)
+    (counted_joined g.N.Number.number _ _ _ _ 0 _ _ _ _ _ c.loop-numbers.invariant.counted c.change_some_counting-part-2.ensures (omega arith)
+    c.loop-numbers.auto.numbers)

@@ -1,24 +1,35 @@
-use Rattle.grids.proofs.Common.{ℕ, ◌+◌, ◌<◌, ap, ◌∙◌, arith, length, if◌then◌else◌, number-waits, counted_next, counted-same, one_le}
+use Rattle.grids.proofs.Common.{◌≡◌, ℕ, ◌+◌, ◌<◌, ap, ◌∙◌, arith, length, length-map, if◌then◌else◌, number-waits, written_next, count_next, one_le}
+use Rattle.grids.proofs.Counted.{changed-same, counted_none}
 use Rattle.grids.proofs.counts.change_some_counting.Goals as goal
+
+pub loop-i-init : goal.loop-i-init
+loop-i-init g c = rw (c.zero-first.ensures, c.zero-second.ensures) (counted_none g.N.Number.number _ c.args.numbers.now c.args.from)
 
 pub loop-i-preserved : goal.loop-i-preserved
 loop-i-preserved g c =
+    let number = g.N.Number.number in
+    let held = c.loop-i.invariant in
     let at : ℕ = c.args.from + c.loop-i.i in
     let within : at < length c.args.numbers.now = omega arith in
+    let n = c.index-numbers-r.result in
+    let all = c.to-number.result in
     record {
-      upto = omega (arith, one_le c.to-number.result.1);
-      done = λ made test is old count before.
-          let part = c.loop-i.invariant.done made test is old count before in
-          let number = number-waits _ old g.N.Number.number c.loop-i.numbers at c.index-numbers-r.result part.numbers (omega arith) c.index-numbers-r.is in
-          let both = is at c.index-numbers-r.result c.to-number.result within c.to-number.ensures in
-          counted_next _ old _ g.N.Number.number c.loop-i.numbers at _ count _ _ _ c.to-number.result.0 part (omega arith) (omega arith)
-          (both.0 ∙ ap (made at) number) c.plus-count.ensures (λ i. if (both.1 ∙ ap (test at) number) i then 1 else 0);
+      first_upto = omega (arith, one_le all.1);
+      second_upto = omega (arith, one_le all.2);
+      numbers = λ made is old before.
+          let part = held.numbers made is old before in
+          let was = number-waits _ old number c.loop-i.numbers at n part (omega arith) c.index-numbers-r.is in
+          changed-same _ old _ _ _ (written_next _ old number c.loop-i.numbers at all.0 part (omega (arith, part.size, length-map c.loop-i.numbers number))
+          (is at n all within c.to-number.ensures ∙ ap (made at) was)) (omega arith);
+      first = λ test is before was.
+          count_next _ at _ before _ _ (held.first test is before was) (omega arith) c.plus-first.ensures
+          (ap (λ b. if b then 1 else 0) (is at n all within c.to-number.ensures));
+      second = λ test is before was.
+          count_next _ at _ before _ _ (held.second test is before was) (omega arith) c.plus-second.ensures
+          (ap (λ b. if b then 1 else 0) (is at n all within c.to-number.ensures));
     }
 
 pub returns : goal.returns
-returns g c = record {
-  upto = omega arith;
-  done = λ made test is old count before.
-      counted-same _ old _ _ _ _ _ _ (c.loop-i.invariant.done made test is old count before)
-      (omega arith) (omega arith);
-}
+returns g c =
+    let all : c.loop-i.i ≡ c.args.size = omega arith in
+    rw (← all, c.widen.ensures, c.widen-2.ensures) c.loop-i.invariant

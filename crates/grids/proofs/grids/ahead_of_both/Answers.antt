@@ -1,16 +1,45 @@
-use Rattle.grids.proofs.Common.{◌∙◌, with_items_is, length-map}
+use Rattle.grids.proofs.Common.{ℕ, ◌+◌, ◌*◌, ◌-◌, ◌≤◌, drop, length-drop, length-take-le, ap, ◌∙◌, arith, length, map, max, nat_lt, slice_index, length-map, with_items_is, cell, number_ahead, plane-within}
+use Rattle.grids.proofs.Counted.{counted-as, planes_counted-next, planes_counted-all, total-kept}
 use Rattle.grids.proofs.grids.ahead_of_both.Goals as goal
+
+pub loop-key-preserved : goal.loop-key-preserved
+loop-key-preserved g c =
+    let number = g.N.Number.number in
+    let nodes = c.args.grid.size.nodes in
+    let key = c.loop-key.key in
+    let plane = slice_index (map number c.plane_of-plane.result.now) in
+    let of_peer = slice_index (map number c.plane_of-of_peer.result.now) in
+    let low = slice_index (map number c.args.peer.low.now) in
+    let kept = c.change_counting-kept.ensures in
+    let within = plane-within nodes c.args.grid.size.keys (length c.args.grid.cells.now) key c.requires.peer.marks.shape c.loop-key-test.true in
+    let room : key * nodes + nodes ≤ length (map number c.deref_mut-all.result.now) =
+    omega (arith, within, ap (λ xs. length (map number xs)) c.deref_mut-all.ensures.value, c.in_ok-numbers.ensures.zeros.size) in
+    let start : ℕ = key * nodes in
+    let block = length-take-le (start + nodes - start) (drop start c.loop-key.all)
+    (omega (arith, length-drop start c.loop-key.all, length-map c.deref_mut-all.result.now number)) in
+    let at_plane = c.plane_of-plane.ensures.each in
+    let at_peer = c.plane_of-of_peer.ensures.each in
+    record {
+      upto = omega arith;
+      kept =
+          planes_counted-next _ _ nodes _ number c.loop-key.all c.change_counting-kept.new.numbers key _ _ _ _ _ (omega arith) c.loop-key.invariant.kept room
+          (counted-as number _ _ _ _ _ kept (λ r x. number_ahead (plane r) (of_peer r) (low r)) (λ r. nat_lt (max (of_peer r) (low r)) (plane r))
+          (λ r n all lt called. called.0) (λ r n all lt called. called.1))
+          (λ r x y lt now. now ∙ (λ i. number_ahead (at_plane r lt i) (at_peer r lt i) (low r)))
+          (λ r lt i. nat_lt (max (at_peer r lt i) (low r)) (at_plane r lt i));
+    }
 
 pub returns-clause-ahead : goal.returns-clause-ahead
 returns-clause-ahead g c =
-    let kept = c.keep_ahead-count in
-    let items = with_items_is c.in_ok-numbers.numbers kept.new.numbers (kept.auto.numbers ∙ c.deref_mut.ensures.len) in
-    let whole = c.requires.peer.marks.shape.whole in
+    let number = g.N.Number.number in
+    let nodes = c.args.grid.size.nodes in
+    let all = planes_counted-all _ _ _ _ _ _ _ _ c.loop-key.invariant.kept c.loop-key-test.false c.loop-key.auto.key-end in
+    let cells = cell (map number c.args.grid.cells.now) nodes in
+    let peer = cell (map number c.args.peer.cells.now) nodes in
+    let size = ap (λ xs. length (map number xs)) c.deref_mut-all.ensures.value ∙ c.in_ok-numbers.ensures.zeros.size in
+    let items = with_items_is c.in_ok-numbers.numbers c.loop-key.all (c.loop-key.auto.all ∙ c.deref_mut-all.ensures.len) in
     record {
-      numbers = rw (items, ← c.in_ok-numbers.ensures.items, ← c.deref_mut.ensures.value) (record {
-        size = kept.ensures.numbers.size ∙ length-map c.deref_mut.result.now g.N.Number.number ∙ rw (c.deref_mut.ensures.value, c.in_ok-numbers.ensures.items) whole;
-        each = kept.ensures.numbers.each;
-      });
-      count = rw items kept.ensures.count;
+      numbers = rw items (record { size = all.0.size ∙ size ∙ c.requires.peer.marks.shape.whole; each = all.0.each });
+      count = rw items (total-kept nodes c.args.grid.size.keys cells peer _ _ _ _ all.1 all.0);
       held = c.count_held-held.ensures;
     }

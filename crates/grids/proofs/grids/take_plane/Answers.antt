@@ -1,4 +1,4 @@
-use Rattle.grids.proofs.Common.{◌&&◌, ◌<◌, length, nat_lt, nat_le, max, ◌∙◌, arith, if◌then◌else◌, length-map, number-at, number-waits, written_next}
+use Rattle.grids.proofs.Common.{◌&&◌, ◌<◌, length, nat_lt, nat_le, max, ◌∙◌, arith, if◌then◌else◌, length-map, changed_all, number-at, number-waits, written_next}
 use Rattle.grids.proofs.grids.take_plane.Goals as goal
 
 pub loop-r-preserved : goal.loop-r-preserved
@@ -23,4 +23,12 @@ loop-r-preserved g c =
       greatest =
           written_next _ _ number _ _ c.max_with.result c.loop-r.invariant.greatest (omega (arith, length-map c.args.greatest.now number))
           (c.max_with.ensures ∙ (λ i. max (most i) (kept i)));
+    }
+
+pub returns : goal.returns
+returns g c =
+    let number = g.N.Number.number in
+    record {
+      plane = changed_all _ _ _ _ c.loop-r.invariant.plane (omega (arith, length-map c.args.plane.now number));
+      greatest = changed_all _ _ _ _ c.loop-r.invariant.greatest (omega (arith, length-map c.args.greatest.now number));
     }

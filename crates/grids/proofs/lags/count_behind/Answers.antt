@@ -1,5 +1,5 @@
 use Rattle.grids.proofs.Common.{map, min, nat_lt, slice_index}
-use Rattle.grids.proofs.Counted.{places-counted}
+use Rattle.grids.proofs.Counted.{counted-as, places-counted}
 use Rattle.grids.proofs.lags.count_behind.Goals as goal
 
 pub returns : goal.returns
@@ -7,6 +7,9 @@ returns g c =
     let number = g.N.Number.number in
     let cells = slice_index (map number c.args.grid.cells.now) in
     let last = slice_index (map number c.args.last.now) in
-    let all = places-counted _ _ c.args.grid.size.nodes c.args.grid.size.keys _ _ _ c.change_counting.result c.requires.beside.beside.shape
-    (c.change_counting.ensures.done (λ i x. min x (cells i)) (λ i x. nat_lt (cells i) (last i)) (λ i n both lt call. call)) in
+    let behind = c.change_counting-behind in
+    let all =
+    places-counted _ _ c.args.grid.size.nodes c.args.grid.size.keys _ _ _ behind.result.0 c.requires.beside.beside.shape
+    (counted-as number _ _ _ _ _ behind.ensures (λ i x. min x (cells i)) (λ i. nat_lt (cells i) (last i)) (λ i n all lt called. called.0)
+    (λ i n all lt called. called.1)) in
     record { least = all.0; count = all.1 }

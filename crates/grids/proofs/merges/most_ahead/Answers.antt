@@ -1,16 +1,5 @@
-use Rattle.grids.proofs.Common.{◌≡◌, ℕ, List, Fits, w32, ◌-◌, ◌≤◌, min, slice_index, ◌∙◌, arith, MOST_NODES, MOST_KEYS, sum_below-most, number-at, sum_next}
-use Rattle.planes.specs.Planes.{most_ahead}
+use Rattle.grids.proofs.Common.{◌≡◌, ◌-◌, min, ◌∙◌, arith, number-at, sum_next}
 use Rattle.grids.proofs.merges.most_ahead.Goals as goal
-
-leads-fit : (nodes keys : ℕ) (numbers others : List ℕ) (sum : ℕ) → sum ≡ most_ahead nodes keys numbers others → nodes ≤ MOST_NODES → keys ≤ MOST_KEYS → Fits w32 sum
-leads-fit nodes keys numbers others sum is few_nodes few_keys =
-    omega (arith, sum_below-most (λ r. min keys (slice_index numbers r - slice_index others r)) nodes MOST_KEYS (λ r lt. omega arith))
-
-pub overflow_add-to_first : goal.overflow_add-to_first
-overflow_add-to_first g c = omega (arith, leads-fit c.loop-r.r _ _ _ _ c.loop-r.invariant.to_first (omega arith) c.requires.few_keys)
-
-pub overflow_add-to_second : goal.overflow_add-to_second
-overflow_add-to_second g c = omega (arith, leads-fit c.loop-r.r _ _ _ _ c.loop-r.invariant.to_second (omega arith) c.requires.few_keys)
 
 pub loop-r-preserved : goal.loop-r-preserved
 loop-r-preserved g c =
@@ -29,6 +18,8 @@ loop-from-preserved g c =
     let all : c.loop-r.r ≡ c.min-end.result = omega arith in
     record {
       within = omega arith;
+      first_upto = omega arith;
+      second_upto = omega arith;
       to_first = rw (← all) (omega (arith, c.loop-r.invariant.to_first));
       to_second = rw (← all) (omega (arith, c.loop-r.invariant.to_second));
     }

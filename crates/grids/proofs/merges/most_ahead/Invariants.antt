@@ -5,6 +5,8 @@ use Rattle.grids.proofs.merges.most_ahead.Given as goal
 abbrev pub invariant-loop-from : goal.invariant-loop-from
 invariant-loop-from g l = record {
   within : l.from ≤ length l.first;
+  first_upto : l.to_first ≤ l.from * MOST_KEYS;
+  second_upto : l.to_second ≤ l.from * MOST_KEYS;
   to_first : l.to_first ≡ most_ahead l.from l.keys (map g.N.Number.number l.second) (map g.N.Number.number l.first);
   to_second : l.to_second ≡ most_ahead l.from l.keys (map g.N.Number.number l.first) (map g.N.Number.number l.second);
 }

@@ -1,4 +1,4 @@
-use Rattle.grids.proofs.Common.{◌≡◌, ℕ, ◌+◌, ◌*◌, ◌<◌, nat_lt, max, sym, ◌∙◌, arith, rules, map, length, if◌then◌else◌, length-map, get_or-map, cell, number-at, count_le, sum_next, plane-within}
+use Rattle.grids.proofs.Common.{◌≡◌, ℕ, ◌+◌, ◌*◌, ◌<◌, nat_lt, max, sym, ◌∙◌, arith, rules, length, if◌then◌else◌, length-map, get_or-map, number-at, one_le, sum_next, plane-within, planes-all}
 use Rattle.grids.proofs.ByOwner.{owner-next}
 use Rattle.grids.proofs.owners.raise_owner.Goals as goal
 
@@ -23,10 +23,15 @@ loop-key-preserved g c =
       cells =
           owner-next _ _ _ _ c.requires.1 number _ c.loop-key.key c.raised_to.result held.cells (omega (arith, length-map c.args.cells.now number))
           (c.raised_to.ensures ∙ (λ i. max (at_cell i) (if above i then other i else 0)));
+      upto = omega (arith, bit, one_le c.is_above-is_above.result);
       count = sum_next _ c.loop-key.key c.loop-key.count c.from-count.result held.count (bit ∙ (λ i. if above i then 1 else 0));
     }
 
-pub overflow_add-count : goal.overflow_add-count
-overflow_add-count g c =
-    let others = cell (map g.N.Number.number c.args.others.cells.now) c.args.others.size.nodes in
-    omega (arith, (loop-key-preserved g c).count, count_le (c.loop-key.key + 1) (λ k. nat_lt (g.N.Number.number c.args.low) (others c.args.owner k)))
+pub returns : goal.returns
+returns g c =
+    let all : c.loop-key.key ≡ c.args.others.size.keys = omega arith in
+    record {
+      cells = planes-all _ _ _ _ c.args.others.size.keys c.loop-key.key c.loop-key.invariant.cells c.loop-key-test.false;
+      upto = omega arith;
+      count = rw (← all) c.loop-key.invariant.count;
+    }

@@ -1,4 +1,4 @@
-use Rattle.grids.proofs.Common.{number_taken, ◌≡◌, ℕ, ◌+◌, ◌*◌, ◌<◌, ◌&&◌, nat_lt, nat_le, slice_index, max, cond, sym, ap, ◌∙◌, arith, rules, map, length, length-map, get_or-map, cell, number-at, plane-within, raised-next}
+use Rattle.grids.proofs.Common.{number_taken, ◌≡◌, ℕ, ◌+◌, ◌*◌, ◌<◌, ◌&&◌, nat_lt, nat_le, slice_index, max, cond, sym, ap, ◌∙◌, arith, rules, map, length, length-map, get_or-map, cell, number-at, plane-within, planes-all, raised-next}
 use Rattle.grids.proofs.ByOwner.{owner-next, owner-stays}
 use Rattle.grids.proofs.owners.take_owner.Goals as goal
 use Rattle.grids.proofs.owners.take_owner.Goals.{then-is_between, else-is_between}
@@ -40,3 +40,11 @@ loop-key-preserved g c =
             greatest = raised-next _ key _ _ _ _ held.greatest (omega (arith, c.requires.covered key c.loop-key-test.true));
           })
     ]
+
+pub returns : goal.returns
+returns g c =
+    let all : c.loop-key.key ≡ c.args.sent.grid.size.keys = omega arith in
+    record {
+      cells = planes-all _ _ _ _ c.args.sent.grid.size.keys c.loop-key.key c.loop-key.invariant.cells c.loop-key-test.false;
+      greatest = rw (← all) c.loop-key.invariant.greatest;
+    }

@@ -1,5 +1,5 @@
 use Rattle.grids.proofs.Common.{ℕ, ◌≤◌, inl, refl, slice_index, sym, ◌∙◌, arith, map, ltb-false, length-map, cell, taken_by, number-at, number-waits, left_next, written_next}
-use Rattle.grids.proofs.ByOwner.{owner-waits, owners-next, owners-stay, raised-same, taken-passed}
+use Rattle.grids.proofs.ByOwner.{owner-waits, owners-all, owners-next, owners-stay, raised-same, taken-passed}
 use Rattle.grids.proofs.owners.take_owners.Goals as goal
 use Rattle.grids.proofs.owners.take_owners.Goals.{then-is_above, else-is_above}
 
@@ -39,19 +39,19 @@ loop-owner-preserved g c =
           })
     ]
 
-pub take_owner-requires : goal.take_owner-requires
-take_owner-requires g c =
+pub take_owner-requires-clause-covered : goal.take_owner-requires-clause-covered
+take_owner-requires-clause-covered g c k in_keys =
     let lt = c.loop-owner-test.true in
     let held = c.loop-owner.invariant in
     let r = c.loop-owner.owner in
     let had = number-waits _ _ g.N.Number.number c.loop-owner.greatest r c.index-greatest-owner.result held.greatest (omega arith) c.index-greatest-owner.is in
-    record {
-      beside = record {
-        shape = rw c.loop-owner.auto.cells c.requires.may.beside.shape;
-        count = omega arith;
-      };
-      within = lt;
-      low_count = c.requires.may.low_count;
-      high_count = c.requires.may.high_count;
-      covered = λ k in_keys. omega (arith, owner-waits _ _ _ _ r _ held.cells k lt in_keys, c.requires.may.covered r lt k in_keys);
-    }
+    omega (arith, owner-waits _ _ _ _ r _ held.cells k lt in_keys, c.requires.may.covered r lt k in_keys)
+
+pub returns : goal.returns
+returns g c = record {
+  cells = owners-all _ _ _ _ c.loop-owner.owner _ c.loop-owner-test.false c.loop-owner.invariant.cells;
+  greatest = record {
+    size = c.loop-owner.invariant.greatest.size ∙ length-map c.args.greatest.now g.N.Number.number ∙ c.requires.may.greatest_count;
+    each = λ r lt. c.loop-owner.invariant.greatest.below r (omega (arith, lt, c.loop-owner-test.false));
+  };
+}

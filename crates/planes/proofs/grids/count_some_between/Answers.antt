@@ -1,7 +1,7 @@
 use Rattle.planes.proofs.Common.{◌≡◌, ℕ, ◌<◌, ◌≤◌, ◌+◌, ◌*◌, ◌-◌, List, take, drop, length, get_or, map, slice_index, nat_lt, nat_le, if◌then◌else◌, refl, ap, ◌∙◌, arith, rules, nat_tests, length-map, one_more, cell, sum_below, sum_below-most, one_between, HasEach, HasRoomToCount}
 use Rattle.planes.proofs.Counts.{number_next}
 use Rattle.planes.proofs.Elementwise.{made-as}
-use Rattle.planes.proofs.Places.{each-next, each-whole, plane-within, window-at}
+use Rattle.planes.proofs.Places.{each-next, plane-within, window-at}
 use Rattle.planes.proofs.grids.count_some_between.Goals as goal
 
 -- of a part of the owners
@@ -95,6 +95,5 @@ returns-then-key-size g c =
 
 pub returns-else-key-size : goal.returns-else-key-size
 returns-else-key-size g c =
-    let f = is_counted g.N.Number.number c.args.grid.cells.now c.args.low.now c.args.high.now c.args.grid.size.nodes c.args.first (length c.args.counts.now) in
-    each-whole (λ k r n. n ≡ sum_below k (f r)) _ c.loop-key.key c.args.grid.size.keys _ c.if-key-size.false
-    c.loop-key.invariant.upto c.loop-key.invariant.each
+    let all : c.loop-key.key ≡ c.args.grid.size.keys = omega arith in
+    rw (← all) c.loop-key.invariant.each

@@ -1,7 +1,7 @@
-use Rattle.planes.proofs.Common.{◌≡◌, ◌<◌, nat_lt, slice_index, ◌∙◌, arith, map, if◌then◌else◌, with_items_is, length-map, cell, count_above}
+use Rattle.planes.proofs.Common.{◌≡◌, ◌<◌, nat_lt, slice_index, ◌∙◌, arith, map, if◌then◌else◌, with_items_is, length-map, cell}
 use Rattle.planes.proofs.Counts.{count_le, number_next}
 use Rattle.planes.proofs.Elementwise.{made-more}
-use Rattle.planes.proofs.Places.{each-next, each-whole}
+use Rattle.planes.proofs.Places.{each-next}
 use Rattle.planes.proofs.grids.counts_above.Goals as goal
 
 pub change-requires : goal.change-requires
@@ -9,7 +9,8 @@ change-requires g c = record {
   to = λ r n lt is.
       let number = g.N.Number.number in
       let in_nodes : r < c.args.grid.size.nodes = omega (arith, lt, c.loop-key.invariant.size, length-map c.loop-key.all number) in
-      let few = count_le c.loop-key.key (λ k. nat_lt (slice_index (map number c.args.low.now) r) (cell (map number c.args.grid.cells.now) c.args.grid.size.nodes r k)) in (
+      let cells = cell (map number c.args.grid.cells.now) c.args.grid.size.nodes in
+      let few = count_le c.loop-key.key (λ k. nat_lt (slice_index (map number c.args.low.now) r) (cells r k)) in (
         omega (arith, in_nodes, c.plane_of-plane.ensures.size, length-map c.plane_of-plane.result.now number),
         omega (arith, in_nodes, c.requires.marked.count),
         omega (arith, is, c.loop-key.invariant.each r in_nodes, few, c.loop-key-test.true, c.requires.marked.shape.few_keys, g.met.N.Number.counts_keys),
@@ -25,7 +26,5 @@ loop-key-preserved g c =
 
 pub returns-clause-counts : goal.returns-clause-counts
 returns-clause-counts g c =
-    let number = g.N.Number.number in
-    rw (with_items_is c.in_ok-counts.counts c.loop-key.all (c.loop-key.auto.all ∙ c.deref_mut-all.ensures.len))
-    (each-whole (λ key r n. n ≡ count_above (cell (map number c.args.grid.cells.now) c.args.grid.size.nodes) key r (slice_index (map number c.args.low.now) r))
-    c.args.grid.size.nodes c.loop-key.key c.args.grid.size.keys _ c.loop-key-test.false c.loop-key.auto.key-end c.loop-key.invariant)
+    let all : c.loop-key.key ≡ c.args.grid.size.keys = omega arith in
+    rw (with_items_is c.in_ok-counts.counts c.loop-key.all (c.loop-key.auto.all ∙ c.deref_mut-all.ensures.len), ← all) c.loop-key.invariant

@@ -1,4 +1,4 @@
-use Rattle.version_lags.proofs.Common.{◌≡◌, ◌+◌, ◌-◌, length, slice_index, refl, sym, subst, arith, IfOk-at_ok, HasCounted}
+use Rattle.version_lags.proofs.Common.{◌≡◌, ◌+◌, ◌-◌, length, slice_index, refl, sym, subst, arith, IfOk-at_ok, HasCounted, numbers_seen}
 use Rattle.std.proofs.lemmas.Option.{slice_get_read}
 use Rattle.version_lags.specs.Pieces.{ArePieces}
 use Rattle.version_lags.proofs.Parts.{grids-of}
@@ -24,6 +24,7 @@ take_in-requires g c =
     let are = c.requires.pieces in
     let i = c.loop-counted.counted-index in
     record {
+      v = numbers_seen g.N.Number.number c.args.numbers.now;
       grids = grids-of g.N.Number.number g.N.Number.most c.args.numbers.now c.requires.are.0 c.requires.are.1;
       from = 0;
       mid = slice_index are.bounds i;
@@ -34,7 +35,8 @@ take_in-requires g c =
     }
 
 pub loop-counted-preserved : goal.loop-counted-preserved
-loop-counted-preserved g c are = c.take_in.ensures 0 _ _ (c.loop-counted.invariant are) (next g c.before are)
+loop-counted-preserved g c are =
+    c.take_in.ensures _ 0 _ _ (grids-of _ g.N.Number.most c.args.numbers.now _ c.requires.are.1) (c.loop-counted.invariant are) (next g c.before are)
 
 pub figures-requires : goal.figures-requires
 figures-requires g c =

@@ -1,13 +1,14 @@
 -- How far a comparison of the modes has been written.
--- Serves `compare` and `write_comparison`.
-use Rattle.runs.proofs.Common.{◌≡◌, ℕ, zero, suc, ◌+◌, ◌<◌, ◌≤◌, ◌++◌, ◌∷◌, [], List, length, take, drop, get_or, inl, inr, refl, sym, ap, ◌∙◌, subst, append_assoc, arith, add-one, drop-cons, take-append-drop, flat_map-append, append-nil, take_all, take_more, flat_map, map-range_with_len_more, Mode, Fault, modes, compare_header_line, compare_line, compare_lines, IsWritten, IsWriteFault, Settings, with_mode, row_in}
+-- Serves `compare`, `write_comparison` and `write_mode`.
+use Rattle.runs.proofs.Common.{Ok, Err, Result, ◌≡◌, ℕ, zero, suc, ◌+◌, ◌<◌, ◌≤◌, ◌++◌, ◌∷◌, [], List, length, take, drop, get_or, inl, inr, refl, sym, ap, ◌∙◌, subst, append_assoc, arith, add-one, drop-cons, take-append-drop, flat_map-append, append-nil, take_all, take_more, flat_map, map-range_with_len_more, Mode, Fault, modes, compare_header_line, compare_line, compare_lines, IsWritten, IsWriteFault, Settings, with_mode, row_in}
 use Rattle.bench_types.specs.declared.sinks.Sink.{Ghosts as Sink}
 use Rattle.runs.specs.declared.outputs.ModeRows.{ModeRows}
 use Rattle.runs.specs.Comparisons.{lines_upto, lines_under, comparison_of, comparison_text, IsComparingFault, IsFaultInLines}
 use Rattle.runs.specs.Reports.{rows_upto}
 use Rattle.runs.specs.Runs.{IsFaultAfter}
 use Rattle.runs.specs.inner.Outputs.{KeepsRows, WritesRow, StopsInRow}
-use Rattle.runs.specs.inner.Rounds.{AreWrittenInTurn, StopsInTurn, IsFaultInTurn}
+use Rattle.runs.specs.inner.Lines.{AnswersLines}
+use Rattle.runs.specs.inner.Rounds.{AnswersRounds, AreWrittenInTurn, StopsInTurn, IsFaultInTurn}
 use Rattle.runs.proofs.Turns.{fault_told}
 use Rattle.runs.proofs.Texts.{written_then}
 
@@ -73,21 +74,29 @@ module _ {W : Type 0} (sink : Sink W) (s : Settings) (start : W) (old : ModeRows
         let upto = lines_written now s.rounds written in
         subst (λ w. IsWritten sink start w (whole ++ lines_upto s s.rounds)) (sym (writer (sym upto.0.writer))) upto.1
 
+-- what comes of the rounds is what comes of the lines
+pub lines_of_rounds : {W : Type 0} (sink : Sink W) (s : Settings) (old now : ModeRows W) (end : W) (workers : ℕ) (answer : Result Settings Fault)
+    → AnswersRounds (WritesRow sink) (StopsInRow sink) s old now workers answer → old.format ≡ s.format → old.mode ≡ s.mode
+    → (old.writer.ghost_name ≡ now.writer.ghost_name → end ≡ now.writer.now) → AnswersLines sink old.writer.now end s workers answer
+lines_of_rounds sink s old now end workers (Ok back) all format mode writer = record {
+  same = all.same;
+  written = λ start whole before. all_lines sink s start old whole format mode before now end writer all.written;
+  fault = tt;
+}
+lines_of_rounds sink s old now end workers (Err fault) all format mode writer = record {
+  same = tt;
+  written = tt;
+  fault = λ start whole before. stops_in_lines sink s start old whole format mode before now end writer workers fault all.fault;
+}
+
 -- the lines of so many modes are written, and the scenario at hand differs in its mode alone
 pub record AreModesWritten {W : Type 0} (sink : Sink W) (start now : W) (s current : Settings) (i : ℕ) : Type 0 where
   pub same : (mode : Mode) → with_mode current mode ≡ with_mode s mode
   pub written : IsWritten sink start now (comparison_of s (take i modes))
 
--- rows of a mode begin where a sink has come to
-pub record AreRowsOf {W : Type 0} (old : ModeRows W) (now : W) (format : ℕ) (mode : Mode) : Type 0 where
-  pub here : old.writer.now ≡ now
-  pub format_is : old.format ≡ format
-  pub mode_is : old.mode ≡ mode
-
 -- the next mode
 module _ {W : Type 0} (sink : Sink W) (start now end : W) (s current under : Settings) (i : ℕ) (d : Mode)
-    (so_far : AreModesWritten sink start now s current i) (below : i < length modes) (under_is : under ≡ with_mode current (get_or modes i d))
-    (old after : ModeRows W) where
+    (so_far : AreModesWritten sink start now s current i) (below : i < length modes) (under_is : under ≡ with_mode current (get_or modes i d)) where
   abbrev next_mode : Mode
   next_mode = get_or modes i d
 
@@ -107,35 +116,24 @@ module _ {W : Type 0} (sink : Sink W) (start now end : W) (s current under : Set
       ∙ sym (append_assoc (compare_header_line s.format) (flat_map (lines_under s) (take i modes)) (lines_under s next_mode ++ []))
       ∙ ap (λ l. whole ++ l) (append-nil (lines_under s next_mode))
 
-  module _ (rows : AreRowsOf old now s.format next_mode) where
-    format_here : old.format ≡ under.format
-    format_here = rows.format_is ∙ sym (ap (λ (t : Settings). t.format) is_under)
-
-    mode_here : old.mode ≡ under.mode
-    mode_here = rows.mode_is ∙ sym (ap (λ (t : Settings). t.mode) is_under)
-
-    before : IsWritten sink start old.writer.now whole
-    before = subst (λ w. IsWritten sink start w whole) (sym rows.here) so_far.written
-
-  pub stops_in_mode : (workers : ℕ) (fault : Fault) → IsFaultInTurn (WritesRow sink) (StopsInRow sink) under old after workers fault
-      → AreRowsOf old now s.format next_mode
-      → (old.writer.ghost_name ≡ after.writer.ghost_name → end ≡ after.writer.now) → IsComparingFault sink start end s workers fault
-  stops_in_mode workers fault stop rows writer = inr (record {
+  pub stops_in_mode : (workers : ℕ) (fault : Fault)
+      → ((start : W) (whole : List ℕ) → IsWritten sink start now whole → IsFaultInLines sink start end whole under workers fault)
+      → IsComparingFault sink start end s workers fault
+  stops_in_mode workers fault stop = inr (record {
     done = take i modes;
     next = next_mode;
     rest = drop (i + 1) modes;
     order = parted;
-    stops = subst (λ (t : Settings). IsFaultInLines sink start end whole t workers fault) is_under
-        (stops_in_lines sink under start old whole (format_here rows) (mode_here rows) (before rows) after end writer workers fault stop);
+    stops = subst (λ (t : Settings). IsFaultInLines sink start end whole t workers fault) is_under (stop start whole so_far.written);
   })
 
-  pub modes_more : (back : Settings) → back ≡ under → AreWrittenInTurn (WritesRow sink) under old after under.rounds → AreRowsOf old now s.format next_mode
-      → (old.writer.ghost_name ≡ after.writer.ghost_name → end ≡ after.writer.now) → AreModesWritten sink start end s back (i + 1)
-  modes_more back back_is written rows writer = record {
+  pub modes_more : (back : Settings) → back ≡ under
+      → ((start : W) (whole : List ℕ) → IsWritten sink start now whole → IsWritten sink start end (whole ++ lines_upto under under.rounds))
+      → AreModesWritten sink start end s back (i + 1)
+  modes_more back back_is written = record {
     same = λ mode. ap (λ (t : Settings). with_mode t mode) (back_is ∙ is_under);
     written = subst (IsWritten sink start end) (sym modes_next)
-        (subst (λ (t : Settings). IsWritten sink start end (whole ++ lines_upto t t.rounds)) is_under
-        (all_lines sink under start old whole (format_here rows) (mode_here rows) (before rows) after end writer written));
+        (subst (λ (t : Settings). IsWritten sink start end (whole ++ lines_upto t t.rounds)) is_under (written start whole so_far.written));
   }
 
 -- before the first mode the header is written, and behind the last one the whole text

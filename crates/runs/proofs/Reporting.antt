@@ -1,5 +1,5 @@
 -- How far the report and the trace have been written.
--- Serves `write_run`.
+-- Serves `write_headers` and `write_run`.
 use Rattle.runs.proofs.Common.{◌≡◌, ℕ, zero, suc, ◌+◌, ◌++◌, ◌∷◌, [], inl, inr, refl, sym, ap, ◌∙◌, subst, transport, append_assoc, arith, add-one, flat_map-append, range_with_len, append-nil, map-id, map-range_with_len_more, Fault, IsWritten, IsWriteFault, trace_header_line, report_header_line, report_line, report_lines, Settings, row_in}
 use Rattle.bench_types.specs.declared.sinks.Sink.{Ghosts as Sink}
 use Rattle.runs.specs.declared.outputs.ReportAndTrace.{ReportAndTrace}
@@ -30,18 +30,20 @@ trace_more s rounds =
     ∙ sym (append_assoc trace_header_line (traces_upto s rounds) (trace_in s (rounds + 1) ++ []))
     ∙ ap (λ lines. trace_upto s rounds ++ lines) (append-nil (trace_in s (rounds + 1)))
 
+-- both headers
+pub headers_written : {W X : Type 0} (sink : Sink W) (sink' : Sink X) (s : Settings) (start end : W) (start' end' : X) (format : ℕ) → format ≡ s.format
+    → IsWritten sink start end (report_header_line format) → IsWritten sink' start' end' trace_header_line → AreWrittenUpto sink start end sink' start' end' s 0
+headers_written sink sink' s start end start' end' format is report trace = record {
+  report = subst (IsWritten sink start end) (ap report_header_line is ∙ sym (append-nil (report_header_line s.format))) report;
+  trace = subst (IsWritten sink' start' end') (sym (append-nil trace_header_line)) trace;
+}
+
 -- what is kept in two steps
 kept_then : {W X : Type 0} (old now new : ReportAndTrace W X) → KeepsTexts old now → KeepsTexts now new → KeepsTexts old new
 kept_then old now new first second = record { format = second.format ∙ first.format; writer = second.writer ∙ first.writer; trace = second.trace ∙ first.trace }
 
--- both headers are written
-pub record HaveHeaders {W X : Type 0} (sink : Sink W) (sink' : Sink X) (s : Settings) (start : W) (start' : X) (old : ReportAndTrace W X) : Type 0 where
-  pub format_is : old.format ≡ s.format
-  pub report : IsWritten sink start old.writer.now (report_header_line old.format)
-  pub trace : IsWritten sink' start' old.trace.now trace_header_line
-
 module _ {W X : Type 0} (sink : Sink W) (sink' : Sink X) (s : Settings) (start : W) (start' : X) (old : ReportAndTrace W X)
-    (headers : HaveHeaders sink sink' s start start' old) where
+    (format : old.format ≡ s.format) (headers : AreWrittenUpto sink start old.writer.now sink' start' old.trace.now s 0) where
   abbrev Upto : ReportAndTrace W X → ℕ → Type 0
   Upto now rounds = AreWrittenUpto sink start now.writer.now sink' start' now.trace.now s rounds
 
@@ -51,7 +53,7 @@ module _ {W X : Type 0} (sink : Sink W) (sink' : Sink X) (s : Settings) (start :
   report_next now new rounds kept so_far row =
       subst (IsWritten sink start new) (sym (report_more s rounds))
       (written_then sink start now.writer.now new (report_upto s rounds) (report_line s.format (row_in s (rounds + 1))) so_far
-      (subst (λ f. IsWritten sink now.writer.now new (report_line f (row_in s (rounds + 1)))) (kept.format ∙ headers.format_is) row))
+      (subst (λ f. IsWritten sink now.writer.now new (report_line f (row_in s (rounds + 1)))) (kept.format ∙ format) row))
 
   trace_next : (now : ReportAndTrace W X) (new : X) (rounds : ℕ) → IsWritten sink' start' now.trace.now (trace_upto s rounds)
       → IsWritten sink' now.trace.now new (trace_in s (rounds + 1)) → IsWritten sink' start' new (trace_upto s (rounds + 1))
@@ -62,15 +64,7 @@ module _ {W X : Type 0} (sink : Sink W) (sink' : Sink X) (s : Settings) (start :
   -- what was written round by round are the two texts
   texts_upto : (now : ReportAndTrace W X) (rounds : ℕ) → AreWrittenInTurn (WritesTexts sink sink') s old now rounds → KeepsTexts old now × Upto now rounds
   texts_upto now zero same =
-      subst (λ n. KeepsTexts old n × Upto n 0) (sym same) (
-        record { format = refl; writer = refl; trace = refl },
-        record {
-          report = subst (IsWritten sink start old.writer.now)
-              (ap report_header_line headers.format_is ∙ sym (append-nil (report_header_line s.format))) headers.report;
-          trace = subst
-              (IsWritten sink' start' old.trace.now) (sym (append-nil trace_header_line)) headers.trace;
-        },
-      )
+      subst (λ n. KeepsTexts old n × Upto n 0) (sym same) (record { format = refl; writer = refl; trace = refl }, headers)
   texts_upto now (suc rounds) (before, so_far, next) =
       let upto = texts_upto before rounds so_far in
       let step = rw (← add-one) at next in (
@@ -95,7 +89,7 @@ module _ {W X : Type 0} (sink : Sink W) (sink' : Sink X) (s : Settings) (start :
           before.writer.now,
           upto.1.report,
           subst (λ f. IsWriteFault sink before.writer.now now.writer.now (report_line f (row_in s (rounds + 1)))
-              fault) (upto.0.format ∙ headers.format_is) row.1,
+              fault) (upto.0.format ∙ format) row.1,
         )
       ]
 
@@ -109,21 +103,22 @@ module _ {W X : Type 0} (sink : Sink W) (sink' : Sink X) (s : Settings) (start :
 -- what stands behind the ends, once they are given back
 module _ {W X : Type 0} (sink : Sink W) (sink' : Sink X) (s : Settings) (start : W) (start' : X) (old now : ReportAndTrace W X) (end : W) (end' : X) where
   pub stops_in_texts : (workers : ℕ) (fault : Fault) → IsFaultInTurn (WritesTexts sink sink') (StopsInTexts sink sink') s old now workers fault
-      → HaveHeaders sink sink' s start start' old
+      → old.format ≡ s.format → AreWrittenUpto sink start old.writer.now sink' start' old.trace.now s 0
       → (old.writer.ghost_name ≡ now.writer.ghost_name → end ≡ now.writer.now) → (old.trace.ghost_name ≡ now.trace.ghost_name → end' ≡ now.trace.now)
       → IsWritingFault sink start end sink' start' end' s workers fault
-  stops_in_texts workers fault stop headers writer trace =
-      let kept = kept_at_fault sink sink' s start start' old headers now workers fault stop in
+  stops_in_texts workers fault stop format headers writer trace =
+      let kept = kept_at_fault sink sink' s start start' old format headers now workers fault stop in
       transport (λ i. IsWritingFault sink start (sym (writer (sym kept.writer)) i) sink' start' (sym (trace (sym kept.trace)) i) s workers fault)
-      (in_rounds (fault_told (λ rounds written. (texts_upto sink sink' s start start' old headers now rounds written).1)
-      (stops_in_round sink sink' s start start' old headers now fault) stop))
+      (in_rounds (fault_told (λ rounds written. (texts_upto sink sink' s start start' old format headers now rounds written).1)
+      (stops_in_round sink sink' s start start' old format headers now fault) stop))
 
-  pub texts_written : AreWrittenInTurn (WritesTexts sink sink') s old now s.rounds → HaveHeaders sink sink' s start start' old
+  pub texts_written : AreWrittenInTurn (WritesTexts sink sink') s old now s.rounds
+      → old.format ≡ s.format → AreWrittenUpto sink start old.writer.now sink' start' old.trace.now s 0
       → (old.writer.ghost_name ≡ now.writer.ghost_name → end ≡ now.writer.now) → (old.trace.ghost_name ≡ now.trace.ghost_name → end' ≡ now.trace.now)
       → AreWritten sink start end sink' start' end' s
   unfolding report_text trace_text
-  texts_written written headers writer trace =
-      let upto = texts_upto sink sink' s start start' old headers now s.rounds written in
+  texts_written written format headers writer trace =
+      let upto = texts_upto sink sink' s start start' old format headers now s.rounds written in
       record {
         report = subst (λ w. IsWritten sink start w (report_upto s s.rounds)) (sym (writer (sym upto.0.writer))) upto.1.report;
         trace = subst (λ x. IsWritten sink' start' x (trace_upto s s.rounds)) (sym (trace (sym upto.0.trace))) upto.1.trace;

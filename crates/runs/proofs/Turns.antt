@@ -2,7 +2,7 @@
 -- Serves the functions of `rounds` and `sizes`, `Comparison` and `Reporting`.
 use Rattle.runs.proofs.Common.{◌≡◌, ℕ, ◌+◌, ◌<◌, ◌≤◌, Result, Ok, Err, inl, inr, refl, sym, ap, ◌∙◌, subst, arith, add-one, false, IsErrAnd, Fault, Table, IsFaultOfWorkers, Settings, RoundView, SimView, PlaysNext, IsStepFault, played_of}
 use Rattle.runs.specs.Runs.{IsFaultInRounds}
-use Rattle.runs.specs.inner.Rounds.{AreWrittenInTurn, IsFaultInTurn, AnswersRounds, StopsNext, WritesNext}
+use Rattle.runs.specs.inner.Rounds.{AreWrittenInTurn, IsFaultInTurn, AnswersRounds, StopsNext, WritesAll, WritesNext}
 
 -- where a round is left and none has failed, the fault of a step is that of its workers
 step_fault : {T : Type 0} (workers : ℕ) (sim sim' : SimView T) (fault : Fault) → sim.broken ≡ false → sim.rounds_done < sim.settings.rounds
@@ -98,10 +98,23 @@ module _ {O : Type 0} (Wrote : O → O → RoundView → Type 0) (Stops : O → 
   stops_at_first workers fault some of_workers = record { rounds = 0; within = some; stops = inl (of_workers, refl) }
 
   -- all were
-  pub all_written : {T : Type 0} (now : O) (sim : SimView T) (rounds workers : ℕ) (back : Settings) → HaveRun now sim rounds → rounds ≡ s.rounds
-      → back ≡ sim.settings → AnswersRounds Wrote Stops s old now workers (Ok back)
-  all_written now sim rounds workers back so_far all is =
-      record { same = is ∙ so_far.settings; written = subst (AreWrittenInTurn Wrote s old now) all so_far.written; fault = tt }
+  pub all_written : {T : Type 0} (now : O) (sim sim' : SimView T) (rounds : ℕ) → sim.settings ≡ s → HaveRun now sim' rounds → s.rounds ≤ rounds
+      → rounds ≤ s.rounds
+      → WritesAll Wrote sim sim' old now
+  all_written now sim sim' rounds begun so_far low high = record {
+    settings = so_far.settings ∙ sym begun;
+    written = subst (λ (t : Settings). AreWrittenInTurn Wrote t old now t.rounds) (sym begun)
+        (subst (AreWrittenInTurn Wrote s old now) (omega (arith, low, high)) so_far.written);
+  }
+
+  -- so the scenario that a simulation was begun with comes back
+  pub answers_all : {T : Type 0} (now : O) (sim sim' : SimView T) (workers : ℕ) (back : Settings) → sim.settings ≡ s
+      → WritesAll Wrote sim sim' old now → back ≡ sim'.settings → AnswersRounds Wrote Stops s old now workers (Ok back)
+  answers_all now sim sim' workers back begun all is = record {
+    same = is ∙ all.settings ∙ begun;
+    written = subst (λ (t : Settings). AreWrittenInTurn Wrote t old now t.rounds) begun all.written;
+    fault = tt;
+  }
 
   -- what fewer workers answer
   pub answers_of_fewer : (now : O) (fewer workers : ℕ) (answer : Result Settings Fault) → fewer ≤ workers

@@ -2,3 +2,4 @@ pub mod Starts
 pub mod Writes
 pub mod Rounds
 pub mod Outputs
+pub mod Lines

@@ -5,6 +5,7 @@ ghost use Rattle.bench_types.specs.Output.{IsWritten};
 ghost use Rattle.runs.specs.Runs.{TellsOfFailing, ComesOnceAccepted};
 ghost use Rattle.runs.specs.Comparisons.{comparison_text, IsComparingFault, IsCompared, IsCompareFault};
 ghost use Rattle.model.specs.Runs.{AreWorkers};
+ghost use Rattle.runs.specs.inner.Lines.{AnswersLines};
 
 use crate::outputs::ModeRows;
 use crate::resources::Resources;
@@ -52,20 +53,26 @@ fn write_comparison<H: Threads + Wait + Sync, W: Sink>(
     ensures fault { IfErr result
         (IsComparingFault W.Sink writer.old writer.new scenario resources.now.workers) }
 {
-    let format = scenario.format();
-    compare_header(resources.alloc, writer, format)?;
+    compare_header(resources.alloc, writer, scenario.format())?;
     for mode in Mode::ALL {
-        let mut output = ModeRows {
-            alloc: resources.alloc,
-            format,
-            mode,
-            writer: &mut *writer,
-        };
-        scenario = write_rounds::<Brand, H, ModeRows<W>>(
-            resources,
-            scenario.with_mode(mode),
-            &mut output,
-        )?;
+        scenario = write_mode(resources, scenario.with_mode(mode), writer)?;
     }
     Ok(())
+}
+
+// The rows of a scenario's rounds under its own mode. The scenario comes back.
+fn write_mode<H: Threads + Wait + Sync, W: Sink>(
+    resources: &Resources<H>,
+    scenario: Scenario,
+    writer: &mut W,
+) -> Result<Scenario, Fault>
+    ensures { AnswersLines W.Sink writer.old writer.new scenario resources.now.workers result }
+{
+    let mut output = ModeRows {
+        alloc: resources.alloc,
+        format: scenario.format(),
+        mode: scenario.mode(),
+        writer,
+    };
+    write_rounds::<Brand, H, ModeRows<W>>(resources, scenario, &mut output)
 }

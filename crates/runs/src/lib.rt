@@ -9,8 +9,9 @@
 //!   so, whatever memory is left.
 //! - Report and trace are functions of the settings. `report_text`, `trace_text` and what they stand on have no table
 //!   in memory and no list in them, so the contract of `run` can be read without the code.
-//! - `run` takes the runtime by reference, as `step` does, for the workers and for the threads of a round's figures.
-//!   They may wait. `run` and `compare` call no gate, so they pass `FreeGate`, where `step` takes any.
+//! - `run` takes the runtime by reference, as `Sim::of_by` and `step` do, for the threads that make the tables, for the
+//!   workers and for the threads of a round's list and figures. Workers may wait. `run` and `compare` call no gate, so
+//!   they pass `FreeGate`, where `step` takes any.
 //! - A run and a comparison are one loop over the rounds (`rounds.rt`) and differ in what each round is written to
 //!   (`outputs.rt`). What that holds by reference stays the same, which its relations say: else no caller would know
 //!   what becomes of its ends.

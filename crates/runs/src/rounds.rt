@@ -3,7 +3,7 @@
 ghost use Rattle.std.specs.Prelude.{◌≡◌, OnOk, IfErr};
 ghost use Rattle.simulation.specs.calls.Simulation.{MayWriteAll};
 ghost use Rattle.runs.specs.inner.Starts.{AnswersBegun, IsAtStart, IsBegun};
-ghost use Rattle.runs.specs.inner.Rounds.{AnswersRounds, StopsNext, WritesNext};
+ghost use Rattle.runs.specs.inner.Rounds.{AnswersRounds, IsFaultInTurn, StopsNext, WritesAll, WritesNext};
 
 use crate::resources::Resources;
 use bench_types::Fault;
@@ -33,19 +33,91 @@ pub(crate) trait RoundWriter {
 }
 
 /// Carries out each round of a scenario over tables and histories of one kind, and writes it. The scenario comes back.
+/// The threads of the workers live for all rounds.
 pub(crate) fn write_over<
+    'b,
     T: MemoryTable + Send + Sync,
     K: RoundHistories<T> + Send,
     H: Threads + Wait + Sync,
     O: RoundWriter,
->(resources: &Resources<H>, scenario: Scenario, output: &mut O) -> Result<Scenario, Fault>
+>(resources: &Resources<H>, scenario: Scenario, output: &'b mut O) -> Result<Scenario, Fault>
     requires may_write { MayWriteAll K.may_write scenario }
     ensures { AnswersRounds O.wrote O.stops scenario output.old output.new resources.now.workers result }
 {
+    // (there is a first round, for which memory or a thread may be lacking)
+    let _rounds = scenario.rounds();
+    let Resources { rt, alloc, workers } = *resources;
+    let posts: Posts<T, K, FreeGate, K::Job> = Posts::new(alloc, workers)?;
+    let by = &posts;
+    let lent = Lent { scenario, output };
+    let done = posts.with_threads(
+        rt,
+        lent,
+        move |lent|
+            requires { MayWriteAll K.may_write lent.scenario }
+            ensures name { result.0.ghost_name ≡ lent.entry.output.ghost_name }
+            ensures answers { AnswersRounds O.wrote O.stops lent.entry.scenario lent.entry.output.now
+                result.0.now by.entry.now result.1 }
+        {
+            let Lent { scenario, output } = lent;
+            let resources = Resources {
+                rt,
+                alloc,
+                workers: by.workers(),
+            };
+            let answer = write_by(&resources, by, scenario, output);
+            (output, answer)
+        },
+    );
+    match done {
+        Ok((output, answer)) => {
+            take_back(output);
+            answer
+        }
+        Err(
+            Lent {
+                scenario: _scenario,
+                output,
+            },
+        ) => {
+            take_back(output);
+            Err(Fault::NoThread)
+        }
+    }
+}
+
+// A scenario, and what its rounds are written to.
+#[derive(Drop)]
+struct Lent<'a, O> {
+    scenario: Scenario,
+    output: &'a mut O,
+}
+
+// Does nothing, but this use of a reference that came back ties it to the parameter that lent it.
+fn take_back<O>(output: &mut O)
+    ensures { output.new ≡ output.old }
+{}
+
+// All rounds by workers that wait at posts.
+fn write_by<
+    T: MemoryTable + Send + Sync,
+    K: RoundHistories<T>,
+    H: Threads + Wait + Sync,
+    O: RoundWriter,
+>(
+    resources: &Resources<H>,
+    posts: &Posts<T, K, FreeGate, K::Job>,
+    scenario: Scenario,
+    output: &mut O,
+) -> Result<Scenario, Fault>
+    requires may_write { MayWriteAll K.may_write scenario }
+    ensures { AnswersRounds O.wrote O.stops scenario output.old output.new posts.now result }
+{
     // (there is a first round, for which memory may be lacking)
     let _rounds = scenario.rounds();
-    let sim: Sim<T, K> = open(resources, scenario)?;
-    write_each(resources, sim, output)
+    let mut sim = open(resources, scenario)?;
+    write_all(resources.rt, posts, &mut sim, output)?;
+    Ok(sim.into_scenario())
 }
 
 // A simulation before its first round.
@@ -63,61 +135,6 @@ fn open<T: MemoryTable + Send + Sync, K: RoundHistories<T>, H: Threads + Sync>(
     }
 }
 
-// The threads of the workers live for all rounds.
-fn write_each<
-    'b,
-    T: MemoryTable + Send + Sync,
-    K: RoundHistories<T> + Send,
-    H: Threads + Wait + Sync,
-    O: RoundWriter,
->(resources: &Resources<H>, sim: Sim<T, K>, output: &'b mut O) -> Result<Scenario, Fault>
-    requires { IsAtStart sim }
-    ensures { AnswersRounds O.wrote O.stops sim.settings output.old output.new resources.now.workers result }
-{
-    // (there is a first round, for which a thread may be lacking)
-    let _rounds = sim.rounds();
-    let posts = Posts::new(resources.alloc, resources.workers)?;
-    let rt = resources.rt;
-    let by = &posts;
-    let lent = Lent { sim, output };
-    let done = posts.with_threads(
-        rt,
-        lent,
-        move |lent|
-            requires { IsAtStart lent.sim }
-            ensures name { result.0.ghost_name ≡ lent.entry.output.ghost_name }
-            ensures answers { AnswersRounds O.wrote O.stops lent.entry.sim.settings lent.entry.output.now
-                result.0.now by.entry.now result.1 }
-        {
-            let Lent { sim, output } = lent;
-            let answer = write_all(rt, by, sim, output);
-            (output, answer)
-        },
-    );
-    match done {
-        Ok((output, answer)) => {
-            take_back(output);
-            answer
-        }
-        Err(Lent { sim: _sim, output }) => {
-            take_back(output);
-            Err(Fault::NoThread)
-        }
-    }
-}
-
-// A simulation, and what its rounds are written to.
-#[derive(Drop)]
-struct Lent<'a, T: MemoryTable, K: RoundHistories<T>, O> {
-    sim: Sim<T, K>,
-    output: &'a mut O,
-}
-
-// Does nothing, but this use of a reference that came back ties it to the parameter that lent it.
-fn take_back<O>(output: &mut O)
-    ensures { output.new ≡ output.old }
-{}
-
 fn write_all<
     T: MemoryTable + Send + Sync,
     K: RoundHistories<T>,
@@ -126,16 +143,17 @@ fn write_all<
 >(
     rt: &H,
     posts: &Posts<T, K, FreeGate, K::Job>,
-    mut sim: Sim<T, K>,
+    sim: &mut Sim<T, K>,
     output: &mut O,
-) -> Result<Scenario, Fault>
-    requires { IsAtStart sim }
-    ensures { AnswersRounds O.wrote O.stops sim.settings output.old output.new posts.now result }
+) -> Result<(), Fault>
+    requires { IsAtStart sim.old }
+    ensures written { OnOk result (WritesAll O.wrote sim.old sim.new output.old output.new) }
+    ensures fault { IfErr result (IsFaultInTurn O.wrote O.stops sim.old.settings output.old output.new posts.now) }
 {
     for _ in 0..sim.rounds() {
-        write_next(rt, posts, &mut sim, output)?;
+        write_next(rt, posts, sim, output)?;
     }
-    Ok(sim.into_scenario())
+    Ok(())
 }
 
 // Carries out the next round, and writes it.

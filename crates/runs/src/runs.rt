@@ -2,7 +2,7 @@
 
 ghost use Rattle.std.specs.Prelude.{Ok, IfOk, OnOk, IfErr};
 ghost use Rattle.runs.specs.Inputs.{IsRead, IsInputFault};
-ghost use Rattle.runs.specs.Runs.{AreWritten, IsWritingFault, IsReported, IsRunFault, TellsOfFailing, ComesOnceAccepted};
+ghost use Rattle.runs.specs.Runs.{AreWritten, AreWrittenUpto, IsWritingFault, IsReported, IsRunFault, TellsOfFailing, ComesOnceAccepted};
 ghost use Rattle.model.specs.Runs.{AreWorkers};
 
 use crate::inputs::read_all;
@@ -72,15 +72,28 @@ fn write_run<H: Threads + Wait + Sync, W: Sink, X: Sink>(
     ensures fault { IfErr result (IsWritingFault W.Sink writer.old writer.new X.Sink trace.old trace.new scenario
         resources.now.workers) }
 {
-    let format = scenario.format();
-    report_header(resources.alloc, writer, format)?;
-    trace_header(resources.alloc, trace)?;
+    write_headers(resources, &scenario, writer, trace)?;
     let mut output = ReportAndTrace {
         alloc: resources.alloc,
-        format,
+        format: scenario.format(),
         writer,
         trace,
     };
     write_rounds::<Brand, H, ReportAndTrace<W, X>>(resources, scenario, &mut output)?;
     Ok(())
+}
+
+fn write_headers<H, W: Sink, X: Sink>(
+    resources: &Resources<H>,
+    scenario: &Scenario,
+    writer: &mut W,
+    trace: &mut X,
+) -> Result<(), Fault>
+    ensures written { OnOk result
+        (AreWrittenUpto W.Sink writer.old writer.new X.Sink trace.old trace.new scenario.now 0) }
+    ensures fault { IfErr result (IsWritingFault W.Sink writer.old writer.new X.Sink trace.old trace.new scenario.now
+        resources.now.workers) }
+{
+    report_header(resources.alloc, writer, scenario.format())?;
+    trace_header(resources.alloc, trace)
 }

@@ -15,7 +15,7 @@ ghost use Rattle.simulation.specs.inner.Plans.{IsDrawnAfter, MayDraw};
 ghost use Rattle.simulation.specs.inner.Steps.{HaveEnded, IsRoundOf, LeavesOthers, MayWriteOwn};
 
 use crate::carriers::{Carriers, Orders, count_figures};
-use crate::openings::{empty_tables, empty_tables_by, histories_of, tables_of_a_thread};
+use crate::openings::{empty_tables, empty_tables_by, histories_of, shares_of};
 use crate::plans::{Drawn, Plan, next_plan};
 use crate::rounds::Round;
 use bench_types::{Fault, Rules};
@@ -58,9 +58,7 @@ impl<T: MemoryTable + Send + Sync, K: RoundHistories<T>> Cluster<T, K> {
         ensures only { IsOkUnless result OutOfMemory }
     {
         let histories = histories_of(alloc, scenario)?;
-        let nodes = 0..scenario.nodes();
-        let size = tables_of_a_thread(scenario, workers);
-        let tables = empty_tables_by(rt, alloc, &histories, nodes, size)?;
+        let tables = empty_tables_by(rt, alloc, &histories, shares_of(scenario, workers))?;
         Cluster::opened(alloc, scenario, tables, histories)
     }
 

@@ -1,6 +1,6 @@
 //! What a simulation begins with: histories in which nothing is written, and empty tables.
 
-ghost use Rattle.std.specs.Prelude.{◌≡◌, ◌<◌, ◌≤◌, length, map, IfOk, IsOkUnless};
+ghost use Rattle.std.specs.Prelude.{◌≡◌, ◌<◌, ◌≤◌, IfOk, IsOkUnless};
 ghost use Rattle.bench_types.specs.declared.faults.Fault.TheVariants.{OutOfMemory};
 ghost use Rattle.model.specs.Tables.{AreProper};
 ghost use Rattle.simulation.specs.Rounds.{opening_tables};
@@ -44,19 +44,27 @@ pub(crate) fn empty_tables<T: MemoryTable, K: RoundHistories<T>>(
     Ok(tables)
 }
 
-/// The same tables, so many made in each thread. This thread starts all others.
+/// Some nodes, and how many of their tables each thread makes.
+#[derive(Drop)]
+pub(crate) struct Shares {
+    pub(crate) nodes: Range<u32>,
+    pub(crate) size: u32,
+    ghost some: { 1 ≤ size },
+}
+
+/// The same tables, in shares. This thread starts all others, and makes a share too; where one can't be started, it
+/// makes more.
 #[cycle(rest)]
 pub(crate) fn empty_tables_by<T: MemoryTable + Send, K: RoundHistories<T>>(
     rt: &(impl Threads + Sync),
     alloc: Global,
     histories: &K,
-    nodes: Range<u32>,
-    size: u32,
+    shares: Shares,
 ) -> Result<Vec<T>, Fault>
-    requires nodes { IsStretchOfNodes (K.kept histories.now) nodes.start nodes.end }
-    requires size { 1 ≤ size }
-    ensures { AreMadeEmpty T.table (K.kept histories.now) nodes.start nodes.end result }
+    requires { IsStretchOfNodes (K.kept histories.now) shares.nodes.start shares.nodes.end }
+    ensures { AreMadeEmpty T.table (K.kept histories.now) shares.nodes.start shares.nodes.end result }
 {
+    let Shares { nodes, size } = shares;
     let Range { start, end } = nodes;
     if end - start <= size {
         return empty_tables(alloc, histories, start..end);
@@ -69,7 +77,17 @@ pub(crate) fn empty_tables_by<T: MemoryTable + Send, K: RoundHistories<T>>(
     let others = || -> Result<Vec<T>, Fault>
         requires { IsStretchOfNodes (K.kept histories.now) middle end × (1 ≤ size) }
         ensures { AreMadeEmpty T.table (K.kept histories.entry.now) middle end result }
-    { empty_tables_by(rt, alloc, histories, middle..end, size) };
+    {
+        empty_tables_by(
+            rt,
+            alloc,
+            histories,
+            Shares {
+                nodes: middle..end,
+                size,
+            },
+        )
+    };
     let (first, others) = join(rt, first, others);
     let mut tables = first?;
     tables.append(&mut others?)?;
@@ -79,12 +97,16 @@ pub(crate) fn empty_tables_by<T: MemoryTable + Send, K: RoundHistories<T>>(
 // So many numbers are worth a thread that makes them: most of the time goes to the system, which clears their memory.
 const NUMBERS_OF_A_THREAD: u32 = 2_097_152;
 
-/// How many tables each of so many workers makes, if all have enough to make, or else more. It bears on time alone.
-pub(crate) fn tables_of_a_thread(scenario: &Scenario, workers: u32) -> u32
+/// All nodes, shared out to so many workers, if all have enough to make, or else to fewer. It bears on time alone.
+pub(crate) fn shares_of(scenario: &Scenario, workers: u32) -> Shares
     requires { 1 ≤ workers }
-    ensures { 1 ≤ result }
+    ensures first { result.nodes.start ≡ 0 }
+    ensures last { result.nodes.end ≡ scenario.now.nodes }
 {
     let nodes = scenario.nodes();
     let enough = NUMBERS_OF_A_THREAD / nodes / scenario.keys();
-    (nodes / workers).max(enough) + 1
+    Shares {
+        nodes: 0..nodes,
+        size: (nodes / workers).max(enough) + 1,
+    }
 }

@@ -75,8 +75,8 @@ impl<T: MemoryTable + Send + Sync, K: RoundHistories<T>> Sim<T, K> {
         Sim::opened(alloc, scenario, cluster)
     }
 
-    /// The same, by so many workers: where there are several, and much to make, each is a thread that makes some of the
-    /// tables, if it can be started.
+    /// The same, with tables that several threads make, where there are several workers and much to make: no more
+    /// threads than workers, often fewer. This thread makes a part itself, and more where one can't be started.
     pub fn of_by<H: Threads + Sync>(
         rt: &H,
         alloc: Global,
@@ -142,8 +142,8 @@ impl<T: MemoryTable + Send + Sync, K: RoundHistories<T>> Sim<T, K> {
         self.step_with(rt, workers, carriers)
     }
 
-    /// As `step`, by workers that were started before, who count the figures too. No thread is started for the exchanges. With several workers it
-    /// is to be called within `Posts::with_threads`, and else never ends.
+    /// As `step`, by workers that were started before, who count the figures too. No thread is started for the
+    /// exchanges. With several workers it is to be called within `Posts::with_threads`, and else never ends.
     pub fn step_by<H: Threads + Wait + Sync, G: Gate + Sync + Drop>(
         &mut self,
         rt: &H,

@@ -1,8 +1,19 @@
-use Rattle.runs.proofs.Common.{inl, arith}
+use Rattle.runs.proofs.Common.{inl, inr, refl, rules, subst, arith}
+use Rattle.runs.specs.inner.Rounds.{IsFaultInTurn}
 use Rattle.runs.proofs.Turns.{answers_fault, stops_at_first}
 use Rattle.runs.proofs.rounds.write_over.Goals as goal
+use Rattle.bench_types.specs.declared.faults.Fault.TheVariants.{NoThread}
 
-pub returns-in_err-sim : goal.returns-in_err-sim
-returns-in_err-sim g c =
-    answers_fault g.O.RoundWriter.wrote g.O.RoundWriter.stops _ _ _ _ _ c.in_err-sim.field-0.0 c.from_residual.ensures.1
-    (stops_at_first g.O.RoundWriter.wrote g.O.RoundWriter.stops _ _ _ _ (omega (arith, c.rounds-rounds.ensures.limits)) (inl c.in_err-sim.ensures.only))
+pub returns-in_err-posts : goal.returns-in_err-posts
+returns-in_err-posts g c =
+    answers_fault g.O.RoundWriter.wrote g.O.RoundWriter.stops _ _ _ _ _ c.in_err-posts.field-0.0 c.from_residual.ensures.1
+    (stops_at_first g.O.RoundWriter.wrote g.O.RoundWriter.stops _ _ _ _ (omega (arith, c.rounds-rounds.ensures.limits))
+    (inl c.in_err-posts.ensures.only))
+
+pub returns : goal.returns
+returns g c =
+    answers_fault g.O.RoundWriter.wrote g.O.RoundWriter.stops _ _ _ _ _ NoThread refl
+    (subst (λ now. IsFaultInTurn g.O.RoundWriter.wrote g.O.RoundWriter.stops c.args.scenario c.args.output.now now c.args.resources.now.workers NoThread)
+    (search rules)
+    (stops_at_first g.O.RoundWriter.wrote g.O.RoundWriter.stops _ c.args.output.now _ NoThread (omega (arith, c.rounds-rounds.ensures.limits))
+    (inr (refl, omega (arith, c.in-Err.ensures.several, c.in_ok-posts.ensures.workers)))))

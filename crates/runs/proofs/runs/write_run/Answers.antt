@@ -6,12 +6,12 @@ use Rattle.runs.proofs.runs.write_run.Goals as goal
 pub returns-clause-written : goal.returns-clause-written
 returns-clause-written g c =
     texts_written g.W.Sink g.X.Sink c.args.scenario _ _ _ c.write_rounds.new.output _ _ c.in_ok-write_rounds.ensures.written
-    (record { format_is = c.format-format.ensures.value; report = c.in_ok-report_header.ensures.written; trace = c.in_ok-trace_header.ensures.written })
+    c.format.ensures.value c.in_ok-write_headers.ensures.written
     (λ e. search rules) (λ e. search rules)
 
 pub returns-in_err-write_rounds-clause-fault : goal.returns-in_err-write_rounds-clause-fault
 returns-in_err-write_rounds-clause-fault g c =
     at_fault c.from_residual-in_err-write_rounds.result c.in_err-write_rounds.field-0.0 _ c.from_residual-in_err-write_rounds.ensures.1
     (stops_in_texts g.W.Sink g.X.Sink c.args.scenario _ _ _ c.write_rounds.new.output _ _ _ _ c.in_err-write_rounds.ensures.fault
-    (record { format_is = c.format-format.ensures.value; report = c.in_ok-report_header.ensures.written; trace = c.in_ok-trace_header.ensures.written })
+    c.format.ensures.value c.in_ok-write_headers.ensures.written
     (λ e. search rules) (λ e. search rules))

@@ -36,8 +36,10 @@ returns-clause-begun g c =
     )) in
     let kept = sym c.in_ok-end_writes.ensures.kept in
     record {
-      standing = subst (λ (h : HistoriesView). StandAfterRound s c.args.start.now.round (map g.T.MemoryTable.table c.loop-node.tables.items) h.lists) kept begun.1;
+      standing = subst (λ (h : HistoriesView). StandAfterRound s c.args.start.now.round (map g.T.MemoryTable.table c.loop-node.tables.items)
+          h.lists) kept begun.1;
       tables = begun.0;
-      ended = subst (HaveEnded s c.args.start.now.round) kept (record { keys = c.loop-node.invariant.1.keys; rounds = next_round c.requires.round.first c.loop-node.invariant.1 });
+      ended = subst (HaveEnded s c.args.start.now.round) kept
+          (record { keys = c.loop-node.invariant.1.keys; rounds = next_round c.requires.round.first c.loop-node.invariant.1 });
       fits = c.in_ok-end_writes.ensures.fits;
     }

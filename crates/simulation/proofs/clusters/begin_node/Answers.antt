@@ -1,7 +1,6 @@
-use Rattle.simulation.proofs.Common.{All, ◌≡◌, ◌+◌, ◌-◌, ◌<◌, ◌^◌, ℕ, List, length, map, ap, sym, ◌∙◌, subst, arith, on_ok_weaker, with_own_writes, OwnWrite, generation_upto, count_before, own_writes, born_in, Settings, written, list_of_owner, AreBornBy, born-later}
-use Rattle.simulation.specs.calls.Standing.{IsOwner}
-use Rattle.simulation.specs.inner.InMemory.{WritesIn}
-use Rattle.simulation.specs.inner.Steps.{HasWritten, MayWriteOwn}
+use Rattle.simulation.proofs.Common.{All, ◌≡◌, ◌+◌, ◌-◌, ◌<◌, ◌^◌, ℕ, List, length, map, ap, sym, ◌∙◌, subst, arith, on_ok_weaker, OwnWrite, generation_upto, own_writes, born_in, Settings, written, list_of_owner, AreBornBy, born-later}
+use Rattle.simulation.specs.inner.InMemory.{IsBegun, IsOwnerIn, WritesIn}
+use Rattle.simulation.specs.inner.Steps.{MayWriteOwn}
 use Rattle.simulation.proofs.Standing.{beside_own, next_own, next_round, may_write_own, owner_written, still_ended}
 use Rattle.simulation.proofs.clusters.begin_node.Given as given
 use Rattle.simulation.proofs.clusters.begin_node.Goals as goal
@@ -20,7 +19,8 @@ write_own-requires-clause-may g c _ _ =
     let h = g.K.RoundHistories.kept c.restart.new.histories in
     let lists = h.lists in
     let ended = still_ended c.restart.ensures.others.beside c.requires.before.ended in
-    let writes = made c.args.start.now.scenario.now c.args.node c.args.start.now.round _ _ _ _ c.as_slice.ensures.value c.writes_by-writes.ensures.value c.count.ensures in
+    let writes = made c.args.start.now.scenario.now c.args.node c.args.start.now.round _ _ _ _ c.as_slice.ensures.value
+    c.writes_by-writes.ensures.value c.count.ensures in
     subst (λ r. MayWriteOwn g.K.RoundHistories.may_write r c.as_slice.result.now t h) (sym (next_round c.requires.round.first ended)) (record {
       owner = omega (arith, owner.table.node, c.restart.ensures.others.others.count, c.requires.before.node.one_each, c.requires.before.node.node);
       as_many_keys = owner.table.keys ∙ sym ended.keys;
@@ -38,27 +38,22 @@ write_own-requires-clause-may g c _ _ =
     })
 
 -- what the writes leave
-module _ (g : given.Over) (c : goal.After-write_own g) (is : WritesIn g.T.MemoryTable.table g.K.RoundHistories.kept c.as_slice.result.now c.restart.new.table c.write_own.new.table c.restart.new.histories c.write_own.new.histories) where
-  left : IsOwner c.args.start.now.scenario.now c.args.start.now.round c.args.node (g.T.MemoryTable.table c.write_own.new.table) (list_of_owner (g.K.RoundHistories.kept c.write_own.new.histories).lists c.args.node)
-      × (g.T.MemoryTable.table c.write_own.new.table ≡ with_own_writes (g.T.MemoryTable.table c.restart.new.table) (own_writes c.args.start.now.scenario.now c.args.node c.args.start.now.round (count_before c.args.start.now.scenario.now c.args.node c.args.start.now.round)))
-  left =
-      let next = next_round c.requires.round.first (still_ended c.restart.ensures.others.beside c.requires.before.ended) in
-      owner_written c.args.start.now.scenario.now c.args.start.now.round c.args.node _ _ _ _ c.as_slice.result.now c.requires.round.first c.as_slice.ensures.limit
-      c.restart.ensures.owner
-      (subst (λ r. HasWritten r c.as_slice.result.now (g.T.MemoryTable.table c.restart.new.table) (g.T.MemoryTable.table c.write_own.new.table)
-      (list_of_owner (g.K.RoundHistories.kept c.restart.new.histories).lists c.args.node) (list_of_owner (g.K.RoundHistories.kept c.write_own.new.histories).lists c.args.node)) next
-      (subst (λ m. HasWritten ((g.K.RoundHistories.kept c.restart.new.histories).rounds + 1) c.as_slice.result.now (g.T.MemoryTable.table c.restart.new.table) (g.T.MemoryTable.table c.write_own.new.table)
-      (list_of_owner (g.K.RoundHistories.kept c.restart.new.histories).lists m) (list_of_owner (g.K.RoundHistories.kept c.write_own.new.histories).lists m)) c.restart.ensures.owner.table.node is))
-      (made c.args.start.now.scenario.now c.args.node c.args.start.now.round _ _ _ _ c.as_slice.ensures.value c.writes_by-writes.ensures.value c.count.ensures)
+left : (g : given.Over) (c : goal.After-write_own g)
+    → WritesIn g.T.MemoryTable.table g.K.RoundHistories.kept c.as_slice.result.now c.restart.new.table c.write_own.new.table
+    c.restart.new.histories c.write_own.new.histories
+    → IsOwnerIn g.T.MemoryTable.table g.K.RoundHistories.kept c.args.start.now.scenario.now c.args.start.now.round c.args.node
+    c.write_own.new.table c.write_own.new.histories
+    × IsBegun g.T.MemoryTable.table c.args.start.now.scenario.now c.args.start.now.round c.args.node c.args.table.now c.write_own.new.table
+left g c is =
+    owner_written c.args.start.now.scenario.now c.args.start.now.round c.args.node _ _ _ (g.K.RoundHistories.kept c.restart.new.histories)
+    (g.K.RoundHistories.kept c.write_own.new.histories) c.as_slice.result.now c.requires.round.first c.as_slice.ensures.limit
+    (next_round c.requires.round.first (still_ended c.restart.ensures.others.beside c.requires.before.ended))
+    c.restart.ensures.table c.restart.ensures.owner is
+    (made c.args.start.now.scenario.now c.args.node c.args.start.now.round _ _ _ _ c.as_slice.ensures.value
+    c.writes_by-writes.ensures.value c.count.ensures)
 
 pub returns-clause-owner : goal.returns-clause-owner
 returns-clause-owner g c = on_ok_weaker c.write_own.result (λ is. (left g c is).0) c.write_own.ensures.written
 
 pub returns-clause-table : goal.returns-clause-table
-returns-clause-table g c =
-    on_ok_weaker c.write_own.result
-    (λ is.
-    (left g c is).1
-    ∙ ap (λ t. with_own_writes t (own_writes c.args.start.now.scenario.now c.args.node c.args.start.now.round (count_before c.args.start.now.scenario.now c.args.node c.args.start.now.round)))
-    c.restart.ensures.table)
-    c.write_own.ensures.written
+returns-clause-table g c = on_ok_weaker c.write_own.result (λ is. (left g c is).1) c.write_own.ensures.written

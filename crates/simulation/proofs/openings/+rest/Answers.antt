@@ -7,9 +7,9 @@ pub returns : goal.returns
 returns g t c =
     let h = g.K.RoundHistories.kept c.args.histories.now in
     let table = g.T.MemoryTable.table in
-    let start = c.args.nodes.start in
-    let middle = start + c.args.size in
-    let end = c.args.nodes.end in
+    let start = c.args.shares.nodes.start in
+    let middle = start + c.args.shares.size in
+    let end = c.args.shares.nodes.end in
     let made = c.join-first.ensures in
     let low = IfOk-at_ok (λ (v : Vec g.row.T.Denot Global). map table v.items ≡ empty_tables_in h start middle)
     {r = c.join-first.result.0} c.in_ok-tables.was made.first.0 in

@@ -1,5 +1,4 @@
-use Rattle.simulation.proofs.Common.{rules, ◌≡◌, ℕ, List, map, subst, sym, ap, ◌∙◌, IfOk, IsLawfulBudget, Rules, AreWrittenBy, IsCluster, lists_in, figures_of, HistoriesView, RoundListView, IsRoundPlan, Settings, Table}
-use Rattle.list_order.specs.Carrying.{AreExchanged}
+use Rattle.simulation.proofs.Common.{◌≡◌, ℕ, List, map, subst, sym, ap, ◌∙◌, IfOk, IsLawfulBudget, Rules, AreWrittenBy, IsCluster, lists_in, figures_of, HistoriesView, RoundListView, IsRoundPlan, Settings, Table}
 use Rattle.simulation.specs.inner.InMemory.{HasBegun}
 use Rattle.simulation.specs.inner.Plans.{IsDrawnAfter}
 use Rattle.simulation.specs.inner.Steps.{HaveEnded, IsPlayedFrom}
@@ -33,12 +32,10 @@ carry_out-requires-clause-tables g c _ _ = record {
 pub count_figures-requires-clause-ended : goal.count_figures-requires-clause-ended
 count_figures-requires-clause-ended g c _ _ =
     let begun = back c.in_ok-tables.ensures.shared c.in_ok-begun.ensures.begun in
-    let ended : AreExchanged g.T.MemoryTable.table c.rules_of-rules.result c.in_ok-words.field-0.list.exchanges c.in_ok-begun.begun.items
-    c.in_ok-tables.field-0.tables.items c.in_ok-tables.field-0.records.items = search rules in
     let is = is_left g.T.MemoryTable.table c.args.scenario.now c.args.round c.in_ok-words.field-0.list _ _ _ c.in_ok-tables.field-0.tables.items
     c.in_ok-tables.field-0.records.items _ c.requires.lawful c.requires.round.first (subst IsRoundPlan c.list.view_is c.list.invariant)
     c.in_ok-words.ensures.plan.list c.rules_of-rules.ensures c.requires.before.tables begun.tables
-    begun.ended.keys begun.standing ended in
+    begun.ended.keys begun.standing c.in_ok-tables.ensures.exchanged in
     let tables = c.in_ok-tables.field-0.tables.items in
     record {
       cluster = standing_cluster g.T.MemoryTable.table c.args.scenario.now c.args.round tables _ is.standing;
@@ -50,22 +47,18 @@ count_figures-requires-clause-ended g c _ _ =
 
 pub of-played-requires : goal.of-played-requires
 of-played-requires g c =
-    let ended : AreExchanged g.T.MemoryTable.table c.rules_of-rules.result c.in_ok-words.field-0.list.exchanges c.in_ok-begun.begun.items
-    c.in_ok-tables.field-0.tables.items c.in_ok-tables.field-0.records.items = search rules in
     one_record_each c.args.scenario.now c.args.round c.in_ok-words.field-0.list (subst IsRoundPlan c.list.view_is c.list.invariant)
-    c.in_ok-words.ensures.plan.list _ _ _ c.in_ok-tables.field-0.records.items ended
+    c.in_ok-words.ensures.plan.list _ _ _ c.in_ok-tables.field-0.records.items c.in_ok-tables.ensures.exchanged
 
 -- what the round leaves
 left : (g : given.Over) (c : goal.After-of-played g) → IsLeft g.T.MemoryTable.table c.args.scenario.now c.args.round c.in_ok-tables.field-0.tables.items
     (g.K.RoundHistories.kept c.in_ok-tables.field-0.shared)
 left g c =
     let begun = back c.in_ok-tables.ensures.shared c.in_ok-begun.ensures.begun in
-    let ended : AreExchanged g.T.MemoryTable.table c.rules_of-rules.result c.in_ok-words.field-0.list.exchanges c.in_ok-begun.begun.items
-    c.in_ok-tables.field-0.tables.items c.in_ok-tables.field-0.records.items = search rules in
     is_left g.T.MemoryTable.table c.args.scenario.now c.args.round c.in_ok-words.field-0.list _ _ _ c.in_ok-tables.field-0.tables.items
     c.in_ok-tables.field-0.records.items _ c.requires.lawful c.requires.round.first (subst IsRoundPlan c.list.view_is c.list.invariant)
     c.in_ok-words.ensures.plan.list c.rules_of-rules.ensures c.requires.before.tables begun.tables
-    begun.ended.keys begun.standing ended
+    begun.ended.keys begun.standing c.in_ok-tables.ensures.exchanged
 
 -- tables and histories of which the figures were counted are as they were
 as_before : {T K : Type 0} {table : T → Table} {kept : K → HistoriesView} {histories : K} {tables : List T} {counted : Counted T K}
@@ -88,8 +81,6 @@ returns-clause-after g c =
 
 pub returns-clause-played : goal.returns-clause-played
 returns-clause-played g c =
-    let ended : AreExchanged g.T.MemoryTable.table c.rules_of-rules.result c.in_ok-words.field-0.list.exchanges c.in_ok-begun.begun.items
-    c.in_ok-tables.field-0.tables.items c.in_ok-tables.field-0.records.items = search rules in
     let counted = c.in_ok-figures.ensures.counted in
     let lists = (g.K.RoundHistories.kept c.in_ok-tables.field-0.shared).lists in
     let before = map g.T.MemoryTable.table c.args.self.tables.items in
@@ -98,7 +89,7 @@ returns-clause-played g c =
     (played_is c.args.scenario.now c.args.round before after lists c.in_ok-words.field-0.list c.in_ok-tables.field-0.records.items
     c.in_ok-figures.field-0.figures c.of-played.result c.in_ok-words.ensures.plan.list
     (round_is c.args.scenario.now c.args.round c.in_ok-words.field-0.list (subst IsRoundPlan c.list.view_is c.list.invariant)
-    c.in_ok-words.ensures.plan.list _ _ _ c.in_ok-tables.field-0.records.items ended
+    c.in_ok-words.ensures.plan.list _ _ _ c.in_ok-tables.field-0.records.items c.in_ok-tables.ensures.exchanged
     before (back c.in_ok-tables.ensures.shared c.in_ok-begun.ensures.begun).tables c.rules_of-rules.ensures)
     (counted.figures_are ∙ ap (λ r. figures_of r after (lists_in lists)) (back c.in_ok-tables.ensures.shared c.in_ok-begun.ensures.begun).ended.rounds)
     c.of-played.ensures)

@@ -34,16 +34,10 @@ pub trait Number: Copy {
         ensures { result ≡ nat_lt (number other) (number self) };
 
     fn is_upto(self, other: Self) -> bool
-        ensures { result ≡ nat_le (number self) (number other) }
-    {
-        !self.is_above(other)
-    }
+        ensures { result ≡ nat_le (number self) (number other) };
 
     fn max_with(self, other: Self) -> Self
-        ensures { number result ≡ max (number self) (number other) }
-    {
-        if self.is_above(other) { self } else { other }
-    }
+        ensures { number result ≡ max (number self) (number other) };
 
     fn min_with(self, other: Self) -> Self
         ensures number { number result ≡ min (number self) (number other) }
@@ -90,6 +84,14 @@ impl Number for u8 {
 
     fn is_above(self, other: u8) -> bool {
         self > other
+    }
+
+    fn is_upto(self, other: u8) -> bool {
+        self <= other
+    }
+
+    fn max_with(self, other: u8) -> u8 {
+        self.max(other)
     }
 
     fn min_with(self, other: u8) -> u8 {
@@ -157,6 +159,16 @@ impl Number for Short {
         self.number > other.number
     }
 
+    fn is_upto(self, other: Short) -> bool {
+        self.number <= other.number
+    }
+
+    fn max_with(self, other: Short) -> Short {
+        Short {
+            number: self.number.max(other.number),
+        }
+    }
+
     fn min_with(self, other: Short) -> Short {
         Short {
             number: self.number.min(other.number),
@@ -203,6 +215,14 @@ impl Number for u32 {
 
     fn is_above(self, other: u32) -> bool {
         self > other
+    }
+
+    fn is_upto(self, other: u32) -> bool {
+        self <= other
+    }
+
+    fn max_with(self, other: u32) -> u32 {
+        self.max(other)
     }
 
     fn min_with(self, other: u32) -> u32 {

@@ -33,7 +33,8 @@ pub(crate) trait RoundWriter {
 }
 
 /// Carries out each round of a scenario over tables and histories of one kind, and writes it. The scenario comes back.
-/// The threads of the workers live for all rounds.
+/// The threads of the workers live for all rounds. They are started before the tables are made, so that a scenario is
+/// lent to them and no simulation.
 pub(crate) fn write_over<
     'b,
     T: MemoryTable + Send + Sync,

@@ -35,6 +35,6 @@ pub use Rattle.version_tables.specs.inner.Beside.{AreCellsOf}
 pub use Rattle.version_tables.specs.inner.Deltas.{AreLaidBoth, AreMarksOf, AreOfOneSize, delta_of_views, is_taken_at}
 pub use Rattle.version_tables.specs.inner.Histories.{AreHistories, AreNoWrites, IsBeginning, IsReadyExchange, IsWriteUnder, IsWrittenSoFar, MayAddWrite, bases_in}
 pub use Rattle.version_tables.specs.inner.Merged.{BothStayMerged, HasMerged, HaveMerged, MayMerge, MayTakeAll}
-pub use Rattle.version_tables.specs.inner.Offered.{AreLow, AreOffered, IsTold}
+pub use Rattle.version_tables.specs.inner.Offered.{AreLow, AreOffered, AreTold}
 pub use Rattle.version_tables.specs.inner.Taken.{HasTaken, HasTakenUnless, StaysOne, drop_start, drop_starts, is_taken}
 pub use Rattle.version_tables.specs.inner.Common.{entries, AreMadeBy, AreNumbersAt, AreNumbersOf, ArePlanesChanged, ArePlanesChangedUpto, AreRoundNumbers, AreSizes, AreWrites, AreWrittenBy, BothCounts, Cells, Contains, Exchanged, First, HasCells, HasEach, HasEachPlace, HasNoneAbove, HasOwnWrite, HistoriesView, IsCluster, IsFirst, IsGreatest, IsHistory, IsKept, IsNextWrite, IsNumberOf, IsNumberedHistory, IsProper, IsRaised, IsRoundMark, KeepLimits, Lacks, ListBecomes, MOST_ROUNDS, MakesOf, MayBeCounted, Offers, OwnerListView, StandAtRoundEnd, StandsAmong, Table, VersionTableView, all_writes, applied, begun_generation, cell, count_between, count_by, digest_size, empty_table, entries_below, entries_of, entry_at, entry_in, figures_of, generation_held, greatest_mark, greatest_version, initiator_after, is_lacked, item_of, items_of, last_fate, len-entries, list_of_owner, lists_in, mark_at, most_ahead, next_entry, no_writes, number_kept, numbers_at, numbers_in, numbers_taken, offered_by, responder_after, round_ended, sent_until, start_before, start_of, table_in, take, told_by, told_number, total_above, with_entry, with_own_write, with_write, without_all, without_others, ◌||◌}

@@ -1,6 +1,6 @@
 -- From an offer's marks to the marks of a delta between two tables.
 -- Serves `delta_above` and `Merged`.
-use Rattle.version_tables.proofs.Common.{◌≡◌, ℕ, ◌<◌, ◌≤◌, List, length, get_or, map, inl, inr, refl, sym, ap, ◌∙◌, subst, arith, nat_lt, ◌&&◌, total_above, cases_eq, length-map, nat_tests, Entry, First, Oldest, Newest, Rules, DigestKind, Scuttle, Precise, digest_kind, first_sent, Table, candidates, delta_between, write_numbered, all_writes, Cells, cell, HasNoneAbove, Offer, HasSet, by_first, AreMarked, KeepsLow, IsOffer, IsHistory, Offers, offered_by, told_by, lets_through, NumbersDiffer, IsOffered, candidate-place, candidate-number, lets, count-above, count-sent, count-cut, are-sent, shared-sent, whole-sent, numbered-some, VersionTableView, HistoriesView, table_in, is_taken_at, AreLaidBoth, AreMarksOf, AreLow, AreOffered, IsTold, is_taken}
+use Rattle.version_tables.proofs.Common.{◌≡◌, ℕ, ◌<◌, ◌≤◌, List, length, get_or, map, inl, inr, refl, sym, ap, ◌∙◌, subst, arith, nat_lt, ◌&&◌, total_above, cases_eq, length-map, nat_tests, Entry, First, Oldest, Newest, Rules, DigestKind, Scuttle, Precise, digest_kind, first_sent, Table, candidates, delta_between, write_numbered, all_writes, Cells, cell, HasNoneAbove, Offer, HasSet, by_first, AreMarked, KeepsLow, IsOffer, IsHistory, Offers, offered_by, told_by, lets_through, NumbersDiffer, IsOffered, candidate-place, candidate-number, lets, count-above, count-sent, count-cut, are-sent, shared-sent, whole-sent, numbered-some, VersionTableView, HistoriesView, table_in, is_taken_at, AreLaidBoth, AreMarksOf, AreLow, AreOffered, AreTold, is_taken}
 use Rattle.version_tables.proofs.Fitting.{turned, first-keyed, first-upto}
 use Rattle.version_tables.proofs.Told.{told-offers, offered-is, offered-upto}
 
@@ -183,7 +183,7 @@ module _ {N : Type 0} (number : N → ℕ) {written : ℕ → List Entry} {most 
 -- what is told makes low marks: of the receiver itself the most, which no number is
 pub told-low : {written : ℕ → List Entry} {most : ℕ} {h : HistoriesView} {from to : VersionTableView} (two : AreLaidBoth written most h from to)
     (kind : DigestKind) (low : List ℕ)
-    → IsTold kind most h to low → AreLow kind h from to low
+    → AreTold kind most h to low → AreLow kind h from to low
 told-low {most = most} {h = h} {from = from} {to = to} two kind low told = record {
   count = told.size ∙ sym two.both.second.nodes;
   others = λ owner lt other. let is = told.each owner (omega (arith, lt, two.both.second.nodes)) in grind (arith, nat_tests);

@@ -3,7 +3,7 @@
 ghost use Rattle.std.specs.Prelude.{◌≡◌};
 ghost use Rattle.version_tables.specs.inner.Common.{map, IfOk, IsOkUnless, OutOfMemory, digest_kind, digest_size, table_in, IsKept};
 ghost use Rattle.version_tables.specs.inner.Deltas.{MaySend};
-ghost use Rattle.version_tables.specs.inner.Offered.{IsDelta, IsOffered, IsTold};
+ghost use Rattle.version_tables.specs.inner.Offered.{AreTold, IsDelta, IsOffered};
 
 use crate::digests::digest_size;
 use crate::histories::Histories;
@@ -100,7 +100,7 @@ fn delta_above<N: Number, H: Written>(
     requires may { MaySend course.now.rules.now course.now.plan.now.rotation H.lists course.now.histories.now
         sender.now receiver.now }
     requires kept { IsKept H.lists receiver.now }
-    requires told { IsTold (digest_kind course.now.rules.now.mode) N.most course.now.histories.now receiver.now
+    requires told { AreTold (digest_kind course.now.rules.now.mode) N.most course.now.histories.now receiver.now
         (map N.number low.items) }
     requires offered { IsOffered N.number (digest_kind course.now.rules.now.mode) sender.now receiver.now low.items
         offered }

@@ -6,7 +6,7 @@ use Rattle.bench_types.specs.Output.{IsWritten}
 use Rattle.scenario.specs.Settings.{Settings}
 use Rattle.runs.specs.Comparisons.{lines_upto, IsFaultInLines}
 
--- behind whatever text was written: all its lines are, and the scenario comes back, or a fault among them
+-- behind whatever text was written and flushed: all its lines are, and the scenario comes back, or a fault among them
 pub record AnswersLines {W : Type 0} (sink : Sink W) (old new : W) (s : Settings) (workers : ℕ)
     (answer : Result Settings Fault) : Type 0 where
   pub same : IfOk answer (λ back. back ≡ s)

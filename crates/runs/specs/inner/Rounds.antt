@@ -50,7 +50,7 @@ module _ {T O : Type 0} (table : T → Table) where
   StopsNext Stops sim sim' old new workers fault = (IsStepFault workers sim sim' fault × (new ≡ old))
       ⊎ ((round : RoundView) × PlaysNext table sim sim' round × Stops old new round fault)
 
--- all were, by a simulation that had carried out none
+-- all rounds were carried out and written, by a simulation that had carried out none
 pub record WritesAll {T O : Type 0} (Wrote : O → O → RoundView → Type 0) (sim sim' : SimView T) (old new : O) : Type 0 where
   pub settings : sim'.settings ≡ sim.settings
   pub written : AreWrittenInTurn Wrote sim.settings old new sim.settings.rounds

@@ -6,8 +6,8 @@ use Rattle.version_tables.specs.declared.deltas.Offered.{Offered}
 use Rattle.version_tables.specs.inner.Deltas.{AreMarksOf}
 
 -- what a receiver tells of each owner
-abbrev pub IsTold : DigestKind → ℕ → HistoriesView → VersionTableView → List ℕ → Type 0
-IsTold kind most h to =
+abbrev pub AreTold : DigestKind → ℕ → HistoriesView → VersionTableView → List ℕ → Type 0
+AreTold kind most h to =
     HasEach (length h.lists) (λ r n. n ≡ told_number kind most to.node (all_writes h.lists) (slice_index to.greatest) r)
 
 -- low marks above which a receiver lacks what a sender has: what is told of other owners, and of itself no less than

@@ -9,6 +9,6 @@ pub use Rattle.planes.proofs.Counts.{count_le, count_next, count_same, none-pass
 pub use Rattle.planes.proofs.Elementwise.{changed_all, counted-same, counted_next, left_next, number-at, number-waits, written_next}
 pub use Rattle.planes.proofs.Places.{block-cells, each-next, grid-within, plane-cells, plane-within, plane_count, planes-all, planes-written, raised-next, total-places, total-same, total_whole}
 pub use Rattle.grids.specs.Lags.{IsLeastBehind}
-pub use Rattle.grids.specs.inner.Loops.{AnswersBy, AreCounted, AreRaisedUpto, Made, MakesAs, taken_by}
+pub use Rattle.grids.specs.inner.Loops.{AnswersBy, AreCounted, AreRaisedUpto, IsCounted, Made, MakesAs, taken_by}
 pub use Rattle.grids.specs.inner.Owners.{HasRaisedOwner}
 pub use Rattle.grids.specs.inner.Masks.{HasNoneUptoMark, HasNoOtherMark}

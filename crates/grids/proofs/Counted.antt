@@ -1,6 +1,6 @@
 -- Planes of which some places are counted.
 -- Serves the functions of `counts`, `grids`, `lags` and `merges`.
-use Rattle.grids.proofs.Common.{◌≡◌, ℕ, Fits, AreChangedUpto, AnswersBy, MakesAs, Made, AreCounted, refl, count_same, subst, w32, ◌+◌, ◌*◌, ◌<◌, ◌≤◌, Bool, cond, nat_tests, List, length, get_or, map, take, drop, nat_lt, max, sym, ◌∙◌, ap, arith, length-map, put_mid, MOST_NODES, sum_below, sum_below-most, cell, number_ahead, total_above, total_of, IsGrid, ArePlanesChangedUpto, ArePlanesChanged, AreCountedUpto, AreRaisedUpto, number_raised, count_passing, HasNoOtherMark, HasEachPlace, HasNoneUptoMark, number_kept, cases_eq, inl, inr, changed_all, count_le, sum_next, plane-cells, plane_count, planes-all, planes-written, block-cells, plane-within, total-places, total-same, total_whole}
+use Rattle.grids.proofs.Common.{◌≡◌, ℕ, Fits, AreChangedUpto, AnswersBy, MakesAs, Made, AreCounted, IsCounted, refl, count_same, subst, w32, ◌+◌, ◌*◌, ◌<◌, ◌≤◌, Bool, cond, nat_tests, List, length, get_or, map, take, drop, nat_lt, max, sym, ◌∙◌, ap, arith, length-map, put_mid, MOST_NODES, sum_below, sum_below-most, cell, number_ahead, total_above, total_of, IsGrid, ArePlanesChangedUpto, ArePlanesChanged, AreCountedUpto, AreRaisedUpto, number_raised, count_passing, HasNoOtherMark, HasEachPlace, HasNoneUptoMark, number_kept, cases_eq, inl, inr, changed_all, count_le, sum_next, plane-cells, plane_count, planes-all, planes-written, block-cells, plane-within, total-places, total-same, total_whole}
 
 -- the same numbers are changed, where their bound is written in another way
 pub changed-same : (changed : ℕ → ℕ → ℕ → Type 0) (old new : List ℕ) (bound to : ℕ) → AreChangedUpto changed old new bound → bound ≡ to
@@ -14,9 +14,20 @@ module _ {N : Type 0} (number : N → ℕ) (makes : ℕ → N → Made N → Typ
     first_upto = omega arith;
     second_upto = omega arith;
     numbers = λ made is whole before. changed-same _ whole _ _ _ before (omega arith);
-    first = λ test is before was. count_same test from _ before _ was (omega arith) (omega arith);
-    second = λ test is before was. count_same test from _ before _ was (omega arith) (omega arith);
+    rest = λ r le. refl;
+    first = λ test is whole waits before was. count_same _ from _ before _ was (omega arith) (omega arith);
+    second = λ test is whole waits before was. count_same _ from _ before _ was (omega arith) (omega arith);
   }
+
+  -- one question's count
+  answered_joined : (answer : Made N → Bool) (xs ys : List N) (start from mid size one two : ℕ) → IsCounted number answer makes xs start from one
+      → IsCounted number answer makes ys mid size two → start + from ≡ mid → length ys ≡ length xs
+      → ((r : ℕ) → start + from ≤ r → get_or (map number ys) r 0 ≡ get_or (map number xs) r 0)
+      → IsCounted number answer makes xs start (from + size) (one + two)
+  answered_joined answer xs ys start from mid size one two before now at same rest test is whole waits count was =
+      let front = count_same _ _ _ _ _ (before test is whole waits count was) at refl in
+      count_same _ _ _ _ _
+      (now test (λ r n all lt. is r n all (omega arith)) whole (λ r le. rest r (omega arith) ∙ waits r (omega arith)) _ front) (omega arith) (omega arith)
 
   pub counted_joined : (xs ys zs : List N) (start from mid size : ℕ) (one two : ℕ × ℕ) → AreCounted number makes xs ys start from one
       → AreCounted number makes ys zs mid size two → start + from ≡ mid → length ys ≡ length xs
@@ -27,24 +38,27 @@ module _ {N : Type 0} (number : N → ℕ) (makes : ℕ → N → Made N → Typ
     numbers = λ made is whole none.
         let front = changed-same _ whole _ _ _ (before.numbers made is whole none) at in
         changed-same _ whole _ _ _ (now.numbers made (λ r n all lt. is r n all (omega arith)) whole front) (omega arith);
-    first = λ test is count was.
-        let front = count_same test _ _ _ _ (before.first test is count was) at refl in
-        count_same test _ _ _ _ (now.first test (λ r n all lt. is r n all (omega arith)) _ front) (omega arith) (omega arith);
-    second = λ test is count was.
-        let front = count_same test _ _ _ _ (before.second test is count was) at refl in
-        count_same test _ _ _ _ (now.second test (λ r n all lt. is r n all (omega arith)) _ front) (omega arith) (omega arith);
+    rest = λ r le. now.rest r (omega arith) ∙ before.rest r (omega arith);
+    first = answered_joined (λ all. all.1) _ _ _ _ _ _ _ _ before.first now.first at same before.rest;
+    second = answered_joined (λ all. all.2) _ _ _ _ _ _ _ _ before.second now.second at same before.rest;
   }
 
+  -- of all numbers
+  pub answered-all : (answer : Made N → Bool) (xs : List N) (size passed : ℕ) → IsCounted number answer makes xs 0 size passed → (test : ℕ → ℕ → Bool)
+      → AnswersBy number answer makes (length xs) test → passed ≡ count_passing size (λ r. test r (get_or (map number xs) r 0))
+  answered-all answer xs size passed is test told =
+      count_same _ _ _ _ _ (is test told (map number xs) (λ r le. refl) 0 refl) (omega arith) (omega arith)
+
   -- as a function and a test say
-  pub counted-as : (xs ys : List N) (size : ℕ) (passed : ℕ × ℕ) → AreCounted number makes xs ys 0 size passed → (made : ℕ → ℕ → ℕ) (test : ℕ → Bool)
-      → MakesAs number makes (length xs) made → AnswersBy (λ all. all.1) makes (length xs) test
-      → AreCountedUpto (λ r x y. y ≡ made r x) test (map number xs) (map number ys) size passed.0
+  pub counted-as : (xs ys : List N) (size : ℕ) (passed : ℕ × ℕ) → AreCounted number makes xs ys 0 size passed → (made : ℕ → ℕ → ℕ) (test : ℕ → ℕ → Bool)
+      → MakesAs number makes (length xs) made → AnswersBy number (λ all. all.1) makes (length xs) test
+      → AreCountedUpto (λ r x y. y ≡ made r x) (λ r. test r (get_or (map number xs) r 0)) (map number xs) (map number ys) size passed.0
   counted-as xs ys size passed is made test as_made as_told =
       let old = map number xs in
       let none : AreChangedUpto (λ r x y. y ≡ made r x) old old 0 = record { size = refl; below = λ r lt. absurd (omega arith); from = λ r le. refl } in
       record {
         numbers = changed-same _ old _ _ _ (is.numbers made as_made old none) (omega arith);
-        count = count_same test _ _ _ _ (is.first test as_told 0 refl) (omega arith) (omega arith);
+        count = answered-all (λ all. all.1) xs size passed.0 is.first test as_told;
       }
 
 -- the planes of the keys below a bound are changed, and so many places of them pass a test

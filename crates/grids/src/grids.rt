@@ -85,11 +85,11 @@ fn above_peer<N: Number>(alloc: Global, grid: Grid<N>, peer: &[N]) -> Result<Mas
 {
     let cells = grid.cells;
     let mut numbers = planes::zeros(alloc, cells.len())?;
-    let counts = change_counting(&mut numbers, |r, _| kept_above(cells[r], peer[r]));
+    let (count, held) = change_counting(&mut numbers, |r, _| kept_above(cells[r], peer[r]));
     Ok(Masked {
         numbers,
-        count: counts.0,
-        held: counts.1,
+        count,
+        held,
     })
 }
 
@@ -115,16 +115,16 @@ fn ahead_of_both<N: Number>(alloc: Global, grid: Grid<N>, peer: Peer<N>) -> Resu
 {
     let Grid { cells, size } = grid;
     let low = peer.low;
-    let held = planes::count_held(cells);
     let mut numbers = planes::zeros(alloc, cells.len())?;
     let all: &mut [N] = &mut numbers;
     let mut count = 0;
+    let mut held = 0;
     for key in 0..size.keys {
         let plane = plane_of(cells, size.nodes, key);
         let of_peer = plane_of(peer.cells, size.nodes, key);
         let start = key * size.nodes;
         let block = &mut all[start..start + size.nodes];
-        let kept = change_counting(
+        let (plane_count, plane_held) = change_counting(
             block,
             |r, _| -> (N, bool, bool)
                 requires { (r < length plane.now) × (r < length of_peer.now) × (r < length low.now) }
@@ -132,9 +132,11 @@ fn ahead_of_both<N: Number>(alloc: Global, grid: Grid<N>, peer: Peer<N>) -> Resu
                     (slice_index (map N.number of_peer.entry.now) r) (slice_index (map N.number low.entry.now) r) }
                 ensures is_kept { result.1 ≡ nat_lt (max (slice_index (map N.number of_peer.entry.now) r)
                     (slice_index (map N.number low.entry.now) r)) (slice_index (map N.number plane.entry.now) r) }
+                ensures is_held { result.2 ≡ nat_lt 0 (slice_index (map N.number plane.entry.now) r) }
             { kept_above(plane[r], of_peer[r].max_with(low[r])) },
         );
-        count += kept.0;
+        count += plane_count;
+        held += plane_held;
     }
     Ok(Masked {
         numbers,

@@ -18,7 +18,7 @@ pub fn count_behind<N: Number>(least: &mut [N], grid: Grid<N>, last: &[N]) -> u3
     ensures { AreLoweredCounting N.number grid.entry last.now least.old least.new result }
 {
     let cells = grid.cells;
-    let behind = change_counting(
+    let (behind, _) = change_counting(
         least,
         |at, number| -> (N, bool, bool)
             requires { (at < length cells.now) × (at < length last.now) }
@@ -30,7 +30,7 @@ pub fn count_behind<N: Number>(least: &mut [N], grid: Grid<N>, last: &[N]) -> u3
             (number.min_with(now), last[at].is_above(now), false)
         },
     );
-    behind.0
+    behind
 }
 
 /// For each owner the least of its numbers that are below the last ones, or `N::greatest()` where none is. An error is

@@ -27,10 +27,20 @@ abbrev pub MakesAs : {N : Type 0} → (N → ℕ) → (ℕ → N → Made N → 
 MakesAs {N} number makes bound made =
     (r : ℕ) (n : N) (all : Made N) → r < bound → makes r n all → number all.0 ≡ made r (number n)
 
--- each call answers one of the questions as a test of places does
-abbrev pub AnswersBy : {N : Type 0} → (Made N → Bool) → (ℕ → N → Made N → Type 0) → ℕ → (ℕ → Bool) → Type 0
-AnswersBy {N} answer makes bound test =
-    (r : ℕ) (n : N) (all : Made N) → r < bound → makes r n all → answer all ≡ test r
+-- each call answers one of the questions as a test of place and number does
+abbrev pub AnswersBy : {N : Type 0} → (N → ℕ) → (Made N → Bool) → (ℕ → N → Made N → Type 0) → ℕ → (ℕ → ℕ → Bool)
+    → Type 0
+AnswersBy {N} number answer makes bound test =
+    (r : ℕ) (n : N) (all : Made N) → r < bound → makes r n all → answer all ≡ test r (number n)
+
+-- of so many numbers from one on so many pass the test of a question, where the whole's numbers before were counted
+abbrev pub IsCounted : {N : Type 0} → (N → ℕ) → (Made N → Bool) → (ℕ → N → Made N → Type 0) → List N → ℕ → ℕ → ℕ
+    → Type 0
+IsCounted number answer makes old from size passed =
+    (test : ℕ → ℕ → Bool) → AnswersBy number answer makes (length old) test
+    → (whole : List ℕ) → ((r : ℕ) → from ≤ r → slice_index (map number old) r ≡ slice_index whole r)
+    → (before : ℕ) → before ≡ count_passing from (λ r. test r (slice_index whole r))
+    → before + passed ≡ count_passing (from + size) (λ r. test r (slice_index whole r))
 
 -- the numbers below a bound are raised to others, where these are above their marks, and so many of them are
 abbrev pub AreRaisedUpto : List ℕ → List ℕ → List ℕ → List ℕ → ℕ → ℕ → Type 0
@@ -46,10 +56,9 @@ pub record AreCounted {N : Type 0} (number : N → ℕ) (makes : ℕ → N → M
   pub numbers : (made : ℕ → ℕ → ℕ) → MakesAs number makes (length old) made
       → (whole : List ℕ) → AreChangedUpto (λ r x y. y ≡ made r x) whole (map number old) from
       → AreChangedUpto (λ r x y. y ≡ made r x) whole (map number new) (from + size)
-  pub first : (test : ℕ → Bool) → AnswersBy (λ all. all.1) makes (length old) test
-      → (before : ℕ) → before ≡ count_passing from test → before + passed.0 ≡ count_passing (from + size) test
-  pub second : (test : ℕ → Bool) → AnswersBy (λ all. all.2) makes (length old) test
-      → (before : ℕ) → before ≡ count_passing from test → before + passed.1 ≡ count_passing (from + size) test
+  pub rest : (r : ℕ) → from + size ≤ r → slice_index (map number new) r ≡ slice_index (map number old) r
+  pub first : IsCounted number (λ all. all.1) makes old from size passed.0
+  pub second : IsCounted number (λ all. all.2) makes old from size passed.1
 
 -- a plane, the greatest number of each owner and the marks are of the size of what is sent
 pub record MayTakePlane {N : Type 0} (plane greatest : List N) (sent : Sent N) (key : ℕ) : Type 0 where

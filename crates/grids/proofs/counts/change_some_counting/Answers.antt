@@ -1,4 +1,4 @@
-use Rattle.grids.proofs.Common.{◌≡◌, ℕ, ◌+◌, ◌<◌, ap, ◌∙◌, arith, length, length-map, if◌then◌else◌, number-waits, written_next, count_next, one_le}
+use Rattle.grids.proofs.Common.{◌≡◌, ℕ, ◌+◌, ◌<◌, ap, ◌∙◌, arith, length, length-map, if◌then◌else◌, map, map-set, get_or-set_other, number-at, number-waits, written_next, count_next, one_le}
 use Rattle.grids.proofs.Counted.{changed-same, counted_none}
 use Rattle.grids.proofs.counts.change_some_counting.Goals as goal
 
@@ -13,6 +13,7 @@ loop-i-preserved g c =
     let within : at < length c.args.numbers.now = omega arith in
     let n = c.index-numbers-r.result in
     let all = c.to-number.result in
+    let waits = number-at number c.loop-i.numbers at n (omega arith) c.index-numbers-r.is ∙ held.rest at (omega arith) in
     record {
       first_upto = omega (arith, one_le all.1);
       second_upto = omega (arith, one_le all.2);
@@ -21,12 +22,15 @@ loop-i-preserved g c =
           let was = number-waits _ old number c.loop-i.numbers at n part (omega arith) c.index-numbers-r.is in
           changed-same _ old _ _ _ (written_next _ old number c.loop-i.numbers at all.0 part (omega (arith, part.size, length-map c.loop-i.numbers number))
           (is at n all within c.to-number.ensures ∙ ap (made at) was)) (omega arith);
-      first = λ test is before was.
-          count_next _ at _ before _ _ (held.first test is before was) (omega arith) c.plus-first.ensures
-          (ap (λ b. if b then 1 else 0) (is at n all within c.to-number.ensures));
-      second = λ test is before was.
-          count_next _ at _ before _ _ (held.second test is before was) (omega arith) c.plus-second.ensures
-          (ap (λ b. if b then 1 else 0) (is at n all within c.to-number.ensures));
+      rest = λ r le.
+          rw (map-set number c.loop-i.numbers at all.0)
+          (get_or-set_other (map number c.loop-i.numbers) at r (number all.0) 0 (λ e. omega arith) ∙ held.rest r (omega arith));
+      first = λ test is old same before was.
+          count_next _ at _ before _ _ (held.first test is old same before was) (omega arith) c.plus-first.ensures
+          (ap (λ b. if b then 1 else 0) (is at n all within c.to-number.ensures ∙ ap (test at) (waits ∙ same at (omega arith))));
+      second = λ test is old same before was.
+          count_next _ at _ before _ _ (held.second test is old same before was) (omega arith) c.plus-second.ensures
+          (ap (λ b. if b then 1 else 0) (is at n all within c.to-number.ensures ∙ ap (test at) (waits ∙ same at (omega arith))));
     }
 
 pub returns : goal.returns

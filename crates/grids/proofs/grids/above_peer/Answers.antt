@@ -1,5 +1,5 @@
-use Rattle.grids.proofs.Common.{◌≡◌, length, map, nat_lt, slice_index, ap, refl, rules, sym, subst, ◌∙◌, arith, with_items_is, length-map, number-at, count_same, number_kept, IsGrid}
-use Rattle.grids.proofs.Counted.{counted-as, places-counted}
+use Rattle.grids.proofs.Common.{◌≡◌, length, map, nat_lt, slice_index, ap, rules, sym, subst, ◌∙◌, with_items_is, length-map, count_passing, number-at, number_kept, IsGrid}
+use Rattle.grids.proofs.Counted.{answered-all, counted-as, places-counted}
 use Rattle.grids.proofs.grids.above_peer.Goals as goal
 
 pub returns-clause-above : goal.returns-clause-above
@@ -11,12 +11,12 @@ returns-clause-above g c =
     let peer = slice_index (map number c.args.peer.now) in
     let at_cells = number-at number c.args.grid.cells.now in
     let at_peer = number-at number c.args.peer.now in
-    let masked = c.change_counting-counts in
+    let masked = c.change_counting-count in
     let as_many : length old ≡ length c.args.grid.cells.now =
     ap length c.deref_mut.ensures.value ∙ sym (length-map c.in_ok-numbers.numbers.items number) ∙ c.in_ok-numbers.ensures.zeros.size in
     let all =
     places-counted _ _ size.nodes size.keys _ _ _ masked.result.0 (subst (IsGrid size.nodes size.keys) (sym as_many) c.requires.grid)
-    (counted-as number _ _ _ _ _ masked.ensures (λ r x. number_kept (peer r) (cells r)) (λ r. nat_lt (peer r) (cells r))
+    (counted-as number _ _ _ _ _ masked.ensures (λ r x. number_kept (peer r) (cells r)) (λ r _. nat_lt (peer r) (cells r))
     (λ r n all lt called. search (rules, at_cells r, at_peer r)) (λ r n all lt called. search (rules, at_cells r, at_peer r))) in
     record {
       numbers = rw (with_items_is c.in_ok-numbers.numbers masked.new.numbers (masked.auto.numbers ∙ c.deref_mut.ensures.len)) (record {
@@ -25,5 +25,6 @@ returns-clause-above g c =
       });
       count = all.1;
       held =
-          count_same _ _ _ _ _ (masked.ensures.second (λ r. nat_lt 0 (cells r)) (λ r n all lt called. search (rules, at_cells r)) 0 refl) (omega arith) (omega arith);
+          answered-all number _ (λ all. all.2) old _ _ masked.ensures.second (λ r _. nat_lt 0 (cells r)) (λ r n all lt called. search (rules, at_cells r))
+          ∙ ap (λ n. count_passing n (λ r. nat_lt 0 (cells r))) as_many;
     }

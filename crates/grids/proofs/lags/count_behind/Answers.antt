@@ -10,6 +10,6 @@ returns g c =
     let behind = c.change_counting-behind in
     let all =
     places-counted _ _ c.args.grid.size.nodes c.args.grid.size.keys _ _ _ behind.result.0 c.requires.beside.beside.shape
-    (counted-as number _ _ _ _ _ behind.ensures (λ i x. min x (cells i)) (λ i. nat_lt (cells i) (last i)) (λ i n all lt called. called.0)
+    (counted-as number _ _ _ _ _ behind.ensures (λ i x. min x (cells i)) (λ i _. nat_lt (cells i) (last i)) (λ i n all lt called. called.0)
     (λ i n all lt called. called.1)) in
     record { least = all.0; count = all.1 }

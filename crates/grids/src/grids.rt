@@ -4,7 +4,7 @@
 ghost use Rattle.std.specs.Prelude.{◌≡◌, ◌<◌, ◌≤◌, ◌↔◌, IsTrue, length, map, max, nat_lt, slice_index, IfOk, IsOkUnless};
 ghost use Rattle.bench_types.specs.declared.faults.Fault.TheVariants.{OutOfMemory};
 ghost use Rattle.planes.specs.Grids.{IsGridOf};
-ghost use Rattle.planes.specs.Planes.{cell, number_ahead};
+ghost use Rattle.planes.specs.Planes.{cell, number_ahead, HasEach};
 ghost use Rattle.grids.specs.Grids.{number_kept, AreSentTaken, HasColumn, HasPeer, IsAhead, IsOwnerKept, MayTake};
 ghost use Rattle.bench_types.specs.declared.limits.TheConstants.{MOST_NODES};
 ghost use Rattle.grids.specs.inner.Loops.{IsPlaneTaken, MayTakePlane};
@@ -65,6 +65,22 @@ pub fn drop_owner<N: Number>(cells: &mut [N], size: Size, owner: usize, mark: u3
     }
 }
 
+/// So many numbers are filled at a time, which takes fewer instructions than the C library's way to fill many more.
+const FILLED: usize = 512;
+
+fn zeros<N: Number>(alloc: Global, count: usize) -> Result<Vec<N>, Fault>
+    ensures zeros { IfOk result (λ v. HasEach count (λ r n. n ≡ 0) (map N.number v.items)) }
+    ensures only { IsOkUnless result OutOfMemory }
+{
+    let mut numbers = Vec::with_capacity(alloc, count)?;
+    let mut filled = 0;
+    while filled < count {
+        filled = (filled + FILLED).min(count);
+        numbers.resize(filled, N::zero())?;
+    }
+    Ok(numbers)
+}
+
 // A number where it is above a mark, else 0; whether it is, and whether there is a number.
 fn kept_above<N: Number>(number: N, mark: N) -> (N, bool, bool)
     ensures number { N.number result.0 ≡ number_kept (N.number mark) (N.number number) }
@@ -84,7 +100,7 @@ fn above_peer<N: Number>(alloc: Global, grid: Grid<N>, peer: &[N]) -> Result<Mas
     ensures only { IsOkUnless result OutOfMemory }
 {
     let cells = grid.cells;
-    let mut numbers = planes::zeros(alloc, cells.len())?;
+    let mut numbers = zeros(alloc, cells.len())?;
     let (count, held) = change_counting(&mut numbers, |r, _| kept_above(cells[r], peer[r]));
     Ok(Masked {
         numbers,
@@ -115,7 +131,7 @@ fn ahead_of_both<N: Number>(alloc: Global, grid: Grid<N>, peer: Peer<N>) -> Resu
 {
     let Grid { cells, size } = grid;
     let low = peer.low;
-    let mut numbers = planes::zeros(alloc, cells.len())?;
+    let mut numbers = zeros(alloc, cells.len())?;
     let all: &mut [N] = &mut numbers;
     let mut count = 0;
     let mut held = 0;

@@ -25,20 +25,13 @@ pub fn plane_of<N: Number>(cells: &[N], nodes: usize, key: usize) -> &[N]
     &cells[start..start + nodes]
 }
 
-/// So many numbers are filled at a time, which takes fewer instructions than the C library's way to fill many more.
-const FILLED: usize = 512;
-
 /// So many times the same number. An error is lack of memory (`OutOfMemory`).
 pub fn all_of<N: Number>(alloc: Global, count: usize, number: N) -> Result<Vec<N>, Fault>
     ensures numbers { IfOk result (λ v. HasEach count (λ r n. n ≡ N.number number) (map N.number v.items)) }
     ensures only { IsOkUnless result OutOfMemory }
 {
     let mut numbers = Vec::with_capacity(alloc, count)?;
-    let mut filled = 0;
-    while filled < count {
-        filled += FILLED.min(count - filled);
-        numbers.resize(filled, number)?;
-    }
+    numbers.resize(count, number)?;
     Ok(numbers)
 }
 

@@ -1,21 +1,23 @@
 -- Levels of an offer, gone over as long as they fit: what a step from one to the next writes, and what all steps keep.
 -- Serves the functions of `breadths` and `depths`, `LayerSteps` and `RunSteps`.
-use Rattle.delta_plans.proofs.Common.{◌≡◌, ℕ, ◌+◌, ◌*◌, ◌<◌, ◌≤◌, length, inl, Some, None, Vec, Global, ap, ◌∙◌, arith, sum_below-same, amount_of, MOST_NODES, MOST_KEYS, Offer, Level, Step, Oldest, cells_in, marks, weights_in, weight_in, count_in, AreCounted, IsLeftOf, IsOffer, one_each, weight_between, HasLevels, IsLevel, IsStep, step_of, List, cond, ltb, sym, sum_below, count_between}
+use Rattle.delta_plans.proofs.Common.{◌≡◌, ℕ, ◌+◌, ◌*◌, ◌<◌, ◌≤◌, length, inl, Some, None, Vec, Global, ap, ◌∙◌, arith, sum_below-same, amount_of, MOST_NODES, MOST_KEYS, Offer, Level, Step, Oldest, cells_in, marks, weights_in, weight_in, count_in, AreCounted, IsLeftOf, IsOffer, one_each, weight_between, HasLevels, IsLevel, IsStep, Bool, List, cond, sym, count_between}
+use Rattle.planes.specs.Loops.{count_passing}
 use Rattle.delta_plans.proofs.WeightLaws.{offer-few, offer-none, parts_of, sum_below-scaled, weight_between-parts}
 
--- far marks are a step where none is lower than its near one, and each that is higher lets so many numbers more through
-pub step-is : {N : Type 0} {number : N → ℕ} {offer : Offer N} {is : ℕ → ℕ → Type 0} (near : List N) (size : ℕ) (far : Vec N Global)
-    → length near ≡ offer.grid.size.nodes → length far.items ≡ offer.grid.size.nodes
+-- far marks are a step where none is lower than its near one, and each that passes a test lets so many numbers more
+-- through
+pub step-is : {N : Type 0} {number : N → ℕ} {offer : Offer N} {is : ℕ → ℕ → Type 0} (near : List N) (far : Vec N Global)
+    (test : ℕ → Bool) (nodes size more : ℕ) → nodes ≡ offer.grid.size.nodes → more ≡ count_passing nodes test * size
+    → length far.items ≡ offer.grid.size.nodes
     → ((r : ℕ) → r < offer.grid.size.nodes → is r (marks number far.items r) × (marks number near r ≤ marks number far.items r)
-    × (cond (ltb (marks number near r) (marks number far.items r)) 1 0 * size
+    × (cond (test r) 1 0 * size
     ≡ count_between (cells_in number offer) offer.grid.size.keys r (marks number near r) (marks number far.items r)))
-    → IsStep number offer (marks number near) is (step_of number near far size)
-step-is {number = number} {offer} near size far near_long far_long tells = record {
-  count = far_long;
+    → IsStep number offer (marks number near) is (record { marks = far; more = more })
+step-is {offer} near far test nodes size more all counted long tells = record {
+  count = long;
   rises = λ r lt. (tells r lt).1;
   more =
-      ap (λ n. sum_below n (λ r. cond (ltb (marks number near r) (marks number far.items r)) 1 0) * size) near_long
-      ∙ sym (sum_below-scaled offer.grid.size.nodes size _)
+      counted ∙ ap (λ n. count_passing n test * size) all ∙ sym (sum_below-scaled offer.grid.size.nodes size _)
       ∙ sum_below-same offer.grid.size.nodes _ _ (λ r lt. (tells r lt).2);
   next = λ r lt. (tells r lt).0;
 }

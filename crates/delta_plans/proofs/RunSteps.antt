@@ -1,6 +1,6 @@
 -- Runs of an offer, gone over as long as they fit.
 -- Serves `depth` and `next_runs`.
-use Rattle.delta_plans.proofs.Common.{◌≡◌, ℕ, ◌+◌, ◌-◌, ◌*◌, ◌<◌, ◌≤◌, cond, eqb, leb, ltb, List, length, get_or, map, inl, inr, Some, ◌∙◌, arith, nat_tests, cases_eq, length-map, amount_of, Cells, count_above, count_between, HasNoneAbove, HasEach, count_le, sum_below-same, MOST_KEYS, Offer, Level, Oldest, Newest, owner_count_in, marks, weights_in, weight_in, IsLeftOf, IsOffer, AreMarksFrom, AreRunsFrom, AreLevelMarks, weight_of}
+use Rattle.delta_plans.proofs.Common.{◌≡◌, ℕ, ◌+◌, ◌-◌, ◌*◌, ◌<◌, ◌≤◌, ◌&&◌, cond, leb, ltb, List, length, get_or, map, inl, inr, Some, ◌∙◌, arith, nat_tests, cases_eq, length-map, amount_of, Cells, count_above, count_between, HasNoneAbove, HasEach, count_le, sum_below-same, MOST_KEYS, Offer, Level, Oldest, Newest, owner_count_in, marks, weights_in, weight_in, IsLeftOf, IsOffer, AreMarksFrom, AreRunsFrom, AreLevelMarks, weight_of}
 use Rattle.delta_plans.proofs.WeightLaws.{offer-none, owner-most, parts_of, weight_of-none}
 use Rattle.delta_plans.proofs.LevelSteps.{IsLevelSoFar, level-left}
 
@@ -13,8 +13,10 @@ module _ (cells : Cells) (keys owner low high : ℕ) (covered : HasNoneAbove cel
   count-covered = sum_below-same keys _ _ (λ key lt. let le = covered key lt in grind (arith, nat_tests))
 
   -- one owner's part of the next runs
-  pub run-told : (size near next found : ℕ) → found ≡ above → 0 < size → near ≡ cond (leb (size + 1) above) high low → next ≡ cond (eqb found size) high near
-      → (next ≡ cond (leb size above) high low) × (near ≤ next) × (cond (ltb near next) 1 0 * size ≡ count_between cells keys owner near next)
+  pub run-told : (size near next found : ℕ) → found ≡ above → 0 < size → near ≡ cond (leb (size + 1) above) high low
+      → next ≡ cond (ltb (size - 1) found) high near
+      → (next ≡ cond (leb size above) high low) × (near ≤ next)
+      × (cond (ltb (size - 1) found && leb found size) 1 0 * size ≡ count_between cells keys owner near next)
   run-told size near next found counted some longer is = elim (cases_eq above size) [
     | inl same ↦
         let from : near ≡ low = grind (arith, nat_tests) in

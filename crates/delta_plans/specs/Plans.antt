@@ -20,13 +20,6 @@ pub record IsStep {N : Type 0} (number : N → ℕ) (offer : Offer N) (near : �
   pub more : step.more ≡ count_in number offer near (marks number step.marks.items)
   pub next : (owner : ℕ) → owner < offer.grid.size.nodes → is owner (marks number step.marks.items owner)
 
--- the step to far marks, of which each that is higher than its near one lets so many numbers more through
-abbrev pub step_of : {N : Type 0} → (N → ℕ) → List N → Vec N Global → ℕ → Step N
-step_of number near far size = record {
-  marks = far;
-  more = sum_below (length near) (λ r. if nat_lt (marks number near r) (marks number far.items r) then 1 else 0) * size;
-}
-
 -- one number more of each owner that has one
 abbrev pub IsNextLayer : {N : Type 0} → (N → ℕ) → Offer N → (ℕ → ℕ) → Step N → Type 0
 IsNextLayer number offer near =

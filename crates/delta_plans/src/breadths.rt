@@ -5,7 +5,7 @@ ghost use Rattle.delta_plans.specs.Marked.{IsLevelOf};
 ghost use Rattle.delta_plans.specs.OfferInMemory.{marks, HasMarks, IfGranted, IsTooLarge};
 ghost use Rattle.delta_plans.specs.Plans.{IsNextLayer};
 
-use crate::offers::{Level, Offer, Step, step_to};
+use crate::offers::{Level, Offer, Step};
 use bench_types::Fault;
 use planes::{Number, least_above, pick};
 use std::alloc::Global;
@@ -20,7 +20,8 @@ fn one_more<N: Number>(alloc: Global, offer: &Offer<N>, near: &[N]) -> Result<St
         &mut far,
         |r, least| pick(N::greatest().is_above(least), least, near[r]),
     );
-    Ok(step_to(near, far, 1))
+    let more = planes::how_many(&far, |r, mark| mark.is_above(near[r]));
+    Ok(Step { marks: far, more })
 }
 
 /// Layers as long as they fit, and the first that doesn't.

@@ -6,9 +6,9 @@ ghost use Rattle.delta_plans.specs.Marked.{IsLevelOf};
 ghost use Rattle.delta_plans.specs.OfferInMemory.{marks, IfGranted, IsTooLarge};
 ghost use Rattle.delta_plans.specs.Plans.{AreRunsFrom, IsMarkFrom, IsStep};
 
-use crate::offers::{Level, Offer, Step, step_to};
+use crate::offers::{Level, Offer, Step};
 use bench_types::Fault;
-use planes::{Number, counts_above, pick};
+use planes::{Number, counts_above, is_between, pick};
 use std::alloc::Global;
 
 fn greatest_of<N: Number>(numbers: &[N]) -> u32
@@ -36,13 +36,17 @@ fn next_runs<N: Number>(
     ensures { IfGranted result
         (IsStep N.number offer.now (marks N.number near.now) (IsMarkFrom N.number offer.now size)) }
 {
+    let below = N::narrow(size - 1);
+    let longest = N::narrow(size);
     let mut far = Vec::from_slice(alloc, near)?;
     let high = offer.high;
     planes::change(
         &mut far,
-        |r, mark| pick(counts[r].widen() == size, high[r], mark),
+        |r, mark| pick(counts[r].is_above(below), high[r], mark),
     );
-    Ok(step_to(near, far, size))
+    let risen = planes::how_many(counts, |_, count| is_between(count, below, longest));
+    let more = risen * size;
+    Ok(Step { marks: far, more })
 }
 
 /// Runs as long as they fit, the longest first, and the first that don't.

@@ -1,9 +1,8 @@
 //! What is offered, as numbers of writes, what these weigh, and levels of them.
 
 ghost use Rattle.std.specs.Prelude.{◌≡◌, ◌+◌, ◌^◌, ◌*◌, ◌<◌, ◌≤◌, ◌↔◌, IsTrue, length, if◌then◌else◌};
-ghost use Rattle.delta_plans.specs.Common.{MOST_ENTRY_SIZE, MOST_KEYS, MOST_NODES, amount_of, count_between};
+ghost use Rattle.delta_plans.specs.Common.{MOST_ENTRY_SIZE, amount_of, count_between};
 ghost use Rattle.delta_plans.specs.OfferInMemory.{cells_in, high_in, low_in, marks, weight_in, weights_in, AreCounted, HasMarks, HasOwner, IsLeftOf, IsOffer};
-ghost use Rattle.delta_plans.specs.Plans.{step_of};
 ghost use Rattle.delta_plans.specs.Weights.{weight_of};
 
 use bench_types::limits::MOST_ENTRY_SIZE;
@@ -52,18 +51,6 @@ impl<N: Number> Level<N> {
 pub(crate) struct Step<N: Number> {
     pub(crate) marks: Vec<N>,
     pub(crate) more: u32,
-}
-
-/// The step from near marks to far ones, of which each that is higher lets so many numbers more through.
-pub(crate) fn step_to<N: Number>(near: &[N], far: Vec<N>, size: u32) -> Step<N>
-    requires marks { length far.items ≡ length near.now }
-    requires nodes { length near.now ≤ MOST_NODES }
-    requires size { size ≤ MOST_KEYS }
-    ensures { result ≡ step_of N.number near.now far size }
-{
-    let risen = planes::how_many(&far, |r, mark| mark.is_above(near[r]));
-    let more = risen * size;
-    Step { marks: far, more }
 }
 
 fn one_if(test: bool) -> u32

@@ -56,6 +56,13 @@ part-cases weight low high number = grind (arith, nat_tests)
 pub weight_of-none : (weight : ℕ → ℕ) (cells : Cells) (keys owner low high : ℕ) → high ≤ low → weight_of weight cells keys owner low high ≡ 0
 weight_of-none weight cells keys owner low high le = sum_below-none keys _ (λ key lt. grind (arith, nat_tests))
 
+-- nor where nothing is counted
+pub weight_of-uncounted : (weight : ℕ → ℕ) (cells : Cells) (keys owner low high : ℕ) → count_between cells keys owner low high ≡ 0
+    → weight_of weight cells keys owner low high ≡ 0
+weight_of-uncounted weight cells keys owner low high none = sum_below-none keys _ (λ key lt.
+    let here = sum_below-each_none keys (λ k. part (λ _. 1) low high (cells owner k)) none key lt in
+    grind (arith, nat_tests, here))
+
 -- a single number of an owner lies between two marks
 pub weight_of-one : (weight : ℕ → ℕ) (cells : Cells) (keys owner low high key : ℕ) → key < keys → low < cells owner key → cells owner key ≤ high
     → ((k : ℕ) → k < keys → low < cells owner k → cells owner k ≤ high → k ≡ key) → weight_of weight cells keys owner low high ≡ weight (cells owner key)

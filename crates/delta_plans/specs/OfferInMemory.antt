@@ -1,6 +1,6 @@
 -- What is offered in memory: cells with marks for each owner, and the owners' lists. Source: this project.
-use Rattle.std.specs.Prelude.{◌≡◌, ℕ, ◌-◌, ◌<◌, ◌≤◌, IfOk, IsOkUnless, List, Option, Result, SomeIff, length, map, slice_index}
-use Rattle.delta_plans.specs.Common.{Fault, OutOfMemory, amount_of, all_writes, IsGridOf, Cells, cell, count_above, HasNoneAbove, Offer}
+use Rattle.std.specs.Prelude.{◌≡◌, ℕ, ◌-◌, Bool, true, false, slice_index_or, ◌<◌, ◌≤◌, IfOk, IsOkUnless, List, Option, Result, SomeIff, length, map, slice_index}
+use Rattle.delta_plans.specs.Common.{Fault, OutOfMemory, amount_of, all_writes, IsGridOf, Cells, cell, count_above, HasNoneAbove, Offer, count_between}
 use Rattle.delta_plans.specs.LevelMarks.{NumbersDiffer}
 use Rattle.delta_plans.specs.Weights.{number_shares, weight_between, count_all_between}
 
@@ -33,6 +33,11 @@ weight_in number offer =
 
 abbrev pub count_in : {N : Type 0} → (N → ℕ) → Offer N → (ℕ → ℕ) → (ℕ → ℕ) → ℕ
 count_in number offer = count_all_between (cells_in number offer) offer.grid.size.nodes offer.grid.size.keys
+
+-- owners that aren't found have none of them among so many keys
+abbrev pub AreFound : {N : Type 0} → (N → ℕ) → Offer N → (ℕ → ℕ) → (ℕ → ℕ) → ℕ → List Bool → Type 0
+AreFound number offer low high keys found = (owner : ℕ) → slice_index_or found owner true ≡ false
+    → count_between (cells_in number offer) keys owner (low owner) (high owner) ≡ 0
 
 -- how many of an owner's numbers are above its mark
 abbrev pub owner_count_in : {N : Type 0} → (N → ℕ) → Offer N → ℕ → ℕ

@@ -6,7 +6,7 @@ ghost use Rattle.delta_plans.specs.OfferInMemory.{marks, HasMarks, IfGranted, Is
 ghost use Rattle.delta_plans.specs.Plans.{IsNextLayer};
 
 use crate::offers::{Level, Offer, Step};
-use bench_types::Fault;
+use bench_types::{DigestKind, Fault};
 use planes::{Number, least_above, pick};
 use std::alloc::Global;
 
@@ -25,6 +25,7 @@ fn one_more<N: Number>(alloc: Global, offer: &Offer<N>, near: &[N]) -> Result<St
 }
 
 /// Layers as long as they fit, and the first that doesn't.
+#[inline(never)]
 pub(crate) fn breadth<N: Number>(alloc: Global, offer: &Offer<N>) -> Result<Level<N>, Fault>
     requires offer { IsTooLarge N.number N.most offer.now }
     ensures { IfGranted result (IsLevelOf ScuttleBreadth N.number offer.now) }
@@ -33,7 +34,13 @@ pub(crate) fn breadth<N: Number>(alloc: Global, offer: &Offer<N>) -> Result<Leve
     let first = one_more(alloc, offer, &near)?;
     let mut level = offer.first_level(near, first.marks);
     let mut more = first.more;
-    while let Some(left) = offer.left_of(level.left, more, &level.near, &level.far) {
+    while let Some(left) = offer.left_of(
+        DigestKind::Scuttle,
+        level.left,
+        more,
+        &level.near,
+        &level.far,
+    ) {
         let next = one_more(alloc, offer, &level.far)?;
         level = level.next(more, left, next.marks);
         more = next.more;

@@ -7,7 +7,7 @@ ghost use Rattle.delta_plans.specs.OfferInMemory.{marks, IfGranted, IsTooLarge};
 ghost use Rattle.delta_plans.specs.Plans.{AreRunsFrom, IsMarkFrom, IsStep};
 
 use crate::offers::{Level, Offer, Step};
-use bench_types::Fault;
+use bench_types::{DigestKind, Fault};
 use planes::{Number, counts_above, is_between, pick};
 use std::alloc::Global;
 
@@ -50,6 +50,7 @@ fn next_runs<N: Number>(
 }
 
 /// Runs as long as they fit, the longest first, and the first that don't.
+#[inline(never)]
 pub(crate) fn depth<N: Number>(alloc: Global, offer: &Offer<N>) -> Result<Level<N>, Fault>
     requires offer { IsTooLarge N.number N.most offer.now }
     ensures { IfGranted result (IsLevelOf ScuttleDepth N.number offer.now) }
@@ -60,7 +61,13 @@ pub(crate) fn depth<N: Number>(alloc: Global, offer: &Offer<N>) -> Result<Level<
     let first = next_runs(alloc, offer, &counts, &near, size)?;
     let mut level = offer.first_level(near, first.marks);
     let mut more = first.more;
-    while let Some(left) = offer.left_of(level.left, more, &level.near, &level.far) {
+    while let Some(left) = offer.left_of(
+        DigestKind::Scuttle,
+        level.left,
+        more,
+        &level.near,
+        &level.far,
+    ) {
         size -= 1;
         let next = next_runs(alloc, offer, &counts, &level.far, size)?;
         level = level.next(more, left, next.marks);

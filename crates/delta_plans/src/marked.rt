@@ -63,7 +63,7 @@ pub fn planned<N: Number>(
     ensures only { IsOkUnless result OutOfMemory }
 {
     let first = First::of(mode);
-    if offer.fits() {
+    if offer.fits(mode.digest_kind()) {
         let mark = Vec::from_slice(alloc, by_first(first, offer.high, offer.low))?;
         let counts = DeltaCounts {
             sent: offer.found,

@@ -2,13 +2,15 @@
 
 ghost use Rattle.std.specs.Prelude.{◌≡◌, ◌+◌, ◌^◌, ◌*◌, ◌<◌, ◌≤◌, ◌↔◌, IsTrue, length, if◌then◌else◌};
 ghost use Rattle.delta_plans.specs.Common.{MOST_ENTRY_SIZE, amount_of, count_between};
-ghost use Rattle.delta_plans.specs.OfferInMemory.{cells_in, high_in, low_in, marks, weight_in, weights_in, AreCounted, HasMarks, HasOwner, IsLeftOf, IsOffer};
+ghost use Rattle.delta_plans.specs.OfferInMemory.{cells_in, high_in, low_in, marks, weight_in, weights_in, AreCounted, AreFound, HasMarks, HasOwner, IsLeftOf, IsOffer};
 ghost use Rattle.delta_plans.specs.Weights.{weight_of};
 
-use bench_types::limits::MOST_ENTRY_SIZE;
-use bench_types::{Budget, Entry};
+use bench_types::limits::{MOST_ENTRY_SIZE, MOST_NODES};
+use bench_types::{Budget, DigestKind, Entry};
 use owner_writes::OwnerWrites;
 use planes::{Grid, Number, is_between};
+
+const MOST_OWNERS: usize = MOST_NODES as usize;
 
 /// The candidates are the cells of each owner above `low`, `found` in all. None is above `high`.
 #[derive(Drop)]
@@ -142,16 +144,74 @@ impl<'a, N: Number> Offer<'a, N> {
         Some(left)
     }
 
+    // The same, where most owners have no such number, whatever their marks are: these are passed over.
+    fn few_bytes_left_of(&self, room: u32, low: &[N], high: &[N]) -> Option<u32>
+        requires { HasMarks N.number N.most self.now low.now high.now }
+        ensures { IsLeftOf room (weight_in N.number self.now (marks N.number low.now)
+            (marks N.number high.now)) result }
+    {
+        let mut has = [false; MOST_OWNERS];
+        let found: &mut [bool] = &mut has[..self.grid.size.nodes];
+        self.find(found, low, high);
+        let mut left = room;
+        for owner in 0..self.grid.size.nodes {
+            if found[owner] {
+                let from = number_at(low, owner);
+                let to = number_at(high, owner);
+                let weight = self.weight_of(owner, from, to);
+                left = left.checked_sub(weight)?;
+            }
+        }
+        Some(left)
+    }
+
+    // Finds the owners that have numbers above one mark and up to another.
+    fn find(&self, found: &mut [bool], low: &[N], high: &[N])
+        requires marks { HasMarks N.number N.most self.now low.now high.now }
+        requires found { length found.old ≡ self.now.grid.size.nodes }
+        ensures { AreFound N.number self.now (marks N.number low.now) (marks N.number high.now)
+            self.now.grid.size.keys found.new }
+    {
+        for key in 0..self.grid.size.keys {
+            self.find_in(key, found, low, high);
+        }
+    }
+
+    // Finds those that have one of a key, beside those found before.
+    fn find_in(&self, key: usize, found: &mut [bool], low: &[N], high: &[N])
+        requires marks { HasMarks N.number N.most self.now low.now high.now }
+        requires key { key < self.now.grid.size.keys }
+        requires found { length found.old ≡ self.now.grid.size.nodes }
+        requires before { AreFound N.number self.now (marks N.number low.now) (marks N.number high.now) key found.old }
+        ensures { AreFound N.number self.now (marks N.number low.now) (marks N.number high.now) (key + 1) found.new }
+    {
+        for owner in 0..found.len() {
+            let cell = self.cell_of(owner, key);
+            let is_found = is_between(cell, number_at(low, owner), number_at(high, owner));
+            found[owner] = found[owner] | is_found;
+        }
+    }
+
     /// What is left of a part of the budget after them, if they fit, where it is known how many these are. Entries need
-    /// no walk then.
-    pub(crate) fn left_of(&self, room: u32, count: u32, low: &[N], high: &[N]) -> Option<u32>
+    /// no walk then. By a scuttle digest an owner whose marks differ has such numbers; by a precise one most have none.
+    pub(crate) fn left_of(
+        &self,
+        kind: DigestKind,
+        room: u32,
+        count: u32,
+        low: &[N],
+        high: &[N],
+    ) -> Option<u32>
         requires { AreCounted N.number N.most self.now count low.now high.now }
         ensures { IsLeftOf room (weight_in N.number self.now (marks N.number low.now)
             (marks N.number high.now)) result }
     {
         match self.budget {
             Budget::Entries(_) => room.checked_sub(count),
-            Budget::Bytes(_) => self.bytes_left_of(room, low, high),
+            Budget::Bytes(_) => match kind {
+                DigestKind::Scuttle => self.bytes_left_of(room, low, high),
+                DigestKind::Precise => self.few_bytes_left_of(room, low, high),
+            },
         }
     }
 
@@ -177,13 +237,16 @@ impl<'a, N: Number> Offer<'a, N> {
         }
     }
 
-    /// Whether all that is offered fits.
-    pub(crate) fn fits(&self) -> bool
+    /// Whether all that is offered by a digest fits.
+    pub(crate) fn fits(&self, kind: DigestKind) -> bool
         requires { IsOffer N.number N.most self.now }
         ensures { IsTrue result ↔ (weight_in N.number self.now (low_in N.number self.now) (high_in N.number self.now)
             ≤ amount_of self.now.budget) }
     {
         let (room, found) = (self.budget.amount(), self.found);
-        self.surely_fit(found) || self.left_of(room, found, self.low, self.high).is_some()
+        self.surely_fit(found)
+            || self
+                .left_of(kind, room, found, self.low, self.high)
+                .is_some()
     }
 }

@@ -8,7 +8,7 @@ ghost use Rattle.delta_plans.specs.RoundLevels.{AreRaised, AreRoundMarks, IsAske
 
 use crate::marked::First;
 use crate::offers::{Level, Offer};
-use bench_types::Fault;
+use bench_types::{DigestKind, Fault};
 use planes::{Ends, Number};
 use std::alloc::Global;
 
@@ -30,6 +30,7 @@ pub(crate) struct Rounds<'a, 'b, N: Number> {
 impl<'a, 'b, N: Number> Rounds<'a, 'b, N> {
     /// The first round that doesn't fit with those before it, from the oldest on or from the newest on. It halves the
     /// rounds between few enough to fit and so many that they don't, with steps that double from the first on.
+    #[inline(never)]
     pub(crate) fn level(&self, alloc: Global) -> Result<Level<N>, Fault>
         requires { IsAsked N.number N.most self.now.offer.now self.now.ends }
         ensures { IfGranted result (IsLevelOfRounds N.number self.now) }
@@ -116,8 +117,8 @@ impl<'a, 'b, N: Number> Rounds<'a, 'b, N> {
         let offer = self.offer;
         let room = offer.budget.amount();
         match self.first {
-            First::Oldest => offer.left_of(room, count, offer.low, mark),
-            First::Newest => offer.left_of(room, count, mark, offer.high),
+            First::Oldest => offer.left_of(DigestKind::Precise, room, count, offer.low, mark),
+            First::Newest => offer.left_of(DigestKind::Precise, room, count, mark, offer.high),
         }
     }
 

@@ -85,12 +85,14 @@ impl<T: MemoryTable, X: Exchanging<T> + Drop, G: Gate + Drop, J: Job> Posts<T, X
         Posts::with(alloc, workers, workers - 1)
     }
 
-    /// Posts for so many workers, each of which has a thread of its own.
-    pub(crate) fn apart(alloc: Global, workers: u32) -> Result<Posts<T, X, G, J>, Fault>
-        requires { AreWorkers workers }
-        ensures { ComesTo result (λ posts. posts ≡ workers) }
+    /// Posts for so many workers, each of which has a thread of its own if there are several. No thread is started yet.
+    pub fn apart(alloc: Global, workers: u32) -> Result<Posts<T, X, G, J>, Fault>
+        requires workers { AreWorkers workers }
+        ensures workers { IfOk result (λ posts. posts ≡ workers) }
+        ensures only { IsOkUnless result OutOfMemory }
     {
-        Posts::with(alloc, workers, workers)
+        let threads = if workers == 1 { 0 } else { workers };
+        Posts::with(alloc, workers, threads)
     }
 
     fn with(alloc: Global, workers: u32, threads: u32) -> Result<Posts<T, X, G, J>, Fault>

@@ -119,8 +119,8 @@ impl<T: MemoryTable + Send + Sync, K: RoundHistories<T>> Sim<T, K> {
         }
     }
 
-    /// As `step`, by workers that were started before, who count the figures too. No thread is started for the
-    /// exchanges. With several workers it is to be called within `Posts::with_threads`, and else never ends.
+    /// As `step`, by workers that were started before. No thread is started for the exchanges. With several workers it
+    /// is to be called within `Posts::with_threads`, and else never ends.
     pub fn step_by<H: Threads + Wait + Sync, G: Gate + Sync + Drop>(
         &mut self,
         rt: &H,
@@ -252,7 +252,7 @@ impl<T: MemoryTable + Send + Sync, K: RoundHistories<T> + Send> Sim<T, K> {
     /// the figures. It comes to the same for every number of workers and every gate.
     ///
     /// With one worker the exchanges are done in list order and no thread is started for them. With more,
-    /// each is a thread that lives for the round. The gate is told of each exchange.
+    /// each is a thread that lives for the round; they count the figures too. The gate is told of each exchange.
     ///
     /// It answers `Broken` where an earlier round failed and `Finished` where all rounds are done, and then
     /// changes nothing. Any other fault breaks the simulation: `OutOfMemory`, or `NoThread` where a worker

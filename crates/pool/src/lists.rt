@@ -7,6 +7,7 @@ ghost use Rattle.node_table.specs.NodeTableView.{kept_table, tables_in};
 ghost use Rattle.model.specs.Runs.{AreWorkers, IsFaultOfWorkers};
 ghost use Rattle.list_order.specs.Carrying.{AreExchanged};
 
+use crate::runs::run_list_with;
 use bench_types::{Fault, Record, Rules};
 use exchange::Entries;
 use model::RoundList;
@@ -14,7 +15,7 @@ use node_table::NodeTable;
 use std::alloc::Global;
 use std::sync::Wait;
 use std::thread::Threads;
-use workers::{Gate, Work, run_list_with};
+use workers::{Gate, Work};
 
 /// Carries out the exchanges of a list, each between two calls of the gate. The answer is the tables, by
 /// node, and the records, in list order: those of one thread that goes through the list in order, whatever

@@ -1,5 +1,5 @@
 -- A round, from the tables with which it begins to those that its exchanges leave.
--- Serves `Cluster::play`.
+-- Serves `NextRound::play`.
 use Rattle.simulation.proofs.Common.{◌≡◌, ℕ, ◌-◌, ◌≤◌, All, List, [], length, map, sym, ap, ◌∙◌, subst, arith, length-map, IsLawfulBudget, IsPlanned, Budget, Entries, Bytes, Record, Rules, Figures, Table, KeepOwnParts, Folded, fold_of, AreTablesInOrder, AreProper, HoldsOfEach, IsCluster, fold_counts_tables, fold_counts_records, fold_keeps_own, fold_proper, cluster_of, RoundListView, IsRoundPlan, round_list_of, Settings, IsBudgetOf, IsLawfulScenario, figures_of, OwnerListView, lists_in, HistoriesView, StandsAmong}
 use Rattle.simulation.specs.calls.Outcomes.{played_with}
 use Rattle.simulation.specs.inner.Steps.{IsPlayedFrom}

@@ -1,5 +1,5 @@
 -- A step that carries out the next round.
--- Serves `Sim::step_with` and `Playing`.
+-- Serves `Sim::step`, `Sim::step_by`, `Sim::take_out` and `Playing`.
 use Rattle.simulation.proofs.Common.{◌≡◌, ℕ, ◌<◌, ◌≤◌, List, [], length, map, get_or, sym, ◌∙◌, arith, suc, ◌+◌, ◌-◌, false, Option, Some, refl, ap, subst, ext_get_or, get_or-map-range_with_len, length-map-range_with_len, Table, Settings, IsLawfulScenario, HistoriesView, OwnerListView, no_writes, lists_in, write_of_entry, length-lists_in, list_read, figures_of, is_none, IfSome, Folded, Entry, Record, round_list_of}
 use Rattle.simulation.specs.Rounds.{tables_after, round_of, records_in}
 use Rattle.simulation.specs.Lists.{list_after, lists_after}
@@ -9,10 +9,11 @@ use Rattle.simulation.specs.calls.Standing.{StandAfterRound}
 use Rattle.simulation.specs.declared.clusters.Cluster.{Cluster}
 use Rattle.simulation.specs.calls.RoundView.{RoundView}
 use Rattle.simulation.specs.Soundness.{AreSound, OnlyRestartsLowerMarks}
-use Rattle.simulation.specs.inner.Insides.{IsInside, IsAfterRound, HasPlayed, simulation_of, tables_held, lists_held}
+use Rattle.simulation.specs.inner.Playing.{HasTakenOut, IsPlayed}
+use Rattle.simulation.specs.inner.Insides.{IsInside, IsAfterRound, simulation_of, tables_held, lists_held}
 use Rattle.simulation.specs.inner.Plans.{IsDrawnAfter}
 use Rattle.simulation.specs.inner.Steps.{HaveEnded}
-use Rattle.simulation.specs.calls.Simulation.{PlaysNext}
+use Rattle.simulation.specs.calls.Simulation.{PlaysNext, SimView}
 use Rattle.simulation.proofs.Soundness.{sound_run, round_rises}
 
 -- the lists are those of the definition
@@ -53,51 +54,54 @@ left_after s round before new records first before_is round_was =
     ∙ sym (tables_after-more s (round - 1))
     ∙ ap (tables_after s) next
 
-module _ {T K : Type 0} (table : T → Table) (kept : K → HistoriesView) (May : ℕ → ℕ → Entry → Type 0) (s : Settings)
-    (cluster : Option (Cluster T K)) (old new : Cluster T K) (done : ℕ) (so_far : IsInside table kept May s cluster done)
-    (is : cluster ≡ Some old) (not_done : done < s.rounds) where
-  previous : done ≡ done + 1 - 1
-  previous = omega arith
+-- what a round asks of the cluster that it begins with
+pub after_before : {T K : Type 0} (table : T → Table) (kept : K → HistoriesView) (May : ℕ → ℕ → Entry → Type 0) (s : Settings)
+    (cluster : Option (Cluster T K)) (old : Cluster T K) (done : ℕ) → IsInside table kept May s cluster done → cluster ≡ Some old
+    → IsAfterRound table kept s (done + 1 - 1) old
+after_before table kept May s cluster old done so_far is = subst (λ r. IsAfterRound table kept s r old) previous (record {
+  standing = subst (λ c. StandAfterRound s done (map table (tables_held c)) (lists_held kept c)) is (so_far.simulation.standing unbroken);
+  tables = ap (λ c. map table (tables_held c)) (sym is) ∙ so_far.simulation.tables unbroken;
+  ended = subst (λ c. IfSome c (λ d. HaveEnded s done (kept d.histories))) is so_far.ended;
+  drawn = subst (λ c. IfSome c (λ d. IsDrawnAfter s done d.drawn)) is so_far.drawn;
+})
+  where
+    previous : done ≡ done + 1 - 1
+    previous = omega arith
 
-  unbroken : is_none cluster ≡ false
-  unbroken = ap is_none is
+    unbroken : is_none cluster ≡ false
+    unbroken = ap is_none is
 
-  before : map table old.tables.items ≡ tables_after s done
-  before = ap (λ c. map table (tables_held c)) (sym is) ∙ so_far.simulation.tables unbroken
+-- a cluster that was taken out has played the next round, and was put back
+pub step_played : {T K : Type 0} (table : T → Table) (kept : K → HistoriesView) (May : ℕ → ℕ → Entry → Type 0) (old out new : SimView T)
+    (c d : Cluster T K) (round : RoundView) → HasTakenOut table kept May old out c
+    → IsPlayed table kept out.settings (out.rounds_done + 1) c d round
+    → new ≡ simulation_of kept out.settings (Some d) (out.rounds_done + 1) → PlaysNext table old new round
+step_played table kept May old out new c d round taken played is = subst (λ v. PlaysNext table old v round) (sym is) (record {
+  may = taken.may;
+  still = refl;
+  settings = taken.settings;
+  done = ap (λ n. n + 1) taken.rounds_done;
+  tables = played.after.tables;
+  standing = played.after.standing;
+  sound = subst (AreSound s (done + 1)) (sym played.after.tables) ((sound_run s lawful.nodes.0 lawful.nodes.1 lawful.keys.0 lawful.keys.1).after (done + 1));
+  kept = subst (λ ts. OnlyRestartsLowerMarks s (done + 1) ts (map table d.tables.items)) (sym before)
+      (subst (OnlyRestartsLowerMarks s (done + 1) (tables_after s done)) (sym played.after.tables)
+      (round_rises s lawful.nodes.0 lawful.nodes.1 lawful.keys.0 lawful.keys.1 done));
+  played = played.played ∙ (λ i. played_with (done + 1) (round_list_of s (done + 1)) (records i)
+      (figures_are s (done + 1) (map table d.tables.items) (kept d.histories).lists played.after.standing played.after.tables i));
+})
+  where
+    s : Settings
+    s = out.settings
 
-  tables_before : map table old.tables.items ≡ tables_after s (done + 1 - 1)
-  tables_before = before ∙ ap (tables_after s) previous
+    done : ℕ
+    done = out.rounds_done
 
-  -- what a round asks of the one that it begins with
-  pub after_before : IsAfterRound table kept s (done + 1 - 1) old
-  after_before = subst (λ r. IsAfterRound table kept s r old) previous (record {
-    standing = subst (λ c. StandAfterRound s done (map table (tables_held c)) (lists_held kept c)) is (so_far.simulation.standing unbroken);
-    tables = before;
-    ended = subst (λ c. IfSome c (λ d. HaveEnded s done (kept d.histories))) is so_far.ended;
-    drawn = subst (λ c. IfSome c (λ d. IsDrawnAfter s done d.drawn)) is so_far.drawn;
-  })
+    lawful : IsLawfulScenario s
+    lawful = taken.before.lawful
 
-  module _ (standing : StandAfterRound s (done + 1) (map table new.tables.items) (kept new.histories).lists)
-      (after : map table new.tables.items ≡ tables_after s (done + 1)) where
-    pub step_played : (round : RoundView) → IsLawfulScenario s → HasPlayed table kept s (done + 1) old new round
-        → PlaysNext table (simulation_of kept s cluster done) (simulation_of kept s (Some new) (done + 1)) round
-    step_played round lawful played = record {
-      may = (unbroken, not_done);
-      still = refl;
-      settings = refl;
-      done = refl;
-      tables = after;
-      standing = standing;
-      sound = subst (AreSound s (done + 1)) (sym after) ((sound_run s lawful.nodes.0 lawful.nodes.1 lawful.keys.0 lawful.keys.1).after (done + 1));
-      kept = subst (λ ts. OnlyRestartsLowerMarks s (done + 1) ts (map table new.tables.items)) (sym before_held)
-          (subst (OnlyRestartsLowerMarks s (done + 1) (tables_after s done)) (sym after)
-          (round_rises s lawful.nodes.0 lawful.nodes.1 lawful.keys.0 lawful.keys.1 done));
-      played = played ∙ (λ i. played_with (done + 1) (round_list_of s (done + 1)) (records i)
-          (figures_are s (done + 1) (map table new.tables.items) (kept new.histories).lists standing after i));
-    }
-      where
-        before_held : map table (tables_held cluster) ≡ tables_after s done
-        before_held = so_far.simulation.tables unbroken
+    before : map table old.tables ≡ tables_after s done
+    before = ap (map table) taken.tables ∙ taken.before.before.tables ∙ ap (tables_after s) (omega arith)
 
-        records : (round_of s (done + 1) (map table old.tables.items)).records ≡ records_in s (done + 1)
-        records = ap (λ ts. (round_of s (done + 1) ts).records) tables_before
+    records : (round_of s (done + 1) (map table c.tables.items)).records ≡ records_in s (done + 1)
+    records = ap (λ ts. (round_of s (done + 1) ts).records) taken.before.before.tables

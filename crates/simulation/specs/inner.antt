@@ -2,3 +2,4 @@ pub mod Insides
 pub mod Steps
 pub mod InMemory
 pub mod Plans
+pub mod Playing

@@ -2,7 +2,6 @@
 
 ghost use Rattle.std.specs.Prelude.{◌≡◌, ◌+◌, ◌-◌, ◌≤◌, map, IfOk, IfErr, OnOk, IsOkUnless};
 ghost use Rattle.bench_types.specs.declared.faults.Fault.TheVariants.{OutOfMemory};
-ghost use Rattle.scenario.specs.Settings.{IsLawfulScenario};
 ghost use Rattle.model.specs.calls.OwnerListView.{written};
 ghost use Rattle.model.specs.Runs.{IsFaultOfWorkers};
 ghost use Rattle.model.specs.Tables.{AreProper};
@@ -10,23 +9,23 @@ ghost use Rattle.round_plan.specs.calls.Words.{run_words_of};
 ghost use Rattle.simulation.specs.Rounds.{opening_tables, after_restart, rules_of};
 ghost use Rattle.round_histories.specs.Histories.{AreNewHistories};
 ghost use Rattle.simulation.specs.inner.InMemory.{HasBegun, IsBeforeRound, IsBegun, TablesStand, IsOwnerIn, IsRestartedIn, WritesIn};
-ghost use Rattle.simulation.specs.inner.Insides.{HasPlayed, IsAfterRound};
+ghost use Rattle.simulation.specs.inner.Insides.{IsAfterRound};
+ghost use Rattle.simulation.specs.inner.Playing.{MayPlay, Plays};
 ghost use Rattle.simulation.specs.inner.Plans.{IsDrawnAfter, MayDraw};
 ghost use Rattle.simulation.specs.inner.Steps.{HaveEnded, IsRoundOf, LeavesOthers, MayWriteOwn};
 
-use crate::carriers::{Carriers, Orders, count_figures};
 use crate::openings::{empty_tables, empty_tables_by, histories_of, shares_of};
 use crate::plans::{Drawn, Plan, next_plan};
 use crate::rounds::Round;
 use bench_types::{Fault, Rules};
 use model::MemoryTable;
-use round_histories::{Counted, Resources, RoundHistories};
+use round_histories::{Counted, Hands, Resources, RoundHistories};
 use round_plan::{OwnWrite, RunWords, forgets_now, restarts_now, writes_by};
 use scenario::Scenario;
 use std::alloc::Global;
 use std::sync::Wait;
 use std::thread::Threads;
-use workers::{Done, Gate};
+use workers::{Batch, Done, Gate, Posts};
 
 /// What all nodes hold, what each has written, and what is drawn of the rounds.
 #[derive(Drop)]
@@ -81,30 +80,89 @@ impl<T: MemoryTable + Send + Sync, K: RoundHistories<T>> Cluster<T, K> {
             drawn,
         })
     }
+}
 
-    /// A round. Where it fails, the tables are given up.
-    pub(crate) fn play<H: Threads + Wait + Sync, G: Gate + Sync + Drop>(
+/// A cluster, the round of its scenario that comes next, and what is told of its exchanges.
+#[derive(Drop)]
+pub(crate) struct NextRound<'a, T, K, G> {
+    pub(crate) cluster: Cluster<T, K>,
+    pub(crate) scenario: &'a Scenario,
+    pub(crate) round: u32,
+    pub(crate) gate: G,
+}
+
+impl<
+    T: MemoryTable + Send + Sync,
+    K: RoundHistories<T> + Send,
+    G: Gate + Send + Sync + Drop,
+> NextRound<'_, T, K, G> {
+    /// The round, by workers that are started for it, each of which has a thread of its own if there are several.
+    pub(crate) fn play_apart<H: Threads + Wait + Sync>(
         self,
         resources: &Resources<H>,
-        scenario: &Scenario,
-        round: u32,
-        carriers: Carriers<T, K, G, K::Job>,
     ) -> Result<(Cluster<T, K>, Round), Fault>
-        requires lawful { IsLawfulScenario scenario.now }
-        requires round { IsRoundOf K.may_write scenario.now round }
-        requires before { IsAfterRound T.table K.kept scenario.now (round - 1) self }
-        ensures after { IfOk result (λ p. IsAfterRound T.table K.kept scenario.now round p.0) }
-        ensures played { IfOk result (λ p. HasPlayed T.table K.kept scenario.now round self p.0 p.1) }
+        requires { MayPlay T.table K.kept K.may_write self }
+        ensures played { IfOk result (λ p. Plays T.table K.kept self.entry p.0 p.1) }
         ensures fault { IfErr result (IsFaultOfWorkers resources.now.hands.workers) }
     {
         let rt = resources.rt;
         let alloc = resources.alloc;
+        let processors = resources.hands.processors;
+        let posts: Posts<T, K, G, K::Job> = Posts::apart(alloc, resources.hands.workers)?;
+        let by = &posts;
+        let answer = posts.with_threads(
+            rt,
+            self,
+            move |next|
+                requires { MayPlay T.table K.kept K.may_write next }
+                ensures played { IfOk result (λ p. Plays T.table K.kept next.entry p.0 p.1) }
+                ensures only { IsOkUnless result OutOfMemory }
+            {
+                let hands = Hands {
+                    workers: by.workers(),
+                    processors,
+                };
+                let resources = Resources { rt, alloc, hands };
+                next.play(&resources, by)
+            },
+        );
+        match answer {
+            Ok(played) => played,
+            Err(_) => Err(Fault::NoThread),
+        }
+    }
+}
+
+impl<T: MemoryTable + Send + Sync, K: RoundHistories<T>, G: Gate + Sync + Drop> NextRound<
+    '_,
+    T,
+    K,
+    G,
+> {
+    /// The round, by workers at their posts. Where it fails, the tables are given up.
+    pub(crate) fn play<H: Threads + Wait + Sync>(
+        self,
+        resources: &Resources<H>,
+        posts: &Posts<T, K, G, K::Job>,
+    ) -> Result<(Cluster<T, K>, Round), Fault>
+        requires { MayPlay T.table K.kept K.may_write self }
+        ensures played { IfOk result (λ p. Plays T.table K.kept self.entry p.0 p.1) }
+        ensures only { IsOkUnless result OutOfMemory }
+    {
+        let rt = resources.rt;
+        let alloc = resources.alloc;
         let hands = resources.hands;
+        let NextRound {
+            cluster,
+            scenario,
+            round,
+            gate,
+        } = self;
         let Cluster {
             tables,
             histories,
             drawn,
-        } = self;
+        } = cluster;
         let Plan { words, list } = drawn.plan(resources, scenario, round)?;
         let start = Start {
             scenario,
@@ -113,7 +171,12 @@ impl<T: MemoryTable + Send + Sync, K: RoundHistories<T>> Cluster<T, K> {
         };
         let (begun, histories) = begin(&start, tables, histories)?;
         let rules = rules_of(scenario);
-        let orders = Orders { list, rules };
+        let batch = Batch {
+            shared: histories,
+            list: &list,
+            rules: &rules,
+            gate,
+        };
         let draw = move || -> Result<Drawn, Fault>
             requires { MayDraw scenario.now round words }
             ensures drawn { IfOk result (IsDrawnAfter scenario.entry.now round) }
@@ -126,20 +189,19 @@ impl<T: MemoryTable + Send + Sync, K: RoundHistories<T>> Cluster<T, K> {
             let next = next_plan(words, rt, alloc, scenario, round + 1)?;
             Ok(Drawn::Next(next))
         };
-        let posts = carriers.posts;
         let Done {
             tables,
             records,
             shared: histories,
             made,
-        } = carriers.carry_out(resources, &orders, begun, histories, draw)?;
+        } = posts.carry_out(rt, batch, begun, draw)?;
         let drawn = made?;
         let Counted {
             figures,
             tables,
             histories,
-        } = count_figures(resources, posts, tables, histories)?;
-        let played = Round::of(round, orders.list, records, figures);
+        } = histories.figures_by(resources, posts, tables)?;
+        let played = Round::of(round, list, records, figures);
         Ok((
             Cluster {
                 tables,

@@ -15,7 +15,6 @@
 //!   be refused for want of one.
 #![tactic(auto)]
 
-mod carriers;
 mod clusters;
 mod laws;
 mod openings;

@@ -1,15 +1,15 @@
 //! A simulation, round by round.
 
-ghost use Rattle.std.specs.Prelude.{◌≡◌, ◌≤◌, true, false, [], map, IfOk, IfErr, OnOk, IsOkUnless};
+ghost use Rattle.std.specs.Prelude.{◌≡◌, ◌+◌, ◌<◌, ◌≤◌, true, false, [], map, Some, IfOk, IfErr, OnOk, IsOkUnless};
 ghost use Rattle.bench_types.specs.declared.faults.Fault.TheVariants.{OutOfMemory};
 ghost use Rattle.scenario.specs.Settings.{IsLawfulScenario};
 ghost use Rattle.model.specs.Runs.{AreWorkers};
 ghost use Rattle.simulation.specs.Rounds.{opening_tables};
-ghost use Rattle.simulation.specs.inner.Insides.{IsAfterRound};
+ghost use Rattle.simulation.specs.inner.Insides.{IsAfterRound, simulation_of};
+ghost use Rattle.simulation.specs.inner.Playing.{HasTakenOut};
 ghost use Rattle.simulation.specs.calls.Simulation.{AreTablesAfter, MayWriteAll, PlaysNext, MayStep, IsRefusedBy, IsStepFault};
 
-use crate::carriers::Carriers;
-use crate::clusters::Cluster;
+use crate::clusters::{Cluster, NextRound};
 use crate::processors::processors_of;
 use crate::rounds::Round;
 use bench_types::Fault;
@@ -119,31 +119,8 @@ impl<T: MemoryTable + Send + Sync, K: RoundHistories<T>> Sim<T, K> {
         }
     }
 
-    /// Carries out the next round: the restarts, the writes by node, the exchanges of the round's list,
-    /// the figures. It comes to the same for every number of workers and every gate.
-    ///
-    /// With one worker the exchanges are done in list order and no thread is started for them. With more,
-    /// each is a thread that lives for the round. The gate is told of each exchange.
-    ///
-    /// It answers `Broken` where an earlier round failed and `Finished` where all rounds are done, and then
-    /// changes nothing. Any other fault breaks the simulation: `OutOfMemory`, or `NoThread` where a worker
-    /// couldn't be started.
-    pub fn step<H: Threads + Wait + Sync, G: Gate + Sync>(
-        &mut self,
-        rt: &H,
-        workers: u32,
-        gate: &G,
-    ) -> Result<Round, Fault>
-        requires workers { AreWorkers workers }
-        ensures played { IfOk result (PlaysNext T.table self.old self.new) }
-        ensures fails { IfErr result (IsStepFault workers self.old self.new) }
-    {
-        let carriers = Carriers { posts: None, gate };
-        self.step_with(rt, workers, carriers)
-    }
-
-    /// As `step`, by workers that were started before, who count the figures too. No thread is started for the
-    /// exchanges. With several workers it is to be called within `Posts::with_threads`, and else never ends.
+    /// As `step`, by workers that were started before. No thread is started for the exchanges. With several workers it
+    /// is to be called within `Posts::with_threads`, and else never ends.
     pub fn step_by<H: Threads + Wait + Sync, G: Gate + Sync + Drop>(
         &mut self,
         rt: &H,
@@ -153,42 +130,57 @@ impl<T: MemoryTable + Send + Sync, K: RoundHistories<T>> Sim<T, K> {
         ensures played { IfOk result (PlaysNext T.table self.old self.new) }
         ensures fails { IfErr result (IsStepFault posts.now self.old self.new) }
     {
-        let carriers = Carriers {
-            posts: Some(posts),
+        let cluster = self.take_out()?;
+        let resources = self.resources(rt, posts.workers());
+        let next = NextRound {
+            cluster,
+            scenario: &self.scenario,
+            round: self.rounds_done + 1,
             gate,
         };
-        self.step_with(rt, posts.workers(), carriers)
+        let (cluster, round) = next.play(&resources, posts)?;
+        self.put_back(cluster);
+        Ok(round)
     }
 
-    fn step_with<H: Threads + Wait + Sync, G: Gate + Sync + Drop>(
-        &mut self,
-        rt: &H,
-        workers: u32,
-        carriers: Carriers<T, K, G, K::Job>,
-    ) -> Result<Round, Fault>
-        requires workers { AreWorkers workers }
-        ensures played { IfOk result (PlaysNext T.table self.old self.new) }
-        ensures fails { IfErr result (IsStepFault workers self.old self.new) }
+    // The cluster, if a round is left. Until it is put back the simulation is broken.
+    fn take_out(&mut self) -> Result<Cluster<T, K>, Fault>
+        ensures taken { IfOk result (HasTakenOut T.table K.kept K.may_write self.old self.new) }
+        ensures refused { IfErr result (λ fault. IsRefusedBy self.old fault × (self.new ≡ self.old)) }
     {
         self.check_step()?;
         let Some(cluster) = self.cluster.take() else {
             return Err(Fault::Broken);
         };
+        Ok(cluster)
+    }
+
+    // What a round is carried out with.
+    fn resources<'r, H: Threads>(&mut self, rt: &'r H, workers: u32) -> Resources<'r, H>
+        requires { AreWorkers workers }
+        ensures same { self.new ≡ self.old }
+        ensures workers { result.hands.workers ≡ workers }
+    {
         let processors = processors_of(rt, self.processors);
         self.processors = Some(processors);
-        let resources = Resources {
+        Resources {
             rt,
             alloc: self.alloc,
             hands: Hands {
                 workers,
                 processors,
             },
-        };
-        let next = self.rounds_done + 1;
-        let (cluster, round) = cluster.play(&resources, &self.scenario, next, carriers)?;
+        }
+    }
+
+    // The cluster after one more round.
+    fn put_back(&mut self, cluster: Cluster<T, K>)
+        requires left { self.old.rounds_done < self.old.settings.rounds }
+        requires after { IsAfterRound T.table K.kept self.old.settings (self.old.rounds_done + 1) cluster }
+        ensures { self.new ≡ simulation_of K.kept self.old.settings (Some cluster) (self.old.rounds_done + 1) }
+    {
         self.cluster = Some(cluster);
         self.rounds_done += 1;
-        Ok(round)
     }
 
     fn check_step(&self) -> Result<(), Fault>
@@ -252,5 +244,39 @@ impl<T: MemoryTable + Send + Sync, K: RoundHistories<T>> Sim<T, K> {
         ensures some { 1 ≤ result }
     {
         self.scenario.rounds()
+    }
+}
+
+impl<T: MemoryTable + Send + Sync, K: RoundHistories<T> + Send> Sim<T, K> {
+    /// Carries out the next round: the restarts, the writes by node, the exchanges of the round's list,
+    /// the figures. It comes to the same for every number of workers and every gate.
+    ///
+    /// With one worker the exchanges are done in list order and no thread is started for them. With more,
+    /// each is a thread that lives for the round; they count the figures too. The gate is told of each exchange.
+    ///
+    /// It answers `Broken` where an earlier round failed and `Finished` where all rounds are done, and then
+    /// changes nothing. Any other fault breaks the simulation: `OutOfMemory`, or `NoThread` where a worker
+    /// couldn't be started.
+    pub fn step<H: Threads + Wait + Sync, G: Gate + Sync>(
+        &mut self,
+        rt: &H,
+        workers: u32,
+        gate: &G,
+    ) -> Result<Round, Fault>
+        requires workers { AreWorkers workers }
+        ensures played { IfOk result (PlaysNext T.table self.old self.new) }
+        ensures fails { IfErr result (IsStepFault workers self.old self.new) }
+    {
+        let cluster = self.take_out()?;
+        let resources = self.resources(rt, workers);
+        let next = NextRound {
+            cluster,
+            scenario: &self.scenario,
+            round: self.rounds_done + 1,
+            gate,
+        };
+        let (cluster, round) = next.play_apart(&resources)?;
+        self.put_back(cluster);
+        Ok(round)
     }
 }

@@ -9,4 +9,3 @@ pub mod Workshops
 pub mod Shifts
 pub mod Handed
 pub mod Works
-pub mod Loans

@@ -15,9 +15,7 @@
 #![tactic(auto)]
 
 mod gathering;
-mod lent;
 mod posts;
-mod runs;
 mod shifts;
 mod tasks;
 mod workers;
@@ -25,4 +23,3 @@ mod workers;
 pub use crew::NoJob;
 pub use list_order::{Batch, Done, FreeGate, Gate, Work};
 pub use posts::Posts;
-pub use runs::run_list_with;

@@ -3,12 +3,11 @@
 ghost use Rattle.std.specs.Prelude.{◌≡◌, ◌<◌, map, vec_len, IfOk, IfErr, IsOkUnless, MatchResult};
 ghost use Rattle.std.specs.Arc.{arc_value};
 ghost use Rattle.bench_types.specs.declared.faults.Fault.TheVariants.{NoThread, OutOfMemory};
-ghost use Rattle.model.specs.Runs.{AreWorkers, IsFaultOfWorkers};
+ghost use Rattle.model.specs.Runs.{AreWorkers};
 ghost use Rattle.list_order.specs.Carrying.{MayCarryOut, IsBatchDone};
 ghost use Rattle.crew.specs.Named.{post_count};
 ghost use Rattle.workers.specs.inner.Handed.{MayHandOut};
 ghost use Rattle.workers.specs.inner.Joined.{HasSharedOut};
-ghost use Rattle.workers.specs.inner.Loans.{IsLoanDone, MayBeLent};
 ghost use Rattle.workers.specs.inner.Outcomes.{ComesTo};
 ghost use Rattle.workers.specs.inner.Works.{MayShareOut};
 
@@ -44,14 +43,6 @@ impl<T: MemoryTable, X: Exchanging<T> + Drop, G: Gate + Drop, J: Job> Duty<T, X,
     }
 }
 
-/// One list with its tables, and what is called meanwhile.
-#[derive(Drop)]
-pub(crate) struct Loan<'a, T, X, G, F> {
-    pub batch: Batch<'a, X, G>,
-    pub tables: Vec<T>,
-    pub meanwhile: F,
-}
-
 /// Where workers are given lists to carry out, or jobs of another kind. Each has a thread of its own, but that the
 /// caller's thread may be one.
 #[derive(Drop)]
@@ -85,12 +76,14 @@ impl<T: MemoryTable, X: Exchanging<T> + Drop, G: Gate + Drop, J: Job> Posts<T, X
         Posts::with(alloc, workers, workers - 1)
     }
 
-    /// Posts for so many workers, each of which has a thread of its own.
-    pub(crate) fn apart(alloc: Global, workers: u32) -> Result<Posts<T, X, G, J>, Fault>
-        requires { AreWorkers workers }
-        ensures { ComesTo result (λ posts. posts ≡ workers) }
+    /// Posts for so many workers, each of which has a thread of its own if there are several. No thread is started yet.
+    pub fn apart(alloc: Global, workers: u32) -> Result<Posts<T, X, G, J>, Fault>
+        requires workers { AreWorkers workers }
+        ensures workers { IfOk result (λ posts. posts ≡ workers) }
+        ensures only { IsOkUnless result OutOfMemory }
     {
-        Posts::with(alloc, workers, workers)
+        let threads = if workers == 1 { 0 } else { workers };
+        Posts::with(alloc, workers, threads)
     }
 
     fn with(alloc: Global, workers: u32, threads: u32) -> Result<Posts<T, X, G, J>, Fault>
@@ -235,46 +228,6 @@ impl<
     G: Gate + Send + Sync + Drop,
     J: Job + Send,
 > Posts<T, X, G, J> {
-    /// Starts the threads, if there are several workers, lends them one list, and sends them home.
-    pub(crate) fn carry_out_once<R: Threads + Wait + Sync, F: FnOnce() -> M + Drop, M: Drop>(
-        self,
-        rt: &R,
-        loan: Loan<T, X, G, F>,
-    ) -> Result<Done<T, X, M>, Fault>
-        requires { MayBeLent T.table X.fits F.pre loan }
-        ensures { MatchResult result (IsLoanDone T.table F.post loan.entry) (IsFaultOfWorkers self) }
-    {
-        let posts = &self;
-        let answer = posts.with_threads(
-            rt,
-            loan,
-            move |loan|
-                requires { MayBeLent T.table X.fits F.pre loan }
-                ensures { ComesTo result (IsLoanDone T.table F.post loan.entry) }
-            { posts.carry_out_loan(rt, loan) },
-        );
-        match answer {
-            Ok(done) => done,
-            Err(_) => Err(Fault::NoThread),
-        }
-    }
-
-    fn carry_out_loan<R: Wait, F: FnOnce() -> M + Drop, M: Drop>(
-        &self,
-        rt: &R,
-        loan: Loan<T, X, G, F>,
-    ) -> Result<Done<T, X, M>, Fault>
-        requires { MayBeLent T.table X.fits F.pre loan }
-        ensures { ComesTo result (IsLoanDone T.table F.post loan.entry) }
-    {
-        let Loan {
-            batch,
-            tables,
-            meanwhile,
-        } = loan;
-        self.carry_out(rt, batch, tables, meanwhile)
-    }
-
     /// Starts the threads, if there are several workers, calls `body` with what is lent and sends them home. Where one
     /// can't be started, what was lent comes back. It goes by value, since a scope says nothing of a `&mut` that its
     /// closure holds.

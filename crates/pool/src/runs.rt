@@ -1,18 +1,18 @@
-//! Carrying out the exchanges of a list.
+//! Carrying out the exchanges of a list, by workers that are started for it.
 
-ghost use Rattle.std.specs.Prelude.{map, IfOk, IfErr};
+ghost use Rattle.std.specs.Prelude.{map, IfOk, IfErr, IsOkUnless, MatchResult};
+ghost use Rattle.bench_types.specs.declared.faults.Fault.TheVariants.{OutOfMemory};
 ghost use Rattle.model.specs.Runs.{AreWorkers, IsFaultOfWorkers};
 ghost use Rattle.list_order.specs.Carrying.{MayCarryOut, AreExchanged};
+ghost use Rattle.pool.specs.inner.Loans.{IsLoanDone, MayBeLent};
 
 use crate::lent::Lent;
-use crate::posts::{Loan, Posts};
 use bench_types::{Fault, Record};
-use crew::NoJob;
-use list_order::{Batch, Gate, Work};
 use model::{Exchanging, MemoryTable};
 use std::alloc::Global;
 use std::sync::Wait;
 use std::thread::Threads;
+use workers::{Batch, Done, Gate, NoJob, Posts, Work};
 
 /// Carries out the exchanges of a list on tables of any representation. The answer is the tables, by node, and the
 /// records, in list order: those of one thread that goes through the list in order, whatever order the workers take.
@@ -63,6 +63,49 @@ pub fn run_list_with<
         tables,
         meanwhile,
     };
-    let done = posts.carry_out_once(rt, loan)?;
+    let done = carry_out_once(rt, posts, loan)?;
     Ok((done.tables, done.records, done.made))
+}
+
+// One list with its tables, and what is called meanwhile.
+#[derive(Drop)]
+struct Loan<'a, T, X, G, F> {
+    batch: Batch<'a, X, G>,
+    tables: Vec<T>,
+    meanwhile: F,
+}
+
+// Starts the threads, if there are several workers, lends them one list, and sends them home.
+fn carry_out_once<
+    R: Threads + Wait + Sync,
+    T: MemoryTable + Send + Sync,
+    X: Exchanging<T> + Send + Drop,
+    G: Gate + Send + Sync + Drop,
+    F: FnOnce() -> M + Drop,
+    M: Drop,
+>(rt: &R, posts: Posts<T, X, G, NoJob>, loan: Loan<T, X, G, F>) -> Result<Done<T, X, M>, Fault>
+    requires { MayBeLent T.table X.fits F.pre loan }
+    ensures { MatchResult result (IsLoanDone T.table F.post loan.entry) (IsFaultOfWorkers posts) }
+{
+    let by = &posts;
+    let answer = posts.with_threads(
+        rt,
+        loan,
+        move |loan|
+            requires { MayBeLent T.table X.fits F.pre loan }
+            ensures done { IfOk result (IsLoanDone T.table F.post loan.entry) }
+            ensures only { IsOkUnless result OutOfMemory }
+        {
+            let Loan {
+                batch,
+                tables,
+                meanwhile,
+            } = loan;
+            by.carry_out(rt, batch, tables, meanwhile)
+        },
+    );
+    match answer {
+        Ok(done) => done,
+        Err(_) => Err(Fault::NoThread),
+    }
 }

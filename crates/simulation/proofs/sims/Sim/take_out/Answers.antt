@@ -1,0 +1,24 @@
+use Rattle.simulation.proofs.Common.{sym, ◌∙◌, subst, arith, ap, is_none, IsLawfulScenario}
+use Rattle.simulation.specs.calls.Simulation.{SimView, MayStep}
+use Rattle.simulation.specs.inner.Insides.{tables_held}
+use Rattle.simulation.proofs.Stepping.{after_before}
+use Rattle.simulation.proofs.sims.Sim.take_out.Goals as goal
+
+pub returns-clause-taken : goal.returns-clause-taken
+returns-clause-taken g c =
+    let may = subst MayStep (sym c.self.view_is) c.in_ok-check_step.ensures.ok in
+    let lawful = subst (λ (v : SimView g.row.T.Denot). IsLawfulScenario v.settings) (sym c.self.view_is) c.in_ok-check_step.ensures.lawful in
+    let is = sym c.take.ensures.value ∙ c.in-Some.is in
+    record {
+      may = c.in_ok-check_step.ensures.ok;
+      before = record {
+        lawful = lawful;
+        of_run = record { first = omega arith; last = omega (arith, may.1, lawful.rounds.1); within = omega (arith, may.1); may_write = c.self.invariant.may_write };
+        before = after_before g.T.MemoryTable.table g.K.RoundHistories.kept g.K.RoundHistories.may_write c.self.inside.scenario c.self.inside.cluster _
+            c.self.inside.rounds_done c.self.invariant is;
+      };
+      tables = sym (ap (λ (v : SimView g.row.T.Denot). v.tables) c.self.view_is) ∙ ap tables_held is;
+      broken = ap is_none c.take.ensures.after;
+      settings = ap (λ (v : SimView g.row.T.Denot). v.settings) c.self.view_is;
+      rounds_done = ap (λ (v : SimView g.row.T.Denot). v.rounds_done) c.self.view_is;
+    }

@@ -1,0 +1,43 @@
+-- A round that a cluster plays. Source: this project.
+use Rattle.std.specs.Prelude.{◌≡◌, ℕ, ◌+◌, ◌-◌, true}
+use Rattle.bench_types.specs.declared.entries.Entry.{Entry}
+use Rattle.scenario.specs.Settings.{IsLawfulScenario, Settings}
+use Rattle.model.specs.Table.{Table}
+use Rattle.round_histories.specs.Histories.{HistoriesView}
+use Rattle.simulation.specs.declared.clusters.Cluster.{Cluster}
+use Rattle.simulation.specs.declared.clusters.NextRound.{NextRound}
+use Rattle.simulation.specs.calls.RoundView.{RoundView}
+use Rattle.simulation.specs.calls.Simulation.{MayStep, SimView}
+use Rattle.simulation.specs.inner.Insides.{HasPlayed, IsAfterRound}
+use Rattle.simulation.specs.inner.Steps.{IsRoundOf}
+
+-- a cluster may play this round of a scenario
+pub record IsBefore {T K : Type 0} (table : T → Table) (kept : K → HistoriesView) (May : ℕ → ℕ → Entry → Type 0)
+    (s : Settings) (round : ℕ) (c : Cluster T K) : Type 0 where
+  pub lawful : IsLawfulScenario s
+  pub of_run : IsRoundOf May s round
+  pub before : IsAfterRound table kept s (round - 1) c
+
+abbrev pub MayPlay : {T K G : Type 0} → (T → Table) → (K → HistoriesView) → (ℕ → ℕ → Entry → Type 0)
+    → NextRound T K G → Type 0
+MayPlay table kept May next = IsBefore table kept May next.scenario.now next.round next.cluster
+
+-- it did: this is what it came to
+pub record IsPlayed {T K : Type 0} (table : T → Table) (kept : K → HistoriesView) (s : Settings) (round : ℕ)
+    (old new : Cluster T K) (result : RoundView) : Type 0 where
+  pub after : IsAfterRound table kept s round new
+  pub played : HasPlayed table kept s round old new result
+
+abbrev pub Plays : {T K G : Type 0} → (T → Table) → (K → HistoriesView) → NextRound T K G → Cluster T K → RoundView
+    → Type 0
+Plays table kept next new played = IsPlayed table kept next.scenario.now next.round next.cluster new played
+
+-- the cluster of a simulation, which is broken without it, may play the next round
+pub record HasTakenOut {T K : Type 0} (table : T → Table) (kept : K → HistoriesView) (May : ℕ → ℕ → Entry → Type 0)
+    (old new : SimView T) (c : Cluster T K) : Type 0 where
+  pub may : MayStep old
+  pub before : IsBefore table kept May new.settings (new.rounds_done + 1) c
+  pub tables : old.tables ≡ c.tables.items
+  pub broken : new.broken ≡ true
+  pub settings : new.settings ≡ old.settings
+  pub rounds_done : new.rounds_done ≡ old.rounds_done

@@ -13,7 +13,7 @@ use round_plan::writes_in;
 use scenario::Scenario;
 use std::sync::Wait;
 use std::thread::Threads;
-use version_tables::{Histories, Short, VersionTable, Written};
+use version_tables::{Histories, SharedNumber, Short, VersionTable, Written};
 
 // So few numbers in all tables are gone over by one thread: to hand out their exchanges takes longer than it saves.
 const FEW_NUMBERS: u64 = 524_288;
@@ -74,10 +74,24 @@ fn write_in_few_bits<L: Written + Send + Sync, H: Threads + Wait + Sync, O: Roun
 {
     let most = most_in_a_run(&scenario);
     if most < u8::MAX as u32 {
-        write_over::<VersionTable<u8, L>, Histories<u8, L>, H, O>(resources, scenario, output)
+        write_in::<u8, L, H, O>(resources, scenario, output)
     } else if most < i16::MAX as u32 {
-        write_over::<VersionTable<Short, L>, Histories<Short, L>, H, O>(resources, scenario, output)
+        write_in::<Short, L, H, O>(resources, scenario, output)
     } else {
-        write_over::<VersionTable<u32, L>, Histories<u32, L>, H, O>(resources, scenario, output)
+        write_in::<u32, L, H, O>(resources, scenario, output)
     }
+}
+
+// The rounds over tables of numbers that are enough for all writes.
+fn write_in<
+    N: SharedNumber + Send + Sync,
+    L: Written + Send + Sync,
+    H: Threads + Wait + Sync,
+    O: RoundWriter,
+>(resources: &Resources<H>, scenario: Scenario, output: &mut O) -> Result<Scenario, Fault>
+    requires are { AreWrittenIn L.lists scenario }
+    requires enough { HasWritesBelow N.most scenario }
+    ensures { AnswersRounds O.wrote O.stops scenario output.old output.new resources.now.workers result }
+{
+    write_over::<VersionTable<N, L>, Histories<N, L>, H, O>(resources, scenario, output)
 }

@@ -40,20 +40,17 @@ pub(crate) fn exchange<N: Number, H: Written>(
         let digest1 = digest_size(initiator, rules.mode);
         let digest2 = digest_size(responder, rules.mode);
         let came = merge(initiator, responder);
-        let back = all_sent(came.first);
-        let forth = all_sent(came.second);
+        let back = DeltaCounts {
+            sent: came.first,
+            cut: 0,
+        };
+        let forth = DeltaCounts {
+            sent: came.second,
+            cut: 0,
+        };
         return Ok(sent_both(digest1, digest2, back, forth, false));
     }
     exchange_deltas(course, initiator, responder)
-}
-
-fn all_sent(count: u32) -> DeltaCounts
-    ensures { result ≡ record { sent = count; cut = 0 } }
-{
-    DeltaCounts {
-        sent: count,
-        cut: 0,
-    }
 }
 
 // The exchange from the second message on. The first one came.

@@ -35,5 +35,6 @@ mod taking;
 pub use delta_plans::deltas_have_their_sets;
 pub use ended::Ended;
 pub use histories::Histories;
+pub use lags::SharedNumber;
 pub use planes::{Number, Short};
 pub use tables::{VersionTable, Written};

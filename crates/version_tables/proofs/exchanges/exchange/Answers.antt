@@ -24,4 +24,4 @@ returns-then-may_merge-clause-ok g c =
     (c.may_merge.ensures.0 c.if-may_merge.true)
     c.merge-came.ensures c.digest_size-digest1-then-may_merge.result c.digest_size-digest2.result c.digest_size-digest1-then-may_merge.ensures.size
     c.digest_size-digest2.ensures.size c.if-plan.false c.if-not-plan.true c.if-not-plan-2.true
-    c.sent_both.result (rw (c.all_sent-back.ensures, c.all_sent-forth.ensures) at c.sent_both.ensures)
+    c.sent_both.result c.sent_both.ensures

@@ -9,3 +9,6 @@ invariant_of-self-2 g c =
     histories-ended c.self.invariant (ap (map number) (c.in_ok-extend_from_slice.ensures.items ∙ ap (λ xs. ends ++ xs) c.deref.ensures.value)
     ∙ map-append number ends c.self.inside.counts.items)
     (subst (λ (h : HistoriesView). h.rounds < MOST_ROUNDS) (sym c.self.view_is) c.requires)
+
+pub returns-clause-known : goal.returns-clause-known
+returns-clause-known g c = (invariant_of-self-2 g c).known

@@ -1,4 +1,4 @@
-use Rattle.version_tables.proofs.Common.{rules, ◌≡◌, ◌+◌, ◌*◌, length, map, set, ap, subst, sym, ◌∙◌, all_writes, list_of_owner, with_write, ListBecomes, HistoriesView, MayAddWrite}
+use Rattle.version_tables.proofs.Common.{rules, refl, ◌≡◌, ◌+◌, ◌*◌, length, map, set, ap, subst, sym, ◌∙◌, all_writes, list_of_owner, with_write, ListBecomes, HistoriesView, MayAddWrite}
 use Rattle.version_tables.proofs.HistoryCalls.{count-read, histories-written, list-becomes, nodes-are, numbers-set}
 use Rattle.version_tables.proofs.Laid.{seen}
 use Rattle.version_tables.proofs.histories.Histories.write.Goals as goal
@@ -31,3 +31,6 @@ invariant_of-self-2 g c =
 pub returns-clause-number : goal.returns-clause-number
 returns-clause-number g c = subst (λ (h : HistoriesView). g.N.Number.number c.plus-number.result ≡ length
     (all_writes h.lists c.args.owner) + 1) c.self.view_is (counted g c)
+
+pub returns-clause-ok : goal.returns-clause-ok
+returns-clause-ok g c = rw (← c.self.view_is) (record { lists = becomes g c; beside = record { keys = refl; rounds = refl } })

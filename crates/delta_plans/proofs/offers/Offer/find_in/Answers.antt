@@ -8,24 +8,25 @@ none_more : (cells : Cells) (key owner low high : ℕ) (was is : Bool) → (was 
 none_more cells key owner low high was is before here none =
     ap (λ n. count_between cells n owner low high) {x = key + 1} {y = suc key} (omega arith) ∙ grind (arith, nat_tests, before)
 
-pub loop-owner-preserved : goal.loop-owner-preserved
-loop-owner-preserved g c =
+pub loop-i-preserved : goal.loop-i-preserved
+loop-i-preserved g c =
     let number = g.N.Number.number in
-    let found = c.loop-owner.found in
-    let at = c.loop-owner.owner in
-    let lt : at < length found = omega (arith, c.loop-owner-test.true, c.loop-owner.auto.found) in
+    let found = c.loop-i.found in
+    let at = c.loop-i.i in
+    let owner = c.args.first + at in
+    let lt : at < length found = omega (arith, c.loop-i-test.true, c.loop-i.auto.found) in
     let now = get_or found at false || c.is_between-is_found.result in
     record {
-      gone = λ r upto not_found. elim (cases_lt r at) [
-        | inl below ↦ c.loop-owner.invariant.gone r below (sym (get_or-set_other found at r now true (omega (arith, below))) ∙ not_found)
+      gone = λ i upto not_found. elim (cases_lt i at) [
+        | inl below ↦ c.loop-i.invariant.gone i below (sym (get_or-set_other found at i now true (omega (arith, below))) ∙ not_found)
         | inr not_below ↦
-            let same : r ≡ at = omega (arith, upto, not_below) in
-            rw same (none_more (cells_in number c.args.self.now) c.args.key at (marks number c.args.low.now at) (marks number c.args.high.now at)
+            let same : i ≡ at = omega (arith, upto, not_below) in
+            rw same (none_more (cells_in number c.args.self.now) c.args.key owner (marks number c.args.low.now owner) (marks number c.args.high.now owner)
             (get_or found at false) c.is_between-is_found.result
-            (λ was. c.loop-owner.invariant.left at (omega arith) (get_or_default found at true false lt ∙ was))
-            (rw (← c.cell_of-cell.ensures, ← c.number_at.ensures, ← c.number_at-in-loop-owner.ensures) c.is_between-is_found.ensures)
+            (λ was. c.loop-i.invariant.left at (omega arith) (get_or_default found at true false lt ∙ was))
+            (rw (← c.cell_of-cell.ensures, ← c.number_at.ensures, ← c.number_at-in-loop-i.ensures) c.is_between-is_found.ensures)
             (sym (get_or-set_same found at now true lt) ∙ rw same at not_found))
       ];
-      left = λ r from not_found. c.loop-owner.invariant.left r (omega (arith, from))
-          (sym (get_or-set_other found at r now true (omega (arith, from))) ∙ not_found);
+      left = λ i from not_found. c.loop-i.invariant.left i (omega (arith, from))
+          (sym (get_or-set_other found at i now true (omega (arith, from))) ∙ not_found);
     }

@@ -59,7 +59,7 @@ impl<N: Number, H: Written> Model for VersionTable<N, H> {
 }
 
 impl<N: Number, H: Written> VersionTable<N, H> {
-    ghost use Rattle.std.specs.Prelude.{◌+◌, ◌^◌, ◌<◌, map, IfOk, IsOkUnless};
+    ghost use Rattle.std.specs.Prelude.{◌+◌, ◌^◌, ◌<◌, map, slice_index, IfOk, IsOkUnless};
     ghost use Rattle.bench_types.specs.declared.faults.Fault.TheVariants.{OutOfMemory};
     ghost use Rattle.model.specs.Table.{empty_table, without_others, without_all};
     ghost use Rattle.version_tables.specs.Views.{table_in, AreSizes, HasOwnWrite, IsGridIn, IsKept, IsNextWrite};
@@ -172,6 +172,13 @@ impl<N: Number, H: Written> VersionTable<N, H> {
         ensures kept { IsKept H.lists self.now }
     {
         &self.cells
+    }
+
+    pub(crate) fn greatest_of(&self, owner: u32) -> N
+        requires { owner < self.now.nodes }
+        ensures { N.number result ≡ slice_index self.now.greatest owner }
+    {
+        self.greatest[owner as usize]
     }
 
     // The greatest number of each owner.

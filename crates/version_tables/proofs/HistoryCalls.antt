@@ -61,36 +61,6 @@ module _ {all : List Entry} {most rounds : ℕ} {v : OwnerListView} (key value :
     last = each (λ _ d. d.born ≤ rounds + 1) (λ number d _. so_far.made.last number d) (omega arith);
   }
 
-  history-more : IsHistory more
-  history-more = record {
-    rise = (writes_more v are key value (rounds + 1)).rising;
-    born = λ i j d le lt. elim (cases_lt j (length w)) [
-      | inl before ↦ omega (arith, front i d (omega (arith, le, before)), front j d before, so_far.history.born i j d le before)
-      | inr not_before ↦
-          let last = ap (λ es. (get_or es j d).born) whole ∙ ap (λ (x : Entry). x.born) (get_or_push w e d j (omega (arith, not_before, lt, longer))) in
-          omega (arith, made-more.last (suc i) (get_or more i d) (write_from-here more i d (omega (arith, le, lt))), last)
-    ];
-  }
-    where
-      front : (i : ℕ) (d : Entry) → i < length w → (get_or more i d).born ≡ (get_or w i d).born
-      front i d lt = ap (λ es. (get_or es i d).born) whole ∙ ap (λ (x : Entry). x.born) (get_or_append_left w (e ∷ []) d i lt)
-
-  numbered_history-more : IsNumberedHistory more
-  numbered_history-more = record {
-    counted = each (λ number d. (1 ≤ d.version) × (d.version ≤ number)) (λ number d _. so_far.numbered.counted number d) (omega arith, omega (arith, split));
-    older = λ m n c d is_c is_d. each (λ n d. m + d.version ≤ n → c.generation < d.generation)
-        (λ n d upto is le. so_far.numbered.older m n c d (back m c (omega (arith, upto, le)) is_c) is le)
-        (λ le.
-        let early : m ≤ length v.earlier = omega (arith, le, split) in
-        earlier-at v are m c (back m c (omega (arith, early, split)) is_c) early)
-        n d is_d;
-    alike = λ m n c d is_c is_d. each (λ n d. m ≤ n → n < m + d.version → c.generation ≡ d.generation)
-        (λ n d upto is le. so_far.numbered.alike m n c d (back m c (omega (arith, upto, le)) is_c) is le)
-        (λ _ lt. each (λ m c. length v.earlier < m → c.generation ≡ v.generation)
-        (λ m c _ is behind. (current-numbered v are m c is behind).generation) (λ _. refl) m c is_c (omega (arith, lt, split)))
-        n d is_d;
-  }
-
   pub so_far-more : write_numbered all (length w + 1) ≡ Some e → length w + 1 < most → IsWrittenSoFar all most rounds more
   so_far-more is below = record {
     begins = λ number le. elim (cases_lt (length w) number) [
@@ -102,10 +72,34 @@ module _ {all : List Entry} {most rounds : ℕ} {v : OwnerListView} (key value :
           numbered-before number before ∙ so_far.begins number before
     ];
     few = omega (arith, below, longer);
-    history = history-more;
-    numbered = numbered_history-more;
+    history = record {
+      rise = (writes_more v are key value (rounds + 1)).rising;
+      born = λ i j d le lt. elim (cases_lt j (length w)) [
+        | inl before ↦ omega (arith, front i d (omega (arith, le, before)), front j d before, so_far.history.born i j d le before)
+        | inr not_before ↦
+            let last = ap (λ es. (get_or es j d).born) whole ∙ ap (λ (x : Entry). x.born) (get_or_push w e d j (omega (arith, not_before, lt, longer))) in
+            omega (arith, made-more.last (suc i) (get_or more i d) (write_from-here more i d (omega (arith, le, lt))), last)
+      ];
+    };
+    numbered = record {
+      counted = each (λ number d. (1 ≤ d.version) × (d.version ≤ number)) (λ number d _. so_far.numbered.counted number d) (omega arith, omega (arith, split));
+      older = λ m n c d is_c is_d. each (λ n d. m + d.version ≤ n → c.generation < d.generation)
+          (λ n d upto is le. so_far.numbered.older m n c d (back m c (omega (arith, upto, le)) is_c) is le)
+          (λ le.
+          let early : m ≤ length v.earlier = omega (arith, le, split) in
+          earlier-at v are m c (back m c (omega (arith, early, split)) is_c) early)
+          n d is_d;
+      alike = λ m n c d is_c is_d. each (λ n d. m ≤ n → n < m + d.version → c.generation ≡ d.generation)
+          (λ n d upto is le. so_far.numbered.alike m n c d (back m c (omega (arith, upto, le)) is_c) is le)
+          (λ _ lt. each (λ m c. length v.earlier < m → c.generation ≡ v.generation)
+          (λ m c _ is behind. (current-numbered v are m c is behind).generation) (λ _. refl) m c is_c (omega (arith, lt, split)))
+          n d is_d;
+    };
     made = made-more;
   }
+    where
+      front : (i : ℕ) (d : Entry) → i < length w → (get_or more i d).born ≡ (get_or w i d).born
+      front i d lt = ap (λ es. (get_or es i d).born) whole ∙ ap (λ (x : Entry). x.born) (get_or_append_left w (e ∷ []) d i lt)
 
   -- its number is the last one of its key
   pub last-own : IsLastNumber after key (length w + 1)
@@ -141,9 +135,6 @@ module _ {written : ℕ → List Entry} {most : ℕ} {h : HistoriesView} {nodes 
   abbrev lists : List OwnerListView
   lists = h.lists
 
-  abbrev keys : ℕ
-  keys = h.keys
-
   abbrev rounds : ℕ
   rounds = h.rounds
 
@@ -174,7 +165,7 @@ module _ {written : ℕ → List Entry} {most : ℕ} {h : HistoriesView} {nodes 
 
       histories-changed : {counts' bases' lasts' : List ℕ} → AreWrites list' → IsWrittenSoFar (written owner) most rounds (entries_of list')
           → HasEach nodes (λ r m. m ≡ length (all_writes new r)) counts' → HasEach nodes (λ r m. m ≡ bases_in new r) bases'
-          → HasEachPlace nodes keys (λ r k m. IsLastNumber (list_of_owner new r) k m) lasts' → n ≤ length (entries_of list')
+          → HasEachPlace nodes h.keys (λ r k m. IsLastNumber (list_of_owner new r) k m) lasts' → n ≤ length (entries_of list')
           → ((round m : ℕ) → round ≤ rounds → m ≤ n → IsRoundMark (entries_of list) 0 round m → IsRoundMark (entries_of list') 0 round m)
           → AreHistories written most after-call nodes counts' bases' lasts' ends
       histories-changed now now_so_far counted based last longer parts = record {
@@ -219,7 +210,7 @@ module _ {written : ℕ → List Entry} {most : ℕ} {h : HistoriesView} {nodes 
           size = kept.based.size;
           each = λ r lt. kept.based.each r lt ∙ each-list changes (λ r v. bases_in lists r ≡ length v.earlier) (λ _ _. refl) refl r;
         })
-        (place-set lasts nodes keys owner key (n + 1) kept.last.size in_nodes may.key_below (λ r k m. IsLastNumber (list_of_owner new r) k m)
+        (place-set lasts nodes h.keys owner key (n + 1) kept.last.size in_nodes may.key_below (λ r k m. IsLastNumber (list_of_owner new r) k m)
         (subst (λ v. IsLastNumber v key (n + 1)) (sym changes.changed) (last-own key value are so_far))
         (λ r k lt in_key. each-list changes (λ r v. r < nodes → (r ≢ owner) ⊎ (k ≢ key) → IsLastNumber v k (cell lasts nodes r k))
         (λ r _ lt _. kept.last.each r k lt in_key)
@@ -228,7 +219,7 @@ module _ {written : ℕ → List Entry} {most : ℕ} {h : HistoriesView} {nodes 
         (omega (arith, more)) (parts-more key value are so_far))
 
     pub histories-begun : {bases' lasts' : List ℕ} → ListBecomes owner (begun_generation list) lists new → bases' ≡ set bases owner n
-        → ArePlanesChanged (λ r k x y. y ≡ cond (r == owner) (number_kept n x) x) nodes keys lasts lasts'
+        → ArePlanesChanged (λ r k x y. y ≡ cond (r == owner) (number_kept n x) x) nodes h.keys lasts lasts'
         → AreHistories written most after-call nodes counts bases' lasts' ends
     histories-begun {lasts' = lasts'} changes is cleared =
         subst (λ bs. AreHistories written most after-call nodes counts bs lasts' ends) (sym is)
@@ -260,7 +251,7 @@ module _ {written : ℕ → List Entry} {most : ℕ} {h : HistoriesView} {nodes 
         same : length (entries_of (begun_generation list)) ≡ n
         same = ap (λ (es : List Entry). length es) whole
 
-        dropped : (k : ℕ) → k < keys → cell lasts' nodes owner k ≡ 0
+        dropped : (k : ℕ) → k < h.keys → cell lasts' nodes owner k ≡ 0
         dropped k in_keys =
             let upto = (kept.last.each owner k in_nodes in_keys).written in
             (rw (eq-eqb owner owner refl) at (cleared.each owner k in_nodes in_keys)) ∙ grind (arith, nat_tests)
@@ -285,22 +276,6 @@ module _ {written : ℕ → List Entry} {most : ℕ} {h : HistoriesView} {nodes 
       | inr not_new ↦ let old : round ≤ rounds = omega (arith, not_new) in subst (P round) (sym (row-before round old)) (before round old)
     ]
 
-    rise-ended : (round : ℕ) → round < rounds + 1 → cell (ends ++ counts) nodes owner round ≤ cell (ends ++ counts) nodes owner (round + 1)
-    rise-ended round before = elim (cases_lt round rounds) [
-      | inl early ↦ omega (arith, row-before round (omega (arith, early)), row-before (round + 1) (omega (arith, early)), kept.ended.rise owner round lt early)
-      | inr late ↦
-          let upto : round ≤ rounds = omega (arith, before) in
-          let last : rounds ≡ round = omega (arith, before, late) in
-          omega (arith, row-before round upto, ap (λ m. cell (ends ++ counts) nodes owner (m + 1)) last, row-last, kept.reached owner round lt upto)
-    ]
-
-    parts-ended : (round : ℕ) → round ≤ rounds + 1 → IsRoundMark (all_writes lists owner) 0 round (cell (ends ++ counts) nodes owner round)
-    parts-ended = each-round (λ round mark. IsRoundMark (all_writes lists owner) 0 round mark) (λ round. kept.ended.parts owner round lt)
-        (record {
-          upto = λ number d _ is _. (kept.known.so_far owner).made.last number d is;
-          above = λ number d _ is behind. absurd (omega (arith, behind, (numbered-within (all_writes lists owner) number d is).1));
-        })
-
   pub histories-ended : {ends' : List ℕ} → ends' ≡ ends ++ counts → rounds < MOST_ROUNDS
       → AreHistories written most (round_ended h) nodes counts bases lasts ends'
   histories-ended is left = subst (AreHistories written most (round_ended h) nodes counts bases lasts) (sym is) (record {
@@ -324,8 +299,18 @@ module _ {written : ℕ → List Entry} {most : ℕ} {h : HistoriesView} {nodes 
     ends_size = grind (arith, length-append ends counts, kept.ends_size, kept.counted.size);
     ended = record {
       none = λ owner lt. row-before owner lt 0 (omega arith) ∙ kept.ended.none owner lt;
-      rise = λ owner round lt. rise-ended owner lt round;
-      parts = λ owner round lt. parts-ended owner lt round;
+      rise = λ owner round lt before. elim (cases_lt round rounds) [
+        | inl early ↦ omega (arith, row-before owner lt round (omega (arith, early)), row-before owner lt (round + 1) (omega (arith, early)), kept.ended.rise owner round lt early)
+        | inr late ↦
+            let upto : round ≤ rounds = omega (arith, before) in
+            let last : rounds ≡ round = omega (arith, before, late) in
+            omega (arith, row-before owner lt round upto, ap (λ m. cell (ends ++ counts) nodes owner (m + 1)) last, row-last owner lt, kept.reached owner round lt upto)
+      ];
+      parts = λ owner round lt. each-round owner lt (λ round mark. IsRoundMark (all_writes lists owner) 0 round mark) (λ round. kept.ended.parts owner round lt)
+          (record {
+            upto = λ number d _ is _. (kept.known.so_far owner).made.last number d is;
+            above = λ number d _ is behind. absurd (omega (arith, behind, (numbered-within (all_writes lists owner) number d is).1));
+          }) round;
     };
     reached = λ owner round lt. each-round owner lt (λ _ mark. mark ≤ length (all_writes lists owner)) (λ round. kept.reached owner round lt)
         (omega arith) round;

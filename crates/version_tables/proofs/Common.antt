@@ -16,7 +16,7 @@ pub use Rattle.delta_plans.proofs.MarkedLaws.{whole-marked, whole-size}
 pub use Rattle.delta_plans.proofs.RoundMarks.{count-above}
 pub use Rattle.delta_plans.proofs.Starts.{all_writes-here}
 pub use Rattle.delta_plans.proofs.WeightLaws.{count_between-most, part, part-cases, sum_below-none, weight_between-most, weight_of-none, weight_of-split}
-pub use Rattle.model.proofs.Common.{Budget, DigestKind, Entry, Exchange, Fate, IsUpTo, Item, Mark, Mode, Precise, Record, Rules, Scuttle, absent-first, amount_of, digest_kind, is_before, mark_held, mark_of, not_both, range_with_len, set, sum_below, sum_below-le, true, ◌++◌, ◌==◌, ◌↔◌, ◌∷◌, ◌≢◌}
+pub use Rattle.model.proofs.Common.{Budget, DigestKind, Entry, Exchange, IsUpTo, Item, Mark, Mode, Precise, Record, Rules, Scuttle, absent-first, amount_of, digest_kind, is_before, mark_held, mark_of, not_both, range_with_len, set, sum_below, sum_below-le, true, ◌++◌, ◌==◌, ◌↔◌, ◌∷◌, ◌≢◌}
 pub use Rattle.model.proofs.DeltaLaws.{sent-candidate}
 pub use Rattle.model.proofs.Greatest.{greatest_mark-from, greatest_mark-none, greatest_mark-unique, mark_at-up_to_greatest}
 pub use Rattle.model.proofs.InLists.{get-held_by_lists}

@@ -167,10 +167,7 @@ module _ (written : ℕ → List Entry) (v : VersionTableView) (kept : IsKept wr
     }
 
     pub writes-table : HasOwnWrite written v number (record v { cells = cells; greatest = set v.greatest v.node number })
-    writes-table d is = lies-table writes ∙ (λ i. with_own_write t (is_key i) (same i).value (same i).born)
+    writes-table d is = lies-table writes ∙ (λ i. with_own_write t ((sym write.next ∙ same) i).key (same i).value (same i).born)
       where
         same : e ≡ d
         same = same_Some e d (sym write.is ∙ is)
-
-        is_key : key ≡ d.key
-        is_key = ap (λ (x : Entry). x.key) (sym write.next ∙ same)

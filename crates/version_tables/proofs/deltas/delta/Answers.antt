@@ -11,12 +11,12 @@ told-requires-clause-known g c =
     record { known = c.lists.ensures.known; both = c.requires.both; first = c.grid-grid.ensures.kept; second = kept } in
     rw (c.lists.ensures.value, c.greatest.ensures.value) (record {
       count = kept.most.size ∙ nodes;
-      base_count = c.bases.ensures.size;
+      base_count = c.bases.ensures.each.size;
       few_nodes = omega (arith, nodes, kept.proper.nodes_limit);
       each = λ owner lt. record {
         few = (two.known.so_far owner).few;
         within = greatest-within two owner (omega (arith, lt, nodes));
-        based = c.bases.ensures.each owner lt;
+        based = c.bases.ensures.each.each owner lt;
         writes = two.known.writes owner;
         numbered = (two.known.so_far owner).numbered;
       };

@@ -1,4 +1,4 @@
-use Rattle.version_tables.proofs.Common.{refl, sym, ◌∙◌, subst, arith, map, digest_size, table_in, AreLaidBoth, AreOffered}
+use Rattle.version_tables.proofs.Common.{refl, sym, ap, ◌∙◌, subst, arith, length, length-map, map, digest_size, table_in, AreLaidBoth, AreOffered}
 use Rattle.version_tables.proofs.DigestSizes.{cells-size}
 use Rattle.version_tables.proofs.Told.{greatest-within}
 use Rattle.version_tables.proofs.deltas.delta.Goals as goal
@@ -57,3 +57,24 @@ delta_above-requires-in-Precise-clause-digest g c =
     c.in_ok-ahead-in-Precise.ensures.ahead.held
     ∙ cells-size g.H.Written.lists c.args.sender.now c.grid-grid.ensures.kept g.N.Number.number c.grid-grid.result.cells.now c.grid-grid.ensures.cells
     ∙ (λ i. digest_size ((sym c.in-Precise.is ∙ c.digest_kind-kind.ensures) i) (table_in g.H.Written.lists c.args.sender.now))
+
+pub total_above-requires : goal.total_above-requires
+total_above-requires g c =
+    let grid = c.grid-grid.ensures in
+    record {
+      marked = record {
+        marks = record {
+          shape = grid.shape;
+          low_count = rw c.deref.ensures.value (omega (
+            arith,
+            length-map c.in_ok-low.low.items g.N.Number.number,
+            c.in_ok-low.ensures.told.size,
+            ap length c.lists.ensures.value,
+            c.requires.both.first.nodes,
+            grid.nodes,
+          ));
+          high_count = c.greatest-in-Scuttle.ensures.count ∙ sym grid.nodes;
+        };
+        covered = rw (grid.nodes, grid.keys, grid.cells, c.greatest-in-Scuttle.ensures.value) (λ owner lt key lt_k. (grid.kept.most.each owner lt).upto key lt_k);
+      };
+    }

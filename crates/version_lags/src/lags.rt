@@ -20,7 +20,7 @@ use std::thread::Threads;
 
 /// The numbers of all tables at the end of a round, plane by plane, and beside them the owners' lists, how many writes
 /// each owner made before its generation, the number of its last write of each key, and where each round ends.
-#[derive(Clone, Copy)]
+#[derive(Drop)]
 pub struct RoundNumbers<'a, N: Number> {
     pub cells: &'a [&'a [N]],
     pub keys: usize,

@@ -30,20 +30,16 @@ module _ (written : ℕ → List Entry) (v : VersionTableView) (kept : IsKept wr
           ∙ sym (rw (lt-ltb 0 (suc place) (omega arith)))
 
   -- entries held
-  held-size : sum_below (length v.cells) (λ i. cond (nat_lt 0 (slice_index v.cells i)) 1 0) ≡ digest_size Precise t
-  held-size =
-      ap (λ n. sum_below n (λ i. cond (nat_lt 0 (slice_index v.cells i)) 1 0)) kept.numbers.size
+  pub cells-size : {N : Type 0} (number : N → ℕ) (xs : List N) → map number xs ≡ v.cells → count_held number xs ≡ digest_size Precise t
+  cells-size number xs is =
+      let size = sym (length-map xs number) ∙ ap length is ∙ kept.numbers.size in
+      (λ i. sum_below (size i) (λ r. cond (nat_lt 0 (slice_index (is i) r)) 1 0))
       ∙ total-places v.nodes v.keys (λ i. nat_lt 0 (slice_index v.cells i))
       ∙ sym (sum_below-same v.nodes _ _ (λ owner in_nodes. sum_below-same v.keys _ _ (λ key in_keys. one_here owner key in_nodes in_keys)))
       ∙ sym (items_sum t kept.proper (λ _. 1))
       ∙ sum_by-ones (λ (_ : Item). 1) (λ _. refl) (items_of t)
       ∙ length-map (entries t.held) item_of
       ∙ sym (len-entries t.held)
-
-  pub cells-size : {N : Type 0} (number : N → ℕ) (xs : List N) → map number xs ≡ v.cells → count_held number xs ≡ digest_size Precise t
-  cells-size number xs is =
-      let size = sym (length-map xs number) ∙ ap length is in
-      (λ i. sum_below (size i) (λ r. cond (nat_lt 0 (slice_index (is i) r)) 1 0)) ∙ held-size
 
   -- owners of whom something is held
   owner_here : (r : ℕ) → r < v.nodes → nat_lt 0 (slice_index v.greatest r) ≡ nat_lt 0 (greatest_version t r)
@@ -68,9 +64,10 @@ module _ (written : ℕ → List Entry) (v : VersionTableView) (kept : IsKept wr
         ]
       ]
 
-  pub owners-size : sum_below (length v.greatest) (λ r. cond (nat_lt 0 (slice_index v.greatest r)) 1 0) ≡ digest_size Scuttle t
-  owners-size =
-      ap (λ n. sum_below n (λ r. cond (nat_lt 0 (slice_index v.greatest r)) 1 0)) kept.most.size
+  pub owners-size : {N : Type 0} (number : N → ℕ) (xs : List N) → map number xs ≡ v.greatest → count_held number xs ≡ digest_size Scuttle t
+  owners-size number xs is =
+      let size = sym (length-map xs number) ∙ ap length is ∙ kept.most.size in
+      (λ i. sum_below (size i) (λ r. cond (nat_lt 0 (slice_index (is i) r)) 1 0))
       ∙ sum_below-same v.nodes _ (λ r. cond (nat_lt 0 (greatest_version t r)) 1 0) (λ r lt. ap (λ b. cond b 1 0) (owner_here r lt))
       ∙ sym (count-range (λ r. nat_lt 0 (greatest_version t r)) v.nodes)
       ∙ ap (count_by (λ r. nat_lt 0 (greatest_version t r))) (map-id (range_with_len 0 v.nodes))

@@ -1,6 +1,6 @@
 -- An exchange of tables of versions is the model's.
 -- Serves `exchange_deltas`.
-use Rattle.version_tables.proofs.Common.{◌≡◌, ℕ, ◌<◌, Bool, true, false, eqb, List, [], ◌∷◌, length, if◌then◌else◌, refl, sym, ap, ◌∙◌, arith, ◌||◌, both_ways, eqb-true, Entry, Item, Exchange, Fate, Record, Rules, digest_kind, Exchanged, initiator_after, last_fate, responder_after, sent_until, MakesOf, Table, applied, DeltaView, digest_size, numbers_taken, VersionTableView, HistoriesView, table_in, delta_of_views, AreLaidBoth, AreMarksOf, HasTakenUnless, StaysOne}
+use Rattle.version_tables.proofs.Common.{◌≡◌, ℕ, ◌<◌, Bool, true, false, eqb, List, [], ◌∷◌, length, if◌then◌else◌, refl, sym, ap, ◌∙◌, arith, ◌||◌, both_ways, eqb-true, Entry, Item, Exchange, Record, Rules, digest_kind, Exchanged, initiator_after, last_fate, responder_after, sent_until, MakesOf, Table, applied, DeltaView, digest_size, numbers_taken, VersionTableView, HistoriesView, table_in, delta_of_views, AreLaidBoth, AreMarksOf, HasTakenUnless, StaysOne}
 use Rattle.version_tables.proofs.Fitting.{turned}
 use Rattle.version_tables.proofs.Laid.{lies-kept, lies-table}
 use Rattle.version_tables.proofs.TakenViews.{becomes, same-taken}
@@ -20,14 +20,6 @@ module _ {rules : Rules} {written : ℕ → List Entry} {most : ℕ} {h : Histor
 
   abbrev forth_of : DeltaView
   forth_of = delta_of_views rules e.rotation written p q
-
-  abbrev ended : Fate → Exchanged
-  ended f = record {
-    initiator = initiator_after f (table_in written p) back_of;
-    responder = responder_after f (table_in written q) forth_of;
-    sent = sent_until f (digest_size (digest_kind rules.mode) (table_in written p))
-        (digest_size (digest_kind rules.mode) (table_in written q)) back_of forth_of;
-  }
 
   abbrev pub TakesBack : Bool → VersionTableView → Type 0
   TakesBack nothing after = HasTakenUnless nothing h.lists p q.cells low high after
@@ -72,6 +64,11 @@ module _ {rules : Rules} {written : ℕ → List Entry} {most : ℕ} {h : Histor
     where
       last : (lost : Bool) → table_in written q' ≡ (if lost then table_in written q else applied (table_in written q) forth_of.items)
           → r ≡ sent_until (last_fate lost) d1 d2 back_of forth_of
-          → ended (last_fate lost) ≡ record { initiator = table_in written p'; responder = table_in written q'; sent = r }
+          → ◌≡◌ {A = Exchanged} (record {
+            initiator = initiator_after (last_fate lost) (table_in written p) back_of;
+            responder = responder_after (last_fate lost) (table_in written q) forth_of;
+            sent = sent_until (last_fate lost) (digest_size (digest_kind rules.mode) (table_in written p))
+                (digest_size (digest_kind rules.mode) (table_in written q)) back_of forth_of;
+          }) (record { initiator = table_in written p'; responder = table_in written q'; sent = r })
       last true there is = let here = back_is nothing none p' took in cc
       last false there is = let here = back_is nothing none p' took in cc

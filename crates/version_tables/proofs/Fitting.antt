@@ -13,21 +13,18 @@ earlier-at v are number e is upto =
     (sym (get_or_append_left v.earlier v.current e at.place before) ∙ at.there e) (are.earlier at.place e before)
 
 module _ (written : ℕ → List Entry) (v : VersionTableView) (kept : IsKept written v) where
-  abbrev cells : Cells
-  cells = cell v.cells v.nodes
-
   -- numbers of writes so far, where the table holds no others of an owner, are up to their count
   pub so-far-upto : (so_far : List Entry) (owner : ℕ) → IsBeginning so_far (written owner)
       → ((key : ℕ) (e : Entry) → entry_at (table_in written v) owner key ≡ Some e → Contains so_far e)
-      → (key : ℕ) → owner < v.nodes → key < v.keys → cells owner key ≤ length so_far
-  so-far-upto so_far owner begins holds key in_nodes in_keys = elim (cases_lt 0 (cells owner key)) [
+      → (key : ℕ) → owner < v.nodes → key < v.keys → cell v.cells v.nodes owner key ≤ length so_far
+  so-far-upto so_far owner begins holds key in_nodes in_keys = elim (cases_lt 0 (cell v.cells v.nodes owner key)) [
     | inr none ↦ omega (arith, none)
     | inl some ↦
         let number = kept.numbers.each owner key in_nodes in_keys in
-        let there = numbered-some (written owner) (cells owner key) some number.written in
+        let there = numbered-some (written owner) (cell v.cells v.nodes owner key) some number.written in
         let held : entry_at (table_in written v) owner key ≡ Some there.0 = has_cells written v kept.numbers owner key in_nodes in_keys ∙ there.1 in
         let (place, lt, at) = holds key there.0 held in
-        elim (cases_lt (suc place) (cells owner key)) [
+        elim (cases_lt (suc place) (cell v.cells v.nodes owner key)) [
           | inl before ↦
               let same = sym (begins (suc place) (omega (arith, lt))) ∙ write_from-here so_far place there.0 lt ∙ ap Some at ∙ sym there.1 in
               absurd (number.first (suc place) before same)

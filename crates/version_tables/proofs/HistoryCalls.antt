@@ -1,6 +1,6 @@
 -- What the calls of the histories make of all that is kept of the owners' writes.
 -- Serves `Histories::begin_generation`, `Histories::end_round`, `Histories::new` and `Histories::write`.
-use Rattle.version_tables.proofs.Common.{◌≡◌, ◌≢◌, ℕ, zero, suc, ◌+◌, ◌*◌, ◌<◌, ◌≤◌, ◌==◌, cond, List, [], ◌∷◌, ◌++◌, length, get_or, set, map, Some, ◌⊎◌, inl, inr, refl, sym, ap, ◌∙◌, subst, transport, arith, length-append, cases_lt, cases_eq, current-numbered, eq-eqb, ne_eqb, get_or-set_same, get_or-set_other, get_or_append_left, get_or_push, length-set, get_or-append-add, get_or_default, length-map, map-set, append_assoc, append-nil, same_Some, number-at, Entry, AreSizes, MOST_ROUNDS, write_numbered, OwnerListView, all_writes, entries_of, list_of_owner, no_writes, next_entry, with_write, begun_generation, AreWrites, ListBecomes, writes_more, writes_begun, HasEach, HasEachPlace, ArePlanesChanged, cell, nat_tests, number_kept, AreMadeBy, IsHistory, IsNumberedHistory, IsRoundMark, IsLastNumber, numbered-within, write_from-here, HistoriesView, round_ended, AreHistories, AreNoWrites, bases_in, IsWrittenSoFar, MayAddWrite}
+use Rattle.version_tables.proofs.Common.{◌≡◌, ◌≢◌, ℕ, zero, suc, ◌+◌, ◌*◌, ◌<◌, ◌≤◌, ◌==◌, cond, List, [], ◌∷◌, ◌++◌, length, get_or, set, map, Some, ◌⊎◌, inl, inr, refl, sym, ap, ◌∙◌, subst, transport, arith, length-append, cases_lt, cases_eq, current-numbered, eq-eqb, ne_eqb, get_or-set_same, get_or-set_other, get_or_append_left, get_or_push, length-set, get_or-append-add, get_or_default, length-map, map-set, append_assoc, append-nil, same_Some, number-at, Entry, AreSizes, MOST_ROUNDS, write_numbered, OwnerListView, all_writes, entries_of, list_of_owner, no_writes, next_entry, with_write, begun_generation, AreWrites, ListBecomes, writes_more, writes_begun, HasEach, HasEachPlace, ArePlanesChanged, cell, nat_tests, number_kept, AreMadeBy, IsRoundMark, IsLastNumber, numbered-within, write_from-here, HistoriesView, round_ended, AreHistories, AreNoWrites, bases_in, IsWrittenSoFar, MayAddWrite}
 use Rattle.version_tables.proofs.Fitting.{earlier-at}
 use Rattle.version_tables.proofs.OwnCalls.{each-set, place-set, place-within}
 
@@ -61,36 +61,6 @@ module _ {all : List Entry} {most rounds : ℕ} {v : OwnerListView} (key value :
     last = each (λ _ d. d.born ≤ rounds + 1) (λ number d _. so_far.made.last number d) (omega arith);
   }
 
-  history-more : IsHistory more
-  history-more = record {
-    rise = (writes_more v are key value (rounds + 1)).rising;
-    born = λ i j d le lt. elim (cases_lt j (length w)) [
-      | inl before ↦ omega (arith, front i d (omega (arith, le, before)), front j d before, so_far.history.born i j d le before)
-      | inr not_before ↦
-          let last = ap (λ es. (get_or es j d).born) whole ∙ ap (λ (x : Entry). x.born) (get_or_push w e d j (omega (arith, not_before, lt, longer))) in
-          omega (arith, made-more.last (suc i) (get_or more i d) (write_from-here more i d (omega (arith, le, lt))), last)
-    ];
-  }
-    where
-      front : (i : ℕ) (d : Entry) → i < length w → (get_or more i d).born ≡ (get_or w i d).born
-      front i d lt = ap (λ es. (get_or es i d).born) whole ∙ ap (λ (x : Entry). x.born) (get_or_append_left w (e ∷ []) d i lt)
-
-  numbered_history-more : IsNumberedHistory more
-  numbered_history-more = record {
-    counted = each (λ number d. (1 ≤ d.version) × (d.version ≤ number)) (λ number d _. so_far.numbered.counted number d) (omega arith, omega (arith, split));
-    older = λ m n c d is_c is_d. each (λ n d. m + d.version ≤ n → c.generation < d.generation)
-        (λ n d upto is le. so_far.numbered.older m n c d (back m c (omega (arith, upto, le)) is_c) is le)
-        (λ le.
-        let early : m ≤ length v.earlier = omega (arith, le, split) in
-        earlier-at v are m c (back m c (omega (arith, early, split)) is_c) early)
-        n d is_d;
-    alike = λ m n c d is_c is_d. each (λ n d. m ≤ n → n < m + d.version → c.generation ≡ d.generation)
-        (λ n d upto is le. so_far.numbered.alike m n c d (back m c (omega (arith, upto, le)) is_c) is le)
-        (λ _ lt. each (λ m c. length v.earlier < m → c.generation ≡ v.generation)
-        (λ m c _ is behind. (current-numbered v are m c is behind).generation) (λ _. refl) m c is_c (omega (arith, lt, split)))
-        n d is_d;
-  }
-
   pub so_far-more : write_numbered all (length w + 1) ≡ Some e → length w + 1 < most → IsWrittenSoFar all most rounds more
   so_far-more is below = record {
     begins = λ number le. elim (cases_lt (length w) number) [
@@ -102,10 +72,34 @@ module _ {all : List Entry} {most rounds : ℕ} {v : OwnerListView} (key value :
           numbered-before number before ∙ so_far.begins number before
     ];
     few = omega (arith, below, longer);
-    history = history-more;
-    numbered = numbered_history-more;
+    history = record {
+      rise = (writes_more v are key value (rounds + 1)).rising;
+      born = λ i j d le lt. elim (cases_lt j (length w)) [
+        | inl before ↦ omega (arith, front i d (omega (arith, le, before)), front j d before, so_far.history.born i j d le before)
+        | inr not_before ↦
+            let last = ap (λ es. (get_or es j d).born) whole ∙ ap (λ (x : Entry). x.born) (get_or_push w e d j (omega (arith, not_before, lt, longer))) in
+            omega (arith, made-more.last (suc i) (get_or more i d) (write_from-here more i d (omega (arith, le, lt))), last)
+      ];
+    };
+    numbered = record {
+      counted = each (λ number d. (1 ≤ d.version) × (d.version ≤ number)) (λ number d _. so_far.numbered.counted number d) (omega arith, omega (arith, split));
+      older = λ m n c d is_c is_d. each (λ n d. m + d.version ≤ n → c.generation < d.generation)
+          (λ n d upto is le. so_far.numbered.older m n c d (back m c (omega (arith, upto, le)) is_c) is le)
+          (λ le.
+          let early : m ≤ length v.earlier = omega (arith, le, split) in
+          earlier-at v are m c (back m c (omega (arith, early, split)) is_c) early)
+          n d is_d;
+      alike = λ m n c d is_c is_d. each (λ n d. m ≤ n → n < m + d.version → c.generation ≡ d.generation)
+          (λ n d upto is le. so_far.numbered.alike m n c d (back m c (omega (arith, upto, le)) is_c) is le)
+          (λ _ lt. each (λ m c. length v.earlier < m → c.generation ≡ v.generation)
+          (λ m c _ is behind. (current-numbered v are m c is behind).generation) (λ _. refl) m c is_c (omega (arith, lt, split)))
+          n d is_d;
+    };
     made = made-more;
   }
+    where
+      front : (i : ℕ) (d : Entry) → i < length w → (get_or more i d).born ≡ (get_or w i d).born
+      front i d lt = ap (λ es. (get_or es i d).born) whole ∙ ap (λ (x : Entry). x.born) (get_or_append_left w (e ∷ []) d i lt)
 
   -- its number is the last one of its key
   pub last-own : IsLastNumber after key (length w + 1)
@@ -138,22 +132,13 @@ module _ {all : List Entry} {most rounds : ℕ} {v : OwnerListView} (key value :
 
 module _ {written : ℕ → List Entry} {most : ℕ} {h : HistoriesView} {nodes : ℕ} {counts bases lasts ends : List ℕ}
     (kept : AreHistories written most h nodes counts bases lasts ends) where
-  abbrev lists : List OwnerListView
-  lists = h.lists
-
-  abbrev keys : ℕ
-  keys = h.keys
-
-  abbrev rounds : ℕ
-  rounds = h.rounds
-
   -- a call that changes one owner's list
   module _ (new : List OwnerListView) (owner : ℕ) (in_nodes : owner < nodes) where
     abbrev list : OwnerListView
-    list = list_of_owner lists owner
+    list = list_of_owner h.lists owner
 
     abbrev n : ℕ
-    n = length (all_writes lists owner)
+    n = length (all_writes h.lists owner)
 
     abbrev after-call : HistoriesView
     after-call = record h { lists = new }
@@ -161,21 +146,21 @@ module _ {written : ℕ → List Entry} {most : ℕ} {h : HistoriesView} {nodes 
     are : AreWrites list
     are = kept.known.writes owner
 
-    so_far : IsWrittenSoFar (written owner) most rounds (entries_of list)
+    so_far : IsWrittenSoFar (written owner) most h.rounds (entries_of list)
     so_far = kept.known.so_far owner
 
-    module _ {list' : OwnerListView} (changes : ListBecomes owner list' lists new) where
-      -- what holds of the others' lists, which stay, and of this one holds of all
-      each-list : (P : ℕ → OwnerListView → Type 0) → ((r : ℕ) → r ≢ owner → P r (list_of_owner lists r)) → P owner list' → (r : ℕ) → P r (list_of_owner new r)
+    module _ {list' : OwnerListView} (changes : ListBecomes owner list' h.lists new) where
+      -- what holds of the others' h.lists, which stay, and of this one holds of all
+      each-list : (P : ℕ → OwnerListView → Type 0) → ((r : ℕ) → r ≢ owner → P r (list_of_owner h.lists r)) → P owner list' → (r : ℕ) → P r (list_of_owner new r)
       each-list P before here r = elim (cases_eq r owner) [
         | inl same ↦ subst (λ k. P k (list_of_owner new k)) (sym same) (subst (P owner) (sym changes.changed) here)
         | inr other ↦ subst (P r) (sym (changes.others r other)) (before r other)
       ]
 
-      histories-changed : {counts' bases' lasts' : List ℕ} → AreWrites list' → IsWrittenSoFar (written owner) most rounds (entries_of list')
+      histories-changed : {counts' bases' lasts' : List ℕ} → AreWrites list' → IsWrittenSoFar (written owner) most h.rounds (entries_of list')
           → HasEach nodes (λ r m. m ≡ length (all_writes new r)) counts' → HasEach nodes (λ r m. m ≡ bases_in new r) bases'
-          → HasEachPlace nodes keys (λ r k m. IsLastNumber (list_of_owner new r) k m) lasts' → n ≤ length (entries_of list')
-          → ((round m : ℕ) → round ≤ rounds → m ≤ n → IsRoundMark (entries_of list) 0 round m → IsRoundMark (entries_of list') 0 round m)
+          → HasEachPlace nodes h.keys (λ r k m. IsLastNumber (list_of_owner new r) k m) lasts' → n ≤ length (entries_of list')
+          → ((round m : ℕ) → round ≤ h.rounds → m ≤ n → IsRoundMark (entries_of list) 0 round m → IsRoundMark (entries_of list') 0 round m)
           → AreHistories written most after-call nodes counts' bases' lasts' ends
       histories-changed now now_so_far counted based last longer parts = record {
         count = changes.count ∙ kept.count;
@@ -186,7 +171,7 @@ module _ {written : ℕ → List Entry} {most : ℕ} {h : HistoriesView} {nodes 
           few_rounds = kept.limits.few_rounds;
         };
         known = record {
-          so_far = each-list (λ r v. IsWrittenSoFar (written r) most rounds (entries_of v)) (λ r _. kept.known.so_far r) now_so_far;
+          so_far = each-list (λ r v. IsWrittenSoFar (written r) most h.rounds (entries_of v)) (λ r _. kept.known.so_far r) now_so_far;
           writes = each-list (λ _ v. AreWrites v) (λ r _. kept.known.writes r) now;
         };
         counted = counted;
@@ -205,21 +190,21 @@ module _ {written : ℕ → List Entry} {most : ℕ} {h : HistoriesView} {nodes 
       }
 
     pub histories-written : (key value : ℕ) {counts' lasts' : List ℕ} → MayAddWrite written most h owner key value
-        → ListBecomes owner (with_write list key value (rounds + 1)) lists new
+        → ListBecomes owner (with_write list key value (h.rounds + 1)) h.lists new
         → counts' ≡ set counts owner (n + 1) → lasts' ≡ set lasts (key * nodes + owner) (n + 1)
         → AreHistories written most after-call nodes counts' bases lasts' ends
     histories-written key value may changes is last_is =
         let more = longer key value are so_far in
         transport (λ i. AreHistories written most after-call nodes (sym is i) bases (sym last_is i) ends)
-        (histories-changed changes (writes_more list are key value (rounds + 1)) (so_far-more key value are so_far may.under.is may.under.below)
+        (histories-changed changes (writes_more list are key value (h.rounds + 1)) (so_far-more key value are so_far may.under.is may.under.below)
         (each-set (λ r m. m ≡ length (all_writes new r)) counts nodes owner (n + 1) kept.counted.size in_nodes
         (sym (ap (λ (v : OwnerListView). length (entries_of v)) changes.changed ∙ more))
         (λ r lt other. kept.counted.each r lt ∙ ap (λ (v : OwnerListView). length (entries_of v)) (sym (changes.others r other))))
         (record {
           size = kept.based.size;
-          each = λ r lt. kept.based.each r lt ∙ each-list changes (λ r v. bases_in lists r ≡ length v.earlier) (λ _ _. refl) refl r;
+          each = λ r lt. kept.based.each r lt ∙ each-list changes (λ r v. bases_in h.lists r ≡ length v.earlier) (λ _ _. refl) refl r;
         })
-        (place-set lasts nodes keys owner key (n + 1) kept.last.size in_nodes may.key_below (λ r k m. IsLastNumber (list_of_owner new r) k m)
+        (place-set lasts nodes h.keys owner key (n + 1) kept.last.size in_nodes may.key_below (λ r k m. IsLastNumber (list_of_owner new r) k m)
         (subst (λ v. IsLastNumber v key (n + 1)) (sym changes.changed) (last-own key value are so_far))
         (λ r k lt in_key. each-list changes (λ r v. r < nodes → (r ≢ owner) ⊎ (k ≢ key) → IsLastNumber v k (cell lasts nodes r k))
         (λ r _ lt _. kept.last.each r k lt in_key)
@@ -227,16 +212,16 @@ module _ {written : ℕ → List Entry} {most : ℕ} {h : HistoriesView} {nodes 
         (kept.last.each owner k lt in_key)) r lt))
         (omega (arith, more)) (parts-more key value are so_far))
 
-    pub histories-begun : {bases' lasts' : List ℕ} → ListBecomes owner (begun_generation list) lists new → bases' ≡ set bases owner n
-        → ArePlanesChanged (λ r k x y. y ≡ cond (r == owner) (number_kept n x) x) nodes keys lasts lasts'
+    pub histories-begun : {bases' lasts' : List ℕ} → ListBecomes owner (begun_generation list) h.lists new → bases' ≡ set bases owner n
+        → ArePlanesChanged (λ r k x y. y ≡ cond (r == owner) (number_kept n x) x) nodes h.keys lasts lasts'
         → AreHistories written most after-call nodes counts bases' lasts' ends
     histories-begun {lasts' = lasts'} changes is cleared =
         subst (λ bs. AreHistories written most after-call nodes counts bs lasts' ends) (sym is)
-        (histories-changed changes (writes_begun list are) (subst (IsWrittenSoFar (written owner) most rounds) (sym whole) so_far)
+        (histories-changed changes (writes_begun list are) (subst (IsWrittenSoFar (written owner) most h.rounds) (sym whole) so_far)
         (record {
           size = kept.counted.size;
           each = λ r lt. kept.counted.each r lt
-              ∙ each-list changes (λ r v. length (all_writes lists r) ≡ length (entries_of v)) (λ _ _. refl) (sym same) r;
+              ∙ each-list changes (λ r v. length (all_writes h.lists r) ≡ length (entries_of v)) (λ _ _. refl) (sym same) r;
         })
         (each-set (λ r m. m ≡ bases_in new r) bases nodes owner n kept.based.size in_nodes
         (sym (ap (λ (v : OwnerListView). length v.earlier) changes.changed))
@@ -244,7 +229,7 @@ module _ {written : ℕ → List Entry} {most : ℕ} {h : HistoriesView} {nodes 
         (record {
           size = cleared.size ∙ kept.last.size;
           each = λ r k lt in_key. each-list changes (λ r v. r < nodes → IsLastNumber v k (cell lasts' nodes r k))
-              (λ r other lt. subst (IsLastNumber (list_of_owner lists r) k) (sym (rw (ne_eqb r owner other) at (cleared.each r k lt in_key)))
+              (λ r other lt. subst (IsLastNumber (list_of_owner h.lists r) k) (sym (rw (ne_eqb r owner other) at (cleared.each r k lt in_key)))
               (kept.last.each r k lt in_key))
               (λ lt. subst (IsLastNumber (begun_generation list) k) (sym (dropped k in_key)) (record {
                 written = omega arith;
@@ -260,48 +245,32 @@ module _ {written : ℕ → List Entry} {most : ℕ} {h : HistoriesView} {nodes 
         same : length (entries_of (begun_generation list)) ≡ n
         same = ap (λ (es : List Entry). length es) whole
 
-        dropped : (k : ℕ) → k < keys → cell lasts' nodes owner k ≡ 0
+        dropped : (k : ℕ) → k < h.keys → cell lasts' nodes owner k ≡ 0
         dropped k in_keys =
             let upto = (kept.last.each owner k in_nodes in_keys).written in
             (rw (eq-eqb owner owner refl) at (cleared.each owner k in_nodes in_keys)) ∙ grind (arith, nat_tests)
 
   -- one more round's end
   module _ (owner : ℕ) (lt : owner < nodes) where
-    row-before : (round : ℕ) → round ≤ rounds → cell (ends ++ counts) nodes owner round ≡ cell ends nodes owner round
+    row-before : (round : ℕ) → round ≤ h.rounds → cell (ends ++ counts) nodes owner round ≡ cell ends nodes owner round
     row-before round upto =
         get_or_append_left ends counts 0 (round * nodes + owner)
-        (omega (arith, place-within nodes (rounds + 1) owner round lt (omega (arith, upto)), kept.ends_size))
+        (omega (arith, place-within nodes (h.rounds + 1) owner round lt (omega (arith, upto)), kept.ends_size))
 
-    row-last : cell (ends ++ counts) nodes owner (rounds + 1) ≡ length (all_writes lists owner)
+    row-last : cell (ends ++ counts) nodes owner (h.rounds + 1) ≡ length (all_writes h.lists owner)
     row-last =
-        ap (λ i. get_or (ends ++ counts) i 0) {x = (rounds + 1) * nodes + owner} {y = length ends + owner} (omega (arith, kept.ends_size))
+        ap (λ i. get_or (ends ++ counts) i 0) {x = (h.rounds + 1) * nodes + owner} {y = length ends + owner} (omega (arith, kept.ends_size))
         ∙ get_or-append-add ends counts owner 0 ∙ kept.counted.each owner lt
 
-    each-round : (P : ℕ → ℕ → Type 0) → ((round : ℕ) → round ≤ rounds → P round (cell ends nodes owner round))
-        → P (rounds + 1) (length (all_writes lists owner))
-        → (round : ℕ) → round ≤ rounds + 1 → P round (cell (ends ++ counts) nodes owner round)
-    each-round P before after round upto = elim (cases_lt rounds round) [
-      | inl new ↦ subst (λ m. P m (cell (ends ++ counts) nodes owner m)) {x = rounds + 1} (omega arith) (subst (P (rounds + 1)) (sym row-last) after)
-      | inr not_new ↦ let old : round ≤ rounds = omega (arith, not_new) in subst (P round) (sym (row-before round old)) (before round old)
+    each-round : (P : ℕ → ℕ → Type 0) → ((round : ℕ) → round ≤ h.rounds → P round (cell ends nodes owner round))
+        → P (h.rounds + 1) (length (all_writes h.lists owner))
+        → (round : ℕ) → round ≤ h.rounds + 1 → P round (cell (ends ++ counts) nodes owner round)
+    each-round P before after round upto = elim (cases_lt h.rounds round) [
+      | inl new ↦ subst (λ m. P m (cell (ends ++ counts) nodes owner m)) {x = h.rounds + 1} (omega arith) (subst (P (h.rounds + 1)) (sym row-last) after)
+      | inr not_new ↦ let old : round ≤ h.rounds = omega (arith, not_new) in subst (P round) (sym (row-before round old)) (before round old)
     ]
 
-    rise-ended : (round : ℕ) → round < rounds + 1 → cell (ends ++ counts) nodes owner round ≤ cell (ends ++ counts) nodes owner (round + 1)
-    rise-ended round before = elim (cases_lt round rounds) [
-      | inl early ↦ omega (arith, row-before round (omega (arith, early)), row-before (round + 1) (omega (arith, early)), kept.ended.rise owner round lt early)
-      | inr late ↦
-          let upto : round ≤ rounds = omega (arith, before) in
-          let last : rounds ≡ round = omega (arith, before, late) in
-          omega (arith, row-before round upto, ap (λ m. cell (ends ++ counts) nodes owner (m + 1)) last, row-last, kept.reached owner round lt upto)
-    ]
-
-    parts-ended : (round : ℕ) → round ≤ rounds + 1 → IsRoundMark (all_writes lists owner) 0 round (cell (ends ++ counts) nodes owner round)
-    parts-ended = each-round (λ round mark. IsRoundMark (all_writes lists owner) 0 round mark) (λ round. kept.ended.parts owner round lt)
-        (record {
-          upto = λ number d _ is _. (kept.known.so_far owner).made.last number d is;
-          above = λ number d _ is behind. absurd (omega (arith, behind, (numbered-within (all_writes lists owner) number d is).1));
-        })
-
-  pub histories-ended : {ends' : List ℕ} → ends' ≡ ends ++ counts → rounds < MOST_ROUNDS
+  pub histories-ended : {ends' : List ℕ} → ends' ≡ ends ++ counts → h.rounds < MOST_ROUNDS
       → AreHistories written most (round_ended h) nodes counts bases lasts ends'
   histories-ended is left = subst (AreHistories written most (round_ended h) nodes counts bases lasts) (sym is) (record {
     count = kept.count;
@@ -324,10 +293,20 @@ module _ {written : ℕ → List Entry} {most : ℕ} {h : HistoriesView} {nodes 
     ends_size = grind (arith, length-append ends counts, kept.ends_size, kept.counted.size);
     ended = record {
       none = λ owner lt. row-before owner lt 0 (omega arith) ∙ kept.ended.none owner lt;
-      rise = λ owner round lt. rise-ended owner lt round;
-      parts = λ owner round lt. parts-ended owner lt round;
+      rise = λ owner round lt before. elim (cases_lt round h.rounds) [
+        | inl early ↦ omega (arith, row-before owner lt round (omega (arith, early)), row-before owner lt (round + 1) (omega (arith, early)), kept.ended.rise owner round lt early)
+        | inr late ↦
+            let upto : round ≤ h.rounds = omega (arith, before) in
+            let last : h.rounds ≡ round = omega (arith, before, late) in
+            omega (arith, row-before owner lt round upto, ap (λ m. cell (ends ++ counts) nodes owner (m + 1)) last, row-last owner lt, kept.reached owner round lt upto)
+      ];
+      parts = λ owner round lt. each-round owner lt (λ round mark. IsRoundMark (all_writes h.lists owner) 0 round mark) (λ round. kept.ended.parts owner round lt)
+          (record {
+            upto = λ number d _ is _. (kept.known.so_far owner).made.last number d is;
+            above = λ number d _ is behind. absurd (omega (arith, behind, (numbered-within (all_writes h.lists owner) number d is).1));
+          }) round;
     };
-    reached = λ owner round lt. each-round owner lt (λ _ mark. mark ≤ length (all_writes lists owner)) (λ round. kept.reached owner round lt)
+    reached = λ owner round lt. each-round owner lt (λ _ mark. mark ≤ length (all_writes h.lists owner)) (λ round. kept.reached owner round lt)
         (omega arith) round;
   })
 

@@ -28,24 +28,21 @@ module _ (writes : List Entry) (numbers : ℕ → ℕ) (keys : ℕ)
       ] refl
 
 module _ (written : ℕ → List Entry) (v : VersionTableView) (are : HasEachPlace v.nodes v.keys (λ r k n. IsNumberOf (written r) k n) v.cells) where
-  abbrev t : Table
-  t = table_in written v
-
   abbrev entries : ℕ → List Entry
   entries owner = entries_below (written owner) (cell v.cells v.nodes owner) v.keys
 
   of_owner : (owner key : ℕ) → owner < v.nodes
-      → entry_at t owner key ≡ cond (ltb key v.keys) (write_numbered (written owner) (cell v.cells v.nodes owner key)) None
+      → entry_at (table_in written v) owner key ≡ cond (ltb key v.keys) (write_numbered (written owner) (cell v.cells v.nodes owner key)) None
   of_owner owner key in_nodes =
       get-held_by_lists (map entries (range_with_len 0 v.nodes)) owner key
       ∙ ap (λ r. entry_in r key) (get_or-map-range_with_len entries 0 v.nodes owner owner [] in_nodes (omega arith))
       ∙ row (written owner) (cell v.cells v.nodes owner) v.keys (λ k e lt. (are.each owner k in_nodes lt).keyed e) v.keys key (omega arith)
 
-  pub has_cells : HasCells written (cell v.cells v.nodes) t
+  pub has_cells : HasCells written (cell v.cells v.nodes) (table_in written v)
   has_cells owner key in_nodes in_keys = of_owner owner key in_nodes ∙ rw (lt-ltb key v.keys in_keys)
 
   -- nothing is held past the bounds
-  outside : (owner key : ℕ) → (v.nodes ≤ owner) ⊎ (v.keys ≤ key) → entry_at t owner key ≡ None
+  outside : (owner key : ℕ) → (v.nodes ≤ owner) ⊎ (v.keys ≤ key) → entry_at (table_in written v) owner key ≡ None
   outside owner key past = elim (cases_lt owner v.nodes) [
     | inr beyond ↦
         get-held_by_lists (map entries (range_with_len 0 v.nodes)) owner key

@@ -94,14 +94,6 @@ module _ (rules : Rules) (rotation : ℕ) {written : ℕ → List Entry} {most :
   abbrev count : ℕ
   count = count_all_between cells from.nodes from.keys low high
 
-  count-few : count ≤ most_ahead from.nodes from.keys from.greatest to.greatest
-  count-few = sum_below-le from.nodes _ _ (λ r lt.
-      let few = few-upto cells r from.keys (high r - low r) (low r) (high r) (omega arith) (simp map-id at (is-offer.differ r lt)) in
-      omega (arith, few, count_between-most cells from.keys r (low r) (high r)))
-
-  same-total : total_above from.nodes from.keys from.cells to.greatest ≡ count
-  same-total = simp map-id at is-offer.found
-
   -- so all of it fits
   within : weight_between (number_shares rules.budget (all_writes h.lists)) cells from.nodes from.keys low high ≤ amount_of rules.budget
   unfolding SurelyFits
@@ -110,9 +102,12 @@ module _ (rules : Rules) (rotation : ℕ) {written : ℕ → List Entry} {most :
       (λ owner number. largest-share rules.budget (write_numbered (all_writes h.lists owner) number)) in
       elim may.fits [
         | inl apart ↦
-            let few = mul-le-mul_right {m = count} {n = most_ahead from.nodes from.keys from.greatest to.greatest} (largest_share rules.budget) count-few in
+            let few = mul-le-mul_right {m = count} {n = most_ahead from.nodes from.keys from.greatest to.greatest} (largest_share rules.budget)
+            (sum_below-le from.nodes _ _ (λ r lt.
+            let few = few-upto cells r from.keys (high r - low r) (low r) (high r) (omega arith) (simp map-id at (is-offer.differ r lt)) in
+            omega (arith, few, count_between-most cells from.keys r (low r) (high r)))) in
             omega (arith, weighs, few, apart)
-        | inr counted ↦ omega (arith, weighs, rw same-total at counted)
+        | inr counted ↦ omega (arith, weighs, rw (simp map-id at is-offer.found) at counted)
       ]
 
   pub marks-of : AreMarksOf rules rotation written from to to.greatest from.greatest (total_above from.nodes from.keys from.cells to.greatest) 0

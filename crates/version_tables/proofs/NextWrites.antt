@@ -11,9 +11,6 @@ module _ (written : ℕ → List Entry) (v : VersionTableView) (kept : IsKept wr
   abbrev t : Table
   t = table_in written v
 
-  abbrev number : ℕ
-  number = length (entries_of list) + 1
-
   in_nodes : v.node < v.nodes
   in_nodes = kept.proper.node_below
 
@@ -39,11 +36,8 @@ module _ (written : ℕ → List Entry) (v : VersionTableView) (kept : IsKept wr
       let here = placed.there e in
       (placed.place, placed.within, cc)
 
-  upto : (k : ℕ) → k < v.keys → cell v.cells v.nodes v.node k < number
-  upto k in_keys = omega (arith, so-far-upto written v kept (entries_of list) v.node begins held_so_far k in_nodes in_keys)
-
   -- no earlier write is this one
-  first : IsFirst (written v.node) number
+  first : IsFirst (written v.node) (length (entries_of list) + 1)
   first zero lt same = none-some (next_entry list key value born) (same ∙ under.is)
   first (suc place) lt same =
       let is = begins (suc place) (omega (arith, lt)) ∙ same ∙ under.is in
@@ -54,11 +48,11 @@ module _ (written : ℕ → List Entry) (v : VersionTableView) (kept : IsKept wr
         | inr early ↦ omega (arith, earlier-at list are (suc place) (next_entry list key value born) is (omega (arith, early)))
       ]
 
-  pub next-write : IsNextWrite written v key number
+  pub next-write : IsNextWrite written v key (length (entries_of list) + 1)
   next-write = record {
     entry = next_entry list key value born;
     is = under.is;
     next = λ i. record { key = key; generation = sym generation i; version = sym greatest i + 1; value = value; born = born };
-    above = elim (kept.most.each v.node in_nodes).held [ inl none ↦ omega (arith, none) | inr (k, in_keys, is) ↦ omega (arith, is, upto k in_keys) ];
+    above = elim (kept.most.each v.node in_nodes).held [ inl none ↦ omega (arith, none) | inr (k, in_keys, is) ↦ omega (arith, is, so-far-upto written v kept (entries_of list) v.node begins held_so_far k in_nodes in_keys) ];
     first = first;
   }

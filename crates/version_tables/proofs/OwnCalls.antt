@@ -129,13 +129,10 @@ module _ (written : ℕ → List Entry) (v : VersionTableView) (kept : IsKept wr
     abbrev cells : List ℕ
     cells = set v.cells (key * v.nodes + v.node) number
 
-    abbrev after : Table
-    after = with_own_write t key e.value e.born
-
     in_nodes : v.node < v.nodes
     in_nodes = kept.proper.node_below
 
-    own : HoldsNumber (written v.node) key (entry_at after v.node key) number
+    own : HoldsNumber (written v.node) key (entry_at (with_own_write t key e.value e.born) v.node key) number
     own = record {
       is = record {
         written = (numbered-within (written v.node) number e write.is).1;
@@ -157,12 +154,12 @@ module _ (written : ℕ → List Entry) (v : VersionTableView) (kept : IsKept wr
       | inr other ↦ omega (arith, stays v.node k in_nodes (inr other), (kept.most.each v.node in_nodes).upto k lt, write.above)
     ]
 
-    pub writes : LiesAs written (record v { cells = cells; greatest = set v.greatest v.node number }) after
+    pub writes : LiesAs written (record v { cells = cells; greatest = set v.greatest v.node number }) (with_own_write t key e.value e.born)
     writes = record {
       frame = record { node = refl; nodes = refl; keys = refl; generation = refl };
       proper = proper-with_own_write t key e.value e.born kept.proper in_keys;
       numbers = place-set v.cells v.nodes v.keys v.node key number kept.numbers.size in_nodes in_keys
-          (λ r k n. HoldsNumber (written r) k (entry_at after r k) n) own
+          (λ r k n. HoldsNumber (written r) k (entry_at (with_own_write t key e.value e.born) r k) n) own
           (λ r k lt lt' other. holds-same (entry_at-own_write_other t key e.value e.born r k other) refl (kept-number kept r k lt lt'));
       most = each-set (λ r n. IsGreatest (cell cells v.nodes) v.keys r n) v.greatest v.nodes v.node number kept.most.size in_nodes
           (record { upto = upto; held = inr (key, in_keys, stands) })
@@ -170,10 +167,7 @@ module _ (written : ℕ → List Entry) (v : VersionTableView) (kept : IsKept wr
     }
 
     pub writes-table : HasOwnWrite written v number (record v { cells = cells; greatest = set v.greatest v.node number })
-    writes-table d is = lies-table writes ∙ (λ i. with_own_write t (is_key i) (same i).value (same i).born)
+    writes-table d is = lies-table writes ∙ (λ i. with_own_write t ((sym write.next ∙ same) i).key (same i).value (same i).born)
       where
         same : e ≡ d
         same = same_Some e d (sym write.is ∙ is)
-
-        is_key : key ≡ d.key
-        is_key = ap (λ (x : Entry). x.key) (sym write.next ∙ same)

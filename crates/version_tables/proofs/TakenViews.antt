@@ -26,9 +26,6 @@ module _ {rules : Rules} {rotation : ℕ} {written : ℕ → List Entry} {most :
     (same : (owner key : ℕ) → owner < to.nodes → key < to.keys
     → numbers_taken to.nodes to.cells now low high owner key ≡ numbers_taken to.nodes to.cells from.cells low high owner key)
     (taken : HasTaken h.lists to now low high new) (owner : ℕ) (in_nodes : owner < to.nodes) where
-  abbrev F : Table
-  F = table_in written from
-
   abbrev T : Table
   T = table_in written to
 
@@ -46,9 +43,6 @@ module _ {rules : Rules} {rotation : ℕ} {written : ℕ → List Entry} {most :
 
   abbrev sender : ℕ → ℕ
   sender = cell from.cells from.nodes owner
-
-  abbrev receiver : ℕ → ℕ
-  receiver = cell to.cells to.nodes owner
 
   -- the owner's numbers before older ones are dropped, and its greatest one before and then
   abbrev y : ℕ → ℕ
@@ -81,10 +75,10 @@ module _ {rules : Rules} {rotation : ℕ} {written : ℕ → List Entry} {most :
   y-sent : (key : ℕ) → key < to.keys → sent key ≡ true → y key ≡ sender key
   y-sent key lt yes' = same owner key in_nodes lt ∙ (let at = there key in grind (arith, nat_tests))
 
-  y-stays : (key : ℕ) → key < to.keys → sent key ≡ false → y key ≡ receiver key
+  y-stays : (key : ℕ) → key < to.keys → sent key ≡ false → y key ≡ cell to.cells to.nodes owner key
   y-stays key lt no' = same owner key in_nodes lt ∙ (let at = there key in grind (arith, nat_tests))
 
-  y-above : (key : ℕ) → receiver key ≤ y key
+  y-above : (key : ℕ) → cell to.cells to.nodes owner key ≤ y key
   y-above key = grind (arith, nat_tests)
 
   -- what stood at a place has a number, up to the one that is taken there
@@ -94,7 +88,7 @@ module _ {rules : Rules} {rotation : ℕ} {written : ℕ → List Entry} {most :
   stood-number : (key : ℕ) (e : Entry) → Stands key e → IsUpToTaken e key
   stood-number key e (inl held) =
       let lt = (two.second.proper.in_place owner key e held).key_below in
-      (receiver key, sym (first-cells (turned two) owner key in_nodes lt) ∙ held, y-above key, raised.upto key lt)
+      (cell to.cells to.nodes owner key, sym (first-cells (turned two) owner key in_nodes lt) ∙ held, y-above key, raised.upto key lt)
   stood-number key e (inr came) =
       let held = came-held rules rotation two owner e came.0 in
       let below = (two.first.proper.in_place owner e.key e held).key_below in
@@ -125,7 +119,7 @@ module _ {rules : Rules} {rotation : ℕ} {written : ℕ → List Entry} {most :
       → e.generation ≡ (list_of_owner h.lists owner).generation
   current number e is over = (current-numbered (list_of_owner h.lists owner) (two.known.writes owner) number e is over).generation
 
-  of-sender : (e : Entry) → Comes rules rotation two owner e → e.generation ≡ generation_held F owner
+  of-sender : (e : Entry) → Comes rules rotation two owner e → e.generation ≡ generation_held (table_in written from) owner
   of-sender e comes = two.first.proper.copies owner e.key e (came-held rules rotation two owner e comes)
 
   -- the greatest number is of an entry that stood, of the newest generation
@@ -162,7 +156,7 @@ module _ {rules : Rules} {rotation : ℕ} {written : ℕ → List Entry} {most :
 
   -- what stood and is older than what did is the receiver's, and that is of the sender's generation
   older-stood : (key k : ℕ) (d e : Entry) → Stands key d → Stands k e → d.generation < e.generation
-      → (entry_at T owner key ≡ Some d) × (d.generation ≡ generation_held T owner) × (e.generation ≡ generation_held F owner)
+      → (entry_at T owner key ≡ Some d) × (d.generation ≡ generation_held T owner) × (e.generation ≡ generation_held (table_in written from) owner)
   older-stood key k d e (inl held) (inl other) older =
       absurd (omega (arith, older, two.second.proper.copies owner key d held, two.second.proper.copies owner k e other))
   older-stood key k d e (inl held) (inr came) older = (held, two.second.proper.copies owner key d held, of-sender e came.0)
@@ -192,7 +186,7 @@ module _ {rules : Rules} {rotation : ℕ} {written : ℕ → List Entry} {most :
     drops older =
         let is_older : here.0.generation < top.entry.generation = omega (arith, older, top.generation) in
         let was = older-stood key top.key here.0 top.entry here.2 top.stood is_older in
-        let has = (numbered-within writes (receiver key) here.0 (sym (first-cells (turned two) owner key in_nodes in_keys) ∙ was.0)).0 in
+        let has = (numbered-within writes (cell to.cells to.nodes owner key) here.0 (sym (first-cells (turned two) owner key in_nodes in_keys) ∙ was.0)).0 in
         let some_old : 0 < old = omega (arith, has, before.upto key in_keys) in
         let f = numbered-some writes old some_old (greatest-within two owner in_nodes) in
         let copy = ap (λ (m : Mark). m.generation) (greatest-mark two owner in_nodes) ∙ ap (λ o. (mark_held o).generation) f.1 in
@@ -253,7 +247,7 @@ module _ {rules : Rules} {rotation : ℕ} {written : ℕ → List Entry} {most :
   }
 
   -- all stays that was taken, unless the sender's copy is of a newer generation
-  stays-unless : (key : ℕ) → key < to.keys → generation_held F owner ≤ generation_held T owner → cell new.cells to.nodes owner key ≡ y key
+  stays-unless : (key : ℕ) → key < to.keys → generation_held (table_in written from) owner ≤ generation_held T owner → cell new.cells to.nodes owner key ≡ y key
   stays-unless key in_keys no_newer =
       let is = taken.kept.each owner key in_nodes in_keys in
       elim (cases_lt 0 (y key)) [

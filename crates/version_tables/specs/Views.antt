@@ -8,6 +8,7 @@ use Rattle.model.specs.Table.{Table, own_write, with_own_write, IsProper}
 use Rattle.model.specs.calls.Held.{held_by_lists}
 use Rattle.model.specs.calls.Numbers.{write_numbered}
 use Rattle.planes.specs.declared.sizes.Grid.{Grid}
+use Rattle.planes.specs.Grids.{IsGridOf}
 use Rattle.planes.specs.Planes.{cell, Cells, HasEach, HasEachPlace}
 
 -- a plane for each key, with a number for each owner, and the greatest number of each owner
@@ -74,6 +75,7 @@ pub record IsGridIn {N : Type 0} (number : N → ℕ) (written : ℕ → List En
   pub cells : map number grid.cells.now ≡ v.cells
   pub nodes : grid.size.nodes ≡ v.nodes
   pub keys : grid.size.keys ≡ v.keys
+  pub shape : IsGridOf grid
   pub kept : IsKept written v
 
 -- under a number above all that a table holds of its node stands what the node writes next of a key

@@ -24,7 +24,7 @@ pub(crate) struct DeltaMarks<N: Number> {
 }
 
 // The numbers that are offered, how many are above the low marks, and the size of the sender's digest.
-#[derive(Clone, Copy)]
+#[derive(Drop)]
 struct Offered<'a, N: Number> {
     cells: &'a [N],
     found: u32,

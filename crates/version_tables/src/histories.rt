@@ -138,7 +138,9 @@ impl<N: Number, H: Written> Histories<N, H> {
 
     // How many writes of earlier generations each owner has made.
     pub(crate) fn bases(&self) -> &[N]
-        ensures { HasEach (length self.now.lists) (λ r n. n ≡ bases_in self.now.lists r) (map N.number result.now) }
+        ensures count { length result.now ≡ length self.now.lists }
+        ensures each { HasEach (length self.now.lists) (λ r n. n ≡ bases_in self.now.lists r)
+            (map N.number result.now) }
     {
         &self.bases
     }

@@ -84,8 +84,8 @@ fn has_no_newer<N: Number, H: Written>(
     requires nodes { table.now.nodes ≡ other.now.nodes }
     ensures { IsTrue result ↔ HasNoNewer table.now other.now }
 {
-    let node = other.node() as usize;
-    table.greatest()[node].is_upto(other.greatest()[node])
+    let node = other.node();
+    table.greatest_of(node).is_upto(other.greatest_of(node))
 }
 
 /// Whether all that two tables lack of each other surely fits, by scuttle digests, and nothing of an earlier generation

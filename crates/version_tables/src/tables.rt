@@ -59,8 +59,9 @@ impl<N: Number, H: Written> Model for VersionTable<N, H> {
 }
 
 impl<N: Number, H: Written> VersionTable<N, H> {
-    ghost use Rattle.std.specs.Prelude.{◌+◌, ◌^◌, ◌<◌, map, IfOk, IsOkUnless};
+    ghost use Rattle.std.specs.Prelude.{◌+◌, ◌^◌, ◌<◌, ◌≤◌, length, map, slice_index, IfOk, IsOkUnless};
     ghost use Rattle.bench_types.specs.declared.faults.Fault.TheVariants.{OutOfMemory};
+    ghost use Rattle.bench_types.specs.declared.limits.TheConstants.{MOST_NODES};
     ghost use Rattle.model.specs.Table.{empty_table, without_others, without_all};
     ghost use Rattle.version_tables.specs.Views.{table_in, AreSizes, HasOwnWrite, IsGridIn, IsKept, IsNextWrite};
 
@@ -174,9 +175,18 @@ impl<N: Number, H: Written> VersionTable<N, H> {
         &self.cells
     }
 
+    pub(crate) fn greatest_of(&self, owner: u32) -> N
+        requires { owner < self.now.nodes }
+        ensures { N.number result ≡ slice_index self.now.greatest owner }
+    {
+        self.greatest[owner as usize]
+    }
+
     // The greatest number of each owner.
     pub(crate) fn greatest(&self) -> &[N]
         ensures value { map N.number result.now ≡ self.now.greatest }
+        ensures count { length result.now ≡ self.now.nodes }
+        ensures few { self.now.nodes ≤ MOST_NODES }
         ensures kept { IsKept H.lists self.now }
     {
         &self.greatest

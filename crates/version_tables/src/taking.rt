@@ -63,7 +63,7 @@ fn drop_older<N: Number>(
 }
 
 /// What comes to a table: of each owner what is above the low mark and up to the high one, or nothing.
-#[derive(Clone, Copy)]
+#[derive(Drop)]
 pub(crate) struct Arrival<'a, N: Number> {
     low: &'a [N],
     high: &'a [N],

@@ -53,6 +53,7 @@ pub record AreEndsOf {N : Type 0} (number : N → ℕ) (h : HistoriesView) (ends
 -- as many owners as nodes, whose writes are numbered, and of each how many it made before its generation
 pub record AreOwners {N : Type 0} (number : N → ℕ) (nodes : ℕ) (owners : Owners N) : Type 0 where
   pub count : length owners.lists.now ≡ nodes
+  pub base_count : length owners.bases.now ≡ nodes
   pub bases : HasEach nodes (λ r n. n ≡ bases_in owners.lists.now r) (map number owners.bases.now)
   pub numbered : (owner : ℕ) → IsNumberedHistory (all_writes owners.lists.now owner)
 

@@ -1,4 +1,4 @@
-use Rattle.version_tables.proofs.Common.{refl, sym, ◌∙◌, subst, arith, map, digest_size, table_in, AreLaidBoth, AreOffered}
+use Rattle.version_tables.proofs.Common.{refl, sym, ap, ◌∙◌, subst, arith, length, length-map, map, digest_size, table_in, AreLaidBoth, AreOffered}
 use Rattle.version_tables.proofs.DigestSizes.{cells-size}
 use Rattle.version_tables.proofs.Told.{greatest-within}
 use Rattle.version_tables.proofs.deltas.delta.Goals as goal
@@ -11,12 +11,12 @@ told-requires-clause-known g c =
     record { known = c.lists.ensures.known; both = c.requires.both; first = c.grid-grid.ensures.kept; second = kept } in
     rw (c.lists.ensures.value, c.greatest.ensures.value) (record {
       count = kept.most.size ∙ nodes;
-      base_count = c.bases.ensures.size;
+      base_count = c.bases.ensures.each.size;
       few_nodes = omega (arith, nodes, kept.proper.nodes_limit);
       each = λ owner lt. record {
         few = (two.known.so_far owner).few;
         within = greatest-within two owner (omega (arith, lt, nodes));
-        based = c.bases.ensures.each owner lt;
+        based = c.bases.ensures.each.each owner lt;
         writes = two.known.writes owner;
         numbered = (two.known.so_far owner).numbered;
       };
@@ -57,3 +57,24 @@ delta_above-requires-in-Precise-clause-digest g c =
     c.in_ok-ahead-in-Precise.ensures.ahead.held
     ∙ cells-size g.H.Written.lists c.args.sender.now c.grid-grid.ensures.kept g.N.Number.number c.grid-grid.result.cells.now c.grid-grid.ensures.cells
     ∙ (λ i. digest_size ((sym c.in-Precise.is ∙ c.digest_kind-kind.ensures) i) (table_in g.H.Written.lists c.args.sender.now))
+
+pub total_above-requires : goal.total_above-requires
+total_above-requires g c =
+    let grid = c.grid-grid.ensures in
+    record {
+      marked = record {
+        marks = record {
+          shape = grid.shape;
+          low_count = rw c.deref.ensures.value (omega (
+            arith,
+            length-map c.in_ok-low.low.items g.N.Number.number,
+            c.in_ok-low.ensures.told.size,
+            ap length c.lists.ensures.value,
+            c.requires.both.first.nodes,
+            grid.nodes,
+          ));
+          high_count = c.greatest-in-Scuttle.ensures.count ∙ sym grid.nodes;
+        };
+        covered = rw (grid.nodes, grid.keys, grid.cells, c.greatest-in-Scuttle.ensures.value) (λ owner lt key lt_k. (grid.kept.most.each owner lt).upto key lt_k);
+      };
+    }

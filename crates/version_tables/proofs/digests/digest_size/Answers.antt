@@ -1,13 +1,11 @@
-use Rattle.version_tables.proofs.Common.{cond, nat_lt, slice_index, sym, ap, ◌∙◌, length, length-map, sum_below, digest_size, table_in}
+use Rattle.version_tables.proofs.Common.{sym, ◌∙◌, digest_size, table_in}
 use Rattle.version_tables.proofs.DigestSizes.{cells-size, owners-size}
 use Rattle.version_tables.proofs.digests.digest_size.Goals as goal
 
 pub returns-in-Scuttle-clause-size : goal.returns-in-Scuttle-clause-size
 returns-in-Scuttle-clause-size g c =
-    let size = sym (length-map c.greatest.result.now g.N.Number.number) ∙ ap length c.greatest.ensures.value in
     c.count_held.ensures
-    ∙ (λ i. sum_below (size i) (λ r. cond (nat_lt 0 (slice_index (c.greatest.ensures.value i) r)) 1 0))
-    ∙ owners-size g.H.Written.lists c.args.table.now c.greatest.ensures.kept
+    ∙ owners-size g.H.Written.lists c.args.table.now c.greatest.ensures.kept g.N.Number.number c.greatest.result.now c.greatest.ensures.value
     ∙ (λ i. digest_size ((sym c.in-Scuttle.is ∙ c.digest_kind.ensures) i) (table_in g.H.Written.lists c.args.table.now))
 
 pub returns-in-Precise-clause-size : goal.returns-in-Precise-clause-size

@@ -24,7 +24,7 @@ returns g c views end cells =
       }) (map (table_in written) views)) same (record {
         may = may-be-counted written views h end c.keys.ensures.limits c.lists.ensures.known.writes;
         few = λ r. (c.lists.ensures.known.so_far r).few;
-        are = numbers-of written views h end (λ r. (c.lists.ensures.known.so_far r).begins) number c.args.cells.now cells c.bases.ensures c.lasts.ensures;
+        are = numbers-of written views h end (λ r. (c.lists.ensures.known.so_far r).begins) number c.args.cells.now cells c.bases.ensures.each c.lasts.ensures;
         ends = record { size = ends.size; are_ends = ends.parts };
       });
     }

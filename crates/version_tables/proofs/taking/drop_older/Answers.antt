@@ -1,4 +1,4 @@
-use Rattle.version_tables.proofs.Common.{◌≡◌, subst, arith, map, ap, length-map, all_writes, number-at, owners-next, owners-all, IsNumberedHistory, all_writes-here, drop_starts, number_kept}
+use Rattle.version_tables.proofs.Common.{◌≡◌, subst, arith, map, ap, all_writes, number-at, owners-next, owners-all, IsNumberedHistory, all_writes-here, drop_starts, number_kept}
 use Rattle.version_tables.proofs.taking.drop_older.Goals as goal
 
 -- what an owner's numbers are dropped up to
@@ -12,7 +12,7 @@ starts g c =
     let before = number-at number c.args.before.now c.loop-owner.owner c.index-before-owner.result
     (omega (arith, c.requires.before_count, c.loop-owner-test.true)) c.index-before-owner.is in
     let base = number-at number c.args.owners.bases.now c.loop-owner.owner c.index-bases-owner.result
-    (omega (arith, c.requires.known.bases.size, length-map c.args.owners.bases.now number, c.loop-owner-test.true)) c.index-bases-owner.is in
+    (omega (arith, c.requires.known.base_count, c.loop-owner-test.true)) c.index-bases-owner.is in
     let after = number-at number c.args.greatest.now c.loop-owner.owner c.index-greatest-owner.result
     (omega (arith, c.requires.greatest_count, c.loop-owner-test.true)) c.index-greatest-owner.is in
     rw (here, ← before, ← base, ← after) c.drop_from-start.ensures

@@ -6,9 +6,6 @@ module _ (g : _) (c : goal.After-table-3-1 g) where
   abbrev old : VersionTableView
   old = seen c.table.view_is
 
-  nodes : old.nodes ≡ length c.args.histories.now.lists
-  nodes = ap (λ (v : VersionTableView). v.nodes) c.table.view_is ∙ c.requires.may.nodes
-
   taken : HasTaken c.args.histories.now.lists old (map g.N.Number.number c.args.cells.now)
       (map g.N.Number.number c.args.arrival.low.now) (map g.N.Number.number c.args.arrival.high.now) (record old {
         cells = map g.N.Number.number (with_items (with_items c.table.inside.cells c.take.new.cells) c.drop_older.new.cells).items;
@@ -29,7 +26,7 @@ module _ (g : _) (c : goal.After-table-3-1 g) where
         kept = record {
           size = dropped.size ∙ came.size;
           each = λ owner key in_nodes in_keys.
-              let based = c.bases.ensures.each owner (omega (arith, in_nodes, nodes)) in
+              let based = c.bases.ensures.each.each owner (omega (arith, in_nodes, ap (λ (v : VersionTableView). v.nodes) c.table.view_is, c.requires.may.nodes)) in
               dropped.each owner key in_nodes in_keys
               ∙ (λ i. number_kept (drop_start (all_writes lists owner) (slice_index (before i) owner) (based i)
               (slice_index (map g.N.Number.number (with_items inside.greatest c.take.new.greatest).items) owner)) (came.each owner key in_nodes in_keys i));
@@ -45,3 +42,13 @@ invariant_of-table g c =
 
 pub returns : goal.returns
 returns g c = rw (c.if-arrival.false, ← c.table.view_is) (taken g c)
+
+pub drop_older-requires-clause-known : goal.drop_older-requires-clause-known
+drop_older-requires-clause-known g c =
+    let many : c.table.inside.nodes ≡ length c.args.histories.now.lists = ap (λ (v : VersionTableView). v.nodes) c.table.view_is ∙ c.requires.may.nodes in
+    rw (c.lists.ensures.value, many) (record {
+      count = refl;
+      base_count = c.bases.ensures.count;
+      bases = c.bases.ensures.each;
+      numbered = λ owner. (c.lists.ensures.known.so_far owner).numbered;
+    })

@@ -18,11 +18,11 @@ fn greatest_of<N: Number>(numbers: &[N]) -> u32
         → slice_index (map N.number numbers.now) r ≤ result }
     ensures few { result ≤ MOST_KEYS }
 {
-    let mut greatest = 0;
+    let mut greatest = N::zero();
     for r in 0..numbers.len() {
-        greatest = numbers[r].widen().max(greatest);
+        greatest = greatest.max_with(numbers[r]);
     }
-    greatest
+    greatest.widen()
 }
 
 fn next_runs<N: Number>(

@@ -13,6 +13,10 @@
 //! - Where entries are counted nothing is weighed. Where bytes are, sizes are looked up up to the first owner whose
 //!   numbers don't fit, those of a layer or of runs only once, as what is left of the budget goes on to the next ones,
 //!   and those of rounds and of all that is offered only if their count times the largest size doesn't fit.
+//! - A precise offer has nothing of most owners between two marks, however far these are apart. So before bytes of one
+//!   are weighed, the owners that have something are sought, key by key over whole planes. In the scuttle modes marks
+//!   that differ tell it.
+//! - Functions whose loops took more instructions beside other values that live there aren't inlined.
 #![tactic(auto)]
 
 mod breadths;

@@ -44,7 +44,6 @@ pub struct Marked<N: Number> {
 }
 
 /// All where it fits, else whole levels and a share of the first one that doesn't fit with them.
-// (Inlined where other values live beside it, its loops take more instructions.)
 #[inline(never)]
 pub fn planned<N: Number>(
     alloc: Global,

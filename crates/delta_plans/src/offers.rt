@@ -128,6 +128,7 @@ impl<'a, N: Number> Offer<'a, N> {
 
     // What is left of so many bytes after all owners' numbers above one mark and up to another, if they fit. It stops
     // at the first owner whose numbers don't.
+    #[inline(never)]
     fn bytes_left_of(&self, room: u32, low: &[N], high: &[N]) -> Option<u32>
         requires { HasMarks N.number N.most self.now low.now high.now }
         ensures { IsLeftOf room (weight_in N.number self.now (marks N.number low.now)

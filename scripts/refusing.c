@@ -2,17 +2,22 @@
 
      REFUSED  CALL HOW FIRST LAST: the calls FIRST to LAST of a kind, counted from 1 and from the begin of main. CALL is
               growth, read, write or thread, or main: a growth of the thread that begins main. HOW is fails, or short: a
-              read or write of one byte.
-     TOLD     the number of an open file, which is told at the end how often each was called, how many were refused and
-              how many threads there are; and then, of each thread that this one starts, how many growths it had made
-              before and after the call
+              read or write of one byte; or slow: none is refused, but other threads wake late from each wait.
+     TOLD     the number of an open file, which is told at the end how often each was called and how many were refused;
+              of threads, how many there were before one was started, how many were started, how many of these were
+              joined or detached, how often one waited when the program ended or called something later, and how many
+              there are; and then, of each thread that the first one starts, how many growths it had made before and
+              after the call
 
-   What comes before main, and what the threads of a program do in turn, is counted as it comes. */
+   A thread of a scope detaches itself once the scope has counted it out, and has a second for that. It needs no other
+   call. What comes before main, and what the threads of a program do in turn, is counted as it comes. */
 #define _GNU_SOURCE
 #include <dirent.h>
 #include <dlfcn.h>
 #include <errno.h>
+#include <linux/futex.h>
 #include <pthread.h>
+#include <stdarg.h>
 #include <stdatomic.h>
 #include <stdbool.h>
 #include <stdio.h>
@@ -29,8 +34,14 @@ static const char *const names[CALLS] = {"growth", "read", "write", "thread", "m
 static atomic_long made[CALLS], refused;
 static enum call which = CALLS;
 static long first, last;
-static bool counts, is_short;
+static bool counts, is_short, is_slow;
 static pthread_t begins_main;
+static int (*create)(pthread_t *, const pthread_attr_t *, void *(*)(void *), void *);
+static int (*join)(pthread_t, void **), (*detach)(pthread_t);
+static long (*call_system)(long, ...);
+static int before;
+static atomic_long started, let_go, waiting, late;
+static atomic_bool ends;
 static long around_starts[128];
 static int told_of_starts;
 
@@ -40,12 +51,20 @@ __attribute__((constructor)) static void begin(void) {
     if (text && sscanf(text, "%7s %7s %ld %ld", call, how, &first, &last) == 4) {
         for (which = 0; which < CALLS && strcmp(call, names[which]); which++) {}
         is_short = strcmp(how, "short") == 0;
+        is_slow = strcmp(how, "slow") == 0;
     }
+    create = dlsym(RTLD_NEXT, "pthread_create");
+    join = dlsym(RTLD_NEXT, "pthread_join");
+    detach = dlsym(RTLD_NEXT, "pthread_detach");
+    call_system = dlsym(RTLD_NEXT, "syscall");
     begins_main = pthread_self();
     counts = true;
 }
 
+static bool is_first(void) { return pthread_equal(pthread_self(), begins_main); }
+
 static bool is_refused(enum call call) {
+    late += ends && !is_first();
     if (!counts) return false;
     long number = ++made[call];
     bool is = call == which && first <= number && number <= last;
@@ -53,10 +72,8 @@ static bool is_refused(enum call call) {
     return is;
 }
 
-static bool is_in_main(void) { return counts && pthread_equal(pthread_self(), begins_main); }
-
 static bool lacks_memory(void) {
-    bool is = is_in_main() && is_refused(MAIN);
+    bool is = counts && is_first() && is_refused(MAIN);
     return is_refused(GROWTH) || is;
 }
 
@@ -74,50 +91,90 @@ int posix_memalign(void **at, size_t align, size_t size) {
 static ssize_t moved(enum call call, int file, void *bytes, size_t count) {
     bool is = is_refused(call);
     if (is && !is_short) return errno = EIO, -1;
-    return syscall(call == READ ? SYS_read : SYS_write, file, bytes, is && count > 1 ? 1 : count);
+    return call_system(call == READ ? SYS_read : SYS_write, file, bytes, is && count > 1 ? 1 : count);
 }
 
 ssize_t read(int file, void *bytes, size_t count) { return moved(READ, file, bytes, count); }
 ssize_t write(int file, const void *bytes, size_t count) { return moved(WRITE, file, (void *)bytes, count); }
 ssize_t __write(int file, const void *bytes, size_t count) { return write(file, bytes, count); }
 
-static void note_start(void) {
-    if (is_in_main() && told_of_starts < 128) around_starts[told_of_starts++] = made[MAIN];
-}
-
-int pthread_create(pthread_t *made_thread, const pthread_attr_t *how, void *(*run)(void *), void *with) {
-    if (is_refused(THREAD)) return EAGAIN;
-    int (*create)(pthread_t *, const pthread_attr_t *, void *(*)(void *), void *) = dlsym(RTLD_NEXT, "pthread_create");
-    note_start();
-    int answer = create(made_thread, how, run, with);
-    note_start();
+/* By this come all waits of a program but those for a thread that it joins. */
+long syscall(long number, ...) {
+    long with[6];
+    va_list rest;
+    va_start(rest, number);
+    for (int at = 0; at < 6; at++) with[at] = va_arg(rest, long);
+    va_end(rest);
+    int what = with[1] & FUTEX_CMD_MASK;
+    bool waits = number == SYS_futex && (what == FUTEX_WAIT || what == FUTEX_WAIT_BITSET) && !is_first();
+    waiting += waits;
+    late += waits && ends;
+    long answer = call_system(number, with[0], with[1], with[2], with[3], with[4], with[5]);
+    int error = errno;
+    if (waits && is_slow) usleep(3000);
+    waiting -= waits;
+    errno = error;
     return answer;
 }
 
-/* How many threads there are, but for those that are just ending. */
 static int threads(void) {
-    int count = 0;
-    for (int looks = 0; looks < 1000; looks++) {
-        DIR *tasks = opendir("/proc/self/task");
-        if (!tasks) return 0;
-        for (count = -2; readdir(tasks); count++) {} /* (. and .. are none) */
-        closedir(tasks);
-        if (count == 1) break;
-        usleep(1000);
-    }
+    int count = -2; /* (. and .. are none) */
+    DIR *tasks = opendir("/proc/self/task");
+    if (!tasks) return 0;
+    while (readdir(tasks)) count++;
+    closedir(tasks);
     return count;
+}
+
+static void note_start(void) {
+    if (counts && is_first() && told_of_starts < 128) around_starts[told_of_starts++] = made[MAIN];
+}
+
+int pthread_create(pthread_t *made_thread, const pthread_attr_t *how, void *(*run)(void *), void *with) {
+    if (!before) {
+        counts = false;
+        before = threads();
+        counts = true;
+    }
+    if (is_refused(THREAD)) return EAGAIN;
+    note_start();
+    int answer = create(made_thread, how, run, with);
+    note_start();
+    started += answer == 0;
+    return answer;
+}
+
+int pthread_join(pthread_t thread, void **answer) {
+    int failed = join(thread, answer);
+    let_go += !failed;
+    return failed;
+}
+
+int pthread_detach(pthread_t thread) {
+    int failed = detach(thread);
+    let_go += !failed;
+    return failed;
 }
 
 void _exit(int status) {
     const char *told = getenv("TOLD");
     counts = false;
+    ends = true;
+    late += waiting;
+    if (!before) before = threads();
+    int left = threads();
+    /* (a look at threads that are ending may miss some) */
+    for (int looks = 0; looks < 1000 && (left > 1 || let_go < started); looks++) {
+        usleep(1000);
+        left = threads();
+    }
     if (told) {
         int file = atoi(told);
         for (enum call call = 0; call < CALLS; call++) dprintf(file, "%ld ", made[call]);
-        dprintf(file, "%ld %d", refused, threads());
+        dprintf(file, "%ld %d %ld %ld %ld %d", refused, before, started, let_go, late, left);
         for (int at = 0; at < told_of_starts; at++) dprintf(file, " %ld", around_starts[at]);
         dprintf(file, "\n");
     }
-    syscall(SYS_exit_group, status);
+    call_system(SYS_exit_group, status);
     __builtin_unreachable();
 }

@@ -1,19 +1,21 @@
 //! Threads that carry out one list after another.
 
 use crate::tests::comparing::expect;
+use crate::tests::gates::Meeting;
 use crate::tests::pools::run_fresh;
-use crate::tests::small_boards::{CROSSING, ONE_ENTRY, list_of};
+use crate::tests::small_boards::{CROSSING, ONE_ENTRY, TWICE, list_of};
 use bench_types::{Exchange, Fault, Record, Rules};
 use crew::{Answered, Divided, LookJob, Parted, look_in_parts};
 use exchange::Entries;
 use fixtures::{Writers, tables_of};
 use model::Exchanging;
 use node_table::NodeTable;
-use pool::{Batch, FreeGate, Posts};
+use pool::{Batch, FreeGate, Gate, Posts};
 use round_plan::RoundList;
 use std::alloc::{AllocGlobal, Global};
 use std::process::Abort;
 use std::sync::Wait;
+use std::thread::Threads;
 
 // Carries out exchanges, or lacks memory in each.
 #[derive(Drop)]
@@ -65,13 +67,14 @@ impl Parted for Numbers {
     }
 }
 
-type Crewed = Posts<NodeTable, Fickle, FreeGate, LookJob<Numbers>>;
+type Crewed<G> = Posts<NodeTable, Fickle, G, LookJob<Numbers>>;
 
 // The records of a list that begins with fresh tables.
-fn records_of<R: Abort + AllocGlobal + Wait>(
+fn records_of<R: Abort + AllocGlobal + Wait, G: Gate + Drop>(
     rt: &R,
-    posts: &Crewed,
+    posts: &Crewed<G>,
     list: &RoundList,
+    gate: G,
     lacks_memory: bool,
 ) -> Result<Vec<Record>, Fault> {
     let tables = tables_of(rt.alloc(), Writers::all(list.nodes(), 1))?;
@@ -79,7 +82,7 @@ fn records_of<R: Abort + AllocGlobal + Wait>(
         shared: Fickle { lacks_memory },
         list,
         rules: &ONE_ENTRY,
-        gate: FreeGate,
+        gate,
     };
     let done = posts.carry_out(rt, batch, tables, || ())?;
     assert!(rt; !done.shared.lacks_memory);
@@ -94,11 +97,11 @@ fn lists_by_the_same_threads(rt: HostRuntime) -> Result<(), Fault> {
     let posts = Posts::new(rt.alloc(), 3)?;
     let lists = posts.with_threads(&rt, (), |_| {
         (
-            records_of(&rt, &posts, &list, false),
-            records_of(&rt, &posts, &list, true),
+            records_of(&rt, &posts, &list, FreeGate, false),
+            records_of(&rt, &posts, &list, FreeGate, true),
         )
     });
-    let again = posts.with_threads(&rt, (), |_| records_of(&rt, &posts, &list, false));
+    let again = posts.with_threads(&rt, (), |_| records_of(&rt, &posts, &list, FreeGate, false));
     let (Ok((first, second)), Ok(third)) = (lists, again) else {
         return Err(Fault::NoThread);
     };
@@ -112,9 +115,9 @@ fn lists_by_the_same_threads(rt: HostRuntime) -> Result<(), Fault> {
 #[test]
 fn parts_by_the_same_threads(rt: HostRuntime) -> Result<(), Fault> {
     let list = list_of(&rt, 8, CROSSING);
-    let posts: Crewed = Posts::new(rt.alloc(), 3)?;
+    let posts: Crewed<FreeGate> = Posts::new(rt.alloc(), 3)?;
     let done = posts.with_threads(&rt, (), |_| -> Result<Vec<u64>, Fault> {
-        records_of(&rt, &posts, &list, false)?;
+        records_of(&rt, &posts, &list, FreeGate, false)?;
         let divided = Divided {
             whole: Numbers {
                 all: Vec::from_array(rt.alloc(), [5, 1, 4, 2, 8, 7])?,
@@ -122,7 +125,7 @@ fn parts_by_the_same_threads(rt: HostRuntime) -> Result<(), Fault> {
             bounds: Vec::from_array(rt.alloc(), [0, 2, 3, 3, 5, 6])?,
         };
         let Answered { answers, .. } = look_in_parts(&rt, rt.alloc(), &posts, divided)?;
-        records_of(&rt, &posts, &list, false)?;
+        records_of(&rt, &posts, &list, FreeGate, false)?;
         Ok(answers)
     });
     let Ok(answers) = done else {
@@ -133,5 +136,29 @@ fn parts_by_the_same_threads(rt: HostRuntime) -> Result<(), Fault> {
         answers?.as_slice() == [6, 4, 0, 10, 7].as_slice(),
         true,
     );
+    Ok(())
+}
+
+// The records of a list by two workers, of which the caller's thread is one.
+fn records_by_two<R: Abort + AllocGlobal + Threads + Wait + Sync, G: Gate + Send + Sync + Drop>(
+    rt: &R,
+    list: &RoundList,
+    gate: G,
+) -> Result<Vec<Record>, Fault> {
+    let posts = Posts::new(rt.alloc(), 2)?;
+    let done = posts.with_threads(rt, gate, |gate| records_of(rt, &posts, list, gate, false));
+    let Ok(records) = done else {
+        return Err(Fault::NoThread);
+    };
+    records
+}
+
+#[test]
+fn two_exchanges_at_once_by_a_crew(rt: HostRuntime) -> Result<(), Fault> {
+    let gate = Meeting::new();
+    let list = list_of(&rt, 4, TWICE);
+    let records = records_by_two(&rt, &list, &gate)?;
+    expect(&rt, records.len(), list.len() as usize);
+    assert!(rt; gate.has_met());
     Ok(())
 }

@@ -55,9 +55,6 @@ module _ {N : Type 0} (number : N → ℕ) {written : ℕ → List Entry} {most 
   abbrev first : First
   first = first_sent rules.mode
 
-  abbrev lists : ℕ → List Entry
-  lists = all_writes h.lists
-
   abbrev sender : Cells
   sender = cell from.cells from.nodes
 
@@ -85,7 +82,7 @@ module _ {N : Type 0} (number : N → ℕ) {written : ℕ → List Entry} {most 
   cells-upto : (owner key : ℕ) → owner < from.nodes → key < from.keys → cells owner key ≤ sender owner key
   cells-upto owner key in_nodes in_keys = omega (arith, is.offered.each owner key in_nodes in_keys, offered-upto kind sender receiver low owner key)
 
-  offers : Offers rules.mode F T lists cells low
+  offers : Offers rules.mode F T (all_writes h.lists) cells low
   offers = told-offers two rules.mode (map number given.low.now) (map number given.grid.cells.now) is.low is.offered
 
   covered : (owner : ℕ) → owner < from.nodes → HasNoneAbove cells from.keys owner (high owner)
@@ -100,9 +97,9 @@ module _ {N : Type 0} (number : N → ℕ) {written : ℕ → List Entry} {most 
   differ owner in_nodes k l in_k in_l some same =
       let at_k : cells owner k ≡ sender owner k = at owner k in_nodes in_k some in
       let at_l : cells owner l ≡ sender owner l = at owner l in_nodes in_l (omega (arith, some, same)) in
-      let there = numbered-some (lists owner) (sender owner k) (omega (arith, some, at_k)) (first-upto two owner k in_nodes in_k) in
+      let there = numbered-some (all_writes h.lists owner) (sender owner k) (omega (arith, some, at_k)) (first-upto two owner k in_nodes in_k) in
       sym (first-keyed two owner k there.0 in_nodes in_k there.1)
-      ∙ first-keyed two owner l there.0 in_nodes in_l (ap (write_numbered (lists owner)) (sym at_l ∙ sym same ∙ at_k) ∙ there.1)
+      ∙ first-keyed two owner l there.0 in_nodes in_l (ap (write_numbered (all_writes h.lists owner)) (sym at_l ∙ sym same ∙ at_k) ∙ there.1)
 
   -- the numbers are an offer
   pub offer-is : IsOffer number most given
@@ -133,10 +130,10 @@ module _ {N : Type 0} (number : N → ℕ) {written : ℕ → List Entry} {most 
     marked : AreMarked rules.mode rotation number offer m sent cut
     marked = subst (λ o. AreMarked rules.mode rotation number o m sent cut) same marked_is
 
-    histories : (owner : ℕ) → IsHistory (lists owner)
+    histories : (owner : ℕ) → IsHistory (all_writes h.lists owner)
     histories owner = (two.known.so_far owner).history
 
-    given_is : IsOffered rules.mode F T lists cells low
+    given_is : IsOffered rules.mode F T (all_writes h.lists) cells low
     given_is = record { proper = two.first.proper; histories = histories; offers = offers }
 
     has : HasSet (candidates rules.mode F T) (lets rules.mode cells m) (delta_between rules.mode rotation rules.budget F T)
@@ -153,7 +150,7 @@ module _ {N : Type 0} (number : N → ℕ) {written : ℕ → List Entry} {most 
     told-upto owner key in_to in_keys is_scuttle = elim (cases_eq owner to.node) [
       | inl own ↦ subst (λ o. receiver o key ≤ low o) (sym own) (is.low.held key in_keys)
       | inr other ↦
-          let told = is.low.others owner in_to other ∙ ap (λ k. told_by k (lists owner) (get_or to.greatest owner 0)) is_scuttle in
+          let told = is.low.others owner in_to other ∙ ap (λ k. told_by k (all_writes h.lists owner) (get_or to.greatest owner 0)) is_scuttle in
           omega (arith, told, (two.second.most.each owner in_to).upto key in_keys)
     ]
 

@@ -270,6 +270,22 @@ module _ {written : ℕ → List Entry} {most : ℕ} {h : HistoriesView} {nodes 
       | inr not_new ↦ let old : round ≤ h.rounds = omega (arith, not_new) in subst (P round) (sym (row-before round old)) (before round old)
     ]
 
+    rise-ended : (round : ℕ) → round < h.rounds + 1 → cell (ends ++ counts) nodes owner round ≤ cell (ends ++ counts) nodes owner (round + 1)
+    rise-ended round before = elim (cases_lt round h.rounds) [
+      | inl early ↦ omega (arith, row-before round (omega (arith, early)), row-before (round + 1) (omega (arith, early)), kept.ended.rise owner round lt early)
+      | inr late ↦
+          let upto : round ≤ h.rounds = omega (arith, before) in
+          let last : h.rounds ≡ round = omega (arith, before, late) in
+          omega (arith, row-before round upto, ap (λ m. cell (ends ++ counts) nodes owner (m + 1)) last, row-last, kept.reached owner round lt upto)
+    ]
+
+    parts-ended : (round : ℕ) → round ≤ h.rounds + 1 → IsRoundMark (all_writes h.lists owner) 0 round (cell (ends ++ counts) nodes owner round)
+    parts-ended = each-round (λ round mark. IsRoundMark (all_writes h.lists owner) 0 round mark) (λ round. kept.ended.parts owner round lt)
+        (record {
+          upto = λ number d _ is _. (kept.known.so_far owner).made.last number d is;
+          above = λ number d _ is behind. absurd (omega (arith, behind, (numbered-within (all_writes h.lists owner) number d is).1));
+        })
+
   pub histories-ended : {ends' : List ℕ} → ends' ≡ ends ++ counts → h.rounds < MOST_ROUNDS
       → AreHistories written most (round_ended h) nodes counts bases lasts ends'
   histories-ended is left = subst (AreHistories written most (round_ended h) nodes counts bases lasts) (sym is) (record {
@@ -293,18 +309,8 @@ module _ {written : ℕ → List Entry} {most : ℕ} {h : HistoriesView} {nodes 
     ends_size = grind (arith, length-append ends counts, kept.ends_size, kept.counted.size);
     ended = record {
       none = λ owner lt. row-before owner lt 0 (omega arith) ∙ kept.ended.none owner lt;
-      rise = λ owner round lt before. elim (cases_lt round h.rounds) [
-        | inl early ↦ omega (arith, row-before owner lt round (omega (arith, early)), row-before owner lt (round + 1) (omega (arith, early)), kept.ended.rise owner round lt early)
-        | inr late ↦
-            let upto : round ≤ h.rounds = omega (arith, before) in
-            let last : h.rounds ≡ round = omega (arith, before, late) in
-            omega (arith, row-before owner lt round upto, ap (λ m. cell (ends ++ counts) nodes owner (m + 1)) last, row-last owner lt, kept.reached owner round lt upto)
-      ];
-      parts = λ owner round lt. each-round owner lt (λ round mark. IsRoundMark (all_writes h.lists owner) 0 round mark) (λ round. kept.ended.parts owner round lt)
-          (record {
-            upto = λ number d _ is _. (kept.known.so_far owner).made.last number d is;
-            above = λ number d _ is behind. absurd (omega (arith, behind, (numbered-within (all_writes h.lists owner) number d is).1));
-          }) round;
+      rise = λ owner round lt. rise-ended owner lt round;
+      parts = λ owner round lt. parts-ended owner lt round;
     };
     reached = λ owner round lt. each-round owner lt (λ _ mark. mark ≤ length (all_writes h.lists owner)) (λ round. kept.reached owner round lt)
         (omega arith) round;

@@ -1,6 +1,6 @@
 -- What an owner writes next stands under the number behind all that it wrote, above what its table holds of it.
 -- Serves `HistoriesRoundHistoriesVersionTable::write`.
-use Rattle.version_tables.proofs.Common.{◌≡◌, ℕ, zero, suc, ◌+◌, ◌<◌, ◌≤◌, List, length, Some, inl, inr, sym, ◌∙◌, subst, arith, Contains, cases_lt, current-numbered, length-append, none-some, Entry, mark_of, mark_held, IsUpTo, Table, entry_at, greatest_mark, greatest_version, mark_at-up_to_greatest, write_numbered, OwnerListView, AreWrites, entries_of, next_entry, cell, numbered-placed, numbered-some, VersionTableView, table_in, IsKept, IsNextWrite, IsBeginning, IsWriteUnder, IsFirst}
+use Rattle.version_tables.proofs.Common.{◌≡◌, ℕ, zero, suc, ◌+◌, ◌≤◌, List, length, Some, inl, inr, sym, ◌∙◌, subst, arith, Contains, cases_lt, current-numbered, length-append, none-some, Entry, mark_of, mark_held, IsUpTo, Table, entry_at, greatest_mark, greatest_version, mark_at-up_to_greatest, write_numbered, OwnerListView, AreWrites, entries_of, next_entry, cell, numbered-placed, numbered-some, VersionTableView, table_in, IsKept, IsNextWrite, IsBeginning, IsWriteUnder, IsFirst}
 use Rattle.version_tables.proofs.Fitting.{earlier-at, so-far-upto}
 use Rattle.version_tables.proofs.Laid.{has_cells}
 
@@ -10,9 +10,6 @@ module _ (written : ℕ → List Entry) (v : VersionTableView) (kept : IsKept wr
     (under : IsWriteUnder written most v.node (length (entries_of list) + 1) (next_entry list key value born)) where
   abbrev t : Table
   t = table_in written v
-
-  in_nodes : v.node < v.nodes
-  in_nodes = kept.proper.node_below
 
   -- what the table holds of the node is a write so far
   held_so_far : (k : ℕ) (e : Entry) → entry_at t v.node k ≡ Some e → Contains (entries_of list) e
@@ -27,7 +24,7 @@ module _ (written : ℕ → List Entry) (v : VersionTableView) (kept : IsKept wr
       let there = numbered-some (entries_of list) own (omega (arith, in_place.written)) within in
       let at = current-numbered list are own there.0 there.1 (omega (arith, in_place.written)) in
       let is : write_numbered (written v.node) (cell v.cells v.nodes v.node k) ≡ Some e =
-      sym (has_cells written v kept.numbers v.node k in_nodes in_place.key_below) ∙ holds in
+      sym (has_cells written v kept.numbers v.node k kept.proper.node_below in_place.key_below) ∙ holds in
       let one : there.0.generation ≡ e.generation = omega (arith, at.generation, generation, kept.proper.own k e holds) in
       let two : there.0.version ≡ e.version = omega (arith, at.version) in
       let from : write_numbered (written v.node) own ≡ Some there.0 = sym (begins own within) ∙ there.1 in
@@ -53,6 +50,10 @@ module _ (written : ℕ → List Entry) (v : VersionTableView) (kept : IsKept wr
     entry = next_entry list key value born;
     is = under.is;
     next = λ i. record { key = key; generation = sym generation i; version = sym greatest i + 1; value = value; born = born };
-    above = elim (kept.most.each v.node in_nodes).held [ inl none ↦ omega (arith, none) | inr (k, in_keys, is) ↦ omega (arith, is, so-far-upto written v kept (entries_of list) v.node begins held_so_far k in_nodes in_keys) ];
+    above = elim (kept.most.each v.node kept.proper.node_below).held [
+      | inl none ↦ omega (arith, none)
+      | inr (k, in_keys, is) ↦
+          omega (arith, is, so-far-upto written v kept (entries_of list) v.node begins held_so_far k kept.proper.node_below in_keys)
+    ];
     first = first;
   }

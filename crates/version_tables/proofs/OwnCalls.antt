@@ -129,9 +129,6 @@ module _ (written : ℕ → List Entry) (v : VersionTableView) (kept : IsKept wr
     abbrev cells : List ℕ
     cells = set v.cells (key * v.nodes + v.node) number
 
-    in_nodes : v.node < v.nodes
-    in_nodes = kept.proper.node_below
-
     own : HoldsNumber (written v.node) key (entry_at (with_own_write t key e.value e.born) v.node key) number
     own = record {
       is = record {
@@ -143,25 +140,25 @@ module _ (written : ℕ → List Entry) (v : VersionTableView) (kept : IsKept wr
     }
 
     stands : cell cells v.nodes v.node key ≡ number
-    stands = place-here v.cells v.nodes v.keys v.node key number kept.numbers.size in_nodes in_keys
+    stands = place-here v.cells v.nodes v.keys v.node key number kept.numbers.size kept.proper.node_below in_keys
 
     stays : (r k : ℕ) → r < v.nodes → (r ≢ v.node) ⊎ (k ≢ key) → cell cells v.nodes r k ≡ cell v.cells v.nodes r k
-    stays = place-other v.cells v.nodes v.keys v.node key number kept.numbers.size in_nodes in_keys
+    stays = place-other v.cells v.nodes v.keys v.node key number kept.numbers.size kept.proper.node_below in_keys
 
     upto : (k : ℕ) → k < v.keys → cell cells v.nodes v.node k ≤ number
     upto k lt = elim (cases_eq k key) [
       | inl same ↦ omega (arith, ap (cell cells v.nodes v.node) same, stands)
-      | inr other ↦ omega (arith, stays v.node k in_nodes (inr other), (kept.most.each v.node in_nodes).upto k lt, write.above)
+      | inr other ↦ omega (arith, stays v.node k kept.proper.node_below (inr other), (kept.most.each v.node kept.proper.node_below).upto k lt, write.above)
     ]
 
     pub writes : LiesAs written (record v { cells = cells; greatest = set v.greatest v.node number }) (with_own_write t key e.value e.born)
     writes = record {
       frame = record { node = refl; nodes = refl; keys = refl; generation = refl };
       proper = proper-with_own_write t key e.value e.born kept.proper in_keys;
-      numbers = place-set v.cells v.nodes v.keys v.node key number kept.numbers.size in_nodes in_keys
+      numbers = place-set v.cells v.nodes v.keys v.node key number kept.numbers.size kept.proper.node_below in_keys
           (λ r k n. HoldsNumber (written r) k (entry_at (with_own_write t key e.value e.born) r k) n) own
           (λ r k lt lt' other. holds-same (entry_at-own_write_other t key e.value e.born r k other) refl (kept-number kept r k lt lt'));
-      most = each-set (λ r n. IsGreatest (cell cells v.nodes) v.keys r n) v.greatest v.nodes v.node number kept.most.size in_nodes
+      most = each-set (λ r n. IsGreatest (cell cells v.nodes) v.keys r n) v.greatest v.nodes v.node number kept.most.size kept.proper.node_below
           (record { upto = upto; held = inr (key, in_keys, stands) })
           (λ r lt other. kept-greatest true (kept.most.each r lt) (λ k _. stays r k lt (inl other)) refl);
     }

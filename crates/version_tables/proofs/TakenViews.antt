@@ -1,6 +1,6 @@
 -- A table that took a delta by marks, and dropped what is of older generations, is the model's table that took its items.
 -- Serves `ExchangedViews` and `Merged`.
-use Rattle.version_tables.proofs.Common.{◌≡◌, ℕ, ◌-◌, ◌<◌, ◌≤◌, ◌↔◌, Bool, true, false, List, Some, inl, inr, refl, sym, ap, ◌∙◌, subst, get_or, arith, cases_lt, current-numbered, nat_tests, not_both, Entry, Mark, Rules, mark_of, mark_held, Table, entry_at, generation_held, write_numbered, all_writes, list_of_owner, cell, numbers_taken, IsRaised, start_before, start_of, numbered-some, numbered-within, numbers-before, numbers-up_to, IsGreatest, VersionTableView, HistoriesView, table_in, is_taken_at, AreLaidBoth, AreMarksOf, bases_in, IsWrittenSoFar, drop_start, HasTaken, frame-applied, delta_of_views}
+use Rattle.version_tables.proofs.Common.{◌≡◌, ℕ, ◌-◌, ◌<◌, ◌≤◌, ◌↔◌, true, false, List, Some, inl, inr, refl, sym, ap, ◌∙◌, subst, get_or, arith, cases_lt, current-numbered, nat_tests, not_both, Entry, Mark, Rules, mark_of, mark_held, Table, entry_at, generation_held, write_numbered, all_writes, list_of_owner, cell, numbers_taken, IsRaised, start_before, start_of, numbered-some, numbered-within, numbers-before, numbers-up_to, IsGreatest, VersionTableView, HistoriesView, table_in, is_taken_at, AreLaidBoth, AreMarksOf, bases_in, IsWrittenSoFar, drop_start, HasTaken, frame-applied, delta_of_views}
 use Rattle.version_tables.proofs.Fitting.{turned, first-cells, first-held}
 use Rattle.version_tables.proofs.Laid.{HoldsNumber, holds-same, kept-number, no-number, none-unless, LiesAs}
 use Rattle.version_tables.proofs.Told.{greatest-mark, greatest-within}
@@ -32,14 +32,8 @@ module _ {rules : Rules} {rotation : ℕ} {written : ℕ → List Entry} {most :
   abbrev received : Table
   received = after rules rotation two
 
-  abbrev Stands : ℕ → Entry → Type 0
-  Stands = Stood rules rotation two owner
-
   abbrev writes : List Entry
   writes = all_writes h.lists owner
-
-  abbrev sent : ℕ → Bool
-  sent = is_taken_at from to low high owner
 
   abbrev sender : ℕ → ℕ
   sender = cell from.cells from.nodes owner
@@ -72,10 +66,10 @@ module _ {rules : Rules} {rotation : ℕ} {written : ℕ → List Entry} {most :
   there : (key : ℕ) → cell from.cells to.nodes owner key ≡ sender key
   there key = ap (λ n. cell from.cells n owner key) (sym two.both.size.nodes)
 
-  y-sent : (key : ℕ) → key < to.keys → sent key ≡ true → y key ≡ sender key
+  y-sent : (key : ℕ) → key < to.keys → is_taken_at from to low high owner key ≡ true → y key ≡ sender key
   y-sent key lt yes' = same owner key in_nodes lt ∙ (let at = there key in grind (arith, nat_tests))
 
-  y-stays : (key : ℕ) → key < to.keys → sent key ≡ false → y key ≡ cell to.cells to.nodes owner key
+  y-stays : (key : ℕ) → key < to.keys → is_taken_at from to low high owner key ≡ false → y key ≡ cell to.cells to.nodes owner key
   y-stays key lt no' = same owner key in_nodes lt ∙ (let at = there key in grind (arith, nat_tests))
 
   y-above : (key : ℕ) → cell to.cells to.nodes owner key ≤ y key
@@ -85,7 +79,7 @@ module _ {rules : Rules} {rotation : ℕ} {written : ℕ → List Entry} {most :
   abbrev IsUpToTaken : Entry → ℕ → Type 0
   IsUpToTaken e key = (n : ℕ) × (write_numbered writes n ≡ Some e) × (n ≤ y key) × (y key ≤ greatest)
 
-  stood-number : (key : ℕ) (e : Entry) → Stands key e → IsUpToTaken e key
+  stood-number : (key : ℕ) (e : Entry) → Stood rules rotation two owner key e → IsUpToTaken e key
   stood-number key e (inl held) =
       let lt = (two.second.proper.in_place owner key e held).key_below in
       (cell to.cells to.nodes owner key, sym (first-cells (turned two) owner key in_nodes lt) ∙ held, y-above key, raised.upto key lt)
@@ -98,10 +92,10 @@ module _ {rules : Rules} {rotation : ℕ} {written : ℕ → List Entry} {most :
 
   -- and that is of what stood there
   abbrev IsTaken : ℕ → Type 0
-  IsTaken key = (e : Entry) × (write_numbered writes (y key) ≡ Some e) × Stands key e × HoldsNumber (written owner) key (Some e) (y key)
+  IsTaken key = (e : Entry) × (write_numbered writes (y key) ≡ Some e) × Stood rules rotation two owner key e × HoldsNumber (written owner) key (Some e) (y key)
 
   number-stood : (key : ℕ) → key < to.keys → 0 < y key → IsTaken key
-  number-stood key lt some = elim (sent key) as (λ b. sent key ≡ b → IsTaken key) [
+  number-stood key lt some = elim (is_taken_at from to low high owner key) as (λ b. is_taken_at from to low high owner key ≡ b → IsTaken key) [
     | true ↦ λ yes'.
         let at = y-sent key lt yes' in
         let in_key : key < from.keys = omega (arith, lt, two.both.size.keys) in
@@ -136,7 +130,7 @@ module _ {rules : Rules} {rotation : ℕ} {written : ℕ → List Entry} {most :
     key : ℕ
     entry : Entry
     is : write_numbered writes greatest ≡ Some entry
-    stood : Stands key entry
+    stood : Stood rules rotation two owner key entry
     generation : generation_held received owner ≡ entry.generation
 
   newest : 0 < greatest → Newest
@@ -155,7 +149,7 @@ module _ {rules : Rules} {rotation : ℕ} {written : ℕ → List Entry} {most :
       }
 
   -- what stood and is older than what did is the receiver's, and that is of the sender's generation
-  older-stood : (key k : ℕ) (d e : Entry) → Stands key d → Stands k e → d.generation < e.generation
+  older-stood : (key k : ℕ) (d e : Entry) → Stood rules rotation two owner key d → Stood rules rotation two owner k e → d.generation < e.generation
       → (entry_at T owner key ≡ Some d) × (d.generation ≡ generation_held T owner) × (e.generation ≡ generation_held (table_in written from) owner)
   older-stood key k d e (inl held) (inl other) older =
       absurd (omega (arith, older, two.second.proper.copies owner key d held, two.second.proper.copies owner k e other))

@@ -75,6 +75,7 @@ total_above-requires g c =
           ));
           high_count = c.greatest-in-Scuttle.ensures.count ∙ sym grid.nodes;
         };
-        covered = rw (grid.nodes, grid.keys, grid.cells, c.greatest-in-Scuttle.ensures.value) (λ owner lt key lt_k. (grid.kept.most.each owner lt).upto key lt_k);
+        covered = rw (grid.nodes, grid.keys, grid.cells, c.greatest-in-Scuttle.ensures.value)
+            (λ owner lt key lt_k. (grid.kept.most.each owner lt).upto key lt_k);
       };
     }

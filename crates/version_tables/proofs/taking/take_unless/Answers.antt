@@ -26,7 +26,8 @@ module _ (g : _) (c : goal.After-table-3-1 g) where
         kept = record {
           size = dropped.size ∙ came.size;
           each = λ owner key in_nodes in_keys.
-              let based = c.bases.ensures.each.each owner (omega (arith, in_nodes, ap (λ (v : VersionTableView). v.nodes) c.table.view_is, c.requires.may.nodes)) in
+              let based = c.bases.ensures.each.each owner
+              (omega (arith, in_nodes, ap (λ (v : VersionTableView). v.nodes) c.table.view_is, c.requires.may.nodes)) in
               dropped.each owner key in_nodes in_keys
               ∙ (λ i. number_kept (drop_start (all_writes lists owner) (slice_index (before i) owner) (based i)
               (slice_index (map g.N.Number.number (with_items inside.greatest c.take.new.greatest).items) owner)) (came.each owner key in_nodes in_keys i));

@@ -29,7 +29,7 @@ pub use Rattle.delta_plans.specs.Common.{AreChanged, AreWrites, Bytes, Cells, De
 pub use Rattle.delta_plans.specs.LevelMarks.{by_first, comes_first, item_number, AreLevelMarks, IsOn, NumbersDiffer, first_level, first_sent, level_number, lets_through, rank_above, round_of}
 pub use Rattle.delta_plans.specs.Offers.{number_here, number_there, sum_over, AreSent, IsKnown, IsKnownOf, Offers, is_lacked, offered_sum, told_by, told_number}
 pub use Rattle.delta_plans.specs.Marked.{AreMarked, IsLevelOf, KeepsLow}
-pub use Rattle.delta_plans.specs.OfferInMemory.{AreCounted, AreFound, IsLeftOf, IsOffer, cells_in, count_in, high_in, low_in, marks, owner_count_in, some_weight, weight_in, weights_in}
+pub use Rattle.delta_plans.specs.OfferInMemory.{AreCounted, IsLeftOf, IsOffer, cells_in, count_in, high_in, low_in, marks, owner_count_in, weight_in, weights_in}
 pub use Rattle.delta_plans.specs.Plans.{AreFarther, AreMarksFrom, AreRunsFrom, HasLevels, IsLevel, IsNextLayer, IsNextMark, IsStep, count_on, weight_on}
 pub use Rattle.delta_plans.specs.RoundLevels.{AreFewAndEnough, AreRaised, AreRoundMarks, IsAsked, IsFound, IsLevelOfRounds, end_mark, mark_of_rounds}
 pub use Rattle.delta_plans.specs.SentSets.{DeltasHaveTheirSets, HasSet, IsKeptOut, IsSentSet, size_in}

@@ -1,3 +1,4 @@
+pub mod Between
 pub mod Common
 pub mod LevelMarks
 pub mod Marked

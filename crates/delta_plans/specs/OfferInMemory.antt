@@ -1,8 +1,8 @@
 -- What is offered in memory: cells with marks for each owner, and the owners' lists. Source: this project.
-use Rattle.std.specs.Prelude.{◌≡◌, ℕ, ◌+◌, ◌-◌, Bool, true, false, slice_index_or, ◌<◌, ◌≤◌, IfOk, IsOkUnless, List, Option, Result, SomeIff, length, map, slice_index}
-use Rattle.delta_plans.specs.Common.{Fault, OutOfMemory, amount_of, all_writes, IsGridOf, Cells, cell, count_above, HasNoneAbove, Offer, count_between, sum_below}
+use Rattle.std.specs.Prelude.{◌≡◌, ℕ, ◌-◌, ◌<◌, ◌≤◌, IfOk, IsOkUnless, List, Option, Result, SomeIff, length, map, slice_index}
+use Rattle.delta_plans.specs.Common.{Fault, OutOfMemory, amount_of, all_writes, IsGridOf, Cells, cell, count_above, HasNoneAbove, Offer}
 use Rattle.delta_plans.specs.LevelMarks.{NumbersDiffer}
-use Rattle.delta_plans.specs.Weights.{number_shares, weight_of, weight_between, count_all_between}
+use Rattle.delta_plans.specs.Weights.{number_shares, weight_between, count_all_between}
 
 -- what holds of an answer unless memory is refused
 abbrev pub IfGranted : {T : Type 0} → Result T Fault → (T → Type 0) → Type 0
@@ -33,17 +33,6 @@ weight_in number offer =
 
 abbrev pub count_in : {N : Type 0} → (N → ℕ) → Offer N → (ℕ → ℕ) → (ℕ → ℕ) → ℕ
 count_in number offer = count_all_between (cells_in number offer) offer.grid.size.nodes offer.grid.size.keys
-
--- what those of so many owners take, from a first one on
-abbrev pub some_weight : {N : Type 0} → (N → ℕ) → Offer N → (ℕ → ℕ) → (ℕ → ℕ) → ℕ → ℕ → ℕ
-some_weight number offer low high first size = sum_below size (λ i.
-    weight_of (weights_in offer (first + i)) (cells_in number offer) offer.grid.size.keys (first + i)
-    (low (first + i)) (high (first + i)))
-
--- of the owners from a first one on, those that aren't found have none of them among so many keys
-abbrev pub AreFound : {N : Type 0} → (N → ℕ) → Offer N → (ℕ → ℕ) → (ℕ → ℕ) → ℕ → ℕ → List Bool → Type 0
-AreFound number offer low high keys first found = (i : ℕ) → slice_index_or found i true ≡ false
-    → count_between (cells_in number offer) keys (first + i) (low (first + i)) (high (first + i)) ≡ 0
 
 -- how many of an owner's numbers are above its mark
 abbrev pub owner_count_in : {N : Type 0} → (N → ℕ) → Offer N → ℕ → ℕ

@@ -19,6 +19,7 @@
 //! - Functions whose loops took more instructions beside other values that live there aren't inlined.
 #![tactic(auto)]
 
+mod between;
 mod breadths;
 mod depths;
 mod laws;

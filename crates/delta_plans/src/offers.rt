@@ -2,16 +2,14 @@
 
 ghost use Rattle.std.specs.Prelude.{◌≡◌, ◌+◌, ◌^◌, ◌*◌, ◌<◌, ◌≤◌, ◌↔◌, IsTrue, length, if◌then◌else◌};
 ghost use Rattle.delta_plans.specs.Common.{MOST_ENTRY_SIZE, amount_of, count_between};
-ghost use Rattle.delta_plans.specs.OfferInMemory.{cells_in, high_in, low_in, marks, some_weight, weight_in, weights_in, AreCounted, AreFound, HasMarks, HasOwner, IsLeftOf, IsOffer};
+ghost use Rattle.delta_plans.specs.OfferInMemory.{cells_in, high_in, low_in, marks, weight_in, weights_in, AreCounted, HasMarks, HasOwner, IsLeftOf, IsOffer};
 ghost use Rattle.delta_plans.specs.Weights.{weight_of};
 
+use crate::between::Between;
 use bench_types::limits::MOST_ENTRY_SIZE;
 use bench_types::{Budget, DigestKind, Entry};
 use owner_writes::OwnerWrites;
 use planes::{Grid, Number, is_between};
-
-/// Among so many owners at a time those are found that have something.
-const SOUGHT: usize = 256;
 
 /// The candidates are the cells of each owner above `low`, `found` in all. None is above `high`.
 #[derive(Drop)]
@@ -146,86 +144,6 @@ impl<'a, N: Number> Offer<'a, N> {
         Some(left)
     }
 
-    // The same, where most owners have no such number, whatever their marks are: these are passed over.
-    #[inline(never)]
-    fn few_bytes_left_of(&self, room: u32, low: &[N], high: &[N]) -> Option<u32>
-        requires { HasMarks N.number N.most self.now low.now high.now }
-        ensures { IsLeftOf room (weight_in N.number self.now (marks N.number low.now)
-            (marks N.number high.now)) result }
-    {
-        let nodes = self.grid.size.nodes;
-        let mut left = room;
-        let mut first = 0;
-        while first < nodes {
-            let size = SOUGHT.min(nodes - first);
-            let mut has = [false; SOUGHT];
-            let found: &mut [bool] = &mut has[..size];
-            self.find(first, found, low, high);
-            left = self.bytes_left_of_found(left, first, found, low, high)?;
-            first += size;
-        }
-        Some(left)
-    }
-
-    // The same of some owners, from a first one on, of which those alone have such numbers that were found.
-    fn bytes_left_of_found(
-        &self,
-        room: u32,
-        first: usize,
-        found: &[bool],
-        low: &[N],
-        high: &[N],
-    ) -> Option<u32>
-        requires marks { HasMarks N.number N.most self.now low.now high.now }
-        requires within { first + length found.now ≤ self.now.grid.size.nodes }
-        requires found { AreFound N.number self.now (marks N.number low.now) (marks N.number high.now)
-            self.now.grid.size.keys first found.now }
-        ensures { IsLeftOf room (some_weight N.number self.now (marks N.number low.now) (marks N.number high.now)
-            first (length found.now)) result }
-    {
-        let mut left = room;
-        for i in 0..found.len() {
-            if found[i] {
-                let owner = first + i;
-                let from = number_at(low, owner);
-                let to = number_at(high, owner);
-                let weight = self.weight_of(owner, from, to);
-                left = left.checked_sub(weight)?;
-            }
-        }
-        Some(left)
-    }
-
-    // Finds those of some owners, from a first one on, that have numbers above one mark and up to another.
-    fn find(&self, first: usize, found: &mut [bool], low: &[N], high: &[N])
-        requires marks { HasMarks N.number N.most self.now low.now high.now }
-        requires within { first + length found.old ≤ self.now.grid.size.nodes }
-        ensures { AreFound N.number self.now (marks N.number low.now) (marks N.number high.now)
-            self.now.grid.size.keys first found.new }
-    {
-        for key in 0..self.grid.size.keys {
-            self.find_in(key, first, found, low, high);
-        }
-    }
-
-    // Finds those that have one of a key, beside those found before.
-    fn find_in(&self, key: usize, first: usize, found: &mut [bool], low: &[N], high: &[N])
-        requires marks { HasMarks N.number N.most self.now low.now high.now }
-        requires key { key < self.now.grid.size.keys }
-        requires within { first + length found.old ≤ self.now.grid.size.nodes }
-        requires before { AreFound N.number self.now (marks N.number low.now) (marks N.number high.now)
-            key first found.old }
-        ensures { AreFound N.number self.now (marks N.number low.now) (marks N.number high.now)
-            (key + 1) first found.new }
-    {
-        for i in 0..found.len() {
-            let owner = first + i;
-            let cell = self.cell_of(owner, key);
-            let is_found = is_between(cell, number_at(low, owner), number_at(high, owner));
-            found[i] = found[i] | is_found;
-        }
-    }
-
     /// What is left of a part of the budget after them, if they fit, where it is known how many these are. Entries need
     /// no walk then. By a scuttle digest an owner whose marks differ has such numbers; by a precise one most have none.
     pub(crate) fn left_of(
@@ -244,7 +162,12 @@ impl<'a, N: Number> Offer<'a, N> {
             Budget::Entries(_) => room.checked_sub(count),
             Budget::Bytes(_) => match kind {
                 DigestKind::Scuttle => self.bytes_left_of(room, low, high),
-                DigestKind::Precise => self.few_bytes_left_of(room, low, high),
+                DigestKind::Precise => Between {
+                    offer: self,
+                    low,
+                    high,
+                }
+                .bytes_left_of(room),
             },
         }
     }

@@ -144,7 +144,7 @@ fn begin_with<T: Versions, H: RoundHistories<T>>(
 }
 
 // A round of two simulations, by two workers and by one.
-fn expect_same_step<T: Versions, H: RoundHistories<T>>(
+fn expect_same_step<T: Versions, H: RoundHistories<T> + Send>(
     rt: &(impl Threads + Wait + Abort + AllocGlobal + Sync),
     sim: &mut SimOf<T, H>,
     wanted: &mut Sim,
@@ -158,7 +158,7 @@ fn expect_same_step<T: Versions, H: RoundHistories<T>>(
 }
 
 // All of their rounds.
-fn expect_same_steps<T: Versions, H: RoundHistories<T>>(
+fn expect_same_steps<T: Versions, H: RoundHistories<T> + Send>(
     rt: &(impl Threads + Wait + Abort + AllocGlobal + Sync),
     sim: &mut SimOf<T, H>,
     wanted: &mut Sim,
@@ -171,7 +171,7 @@ fn expect_same_steps<T: Versions, H: RoundHistories<T>>(
 }
 
 // All rounds of a scenario.
-fn expect_same_rounds<T: Versions, H: RoundHistories<T>>(
+fn expect_same_rounds<T: Versions, H: RoundHistories<T> + Send>(
     rt: &(impl Threads + Wait + Abort + AllocGlobal + Sync),
     scenario: Scenario,
     twin: Scenario,

@@ -1,10 +1,6 @@
 -- Tables whose owners are gone over one by one.
 -- Serves `drop_owner`, `merge_owners`, `raise_owner`, `take_owner`, `take_owners` and `version_tables`.
-use Rattle.grids.proofs.Common.{◌≡◌, ◌≢◌, ℕ, ◌+◌, ◌*◌, ◌<◌, ◌≤◌, ◌==◌, cond, List, length, get_or, set, map, nat_lt, inl, inr, refl, sym, ap, ◌∙◌, subst, arith, below_more, nat_tests, mul-le-mul_right, lt-ltb, le-ltb, get_or-set_same, get_or-set_other, length-set, map-set, sum_below, sum_below-same, Cells, cell, count_above, number_raised, number_taken, HasNoneAbove, IsRaised, ArePlanesChanged, ArePlanesChangedUpto, HasRaisedOwner, owner_counted, owner_passed}
-
--- nothing is taken where the high mark is no higher
-pub taken-passed : (x sent low high : ℕ) → high ≤ low → number_taken x sent low high ≡ x
-taken-passed x sent low high le = grind (arith, nat_tests)
+use Rattle.grids.proofs.Common.{◌≡◌, ◌≢◌, ℕ, ◌+◌, ◌*◌, ◌<◌, ◌≤◌, ◌==◌, cond, List, length, get_or, set, map, nat_lt, inl, inr, refl, sym, ap, ◌∙◌, subst, arith, below_more, nat_tests, mul-le-mul_right, lt-ltb, le-ltb, get_or-set_same, get_or-set_other, length-set, map-set, sum_below, sum_below-same, Cells, cell, count_above, number_raised, HasNoneAbove, IsRaised, ArePlanesChanged, ArePlanesChangedUpto, HasRaisedOwner, owner_counted, owner_passed}
 
 -- numbers of one owner are changed
 abbrev pub owner_changed : (ℕ → ℕ → ℕ → ℕ) → ℕ → ℕ → ℕ → ℕ → ℕ → Type 0
@@ -22,15 +18,10 @@ module _ (to : ℕ → ℕ → ℕ → ℕ) (owner nodes : ℕ) (old : List ℕ)
     below = λ r k in_node. below_more (λ j. owner_changed to owner r j (cell old nodes r j) (cell ys nodes r j)) key
         (λ j lt.
         let earlier = mul-le-mul_right {m = j + 1} {n = key} nodes (omega arith) in
-        others (j * nodes + r) (λ e. omega (arith, earlier)) ∙ before.below r j in_node lt) (here r in_node) k;
+        others (j * nodes + r) (λ e. omega (arith, earlier)) ∙ before.below r j in_node lt)
+        (let kept = others (key * nodes + r) in let was = before.from (key * nodes + r) (omega arith) in grind (arith, nat_tests)) k;
     from = λ i le. others i (λ e. omega arith) ∙ before.from i (omega arith);
   }
-    where
-      here : (r : ℕ) → r < nodes → owner_changed to owner r key (cell old nodes r key) (cell ys nodes r key)
-      here r in_node =
-          let kept = others (key * nodes + r) in
-          let was = before.from (key * nodes + r) (omega arith) in
-          grind (arith, nat_tests)
 
   -- it is written
   pub owner-next : {N : Type 0} (number : N → ℕ) (xs : List N) (key : ℕ) (x : N) → IsDone (map number xs) key → key * nodes + nodes ≤ length old
@@ -107,11 +98,9 @@ module _ (nodes keys : ℕ) (others : List ℕ) (low : ℕ → ℕ) (old : List 
   come-next number owner low_of_others others_mid mid new came count more mark lt waits before same now =
       let there = owner-waits (λ r k x. number_raised x (cell old nodes r k) (low_of_others r)) nodes keys others owner (map number others_mid) waits.cells in
       record {
-        cells =
-            owners_turned raised_in nodes keys old owner (λ r k y. number_raised y (cell (map number others_mid) nodes r k) (number mark)) _ _
+        cells = owners_turned raised_in nodes keys old owner (λ r k y. number_raised y (cell (map number others_mid) nodes r k) (number mark)) _ _
             before.cells now.cells (λ k x in_keys i. number_raised x (there k lt in_keys i) (same i));
-        count =
-            owner_counted (cell others nodes) keys low owner count more (number mark) before.count
+        count = owner_counted (cell others nodes) keys low owner count before.count more (number mark)
             (now.count ∙ sum_below-same keys _ _ (λ k in_keys. ap (λ n. cond (nat_lt (number mark) n) 1 0) (there k lt in_keys))) same;
       }
 
@@ -120,5 +109,5 @@ module _ (nodes keys : ℕ) (others : List ℕ) (low : ℕ → ℕ) (old : List 
       → HasNoneAbove (cell others nodes) keys owner high → high ≤ low owner → HaveCome nodes keys others low old mid (owner + 1) count
   come-passed owner mid count high before covered le = record {
     cells = owners-stay raised_in nodes keys old owner mid before.cells (λ k x lt. let none = covered k lt in grind (arith, nat_tests));
-    count = owner_passed (cell others nodes) keys low owner count high before.count covered le;
+    count = owner_passed (cell others nodes) keys low owner count before.count high covered le;
   }

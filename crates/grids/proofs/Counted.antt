@@ -1,19 +1,13 @@
 -- Planes of which some places are counted.
 -- Serves the functions of `counts`, `grids`, `lags` and `merges`.
-use Rattle.grids.proofs.Common.{◌≡◌, ℕ, Fits, AreChangedUpto, AnswersBy, MakesAs, Made, AreCounted, IsCounted, refl, count_same, subst, w32, ◌+◌, ◌*◌, ◌<◌, ◌≤◌, Bool, cond, nat_tests, List, length, get_or, map, take, drop, nat_lt, max, sym, ◌∙◌, ap, arith, length-map, put_mid, MOST_NODES, sum_below, sum_below-most, cell, number_ahead, total_above, total_of, IsGrid, ArePlanesChangedUpto, ArePlanesChanged, AreCountedUpto, AreRaisedUpto, number_raised, count_passing, HasNoOtherMark, HasEachPlace, HasNoneUptoMark, number_kept, cases_eq, inl, inr, changed_all, count_le, sum_next, plane-cells, plane_count, planes-all, planes-written, block-cells, plane-within, total-places, total-same, total_whole}
-
--- the same numbers are changed, where their bound is written in another way
-pub changed-same : (changed : ℕ → ℕ → ℕ → Type 0) (old new : List ℕ) (bound to : ℕ) → AreChangedUpto changed old new bound → bound ≡ to
-    → AreChangedUpto changed old new to
-changed-same changed old new bound to is same = subst (AreChangedUpto changed old new) same is
+use Rattle.grids.proofs.Common.{◌≡◌, ℕ, AreChangedUpto, AnswersBy, Made, AreCounted, IsCounted, refl, count_same, subst, ◌+◌, ◌*◌, ◌<◌, ◌≤◌, Bool, cond, nat_tests, List, length, get_or, map, take, drop, nat_lt, max, sym, ◌∙◌, ap, arith, length-map, put_mid, sum_below, cell, number_ahead, total_above, total_of, IsGrid, ArePlanesChangedUpto, ArePlanesChanged, AreCountedUpto, AreRaisedUpto, number_raised, count_passing, HasNoOtherMark, HasEachPlace, HasNoneUptoMark, number_kept, cases_eq, inl, inr, changed_all, sum_next, plane-cells, plane_count, planes-all, planes-written, block-cells, plane-within, total-places, total-same, total_whole}
 
 -- numbers that calls change and count: none, and a part behind another one
 module _ {N : Type 0} (number : N → ℕ) (makes : ℕ → N → Made N → Type 0) where
   pub counted_none : (xs : List N) (from : ℕ) → AreCounted number makes xs xs from 0 (0, 0)
   counted_none xs from = record {
-    first_upto = omega arith;
-    second_upto = omega arith;
-    numbers = λ made is whole before. changed-same _ whole _ _ _ before (omega arith);
+    upto = (omega arith, omega arith);
+    numbers = λ made is whole before. subst (AreChangedUpto _ whole _) (omega arith) before;
     rest = λ r le. refl;
     first = λ test is whole waits before was. count_same _ from _ before _ was (omega arith) (omega arith);
     second = λ test is whole waits before was. count_same _ from _ before _ was (omega arith) (omega arith);
@@ -33,11 +27,10 @@ module _ {N : Type 0} (number : N → ℕ) (makes : ℕ → N → Made N → Typ
       → AreCounted number makes ys zs mid size two → start + from ≡ mid → length ys ≡ length xs
       → AreCounted number makes xs zs start (from + size) (one.0 + two.0, one.1 + two.1)
   counted_joined xs ys zs start from mid size one two before now at same = record {
-    first_upto = omega arith;
-    second_upto = omega arith;
+    upto = (omega arith, omega arith);
     numbers = λ made is whole none.
-        let front = changed-same _ whole _ _ _ (before.numbers made is whole none) at in
-        changed-same _ whole _ _ _ (now.numbers made (λ r n all lt. is r n all (omega arith)) whole front) (omega arith);
+        let front = subst (AreChangedUpto _ whole _) at (before.numbers made is whole none) in
+        subst (AreChangedUpto _ whole _) (omega arith) (now.numbers made (λ r n all lt. is r n all (omega arith)) whole front);
     rest = λ r le. now.rest r (omega arith) ∙ before.rest r (omega arith);
     first = answered_joined (λ all. all.1) _ _ _ _ _ _ _ _ before.first now.first at same before.rest;
     second = answered_joined (λ all. all.2) _ _ _ _ _ _ _ _ before.second now.second at same before.rest;
@@ -46,18 +39,17 @@ module _ {N : Type 0} (number : N → ℕ) (makes : ℕ → N → Made N → Typ
   -- of all numbers
   pub answered-all : (answer : Made N → Bool) (xs : List N) (size passed : ℕ) → IsCounted number answer makes xs 0 size passed → (test : ℕ → ℕ → Bool)
       → AnswersBy number answer makes (length xs) test → passed ≡ count_passing size (λ r. test r (get_or (map number xs) r 0))
-  answered-all answer xs size passed is test told =
-      count_same _ _ _ _ _ (is test told (map number xs) (λ r le. refl) 0 refl) (omega arith) (omega arith)
+  answered-all answer xs size passed is test told = count_same _ _ _ _ _ (is test told (map number xs) (λ r le. refl) 0 refl) (omega arith) (omega arith)
 
   -- as a function and a test say
   pub counted-as : (xs ys : List N) (size : ℕ) (passed : ℕ × ℕ) → AreCounted number makes xs ys 0 size passed → (made : ℕ → ℕ → ℕ) (test : ℕ → ℕ → Bool)
-      → MakesAs number makes (length xs) made → AnswersBy number (λ all. all.1) makes (length xs) test
+      → AnswersBy number (λ all. number all.0) makes (length xs) made → AnswersBy number (λ all. all.1) makes (length xs) test
       → AreCountedUpto (λ r x y. y ≡ made r x) (λ r. test r (get_or (map number xs) r 0)) (map number xs) (map number ys) size passed.0
   counted-as xs ys size passed is made test as_made as_told =
       let old = map number xs in
       let none : AreChangedUpto (λ r x y. y ≡ made r x) old old 0 = record { size = refl; below = λ r lt. absurd (omega arith); from = λ r le. refl } in
       record {
-        numbers = changed-same _ old _ _ _ (is.numbers made as_made old none) (omega arith);
+        numbers = subst (AreChangedUpto _ old _) {x = 0 + size} {y = size} (omega arith) (is.numbers made as_made old none);
         count = answered-all (λ all. all.1) xs size passed.0 is.first test as_told;
       }
 
@@ -81,12 +73,6 @@ module _ (changed : ℕ → ℕ → ℕ → ℕ → Type 0) (test : ℕ → ℕ 
         count = sum_next _ key count more before.count (plane_count nodes passes (λ r. test r key) (length block) more (sym size ∙ cells.size) now.count same);
       }
 
-  pub planes_counted-fits : (new : List ℕ) (keys key size count : ℕ) → IsGrid nodes keys size → key < keys
-      → ArePlanesCounted changed test nodes old new (key + 1) count → Fits w32 count
-  planes_counted-fits new keys key size count grid lt is =
-      let each = λ (k : ℕ). count_le nodes (λ r. test r k) in
-      omega (arith, sum_below-most (λ k. sum_below nodes (λ r. cond (test r k) 1 0)) (key + 1) MOST_NODES (λ k _. omega (arith, each k)))
-
   pub planes_counted-all : (new : List ℕ) (keys key count : ℕ) → ArePlanesCounted changed test nodes old new key count → keys ≤ key → key ≤ keys
       → ArePlanesChanged changed nodes keys old new × (count ≡ total_of nodes keys test)
   planes_counted-all new keys key count is le ge = (planes-all _ _ _ new keys key is.planes le, total_whole nodes keys key test count is.count le ge)
@@ -100,8 +86,7 @@ AreMergedUpto nodes others low old new bound count =
 -- of two tables that take of each other one takes a plane more
 pub merged-next : {N : Type 0} (number : N → ℕ) (nodes key n : ℕ) (others low passed old : List ℕ) (zs xs ys : List N) (came count more : ℕ)
     → n ≡ nodes → AreMergedUpto nodes old passed others (map number zs) key came → AreMergedUpto nodes others low old (map number xs) key count
-    → key * nodes + nodes ≤ length others → key * nodes + nodes ≤ length old
-    → let block = λ (ns : List N). take n (drop (key * nodes) ns) in
+    → key * nodes + nodes ≤ length others → key * nodes + nodes ≤ length old → let block = λ (ns : List N). take n (drop (key * nodes) ns) in
     AreRaisedUpto (map number (block zs)) low (map number (block xs)) (map number ys) (length (block xs)) more
     → AreMergedUpto nodes others low old (map number (put_mid (key * nodes) n xs ys)) (key + 1) (count + more)
 merged-next number nodes key n others low passed old zs xs ys came count more is waits before behind within now =
@@ -118,8 +103,7 @@ total-kept nodes keys cells peer low old new count is kept =
 
 -- all planes are gone over as one
 pub places-counted : (changed : ℕ → ℕ → ℕ → Type 0) (test : ℕ → Bool) (nodes keys : ℕ) (old new : List ℕ) (size passed : ℕ)
-    → IsGrid nodes keys size → AreCountedUpto changed test old new size passed
-    → ArePlanesChanged (λ r k x y. changed (k * nodes + r) x y) nodes keys old new
+    → IsGrid nodes keys size → AreCountedUpto changed test old new size passed → ArePlanesChanged (λ r k x y. changed (k * nodes + r) x y) nodes keys old new
     × (passed ≡ total_of nodes keys (λ r k. test (k * nodes + r)))
 places-counted changed test nodes keys old new size passed grid is = (
   record {

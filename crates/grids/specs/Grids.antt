@@ -6,7 +6,7 @@ use Rattle.planes.specs.declared.sizes.Size.{Size}
 use Rattle.planes.specs.Elementwise.{AreChanged}
 use Rattle.planes.specs.Grids.{cells_in, HasMarkOfEach}
 use Rattle.planes.specs.Loops.{count_passing}
-use Rattle.planes.specs.Planes.{cell, most_ahead, number_ahead, number_raised, total_above, AreCovered, AreRaised, AreTaken, ArePlanesChanged, HasEachPlace, IsGrid}
+use Rattle.planes.specs.Planes.{cell, most_ahead, number_ahead, number_raised, number_taken, total_above, AreCovered, AreRaised, ArePlanesChanged, HasEachPlace, IsGrid}
 use Rattle.grids.specs.declared.grids.Masked.{Masked}
 use Rattle.grids.specs.declared.grids.Peer.{Peer}
 use Rattle.grids.specs.declared.grids.Sent.{Sent}
@@ -61,11 +61,17 @@ pub record MayTake {N : Type 0} (number : N → ℕ) (cells greatest : List N) (
   pub high_count : length sent.high.now ≡ sent.grid.size.nodes
   pub covered : AreCovered sent.grid.size.nodes sent.grid.size.keys (map number cells) (map number greatest)
 
+-- an owner's number once it took what is sent of a key
+abbrev pub taken_by : {N : Type 0} → (N → ℕ) → Sent N → ℕ → ℕ → ℕ → ℕ
+taken_by number sent r k x =
+    number_taken x (cells_in number sent.grid r k) (slice_index (map number sent.low.now) r)
+    (slice_index (map number sent.high.now) r)
+
 -- its numbers and greatest ones once it took that
 pub record AreSentTaken {N : Type 0} (number : N → ℕ) (sent : Sent N)
     (old old_greatest new new_greatest : List N) : Type 0 where
-  pub cells : AreTaken sent.grid.size.nodes sent.grid.size.keys (map number sent.grid.cells.now)
-      (map number sent.low.now) (map number sent.high.now) (map number old) (map number new)
+  pub cells : ArePlanesChanged (λ r k x y. y ≡ taken_by number sent r k x) sent.grid.size.nodes sent.grid.size.keys
+      (map number old) (map number new)
   pub greatest : AreRaised sent.grid.size.nodes sent.grid.size.keys (map number old) (map number sent.grid.cells.now)
       (map number sent.low.now) (map number sent.high.now) (map number old_greatest) (map number new_greatest)
 

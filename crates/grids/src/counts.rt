@@ -1,7 +1,9 @@
 //! Loops over one plane, or all planes as one, that count.
 
-ghost use Rattle.std.specs.Prelude.{length};
-ghost use Rattle.grids.specs.inner.Loops.{AreCounted, MayCount, MayCountPart};
+ghost use Rattle.std.specs.Prelude.{ℕ, ◌*◌, ◌<◌, ◌≤◌, length};
+ghost use Rattle.bench_types.specs.declared.limits.TheConstants.{MOST_KEYS, MOST_NODES};
+ghost use Rattle.planes.specs.Loops.{IsPart};
+ghost use Rattle.grids.specs.inner.Loops.{AreCounted};
 
 use planes::Number;
 
@@ -11,7 +13,8 @@ pub fn change_counting<N: Number, F: Fn(usize, N) -> (N, bool, bool)>(
     numbers: &mut [N],
     to: F,
 ) -> (u32, u32)
-    requires { MayCount (F.pre to) numbers.old }
+    requires room { length numbers.old ≤ MOST_NODES * MOST_KEYS }
+    requires to { (r : ℕ) (n : N) → r < length numbers.old → F.pre to r n }
     ensures { AreCounted N.number (F.post to) numbers.old numbers.new 0 (length numbers.old) result }
 {
     let size = N::at_a_time();
@@ -36,7 +39,8 @@ fn change_some_counting<N: Number, F: Fn(usize, N) -> (N, bool, bool)>(
     size: usize,
     to: F,
 ) -> (u32, u32)
-    requires { MayCountPart N.most (F.pre to) numbers.old from size }
+    requires part { IsPart N.most (length numbers.old) from size }
+    requires to { (r : ℕ) (n : N) → r < length numbers.old → F.pre to r n }
     ensures { AreCounted N.number (F.post to) numbers.old numbers.new from size result }
 {
     let mut first = N::zero();

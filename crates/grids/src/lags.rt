@@ -1,6 +1,6 @@
 //! Loops over all planes of a table that compare its numbers with the last ones.
 
-ghost use Rattle.std.specs.Prelude.{◌≡◌, ◌<◌, length, map, min, nat_lt, slice_index, IfOk, IsOkUnless};
+ghost use Rattle.std.specs.Prelude.{map, IfOk, IsOkUnless};
 ghost use Rattle.bench_types.specs.declared.faults.Fault.TheVariants.{OutOfMemory};
 ghost use Rattle.grids.specs.Grids.{IsBeside};
 ghost use Rattle.grids.specs.Lags.{AreLoweredCounting, HasLast, IsLeastBehind};
@@ -18,18 +18,10 @@ pub fn count_behind<N: Number>(least: &mut [N], grid: Grid<N>, last: &[N]) -> u3
     ensures { AreLoweredCounting N.number grid.entry last.now least.old least.new result }
 {
     let cells = grid.cells;
-    let (behind, _) = change_counting(
-        least,
-        |at, number| -> (N, bool, bool)
-            requires { (at < length cells.now) × (at < length last.now) }
-            ensures { (N.number result.0 ≡ min (N.number number) (slice_index (map N.number cells.entry.now) at))
-                × (result.1 ≡ nat_lt (slice_index (map N.number cells.entry.now) at)
-                (slice_index (map N.number last.entry.now) at)) }
-        {
-            let now = cells[at];
-            (number.min_with(now), last[at].is_above(now), false)
-        },
-    );
+    let (behind, _) = change_counting(least, |at, number| {
+        let now = cells[at];
+        (number.min_with(now), last[at].is_above(now), false)
+    });
     behind
 }
 
@@ -39,8 +31,7 @@ pub fn least_behind<N: Number>(alloc: Global, grid: Grid<N>, last: &[N]) -> Resu
     requires beside { IsBeside grid last.now }
     ensures least { IfOk result (λ v. HasEach grid.entry.size.nodes
         (λ r n. IsLeastBehind N.most (cells_in N.number grid.entry)
-        (cell (map N.number last.now) grid.entry.size.nodes) grid.entry.size.keys r n)
-        (map N.number v.items)) }
+        (cell (map N.number last.now) grid.entry.size.nodes) grid.entry.size.keys r n) (map N.number v.items)) }
     ensures only { IsOkUnless result OutOfMemory }
 {
     let Grid { cells, size } = grid;

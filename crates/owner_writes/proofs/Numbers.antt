@@ -1,22 +1,14 @@
 -- Writes by their numbers: which there are, and how their marks compare.
 -- Serves `OwnerWrites::numbered`, `delta_plans`, `version_lags` and `version_tables`.
-use Rattle.owner_writes.proofs.Common.{◌≡◌, ℕ, zero, suc, ◌<◌, ◌≤◌, List, [], ◌∷◌, length, get_or, get_or-map, length-map, map, ap, ◌∙◌, Some, None, inl, inr, refl, sym, ap, ◌∙◌, subst, arith, nat_lt, cases_lt, lt-ltb, le-ltb, same_Some, Entry, mark_of, is_before, IsBefore, IsUpTo, Kept, entry_kept, before-yes, before-no, before-up_to, up_to-itself, write_from, write_numbered, IsHistory}
+use Rattle.owner_writes.proofs.Common.{◌≡◌, ℕ, zero, suc, ◌<◌, ◌≤◌, List, [], ◌∷◌, length, get_or, map, ap, ◌∙◌, Some, None, inl, inr, refl, sym, ap, ◌∙◌, subst, arith, nat_lt, cases_lt, lt-ltb, le-ltb, same_Some, Entry, mark_of, is_before, IsBefore, IsUpTo, Kept, entry_kept, before-yes, before-no, before-up_to, up_to-itself, write_from, write_numbered, slice_get, slice_get-get_or, slice_get_within, get_or_from_slice_get, IsHistory}
 
--- what stands at a place, and that something does
-pub write_from-at : (writes : List Entry) (place : ℕ) (e d : Entry) → write_from writes place ≡ Some e → (place < length writes) × (get_or writes place d ≡ e)
-write_from-at [] place e d is = absurd (cc)
-write_from-at (x ∷ xs) zero e d is = (omega arith, same_Some x e is)
-write_from-at (x ∷ xs) (suc place) e d is = let rest = write_from-at xs place e d is in (omega (arith, rest.0), rest.1)
+write_from-get : (es : List Entry) (place : ℕ) → write_from es place ≡ slice_get es place
+write_from-get [] place = refl
+write_from-get (e ∷ es) zero = refl
+write_from-get (e ∷ es) (suc place) = write_from-get es place
 
 pub write_from-here : (es : List Entry) (place : ℕ) (d : Entry) → place < length es → write_from es place ≡ Some (get_or es place d)
-write_from-here [] place d lt = absurd (omega arith)
-write_from-here (e ∷ es) zero d lt = refl
-write_from-here (e ∷ es) (suc place) d lt = write_from-here es place d (omega arith)
-
-pub write_from-past : (es : List Entry) (place : ℕ) → length es ≤ place → write_from es place ≡ None
-write_from-past [] place le = refl
-write_from-past (e ∷ es) zero le = absurd (omega arith)
-write_from-past (e ∷ es) (suc place) le = write_from-past es place (omega arith)
+write_from-here es place d lt = write_from-get es place ∙ slice_get-get_or es place d lt
 
 -- a number is that of a place, where its write stands
 pub record IsPlaced (writes : List Entry) (number : ℕ) (e : Entry) : Type 0 where
@@ -27,12 +19,9 @@ pub record IsPlaced (writes : List Entry) (number : ℕ) (e : Entry) : Type 0 wh
 
 pub numbered-placed : (writes : List Entry) (number : ℕ) (e : Entry) → write_numbered writes number ≡ Some e → IsPlaced writes number e
 numbered-placed writes zero e is = absurd (cc)
-numbered-placed writes (suc place) e is = record {
-  place = place;
-  is = refl;
-  within = (write_from-at writes place e e is).0;
-  there = λ d. (write_from-at writes place e d is).1;
-}
+numbered-placed writes (suc place) e is =
+    let at = sym (write_from-get writes place) ∙ is in
+    record { place = place; is = refl; within = slice_get_within writes place e at; there = λ d. get_or_from_slice_get writes place e d at }
 
 -- numbers compare as marks
 pub numbers-before : (writes : List Entry) (history : IsHistory writes) (m n : ℕ) (d e : Entry) → write_numbered writes m ≡ Some d → write_numbered writes n ≡ Some e → m < n → IsBefore (mark_of d) (mark_of e)
@@ -85,13 +74,7 @@ numbers-compare writes history m n d e is_d is_e = elim (cases_lt m n) [
   | inr not_before ↦ before-no (mark_of d) (mark_of e) (numbers-up_to writes history n m e d is_e is_d (omega (arith, not_before))) ∙ sym (le-ltb m n (omega (arith, not_before)))
 ]
 
--- the same of what is kept
-module _ (kept : List Kept) (place number : ℕ) (next : suc place ≡ number) where
-  pub numbered-here : (x : Kept) → place < length kept → x ≡ get_or kept place x → write_numbered (map entry_kept kept) number ≡ Some (entry_kept x)
-  numbered-here x lt here =
-      ap (write_numbered (map entry_kept kept)) (sym next)
-      ∙ write_from-here (map entry_kept kept) place (entry_kept x) (omega (arith, lt, length-map kept entry_kept))
-      ∙ ap Some (get_or-map entry_kept kept place x (entry_kept x) lt ∙ ap entry_kept (sym here))
-
-  pub numbered-past : length kept ≤ place → write_numbered (map entry_kept kept) number ≡ None
-  numbered-past past = ap (write_numbered (map entry_kept kept)) (sym next) ∙ write_from-past (map entry_kept kept) place (omega (arith, past, length-map kept entry_kept))
+-- the write of what is kept at a place
+pub numbered-kept : (kept : List Kept) (place number : ℕ) → suc place ≡ number
+    → write_numbered (map entry_kept kept) number ≡ slice_get (map entry_kept kept) place
+numbered-kept kept place number next = ap (write_numbered (map entry_kept kept)) (sym next) ∙ write_from-get (map entry_kept kept) place

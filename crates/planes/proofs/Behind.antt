@@ -40,11 +40,8 @@ least_is-above most cells keys owner mark least is = elim is.is [
   ]
 ]
   where
-    no_less : (k : ℕ) → k < keys → mark < cells owner k → least ≤ cells owner k
-    no_less k lt over = let at = is.no_less k lt in grind (arith, nat_tests)
-
     found : (k : ℕ) → k < keys → mark < cells owner k → cells owner k ≡ least → IsLeastAbove cells keys owner mark least
-    found k lt over here = record { key = k; below = lt; is = here; above = omega arith; no_less = no_less }
+    found k lt over here = record { key = k; below = lt; is = here; above = omega arith; no_less = λ j le over. grind (arith, nat_tests, is.no_less j le) }
 
     by_most : least ≡ most → IsNextAbove most cells keys owner mark least
     by_most all = elim (some_above cells owner mark keys) [

@@ -1,5 +1,6 @@
 -- Sums that a loop counts.
--- Serves the functions of `grids`, `owners` and `planes`, `Elementwise`, `delta_plans`, `grids` and `version_lags`.
+-- Serves the functions of `grids`, `owners` and `planes`, `Elementwise`, `Places`, `delta_plans`, `grids` and
+-- `version_lags`.
 use Rattle.planes.proofs.Common.{◌≡◌, ℕ, suc, ◌+◌, ◌-◌, ◌<◌, ◌≤◌, ◌==◌, ◌↔◌, Bool, true, false, cond, nat_lt, refl, ap, ◌∙◌, arith, IsTrue, le-ltb, eq-eqb, eqb-true, fold_below-join, sums, sum_below, sum_below-most, count_passing, Cells, count_above, HasNoneAbove}
 
 pub one_le : (b : Bool) → cond b 1 0 ≤ 1
@@ -29,35 +30,29 @@ count_next test bound to before passed now {more} is next plus one =
     omega (arith, sum_next (λ r. cond (test r) 1 0) bound (before + passed) more is one, ap (λ n. count_passing n test) next)
 
 -- none is counted just where none passes
-pub none-passes : (test : ℕ → Bool) (n size count : ℕ) → count ≡ count_passing n test → size ≡ n
-    → IsTrue (count == 0) ↔ ((r : ℕ) → r < size → test r ≡ false)
+pub none-passes : (test : ℕ → Bool) (n size count : ℕ) → count ≡ count_passing n test → size ≡ n → IsTrue (count == 0) ↔ ((r : ℕ) → r < size → test r ≡ false)
 none-passes test n size count is whole = (
   λ none r lt.
       let rest = fold_below-join sums (λ k. cond (test k) 1 0) (suc r) (n - suc r) in
       let all = ap {B = ℕ} (λ m. count_passing m test) {x = suc r + (n - suc r)} {y = n} (omega arith) in
       fails (test r) (omega (arith, eqb-true count 0 none)),
-  λ none.
-      let each = λ (r : ℕ) (lt : r < n). ap {B = ℕ} (λ b. cond b 1 0) (none r (omega arith)) in
-      eq-eqb count 0 (omega (arith, sum_below-most (λ r. cond (test r) 1 0) n 0 (λ r lt. omega (arith, each r lt)))),
+  λ none. eq-eqb count 0 (omega (arith, sum_below-most (λ r. cond (test r) 1 0) n 0 (λ r lt. rw (none r (omega arith)) (omega arith)))),
 )
   where
     fails : (b : Bool) → 0 + cond b 1 0 ≡ 0 → b ≡ false
     fails true one = absurd (omega arith)
     fails false one = refl
 
--- the numbers of one owner more are counted
-pub owner_counted : (cells : Cells) (keys : ℕ) (low : ℕ → ℕ) (owner total count mark : ℕ)
-    → total ≡ sum_below owner (λ r. count_above cells keys r (low r)) → count ≡ count_above cells keys owner mark → mark ≡ low owner
-    → total + count ≡ sum_below (owner + 1) (λ r. count_above cells keys r (low r))
-owner_counted cells keys low owner total count mark is now same =
-    sum_next (λ r. count_above cells keys r (low r)) owner total count is (now ∙ ap (count_above cells keys owner) same)
+module _ (cells : Cells) (keys : ℕ) (low : ℕ → ℕ) (owner total : ℕ) (is : total ≡ sum_below owner (λ r. count_above cells keys r (low r))) where
+  -- the numbers of one owner more are counted
+  pub owner_counted : (count mark : ℕ) → count ≡ count_above cells keys owner mark → mark ≡ low owner
+      → total + count ≡ sum_below (owner + 1) (λ r. count_above cells keys r (low r))
+  owner_counted count mark now same = sum_next _ owner total count is (now ∙ ap (count_above cells keys owner) same)
 
--- or there are none
-pub owner_passed : (cells : Cells) (keys : ℕ) (low : ℕ → ℕ) (owner total high : ℕ)
-    → total ≡ sum_below owner (λ r. count_above cells keys r (low r)) → HasNoneAbove cells keys owner high → high ≤ low owner
-    → total ≡ sum_below (owner + 1) (λ r. count_above cells keys r (low r))
-owner_passed cells keys low owner total high is covered le =
-    let none = sum_below-most (λ k. cond (nat_lt (low owner) (cells owner k)) 1 0) keys 0 (λ k lt.
-    omega (arith, ap {B = ℕ} (λ b. cond b 1 0) (le-ltb (low owner) (cells owner k) (omega (arith, covered k lt))))) in
-    let one_more = sum_next (λ r. count_above cells keys r (low r)) owner total 0 is (omega arith) in
-    omega arith
+  -- or there are none
+  pub owner_passed : (high : ℕ) → HasNoneAbove cells keys owner high → high ≤ low owner
+      → total ≡ sum_below (owner + 1) (λ r. count_above cells keys r (low r))
+  owner_passed high covered le =
+      let none = sum_below-most (λ k. cond (nat_lt (low owner) (cells owner k)) 1 0) keys 0 (λ k lt.
+      rw (le-ltb (low owner) (cells owner k) (omega (arith, covered k lt))) (omega arith)) in
+      omega (arith, sum_next (λ r. count_above cells keys r (low r)) owner total 0 is (omega arith))

@@ -61,7 +61,3 @@ module _ (changed : ℕ → ℕ → ℕ → Type 0) (old : List ℕ) where
 pub made-as : {N : Type 0} (number : N → ℕ) (makes : ℕ → N → N → Type 0) (r x y : ℕ) (f : ℕ → ℕ) → IsMade number makes r x y
     → ((n m : N) → makes r n m → number m ≡ f (number n)) → y ≡ f x
 made-as number makes r x y f made step = sym made.is ∙ step made.from made.to made.made ∙ ap f made.was
-
-pub made-more : {N : Type 0} (number : N → ℕ) (makes : ℕ → N → N → Type 0) (r x y more : ℕ) → IsMade number makes r x y
-    → ((n m : N) → makes r n m → number m ≡ number n + more) → y ≡ x + more
-made-more number makes r x y more made step = made-as number makes r x y (λ n. n + more) made step

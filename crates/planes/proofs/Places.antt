@@ -1,10 +1,15 @@
 -- The numbers of a table's planes, one after another.
 -- Serves the functions of `grids` and `owners`, `delta_plans`, `grids`, `version_lags` and `version_tables`.
-use Rattle.planes.proofs.Common.{◌≡◌, ℕ, zero, suc, ◌+◌, ◌*◌, ◌-◌, ◌<◌, ◌≤◌, Bool, cond, List, length, get_or, map, take, drop, max, inl, inr, sym, ap, ◌∙◌, subst, arith, rules, places, mul-le-mul_right, below_more, cases_lt, get_or-take, get_or-drop, length-map, length-drop, length-take-le, map-append, take-map, drop-map, put_mid, sum_below, sum_below-same, sum_below-turned, sums, fold_below-join, one_more, count_passing, AreChanged, Cells, IsRaised, cell, total_of, IsGrid, HasEach, ArePlanesChangedUpto, ArePlanesChanged}
+use Rattle.planes.proofs.Counts.{sum_whole}
+use Rattle.planes.proofs.Common.{Fits, w64, MOST_KEYS, ◌≡◌, ℕ, zero, suc, ◌+◌, ◌*◌, ◌-◌, ◌<◌, ◌≤◌, Bool, cond, List, length, get_or, map, take, drop, max, inl, inr, sym, ap, ◌∙◌, subst, arith, rules, places, mul-le-mul_right, below_more, cases_lt, get_or-take, get_or-drop, length-map, length-drop, length-take-le, map-append, take-map, drop-map, put_mid, sum_below, sum_below-same, sum_below-turned, sums, fold_below-join, one_more, count_passing, AreChanged, Cells, IsRaised, cell, total_of, IsGrid, HasEach, ArePlanesChangedUpto, ArePlanesChanged}
 
 -- a key's plane lies within the planes
 pub plane-within : (nodes keys size key : ℕ) → IsGrid nodes keys size → key < keys → key * nodes + nodes ≤ size
 plane-within nodes keys size key grid lt = omega (arith, mul-le-mul_right {m = key + 1} {n = keys} nodes (omega arith))
+
+-- and its first place has a number that fits
+pub plane-fits : (nodes keys size key : ℕ) → IsGrid nodes keys size → key < keys → Fits w64 (key * nodes)
+plane-fits nodes keys size key grid lt = omega (arith, mul-le-mul_right {m = key} {n = MOST_KEYS} nodes (omega arith))
 
 pub grid-within : {N : Type 0} (number : N → ℕ) (nodes keys key : ℕ) (xs : List N) → IsGrid nodes keys (length xs) → key < keys
     → key * nodes + nodes ≤ length (map number xs)
@@ -27,24 +32,18 @@ plane_count nodes one other n x size is same =
 pub total_whole : (nodes keys key : ℕ) (test : ℕ → ℕ → Bool) (x : ℕ) → x ≡ sum_below key (λ k. sum_below nodes (λ r. cond (test r k) 1 0)) → keys ≤ key
     → key ≤ keys → x ≡ total_of nodes keys test
 total_whole nodes keys key test x is le ge =
-    is
-    ∙ ap (λ m. sum_below m (λ k. sum_below nodes (λ r. cond (test r k) 1 0))) {x = key} {y = keys} (omega arith)
-    ∙ sum_below-turned keys nodes (λ k r. cond (test r k) 1 0)
+    sum_whole (λ k. sum_below nodes (λ r. cond (test r k) 1 0)) key keys x is le ge ∙ sum_below-turned keys nodes (λ k r. cond (test r k) 1 0)
 
 -- the same places, all planes as one
 places_by_key : (nodes keys : ℕ) (test : ℕ → Bool)
     → count_passing (keys * nodes) test ≡ sum_below keys (λ k. sum_below nodes (λ r. cond (test (k * nodes + r)) 1 0))
 places_by_key nodes zero test = ap (λ n. count_passing n test) {x = zero * nodes} {y = 0} (omega arith)
-places_by_key nodes (suc keys) test =
-    let next : suc keys * nodes ≡ keys * nodes + nodes = ap (λ k. k * nodes) {x = suc keys} {y = keys + 1} (omega arith) ∙ one_more keys nodes in
-    let here = sum_below nodes (λ r. cond (test (keys * nodes + r)) 1 0) in
-    ap (λ n. count_passing n test) next
+places_by_key nodes (suc keys) test = ap (λ n. count_passing n test) (ap (λ k. k * nodes) {x = suc keys} {y = keys + 1} (omega arith) ∙ one_more keys nodes)
     ∙ sym (fold_below-join sums (λ i. cond (test i) 1 0) (keys * nodes) nodes)
-    ∙ ap (λ n. n + here) (places_by_key nodes keys test)
+    ∙ ap (λ n. n + sum_below nodes (λ r. cond (test (keys * nodes + r)) 1 0)) (places_by_key nodes keys test)
 
 pub total-places : (nodes keys : ℕ) (test : ℕ → Bool) → count_passing (keys * nodes) test ≡ total_of nodes keys (λ r k. test (k * nodes + r))
-total-places nodes keys test =
-    places_by_key nodes keys test ∙ sum_below-turned keys nodes (λ k r. cond (test (k * nodes + r)) 1 0)
+total-places nodes keys test = places_by_key nodes keys test ∙ sum_below-turned keys nodes (λ k r. cond (test (k * nodes + r)) 1 0)
 
 pub total-same : (nodes keys : ℕ) (one other : ℕ → ℕ → Bool) → ((r k : ℕ) → r < nodes → k < keys → one r k ≡ other r k)
     → total_of nodes keys one ≡ total_of nodes keys other
@@ -91,10 +90,10 @@ module _ {N : Type 0} (number : N → ℕ) (start n : ℕ) (xs ys : List N) (wit
     ];
   }
 
--- one more plane is changed
-module _ (changed : ℕ → ℕ → ℕ → ℕ → Type 0) (nodes : ℕ) (old : List ℕ) where
-  pub planes-all : (xs : List ℕ) (keys key : ℕ) → ArePlanesChangedUpto changed nodes old xs key → keys ≤ key → ArePlanesChanged changed nodes keys old xs
-  planes-all xs keys key is le = record { size = is.size; each = λ r k lt below. is.below r k lt (omega arith) }
+-- all planes are changed
+pub planes-all : (changed : ℕ → ℕ → ℕ → ℕ → Type 0) (nodes : ℕ) (old xs : List ℕ) (keys key : ℕ) → ArePlanesChangedUpto changed nodes old xs key
+    → keys ≤ key → ArePlanesChanged changed nodes keys old xs
+planes-all changed nodes old xs keys key is le = record { size = is.size; each = λ r k lt below. is.below r k lt (omega arith) }
 
 -- a part of a list
 pub window-at : {N : Type 0} (number : N → ℕ) (start count n : ℕ) (xs : List N) → n ≡ count → (r : ℕ) → r < count
@@ -107,12 +106,7 @@ window-at number start count n xs is r lt =
 pub plane-cells : {N : Type 0} (number : N → ℕ) (nodes key n : ℕ) (xs : List N) → n ≡ nodes → key * nodes + nodes ≤ length xs
     → HasEach nodes (λ r m. m ≡ cell (map number xs) nodes r key) (map number (take n (drop (key * nodes) xs)))
 plane-cells number nodes key n xs is within = record {
-  size = omega (
-    arith,
-    length-map (take n (drop (key * nodes) xs)) number,
-    length-take-le n (drop (key * nodes) xs)
-        (omega (arith, length-drop (key * nodes) xs)),
-  );
+  size = length-map (take n (drop (key * nodes) xs)) number ∙ length-take-le n (drop (key * nodes) xs) (omega (arith, length-drop (key * nodes) xs)) ∙ is;
   each = window-at number (key * nodes) nodes n xs is;
 }
 
@@ -127,15 +121,14 @@ block-cells changed nodes old number xs key n is before within r lt =
 pub planes-written : (changed : ℕ → ℕ → ℕ → ℕ → Type 0) (nodes : ℕ) (old : List ℕ) {N : Type 0}
     (number : N → ℕ) (xs ys : List N) (key n : ℕ) (in_block : ℕ → ℕ → ℕ → Type 0)
     → n ≡ nodes → ArePlanesChangedUpto changed nodes old (map number xs) key → key * nodes + nodes ≤ length old
-    → AreChanged in_block (map number (take n (drop (key * nodes) xs))) (map number ys)
-    → ((r x y : ℕ) → r < nodes → in_block r x y → changed r key x y)
+    → AreChanged in_block (map number (take n (drop (key * nodes) xs))) (map number ys) → ((r x y : ℕ) → r < nodes → in_block r x y → changed r key x y)
     → ArePlanesChangedUpto changed nodes old (map number (put_mid (key * nodes) n xs ys)) (key + 1)
 planes-written changed nodes old number xs ys key n in_block is before within now step =
     let room : key * nodes + nodes ≤ length xs = omega (arith, length-map xs number) in
     let block = plane-cells number nodes key n xs is room in
     let size : length ys ≡ nodes = omega (arith, length-map ys number) in
-    let written = (λ (r : ℕ) (lt : r < nodes). step r (cell old nodes r key) (get_or (map number ys) r 0) lt
-    (subst (λ x. in_block r x (get_or (map number ys) r 0)) (block.each r lt ∙ before.from (key * nodes + r) (omega arith)) (now.each r (omega arith)))) in
+    let written = (λ (r : ℕ) (lt : r < nodes). step r _ (get_or (map number ys) r 0) lt (subst (λ x. in_block r x (get_or (map number ys) r 0))
+    (block-cells changed nodes old number xs key n is before within r lt) (now.each r (omega arith)))) in
     rw is (record {
       size = laid-length number (key * nodes) nodes xs ys room size ∙ before.size;
       below = λ r k lt. below_more (λ j. changed r j (cell old nodes r j) (cell (map number (put_mid (key * nodes) nodes xs ys)) nodes r j)) key

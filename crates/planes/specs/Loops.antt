@@ -52,5 +52,4 @@ pub record MayCountPlane {N : Type 0} (counts plane low high : List N) : Type 0 
 
 -- so many more can be counted
 abbrev pub HasRoomToCount : {N : Type 0} → (N → ℕ) → ℕ → ℕ → List N → Type 0
-HasRoomToCount number most more counts =
-    (r : ℕ) → r < length counts → slice_index (map number counts) r + more ≤ most
+HasRoomToCount number most more counts = (r : ℕ) → r < length counts → slice_index (map number counts) r + more ≤ most

@@ -29,8 +29,7 @@ HasNoneAbove cells keys owner mark = (k : ℕ) → k < keys → cells owner k �
 
 -- no number is above 0 and up to its owner's mark
 abbrev pub HasNoneUpto : List ℕ → List ℕ → Type 0
-HasNoneUpto xs high =
-    (owner : ℕ) → owner < length xs
+HasNoneUpto xs high = (owner : ℕ) → owner < length xs
     → (nat_lt 0 (slice_index xs owner) && nat_le (slice_index xs owner) (slice_index high owner)) ≡ false
 
 -- a number that is above both the peer's and a mark
@@ -114,13 +113,7 @@ pub record IsRaised (cells : Cells) (keys owner x y : ℕ) : Type 0 where
   pub upto : (key : ℕ) → key < keys → cells owner key ≤ y
   pub from : (y ≡ x) ⊎ ((key : ℕ) × (key < keys) × (cells owner key ≡ y))
 
--- numbers are raised to those sent that are above one mark of their owner and up to another
-abbrev pub AreTaken : ℕ → ℕ → List ℕ → List ℕ → List ℕ → List ℕ → List ℕ → Type 0
-AreTaken nodes keys sent low high old new =
-    ArePlanesChanged (λ r k x y. y ≡ number_taken x (cell sent nodes r k) (slice_index low r) (slice_index high r))
-    nodes keys old new
-
--- and each owner's greatest number is raised to the greatest of its numbers then
+-- each owner's greatest number is raised to the greatest of its numbers, once these were raised to what is sent
 abbrev pub AreRaised : ℕ → ℕ → List ℕ → List ℕ → List ℕ → List ℕ → List ℕ → List ℕ → Type 0
 AreRaised nodes keys cells sent low high old new =
     HasEach nodes (λ r y. IsRaised (numbers_taken nodes cells sent low high) keys r (slice_index old r) y) new

@@ -48,8 +48,7 @@ pub fn counts_above<N: Number>(alloc: Global, grid: Grid<N>, low: &[N]) -> Resul
     requires marked { HasMarkOfEach grid low.now }
     ensures counts { IfOk result (λ v. HasEach grid.entry.size.nodes
         (λ r n. n ≡ count_above (cells_in N.number grid.entry) grid.entry.size.keys r
-        (slice_index (map N.number low.now) r))
-        (map N.number v.items)) }
+        (slice_index (map N.number low.now) r)) (map N.number v.items)) }
     ensures only { IsOkUnless result OutOfMemory }
 {
     let Grid { cells, size } = grid;
@@ -162,8 +161,7 @@ pub fn least_of<N: Number, F: Fn(usize, usize) -> N>(
     requires value { (at r : ℕ) → at < size.keys * size.nodes → r < size.nodes → F.pre value at r }
     ensures least { (values : ℕ → ℕ → ℕ)
         → ((at r : ℕ) (n : N) → at < size.keys * size.nodes → r < size.nodes → F.post value at r n
-        → N.number n ≡ values at r)
-        → IfOk result (λ v. HasEach size.nodes
+        → N.number n ≡ values at r) → IfOk result (λ v. HasEach size.nodes
         (λ r n. IsLeastOf N.most (λ k. values (k * size.nodes + r) r) size.keys n) (map N.number v.items)) }
     ensures only { IsOkUnless result OutOfMemory }
 {

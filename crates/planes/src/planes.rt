@@ -54,8 +54,7 @@ pub fn how_many<N: Number, F: Fn(usize, N) -> bool>(plane: &[N], passes: F) -> u
     requires passes { (r : ℕ) (n : N) → r < length plane.now → F.pre passes r n }
     ensures upto { result ≤ length plane.now }
     ensures count { (test : ℕ → ℕ → Bool) → AnswersAs N.number (F.post passes) (length plane.now) test
-        → result ≡ count_passing (length plane.now)
-        (λ r. test r (slice_index (map N.number plane.now) r)) }
+        → result ≡ count_passing (length plane.now) (λ r. test r (slice_index (map N.number plane.now) r)) }
 {
     let size = N::at_a_time();
     let mut count = 0;

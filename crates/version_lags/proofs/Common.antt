@@ -1,6 +1,6 @@
 -- The names of other libraries that these proofs cite, passed on from one place. Declares nothing.
 -- Serves most of the crate and `version_tables`.
-pub use Rattle.grids.proofs.Common.{ArePlanesChanged, HasEach, IsGrid, IsLeastBehind, cases_lt, cell, le-ltb, lt-ltb, ltb-false, ltb-true, mul-le-mul_right, nat_le, nat_lt, total_of}
+pub use Rattle.grids.proofs.Common.{ArePlanesChanged, HasEach, IsGrid, IsLeastBehind, cases_lt, cell, count_passing, le-ltb, lt-ltb, ltb-false, ltb-true, mul-le-mul_right, nat_le, nat_lt, nat_tests, total_of}
 pub use Rattle.owner_writes.proofs.Common.{entry_kept, write_numbered}
 unfoldable pub use Rattle.model.specs.Figures.{figures_of}
 pub use Rattle.std.proofs.Common.{Bool, List, None, Option, Some, [], ap, arith, cond, eqb, false, get_or, if◌then◌else◌, inl, inr, length, length-append, ltb, map, max, min, option_map, refl, reverse, rules, slice_index, subst, suc, sym, zero, ℕ, ◌&&◌, ◌*◌, ◌+◌, ◌-◌, ◌<◌, ◌/◌, ◌%◌, ◌∙◌, ◌≡◌, ◌≤◌, ◌⊎◌}
@@ -31,7 +31,7 @@ pub use Rattle.planes.proofs.Elementwise.{number-at}
 pub use Rattle.planes.proofs.Places.{plane-within}
 pub use Rattle.planes.specs.Grids.{cells_in}
 pub use Rattle.planes.specs.declared.sizes.Grid.{Grid}
-pub use Rattle.round_histories.specs.Histories.{BirthsRise, HistoriesView, StandsBeside}
+pub use Rattle.round_histories.specs.Histories.{BirthsRise, HistoriesView, StandsAmong, StandsBeside}
 pub use Rattle.version_lags.specs.Missed.{HasNoneMissed, IsLastNumber, IsMissed, IsNumberAt, NonePassUpto, base_of, number_staleness}
 pub use Rattle.version_lags.specs.Pieces.{AreAllCounted, AreGrids, AreNumbersOf, AreRoundNumbers, CountsPiece, HasCounted, IsTotal, MayBeCounted, MayWalk, NumbersView, StandTogether, WalksFrom, histories_of, is_left, is_stale, least_below, most_lag, numbers_at, numbers_in, numbers_seen, total_below}
 pub use Rattle.version_lags.specs.declared.lags.Piece.{Piece}

@@ -1,6 +1,6 @@
 -- How long copies have been behind, by the numbers that they hold: the least number has been longest.
 -- Serves `Pieces`, `Walks` and `Whole`.
-use Rattle.version_lags.proofs.Common.{◌≡◌, ℕ, zero, suc, ◌+◌, ◌-◌, ◌<◌, ◌≤◌, min, max, ◌&&◌, List, length, get_or, Some, None, if◌then◌else◌, option_map, inl, inr, refl, sym, ap, ◌∙◌, arith, nat_lt, nat_le, cases_lt, lt-ltb, le-ltb, le-leb, lt-leb, reverse, is_write_of, position_or_len, find_at, find_passes, fails_before_first, slice_get-get_or, both_ways, eq-eqb, eqb-true, get_or-reverse, length-reverse, length-map, get_or_append_left, same_Some, get_or-map, Entry, Table, entry_at, IsProper, Write, write_of_entry, last_write, OwnerListView, entries_of, written, AreWrites, write_numbered, BirthsRise, StandsBeside, is_left_over, most_below, stale_count, rounds_behind, write_from-here, numbered-placed, numbered-some, base_of, number_staleness, IsMissed, IsLastNumber, least_below}
+use Rattle.version_lags.proofs.Common.{◌≡◌, ℕ, zero, suc, ◌+◌, ◌-◌, ◌<◌, ◌≤◌, min, max, ◌&&◌, List, length, get_or, Some, None, if◌then◌else◌, option_map, inl, inr, refl, sym, ap, ◌∙◌, arith, nat_lt, nat_le, cases_lt, lt-ltb, le-ltb, le-leb, lt-leb, reverse, is_write_of, position_or_len, find_at, find_passes, fails_before_first, slice_get-get_or, both_ways, eq-eqb, eqb-true, get_or-reverse, length-reverse, length-map, get_or_append_left, same_Some, get_or-map, Entry, Table, entry_at, IsProper, Write, write_of_entry, last_write, OwnerListView, entries_of, written, AreWrites, write_numbered, BirthsRise, StandsBeside, is_left_over, most_below, stale_count, rounds_behind, numbered-placed, numbered-some, base_of, number_staleness, IsMissed, IsLastNumber, least_below}
 use Rattle.version_lags.proofs.Missed.{numbers-born, current-numbered, missed_cases}
 
 module _ (v : OwnerListView) (are : AreWrites v) where
@@ -19,9 +19,7 @@ module _ (v : OwnerListView) (are : AreWrites v) where
     pub last_fresh : (last c : ℕ) → IsLastNumber v key last → last ≤ c → c ≤ length all → number_staleness round v key c ≡ None
     last_fresh last c is le within = elim (missed_cases v are rise key c within round) [
       | inl nothing ↦ nothing.1
-      | inr found ↦
-          let missed = found.missed in
-          absurd (is.last found.number found.e (missed-of c last found.number found.e missed le))
+      | inr found ↦ absurd (is.last found.number found.e (missed-of c last _ _ found.missed le))
     ]
 
     -- a copy is stale just where its number is below the last one
@@ -45,17 +43,13 @@ module _ (v : OwnerListView) (are : AreWrites v) where
     pub lag-since : (c m : ℕ) (e : Entry) → c ≤ length all → IsMissed v key c m e → round - e.born + 1 ≤ lag c
     lag-since c m e within missed = elim (missed_cases v are rise key c within round) [
       | inl none ↦ absurd (none.0 m e missed)
-      | inr found ↦ omega (
-        arith,
-        ap rounds_behind found.staleness,
-        numbers-born all rise found.number m found.e e found.missed.written missed.written (found.first m e missed),
-      )
+      | inr found ↦
+          omega (arith, ap rounds_behind found.staleness, numbers-born all rise _ m _ e found.missed.written missed.written (found.first m e missed))
     ]
 
     -- one with a greater number hasn't been behind for longer
     lag-falls : (c d : ℕ) → c ≤ d → d ≤ length all → lag d ≤ lag c
-    lag-falls c d le within = lag-upto d (lag c) within (λ m e missed.
-        lag-since c m e (omega arith) (missed-of d c m e missed le))
+    lag-falls c d le within = lag-upto d (lag c) within (λ m e missed. lag-since c m e (omega arith) (missed-of d c m e missed le))
 
     -- so the lesser of two has been longest
     lag-least : (c d : ℕ) → c ≤ length all → d ≤ length all → max (lag c) (lag d) ≡ lag (min c d)
@@ -73,19 +67,22 @@ module _ (v : OwnerListView) (are : AreWrites v) where
         (omega arith, ap (λ m. max m (lag (f n))) before.1 ∙ lag-least (least_below n f last) (f n) before.0 here)
 
   -- what is of an earlier generation
+  earlier-numbered : (m : ℕ) (e : Entry) → write_numbered all m ≡ Some e → m ≤ base_of v → e.generation < v.generation
+  earlier-numbered m e is le =
+      let at = numbered-placed all m e is in
+      let earlier : at.place < base_of v = omega arith in
+      let there = sym (get_or_append_left v.earlier v.current e at.place earlier) ∙ at.there e in
+      omega (arith, are.earlier at.place e earlier, ap (λ (x : Entry). x.generation) there)
+
   pub left_over-by_number : (c : ℕ) → c ≤ length all → is_left_over v.generation (write_numbered all c) ≡ (nat_lt 0 c && nat_le c (base_of v))
   left_over-by_number zero le = refl
   left_over-by_number (suc i) le =
-      let d : Entry = record { key = 0; generation = 0; version = 0; value = 0; born = 0 } in
-      let e = get_or all i d in
-      let is = write_from-here all i d (omega arith) in
-      rw (is, lt-ltb 0 (suc i) (omega arith)) (elim (cases_lt i (base_of v)) [
-        | inl earlier ↦
-            let there = ap (λ (x : Entry). x.generation) (get_or_append_left v.earlier v.current d i earlier) in
-            rw (le-leb (suc i) (base_of v) (omega arith)) (lt-ltb e.generation v.generation (omega (arith, are.earlier i d earlier)))
-        | inr later ↦
-            let at = current-numbered v are (suc i) e is (omega arith) in
-            rw (lt-leb (suc i) (base_of v) (omega arith)) (le-ltb e.generation v.generation (omega arith))
+      let (e, is) = numbered-some all (suc i) (omega arith) le in
+      rw (is, lt-ltb 0 (suc i) (omega arith)) (elim (cases_lt (base_of v) (suc i)) [
+        | inl later ↦
+            let same = (current-numbered v are (suc i) e is later).generation in
+            rw (lt-leb (suc i) (base_of v) later) (le-ltb e.generation v.generation (omega arith))
+        | inr upto ↦ rw (le-leb (suc i) (base_of v) upto) (lt-ltb e.generation v.generation (earlier-numbered (suc i) e is upto))
       ])
 
   -- the last write of a key has the number of each other one, or a greater one
@@ -135,17 +132,12 @@ module _ (v : OwnerListView) (are : AreWrites v) where
       written = within;
       last = λ m d missed.
           let last = last-from m d missed.written missed.current in
-          let same : option_map write_of_entry (write_numbered all c) ≡ Some last.0 = found ∙ ap (last_write (written v)) (sym missed.keyed) ∙ last.1.0 in
-          elim (cases_lt 0 c) [
-            | inl some ↦
-                let here = numbered-some all c some within in
-                let one = same_Some (write_of_entry here.0) last.0 (ap (option_map write_of_entry) (sym here.1) ∙ same) in
-                omega (arith, ap (λ (w : Write). w.version) one, (current-numbered v are c here.0 here.1 (newer here.0 here.1)).version)
-            | inr none ↦
-                let zero : 0 ≡ c = omega arith in
-                let no : None ≡ Some last.0 = ap (λ n. option_map write_of_entry (write_numbered all n)) zero ∙ same in
-                absurd (cc)
-          ];
+          elim (write_numbered all c) as (λ o. write_numbered all c ≡ o → option_map write_of_entry o ≡ Some last.0 → ⊥) [
+            | None ↦ λ _ no. absurd (cc)
+            | Some e ↦ λ is one.
+                let same = ap (λ (w : Write). w.version) (same_Some (write_of_entry e) last.0 one) in
+                omega (arith, same, (current-numbered v are c e is (newer e is)).version)
+          ] refl (found ∙ ap (last_write (written v)) (sym missed.keyed) ∙ last.1.0);
       there = λ below lt.
           let here = numbered-some all c (omega arith) within in
           let passes = find_passes (is_write_of key) (reverse (written v)) (write_of_entry here.0) (sym found ∙ ap (option_map write_of_entry) here.1) in
@@ -156,12 +148,7 @@ module _ (v : OwnerListView) (are : AreWrites v) where
         found = ap (option_map write_of_entry) (sym held) ∙ beside.own_part key
 
         newer : (e : Entry) → write_numbered all c ≡ Some e → base_of v < c
-        newer e is =
-            let at = numbered-placed all c e is in
-            let generation = λ (x : Entry). x.generation in
-            elim (cases_lt at.place (base_of v)) [
-              | inl earlier ↦
-                  let there = ap generation (sym (get_or_append_left v.earlier v.current e at.place earlier) ∙ at.there e) in
-                  absurd (omega (arith, are.earlier at.place e earlier, proper.own key e (held ∙ is)))
-              | inr later ↦ omega arith
-            ]
+        newer e is = elim (cases_lt (base_of v) c) [
+          | inl later ↦ later
+          | inr upto ↦ absurd (omega (arith, earlier-numbered c e is upto, proper.own key e (held ∙ is)))
+        ]

@@ -1,6 +1,6 @@
 -- The first write that a copy misses, by numbers.
 -- Serves `Lagging`, `Walks` and `version_tables`.
-use Rattle.version_lags.proofs.Common.{◌≡◌, ℕ, zero, suc, ◌+◌, ◌-◌, ◌<◌, ◌≤◌, Bool, eqb, ltb, ◌&&◌, List, length, get_or, Some, None, ◌⊎◌, option_map, inl, inr, refl, sym, ap, ◌∙◌, arith, length-append, position_or_len, find_at, fails_before_first, passes_at_first, slice_get_cases, cases_lt, lt-ltb, ltb-true, eq-eqb, eqb-true, and_parts, both_ways, get_or-append_right, get_or-map, length-map, Entry, absent, mark_of, mark_held, is_before, before-yes, Write, write_of_entry, OwnerListView, entries_of, written, AreWrites, write_numbered, write_from-here, BirthsRise, numbered-placed, numbered-within, numbers-compare, base_of, number_staleness, IsMissed, HasNoneMissed}
+use Rattle.version_lags.proofs.Common.{◌≡◌, ℕ, zero, suc, ◌+◌, ◌-◌, ◌<◌, ◌≤◌, Bool, eqb, ltb, ◌&&◌, List, length, get_or, Some, None, ◌⊎◌, option_map, inl, inr, refl, sym, ap, ◌∙◌, arith, length-append, position_or_len, find_at, fails_before_first, passes_at_first, slice_get_cases, cases_lt, lt-ltb, ltb-true, eq-eqb, eqb-true, and_parts, both_ways, get_or-append_right, get_or-map, length-map, Entry, absent, mark_of, mark_held, is_before, before-yes, Write, write_of_entry, OwnerListView, entries_of, written, AreWrites, write_numbered, BirthsRise, numbered-placed, numbered-some, numbered-within, numbers-compare, base_of, number_staleness, IsMissed, HasNoneMissed}
 
 -- births don't fall with the numbers
 pub numbers-born : (writes : List Entry) (rise : BirthsRise writes) (m n : ℕ) (d e : Entry)
@@ -47,13 +47,11 @@ module _ (v : OwnerListView) (are : AreWrites v) where
     -- a mark is below that of a write of the generation just where its number is
     before-number : (c m : ℕ) (e : Entry) → c ≤ length all → write_numbered all m ≡ Some e → IsCurrent m e
         → is_before (mark_held (write_numbered all c)) (mark_of e) ≡ ltb c m
-    before-number zero m e le is at =
-        before-yes absent (mark_of e) (record { generation = omega arith; version = λ same. omega arith })
+    before-number zero m e le is at = before-yes absent (mark_of e) (record { generation = omega arith; version = λ same. omega arith })
         ∙ sym (lt-ltb 0 m (omega arith))
     before-number (suc i) m e le is at =
-        let here = write_from-here all i e (omega arith) in
-        ap (λ o. is_before (mark_held o) (mark_of e)) here
-        ∙ numbers-compare all (record { rise = are.rising; born = rise }) (suc i) m (get_or all i e) e here is
+        let (d, here) = numbered-some all (suc i) (omega arith) le in
+        ap (λ o. is_before (mark_held o) (mark_of e)) here ∙ numbers-compare all (record { rise = are.rising; born = rise }) (suc i) m d e here is
 
     module _ (key c : ℕ) (le : c ≤ length all) where
       test : Write → Bool
@@ -96,17 +94,16 @@ module _ (v : OwnerListView) (are : AreWrites v) where
           elim (slice_get_cases (written v) first).1 [
             | inl found ↦
                 let w = found.0 in
-                let d : Entry = record { key = 0; generation = 0; version = 0; value = 0; born = 0 } in
-                let e = get_or all (base + first) d in
-                let is = write_from-here all (base + first) d (omega arith) in
-                let at = current-numbered (suc (base + first)) e is (omega arith) in
+                let number = suc (base + first) in
+                let (e, is) = numbered-some all number (omega arith) (omega arith) in
+                let at = current-numbered number e is (omega arith) in
                 let there : w ≡ write_of_entry e = sym found.3 ∙ ap (λ i. get_or (written v) i w) {y = at.place} (omega arith) ∙ at.there w in
-                let passes = sym (tested (suc (base + first)) e is at) ∙ ap test (sym there ∙ sym found.3) ∙ passes_at_first test (written v) w found.1 in
-                let parts = and_parts (eqb e.key key) (ltb c (suc (base + first))) passes in
+                let passes = sym (tested number e is at) ∙ ap test (sym there ∙ sym found.3) ∙ passes_at_first test (written v) w found.1 in
+                let parts = and_parts (eqb e.key key) (ltb c number) passes in
                 inr (record {
-                  number = suc (base + first);
+                  number = number;
                   e = e;
-                  missed = record { written = is; current = omega arith; keyed = eqb-true e.key key parts.0; over = ltb-true c (suc (base + first)) parts.1 };
+                  missed = record { written = is; current = omega arith; keyed = eqb-true e.key key parts.0; over = ltb-true c number parts.1 };
                   first = none_before;
                   staleness = ap (option_map behind) (find_at test (written v) ∙ found.2) ∙ ap (λ x. Some (behind x)) there;
                 })

@@ -1,6 +1,6 @@
 -- Pieces of tables as code counts them, table by table and part by part.
 -- Serves the functions of `lags` and `Whole`.
-use Rattle.version_lags.proofs.Common.{◌≡◌, ℕ, zero, suc, ◌+◌, ◌*◌, ◌<◌, ◌≤◌, min, Bool, cond, List, [], length, get_or, map, slice_index, sym, ap, ◌∙◌, arith, Bor, get_or-map, length-map, refl, MOST_NODES, MOST_KEYS, Table, sum_below, total_of, cell, ArePlanesChanged, sum_below-most, sum_below-same, count_le, sum_next, RoundNumbers, NumbersView, numbers_seen, numbers_at, is_stale, is_left, total_below, AreGrids, AreRoundNumbers, IsTotal, least_below, CountsPiece}
+use Rattle.version_lags.proofs.Common.{◌≡◌, ℕ, zero, suc, ◌+◌, ◌*◌, ◌<◌, ◌≤◌, min, Bool, cond, List, [], length, get_or, map, slice_index, sym, ap, ◌∙◌, arith, Bor, get_or-map, length-map, refl, MOST_NODES, MOST_KEYS, Table, sum_below, total_of, cell, ArePlanesChanged, sum_below-most, sum_below-same, count_le, sum_next, count_passing, RoundNumbers, NumbersView, numbers_seen, numbers_at, is_stale, is_left, total_below, AreGrids, AreRoundNumbers, IsTotal, least_below, CountsPiece}
 use Rattle.version_lags.proofs.Pieces.{none_upto}
 
 -- the numbers of tables make grids
@@ -28,29 +28,23 @@ least_below-le (suc n) f most = omega (arith, least_below-le n f most)
 
 -- before any table, with one more, and two pieces, one behind the other
 module _ (v : NumbersView) (grids : AreGrids v) where
-  total-is : (test : List ℕ → ℕ → ℕ → Bool) (from to total : ℕ) → total_below v test from + total ≡ total_below v test to
-      → IsTotal v test from to total
+  total-is : (test : List ℕ → ℕ → ℕ → Bool) (from to total : ℕ) → total_below v test from + total ≡ total_below v test to → IsTotal v test from to total
   total-is test from to total is = record { is = is; few = omega (arith, sum_below-most _ to (MOST_NODES * MOST_KEYS) (λ p _. few p)) }
     where
-      of_owner : (table : List ℕ) (r : ℕ) → sum_below v.keys (λ k. cond (test table r k) 1 0) ≤ MOST_KEYS
-      of_owner table r = omega (arith, count_le v.keys (test table r))
-
       few : (p : ℕ) → total_of v.nodes v.keys (test (numbers_at v.tables p)) ≤ MOST_NODES * MOST_KEYS
-      few p = omega (arith, sum_below-most _ v.nodes MOST_KEYS (λ r _. of_owner (numbers_at v.tables p) r))
+      few p =
+          let here = test (numbers_at v.tables p) in
+          omega (arith, sum_below-most (λ r. count_passing v.keys (here r)) v.nodes MOST_KEYS (λ r _. omega (arith, count_le v.keys (here r))))
 
   -- where no node has forgotten, nothing is left over
   pub none_left : (table : List ℕ) → ((r : ℕ) → r < v.nodes → slice_index v.bases r ≡ 0) → total_of v.nodes v.keys (is_left v table) ≡ 0
-  none_left table none =
-      sum_below-same v.nodes _ (λ r. sum_below v.keys (λ k. 0)) (λ r in_r. sum_below-same v.keys _ _ (λ k _.
+  none_left table none = sum_below-same v.nodes _ (λ r. sum_below v.keys (λ k. 0)) (λ r in_r. sum_below-same v.keys _ _ (λ k _.
       ap {B = ℕ} (λ b. cond b 1 0) (none_upto (cell table v.nodes r k) (slice_index v.bases r) (λ some. omega (arith, none r in_r)))))
       ∙ omega (arith, sum_below-most (λ r. sum_below v.keys (λ k. 0)) v.nodes 0 (λ r _. omega (arith, sum_below-most (λ k. 0) v.keys 0 (λ k _. omega arith))))
 
-  -- what the tables hold of a key, and the least of that and its last number
-  abbrev held : ℕ → ℕ → ℕ → ℕ
-  held r k p = cell (numbers_at v.tables p) v.nodes r k
-
+  -- the least of what the tables hold of a key, and its last number
   abbrev least_upto : ℕ → ℕ → ℕ → ℕ
-  least_upto to r k = least_below to (held r k) (cell v.last v.nodes r k)
+  least_upto to r k = least_below to (λ p. cell (numbers_at v.tables p) v.nodes r k) (cell v.last v.nodes r k)
 
   pub counts-none : (from : ℕ) → CountsPiece v from from 0 0 v.last
   counts-none from = record {
@@ -58,7 +52,9 @@ module _ (v : NumbersView) (grids : AreGrids v) where
     leftover_is = total-is _ from from 0 (omega arith);
     least_is = record {
       size = grids.grid.whole;
-      each = λ r k _ _. record { upto = omega arith; is = omega (arith, least_below-le from (held r k) (cell v.last v.nodes r k)) };
+      each = λ r k _ _.
+          let le = least_below-le from (λ p. cell (numbers_at v.tables p) v.nodes r k) (cell v.last v.nodes r k) in
+          record { upto = omega arith; is = omega arith };
     };
   }
 

@@ -1,36 +1,38 @@
 -- How long a table's copy has been behind, and whether it is left over, by the number of what it holds.
 -- Serves `Parts` and `Whole`.
-use Rattle.version_lags.proofs.Common.{◌≡◌, ℕ, ◌<◌, false, ◌&&◌, List, [], length, Some, if◌then◌else◌, inl, inr, sym, ap, ◌∙◌, subst, arith, nat_lt, nat_le, cases_lt, cases_eq, le-ltb, lt-ltb, eq-eqb, ne_eqb, lt-leb, Entry, mark_held, Table, entry_at, table_of_node, OwnerListView, entries_of, list_of_owner, lists_in, no_writes, write_numbered, list_read, HistoriesView, StandsBeside, generation_at, staleness_of, staleness_at, is_left_over, leftover_at, stale_count, base_of, IsNumberAt, number_staleness, IsLastNumber, StandTogether, MayBeCounted}
+use Rattle.version_lags.proofs.Common.{◌≡◌, ℕ, nat_tests, ◌<◌, false, ◌&&◌, List, [], length, Some, if◌then◌else◌, inl, inr, sym, ap, ◌∙◌, subst, arith, nat_lt, nat_le, cases_eq, eq-eqb, ne_eqb, Entry, mark_held, Table, entry_at, table_of_node, OwnerListView, entries_of, list_of_owner, lists_in, no_writes, write_numbered, list_read, HistoriesView, StandsAmong, StandsBeside, generation_at, staleness_of, staleness_at, is_left_over, leftover_at, stale_count, base_of, IsNumberAt, number_staleness, IsLastNumber, StandTogether, MayBeCounted}
 use Rattle.version_lags.proofs.Lagging.{last_fresh, stale_by_number, left_over-by_number, own_is_last, key_held}
 
 -- what is 0, or above how many writes are of earlier generations, is of no earlier one
 pub none_upto : (c base : ℕ) → (0 < c → base < c) → (nat_lt 0 c && nat_le c base) ≡ false
-none_upto c base above = elim (cases_lt 0 c) [
-  | inl some ↦ λ i. lt-ltb 0 c some i && lt-leb c base (above some) i
-  | inr none ↦ ap (λ b. b && nat_le c base) (le-ltb 0 c none)
-]
+none_upto c base above = grind (arith, nat_tests)
 
 module _ (tables : List Table) (h : HistoriesView) (are : StandTogether tables h) where
   abbrev lists : List OwnerListView
   lists = h.lists
 
-  beside : (r : ℕ) → r < length tables → StandsBeside (table_of_node tables r) (list_of_owner lists r)
-  beside r lt = subst (λ o. StandsBeside (table_of_node tables r) (list_of_owner lists o)) (are.cluster.tables r lt).node (are.standing r lt).own
+  pub stands : (r : ℕ) → r < length lists → StandsAmong h (table_of_node tables r)
+  stands r lt = are.standing r (omega (arith, are.one_list_each))
+
+  node : (r : ℕ) → r < length lists → (table_of_node tables r).node ≡ r
+  node r lt = (are.cluster.tables r (omega (arith, are.one_list_each))).node
+
+  beside : (r : ℕ) → r < length lists → StandsBeside (table_of_node tables r) (list_of_owner lists r)
+  beside r lt = subst (λ o. StandsBeside (table_of_node tables r) (list_of_owner lists o)) (node r lt) (stands r lt).own
 
   -- an owner's own number is its last one
-  pub own_last : (r k c : ℕ) → r < length tables → IsNumberAt lists (table_of_node tables r) r k c → IsLastNumber (list_of_owner lists r) k c
-  own_last r k c lt at =
-      own_is_last (list_of_owner lists r) (are.writes r) (table_of_node tables r) (are.standing r lt).proper (beside r lt) k c
-      (ap (λ o. entry_at (table_of_node tables r) o k) (are.cluster.tables r lt).node ∙ at.held) at.written
+  own_last : (r k c : ℕ) → r < length lists → IsNumberAt lists (table_of_node tables r) r k c → IsLastNumber (list_of_owner lists r) k c
+  own_last r k c lt at = own_is_last (list_of_owner lists r) (are.writes r) (table_of_node tables r) (stands r lt).proper (beside r lt) k c
+      (ap (λ o. entry_at (table_of_node tables r) o k) (node r lt) ∙ at.held) at.written
 
   -- each key that an owner wrote is one of the keys
-  pub key_within : (r m : ℕ) (e : Entry) → r < length tables → write_numbered (entries_of (list_of_owner lists r)) m ≡ Some e
+  pub key_within : (r m : ℕ) (e : Entry) → r < length lists → write_numbered (entries_of (list_of_owner lists r)) m ≡ Some e
       → base_of (list_of_owner lists r) < m → e.key < h.keys
   key_within r m e lt is current =
-      let standing = are.standing r lt in
-      omega (arith, key_held (list_of_owner lists r) (are.writes r) (table_of_node tables r) standing.proper (beside r lt) m e is current)
+      let keys = (stands r lt).keys in
+      omega (arith, key_held (list_of_owner lists r) (are.writes r) (table_of_node tables r) (stands r lt).proper (beside r lt) m e is current)
 
-module _ (tables : List Table) (h : HistoriesView) (are : MayBeCounted tables h) (p r k c : ℕ) (in_p : p < length tables) (in_r : r < length tables)
+module _ (tables : List Table) (h : HistoriesView) (are : MayBeCounted tables h) (p r k c : ℕ) (in_p : p < length h.lists) (in_r : r < length h.lists)
     (at : IsNumberAt h.lists (table_of_node tables p) r k c) where
   abbrev list : OwnerListView
   list = list_of_owner h.lists r
@@ -48,7 +50,7 @@ module _ (tables : List Table) (h : HistoriesView) (are : MayBeCounted tables h)
         let fresh = last_fresh list (are.together.writes r) (are.written.in_order r) h.rounds k c c (at_own same) (omega arith) at.written in
         rw (eq-eqb p r same) (sym fresh)
     | inr other ↦
-        let read = list_read h.lists r no_writes [] (omega arith) in
+        let read = list_read h.lists r no_writes [] in_r in
         rw (ne_eqb p r other) (λ i. staleness_of h.rounds (generation i) (read i) k (mark_held (at.held i)))
   ]
 

@@ -10,10 +10,7 @@ most_below-le f (suc m) x le = omega (arith, le m (omega arith), most_below-le f
 
 most_below-has : (f : ℕ → ℕ) (m k : ℕ) → k < m → f k ≤ most_below m f
 most_below-has f zero k lt = absurd (omega arith)
-most_below-has f (suc m) k lt = elim (cases_lt k m) [
-  | inl before ↦ omega (arith, most_below-has f m k before)
-  | inr not_before ↦ let same : m ≡ k = omega arith in omega (arith, ap f same)
-]
+most_below-has f (suc m) k lt = grind (arith, most_below-has f m k)
 
 module _ {list : OwnerListView} {keys round most first : ℕ} {least : ℕ → ℕ} (walks : WalksFrom list keys round most first least) where
   abbrev all : List Entry
@@ -38,8 +35,7 @@ module _ {list : OwnerListView} {keys round most first : ℕ} {least : ℕ → �
       omega (arith, walks.born at.place e at.within, ap (λ (x : Entry). x.born) (at.there e))
 
   -- where all behind the number was written after a round, none has been behind for longer than since then
-  pub lag-recent : (since mark longest : ℕ) → IsRoundMark all 0 since mark → mark ≤ first → round ≤ since + longest
-      → most_lag keys round list least ≤ longest
+  pub lag-recent : (since mark longest : ℕ) → IsRoundMark all 0 since mark → mark ≤ first → round ≤ since + longest → most_lag keys round list least ≤ longest
   lag-recent since mark longest marked upto_first recent = walk-upto (max (base_of list) first) longest walks.start (λ m e past is.
       omega (arith, marked.above m e (omega arith) is (omega arith), born-upto m e is))
 
@@ -73,9 +69,7 @@ module _ {N : Type 0} {number : N → ℕ} {most owner round first : ℕ} {list 
     (may : MayWalk number most list least owner round first) (place : ℕ) (current : base_of list ≤ place)
     (e : Entry) (is : write_numbered (entries_of list) (place + 1) ≡ Some e) where
   pub walk-index : e.key * least.size.nodes + owner < length least.cells.now
-  walk-index =
-      let in_keys = may.walks.keyed (place + 1) e is (omega arith) in
-      omega (arith, plane-within least.size.nodes least.size.keys (length least.cells.now) e.key may.place.shape in_keys)
+  walk-index = omega (arith, plane-within _ _ _ e.key may.place.shape (may.walks.keyed (place + 1) e is (omega arith)))
 
   pub walk-read : (x : N) → x ≡ get_or least.cells.now (e.key * least.size.nodes + owner) x → number x ≡ cells_in number least owner e.key
   walk-read x at = number-at number least.cells.now (e.key * least.size.nodes + owner) x walk-index at

@@ -1,9 +1,9 @@
 -- What is counted of all tables comes to the figures of a round.
 -- Serves `Piece::figures`.
-use Rattle.version_lags.proofs.Common.{Bor, Grid, ◌≡◌, ℕ, ◌<◌, Bool, Some, cond, refl, ◌&&◌, inl, inr, List, length, get_or, map, nat_lt, nat_le, sym, ap, ◌∙◌, subst, arith, cases_lt, number-at, HasEach, IsGrid, IsLeastBehind, Entry, Figures, OwnerListView, entries_of, write_numbered, list_of_owner, lists_in, sum_below, most_below, total_of, cell, sum_below-same, most_below-same, leftover_at, stale_count, staleness_at, rounds_behind, figures_of, most_by_owner, table_of_node, length-map, base_of, number_staleness, IsNumberAt, IsLastNumber, AreAllCounted, Piece, RoundNumbers, NumbersView, numbers_seen, numbers_at, is_stale, is_left, least_below, IsTotal, MayWalk, most_lag}
+use Rattle.version_lags.proofs.Common.{Bor, Grid, ◌≡◌, ℕ, ◌<◌, Bool, cond, refl, ◌&&◌, inl, inr, List, length, get_or, map, nat_lt, nat_le, sym, ap, ◌∙◌, subst, arith, cases_lt, number-at, HasEach, IsGrid, IsLeastBehind, Figures, OwnerListView, list_of_owner, lists_in, sum_below, most_below, total_of, cell, sum_below-same, most_below-same, leftover_at, stale_count, staleness_at, rounds_behind, figures_of, most_by_owner, table_of_node, length-map, number_staleness, AreAllCounted, Piece, RoundNumbers, NumbersView, numbers_seen, numbers_at, is_stale, is_left, least_below, IsTotal, MayWalk, most_lag}
 use Rattle.version_lags.proofs.Lagging.{lag-least_below}
 use Rattle.version_lags.proofs.Parts.{grids-of, least_below-le}
-use Rattle.version_lags.proofs.Pieces.{key_within, place_staleness, place_stale, place_left}
+use Rattle.version_lags.proofs.Pieces.{stands, key_within, place_staleness, place_stale, place_left}
 
 module _ {N : Type 0} {number : N → ℕ} {most : ℕ} {numbers : RoundNumbers N} {piece : Piece N}
     (all : AreAllCounted number most numbers piece) (cells : Bor (List N)) (same : cells.now ≡ piece.least.items) where
@@ -28,24 +28,11 @@ module _ {N : Type 0} {number : N → ℕ} {most : ℕ} {numbers : RoundNumbers 
   abbrev least_held : ℕ → ℕ → ℕ
   least_held = cell (map number cells.now) nodes
 
-  -- the least numbers, as code has them
-  abbrev least : Grid N
-  least = record { cells = cells; size = record { nodes = nodes; keys = numbers.keys } }
-
   nodes_are : nodes ≡ length all.tables
   nodes_are = all.are.may.together.one_list_each
 
-  in_tables : (p : ℕ) → p < nodes → p < length all.tables
-  in_tables p lt = omega (arith, nodes_are)
-
   keys_are : (p : ℕ) → p < nodes → numbers.keys ≡ (table_of_node all.tables p).keys
-  keys_are p in_p = sym (all.are.may.together.standing p (in_tables p in_p)).keys
-
-  number_at : (p r k : ℕ) → p < nodes → r < nodes → k < numbers.keys → IsNumberAt lists (table_of_node all.tables p) r k (held p r k)
-  number_at p r k in_p in_r in_k = (all.are.are.cells_are p in_p).each r k in_r in_k
-
-  last_at : (r k : ℕ) → r < nodes → k < numbers.keys → IsLastNumber (list_of_owner lists r) k (last r k)
-  last_at r k in_r in_k = all.are.are.lasts.each r k in_r in_k
+  keys_are p in_p = sym (stands _ _ all.are.may.together p in_p).keys
 
   least_is : (r k : ℕ) → r < nodes → k < numbers.keys → least_held r k ≡ least_below nodes (λ p. held p r k) (last r k)
   least_is r k in_r in_k =
@@ -55,14 +42,12 @@ module _ {N : Type 0} {number : N → ℕ} {most : ℕ} {numbers : RoundNumbers 
   -- an owner's list may be walked over, from the least number that is behind on
   module _ (firsts : List N) (behind : HasEach nodes (λ r n. IsLeastBehind most least_held last numbers.keys r n) (map number firsts))
       (owner : ℕ) (among : owner < nodes) where
-    keyed : (m : ℕ) (e : Entry) → write_numbered (entries_of (list_of_owner lists owner)) m ≡ Some e
-        → base_of (list_of_owner lists owner) < m → e.key < numbers.keys
-    keyed m e there current = key_within _ _ all.are.may.together owner m e (in_tables owner among) there current
-
     size : length v.last ≡ length cells.now
     size = all.are.are.lasts.size ∙ sym all.whole.least_is.size ∙ length-map piece.least.items number ∙ ap length (sym same)
 
-    pub may-walk : (first : N) → first ≡ get_or firsts owner first → MayWalk number most (list_of_owner lists owner) least owner round (number first)
+    pub may-walk : (first : N) → first ≡ get_or firsts owner first
+        → let least : Grid N = record { cells = cells; size = record { nodes = nodes; keys = numbers.keys } } in
+        MayWalk number most (list_of_owner lists owner) least owner round (number first)
     may-walk first is = record {
       place = record { shape = subst (IsGrid nodes numbers.keys) size (grids-of number most numbers all.tables all.are).grid; within = among };
       walks = record {
@@ -71,18 +56,20 @@ module _ {N : Type 0} {number : N → ℕ} {most : ℕ} {numbers : RoundNumbers 
         few = all.are.few owner;
         born = all.are.may.written.born owner;
         in_order = all.are.may.written.in_order owner;
-        keyed = keyed;
+        keyed = λ m e there current. key_within _ _ all.are.may.together owner m e among there current;
         written = λ k in_k.
             let upto = least_below-le nodes (λ p. held p owner k) (last owner k) in
-            omega (arith, least_is owner k among in_k, (last_at owner k among in_k).written);
+            omega (arith, least_is owner k among in_k, (all.are.are.lasts.each owner k among in_k).written);
         start = λ m e there current le.
-            let in_keys = keyed m e there current in
+            let in_keys = key_within _ _ all.are.may.together owner m e among there current in
             elim (cases_lt (least_held owner e.key) (last owner e.key)) [
               | inl before ↦
                   let read = number-at number firsts owner first (omega (arith, length-map firsts number)) is in
                   omega (arith, (behind.each owner among).no_less e.key in_keys before)
               | inr not_before ↦ elim (cases_lt (last owner e.key) m) [
-                | inl over ↦ absurd ((last_at owner e.key among in_keys).last m e (record { written = there; current = current; keyed = refl; over = over }))
+                | inl over ↦
+                    absurd ((all.are.are.lasts.each owner e.key among in_keys).last m e
+                    (record { written = there; current = current; keyed = refl; over = over }))
                 | inr not_over ↦ omega arith
               ]
             ];
@@ -96,12 +83,9 @@ module _ {N : Type 0} {number : N → ℕ} {most : ℕ} {numbers : RoundNumbers 
   summed : (f : ℕ → ℕ → ℕ → ℕ) (test : List ℕ → ℕ → ℕ → Bool) (total : ℕ) → IsTotal v test 0 nodes total
       → ((p r k : ℕ) → p < nodes → r < nodes → k < numbers.keys → f p r k ≡ cond (test (numbers_at v.tables p) r k) 1 0)
       → total ≡ sum_below (length all.tables) (summed_at f)
-  summed f test total is each =
-      omega arith
-      ∙ sum_below-same nodes (λ p. total_of nodes numbers.keys (test (numbers_at v.tables p))) (summed_at f) (λ p in_p.
+  summed f test total is each = omega arith ∙ sum_below-same nodes (λ p. total_of nodes numbers.keys (test (numbers_at v.tables p))) (summed_at f) (λ p in_p.
       sum_below-same nodes _ _ (λ r in_r. sum_below-same numbers.keys _ _ (λ k in_k. sym (each p r k in_p in_r in_k)))
-      ∙ (λ i. sum_below (nodes_are i) (λ r. sum_below (keys_are p in_p i) (f p r))))
-      ∙ ap (λ m. sum_below m (summed_at f)) nodes_are
+      ∙ (λ i. sum_below (nodes_are i) (λ r. sum_below (keys_are p in_p i) (f p r)))) ∙ ap (λ m. sum_below m (summed_at f)) nodes_are
 
   behind : ℕ → ℕ → ℕ → ℕ
   behind r k p = rounds_behind (staleness_at round all.tables (lists_in lists) p r k)
@@ -113,9 +97,8 @@ module _ {N : Type 0} {number : N → ℕ} {most : ℕ} {numbers : RoundNumbers 
   longest r k in_r in_k =
       let list = list_of_owner lists r in
       let least = lag-least_below list (all.are.may.together.writes r) (all.are.may.written.in_order r) round k (λ p. held p r k) (last r k) nodes
-      (last_at r k in_r in_k) (λ p in_p. (number_at p r k in_p in_r in_k).written) in
-      let each = λ (p : ℕ) (in_p : p < nodes).
-      place_staleness _ _ all.are.may p r k (held p r k) (in_tables p in_p) (in_tables r in_r) (number_at p r k in_p in_r in_k) in
+      (all.are.are.lasts.each r k in_r in_k) (λ p in_p. ((all.are.are.cells_are p in_p).each r k in_r in_k).written) in
+      let each = λ (p : ℕ) (in_p : p < nodes). place_staleness _ _ all.are.may p r k _ in_p in_r ((all.are.are.cells_are p in_p).each r k in_r in_k) in
       ap (λ c. rounds_behind (number_staleness round list k c)) (least_is r k in_r in_k)
       ∙ sym least.1 ∙ most_below-same _ _ nodes (λ p in_p. sym (ap rounds_behind (each p in_p)))
 
@@ -124,13 +107,12 @@ module _ {N : Type 0} {number : N → ℕ} {most : ℕ} {numbers : RoundNumbers 
   unfolding figures_of behind
   figures-are greatest is =
       let stale_all = summed (λ p r k. stale_count (staleness_at round all.tables (lists_in lists) p r k)) (is_stale v) piece.stale all.whole.stale_is
-      (λ p r k in_p in_r in_k. place_stale _ _ all.are.may p r k (held p r k) (in_tables p in_p) (in_tables r in_r) (number_at p r k in_p in_r in_k)
-      (last r k) (last_at r k in_r in_k)) in
+      (λ p r k in_p in_r in_k. place_stale _ _ all.are.may p r k _ in_p in_r ((all.are.are.cells_are p in_p).each r k in_r in_k)
+      _ (all.are.are.lasts.each r k in_r in_k)) in
       let leftover_all = summed (leftover_at all.tables) (is_left v) piece.leftover all.whole.leftover_is
-      (λ p r k in_p in_r in_k. place_left _ _ all.are.may p r k (held p r k) (in_tables p in_p) (in_tables r in_r) (number_at p r k in_p in_r in_k)
+      (λ p r k in_p in_r in_k. place_left _ _ all.are.may p r k (held p r k) in_p in_r ((all.are.are.cells_are p in_p).each r k in_r in_k)
       ∙ (λ i. cond (nat_lt 0 (held p r k) && nat_le (held p r k) (sym (all.are.are.based.each r in_r) i)) 1 0)) in
-      let greatest_all : greatest ≡ (figures_of round all.tables (lists_in lists)).greatest =
-      is
+      let greatest_all : greatest ≡ (figures_of round all.tables (lists_in lists)).greatest = is
       ∙ most_below-same _ (λ r. most_below (table_of_node all.tables 0).keys (λ k. most_below nodes (behind r k))) nodes (λ r in_r.
       most_below-same _ _ numbers.keys (λ k in_k. longest r k in_r in_k)
       ∙ ap (λ m. most_below m (λ k. most_below nodes (behind r k))) (keys_are 0 (omega arith)))

@@ -173,8 +173,7 @@ pub record AreAllCounted {N : Type 0} (number : N → ℕ) (most : ℕ) (numbers
 abbrev pub AreFigures : {N : Type 0} → (N → ℕ) → ℕ → RoundNumbers N → Result Figures Fault → Type 0
 AreFigures number most numbers result =
     IfOk result (λ f. (tables : List Table) → AreRoundNumbers number most numbers tables
-    → f ≡ figures_of numbers.ends.rounds tables (lists_in numbers.lists.now))
-    × IsOkUnless result OutOfMemory
+    → f ≡ figures_of numbers.ends.rounds tables (lists_in numbers.lists.now)) × IsOkUnless result OutOfMemory
 
 -- an owner's list, from a number on, beside the least number that is held of each key
 pub record WalksFrom (list : OwnerListView) (keys round most first : ℕ) (least : ℕ → ℕ) : Type 0 where

@@ -1,37 +1,21 @@
 -- What loops over one plane make of it, and what they ask. Source: this project.
 use Rattle.std.specs.Prelude.{◌≡◌, ℕ, ◌+◌, ◌*◌, ◌<◌, ◌≤◌, nat_lt, Bool, List, length, map, max, slice_index}
-use Rattle.bench_types.specs.declared.limits.TheConstants.{MOST_KEYS, MOST_NODES}
 use Rattle.planes.specs.Elementwise.{AreChanged, AreChangedUpto}
-use Rattle.planes.specs.Grids.{cells_in}
-use Rattle.planes.specs.Loops.{count_passing, AreCountedUpto, IsPart}
-use Rattle.planes.specs.Planes.{number_raised, number_taken}
+use Rattle.planes.specs.Loops.{count_passing, AreCountedUpto}
+use Rattle.planes.specs.Planes.{number_raised}
+use Rattle.grids.specs.Grids.{taken_by}
 use Rattle.grids.specs.declared.grids.Sent.{Sent}
 use Rattle.grids.specs.declared.merges.BothCounts.{BothCounts}
 use Rattle.grids.specs.declared.merges.BothMarks.{BothMarks}
-
--- each number may be changed by a call, and counted
-pub record MayCount {N : Type 0} (may : ℕ → N → Type 0) (numbers : List N) : Type 0 where
-  pub room : length numbers ≤ MOST_NODES * MOST_KEYS
-  pub to : (r : ℕ) (n : N) → r < length numbers → may r n
-
-pub record MayCountPart {N : Type 0} (most : ℕ) (may : ℕ → N → Type 0) (numbers : List N) (from size : ℕ) : Type 0 where
-  pub part : IsPart most (length numbers) from size
-  pub to : (r : ℕ) (n : N) → r < length numbers → may r n
 
 -- what a call makes of a number, and its answers to two questions
 abbrev pub Made : Type 0 → Type 0
 Made N = N × Bool × Bool
 
--- each call makes what a function of place and number does
-abbrev pub MakesAs : {N : Type 0} → (N → ℕ) → (ℕ → N → Made N → Type 0) → ℕ → (ℕ → ℕ → ℕ) → Type 0
-MakesAs {N} number makes bound made =
-    (r : ℕ) (n : N) (all : Made N) → r < bound → makes r n all → number all.0 ≡ made r (number n)
-
--- each call answers one of the questions as a test of place and number does
-abbrev pub AnswersBy : {N : Type 0} → (N → ℕ) → (Made N → Bool) → (ℕ → N → Made N → Type 0) → ℕ → (ℕ → ℕ → Bool)
-    → Type 0
-AnswersBy {N} number answer makes bound test =
-    (r : ℕ) (n : N) (all : Made N) → r < bound → makes r n all → answer all ≡ test r (number n)
+-- each call answers, or makes of its number, what a function of place and number does
+abbrev pub AnswersBy : {N B : Type 0} → (N → ℕ) → (Made N → B) → (ℕ → N → Made N → Type 0) → ℕ → (ℕ → ℕ → B) → Type 0
+AnswersBy {N} number answer makes bound by =
+    (r : ℕ) (n : N) (all : Made N) → r < bound → makes r n all → answer all ≡ by r (number n)
 
 -- of so many numbers from one on so many pass the test of a question, where the whole's numbers before were counted
 abbrev pub IsCounted : {N : Type 0} → (N → ℕ) → (Made N → Bool) → (ℕ → N → Made N → Type 0) → List N → ℕ → ℕ → ℕ
@@ -51,9 +35,8 @@ AreRaisedUpto others low old new bound count =
 -- so many numbers from one on are changed and counted as calls say, where those before it were
 pub record AreCounted {N : Type 0} (number : N → ℕ) (makes : ℕ → N → Made N → Type 0) (old new : List N)
     (from size : ℕ) (passed : ℕ × ℕ) : Type 0 where
-  pub first_upto : passed.0 ≤ size
-  pub second_upto : passed.1 ≤ size
-  pub numbers : (made : ℕ → ℕ → ℕ) → MakesAs number makes (length old) made
+  pub upto : (passed.0 ≤ size) × (passed.1 ≤ size)
+  pub numbers : (made : ℕ → ℕ → ℕ) → AnswersBy number (λ all. number all.0) makes (length old) made
       → (whole : List ℕ) → AreChangedUpto (λ r x y. y ≡ made r x) whole (map number old) from
       → AreChangedUpto (λ r x y. y ≡ made r x) whole (map number new) (from + size)
   pub rest : (r : ℕ) → from + size ≤ r → slice_index (map number new) r ≡ slice_index (map number old) r
@@ -67,12 +50,6 @@ pub record MayTakePlane {N : Type 0} (plane greatest : List N) (sent : Sent N) (
   pub greatest_count : length greatest ≡ sent.grid.size.nodes
   pub low_count : length sent.low.now ≡ sent.grid.size.nodes
   pub high_count : length sent.high.now ≡ sent.grid.size.nodes
-
--- an owner's number once it took what is sent of a key
-abbrev pub taken_by : {N : Type 0} → (N → ℕ) → Sent N → ℕ → ℕ → ℕ → ℕ
-taken_by number sent r k x =
-    number_taken x (cells_in number sent.grid r k) (slice_index (map number sent.low.now) r)
-    (slice_index (map number sent.high.now) r)
 
 -- the plane's numbers and the greatest ones once it took what is sent of its key
 pub record IsPlaneTaken {N : Type 0} (number : N → ℕ) (sent : Sent N) (key : ℕ)
@@ -90,6 +67,7 @@ pub record AreBothMarked {N : Type 0} (one other : List N) (marks : BothMarks N)
 -- each number of both planes is raised to the other's, where that is above its own mark, and so many come to each
 pub record ArePlanesMerged {N : Type 0} (number : N → ℕ) (marks : BothMarks N) (one other new_one new_other : List N)
     (came : BothCounts) : Type 0 where
+  pub upto : (came.first ≤ length one) × (came.second ≤ length one)
   pub first : AreRaisedUpto (map number other) (map number marks.first.now) (map number one) (map number new_one)
       (length one) came.first
   pub second : AreRaisedUpto (map number one) (map number marks.second.now) (map number other) (map number new_other)
@@ -98,8 +76,7 @@ pub record ArePlanesMerged {N : Type 0} (number : N → ℕ) (marks : BothMarks 
 -- so many numbers from one on, of which those before it were raised
 pub record ArePartMerged {N : Type 0} (number : N → ℕ) (marks : BothMarks N) (one other new_one new_other : List N)
     (from size : ℕ) (came : BothCounts) : Type 0 where
-  pub first_upto : came.first ≤ size
-  pub second_upto : came.second ≤ size
+  pub upto : (came.first ≤ size) × (came.second ≤ size)
   pub done : (whole rest : List ℕ) (to_first to_second : ℕ)
       → AreRaisedUpto rest (map number marks.first.now) whole (map number one) from to_first
       → AreRaisedUpto whole (map number marks.second.now) rest (map number other) from to_second

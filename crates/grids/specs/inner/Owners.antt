@@ -2,7 +2,7 @@
 use Rattle.std.specs.Prelude.{◌≡◌, ℕ, ◌≤◌, ◌==◌, List, map, if◌then◌else◌}
 use Rattle.planes.specs.Planes.{cell, count_above, number_raised, ArePlanesChanged, IsRaised}
 use Rattle.grids.specs.declared.grids.Sent.{Sent}
-use Rattle.grids.specs.inner.Loops.{taken_by}
+use Rattle.grids.specs.Grids.{taken_by}
 
 -- an owner's numbers once they were raised to those of another table that are above a mark, and so many are
 pub record HasRaisedOwner {N : Type 0} (number : N → ℕ) (nodes keys owner : ℕ) (others : List N) (low : N)

@@ -1,5 +1,5 @@
-use Rattle.grids.proofs.Common.{◌≡◌, ℕ, ◌+◌, ◌<◌, ap, ◌∙◌, arith, length, length-map, if◌then◌else◌, map, map-set, get_or-set_other, number-at, number-waits, written_next, count_next, one_le}
-use Rattle.grids.proofs.Counted.{changed-same, counted_none}
+use Rattle.grids.proofs.Common.{◌≡◌, ℕ, ◌+◌, ◌<◌, ap, ◌∙◌, arith, length, length-map, if◌then◌else◌, map, map-set, get_or-set_other, subst, AreChangedUpto, number-at, number-waits, written_next, count_next, one_le}
+use Rattle.grids.proofs.Counted.{counted_none}
 use Rattle.grids.proofs.counts.change_some_counting.Goals as goal
 
 pub loop-i-init : goal.loop-i-init
@@ -15,13 +15,12 @@ loop-i-preserved g c =
     let all = c.to-number.result in
     let waits = number-at number c.loop-i.numbers at n (omega arith) c.index-numbers-r.is ∙ held.rest at (omega arith) in
     record {
-      first_upto = omega (arith, one_le all.1);
-      second_upto = omega (arith, one_le all.2);
+      upto = (omega (arith, one_le all.1), omega (arith, one_le all.2));
       numbers = λ made is old before.
           let part = held.numbers made is old before in
           let was = number-waits _ old number c.loop-i.numbers at n part (omega arith) c.index-numbers-r.is in
-          changed-same _ old _ _ _ (written_next _ old number c.loop-i.numbers at all.0 part (omega (arith, part.size, length-map c.loop-i.numbers number))
-          (is at n all within c.to-number.ensures ∙ ap (made at) was)) (omega arith);
+          subst (AreChangedUpto _ old _) (omega arith) (written_next _ old number c.loop-i.numbers at all.0 part
+          (omega (arith, part.size, length-map c.loop-i.numbers number)) (is at n all within c.to-number.ensures ∙ ap (made at) was));
       rest = λ r le.
           rw (map-set number c.loop-i.numbers at all.0)
           (get_or-set_other (map number c.loop-i.numbers) at r (number all.0) 0 (λ e. omega arith) ∙ held.rest r (omega arith));

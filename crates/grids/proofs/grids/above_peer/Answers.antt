@@ -14,8 +14,7 @@ returns-clause-above g c =
     let masked = c.change_counting-count in
     let as_many : length old ≡ length c.args.grid.cells.now =
     ap length c.deref_mut.ensures.value ∙ sym (length-map c.in_ok-numbers.numbers.items number) ∙ c.in_ok-numbers.ensures.zeros.size in
-    let all =
-    places-counted _ _ size.nodes size.keys _ _ _ masked.result.0 (subst (IsGrid size.nodes size.keys) (sym as_many) c.requires.grid)
+    let all = places-counted _ _ size.nodes size.keys _ _ _ masked.result.0 (subst (IsGrid size.nodes size.keys) (sym as_many) c.requires.grid)
     (counted-as number _ _ _ _ _ masked.ensures (λ r x. number_kept (peer r) (cells r)) (λ r _. nat_lt (peer r) (cells r))
     (λ r n all lt called. search (rules, at_cells r, at_peer r)) (λ r n all lt called. search (rules, at_cells r, at_peer r))) in
     record {
@@ -24,7 +23,6 @@ returns-clause-above g c =
         each = all.0.each;
       });
       count = all.1;
-      held =
-          answered-all number _ (λ all. all.2) old _ _ masked.ensures.second (λ r _. nat_lt 0 (cells r)) (λ r n all lt called. search (rules, at_cells r))
+      held = answered-all number _ (λ all. all.2) old _ _ masked.ensures.second (λ r _. nat_lt 0 (cells r)) (λ r n all lt called. search (rules, at_cells r))
           ∙ ap (λ n. count_passing n (λ r. nat_lt 0 (cells r))) as_many;
     }

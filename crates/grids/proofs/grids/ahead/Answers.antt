@@ -10,8 +10,7 @@ returns-then-has_none_upto-clause-ahead g c =
     let above = c.in_ok-above.ensures.above in
     let within : c.args.peer.own < length low = omega (arith, c.requires.among, c.requires.marks.count) in
     let mark = sym (get_or-map number low c.args.peer.own c.index-peer-own.result 0 within) in
-    let all =
-    masked-once nodes c.args.grid.size.keys c.args.peer.own _ (cell (map number c.args.grid.cells.now) nodes)
+    let all = masked-once nodes c.args.grid.size.keys c.args.peer.own _ (cell (map number c.args.grid.cells.now) nodes)
     (cell (map number c.args.peer.cells.now) nodes) (map number low) (map number c.in_ok-above.above.numbers.items) c.in_ok-above.above.count
     (length-map low number ∙ c.requires.marks.count) (c.has_no_other_mark.ensures.0 c.if-has_no_other_mark.true) mark
     (rw c.deref.ensures.value at (c.has_none_upto.ensures.0 c.if-has_none_upto.true)) above.numbers above.count in

@@ -1,4 +1,4 @@
-use Rattle.grids.proofs.Common.{ℕ, ◌+◌, ◌*◌, ◌-◌, ◌≤◌, drop, length-drop, length-take-le, ap, ◌∙◌, arith, length, map, max, nat_lt, slice_index, length-map, with_items_is, cell, count_passing, number_ahead, plane_count, plane-within, sum_next, sym, total-places, total_whole}
+use Rattle.grids.proofs.Common.{ℕ, ◌+◌, ◌*◌, ◌-◌, ◌≤◌, drop, length-drop, length-take-le, ap, ◌∙◌, arith, length, map, max, nat_lt, slice_index, length-map, with_items_is, cell, count_passing, number_ahead, plane_count, rules, plane-fits, plane-within, sum_next, sym, total-places, total_whole}
 use Rattle.grids.proofs.Counted.{answered-all, counted-as, planes_counted-next, planes_counted-all, total-kept}
 use Rattle.grids.proofs.grids.ahead_of_both.Goals as goal
 
@@ -21,15 +21,12 @@ loop-key-preserved g c =
     let at_peer = c.plane_of-of_peer.ensures.each in
     record {
       upto = (omega arith, omega arith);
-      kept =
-          planes_counted-next _ _ nodes _ number c.loop-key.all counted.new.numbers key _ _ _ _ _ (omega arith) c.loop-key.invariant.kept room
+      kept = planes_counted-next _ _ nodes _ number c.loop-key.all counted.new.numbers key _ _ _ _ _ (omega arith) c.loop-key.invariant.kept room
           (counted-as number _ _ _ _ _ counted.ensures (λ r x. number_ahead (plane r) (of_peer r) (low r)) (λ r _. nat_lt (max (of_peer r) (low r)) (plane r))
           (λ r n all lt called. called.0) (λ r n all lt called. called.1.0))
           (λ r x y lt now. now ∙ (λ i. number_ahead (at_plane r lt i) (at_peer r lt i) (low r)))
           (λ r lt i. nat_lt (max (at_peer r lt i) (low r)) (at_plane r lt i));
-      held =
-          sum_next _ key _ _ c.loop-key.invariant.held
-          (plane_count nodes (λ r. nat_lt 0 (plane r)) _ _ _ (omega arith)
+      held = sum_next _ key _ _ c.loop-key.invariant.held (plane_count nodes (λ r. nat_lt 0 (plane r)) _ _ _ (omega arith)
           (answered-all number _ (λ all. all.2) _ _ _ counted.ensures.second (λ r _. nat_lt 0 (plane r)) (λ r n all lt called. called.1.1))
           (λ r lt i. nat_lt 0 (at_plane r lt i)));
     }
@@ -48,8 +45,23 @@ returns-clause-ahead g c =
     record {
       numbers = rw items (record { size = all.0.size ∙ size ∙ c.requires.peer.marks.shape.whole; each = all.0.each });
       count = rw items (total-kept nodes keys cells peer _ _ _ _ all.1 all.0);
-      held =
-          total_whole nodes keys c.loop-key.key _ _ c.loop-key.invariant.held c.loop-key-test.false c.loop-key.auto.key-end
-          ∙ sym (total-places nodes keys is_held)
-          ∙ ap (λ n. count_passing n is_held) (sym c.requires.peer.marks.shape.whole);
+      held = total_whole nodes keys c.loop-key.key _ _ c.loop-key.invariant.held c.loop-key-test.false c.loop-key.auto.key-end
+          ∙ sym (total-places nodes keys is_held) ∙ ap (λ n. count_passing n is_held) (sym c.requires.peer.marks.shape.whole);
     }
+
+pub overflow_mul-start : goal.overflow_mul-start
+overflow_mul-start g c = plane-fits _ _ _ c.loop-key.key c.requires.peer.marks.shape c.loop-key-test.true
+
+pub plane_of-plane-requires : goal.plane_of-plane-requires
+plane_of-plane-requires g c = record { within = plane-within _ _ _ c.loop-key.key c.requires.peer.marks.shape c.loop-key-test.true }
+
+pub plane_of-of_peer-requires : goal.plane_of-of_peer-requires
+plane_of-of_peer-requires g c = record { within = omega (arith, plane-within _ _ _ c.loop-key.key c.requires.peer.marks.shape c.loop-key-test.true) }
+
+pub slice_bounds-block-end : goal.slice_bounds-block-end
+slice_bounds-block-end g c =
+    let within = plane-within _ _ _ c.loop-key.key c.requires.peer.marks.shape c.loop-key-test.true in
+    let all = ap (λ xs. length (map g.N.Number.number xs)) c.deref_mut-all.ensures.value in
+    let room : c.loop-key.key * c.args.grid.size.nodes + c.args.grid.size.nodes ≤ length c.loop-key.all =
+    omega (arith, c.in_ok-numbers.ensures.zeros.size, length-map c.deref_mut-all.result.now g.N.Number.number) in
+    search rules

@@ -1,24 +1,16 @@
-use Rattle.grids.proofs.Common.{◌+◌, ◌*◌, ◌<◌, arith, rules, sym, map, length, ◌∙◌, ap, length-map, get_or-map, plane-within}
+use Rattle.grids.proofs.Common.{◌+◌, ◌*◌, arith, rules, sym, ◌∙◌, ap, length-map, get_or-map, plane-within}
 use Rattle.grids.specs.Grids.{number_kept}
 use Rattle.grids.proofs.ByOwner.{owner-next}
 use Rattle.grids.proofs.grids.drop_owner.Goals as goal
 
 pub offset_bounds-cells-key : goal.offset_bounds-cells-key
-offset_bounds-cells-key g c =
-    let plane = plane-within c.args.size.nodes c.args.size.keys (length c.args.cells.now) c.loop-key.key c.requires.grid c.loop-key-test.true in
-    let inside : c.loop-key.key * c.args.size.nodes + c.args.owner < length c.loop-key.cells =
-    omega arith in
-    search rules
+offset_bounds-cells-key g c = search (rules, plane-within _ _ _ c.loop-key.key c.requires.grid c.loop-key-test.true)
 
 pub loop-key-preserved : goal.loop-key-preserved
 loop-key-preserved g c =
     let number = g.N.Number.number in
     let place = c.loop-key.key * c.args.size.nodes + c.args.owner in
-    let within = plane-within c.args.size.nodes c.args.size.keys (length c.args.cells.now) c.loop-key.key c.requires.grid c.loop-key-test.true in
-    let was =
-    sym (get_or-map number c.loop-key.cells place c.index-cells-key.result 0 (omega arith))
-    ∙ c.loop-key.invariant.from place (omega arith) in
-    owner-next (λ r k x. number_kept c.args.mark x) c.args.owner c.args.size.nodes (map number c.args.cells.now) c.requires.among
-    number c.loop-key.cells c.loop-key.key c.pick.result
-    c.loop-key.invariant (omega (arith, length-map c.args.cells.now number))
+    let within = plane-within _ _ _ c.loop-key.key c.requires.grid c.loop-key-test.true in
+    let was = sym (get_or-map number c.loop-key.cells place c.index-cells-key.result 0 (omega arith)) ∙ c.loop-key.invariant.from place (omega arith) in
+    owner-next _ _ _ _ c.requires.among number _ c.loop-key.key c.pick.result c.loop-key.invariant (omega (arith, length-map c.args.cells.now number))
     (rw (c.pick.ensures, c.widen.ensures, c.zero.ensures) (ap (number_kept c.args.mark) was))

@@ -1,4 +1,4 @@
-use Rattle.grids.proofs.Common.{◌+◌, ◌*◌, ◌-◌, max, ◌≡◌, ◌∙◌, arith, taken_by, grid-within, block-cells, planes-written, planes-all, each-next, raised-next}
+use Rattle.grids.proofs.Common.{◌+◌, ◌*◌, ◌-◌, max, ◌≡◌, ◌∙◌, arith, taken_by, grid-within, plane-fits, plane-within, rules, block-cells, planes-written, planes-all, each-next, raised-next}
 use Rattle.grids.proofs.grids.take.Goals as goal
 
 pub loop-key-preserved : goal.loop-key-preserved
@@ -9,11 +9,9 @@ loop-key-preserved g c =
     let within = grid-within number nodes c.args.sent.grid.size.keys key c.args.cells.now c.requires.may.beside.shape c.loop-key-test.true in
     let block = block-cells _ nodes _ number c.loop-key.cells key (key * nodes + nodes - key * nodes) (omega arith) c.loop-key.invariant.cells within in
     record {
-      cells =
-          planes-written _ nodes _ number c.loop-key.cells c.take_plane.new.plane key _ _ (omega arith) c.loop-key.invariant.cells within
+      cells = planes-written _ nodes _ number c.loop-key.cells c.take_plane.new.plane key _ _ (omega arith) c.loop-key.invariant.cells within
           c.take_plane.ensures.plane (λ r x y lt is. is);
-      greatest =
-          each-next nodes _ _ _ _ _ c.loop-key.invariant.greatest c.take_plane.ensures.greatest
+      greatest = each-next nodes _ _ _ _ _ c.loop-key.invariant.greatest c.take_plane.ensures.greatest
           (λ r x y lt is now. raised-next _ key r _ x y is (now ∙ (λ i. max x (taken_by number c.args.sent r key (block r lt i)))));
     }
 
@@ -24,3 +22,9 @@ returns g c =
       cells = planes-all _ _ _ _ c.args.sent.grid.size.keys c.loop-key.key c.loop-key.invariant.cells c.loop-key-test.false;
       greatest = rw (← all) c.loop-key.invariant.greatest;
     }
+
+pub overflow_mul-start : goal.overflow_mul-start
+overflow_mul-start g c = plane-fits _ _ _ c.loop-key.key c.requires.may.beside.shape c.loop-key-test.true
+
+pub slice_bounds-block-end : goal.slice_bounds-block-end
+slice_bounds-block-end g c = search (rules, plane-within _ _ _ c.loop-key.key c.requires.may.beside.shape c.loop-key-test.true)

@@ -20,8 +20,7 @@ loop-r-preserved g c =
     let kept = c.max_with-kept.ensures ∙ (λ i. max (cell i) ((c.pick.ensures ∙ (λ j. if between j then again j else c.zero.ensures j)) i)) in
     record {
       plane = written_next _ _ number _ _ c.max_with-kept.result c.loop-r.invariant.plane (omega (arith, length-map c.args.plane.now number)) kept;
-      greatest =
-          written_next _ _ number _ _ c.max_with.result c.loop-r.invariant.greatest (omega (arith, length-map c.args.greatest.now number))
+      greatest = written_next _ _ number _ _ c.max_with.result c.loop-r.invariant.greatest (omega (arith, length-map c.args.greatest.now number))
           (c.max_with.ensures ∙ (λ i. max (most i) (kept i)));
     }
 
@@ -32,3 +31,9 @@ returns g c =
       plane = changed_all _ _ _ _ c.loop-r.invariant.plane (omega (arith, length-map c.args.plane.now number));
       greatest = changed_all _ _ _ _ c.loop-r.invariant.greatest (omega (arith, length-map c.args.greatest.now number));
     }
+
+pub bounds-numbers-r : goal.bounds-numbers-r
+bounds-numbers-r g c = omega (arith, length-map c.plane_of-numbers.result.now g.N.Number.number)
+
+pub bounds-numbers-r-in-loop-r : goal.bounds-numbers-r-in-loop-r
+bounds-numbers-r-in-loop-r g c = omega (arith, length-map c.plane_of-numbers.result.now g.N.Number.number)

@@ -8,8 +8,7 @@ invariant-loop-first g l =
     let other = map number l.initial.second in
     record {
       within : l.from ≤ length l.initial.first;
-      first_upto : l.to_first ≤ l.from;
-      second_upto : l.to_second ≤ l.from;
+      upto : (l.to_first ≤ l.from) × (l.to_second ≤ l.from);
       first : AreRaisedUpto other (map number l.marks.first.now) one (map number l.first) l.from l.to_first;
       second : AreRaisedUpto one (map number l.marks.second.now) other (map number l.second) l.from l.to_second;
     }

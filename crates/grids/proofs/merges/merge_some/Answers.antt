@@ -8,8 +8,7 @@ loop-i-preserved g c =
     let first_low = number-at number c.args.marks.first.now at c.index-first_low-r.result (omega arith) c.index-first_low-r.is in
     let second_low = number-at number c.args.marks.second.now at c.index-second_low-r.result (omega arith) c.index-second_low-r.is in
     record {
-      first_upto = omega (arith, one_le c.is_above-comes.result);
-      second_upto = omega (arith, one_le c.is_above-goes.result);
+      upto = (omega (arith, one_le c.is_above-comes.result), omega (arith, one_le c.is_above-goes.result));
       done = λ one other to_first to_second before_first before_second.
           let parts = c.loop-i.invariant.done one other to_first to_second before_first before_second in
           let first = number-waits _ one number c.loop-i.first at c.index-first-r.result parts.0.numbers (omega arith) c.index-first-r.is in
@@ -25,8 +24,7 @@ loop-i-preserved g c =
 
 pub returns : goal.returns
 returns g c = record {
-  first_upto = omega arith;
-  second_upto = omega arith;
+  upto = (omega arith, omega arith);
   done = λ one other to_first to_second before behind.
       let parts = c.loop-i.invariant.done one other to_first to_second before behind in (
         counted-same _ one _ _ _ _ _ _ parts.0 (omega arith) (omega arith),

@@ -5,8 +5,7 @@ abbrev pub invariant-loop-i : goal.invariant-loop-i
 invariant-loop-i g l =
     let number = g.N.Number.number in
     record {
-      first_upto : number l.to_first ≤ l.i;
-      second_upto : number l.to_second ≤ l.i;
+      upto : (number l.to_first ≤ l.i) × (number l.to_second ≤ l.i);
       done : (one other : List ℕ) (to_first to_second : ℕ)
           → AreRaisedUpto other (map number l.marks.first.now) one (map number l.initial.first) l.from to_first
           → AreRaisedUpto one (map number l.marks.second.now) other (map number l.initial.second) l.from to_second

@@ -7,8 +7,7 @@ loop-r-preserved g c =
     let first = number-at g.N.Number.number c.args.first.now c.loop-r.r c.index-first-r.result (omega arith) c.index-first-r.is in
     let second = number-at g.N.Number.number c.args.second.now c.loop-r.r c.index-second-r.result (omega arith) c.index-second-r.is in
     record {
-      first_few = omega arith;
-      second_few = omega arith;
+      few = (omega arith, omega arith);
       to_first = omega (arith, sum_next _ c.loop-r.r _ _ held.to_first (c.lead-few_to_first.ensures ∙ (λ i. min c.args.keys (second i - first i))));
       to_second = omega (arith, sum_next _ c.loop-r.r _ _ held.to_second (c.lead-few_to_second.ensures ∙ (λ i. min c.args.keys (first i - second i))));
     }
@@ -18,8 +17,7 @@ loop-from-preserved g c =
     let all : c.loop-r.r ≡ c.min-end.result = omega arith in
     record {
       within = omega arith;
-      first_upto = omega arith;
-      second_upto = omega arith;
+      upto = (omega arith, omega arith);
       to_first = rw (← all) (omega (arith, c.loop-r.invariant.to_first));
       to_second = rw (← all) (omega (arith, c.loop-r.invariant.to_second));
     }

@@ -17,20 +17,17 @@ loop-owner-preserved g c =
     let second_passes = come-passed _ _ _ _ _ owner _ _ _ second (c.requires.marked.first_covered owner lt) in
     elim c.if-is_above.branch [
       | then-is_above w ↦ rw (w.first-is, w.second-is, w.to_first-is, w.to_second-is) (record {
-        first_upto = omega arith;
-        second_upto = omega arith;
+        upto = (omega arith, omega arith);
         first = come-next _ _ _ _ _ number owner _ _ _ _ _ _ _ _ lt second first at_first w.raise_owner-to_first.ensures;
         second = second_passes (omega (arith, ltb-true _ _ (sym c.is_above.ensures ∙ w.if-is_above.true)));
       })
       | else-is_above+then-is_above-2 w ↦ rw (w.first-is, w.second-is, w.to_first-is, w.to_second-is) (record {
-        first_upto = omega arith;
-        second_upto = omega arith;
+        upto = (omega arith, omega arith);
         first = first_passes (omega (arith, ltb-false _ _ (sym c.is_above.ensures ∙ w.if-is_above.false)));
         second = come-next _ _ _ _ _ number owner _ _ _ _ _ _ _ _ lt first second at_second w.raise_owner-to_second.ensures;
       })
       | else-is_above+else-is_above-2 w ↦ rw (w.first-is, w.second-is, w.to_first-is, w.to_second-is) (record {
-        first_upto = omega arith;
-        second_upto = omega arith;
+        upto = (omega arith, omega arith);
         first = first_passes (omega (arith, ltb-false _ _ (sym c.is_above.ensures ∙ w.if-is_above.false)));
         second = second_passes (omega (arith, ltb-false _ _ (sym w.is_above-else-is_above.ensures ∙ w.if-is_above-2.false)));
       })

@@ -9,8 +9,7 @@ invariant-loop-owner g l =
     let one = map number l.initial.first in
     let other = map number l.initial.second in
     record {
-      first_upto : l.to_first ≤ l.owner * MOST_KEYS;
-      second_upto : l.to_second ≤ l.owner * MOST_KEYS;
+      upto : (l.to_first ≤ l.owner * MOST_KEYS) × (l.to_second ≤ l.owner * MOST_KEYS);
       first : HaveCome size.nodes size.keys other (slice_index (map number l.marks.first.now)) one (map number l.first) l.owner l.to_first;
       second : HaveCome size.nodes size.keys one (slice_index (map number l.marks.second.now)) other (map number l.second) l.owner l.to_second;
     }

@@ -1,13 +1,10 @@
-use Rattle.grids.proofs.Common.{number_taken, ◌≡◌, ℕ, ◌+◌, ◌*◌, ◌<◌, ◌&&◌, nat_lt, nat_le, slice_index, max, cond, sym, ap, ◌∙◌, arith, rules, map, length, length-map, get_or-map, cell, number-at, plane-within, planes-all, raised-next}
+use Rattle.grids.proofs.Common.{number_taken, ◌≡◌, ℕ, ◌+◌, ◌*◌, ◌&&◌, nat_lt, nat_le, slice_index, max, cond, sym, ap, ◌∙◌, arith, rules, map, length-map, get_or-map, cell, number-at, plane-within, planes-all, raised-next}
 use Rattle.grids.proofs.ByOwner.{owner-next, owner-stays}
 use Rattle.grids.proofs.owners.take_owner.Goals as goal
 use Rattle.grids.proofs.owners.take_owner.Goals.{then-is_between, else-is_between}
 
 pub offset_bounds-cells-key : goal.offset_bounds-cells-key
-offset_bounds-cells-key g c =
-    let inside : c.loop-key.key * c.args.sent.grid.size.nodes + c.args.owner < length c.loop-key.cells =
-    omega (arith, plane-within _ _ _ c.loop-key.key c.requires.beside.shape c.loop-key-test.true) in
-    search rules fits 10000
+offset_bounds-cells-key g c = search (rules, plane-within _ _ _ c.loop-key.key c.requires.beside.shape c.loop-key-test.true)
 
 pub loop-key-preserved : goal.loop-key-preserved
 loop-key-preserved g c =

@@ -1,5 +1,5 @@
-use Rattle.grids.proofs.Common.{ℕ, ◌≤◌, inl, refl, slice_index, sym, ◌∙◌, arith, map, ltb-false, length-map, cell, taken_by, number-at, number-waits, left_next, written_next}
-use Rattle.grids.proofs.ByOwner.{owner-waits, owners-all, owners-next, owners-stay, raised-same, taken-passed}
+use Rattle.grids.proofs.Common.{◌≡◌, ℕ, inl, refl, sym, ◌∙◌, arith, map, ltb-false, nat_tests, length-map, cell, taken_by, number-at, number-waits, left_next, written_next}
+use Rattle.grids.proofs.ByOwner.{owner-waits, owners-all, owners-next, owners-stay, raised-same}
 use Rattle.grids.proofs.owners.take_owners.Goals as goal
 use Rattle.grids.proofs.owners.take_owners.Goals.{then-is_above, else-is_above}
 
@@ -10,32 +10,24 @@ loop-owner-preserved g c =
     let lt = c.loop-owner-test.true in
     let held = c.loop-owner.invariant in
     let cells = cell (map number c.args.cells.now) c.args.sent.grid.size.nodes owner in
-    let sent = cell (map number c.args.sent.grid.cells.now) c.args.sent.grid.size.nodes owner in
     elim c.if-is_above.branch [
       | then-is_above w ↦
           let had = number-waits _ _ number c.loop-owner.greatest owner w.index-greatest-owner.result held.greatest (omega arith) w.index-greatest-owner.is in
           let waits = owner-waits _ _ _ _ owner _ held.cells in
           rw (w.cells-is, w.greatest-is) (record {
             cells = owners-next _ _ _ _ owner _ _ _ held.cells w.take_owner.ensures.cells (λ k x. refl);
-            greatest =
-                written_next _ _ number _ owner _ held.greatest (omega (arith, length-map c.args.greatest.now number))
-                (rw (← had)
+            greatest = written_next _ _ number _ owner _ held.greatest (omega (arith, length-map c.args.greatest.now number)) (rw (← had)
                 (raised-same _ _ _ owner _ _ (λ k in_keys i. taken_by number c.args.sent owner k (waits k lt in_keys i)) w.take_owner.ensures.greatest));
           })
       | else-is_above w ↦
           let low = number-at number c.args.sent.low.now owner c.index-low-owner.result (omega arith) c.index-low-owner.is in
           let high = number-at number c.args.sent.high.now owner c.index-high-owner.result (omega arith) c.index-high-owner.is in
-          let le : slice_index (map number c.args.sent.high.now) owner ≤ slice_index (map number c.args.sent.low.now) owner =
-          omega (arith, ltb-false _ _ (sym c.is_above.ensures ∙ w.if-is_above.false)) in
-          let none = (λ (k x : ℕ). taken-passed x (sent k) _ _ le) in
+          let upto = ltb-false _ _ (sym c.is_above.ensures ∙ w.if-is_above.false) in
+          let none : (k x : ℕ) → taken_by number c.args.sent owner k x ≡ x = λ k x. grind (arith, nat_tests) in
           rw (w.cells-is, w.greatest-is) (record {
             cells = owners-stay _ _ _ _ owner _ held.cells (λ k x in_keys. none k x);
-            greatest =
-                left_next _ _ _ owner held.greatest (record {
-                  rises = omega arith;
-                  upto = λ k in_keys. omega (arith, none k (cells k), c.requires.may.covered owner lt k in_keys);
-                  from = inl refl;
-                });
+            greatest = left_next _ _ _ owner held.greatest
+                (record { rises = omega arith; upto = λ k below. omega (arith, none k (cells k), c.requires.may.covered owner lt k below); from = inl refl });
           })
     ]
 

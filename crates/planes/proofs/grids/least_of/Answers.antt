@@ -1,5 +1,5 @@
 use Rattle.planes.proofs.Common.{◌≡◌, ℕ, ◌+◌, ◌*◌, ◌<◌, ◌∙◌, arith, rules, with_items_is}
-use Rattle.planes.proofs.Places.{plane-within, each-next}
+use Rattle.planes.proofs.Places.{plane-within, plane-fits, each-next}
 use Rattle.planes.proofs.Behind.{least-more}
 use Rattle.planes.proofs.grids.least_of.Goals as goal
 
@@ -17,3 +17,6 @@ pub returns-clause-least : goal.returns-clause-least
 returns-clause-least g c values is =
     let all : c.loop-key.key ≡ c.args.size.keys = omega arith in
     rw (with_items_is c.in_ok-least.least c.loop-key.all (c.loop-key.auto.all ∙ c.deref_mut-all.ensures.len), ← all) (c.loop-key.invariant values is)
+
+pub overflow_mul-start : goal.overflow_mul-start
+overflow_mul-start g c = plane-fits _ _ _ c.loop-key.key c.requires.grid c.loop-key-test.true

@@ -3,6 +3,5 @@ use Rattle.planes.proofs.Elementwise.{number-at}
 use Rattle.planes.proofs.grids.total_upto.Goals as goal
 
 pub returns : goal.returns
-returns g c =
-    c.total.ensures (λ r n. nat_lt 0 n && nat_le n (slice_index (map g.N.Number.number c.args.high.now) r))
+returns g c = c.total.ensures (λ r n. nat_lt 0 n && nat_le n (slice_index (map g.N.Number.number c.args.high.now) r))
     (λ r n passes lt answer. search (rules, number-at g.N.Number.number c.args.high.now r))

@@ -18,11 +18,11 @@ loop-owner-preserved g c =
     elim c.if-is_above.branch [
       | then-is_above w ↦ rw w.total-is (record {
         upto = omega (arith, w.owner_above-total.ensures.upto, marks.shape.few_keys);
-        total = owner_counted cells c.args.grid.size.keys low owner _ _ _ held.total w.owner_above-total.ensures.count at_low;
+        total = owner_counted cells c.args.grid.size.keys low owner _ held.total _ _ w.owner_above-total.ensures.count at_low;
       })
       | else-is_above w ↦ rw w.total-is (record {
         upto = omega arith;
-        total = owner_passed cells c.args.grid.size.keys low owner _ (slice_index (map number c.args.high.now) owner) held.total
-            (c.requires.marked.covered owner lt) (omega (arith, at_low, at_high, ltb-false _ _ (sym c.is_above.ensures ∙ w.if-is_above.false)));
+        total = owner_passed cells c.args.grid.size.keys low owner _ held.total _ (c.requires.marked.covered owner lt)
+            (omega (arith, at_low, at_high, ltb-false _ _ (sym c.is_above.ensures ∙ w.if-is_above.false)));
       })
     ]

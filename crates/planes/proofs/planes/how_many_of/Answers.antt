@@ -11,11 +11,9 @@ loop-i-preserved g c =
     record {
       upto = omega (arith, one_le c.passes.result);
       count = λ test is count before.
-          count_next _ at _ count _ _ (c.loop-i.invariant.count test is count before) (omega arith) c.plus-count.ensures
-          (ap (λ b. if b then 1 else 0)
+          count_next _ at _ count _ _ (c.loop-i.invariant.count test is count before) (omega arith) c.plus-count.ensures (ap (λ b. if b then 1 else 0)
           (is at c.index-plane-r.result c.passes.result within c.passes.ensures ∙ ap (test at) read));
     }
 
 pub returns-clause-count : goal.returns-clause-count
-returns-clause-count g c test is count before =
-    count_same _ _ _ _ _ (c.loop-i.invariant.count test is count before) (omega arith) (omega arith)
+returns-clause-count g c test is count before = count_same _ _ _ _ _ (c.loop-i.invariant.count test is count before) (omega arith) (omega arith)

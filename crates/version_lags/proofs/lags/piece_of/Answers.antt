@@ -12,8 +12,7 @@ count_behind-behind-requires g c =
     let read = table-read g.N.Number.number numbers c.requires.0 c.loop-at.at c.index-numbers-at.result (omega arith) in
     let last = length-map numbers.last.now g.N.Number.number in
     let least = length-map c.loop-at.piece.least.items g.N.Number.number in
-    let count : length numbers.last.now ≡ length c.deref_mut.result.now =
-    omega (arith, ap length c.deref_mut.ensures.value) in
+    let count : length numbers.last.now ≡ length c.deref_mut.result.now = omega (arith, ap length c.deref_mut.ensures.value) in
     record {
       beside = record {
         beside = record { shape = subst (IsGrid _ numbers.keys) (last ∙ count) c.requires.0.grid; count = omega arith };

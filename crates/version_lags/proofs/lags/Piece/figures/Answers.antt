@@ -6,13 +6,12 @@ use Rattle.version_lags.proofs.lags.Piece.figures.Goals as goal
 
 pub least_behind-requires : goal.least_behind-requires
 least_behind-requires g c =
-    let number = g.N.Number.number in
     let numbers = c.args.numbers.now in
-    let last = length-map numbers.last.now number in
-    let least = length-map c.args.self.now.least.items number in
+    let last = length-map numbers.last.now g.N.Number.number in
+    let least = length-map c.args.self.now.least.items g.N.Number.number in
     record {
       beside = record {
-        shape = subst (IsGrid _ numbers.keys) last (grids-of number _ numbers _ c.requires.are).grid;
+        shape = subst (IsGrid _ numbers.keys) last (grids-of _ _ numbers _ c.requires.are).grid;
         count = omega (arith, ap length c.deref.ensures.value, c.requires.whole.least_is.size, c.requires.are.are.lasts.size);
       };
     }
@@ -37,16 +36,16 @@ loop-owner-preserved-then-is_upto g c =
     let r = c.loop-owner.owner in
     let lt = c.loop-owner-test.true in
     let since = c.saturating_sub-since.result in
-    let walk = may-walk c.requires c.deref.result c.deref.ensures.value c.in_ok-firsts.firsts.items c.in_ok-firsts.ensures.least r lt in
+    let first = c.index-first.result.now in
+    let walk =
+    may-walk c.requires c.deref.result c.deref.ensures.value c.in_ok-firsts.firsts.items c.in_ok-firsts.ensures.least r lt first c.index-first.ensures in
     let row = c.row-row.result.now in
-    let ends = c.row-row.ensures in
     let read = number-at number row r c.index-row-owner.result (omega (arith, length-map row number)) c.index-row-owner.is in
-    let after = leb-true (number c.index-row-owner.result) (number c.index-first.result.now) (sym c.is_upto.ensures ∙ c.if-is_upto.true) in
-    let nodes = length numbers.lists.now in
-    let lag = λ (o : ℕ). most_lag numbers.keys numbers.ends.rounds (list_of_owner numbers.lists.now o) (cell (map number c.deref.result.now) nodes o) in
+    let after = leb-true (number c.index-row-owner.result) (number first) (sym c.is_upto.ensures ∙ c.if-is_upto.true) in
+    let lag = λ (o : ℕ). most_lag numbers.keys numbers.ends.rounds (list_of_owner numbers.lists.now o)
+    (cell (map number c.deref.result.now) (length numbers.lists.now) o) in
     let part = c.requires.are.ends.are_ends.parts r since lt (omega arith) in
-    let upto = lag-recent (walk c.index-first.result.now c.index-first.ensures).walks since _ c.loop-owner.greatest
-    part (omega (arith, ends.each r lt)) (omega arith) in
+    let upto = lag-recent walk.walks since _ c.loop-owner.greatest part (omega (arith, c.row-row.ensures.each r lt)) (omega arith) in
     most-next lag r c.loop-owner.greatest (lag r) c.loop-owner.greatest c.loop-owner.invariant (omega arith) refl
 
 pub returns : goal.returns

@@ -1,7 +1,7 @@
 -- The items of a table are those of its places, so a sum over them is one over all places; candidates by their numbers,
 -- and sums over these.
 -- Serves `DeltaMarks`, `SentSets` and `version_tables`.
-use Rattle.delta_plans.proofs.Common.{◌≡◌, ◌≢◌, ℕ, suc, ◌<◌, Bool, true, cond, eqb, List, [], ◌∷◌, get_or, Some, None, refl, sym, ap, ◌∙◌, subst, arith, nat_tests, filter, Contains, Contains-get_or, ◌&&◌, sum_by, is_eq, sum_by-cons, Item, Mode, candidates, Table, entry_at, items_of, IsProper, stands_at, items_at, items_at-none, items_at-apart, IsApart, entry_at-items_of, Contains-items_of, apart-items_of, tied-stands_at, sum_below, sum_below-same, number_here, number_there, sum_over, ltb, inl, inr, cases_lt, cases_eq, le-ltb, both_ways, same_Some, Entry, generation_held, IsInPlace, Contains-filter, Contains-kept, rank_among, owner_count, IsHistory, write_numbered, Cells, count_above, versions-rise, number-of_version, Offers, is_lacked, item_number, offered_sum, rank_above}
+use Rattle.delta_plans.proofs.Common.{◌≡◌, ◌≢◌, ℕ, suc, ◌<◌, Bool, true, cond, eqb, List, [], ◌∷◌, get_or, Some, None, refl, sym, ap, ◌∙◌, subst, arith, nat_tests, filter, Contains, Contains-get_or, ◌&&◌, sum_by, is_eq, sum_by-cons, Item, Mode, candidates, Table, entry_at, items_of, IsProper, stands_at, items_at, items_at-none, items_at-apart, IsApart, entry_at-items_of, Contains-items_of, apart-items_of, tied-stands_at, sum_below, sum_below-same, number_here, number_there, sum_over, ltb, inl, inr, cases_lt, le-ltb, both_ways, same_Some, Entry, generation_held, IsInPlace, Contains-filter, Contains-kept, rank_among, owner_count, IsHistory, write_numbered, Cells, count_above, versions-rise, number-of_version, Offers, is_lacked, item_number, offered_sum, rank_above}
 use Rattle.delta_plans.proofs.WeightLaws.{sum_below-changed, sum_below-none, sum_below-one, where_true}
 
 -- a sum over those that pass a test
@@ -159,12 +159,5 @@ module _ {mode : Mode} {from to : Table} {lists : ℕ → List Entry} {cells : C
     rank_among-is =
         offered-sum (λ d. where_true (eqb d.owner c.owner && ltb d.entry.version c.entry.version) 1)
         (λ owner key. where_true (eqb owner c.owner) (where_true (ltb (cells c.owner key) (item_number cells c)) 1))
-        (λ d in_d. elim (cases_eq d.owner c.owner) [
-          | inr other ↦ grind (arith, nat_tests)
-          | inl same ↦
-              let its = ap (λ o. cells o d.entry.key) same in
-              let rise = older d c in_d in_c same in
-              let fall = newer d c in_d in_c same in
-              grind (arith, nat_tests)
-        ])
+        (λ d in_d. grind (arith, nat_tests, λ (same : d.owner ≡ c.owner). ap (λ o. cells o d.entry.key) same, older d c in_d in_c, newer d c in_d in_c))
         ∙ of_owner (λ key. where_true (ltb (cells c.owner key) (item_number cells c)) 1)

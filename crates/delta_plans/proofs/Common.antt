@@ -30,8 +30,8 @@ pub use Rattle.delta_plans.specs.LevelMarks.{by_first, comes_first, item_number,
 pub use Rattle.delta_plans.specs.Offers.{number_here, number_there, sum_over, AreSent, IsKnown, IsKnownOf, Offers, is_lacked, offered_sum, told_by, told_number}
 pub use Rattle.delta_plans.specs.Marked.{AreMarked, IsLevelOf, KeepsLow}
 pub use Rattle.delta_plans.specs.OfferInMemory.{AreCounted, IsLeftOf, IsOffer, cells_in, count_in, high_in, low_in, marks, owner_count_in, weight_in, weights_in}
-pub use Rattle.delta_plans.specs.Plans.{AreFarther, AreMarksFrom, AreRunsFrom, HasLevels, IsLevel, IsNextLayer, IsNextMark, IsStep, count_on, weight_on}
-pub use Rattle.delta_plans.specs.RoundLevels.{AreFewAndEnough, AreRaised, AreRoundMarks, IsAsked, IsFound, IsLevelOfRounds, end_mark, mark_of_rounds}
+pub use Rattle.delta_plans.specs.Plans.{AreFarther, AreMarksFrom, AreRunsFrom, HaveLeft, IsLevel, IsLongestBelow, IsMarkFrom, IsLevelBy, IsNextLayer, IsNextMark, IsStep, count_on, weight_on}
+pub use Rattle.delta_plans.specs.RoundLevels.{AreFewAndEnough, AreRaised, AreRoundMarks, IsAsked, IsFound, mark_of_rounds}
 pub use Rattle.delta_plans.specs.SentSets.{DeltasHaveTheirSets, HasSet, IsKeptOut, IsSentSet, size_in}
-pub use Rattle.delta_plans.specs.Turns.{AreShared, StopAt, StopsBefore, ArePassing, AreSharedBy, AreTurns, HasReached, IsStopBetween, IsStopOf, IsStopSoFar, part_weight, parts_count, reached_after, weight_to}
+pub use Rattle.delta_plans.specs.Turns.{AreShared, StopAt, StopsBefore, AreSharedBy, AreTurns, HasReached, HaveTurns, IsStopBetween, IsStopOf, IsStopSoFar, part_weight, parts_count, reached_after, weight_to}
 pub use Rattle.delta_plans.specs.Weights.{count_all_between, number_shares, one_each, share_or_none, weight_between, weight_from, weight_of, weight_through}

@@ -1,6 +1,6 @@
 -- A delta by marks: whole levels, and of the next one what comes before the first candidate that doesn't fit.
 -- Serves `version_tables`.
-use Rattle.delta_plans.proofs.Common.{◌≡◌, ◌≢◌, ℕ, ◌+◌, ◌<◌, ◌≤◌, Bool, true, false, cond, not, List, length, inl, inr, refl, sym, ap, ◌∙◌, arith, nat_tests, nat_lt, ltb, ◌&&◌, Contains, sum_by, Ordering, Less, Equal, Greater, nat_cmp, ordering_then, is_lt, cases_eq, lt-ltb, and_parts, ltb-true, same_Some, nat_cmp-equal, Entry, Item, Budget, Mode, ScuttleBreadth, ScuttleDepth, PreciseOldest, PreciseNewest, amount_of, Table, candidates, rank_among, owner_count, DeltaView, delta_between, item_share, rotated, sending_order, rotated-injective, sending_order-total, order-levels, level_order, Cells, HasNoneAbove, sum_below-same, First, Oldest, Newest, HasSet, comes_first, item_number, KeepsLow, AreSent, first_sent, first_level, lets_through, level_number, round_of, AreLevelMarks, StopAt, share_or_none, number_shares, weight_between, weight_through, one_each, sum_below, size_in, IsInPlace, count_by-not, sum_by-ones}
+use Rattle.delta_plans.proofs.Common.{◌≡◌, ◌≢◌, ℕ, ◌+◌, ◌<◌, ◌≤◌, Bool, true, false, cond, not, List, length, inl, inr, refl, sym, ap, ◌∙◌, arith, nat_tests, nat_lt, ltb, ◌&&◌, Contains, sum_by, Ordering, nat_cmp, ordering_then, is_lt, cases_eq, and_parts, ltb-true, same_Some, Entry, Item, Budget, Mode, ScuttleBreadth, ScuttleDepth, PreciseOldest, PreciseNewest, amount_of, Table, candidates, rank_among, owner_count, DeltaView, delta_between, item_share, rotated, sending_order, rotated-injective, sending_order-total, order-levels, level_order, Cells, HasNoneAbove, sum_below-same, First, Oldest, Newest, HasSet, comes_first, item_number, KeepsLow, AreSent, first_sent, first_level, lets_through, level_number, round_of, AreLevelMarks, StopAt, share_or_none, number_shares, weight_between, weight_through, one_each, sum_below, size_in, IsInPlace, count_by-not, sum_by-ones}
 use Rattle.delta_plans.proofs.Candidates.{IsOffered, candidate-at, candidate-number, candidate-place, offered-sum, older, one_item, owner_count-is, rank_among-is}
 use Rattle.delta_plans.proofs.SentSets.{stops_sent, all_sent, set_sent}
 
@@ -30,33 +30,28 @@ order-by ScuttleDepth nodes rotation cs c d = refl
 order-by PreciseOldest nodes rotation cs c d = refl
 order-by PreciseNewest nodes rotation cs c d = refl
 
--- a second comparison decides where the first one ties
-then-lt : (a b : Ordering) → is_lt (ordering_then a b) ≡ cond (is_lt b) (is_lt (ordering_then a Less)) (is_lt a)
-then-lt Less b = elim (is_lt b) as (λ x. true ≡ cond x true true) [ true ↦ refl | false ↦ refl ]
-then-lt Equal b = elim (is_lt b) as (λ x. x ≡ cond x true false) [ true ↦ refl | false ↦ refl ]
-then-lt Greater b = elim (is_lt b) as (λ x. false ≡ cond x false false) [ true ↦ refl | false ↦ refl ]
-
--- the first one does where it doesn't tie
-turn-lt : (t u : ℕ) (o : Ordering) → t ≢ u → is_lt (ordering_then (nat_cmp t u) o) ≡ ltb t u
-turn-lt t u o apart = grind (arith, nat_tests)
-
--- marks of a level tell which others are before that of a candidate, and which no later
-level-tells : (way : First) (l m next : ℕ) (near far : Bool) → near ≡ comes_first way l next → far ≡ not (comes_first way next l)
-    → comes_first way m next ≡ false → not (comes_first way next m) ≡ true
-    → (near ≡ is_lt (age_cmp way l m)) × (far ≡ is_lt (ordering_then (age_cmp way l m) Less))
-level-tells Oldest l m next near far before upto outside inside = grind (arith, nat_tests)
-level-tells Newest l m next near far before upto outside inside = grind (arith, nat_tests)
-
+-- marks of a level, and one that stops in it, let a number through where it comes before the one at which that stops:
 -- an owner's versions rise with its numbers, so its candidates of one level stand as these do
-own-order : (first : First) (m n v w k l : ℕ) → (m < n → v < w) → (n < m → w < v) → (m ≡ n → (v ≡ w) × (k ≡ l))
-    → is_lt (ordering_then (age_cmp first v w) (nat_cmp k l)) ≡ comes_first first m n
-own-order Oldest m n v w k l rise fall same = grind (arith, nat_tests)
-own-order Newest m n v w k l rise fall same = grind (arith, nat_tests)
+same-lets : (way first : First) (l m next t u v w j k near far mark n stop : ℕ) → t ≡ u
+    → lets_through first near n ≡ comes_first way l next → lets_through first far n ≡ not (comes_first way next l)
+    → comes_first way m next ≡ false → not (comes_first way next m) ≡ true
+    → lets_through first mark n ≡ comes_first first n stop → lets_through first near stop ≡ false → lets_through first far stop ≡ true
+    → (n < stop → v < w) → (stop < n → w < v) → (n ≡ stop → (v ≡ w) × (j ≡ k))
+    → lets_through first mark n ≡ is_lt (ordering_then (age_cmp way l m) (ordering_then (nat_cmp t u) (ordering_then (age_cmp first v w) (nat_cmp j k))))
+same-lets Oldest Oldest l m next t u v w j k near far mark n stop same nears fars before upto own outside inside rise fall one = grind (arith, nat_tests)
+same-lets Newest Oldest l m next t u v w j k near far mark n stop same nears fars before upto own outside inside rise fall one = grind (arith, nat_tests)
+same-lets Oldest Newest l m next t u v w j k near far mark n stop same nears fars before upto own outside inside rise fall one = grind (arith, nat_tests)
+same-lets Newest Newest l m next t u v w j k near far mark n stop same nears fars before upto own outside inside rise fall one = grind (arith, nat_tests)
 
-own-lets : (first : First) (near far m n : ℕ) → lets_through first near n ≡ false → lets_through first far n ≡ true
-    → cond (comes_first first m n) (lets_through first far m) (lets_through first near m) ≡ comes_first first m n
-own-lets Oldest near far m n outside inside = grind (arith, nat_tests)
-own-lets Newest near far m n outside inside = grind (arith, nat_tests)
+-- and of another owner the turns tell it
+other-lets : (way first : First) (l m next t u near far mark n : ℕ) (behind : Ordering) → t ≢ u
+    → lets_through first near n ≡ comes_first way l next → lets_through first far n ≡ not (comes_first way next l)
+    → comes_first way m next ≡ false → not (comes_first way next m) ≡ true → mark ≡ cond (ltb t u) far near
+    → lets_through first mark n ≡ is_lt (ordering_then (age_cmp way l m) (ordering_then (nat_cmp t u) behind))
+other-lets Oldest Oldest l m next t u near far mark n behind other nears fars before upto is = grind (arith, nat_tests)
+other-lets Newest Oldest l m next t u near far mark n behind other nears fars before upto is = grind (arith, nat_tests)
+other-lets Oldest Newest l m next t u near far mark n behind other nears fars before upto is = grind (arith, nat_tests)
+other-lets Newest Newest l m next t u near far mark n behind other nears fars before upto is = grind (arith, nat_tests)
 
 module _ {mode : Mode} {from to : Table} {lists : ℕ → List Entry} {cells : Cells} {low : ℕ → ℕ} (given : IsOffered mode from to lists cells low)
     {rotation : ℕ} (in_nodes : rotation < from.nodes) where
@@ -101,13 +96,6 @@ module _ {mode : Mode} {from to : Table} {lists : ℕ → List Entry} {cells : C
     inside : lets mode cells far next ≡ true
     inside = ap (lets_through first (far stop.owner)) its_number ∙ stop.stops.inside
 
-    -- what compares behind the turns, and behind the levels
-    abbrev versions : Item → Ordering
-    versions c = ordering_then (age_cmp first c.entry.version entry.version) (nat_cmp c.entry.key entry.key)
-
-    abbrev behind : Item → Ordering
-    behind c = ordering_then (nat_cmp (turn c.owner) (turn stop.owner)) (versions c)
-
     module _ (c : Item) (in_c : Contains cs c) where
       place : IsInPlace from.nodes from.keys c.owner c.entry.key c.entry
       place = candidate-place given c in_c
@@ -121,34 +109,23 @@ module _ {mode : Mode} {from to : Table} {lists : ℕ → List Entry} {cells : C
             shape.far_is c.owner c.entry.key place.owner_below place.key_below above,
           )
 
-    -- a candidate comes before it where the far marks let it through, or the near ones if it is behind it in its level
-    order-tells : (c : Item) → Contains cs c → is_lt (order c next) ≡ cond (is_lt (behind c)) (lets mode cells far c) (lets mode cells near c)
-    order-tells c in_c =
-        let levels = level-tells way (level_key mode cs c) (level_key mode cs next) shape.next _ _ (level-lets c in_c).0 (level-lets c in_c).1
-        (sym (level-lets next in_next).0 ∙ outside) (sym (level-lets next in_next).1 ∙ inside) in
-        ap is_lt (order-levels mode from.nodes rotation cs c next in_nodes (place c in_c).owner_below stop.owner_below in_c in_next
-        ∙ order-by mode from.nodes rotation cs c next)
-        ∙ then-lt (age_cmp way (level_key mode cs c) (level_key mode cs next)) (behind c)
-        ∙ (λ i. cond (is_lt (behind c)) (sym levels.1 i) (sym levels.0 i))
-
     marks-stop : (c : Item) → Contains cs c → lets mode cells mark c ≡ is_lt (order c next)
-    marks-stop c in_c = elim (cases_eq c.owner stop.owner) [
-      | inl same ↦
-          let one = one_item given c next in_c in_next same in
-          let own = own-order first (item_number cells c) (item_number cells next) c.entry.version entry.version c.entry.key entry.key
-          (older given c next in_c in_next same) (older given next c in_next in_c (sym same))
-          (λ e. (ap (λ (i : Item). i.entry.version) (one e), ap (λ (i : Item). i.entry.key) (one e))) in
-          let tied = nat_cmp-equal (turn c.owner) (turn stop.owner) (ap turn same) in
-          let its = own-lets first (near c.owner) (far c.owner) (item_number cells c) (item_number cells next) (cc outside) (cc inside) in
-          cc (order-tells c in_c, its_number, stop.stops.own c.entry.key (place c in_c).key_below, own, tied, its)
-      | inr other ↦
-          let apart : turn c.owner ≢ turn stop.owner = λ e.
-          other (rotated-injective from.nodes rotation c.owner stop.owner in_nodes (place c in_c).owner_below stop.owner_below e) in
-          rw (order-tells c in_c, turn-lt (turn c.owner) (turn stop.owner) (versions c) apart, stop.others c.owner (place c in_c).owner_below other)
-          (elim (ltb (turn c.owner) (turn stop.owner)) as
-          (λ b. lets_through first (cond b (far c.owner) (near c.owner)) (item_number cells c) ≡ cond b (lets mode cells far c) (lets mode cells near c))
-          [ true ↦ refl | false ↦ refl ])
-    ]
+    marks-stop c in_c =
+        let below = (place c in_c).owner_below in
+        let before = sym (level-lets next in_next).0 ∙ outside in
+        let upto = sym (level-lets next in_next).1 ∙ inside in
+        let ordered = order-levels mode from.nodes rotation cs c next in_nodes below stop.owner_below in_c in_next ∙ order-by mode from.nodes rotation cs c next in
+        elim (cases_eq c.owner stop.owner) [
+          | inl same ↦
+              let one = one_item given c next in_c in_next same in
+              same-lets way first _ _ _ _ _ _ _ _ _ _ _ _ _ _ (ap turn same) (level-lets c in_c).0 (level-lets c in_c).1 before upto
+              (cc (its_number, stop.stops.own c.entry.key (place c in_c).key_below)) (cc outside) (cc inside)
+              (older given c next in_c in_next same) (older given next c in_next in_c (sym same))
+              (λ e. (ap (λ (i : Item). i.entry.version) (one e), ap (λ (i : Item). i.entry.key) (one e)))
+          | inr other ↦ other-lets way first _ _ _ _ _ _ _ _ _ _ (λ e. other (rotated-injective from.nodes rotation c.owner stop.owner in_nodes below stop.owner_below e))
+              (level-lets c in_c).0 (level-lets c in_c).1 before upto (stop.others c.owner below other)
+        ]
+        ∙ sym (ap is_lt ordered)
 
   -- sums over what marks let through are weights
   module _ {high : ℕ → ℕ} (covered : (owner : ℕ) → owner < from.nodes → HasNoneAbove cells from.keys owner (high owner)) (mark : ℕ → ℕ)
@@ -220,18 +197,20 @@ module _ {mode : Mode} {from to : Table} {lists : ℕ → List Entry} {cells : C
         are-sent sent is = record {
           held = λ owner key lt lt' holds. let found = candidate-at given owner key lt lt' (parts owner key lt lt' holds).0 in (found.0, found.1);
           members = λ owner key e held.
+              let item : Item = record { owner = owner; entry = e } in
               let place = given.proper.in_place owner key e held in
-              let same = ap (λ k. lets_through first (mark owner) (cells owner k)) place.keyed in (
+              let told = is owner key place.owner_below place.key_below in
+              let its : item_number cells item ≡ cells owner key = ap (cells owner) place.keyed in (
                 (λ holds.
                     let both = parts owner key place.owner_below place.key_below holds in
                     let found = candidate-at given owner key place.owner_below place.key_below both.0 in
                     let in_cs = rw (same_Some found.0 e (sym found.1 ∙ held)) at found.2 in
-                    (has.members (record { owner = owner; entry = e })).1 (in_cs, same ∙ both.1)),
+                    (has.members item).1 (in_cs, ap (lets_through first (mark owner)) its ∙ both.1)),
                 (λ in_items.
-                    let both = (has.members (record { owner = owner; entry = e })).0 in_items in
-                    let lt = (candidate-number given (record { owner = owner; entry = e }) both.0).0 in
-                    let above = lt-ltb (low owner) (cells owner key) (omega (arith, lt, ap (cells owner) place.keyed)) in
-                    rw (is owner key place.owner_below place.key_below, above, sym same ∙ both.1)),
+                    let both = (has.members item).0 in_items in
+                    let above = (candidate-number given item both.0).0 in
+                    let through = sym (ap (lets_through first (mark owner)) its) ∙ both.1 in
+                    grind (arith, nat_tests, told)),
               );
         }
           where

@@ -1,8 +1,8 @@
 -- Layers of an offer, gone over as long as they fit.
 -- Serves `breadth` and `one_more`.
-use Rattle.delta_plans.proofs.Common.{◌≡◌, ℕ, ◌+◌, ◌-◌, ◌*◌, ◌<◌, ◌≤◌, cond, leb, ltb, inl, inr, Some, Vec, Global, sym, ◌∙◌, arith, nat_tests, cases_lt, le-leb, lt-leb, lt-ltb, le-ltb, amount_of, Cells, count_between, IsNextAbove, IsLeastAbove, sum_below-same, NumbersDiffer, Oldest, Offer, Level, Step, cells_in, low_in, marks, weights_in, weight_in, count_in, IsLeftOf, IsOffer, IsNextLayer, IsNextMark, AreLevelMarks, rank_above}
+use Rattle.delta_plans.proofs.Common.{◌≡◌, ℕ, ◌+◌, ◌-◌, ◌*◌, ◌<◌, ◌≤◌, cond, leb, ltb, inl, inr, Some, List, arith, nat_tests, amount_of, Cells, count_between, IsNextAbove, IsLeastAbove, sum_below-same, NumbersDiffer, Oldest, Offer, Step, HaveLeft, cells_in, low_in, marks, weights_in, weight_in, count_in, IsLeftOf, IsOffer, IsNextLayer, IsNextMark, AreLevelMarks, rank_above}
 use Rattle.delta_plans.proofs.WeightLaws.{offer-beyond, offer-parts, part, parts_of, sum_below-each_none, weight_of-none, weight_of-one, weight_of-split}
-use Rattle.delta_plans.proofs.LevelSteps.{IsLevelSoFar, level-first, level-left, level-next}
+use Rattle.delta_plans.proofs.LevelSteps.{level-next, level-none}
 
 -- a mark that lets through an owner's first so many numbers above another, or all where there are no more
 pub record IsLayerMark (cells : Cells) (keys owner low layers mark : ℕ) : Type 0 where
@@ -20,12 +20,6 @@ module _ (cells : Cells) (keys owner : ℕ) where
       (omega (arith, next.is, next.above)) (omega (arith, next.is)) (λ k lt above upto.
       differ k next.key lt next.below (omega (arith, above)) (omega (arith, upto, next.no_less k lt above, next.is)))
 
-  -- a number between two marks is counted
-  some-between : (from to key : ℕ) → key < keys → from < cells owner key → cells owner key ≤ to → 0 < count from to
-  some-between from to key lt above upto =
-      let here = λ (none : count from to ≡ 0). sum_below-each_none keys (λ k. part (λ _. 1) from to (cells owner k)) none key lt in
-      grind (arith, nat_tests, here)
-
   -- the next number, or else the mark itself, which is counted where it is a number
   pub next-told : (most mark least y : ℕ) → ((key : ℕ) → key < keys → cells owner key < most) → NumbersDiffer cells keys owner
       → IsNextAbove most cells keys owner mark least → y ≡ cond (ltb least most) least mark
@@ -33,14 +27,11 @@ module _ (cells : Cells) (keys owner : ℕ) where
   next-told most mark least y below differ next settled = elim next [
     | inl none ↦
         let same : y ≡ mark = grind (arith, nat_tests, none.1) in
-        let nothing = weight_of-none (λ _. 1) cells keys owner mark y (omega (arith, same)) in
-        (inl (none.0, same), omega (arith, same), grind (arith, nat_tests))
+        (inl (none.0, same), omega (arith, same), grind (arith, nat_tests, weight_of-none (λ _. 1) cells keys owner mark y))
     | inr some ↦
-        let number : least < most = omega (arith, some.is, below some.key some.below) in
-        let same : y ≡ least = grind (arith, nat_tests) in
+        let same : y ≡ least = grind (arith, nat_tests, below some.key some.below, some.is) in
         let next_is = rw (← same) at some in
-        let one = one-next mark y differ next_is in
-        (inr next_is, omega (arith, same, some.above), grind (arith, nat_tests))
+        (inr next_is, omega (arith, next_is.above), grind (arith, nat_tests, one-next mark y differ next_is, next_is.above))
   ]
 
   module _ (low layers mark : ℕ) (is : IsLayerMark cells keys owner low layers mark) where
@@ -50,24 +41,19 @@ module _ (cells : Cells) (keys owner : ℕ) where
     layer-lets key lt above =
         let n = cells owner key in
         let rank : rank_above cells keys owner low n ≡ count low (n - 1) = sum_below-same keys _ _ (λ k lt'. grind (arith, nat_tests)) in
-        elim (cases_lt mark n) [
-          | inl over ↦
-              let split = weight_of-split (λ _. 1) cells keys owner low mark (n - 1) is.above (omega (arith, over)) in
-              lt-leb n mark over ∙ sym (le-ltb (rank_above cells keys owner low n) layers (omega (arith, rank, split, is.full key lt over)))
-          | inr upto ↦
-              let split = weight_of-split (λ _. 1) cells keys owner low (n - 1) mark (omega (arith, above)) (omega (arith, upto)) in
-              let some = some-between (n - 1) mark key lt (omega (arith, above)) (omega (arith, upto)) in
-              le-leb n mark (omega (arith, upto)) ∙ sym (lt-ltb (rank_above cells keys owner low n) layers (omega (arith, rank, split, some, is.count)))
-        ]
+        let below = λ (over : mark < n). weight_of-split (λ _. 1) cells keys owner low mark (n - 1) is.above (omega (arith, over)) in
+        let upto = λ (le : n ≤ mark). weight_of-split (λ _. 1) cells keys owner low (n - 1) mark (omega (arith, above)) (omega (arith, le)) in
+        let some = λ (none : count (n - 1) mark ≡ 0). sum_below-each_none keys (λ k. part (λ _. 1) (n - 1) mark (cells owner k)) none key lt in
+        grind (arith, nat_tests, rank, is.full key lt, is.count, below, upto, some)
 
     -- the next mark is one of a layer more
     layer-more : (next : ℕ) → NumbersDiffer cells keys owner → IsNextMark cells keys owner mark next → IsLayerMark cells keys owner low (layers + 1) next
     layer-more next differ step = elim step [
       | inl none ↦ rw none.1 (omega (arith, is, none.0))
       | inr some ↦
-          let split = weight_of-split (λ _. 1) cells keys owner low mark next is.above (omega (arith, some.above)) in
           let full = is.full some.key some.below (omega (arith, some.is, some.above)) in
-          omega (arith, is.above, some.above, split, one-next mark next differ some, full)
+          let split = weight_of-split (λ _. 1) cells keys owner low mark next is.above (omega (arith, some.above)) in
+          omega (arith, is.above, some, one-next mark next differ some, full, split)
     ]
 
 -- marks of so many layers
@@ -76,64 +62,51 @@ AreLayerMarks number offer layers mark =
     (r : ℕ) → r < offer.grid.size.nodes → IsLayerMark (cells_in number offer) offer.grid.size.keys r (low_in number offer r) layers (mark r)
 
 -- layers as far as they were gone over
-pub record HasLayers {N : Type 0} (number : N → ℕ) (offer : Offer N) (level : Level N) (more : ℕ) : Type 0 where
-  pub so_far : IsLevelSoFar number offer level more
+pub record HasLayers {N : Type 0} (number : N → ℕ) (offer : Offer N) (near : List N) (whole left : ℕ) : Type 0 where
+  pub so_far : HaveLeft Oldest number offer near whole left
   layers : ℕ
-  near_is : AreLayerMarks number offer layers (marks number level.near.items)
-  far_is : AreLayerMarks number offer (layers + 1) (marks number level.far.items)
+  near_is : AreLayerMarks number offer layers (marks number near)
 
 module _ {N : Type 0} {number : N → ℕ} {most : ℕ} {offer : Offer N} (is : IsOffer number most offer) where
   open parts_of number offer use {cells, low, high}
+  open offer.grid.size use {nodes, keys}
 
-  one-more : {layers : ℕ} {near far : ℕ → ℕ} → AreLayerMarks number offer layers near
-      → ((owner : ℕ) → owner < offer.grid.size.nodes → IsNextMark cells offer.grid.size.keys owner (near owner) (far owner))
-      → AreLayerMarks number offer (layers + 1) far
-  one-more {layers} {near} {far} before next owner lt =
-      layer-more cells offer.grid.size.keys owner (low owner) layers (near owner) (before owner lt) (far owner) (is.differ owner lt) (next owner lt)
+  -- none at first
+  pub layers-none : {near : List N} → near ≡ offer.low.now → HasLayers number offer near 0 (amount_of offer.budget)
+  layers-none {near} start =
+      let near_is : AreLayerMarks number offer 0 (marks number near) = rw start (λ owner lt.
+      let none = weight_of-none (λ _. 1) cells keys owner (low owner) (low owner) (omega arith) in omega (arith, none)) in
+      record { so_far = level-none is start; layers = 0; near_is = near_is }
 
-  -- the first layer
-  pub layers-first : {near : Vec N Global} {step : Step N} → near.items ≡ offer.low.now → IsNextLayer number offer (marks number near.items) step
-      → HasLayers number offer (record { near = near; far = step.marks; whole = 0; left = amount_of offer.budget }) step.more
-  layers-first {near} start layer =
-      let near_is : AreLayerMarks number offer 0 (marks number near.items) = rw start (λ owner lt.
-      let none = weight_of-none (λ _. 1) cells offer.grid.size.keys owner (low owner) (low owner) (omega arith) in omega (arith, none)) in
-      record { so_far = level-first is start layer; layers = 0; near_is = near_is; far_is = one-more near_is layer.next }
-
-  module _ {level : Level N} {more : ℕ} (has : HasLayers number offer level more) where
-    abbrev near : ℕ → ℕ
-    near = marks number level.near.items
-
+  module _ {near : List N} {whole left : ℕ} {next : Step N} (has : HasLayers number offer near whole left) (step : IsNextLayer number offer (marks number near) next) where
     abbrev far : ℕ → ℕ
-    far = marks number level.far.items
+    far = marks number next.marks.items
+
+    far_is : AreLayerMarks number offer (has.layers + 1) far
+    far_is r lt = layer-more cells keys r (low r) has.layers (marks number near r) (has.near_is r lt) (far r) (is.differ r lt) (step.next r lt)
 
     -- the level at which they end
-    pub level-of_layers : AreLevelMarks Oldest Oldest (λ owner number. rank_above cells offer.grid.size.keys owner (low owner) number)
-        cells offer.grid.size.nodes offer.grid.size.keys low near far
+    pub level-of_layers : AreLevelMarks Oldest Oldest (λ owner number. rank_above cells keys owner (low owner) number) cells nodes keys low (marks number near) far
     level-of_layers = record {
       next = has.layers;
-      near_is = λ r key lt in_keys over. layer-lets cells offer.grid.size.keys r (low r) has.layers (near r) (has.near_is r lt) key in_keys over;
+      near_is = λ r key lt in_keys over. layer-lets cells keys r (low r) has.layers (marks number near r) (has.near_is r lt) key in_keys over;
       far_is = λ r key lt in_keys over.
-          grind (arith, nat_tests, layer-lets cells offer.grid.size.keys r (low r) (has.layers + 1) (far r) (has.far_is r lt) key in_keys over);
+          grind (arith, nat_tests, layer-lets cells keys r (low r) (has.layers + 1) (far r) (far_is r lt) key in_keys over);
     }
 
-    module _ {left : ℕ} (fits : IsLeftOf level.left (weight_in number offer near far) (Some left)) where
+    module _ {rest : ℕ} (fits : IsLeftOf left (weight_in number offer (marks number near) far) (Some rest)) where
       -- where not all fits, a layer that does has something
-      pub layers-more : amount_of offer.budget < weight_in number offer low high → 0 < more
-      layers-more cut = grind (arith, level-left is has.so_far fits, all, has.so_far.added)
+      pub layers-more : amount_of offer.budget < weight_in number offer low high → 0 < next.more
+      layers-more cut = grind (arith, (level-next is has.so_far step fits).rest, all, step.more)
         where
           -- (a number beyond both would be of the next layer)
-          all : count_in number offer near far ≡ 0 → weight_in number offer low far ≡ weight_in number offer low high
+          all : count_in number offer (marks number near) far ≡ 0 → weight_in number offer low far ≡ weight_in number offer low high
           all none =
               let nothing = offer-beyond is (weights_in offer) far (λ owner lt key in_keys.
-              let farther = has.so_far.farther owner lt in
-              let split = weight_of-split (λ _. 1) cells offer.grid.size.keys owner (low owner) (near owner) (far owner) farther.0 farther.2 in
-              let empty = sum_below-each_none offer.grid.size.nodes _ none owner lt in
-              grind (arith, (has.near_is owner lt).count, (has.far_is owner lt).full key in_keys)) in
-              omega (arith, nothing, offer-parts is (weights_in offer) far (λ r lt. (has.so_far.farther r lt).1))
+              let split = weight_of-split (λ _. 1) cells keys owner (low owner) (marks number near owner) (far owner) (has.so_far.above owner lt) (step.rises owner lt) in
+              grind (arith, sum_below-each_none nodes _ none owner lt, (has.near_is owner lt).count, (far_is owner lt).full key in_keys)) in
+              omega (arith, nothing, offer-parts is (weights_in offer) far (λ r lt. (far_is r lt).above))
 
       -- one layer more
-      pub layers-next : {step : Step N} → IsNextLayer number offer far step
-          → HasLayers number offer (record { near = level.far; far = step.marks; whole = level.whole + more; left = left }) step.more
-      layers-next layer =
-          let far_is = one-more has.far_is layer.next in
-          record { so_far = level-next is has.so_far fits layer; layers = has.layers + 1; near_is = has.far_is; far_is = far_is }
+      pub layers-next : HasLayers number offer next.marks.items (whole + next.more) rest
+      layers-next = record { so_far = level-next is has.so_far step fits; layers = has.layers + 1; near_is = far_is }

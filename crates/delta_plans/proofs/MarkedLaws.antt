@@ -5,6 +5,7 @@ use Rattle.delta_plans.proofs.WeightLaws.{offer-parts, parts_of}
 
 module _ {N : Type 0} (number : N → ℕ) (most : ℕ) (offer : Offer N) (is : IsOffer number most offer) where
   open parts_of number offer use {cells, low, high}
+  open offer.grid.size use {nodes, keys}
 
   -- marks above the low ones let through no more than all
   above-tells : (first : First) (mark : ℕ → ℕ) → ((r : ℕ) → r < offer.grid.size.nodes → low r ≤ mark r)
@@ -16,14 +17,11 @@ module _ {N : Type 0} (number : N → ℕ) (most : ℕ) (offer : Offer N) (is : 
   abbrev whole_marks : First → List N
   whole_marks first = by_first first offer.high.now offer.low.now
 
-  abbrev whole : First → ℕ → ℕ
-  whole first = marks number (whole_marks first)
-
-  whole-tells : (first : First) → (length (whole_marks first) ≡ offer.grid.size.nodes) × KeepsLow first offer.grid.size.nodes low (whole first)
-      × ((weights : ℕ → ℕ → ℕ) → weight_through first weights (cells_in number offer) offer.grid.size.nodes offer.grid.size.keys low high (whole first)
-      ≡ weight_between weights (cells_in number offer) offer.grid.size.nodes offer.grid.size.keys low high)
-      × ((owner key : ℕ) → owner < offer.grid.size.nodes → key < offer.grid.size.keys → low owner < cells_in number offer owner key
-      → lets_through first (whole first owner) (cells_in number offer owner key) ≡ true)
+  whole-tells : (first : First) → (length (whole_marks first) ≡ nodes) × KeepsLow first nodes low (marks number (whole_marks first))
+      × ((weights : ℕ → ℕ → ℕ) → weight_through first weights cells nodes keys low high (marks number (whole_marks first))
+      ≡ weight_between weights cells nodes keys low high)
+      × ((owner key : ℕ) → owner < nodes → key < keys → low owner < cells owner key
+      → lets_through first (marks number (whole_marks first) owner) (cells owner key) ≡ true)
   whole-tells Oldest = search (arith, le-leb, is.high, is.covered)
   whole-tells Newest = search (arith, lt-ltb, is.low)
 

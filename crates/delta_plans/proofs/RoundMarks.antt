@@ -1,6 +1,6 @@
 -- What marks at the ends of rounds let through.
 -- Serves `Rounds::count`, `Rounds::level` and `version_tables`.
-use Rattle.delta_plans.proofs.Common.{◌≡◌, ℕ, ◌+◌, ◌-◌, ◌<◌, ◌≤◌, map, leb, List, Some, None, inl, inr, sym, ap, ◌∙◌, subst, arith, nat_tests, nat_lt, length-map, cases_lt, amount_of, all_writes, Cells, cell, total_of, HasNoneAbove, sum_below-same, numbered-some, write_numbered, First, Oldest, Newest, by_first, Level, Fit, Rounds, marks, weights_in, count_on, weight_on, AreFarther, end_mark, mark_of_rounds, AreFewAndEnough, AreRaised, AreRoundMarks, IsAsked, IsOffer, IsFound, IsLevelOfRounds, AreLevelMarks, round_of, IsOn, weight_through, count_all_between, one_each}
+use Rattle.delta_plans.proofs.Common.{◌≡◌, ℕ, ◌+◌, ◌-◌, ◌<◌, ◌≤◌, map, leb, List, Some, None, sym, ap, ◌∙◌, subst, arith, nat_tests, nat_lt, length-map, amount_of, all_writes, Cells, cell, total_of, HasNoneAbove, sum_below-same, numbered-some, write_numbered, First, Oldest, Newest, by_first, Level, Fit, Rounds, marks, weights_in, count_on, weight_on, AreFarther, max, mark_of_rounds, AreFewAndEnough, AreRaised, AreRoundMarks, IsAsked, IsFound, IsLevelBy, AreLevelMarks, round_of, weight_through, count_all_between, one_each}
 use Rattle.delta_plans.proofs.WeightLaws.{offer-beyond, offer-parts, parts_of, sum_below-none, weight_of-none}
 use Rattle.delta_plans.proofs.TurnSteps.{through-same}
 
@@ -15,9 +15,10 @@ module _ {N : Type 0} {number : N → ℕ} {most : ℕ} (rounds : Rounds N) (is 
   open rounds.offer.now.grid.size use {nodes, keys}
   open rounds.ends use {rounds as last}
   open parts_of number rounds.offer.now use {cells, low, high}
+  open is.too_large use {is_offer as offered}
 
   abbrev end : ℕ → ℕ → ℕ
-  end round owner = end_mark (map number rounds.ends.numbers.now) nodes low round owner
+  end round owner = max (low owner) (cell (map number rounds.ends.numbers.now) nodes owner round)
 
   -- the marks of so many rounds, from either end
   abbrev mark : First → ℕ → ℕ → ℕ
@@ -29,9 +30,6 @@ module _ {N : Type 0} {number : N → ℕ} {most : ℕ} (rounds : Rounds N) (is 
   -- the round in which a number was written
   abbrev born : ℕ → ℕ → ℕ
   born owner number = round_of (write_numbered (all_writes offer.lists.now owner) number)
-
-  offered : IsOffer number most offer
-  offered = is.too_large.is_offer
 
   -- how many are above marks, and up to them
   pub rounds-count : {mark : List N} → AreRaised number most rounds mark → {above : ℕ}
@@ -47,34 +45,24 @@ module _ {N : Type 0} {number : N → ℕ} {most : ℕ} (rounds : Rounds N) (is 
         → leb (cells owner key) (end round owner) ≡ leb (born owner (cells owner key)) round
     written-by round le over =
         let n = cells owner key in
-        let there = numbered-some (all_writes offer.lists.now owner) n (omega (arith, over)) (is.too_large.is_offer.written owner key in_nodes in_keys) in
+        let there = numbered-some (all_writes offer.lists.now owner) n (omega (arith, over)) (offered.written owner key in_nodes in_keys) in
         let parts = is.are_ends_of.are_ends.parts owner round in_nodes le in
         let its : born owner n ≡ there.0.born = ap round_of there.1 in
-        let stop = cell (map number rounds.ends.numbers.now) nodes owner round in
-        elim (cases_lt stop n) [
-          | inl above ↦ let later = parts.above n there.0 (omega (arith, over)) there.1 above in grind (arith, nat_tests)
-          | inr upto ↦ let by_then = parts.upto n there.0 (omega (arith, over)) there.1 (omega (arith, upto)) in grind (arith, nat_tests)
-        ]
+        grind (arith, nat_tests, its, parts.above n there.0 (omega (arith, over)) there.1, parts.upto n there.0 (omega (arith, over)) there.1)
 
     -- all were by the last one
     all-made : cells owner key ≤ end last owner
-    all-made = elim (cases_lt (low owner) (cells owner key)) [
-      | inl over ↦
-          let n = cells owner key in
-          let there = numbered-some (all_writes offer.lists.now owner) n (omega (arith, over)) (is.too_large.is_offer.written owner key in_nodes in_keys) in
-          let made = (is.are_ends_of.made owner).last n there.0 there.1 in
-          let by_then = written-by last (omega arith) over in
-          grind (arith, nat_tests, ap round_of there.1)
-      | inr upto ↦ omega (arith, upto)
-    ]
-
-  none-made : (owner : ℕ) → owner < nodes → end 0 owner ≡ low owner
-  none-made owner in_nodes = omega (arith, is.are_ends_of.are_ends.none owner in_nodes)
+    all-made =
+        let n = cells owner key in
+        let there = λ (over : low owner < n). numbered-some (all_writes offer.lists.now owner) n (omega (arith, over)) (offered.written owner key in_nodes in_keys) in
+        let made = λ (over : low owner < n). (is.are_ends_of.made owner).last n (there over).0 (there over).1 in
+        let its = λ (over : low owner < n). ap round_of (there over).1 in
+        grind (arith, nat_tests, written-by last (omega arith), made, its)
 
   -- no round lets nothing through
   no_rounds : (first : First) (weights : ℕ → ℕ → ℕ) → through first weights (mark first 0) ≡ 0
   no_rounds Oldest weights = sum_below-none nodes _ (λ owner in_nodes.
-      weight_of-none (weights owner) cells keys owner (low owner) (end 0 owner) (omega (arith, none-made owner in_nodes)))
+      weight_of-none (weights owner) cells keys owner (low owner) (end 0 owner) (omega (arith, is.are_ends_of.are_ends.none owner in_nodes)))
   no_rounds Newest weights = offer-beyond offered weights (end (last - 0)) (λ owner in_nodes key in_keys.
       subst (λ round. cells owner key ≤ end round owner) {x = last} {y = last - 0} (omega arith) (all-made owner key in_nodes in_keys))
 
@@ -84,21 +72,19 @@ module _ {N : Type 0} {number : N → ℕ} {most : ℕ} (rounds : Rounds N) (is 
       let nothing = offer-beyond offered weights (end last) (λ owner in_nodes key in_keys. all-made owner key in_nodes in_keys) in
       omega (arith, nothing, offer-parts offered weights (end last) (λ owner in_nodes. omega arith))
   all_rounds Newest weights = through-same weights cells nodes keys low high low (mark Newest last) Newest
-      (λ owner in_nodes. ap (λ round. end round owner) {x = last - last} {y = 0} (omega arith) ∙ none-made owner in_nodes)
+      (λ owner in_nodes. ap (λ round. end round owner) {x = last - last} {y = 0} (omega arith) ∙ omega (arith, is.are_ends_of.are_ends.none owner in_nodes))
 
   -- the search begins with none, which fit, and all, which don't
   pub begun : {room : ℕ} → room ≡ amount_of offer.budget → AreFewAndEnough number rounds 0 last (record { count = 0; left = Some room })
-  begun all = record {
-    below =
-        let same = λ (none : last ≡ 0). ap (λ count. weight_on rounds.first number offer (mark rounds.first count)) none in
-        grind (arith, too_many, no_rounds rounds.first (weights_in offer), same);
-    bound = omega arith;
-    fits = search (arith, no_rounds rounds.first one_each, no_rounds rounds.first (weights_in offer));
-    beyond = too_many;
-  }
-    where
-      too_many : amount_of offer.budget < weight_on rounds.first number offer (mark rounds.first last)
-      too_many = omega (arith, is.too_large.beyond, all_rounds rounds.first (weights_in offer))
+  begun all =
+      let too_many : amount_of offer.budget < weight_on rounds.first number offer (mark rounds.first last) =
+      omega (arith, is.too_large.beyond, all_rounds rounds.first (weights_in offer)) in
+      let same = λ (none : last ≡ 0). ap (λ count. weight_on rounds.first number offer (mark rounds.first count)) none in record {
+        below = grind (arith, too_many, no_rounds rounds.first (weights_in offer), same);
+        bound = omega arith;
+        fits = search (arith, no_rounds rounds.first one_each, no_rounds rounds.first (weights_in offer));
+        beyond = too_many;
+      }
 
   module _ (count : ℕ) (items : List N) (are : AreRoundMarks number rounds count items) where
     -- such marks aren't below the low ones
@@ -127,31 +113,29 @@ module _ {N : Type 0} {number : N → ℕ} {most : ℕ} (rounds : Rounds N) (is 
   -- one round more lets through more
   farther : (first : First) (few enough owner : ℕ) → enough ≡ few + 1 → enough ≤ last → owner < nodes
       → AreFarther first (low owner) (mark first few owner) (mark first enough owner)
-  farther first few enough owner is_next le in_nodes = (omega arith, omega arith, on first)
-    where
-      rises : (round next : ℕ) → round < last → next ≡ round + 1 → end round owner ≤ end next owner
-      rises round next below is_next' = omega (arith, is.are_ends_of.are_ends.rise owner round in_nodes below, ap (λ r. end r owner) is_next')
-
-      on : (f : First) → IsOn f (mark f few owner) (mark f enough owner)
-      on Oldest = rises few enough (omega (arith, is_next, le)) is_next
-      on Newest = rises (last - enough) (last - few) (omega (arith, is_next, le)) (omega (arith, is_next, le))
+  farther Oldest few enough owner is_next le in_nodes =
+      omega (arith, is.are_ends_of.are_ends.rise owner few in_nodes (omega (arith, is_next, le)), ap (λ round. end round owner) is_next)
+  farther Newest few enough owner is_next le in_nodes =
+      let same = ap (λ round. end round owner) {x = last - few} {y = last - enough + 1} (omega (arith, is_next, le)) in
+      omega (arith, is.are_ends_of.are_ends.rise owner (last - enough) in_nodes (omega (arith, is_next, le)), same)
 
   -- the level that a few rounds and one more are
   pub rounds-level : {few enough : ℕ} {level : Level N} {fit : Fit} → AreFewAndEnough number rounds few enough fit → enough ≤ few + 1
       → level.whole ≡ fit.count → AreRoundMarks number rounds few level.near.items → AreRoundMarks number rounds enough level.far.items
       → weight_on rounds.first number offer (marks number level.near.items) + level.left ≡ amount_of offer.budget
-      → IsLevelOfRounds number rounds level
+      → IsLevelBy rounds.first rounds.first born number offer level
   rounds-level {few} {enough} {level} found last_one whole near far left = record {
     is_level = record {
-      has_levels = record {
-        near = (rounds-raised few level.near.items near).size;
-        far = (rounds-raised enough level.far.items far).size;
-        farther = λ owner in_nodes. rw (near.each owner in_nodes, far.each owner in_nodes)
-            (farther rounds.first few enough owner next found.bound in_nodes);
-        whole = whole ∙ (fitted few level.near.items near found).counted;
-        left = left;
+      so_far = record {
+        size = (rounds-raised _ _ near).size;
+        above = (rounds-raised _ _ near).above;
+        counted = whole ∙ (fitted _ _ near found).0;
+        rest = left;
       };
-      beyond = omega (arith, found.beyond, let_through enough level.far.items far (weights_in offer));
+      each_far = (rounds-raised _ _ far).size;
+      farther = λ owner in_nodes. rw (near.each owner in_nodes, far.each owner in_nodes)
+          (farther rounds.first few enough owner next found.bound in_nodes);
+      beyond = omega (arith, found.beyond, let_through _ _ far (weights_in offer));
     };
     shape = shape rounds.first near.each far.each;
   }

@@ -1,8 +1,8 @@
 -- Runs of an offer, gone over as long as they fit.
 -- Serves `depth` and `next_runs`.
-use Rattle.delta_plans.proofs.Common.{◌≡◌, ℕ, ◌+◌, ◌-◌, ◌*◌, ◌<◌, ◌≤◌, ◌&&◌, cond, leb, ltb, List, length, get_or, map, inl, inr, Some, ◌∙◌, arith, nat_tests, cases_eq, length-map, amount_of, Cells, count_above, count_between, HasNoneAbove, HasEach, count_le, sum_below-same, MOST_KEYS, Offer, Level, Oldest, Newest, owner_count_in, marks, weights_in, weight_in, IsLeftOf, IsOffer, AreMarksFrom, AreRunsFrom, AreLevelMarks, weight_of}
-use Rattle.delta_plans.proofs.WeightLaws.{offer-none, owner-most, parts_of, weight_of-none}
-use Rattle.delta_plans.proofs.LevelSteps.{IsLevelSoFar, level-left}
+use Rattle.delta_plans.proofs.Common.{◌≡◌, ℕ, ◌+◌, ◌*◌, ◌<◌, ◌≤◌, ◌&&◌, cond, leb, ltb, List, Some, map, inl, inr, ◌∙◌, arith, nat_tests, cases_eq, length-map, amount_of, Cells, count_above, count_between, HasNoneAbove, HasEach, count_le, sum_below-same, MOST_KEYS, Offer, Step, Oldest, Newest, owner_count_in, marks, weights_in, weight_in, HaveLeft, IsLeftOf, IsLongestBelow, IsMarkFrom, IsOffer, IsStep, AreMarksFrom, AreRunsFrom, AreLevelMarks, weight_of}
+use Rattle.delta_plans.proofs.WeightLaws.{owner-most, parts_of, weight_of-none}
+use Rattle.delta_plans.proofs.LevelSteps.{level-next, level-none}
 
 module _ (cells : Cells) (keys owner low high : ℕ) (covered : HasNoneAbove cells keys owner high) where
   abbrev above : ℕ
@@ -14,9 +14,9 @@ module _ (cells : Cells) (keys owner low high : ℕ) (covered : HasNoneAbove cel
 
   -- one owner's part of the next runs
   pub run-told : (size near next found : ℕ) → found ≡ above → 0 < size → near ≡ cond (leb (size + 1) above) high low
-      → next ≡ cond (ltb (size - 1) found) high near
+      → next ≡ cond (leb size found) high near
       → (next ≡ cond (leb size above) high low) × (near ≤ next)
-      × (cond (ltb (size - 1) found && leb found size) 1 0 * size ≡ count_between cells keys owner near next)
+      × (cond (leb size found && leb found size) 1 0 * size ≡ count_between cells keys owner near next)
   run-told size near next found counted some longer is = elim (cases_eq above size) [
     | inl same ↦
         let from : near ≡ low = grind (arith, nat_tests) in
@@ -30,71 +30,64 @@ module _ (cells : Cells) (keys owner low high : ℕ) (covered : HasNoneAbove cel
         grind (arith, nat_tests)
   ]
 
--- runs as far as they were gone over: the longer ones fit, and those of this size are next
-pub record HasRuns {N : Type 0} (number : N → ℕ) (most : ℕ) (offer : Offer N) (counts : List N) (level : Level N) (size more : ℕ) : Type 0 where
-  pub so_far : IsLevelSoFar number offer level more
-  pub from : AreRunsFrom number most offer counts level.near.items size
-  pub next : AreMarksFrom number offer size (marks number level.far.items)
+-- runs as far as they were gone over: those of a size and longer ones fit
+pub record HasRuns {N : Type 0} (number : N → ℕ) (offer : Offer N) (near : List N) (whole left size : ℕ) : Type 0 where
+  pub so_far : HaveLeft Oldest number offer near whole left
+  pub from : AreMarksFrom number offer size (marks number near)
+  pub some : 0 < size
+  pub few : size ≤ MOST_KEYS + 1
 
 module _ {N : Type 0} {number : N → ℕ} {most : ℕ} {offer : Offer N} (is : IsOffer number most offer) where
   open parts_of number offer use {cells, low, high}
-  open offer.grid.size use {keys}
+  open offer.grid.size use {nodes, keys}
 
-  module _ (beyond : amount_of offer.budget < weight_in number offer low high) where
-    -- where longer runs fit, and not all, those of a size are next, which is one at least
-    runs-from : {counts near : List N} {size : ℕ} → HasEach offer.grid.size.nodes (λ r n. n ≡ owner_count_in number offer r) (map number counts)
-        → length near ≡ offer.grid.size.nodes → size ≤ MOST_KEYS → AreMarksFrom number offer (size + 1) (marks number near)
-        → weight_in number offer low (marks number near) ≤ amount_of offer.budget → AreRunsFrom number most offer counts near size
-    runs-from {near = near} {size} known long short longer within =
-        record { is_offer = is; counts_are = known; each_near = long; some = some; few = short; longer = longer }
-      where
-        all : size ≡ 0 → (r : ℕ) → r < offer.grid.size.nodes → weight_of (weights_in offer r) cells keys r (low r) (marks number near r)
-            ≡ weight_of (weights_in offer r) cells keys r (low r) (high r)
-        all none r lt =
-            let here = longer r lt in
-            let nothing = weight_of-none (weights_in offer r) cells keys r (low r) (low r) (omega arith) in
-            let few = owner-most number offer keys r (low r) (high r) in
-            let counted = count-covered cells keys r (low r) (high r) (is.covered r lt) in
-            grind (arith, nat_tests)
+  -- none at first, as no owner has more numbers than there may be keys
+  pub runs-none : {near : List N} → near ≡ offer.low.now → HasRuns number offer near 0 (amount_of offer.budget) (MOST_KEYS + 1)
+  runs-none {near} start = record { so_far = level-none is start; from = rw start from; some = omega arith; few = omega arith }
+    where
+      from : AreMarksFrom number offer (MOST_KEYS + 1) low
+      from r lt = let few = count_le keys (λ key. ltb (low r) (cells r key)) in grind (arith, nat_tests, is.grid.few_keys)
 
-        some : 0 < size
-        some = grind (arith, λ (none : size ≡ 0). sum_below-same offer.grid.size.nodes _ _ (all none))
-
-    -- so the longest ones at first
-    pub runs-from_low : {counts near : List N} {size : ℕ} → HasEach offer.grid.size.nodes (λ r n. n ≡ owner_count_in number offer r) (map number counts)
-        → ((r : ℕ) → r < length counts → get_or (map number counts) r 0 ≤ size) → size ≤ MOST_KEYS → near ≡ offer.low.now
-        → AreRunsFrom number most offer counts near size
-    runs-from_low {counts} {size = size} known longest short start =
-        rw start (runs-from known is.low short none (omega (arith, offer-none number offer (weights_in offer) low)))
-      where
-        none : AreMarksFrom number offer (size + 1) low
-        none r lt =
-            let few = longest r (omega (arith, lt, known.size, length-map counts number)) in
-            let its = known.each r lt in
-            grind (arith, nat_tests)
-
-    -- and then those of one number less
-    pub runs-from_next : {counts : List N} {level : Level N} {size more left : ℕ} → HasRuns number most offer counts level size more
-        → IsLeftOf level.left (weight_in number offer (marks number level.near.items) (marks number level.far.items)) (Some left)
-        → AreRunsFrom number most offer counts level.far.items (size - 1)
-    runs-from_next {size = size} has fits =
-        let same : size - 1 + 1 ≡ size = omega (arith, has.from.some) in
-        let within = level-left is has.so_far fits in
-        runs-from has.from.counts_are has.so_far.far (omega (arith, has.from.few)) (rw same has.next) (omega (arith, within))
-
-  -- the level at which they end
-  pub level-of_runs : {counts : List N} {level : Level N} {size more : ℕ} → HasRuns number most offer counts level size more
-      → AreLevelMarks Oldest Newest (λ owner number'. count_above cells keys owner (low owner)) cells offer.grid.size.nodes keys low
-      (marks number level.near.items) (marks number level.far.items)
-  level-of_runs {size = size} has = record {
-    next = size;
-    near_is = λ r key lt in_keys over. let here = has.from.longer r lt in let upto = is.covered r lt key in_keys in grind (arith, nat_tests);
-    far_is = λ r key lt in_keys over. let here = has.next r lt in let upto = is.covered r lt key in_keys in grind (arith, nat_tests);
+  -- where not all fits, the longest of the others are next, which have one number at least
+  pub runs-from : {counts near : List N} {whole left bound size : ℕ} → amount_of offer.budget < weight_in number offer low high
+      → HasRuns number offer near whole left bound → HasEach nodes (λ r n. n ≡ owner_count_in number offer r) (map number counts)
+      → IsLongestBelow number counts bound size → AreRunsFrom number most offer counts near size
+  runs-from {counts} {near} {size = size} beyond has known next = record {
+    is_offer = is;
+    counts_are = known;
+    each_near = has.so_far.size;
+    some = grind (arith, has.so_far.rest, λ (none : size ≡ 0). sum_below-same nodes _ _ (all none));
+    few = omega (arith, next.below, has.few);
+    longer = longer;
   }
+    where
+      longer : AreMarksFrom number offer (size + 1) (marks number near)
+      longer r lt =
+          let upto = next.longest r (omega (arith, lt, known.size, length-map counts number)) in
+          grind (arith, nat_tests, next.below, has.from r lt, known.each r lt)
 
-  -- no owner has more than so many
-  pub counts-few : (found : List N) → HasEach offer.grid.size.nodes (λ r n. n ≡ owner_count_in number offer r) (map number found) → (r : ℕ) → r < length found
-      → get_or (map number found) r 0 ≤ MOST_KEYS
-  counts-few found known r lt =
-      let in_nodes : r < offer.grid.size.nodes = omega (arith, lt, length-map found number, known.size) in
-      omega (arith, known.each r in_nodes, is.grid.few_keys, count_le keys (λ key. ltb (low r) (cells r key)))
+      all : size ≡ 0 → (r : ℕ) → r < nodes → weight_of (weights_in offer r) cells keys r (low r) (marks number near r)
+          ≡ weight_of (weights_in offer r) cells keys r (low r) (high r)
+      all none r lt =
+          let here = longer r lt in
+          let nothing = weight_of-none (weights_in offer r) cells keys r (low r) (low r) (omega arith) in
+          let few = owner-most number offer keys r (low r) (high r) in
+          let counted = count-covered cells keys r (low r) (high r) (is.covered r lt) in
+          grind (arith, nat_tests)
+
+  module _ {counts near : List N} {size : ℕ} {next : Step N} (from : AreRunsFrom number most offer counts near size)
+      (step : IsStep number offer (marks number near) (IsMarkFrom number offer size) next) where
+    -- the level at which they end
+    pub level-of_runs : AreLevelMarks Oldest Newest (λ owner number'. count_above cells keys owner (low owner)) cells nodes keys low
+        (marks number near) (marks number next.marks.items)
+    level-of_runs = record {
+      next = size;
+      near_is = λ r key lt in_keys over. grind (arith, nat_tests, from.longer r lt, is.covered r lt key in_keys);
+      far_is = λ r key lt in_keys over. grind (arith, nat_tests, step.next r lt, is.covered r lt key in_keys);
+    }
+
+    -- those of one size more
+    pub runs-next : {whole left rest : ℕ} → HaveLeft Oldest number offer near whole left
+        → IsLeftOf left (weight_in number offer (marks number near) (marks number next.marks.items)) (Some rest)
+        → HasRuns number offer next.marks.items (whole + next.more) rest size
+    runs-next so_far fits = record { so_far = level-next is so_far step fits; from = step.next; some = from.some; few = omega (arith, from.few) }

@@ -130,11 +130,9 @@ set_sent mode rotation budget from to is_in proper in_nodes is = record {
     delta : DeltaView
     delta = delta_between mode rotation budget from to
 
-    is_apart : Item → Item → Type 0
-    is_apart i j = stands_at i.owner i.entry.key j ≡ false
-
     filtered_apart : IsApart (filter is_in cs)
-    filtered_apart = AllPairs-filter is_apart is_in cs (AllPairs-filter is_apart (is_lacked mode to) (items_of from) (table_apart from proper))
+    filtered_apart = let apart = λ (i j : Item). stands_at i.owner i.entry.key j ≡ false in
+        AllPairs-filter apart is_in cs (AllPairs-filter apart (is_lacked mode to) (items_of from) (table_apart from proper))
 
     same_items : IsPermutation delta.items (filter is_in cs)
     same_items = same_members delta.items (filter is_in cs)

@@ -1,14 +1,11 @@
 -- Where generations start in an owner's list.
 -- Serves `put_starts`, `told` and `version_tables`.
-use Rattle.delta_plans.proofs.Common.{◌≡◌, ℕ, ◌-◌, ◌<◌, ◌≤◌, min, List, length, get_or, set, inl, inr, refl, sym, ap, ◌∙◌, arith, nat_tests, cases_eq, get_or_default, get_or-append_right, get_or-set_same, get_or-set_other, length-set, length-append, Entry, DigestKind, OwnerListView, all_writes, entries_of, list_of_owner, no_writes, AreWrites, AreChanged, start_before, start_of, numbered-placed, numbered-some, told_by, told_number, IsKnown}
+use Rattle.delta_plans.proofs.Common.{◌≡◌, ℕ, ◌-◌, ◌<◌, ◌≤◌, min, List, length, get_or, set, refl, sym, ap, ◌∙◌, arith, nat_tests, get_or_default, get_or-append_right, get_or-set_same, get_or-set_other, length-set, length-append, Entry, DigestKind, OwnerListView, all_writes, entries_of, no_writes, AreWrites, AreChanged, start_before, start_of, numbered-placed, numbered-some, told_by, told_number, IsKnown}
 
 -- an owner's writes are those of its list
-pub list-here : (lists : List OwnerListView) (owner : ℕ) (x : OwnerListView) → owner < length lists → x ≡ get_or lists owner x → list_of_owner lists owner ≡ x
-list-here lists owner x lt is = get_or_default lists owner no_writes x lt ∙ sym is
-
 pub all_writes-here : (lists : List OwnerListView) (owner : ℕ) (x : OwnerListView) → owner < length lists → x ≡ get_or lists owner x
     → all_writes lists owner ≡ entries_of x
-all_writes-here lists owner x lt is = ap entries_of (list-here lists owner x lt is)
+all_writes-here lists owner x lt is = ap entries_of (get_or_default lists owner no_writes x lt ∙ sym is)
 
 -- a write of an owner's own generation has all those of earlier ones before it
 pub start_own : (v : OwnerListView) (number : ℕ) → AreWrites v → length v.earlier < number → number ≤ length (entries_of v)
@@ -36,10 +33,7 @@ pub told-set : (kind : DigestKind) (most node : ℕ) (lists : ℕ → List Entry
     → AreChanged (λ r x y. y ≡ told_number kind most node lists (λ _. x) r) old (set new node most)
 told-set kind most node lists old new is lt = record {
   size = length-set new node most ∙ is.size;
-  each = λ r below. elim (cases_eq r node) [
-    | inl own ↦
-        let here = ap (λ k. get_or (set new node most) k 0) own ∙ get_or-set_same new node most 0 (omega (arith, lt, is.size)) in
-        grind (arith, nat_tests)
-    | inr other ↦ let there = get_or-set_other new node r most 0 other ∙ is.each r below in grind (arith, nat_tests)
-  ];
+  each = λ r below.
+      let own = λ (e : r ≡ node). ap (λ k. get_or (set new node most) k 0) e ∙ get_or-set_same new node most 0 (omega (arith, lt, is.size)) in
+      grind (arith, nat_tests, own, is.each r below, get_or-set_other new node r most 0);
 }

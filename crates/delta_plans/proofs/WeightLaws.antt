@@ -73,10 +73,7 @@ weight_of-one weight cells keys owner low high key in_keys above upto one =
 pub weight_of-parts : (weight : ℕ → ℕ) (cells : Cells) (keys owner low mark high : ℕ) → low ≤ mark → (mark ≤ high) ⊎ HasNoneAbove cells keys owner high
     → weight_of weight cells keys owner low high ≡ weight_of weight cells keys owner low mark + weight_of weight cells keys owner mark high
 weight_of-parts weight cells keys owner low mark high below above =
-    sum_below-same keys _ (λ key. part weight low mark (cells owner key) + part weight mark high (cells owner key)) (λ key lt. elim above [
-      | inl le ↦ grind (arith, nat_tests)
-      | inr covered ↦ let upto = covered key lt in grind (arith, nat_tests)
-    ])
+    sum_below-same keys _ (λ key. part weight low mark (cells owner key) + part weight mark high (cells owner key)) (λ key lt. elim above [ inl le ↦ grind (arith, nat_tests) | inr covered ↦ grind (arith, nat_tests, covered key lt) ])
     ∙ sum_below-plus keys _ _
 
 pub weight_of-split : (weight : ℕ → ℕ) (cells : Cells) (keys owner low mark high : ℕ) → low ≤ mark → mark ≤ high
@@ -137,8 +134,8 @@ module _ {N : Type 0} (number : N → ℕ) (offer : Offer N) where
   pub offer-most : (low high : ℕ → ℕ) → weight_in number offer low high ≤ count_in number offer low high * MOST_ENTRY_SIZE
   offer-most low high = weight_between-most (weights_in offer) MOST_ENTRY_SIZE cells nodes keys low high most
 
-  pub owner-most : (keys owner low high : ℕ)
-      → weight_of (weights_in offer owner) cells keys owner low high ≤ count_between cells keys owner low high * MOST_ENTRY_SIZE
+  pub owner-most : (keys owner low high : ℕ) → weight_of (weights_in offer owner) cells keys owner low high
+      ≤ count_between cells keys owner low high * MOST_ENTRY_SIZE
   owner-most keys owner low high = weight_of-most (weights_in offer owner) MOST_ENTRY_SIZE cells keys owner low high (most owner)
 
 module _ {N : Type 0} {number : N → ℕ} {most : ℕ} {offer : Offer N} (is : IsOffer number most offer) where
@@ -158,22 +155,19 @@ module _ {N : Type 0} {number : N → ℕ} {most : ℕ} {offer : Offer N} (is : 
 
   pub offer-few : (low high : ℕ → ℕ) → count_in number offer low high ≤ MOST_NODES * MOST_KEYS
   offer-few low high =
-      let keys = offer.grid.size.keys in
-      let most = sum_below-most (λ owner. count_between (cells_in number offer) keys owner (low owner) (high owner)) offer.grid.size.nodes keys
-      (λ owner _. count_between-most (cells_in number offer) keys owner (low owner) (high owner)) in
-      omega (arith, most, mul-le-mul_right {m = offer.grid.size.nodes} {n = MOST_NODES} keys is.grid.few_nodes, is.grid.few_keys)
+      let most = sum_below-most _ nodes keys (λ owner _. count_between-most cells keys owner (low owner) (high owner)) in
+      omega (arith, most, mul-le-mul_right {m = nodes} {n = MOST_NODES} keys is.grid.few_nodes, is.grid.few_keys)
 
   -- where entries are counted, they take as much as they are
   module _ (n : ℕ) (counted : offer.budget ≡ Entries n) where
-    pub owner-entries : (owner : ℕ) → owner < offer.grid.size.nodes → (low high : ℕ)
-        → weight_of (weights_in offer owner) (cells_in number offer) offer.grid.size.keys owner low high
-        ≡ count_between (cells_in number offer) offer.grid.size.keys owner low high
-    owner-entries owner in_nodes low high = sum_below-same offer.grid.size.keys _ _ (λ key in_keys.
+    pub owner-entries : (owner : ℕ) → owner < nodes → (low high : ℕ)
+        → weight_of (weights_in offer owner) cells keys owner low high ≡ count_between cells keys owner low high
+    owner-entries owner in_nodes low high = sum_below-same keys _ _ (λ key in_keys.
         let writes = all_writes offer.lists.now owner in
-        let it = cells_in number offer owner key in
+        let it = cells owner key in
         let one = λ (some : 0 < it). ap (λ budget. share_or_none budget (write_numbered writes it)) counted
         ∙ ap (share_or_none (Entries n)) (numbered-some writes it some (is.written owner key in_nodes in_keys)).1 in
         grind (arith, nat_tests, one))
 
     pub offer-entries : (low high : ℕ → ℕ) → weight_in number offer low high ≡ count_in number offer low high
-    offer-entries low high = sum_below-same offer.grid.size.nodes _ _ (λ owner lt. owner-entries owner lt (low owner) (high owner))
+    offer-entries low high = sum_below-same nodes _ _ (λ owner lt. owner-entries owner lt (low owner) (high owner))

@@ -1,13 +1,9 @@
 -- What lies between two marks of each owner of an offer. Source: this project.
 use Rattle.std.specs.Prelude.{◌≡◌, ℕ, ◌+◌, Bool, true, false, List, slice_index_or}
-use Rattle.delta_plans.specs.Common.{Cells, count_between, sum_below}
-use Rattle.delta_plans.specs.OfferInMemory.{cells_in, marks, weights_in, weight_in, HasMarks}
+use Rattle.delta_plans.specs.Common.{count_between}
+use Rattle.delta_plans.specs.OfferInMemory.{cells_in, marks, weights_in}
 use Rattle.delta_plans.specs.Weights.{weight_of}
 use Rattle.delta_plans.specs.declared.between.Between.{Between}
-
--- two marks for each owner
-abbrev pub AreBetween : {N : Type 0} → (N → ℕ) → ℕ → Between N → Type 0
-AreBetween number most b = HasMarks number most b.offer.now b.low.now b.high.now
 
 -- what an owner's numbers between them take of the budget, and how many of so many keys these are
 abbrev pub owner_weight : {N : Type 0} → (N → ℕ) → Between N → ℕ → ℕ
@@ -18,13 +14,6 @@ owner_weight number b owner =
 abbrev pub owner_count : {N : Type 0} → (N → ℕ) → Between N → ℕ → ℕ → ℕ
 owner_count number b keys owner =
     count_between (cells_in number b.offer.now) keys owner (marks number b.low.now owner) (marks number b.high.now owner)
-
--- what those of all owners take, and of so many, from a first one on
-abbrev pub whole_weight : {N : Type 0} → (N → ℕ) → Between N → ℕ
-whole_weight number b = weight_in number b.offer.now (marks number b.low.now) (marks number b.high.now)
-
-abbrev pub some_weight : {N : Type 0} → (N → ℕ) → Between N → ℕ → ℕ → ℕ
-some_weight number b first size = sum_below size (λ i. owner_weight number b (first + i))
 
 -- of the owners from a first one on, those that aren't found have none among so many keys
 abbrev pub AreFound : {N : Type 0} → (N → ℕ) → Between N → ℕ → ℕ → List Bool → Type 0

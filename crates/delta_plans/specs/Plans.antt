@@ -1,8 +1,7 @@
 -- Levels of what is offered, as marks: near marks let through whole levels, and far marks one level more, which doesn't
 -- fit. Source: this project.
-use Rattle.std.specs.Prelude.{◌≡◌, ◌⊎◌, ℕ, ◌+◌, ◌*◌, ◌<◌, ◌≤◌, nat_le, nat_lt, List, Vec, length, map, if◌then◌else◌}
-use Rattle.delta_plans.specs.Common.{First, amount_of, Cells, HasEach, HasNoneAbove, IsLeastAbove, MOST_KEYS, Offer, Level, Step, sum_below}
-use Rattle.std.specs.declared.alloc.Global.{Global}
+use Rattle.std.specs.Prelude.{◌≡◌, ◌⊎◌, ℕ, ◌+◌, ◌<◌, ◌≤◌, nat_le, List, length, map, if◌then◌else◌}
+use Rattle.delta_plans.specs.Common.{First, amount_of, Cells, HasEach, HasNoneAbove, IsLeastAbove, MOST_KEYS, Offer, Level, Step}
 use Rattle.delta_plans.specs.OfferInMemory.{cells_in, low_in, high_in, owner_count_in, marks, weights_in, count_in, IsOffer}
 use Rattle.delta_plans.specs.LevelMarks.{AreLevelMarks, IsOn}
 use Rattle.delta_plans.specs.Weights.{weight_through, one_each}
@@ -40,26 +39,27 @@ count_on first number offer mark =
 abbrev pub AreFarther : First → ℕ → ℕ → ℕ → Type 0
 AreFarther first low near far = (low ≤ near) × (low ≤ far) × IsOn first near far
 
--- near marks, which let through so many and leave so much, and far marks
-pub record HasLevels {N : Type 0} (first : First) (number : N → ℕ) (offer : Offer N) (level : Level N) : Type 0 where
-  pub near : length level.near.items ≡ offer.grid.size.nodes
-  pub far : length level.far.items ≡ offer.grid.size.nodes
-  pub farther : (owner : ℕ) → owner < offer.grid.size.nodes
-      → AreFarther first (low_in number offer owner) (marks number level.near.items owner)
-      (marks number level.far.items owner)
-  pub whole : level.whole ≡ count_on first number offer (marks number level.near.items)
-  pub left : weight_on first number offer (marks number level.near.items) + level.left ≡ amount_of offer.budget
+-- marks for each owner, none below the low one, that let so many numbers through and leave so much
+pub record HaveLeft {N : Type 0} (first : First) (number : N → ℕ) (offer : Offer N) (mark : List N)
+    (count left : ℕ) : Type 0 where
+  pub size : length mark ≡ offer.grid.size.nodes
+  pub above : (owner : ℕ) → owner < offer.grid.size.nodes → low_in number offer owner ≤ marks number mark owner
+  pub counted : count ≡ count_on first number offer (marks number mark)
+  pub rest : weight_on first number offer (marks number mark) + left ≡ amount_of offer.budget
 
--- these are the first that let through more than fits
-pub record IsLevel {N : Type 0} (first : First) (number : N → ℕ) (offer : Offer N) (level : Level N) : Type 0 where
-  pub has_levels : HasLevels first number offer level
-  pub open has_levels use *
-  pub beyond : amount_of offer.budget < weight_on first number offer (marks number level.far.items)
+-- and far marks, the first that let through more than fits
+pub record IsLevel {N : Type 0} (first : First) (number : N → ℕ) (offer : Offer N) (near far : List N)
+    (whole left : ℕ) : Type 0 where
+  pub so_far : HaveLeft first number offer near whole left
+  pub each_far : length far ≡ offer.grid.size.nodes
+  pub farther : (owner : ℕ) → owner < offer.grid.size.nodes
+      → AreFarther first (low_in number offer owner) (marks number near owner) (marks number far owner)
+  pub beyond : amount_of offer.budget < weight_on first number offer (marks number far)
 
 -- whose marks part levels that go by these numbers
 pub record IsLevelBy {N : Type 0} (first way : First) (level_number : ℕ → ℕ → ℕ) (number : N → ℕ) (offer : Offer N)
     (level : Level N) : Type 0 where
-  pub is_level : IsLevel first number offer level
+  pub is_level : IsLevel first number offer level.near.items level.far.items level.whole level.left
   pub shape : AreLevelMarks first way level_number (cells_in number offer) offer.grid.size.nodes offer.grid.size.keys
       (low_in number offer) (marks number level.near.items) (marks number level.far.items)
 
@@ -82,3 +82,8 @@ pub record AreRunsFrom {N : Type 0} (number : N → ℕ) (most : ℕ) (offer : O
   pub some : 0 < size
   pub few : size ≤ MOST_KEYS
   pub longer : AreMarksFrom number offer (size + 1) (marks number near)
+
+-- a size below a bound that is no less than any number of owners' that is
+pub record IsLongestBelow {N : Type 0} (number : N → ℕ) (counts : List N) (bound size : ℕ) : Type 0 where
+  pub below : size < bound
+  pub longest : (r : ℕ) → r < length counts → marks number counts r < bound → marks number counts r ≤ size

@@ -1,9 +1,9 @@
 -- Levels of rounds, as marks. Source: this project.
 use Rattle.std.specs.Prelude.{◌≡◌, ℕ, ◌+◌, ◌-◌, ◌*◌, ◌<◌, ◌≤◌, max, length, map, IfSome, List, Option, Some, None}
-use Rattle.delta_plans.specs.Common.{amount_of, all_writes, cell, HasEach, Ends, Level, Offer, Fit, Rounds, AreMadeBy, AreEnds, write_numbered}
+use Rattle.delta_plans.specs.Common.{amount_of, all_writes, cell, HasEach, Ends, Offer, Fit, Rounds, AreMadeBy, AreEnds}
 use Rattle.delta_plans.specs.OfferInMemory.{low_in, marks, IsTooLarge}
-use Rattle.delta_plans.specs.Plans.{weight_on, count_on, IsLevelBy}
-use Rattle.delta_plans.specs.LevelMarks.{by_first, round_of}
+use Rattle.delta_plans.specs.Plans.{weight_on, count_on}
+use Rattle.delta_plans.specs.LevelMarks.{by_first}
 
 -- where the rounds end in which all that is offered was written
 pub record AreEndsOf {N : Type 0} (number : N → ℕ) (offer : Offer N) (ends : Ends N) : Type 0 where
@@ -11,10 +11,6 @@ pub record AreEndsOf {N : Type 0} (number : N → ℕ) (offer : Offer N) (ends :
   pub are_ends : AreEnds (all_writes offer.lists.now) offer.grid.size.nodes ends.rounds
       (cell (map number ends.numbers.now) offer.grid.size.nodes)
   pub made : (owner : ℕ) → AreMadeBy ends.rounds (all_writes offer.lists.now owner)
-
--- an owner's mark at a round's end, but none below its low mark
-abbrev pub end_mark : List ℕ → ℕ → (ℕ → ℕ) → ℕ → ℕ → ℕ
-end_mark ends nodes low round owner = max (low owner) (cell ends nodes owner round)
 
 -- an offer that is too large, and where its rounds end
 pub record IsAsked {N : Type 0} (number : N → ℕ) (most : ℕ) (offer : Offer N) (ends : Ends N) : Type 0 where
@@ -28,25 +24,22 @@ pub record AreRaised {N : Type 0} (number : N → ℕ) (most : ℕ) (rounds : Ro
   pub above : (r : ℕ) → r < rounds.offer.now.grid.size.nodes
       → low_in number rounds.offer.now r ≤ marks number mark r
 
--- so many numbers take so much, which fits, and leave so much if that is known
-pub record IsFit (room weight count : ℕ) (fit : Fit) : Type 0 where
-  pub counted : fit.count ≡ count
-  pub within : weight ≤ room
-  pub known : IfSome fit.left (λ left. weight + left ≡ room)
-
--- so it is found of what marks let through, or that it doesn't fit
+-- it is found of what marks let through how many numbers these are, that they fit, and what they leave if that is known,
+-- or that they don't fit
 abbrev pub IsFound : {N : Type 0} → (N → ℕ) → Rounds N → (ℕ → ℕ) → Option Fit → Type 0
 IsFound number rounds mark (Some fit) =
-    IsFit (amount_of rounds.offer.now.budget) (weight_on rounds.first number rounds.offer.now mark)
-    (count_on rounds.first number rounds.offer.now mark) fit
+    (fit.count ≡ count_on rounds.first number rounds.offer.now mark)
+    × (weight_on rounds.first number rounds.offer.now mark ≤ amount_of rounds.offer.now.budget)
+    × IfSome fit.left
+    (λ left. weight_on rounds.first number rounds.offer.now mark + left ≡ amount_of rounds.offer.now.budget)
 IsFound number rounds mark None =
     weight_on rounds.first number rounds.offer.now mark ≤ amount_of rounds.offer.now.budget → ⊥
 
--- the marks of so many rounds, from the oldest or from the newest on
+-- the marks of so many rounds, from the oldest or from the newest on, of which none is below its owner's low mark
 abbrev pub mark_of_rounds : {N : Type 0} → (N → ℕ) → Rounds N → ℕ → ℕ → ℕ
-mark_of_rounds number rounds count =
-    end_mark (map number rounds.ends.numbers.now) rounds.offer.now.grid.size.nodes (low_in number rounds.offer.now)
-    (by_first rounds.first count (rounds.ends.rounds - count))
+mark_of_rounds number rounds count owner =
+    max (low_in number rounds.offer.now owner) (cell (map number rounds.ends.numbers.now) rounds.offer.now.grid.size.nodes
+    owner (by_first rounds.first count (rounds.ends.rounds - count)))
 
 abbrev pub AreRoundMarks : {N : Type 0} → (N → ℕ) → Rounds N → ℕ → List N → Type 0
 AreRoundMarks number rounds count mark =
@@ -59,10 +52,3 @@ pub record AreFewAndEnough {N : Type 0} (number : N → ℕ) (rounds : Rounds N)
   pub fits : IsFound number rounds (mark_of_rounds number rounds few) (Some fit)
   pub beyond : amount_of rounds.offer.now.budget
       < weight_on rounds.first number rounds.offer.now (mark_of_rounds number rounds enough)
-
--- the level that they end at
-abbrev pub IsLevelOfRounds : {N : Type 0} → (N → ℕ) → Rounds N → Level N → Type 0
-IsLevelOfRounds number rounds =
-    IsLevelBy rounds.first rounds.first
-    (λ owner number. round_of (write_numbered (all_writes rounds.offer.now.lists.now owner) number)) number
-    rounds.offer.now

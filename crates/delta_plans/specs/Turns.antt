@@ -1,8 +1,8 @@
 -- A level shared out by the owners' turns, from the rotation on. Source: this project.
-use Rattle.std.specs.Prelude.{◌≡◌, ◌⊎◌, ℕ, ◌+◌, ◌-◌, ◌<◌, ◌≤◌, nat_lt, List, length, map, if◌then◌else◌, ◌≢◌, true, false}
+use Rattle.std.specs.Prelude.{◌≡◌, ℕ, ◌+◌, ◌-◌, ◌<◌, ◌≤◌, nat_lt, List, length, map, if◌then◌else◌, ◌≢◌, true, false}
 use Rattle.delta_plans.specs.Common.{amount_of, sum_below, HasEach, Cells, rotated, Reached, Turns, First, Offer}
 use Rattle.delta_plans.specs.OfferInMemory.{cells_in, marks, weights_in, IsOffer, low_in}
-use Rattle.delta_plans.specs.Plans.{weight_on, count_on, IsLevel}
+use Rattle.delta_plans.specs.Plans.{weight_on, count_on, HaveLeft, IsLevel}
 use Rattle.delta_plans.specs.Weights.{weight_from}
 use Rattle.delta_plans.specs.LevelMarks.{comes_first, lets_through, IsOn}
 
@@ -40,7 +40,7 @@ pub record AreShared {N : Type 0} (first : First) (rotation : ℕ) (number : N �
 pub record AreTurns {N : Type 0} (number : N → ℕ) (most : ℕ) (turns : Turns N) : Type 0 where
   pub offer : IsOffer number most turns.offer.now
   pub rotation : turns.rotation < turns.offer.now.grid.size.nodes
-  pub level : IsLevel turns.first number turns.offer.now turns.level.now
+  pub level : IsLevel turns.first number turns.offer.now turns.near.now turns.far.now turns.whole turns.left
 
 -- what an owner's numbers from one mark on to another weigh, and what its part of it does
 abbrev pub weight_to : {N : Type 0} → (N → ℕ) → (ℕ → ℕ) → Turns N → ℕ → ℕ → ℕ → ℕ
@@ -49,8 +49,7 @@ weight_to number weight turns =
 
 abbrev pub part_weight : {N : Type 0} → (N → ℕ) → (ℕ → ℕ) → Turns N → ℕ → ℕ
 part_weight number weight turns owner =
-    weight_to number weight turns owner (marks number turns.level.now.near.items owner)
-    (marks number turns.level.now.far.items owner)
+    weight_to number weight turns owner (marks number turns.near.now owner) (marks number turns.far.now owner)
 
 -- two marks on the way from a near to a far one: numbers up to the first fit into some room, and leave so much, and
 -- those up to the second don't
@@ -66,8 +65,7 @@ pub record IsStopBetween (first : First) (weight : ℕ → ℕ) (cells : Cells)
 abbrev pub IsStopSoFar : {N : Type 0} → (N → ℕ) → Turns N → ℕ → ℕ → ℕ → ℕ → ℕ → Type 0
 IsStopSoFar number turns owner =
     IsStopBetween turns.first (weights_in turns.offer.now owner) (cells_in number turns.offer.now)
-    turns.offer.now.grid.size.keys owner (marks number turns.level.now.near.items owner)
-    (marks number turns.level.now.far.items owner)
+    turns.offer.now.grid.size.keys owner (marks number turns.near.now owner) (marks number turns.far.now owner)
 
 -- and there is no other between them
 pub record IsStopOf {N : Type 0} (number : N → ℕ) (turns : Turns N) (owner room mark : ℕ) : Type 0 where
@@ -81,41 +79,33 @@ pub record IsStopOf {N : Type 0} (number : N → ℕ) (turns : Turns N) (owner r
 abbrev pub parts_count : {N : Type 0} → (N → ℕ) → Turns N → ℕ → ℕ → ℕ
 parts_count number turns owner size = sum_below size (λ i. part_weight number (λ _. 1) turns (owner + i))
 
--- how many numbers each owner's part has, or the most where that isn't known
-abbrev pub AreKnownFor : {N : Type 0} → (N → ℕ) → ℕ → Turns N → List N → Type 0
-AreKnownFor number most turns counts =
-    HasEach turns.offer.now.grid.size.nodes (λ r n. (n ≡ most) ⊎ (n ≡ part_weight number (λ _. 1) turns r))
-    (map number counts)
-
--- so it is of turns, and these are some of their owners, from one on
-pub record HaveParts {N : Type 0} (number : N → ℕ) (most : ℕ) (turns : Turns N) (counts : List N)
-    (owner size : ℕ) : Type 0 where
-  pub are : AreTurns number most turns
-  pub known : AreKnownFor number most turns counts
-  pub within : owner + size ≤ turns.offer.now.grid.size.nodes
+-- and each of them
+abbrev pub AreParts : {N : Type 0} → (N → ℕ) → Turns N → ℕ → ℕ → List N → Type 0
+AreParts number turns owner size counts =
+    HasEach size (λ i n. n ≡ part_weight number (λ _. 1) turns (owner + i)) (map number counts)
 
 -- a mark for each owner, by which turns share their level out
 pub record AreSharedBy {N : Type 0} (number : N → ℕ) (turns : Turns N) (mark : List N) (sent : ℕ) : Type 0 where
   pub size : length mark ≡ turns.offer.now.grid.size.nodes
-  pub shared : AreShared turns.first turns.rotation number turns.offer.now (marks number turns.level.now.near.items)
-      (marks number turns.level.now.far.items) (marks number mark) sent
+  pub shared : AreShared turns.first turns.rotation number turns.offer.now (marks number turns.near.now)
+      (marks number turns.far.now) (marks number mark) sent
 
 -- owners whose turn has come have the far mark, and the others the near one
 pub record HasReached {N : Type 0} (number : N → ℕ) (turns : Turns N) (mark : List N) (reached : Reached) : Type 0 where
-  pub size : length mark ≡ turns.offer.now.grid.size.nodes
+  pub so_far : HaveLeft turns.first number turns.offer.now mark reached.sent reached.left
   pub each : (r : ℕ) → r < turns.offer.now.grid.size.nodes
       → marks number mark r ≡ (if nat_lt (rotated turns.offer.now.grid.size.nodes turns.rotation r) reached.turn
-      then marks number turns.level.now.far.items r else marks number turns.level.now.near.items r)
-  pub left : weight_on turns.first number turns.offer.now (marks number mark) + reached.left
-      ≡ amount_of turns.offer.now.budget
-  pub count : reached.sent ≡ count_on turns.first number turns.offer.now (marks number mark)
+      then marks number turns.far.now r else marks number turns.near.now r)
 
--- turns, how many numbers their parts have, as far as that is known, and what marks have reached
-pub record ArePassing {N : Type 0} (number : N → ℕ) (most : ℕ) (turns : Turns N) (counts mark : List N)
-    (reached : Reached) : Type 0 where
+-- owners in a row, from one on, have their turns next, and their parts so many numbers
+pub record HaveTurns {N : Type 0} (number : N → ℕ) (most : ℕ) (turns : Turns N) (mark : List N) (reached : Reached)
+    (owner : ℕ) (counts : List N) : Type 0 where
   pub are : AreTurns number most turns
-  pub known : AreKnownFor number most turns counts
-  pub so_far : HasReached number turns mark reached
+  pub has_reached : HasReached number turns mark reached
+  pub turn : rotated turns.offer.now.grid.size.nodes turns.rotation owner ≡ reached.turn
+  pub in_nodes : owner + length counts ≤ turns.offer.now.grid.size.nodes
+  pub in_turns : reached.turn + length counts ≤ turns.offer.now.grid.size.nodes
+  pub parts : AreParts number turns owner (length counts) counts
 
 -- what is reached once so many owners more, from one on, have the far mark
 abbrev pub reached_after : {N : Type 0} → (N → ℕ) → Turns N → Reached → ℕ → ℕ → Reached

@@ -1,8 +1,9 @@
 //! What lies between two marks of each owner, where most owners have nothing there, whatever their marks are.
 
-ghost use Rattle.std.specs.Prelude.{◌+◌, ◌<◌, ◌≤◌, length};
-ghost use Rattle.delta_plans.specs.Between.{some_weight, whole_weight, AreBetween, AreFound};
-ghost use Rattle.delta_plans.specs.OfferInMemory.{IsLeftOf};
+ghost use Rattle.std.specs.Prelude.{◌≡◌, ℕ, ◌+◌, ◌<◌, ◌≤◌, false, length};
+ghost use Rattle.bench_types.specs.Sums.{sum_below};
+ghost use Rattle.delta_plans.specs.Between.{owner_count, owner_weight, AreFound};
+ghost use Rattle.delta_plans.specs.OfferInMemory.{marks, weight_in, HasMarks, IsLeftOf};
 
 use crate::offers::{Offer, number_at};
 use planes::{Number, is_between};
@@ -22,36 +23,51 @@ impl<'a, 'b, N: Number> Between<'a, 'b, N> {
     /// What is left of so many bytes after them, if they fit. Owners that have none are passed over.
     #[inline(never)]
     pub(crate) fn bytes_left_of(&self, room: u32) -> Option<u32>
-        requires { AreBetween N.number N.most self.now }
-        ensures { IsLeftOf room (whole_weight N.number self.now) result }
+        requires { HasMarks N.number N.most self.now.offer.now self.now.low.now self.now.high.now }
+        ensures { IsLeftOf room (weight_in N.number self.now.offer.now (marks N.number self.now.low.now)
+            (marks N.number self.now.high.now)) result }
     {
         let nodes = self.offer.grid.size.nodes;
         let mut left = room;
         let mut first = 0;
         while first < nodes {
-            let size = SOUGHT.min(nodes - first);
+            let end = nodes.min(first + SOUGHT);
             let mut has = [false; SOUGHT];
-            let found: &mut [bool] = &mut has[..size];
+            let found: &mut [bool] = &mut has[..end - first];
             self.find(first, found);
-            left = self.left_of_found(left, first, found)?;
-            first += size;
+            left = self.left_of_some(left, first, end, |owner, _, _| found[owner - first])?;
+            first = end;
         }
         Some(left)
     }
 
-    // The same of some owners, from a first one on, of which those alone have any that were found.
-    fn left_of_found(&self, room: u32, first: usize, found: &[bool]) -> Option<u32>
-        requires between { AreBetween N.number N.most self.now }
-        requires within { first + length found.now ≤ self.now.offer.now.grid.size.nodes }
-        requires found { AreFound N.number self.now self.now.offer.now.grid.size.keys first found.now }
-        ensures { IsLeftOf room (some_weight N.number self.now first (length found.now)) result }
+    /// The same of some owners, from a first one on, of which those alone have any that pass a test, with their marks.
+    #[inline(never)]
+    pub(crate) fn left_of_some<F: Fn(usize, N, N) -> bool>(
+        &self,
+        room: u32,
+        first: usize,
+        end: usize,
+        has: F,
+    ) -> Option<u32>
+        requires between { HasMarks N.number N.most self.now.offer.now self.now.low.now self.now.high.now }
+        requires order { first ≤ end }
+        requires within { end ≤ self.now.offer.now.grid.size.nodes }
+        requires callable { (owner : ℕ) (from to : N) → first ≤ owner → owner < end → F.pre has owner from to }
+        requires passed { (owner : ℕ) (from to : N) → first ≤ owner → owner < end
+            → N.number from ≡ marks N.number self.now.low.now owner
+            → N.number to ≡ marks N.number self.now.high.now owner → F.post has owner from to false
+            → owner_count N.number self.now self.now.offer.now.grid.size.keys owner ≡ 0 }
+        ensures { IsLeftOf (sum_below first (owner_weight N.number self.now) + room)
+            (sum_below end (owner_weight N.number self.now)) result }
     {
+        let low = self.low;
+        let high = self.high;
         let mut left = room;
-        for i in 0..found.len() {
-            if found[i] {
-                let owner = first + i;
-                let from = number_at(self.low, owner);
-                let to = number_at(self.high, owner);
+        for owner in first..end {
+            let from = number_at(low, owner);
+            let to = number_at(high, owner);
+            if has(owner, from, to) {
                 let weight = self.offer.weight_of(owner, from, to);
                 left = left.checked_sub(weight)?;
             }
@@ -59,31 +75,20 @@ impl<'a, 'b, N: Number> Between<'a, 'b, N> {
         Some(left)
     }
 
-    // Finds those of some owners, from a first one on, that have any.
+    // Finds those of some owners, from a first one on, that have any, key by key.
     fn find(&self, first: usize, found: &mut [bool])
-        requires between { AreBetween N.number N.most self.now }
+        requires between { HasMarks N.number N.most self.now.offer.now self.now.low.now self.now.high.now }
         requires within { first + length found.old ≤ self.now.offer.now.grid.size.nodes }
         ensures { AreFound N.number self.now self.now.offer.now.grid.size.keys first found.new }
     {
         for key in 0..self.offer.grid.size.keys {
-            self.find_in(key, first, found);
-        }
-    }
-
-    // Finds those that have one of a key, beside those found before.
-    fn find_in(&self, key: usize, first: usize, found: &mut [bool])
-        requires between { AreBetween N.number N.most self.now }
-        requires key { key < self.now.offer.now.grid.size.keys }
-        requires within { first + length found.old ≤ self.now.offer.now.grid.size.nodes }
-        requires before { AreFound N.number self.now key first found.old }
-        ensures { AreFound N.number self.now (key + 1) first found.new }
-    {
-        for i in 0..found.len() {
-            let owner = first + i;
-            let cell = self.offer.cell_of(owner, key);
-            let low = number_at(self.low, owner);
-            let high = number_at(self.high, owner);
-            found[i] = found[i] | is_between(cell, low, high);
+            for i in 0..found.len() {
+                let owner = first + i;
+                let cell = self.offer.cell_of(owner, key);
+                let low = number_at(self.low, owner);
+                let high = number_at(self.high, owner);
+                found[i] = found[i] | is_between(cell, low, high);
+            }
         }
     }
 }

@@ -6,7 +6,8 @@ ghost use Rattle.delta_plans.specs.OfferInMemory.{marks, HasMarks, IfGranted, Is
 ghost use Rattle.delta_plans.specs.Plans.{IsNextLayer};
 
 use crate::offers::{Level, Offer, Step};
-use bench_types::{DigestKind, Fault};
+use bench_types::DigestKind::Scuttle;
+use bench_types::Fault;
 use planes::{Number, least_above, pick};
 use std::alloc::Global;
 
@@ -16,10 +17,8 @@ fn one_more<N: Number>(alloc: Global, offer: &Offer<N>, near: &[N]) -> Result<St
     ensures { IfGranted result (IsNextLayer N.number offer.now (marks N.number near.now)) }
 {
     let mut far = least_above(alloc, offer.grid, near)?;
-    planes::change(
-        &mut far,
-        |r, least| pick(N::greatest().is_above(least), least, near[r]),
-    );
+    let next = |r: usize, least: N| pick(N::greatest().is_above(least), least, near[r]);
+    planes::change(&mut far, next);
     let more = planes::how_many(&far, |r, mark| mark.is_above(near[r]));
     Ok(Step { marks: far, more })
 }
@@ -30,20 +29,21 @@ pub(crate) fn breadth<N: Number>(alloc: Global, offer: &Offer<N>) -> Result<Leve
     requires offer { IsTooLarge N.number N.most offer.now }
     ensures { IfGranted result (IsLevelOf ScuttleBreadth N.number offer.now) }
 {
-    let near = Vec::from_slice(alloc, offer.low)?;
-    let first = one_more(alloc, offer, &near)?;
-    let mut level = offer.first_level(near, first.marks);
-    let mut more = first.more;
-    while let Some(left) = offer.left_of(
-        DigestKind::Scuttle,
-        level.left,
-        more,
-        &level.near,
-        &level.far,
-    ) {
-        let next = one_more(alloc, offer, &level.far)?;
-        level = level.next(more, left, next.marks);
-        more = next.more;
+    let mut near = Vec::from_slice(alloc, offer.low)?;
+    let mut whole = 0;
+    let mut left = offer.budget.amount();
+    'layers: loop {
+        let next = one_more(alloc, offer, &near)?;
+        let Some(rest) = offer.left_of(Scuttle, left, next.more, &near, &next.marks) else {
+            return Ok(Level {
+                near,
+                far: next.marks,
+                whole,
+                left,
+            });
+        };
+        whole += next.more;
+        left = rest;
+        near = next.marks;
     }
-    Ok(level)
 }

@@ -1,28 +1,37 @@
 //! Runs: all that an owner offers, the longest run first, as long as they fit.
 
-ghost use Rattle.std.specs.Prelude.{ℕ, ◌<◌, ◌≤◌, length, map, slice_index};
+ghost use Rattle.std.specs.Prelude.{◌+◌, ◌<◌, ◌≤◌};
 ghost use Rattle.delta_plans.specs.Common.{MOST_KEYS, ScuttleDepth};
 ghost use Rattle.delta_plans.specs.Marked.{IsLevelOf};
 ghost use Rattle.delta_plans.specs.OfferInMemory.{marks, IfGranted, IsTooLarge};
-ghost use Rattle.delta_plans.specs.Plans.{AreRunsFrom, IsMarkFrom, IsStep};
+ghost use Rattle.delta_plans.specs.Plans.{AreRunsFrom, IsLongestBelow, IsMarkFrom, IsStep};
 
 use crate::offers::{Level, Offer, Step};
-use bench_types::{DigestKind, Fault};
-use planes::{Number, counts_above, is_between, pick};
+use bench_types::DigestKind::Scuttle;
+use bench_types::Fault;
+use bench_types::limits::MOST_KEYS;
+use planes::{Number, counts_above, pick};
 use std::alloc::Global;
 
-fn greatest_of<N: Number>(numbers: &[N]) -> u32
-    requires few { (r : ℕ) → r < length numbers.now
-        → slice_index (map N.number numbers.now) r ≤ MOST_KEYS }
-    ensures greatest { (r : ℕ) → r < length numbers.now
-        → slice_index (map N.number numbers.now) r ≤ result }
-    ensures few { result ≤ MOST_KEYS }
+/// Up to so many numbers there are most often owners with just as many.
+const SHORT: u32 = 8;
+
+// The longest run that is shorter than a bound, or 0 where there is none. Short ones aren't looked for.
+fn longest_below<N: Number>(counts: &[N], bound: u32) -> u32
+    requires some { 0 < bound }
+    requires few { bound ≤ MOST_KEYS + 1 }
+    ensures { IsLongestBelow N.number counts.now bound result }
 {
-    let mut greatest = N::zero();
-    for r in 0..numbers.len() {
-        greatest = greatest.max_with(numbers[r]);
+    if bound <= SHORT {
+        return bound - 1;
     }
-    greatest.widen()
+    let last = N::narrow(bound - 1);
+    let mut longest = N::zero();
+    for r in 0..counts.len() {
+        let count = counts[r];
+        longest = longest.max_with(pick(count.is_upto(last), count, N::zero()));
+    }
+    longest.widen()
 }
 
 fn next_runs<N: Number>(
@@ -36,15 +45,13 @@ fn next_runs<N: Number>(
     ensures { IfGranted result
         (IsStep N.number offer.now (marks N.number near.now) (IsMarkFrom N.number offer.now size)) }
 {
-    let below = N::narrow(size - 1);
     let longest = N::narrow(size);
     let mut far = Vec::from_slice(alloc, near)?;
     let high = offer.high;
-    planes::change(
-        &mut far,
-        |r, mark| pick(counts[r].is_above(below), high[r], mark),
-    );
-    let risen = planes::how_many(counts, |_, count| is_between(count, below, longest));
+    let next = |r: usize, mark: N| pick(longest.is_upto(counts[r]), high[r], mark);
+    planes::change(&mut far, next);
+    let has = |_: usize, count: N| longest.is_upto(count) & count.is_upto(longest);
+    let risen = planes::how_many(counts, has);
     let more = risen * size;
     Ok(Step { marks: far, more })
 }
@@ -56,22 +63,23 @@ pub(crate) fn depth<N: Number>(alloc: Global, offer: &Offer<N>) -> Result<Level<
     ensures { IfGranted result (IsLevelOf ScuttleDepth N.number offer.now) }
 {
     let counts = counts_above(alloc, offer.grid, offer.low)?;
-    let mut size = greatest_of(&counts);
-    let near = Vec::from_slice(alloc, offer.low)?;
-    let first = next_runs(alloc, offer, &counts, &near, size)?;
-    let mut level = offer.first_level(near, first.marks);
-    let mut more = first.more;
-    while let Some(left) = offer.left_of(
-        DigestKind::Scuttle,
-        level.left,
-        more,
-        &level.near,
-        &level.far,
-    ) {
-        size -= 1;
-        let next = next_runs(alloc, offer, &counts, &level.far, size)?;
-        level = level.next(more, left, next.marks);
-        more = next.more;
+    let mut near = Vec::from_slice(alloc, offer.low)?;
+    let mut size = MOST_KEYS + 1;
+    let mut whole = 0;
+    let mut left = offer.budget.amount();
+    'runs: loop {
+        size = longest_below(&counts, size);
+        let next = next_runs(alloc, offer, &counts, &near, size)?;
+        let Some(rest) = offer.left_of(Scuttle, left, next.more, &near, &next.marks) else {
+            return Ok(Level {
+                near,
+                far: next.marks,
+                whole,
+                left,
+            });
+        };
+        whole += next.more;
+        left = rest;
+        near = next.marks;
     }
-    Ok(level)
 }

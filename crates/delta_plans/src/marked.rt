@@ -73,7 +73,10 @@ pub fn planned<N: Number>(
     let level = level_of(alloc, offer, mode, ends)?;
     let turns = Turns {
         offer,
-        level: &level,
+        near: &level.near,
+        far: &level.far,
+        whole: level.whole,
+        left: level.left,
         first,
         rotation,
     };

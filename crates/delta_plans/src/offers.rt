@@ -32,32 +32,11 @@ pub(crate) struct Level<N: Number> {
     pub(crate) left: u32,
 }
 
-impl<N: Number> Level<N> {
-    /// The level behind it, with its far marks, of which this much is left: it lets through so many numbers more.
-    pub(crate) fn next(self, more: u32, left: u32, far: Vec<N>) -> Level<N>
-        requires { self.whole + more < 2 ^ 32 }
-        ensures { result ≡ record { near = self.far; far = far; whole = self.whole + more; left = left } }
-    {
-        Level {
-            near: self.far,
-            far,
-            whole: self.whole + more,
-            left,
-        }
-    }
-}
-
 /// Marks, and how many numbers they let through, or of one level more, how many numbers that has.
 #[derive(Drop)]
 pub(crate) struct Step<N: Number> {
     pub(crate) marks: Vec<N>,
     pub(crate) more: u32,
-}
-
-fn one_if(test: bool) -> u32
-    ensures { result ≡ (if test then 1 else 0) }
-{
-    u32::from(test)
 }
 
 pub(crate) fn number_at<N: Number>(numbers: &[N], place: usize) -> N
@@ -119,29 +98,9 @@ impl<'a, N: Number> Offer<'a, N> {
     {
         let mut count = 0;
         for key in 0..self.grid.size.keys {
-            count += one_if(is_between(self.cell_of(owner, key), low, high));
+            count += u32::from(is_between(self.cell_of(owner, key), low, high));
         }
         count
-    }
-
-    // What is left of so many bytes after all owners' numbers above one mark and up to another, if they fit. It stops
-    // at the first owner whose numbers don't.
-    #[inline(never)]
-    fn bytes_left_of(&self, room: u32, low: &[N], high: &[N]) -> Option<u32>
-        requires { HasMarks N.number N.most self.now low.now high.now }
-        ensures { IsLeftOf room (weight_in N.number self.now (marks N.number low.now)
-            (marks N.number high.now)) result }
-    {
-        let mut left = room;
-        for owner in 0..self.grid.size.nodes {
-            let from = number_at(low, owner);
-            let to = number_at(high, owner);
-            if to.is_above(from) {
-                let weight = self.weight_of(owner, from, to);
-                left = left.checked_sub(weight)?;
-            }
-        }
-        Some(left)
     }
 
     /// What is left of a part of the budget after them, if they fit, where it is known how many these are. Entries need
@@ -160,15 +119,19 @@ impl<'a, N: Number> Offer<'a, N> {
     {
         match self.budget {
             Budget::Entries(_) => room.checked_sub(count),
-            Budget::Bytes(_) => match kind {
-                DigestKind::Scuttle => self.bytes_left_of(room, low, high),
-                DigestKind::Precise => Between {
+            Budget::Bytes(_) => {
+                let nodes = self.grid.size.nodes;
+                let between = Between {
                     offer: self,
                     low,
                     high,
+                };
+                let differ = |_: usize, from: N, to: N| to.is_above(from);
+                match kind {
+                    DigestKind::Scuttle => between.left_of_some(room, 0, nodes, differ),
+                    DigestKind::Precise => between.bytes_left_of(room),
                 }
-                .bytes_left_of(room),
-            },
+            }
         }
     }
 
@@ -179,18 +142,6 @@ impl<'a, N: Number> Offer<'a, N> {
         match self.budget {
             Budget::Entries(_) => false,
             Budget::Bytes(amount) => count <= amount / MOST_ENTRY_SIZE,
-        }
-    }
-
-    /// The first level, with its marks. The near ones let nothing through.
-    pub(crate) fn first_level(&self, near: Vec<N>, far: Vec<N>) -> Level<N>
-        ensures { result ≡ record { near = near; far = far; whole = 0; left = amount_of self.now.budget } }
-    {
-        Level {
-            near,
-            far,
-            whole: 0,
-            left: self.budget.amount(),
         }
     }
 

@@ -1,16 +1,16 @@
 //! A level that doesn't fit, shared out: the owners take turns from the rotation on, up to the first number that
 //! doesn't fit.
 
-ghost use Rattle.std.specs.Prelude.{◌≡◌, ℕ, ◌+◌, ◌-◌, ◌<◌, ◌≤◌};
+ghost use Rattle.std.specs.Prelude.{◌≡◌, ◌+◌, ◌<◌, ◌≤◌, length, IfNone, IfSome, if◌then◌else◌};
 ghost use Rattle.delta_plans.specs.Common.{rotated};
 ghost use Rattle.delta_plans.specs.LevelMarks.{by_first};
 ghost use Rattle.delta_plans.specs.OfferInMemory.{marks, weights_in, HasOwner, IfGranted};
-ghost use Rattle.delta_plans.specs.Turns.{part_weight, parts_count, weight_to, AreKnownFor, ArePassing, AreSharedBy, AreTurns, HaveParts, IsStopOf};
+ghost use Rattle.delta_plans.specs.Turns.{part_weight, parts_count, weight_to, AreParts, AreSharedBy, AreTurns, HasReached, HaveTurns, IsStopOf};
 
 use crate::marked::First;
-use crate::offers::{Level, Offer, Step, number_at};
+use crate::offers::{Offer, Step, number_at};
 use bench_types::{Budget, Fault};
-use planes::{Number, all_of, count_some_between};
+use planes::{Number, count_some_between, zeros};
 use std::alloc::Global;
 
 // How many owners had their turn, what is left then, and how many numbers were let through.
@@ -28,7 +28,10 @@ const MANY: usize = 64;
 #[derive(Drop)]
 pub(crate) struct Turns<'a, 'b, N: Number> {
     pub(crate) offer: &'a Offer<'b, N>,
-    pub(crate) level: &'a Level<N>,
+    pub(crate) near: &'a [N],
+    pub(crate) far: &'a [N],
+    pub(crate) whole: u32,
+    pub(crate) left: u32,
     pub(crate) first: First,
     pub(crate) rotation: usize,
 }
@@ -68,9 +71,11 @@ impl<'a, 'b, N: Number> Turns<'a, 'b, N> {
             Budget::Entries(_) => count,
             Budget::Bytes(_) if count == 0 => 0,
             Budget::Bytes(_) => {
-                let near = number_at(&self.level.near, owner);
-                let far = number_at(&self.level.far, owner);
-                self.weight_from(owner, near, far)
+                self.weight_from(
+                    owner,
+                    number_at(self.near, owner),
+                    number_at(self.far, owner),
+                )
             }
         }
     }
@@ -108,8 +113,8 @@ impl<'a, 'b, N: Number> Turns<'a, 'b, N> {
         ensures { IsStopOf N.number self.now owner room (N.number result) }
     {
         let most = N::greatest();
-        let mut fits = most.min_with(number_at(&self.level.near, owner)).widen();
-        let mut beyond = most.min_with(number_at(&self.level.far, owner)).widen();
+        let mut fits = most.min_with(number_at(self.near, owner)).widen();
+        let mut beyond = most.min_with(number_at(self.far, owner)).widen();
         let mut left = room;
         while fits.abs_diff(beyond) > 1 {
             let middle = fits.min(beyond) + fits.abs_diff(beyond) / 2;
@@ -124,112 +129,113 @@ impl<'a, 'b, N: Number> Turns<'a, 'b, N> {
         N::narrow(fits)
     }
 
-    // Counts the numbers of some owners' parts, from an owner on. It stands outside the loop over turns, which seldom
-    // needs it.
+    // Counts the numbers of some owners' parts, from an owner on.
     #[inline(never)]
-    fn count_parts(&self, counts: &mut [N], owner: usize, size: usize)
-        requires { HaveParts N.number N.most self.now counts.old owner size }
-        ensures each { (r : ℕ) → owner ≤ r → r < owner + size
-            → marks N.number counts.new r ≡ part_weight N.number (λ _. 1) self.now r }
-        ensures known { AreKnownFor N.number N.most self.now counts.new }
+    fn count_parts(&self, counts: &mut [N], owner: usize)
+        requires turns { AreTurns N.number N.most self.now }
+        requires within { owner + length counts.old ≤ self.now.offer.now.grid.size.nodes }
+        ensures { AreParts N.number self.now owner (length counts.old) counts.new }
     {
-        let some = &mut counts[owner..owner + size];
-        let near = &self.level.near;
-        let far = &self.level.far;
-        let low = by_first(self.first, near, far);
-        let high = by_first(self.first, far, near);
-        count_some_between(some, self.offer.grid, owner, low, high);
+        let low = by_first(self.first, self.near, self.far);
+        let high = by_first(self.first, self.far, self.near);
+        count_some_between(counts, self.offer.grid, owner, low, high);
     }
 
-    // How many numbers an owner's part has. Where that isn't known, parts are counted from this owner on.
-    fn count_of_part(&self, counts: &mut [N], owner: usize) -> u32
-        requires { HaveParts N.number N.most self.now counts.old owner 1 }
-        ensures count { result ≡ part_weight N.number (λ _. 1) self.now owner }
-        ensures known { AreKnownFor N.number N.most self.now counts.new }
+    // Gives some owners in turn the far mark, from one on, if entries are counted and the parts of all fit.
+    fn pass_all(&self, counts: &[N], mark: &mut [N], at: usize, reached: &mut Reached) -> bool
+        requires turns { HaveTurns N.number N.most self.now mark.old reached.old at counts.now }
+        ensures reached { HasReached N.number self.now mark.new reached.new }
+        ensures turn { reached.new.turn ≡ reached.old.turn + (if result then length counts.now else 0) }
     {
-        let known = number_at(counts, owner);
-        if N::greatest().is_above(known) {
-            return known.widen();
+        match self.offer.budget {
+            Budget::Entries(_) => {}
+            Budget::Bytes(_) => return false,
         }
-        let size = MANY.min(self.offer.grid.size.nodes - owner);
-        self.count_parts(counts, owner, size);
-        number_at(counts, owner).widen()
+        let count = self.count_of_parts(counts, at);
+        if reached.left < count {
+            return false;
+        }
+        for i in 0..counts.len() {
+            mark[at + i] = number_at(self.far, at + i);
+        }
+        reached.turn += counts.len();
+        reached.left -= count;
+        reached.sent += count;
+        true
+    }
+
+    // Gives them the far mark as long as their parts fit, and the first whose part doesn't the mark where that stops.
+    // Answers how many numbers all marks let through then.
+    fn pass_few(
+        &self,
+        counts: &[N],
+        mark: &mut [N],
+        at: usize,
+        reached: &mut Reached,
+    ) -> Option<u32>
+        requires turns { HaveTurns N.number N.most self.now mark.old reached.old at counts.now }
+        ensures reached { IfNone result (HasReached N.number self.now mark.new reached.new) }
+        ensures turn { IfNone result (reached.new.turn ≡ reached.old.turn + length counts.now) }
+        ensures shared { IfSome result (AreSharedBy N.number self.now mark.new) }
+    {
+        let mut passed = *reached;
+        for i in 0..counts.len() {
+            let owner = at + i;
+            let count = number_at(counts, i).widen();
+            let weight = self.weight_of_part(owner, count);
+            if passed.left < weight {
+                let near = number_at(self.near, owner);
+                let stop = self.stop_of(owner, passed.left);
+                mark[owner] = stop;
+                return Some(passed.sent + self.count_from(owner, near, stop));
+            }
+            mark[owner] = number_at(self.far, owner);
+            passed.turn += 1;
+            passed.left -= weight;
+            passed.sent += count;
+        }
+        *reached = passed;
+        None
     }
 
     // How many numbers the parts of some owners have, from an owner on.
-    fn count_of_parts(&self, counts: &mut [N], owner: usize, size: usize) -> u32
-        requires { HaveParts N.number N.most self.now counts.old owner size }
-        ensures count { result ≡ parts_count N.number self.now owner size }
-        ensures known { AreKnownFor N.number N.most self.now counts.new }
+    fn count_of_parts(&self, counts: &[N], owner: usize) -> u32
+        requires turns { AreTurns N.number N.most self.now }
+        requires within { owner + length counts.now ≤ self.now.offer.now.grid.size.nodes }
+        requires counts { AreParts N.number self.now owner (length counts.now) counts.now }
+        ensures { result ≡ parts_count N.number self.now owner (length counts.now) }
     {
-        self.count_parts(counts, owner, size);
         let mut count = 0;
-        for i in 0..size {
-            count += number_at(counts, owner + i).widen();
+        for i in 0..counts.len() {
+            count += number_at(counts, i).widen();
         }
         count
-    }
-
-    // Gives the owners in turn the far mark, many at a time, as long as entries are counted and the parts of all of
-    // these fit.
-    fn pass_many(&self, counts: &mut [N], mark: &mut [N], start: Reached) -> Reached
-        requires { ArePassing N.number N.most self.now counts.old mark.old start }
-        ensures { ArePassing N.number N.most self.now counts.new mark.new result }
-    {
-        let mut reached = start;
-        if let Budget::Entries(_) = self.offer.budget {
-            let nodes = self.offer.grid.size.nodes;
-            let far: &[N] = &self.level.far;
-            while reached.turn < nodes {
-                let owner = owner_of_turn(reached.turn, nodes, self.rotation);
-                let size = MANY.min(nodes - owner.max(reached.turn));
-                let count = self.count_of_parts(counts, owner, size);
-                if reached.left < count {
-                    return reached;
-                }
-                for i in 0..size {
-                    mark[owner + i] = number_at(far, owner + i);
-                }
-                reached = Reached {
-                    turn: reached.turn + size,
-                    left: reached.left - count,
-                    sent: reached.sent + count,
-                };
-            }
-        }
-        reached
     }
 
     // Gives the owners in turn the far mark as long as their parts fit, and the first whose part doesn't the mark where
     // that stops. Answers how many numbers these marks let through.
     fn share_into(&self, counts: &mut [N], mark: &mut [N]) -> u32
-        requires counts { HaveParts N.number N.most self.now counts.old 0 self.now.offer.now.grid.size.nodes }
-        requires mark { mark.old ≡ self.now.level.now.near.items }
+        requires turns { AreTurns N.number N.most self.now }
+        requires counts { length counts.old ≡ MANY }
+        requires mark { mark.old ≡ self.now.near.now }
         ensures { AreSharedBy N.number self.now mark.new result }
     {
         let nodes = self.offer.grid.size.nodes;
-        let start = Reached {
+        let mut reached = Reached {
             turn: 0,
-            left: self.level.left,
-            sent: self.level.whole,
+            left: self.left,
+            sent: self.whole,
         };
-        let reached = self.pass_many(counts, mark, start);
-        let mut left = reached.left;
-        let mut sent = reached.sent;
-        for turn in reached.turn..nodes {
-            let owner = owner_of_turn(turn, nodes, self.rotation);
-            let count = self.count_of_part(counts, owner);
-            let weight = self.weight_of_part(owner, count);
-            let far = number_at(&self.level.far, owner);
-            if left < weight {
-                let near = number_at(&self.level.near, owner);
-                let stop = self.stop_of(owner, left);
-                mark[owner] = stop;
-                return sent + self.count_from(owner, near, stop);
+        while reached.turn < nodes {
+            let owner = owner_of_turn(reached.turn, nodes, self.rotation);
+            let size = MANY.min(nodes - owner.max(reached.turn));
+            let parts = &mut counts[..size];
+            self.count_parts(parts, owner);
+            if !self.pass_all(parts, mark, owner, &mut reached)
+                && let Some(sent) = self.pass_few(parts, mark, owner, &mut reached)
+            {
+                return sent;
             }
-            mark[owner] = far;
-            left -= weight;
-            sent += count;
         }
         unreachable!()
     }
@@ -239,8 +245,8 @@ impl<'a, 'b, N: Number> Turns<'a, 'b, N> {
         requires turns { AreTurns N.number N.most self.now }
         ensures { IfGranted result (λ s. AreSharedBy N.number self.now s.marks.items s.more) }
     {
-        let mut counts = all_of(alloc, self.offer.grid.size.nodes, N::greatest())?;
-        let mut marks = Vec::from_slice(alloc, &self.level.near)?;
+        let mut counts = zeros(alloc, MANY)?;
+        let mut marks = Vec::from_slice(alloc, self.near)?;
         let more = self.share_into(&mut counts, &mut marks);
         Ok(Step { marks, more })
     }

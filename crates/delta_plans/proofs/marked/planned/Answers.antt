@@ -1,11 +1,6 @@
 use Rattle.delta_plans.proofs.Common.{ap, ◌∙◌, by_first}
-use Rattle.delta_plans.proofs.MarkedLaws.{whole-marked, whole-size, sent-found, share-marked}
+use Rattle.delta_plans.proofs.MarkedLaws.{whole-marked, sent-found, share-marked}
 use Rattle.delta_plans.proofs.marked.planned.Goals as goal
-
-pub returns-then-fits-clause-size : goal.returns-then-fits-clause-size
-returns-then-fits-clause-size g c =
-    let same = c.in_ok-mark.ensures.items ∙ c.by_first.ensures in
-    whole-size g.N.Number.number g.N.Number.most c.args.offer.now c.requires.offer c.of-first.result c.in_ok-mark.mark.items same
 
 pub returns-then-fits-clause-marked : goal.returns-then-fits-clause-marked
 returns-then-fits-clause-marked g c =
@@ -14,16 +9,12 @@ returns-then-fits-clause-marked g c =
     let same = c.in_ok-mark.ensures.items ∙ c.by_first.ensures ∙ ap (λ first. by_first first offer.high.now offer.low.now) c.of-first.ensures in
     whole-marked g.N.Number.number g.N.Number.most offer c.requires.offer c.args.rotation fits c.args.mode c.in_ok-mark.mark.items same
 
-pub share-requires : goal.share-requires
-share-requires g c =
-    record { turns = record { offer = c.requires.offer; rotation = c.requires.rotation; level = rw c.of-first.ensures c.in_ok-level.ensures.0.is_level } }
-
 pub overflow_sub-counts : goal.overflow_sub-counts
 overflow_sub-counts g c =
     sent-found g.N.Number.number g.N.Number.most c.args.offer.now c.requires.offer c.args.rotation c.args.mode c.in_ok-level.ensures.0
-    c.in_ok-share.share.marks.items (rw c.of-first.ensures at c.in_ok-share.ensures.0.shared)
+    c.in_ok-share.share.marks.items (rw (c.of-first.ensures, c.deref.ensures.value, c.deref-2.ensures.value) at c.in_ok-share.ensures.0.shared)
 
 pub returns-clause-marked : goal.returns-clause-marked
 returns-clause-marked g c =
     share-marked g.N.Number.number g.N.Number.most c.args.offer.now c.requires.offer c.args.rotation c.args.mode c.in_ok-level.ensures.0
-    c.in_ok-share.share.marks.items (rw c.of-first.ensures at c.in_ok-share.ensures.0.shared)
+    c.in_ok-share.share.marks.items (rw (c.of-first.ensures, c.deref.ensures.value, c.deref-2.ensures.value) at c.in_ok-share.ensures.0.shared)

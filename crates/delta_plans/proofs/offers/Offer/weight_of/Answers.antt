@@ -1,5 +1,5 @@
-use Rattle.delta_plans.proofs.Common.{ℕ, ap, arith, nat_tests, number_next, all_writes, write_numbered, cells_in, weights_in}
-use Rattle.delta_plans.proofs.WeightLaws.{count_between-most, owner-most, part, share-most}
+use Rattle.delta_plans.proofs.Common.{arith, all_writes, write_numbered, cells_in}
+use Rattle.delta_plans.proofs.WeightLaws.{count_between-most, owner-most, share-most}
 use Rattle.delta_plans.proofs.offers.Offer.weight_of.Goals as goal
 
 pub overflow_add-weight : goal.overflow_add-weight
@@ -10,16 +10,3 @@ overflow_add-weight g c =
     let most = owner-most number offer c.loop-key.key c.args.owner (number c.args.low) (number c.args.high) in
     let one = share-most offer.budget (write_numbered (all_writes offer.lists.now c.args.owner) (number c.cell_of-cell.result)) in
     omega (arith, c.loop-key.invariant, few, most, one, c.weight_of_number-weight.ensures, c.requires.is_offer.grid.few_keys, c.loop-key-test.true)
-
-pub loop-key-preserved : goal.loop-key-preserved
-loop-key-preserved g c =
-    let number = g.N.Number.number in
-    let weight = weights_in c.args.self.now c.args.owner in
-    let more = (λ (k : ℕ). part weight (number c.args.low) (number c.args.high) (cells_in number c.args.self.now c.args.owner k)) in
-    let between = rw c.cell_of-cell.ensures at c.is_between.ensures in
-    elim c.if-is_between.branch [
-      | goal.then-is_between w ↦ number_next more _ _ _ c.loop-key.invariant w.weight-is
-          (grind (arith, nat_tests, between, ap weight c.cell_of-cell.ensures, w.if-is_between.true, w.weight_of_number-weight.ensures))
-      | goal.else-is_between w ↦ number_next more _ _ _ {y = 0} c.loop-key.invariant (omega (arith, w.weight-is))
-          (grind (arith, nat_tests, between, w.if-is_between.false))
-    ]

@@ -9,8 +9,4 @@ returns-then-surely_fit g c =
     let first = c.args.self.now.first in
     let mark = marks number c.args.mark.now in
     let most = offer-most number offer (λ r. by_first first (low_in number offer r) (mark r)) (λ r. by_first first (mark r) (high_in number offer r)) in
-    record {
-      counted = c.count-count.ensures;
-      within = omega (arith, c.if-surely_fit.ensures refl, ap (λ n. n * MOST_ENTRY_SIZE) c.count-count.ensures, most);
-      known = tt;
-    }
+    (c.count-count.ensures, omega (arith, c.if-surely_fit.ensures refl, ap (λ n. n * MOST_ENTRY_SIZE) c.count-count.ensures, most), tt)

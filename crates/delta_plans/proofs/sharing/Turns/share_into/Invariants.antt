@@ -1,6 +1,8 @@
-use Rattle.delta_plans.proofs.Common.{ArePassing}
+use Rattle.delta_plans.proofs.Common.{◌≡◌, ◌-◌, length, HasReached}
 use Rattle.delta_plans.proofs.sharing.Turns.share_into.Given as goal
 
-abbrev pub invariant-loop-turn : goal.invariant-loop-turn
-invariant-loop-turn g l =
-    ArePassing g.N.Number.number g.N.Number.most l.self l.counts l.mark (record { turn = l.turn; left = l.left; sent = l.sent })
+abbrev pub invariant-loop-reached : goal.invariant-loop-reached
+invariant-loop-reached g l = record { so_far : HasReached g.N.Number.number l.self l.mark l.reached; counts : length l.counts ≡ 64 }
+
+abbrev pub decreases-loop-reached : goal.decreases-loop-reached
+decreases-loop-reached g l = l.self.offer.now.grid.size.nodes - l.reached.turn

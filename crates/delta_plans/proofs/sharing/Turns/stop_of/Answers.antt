@@ -4,13 +4,10 @@ use Rattle.delta_plans.proofs.sharing.Turns.stop_of.Goals as goal
 
 pub loop-middle-init : goal.loop-middle-init
 loop-middle-init g c =
-    let level = c.args.self.now.level.now in
-    let near : c.widen-fits.result ≡ marks g.N.Number.number level.near.items c.args.owner =
-    omega (arith, rw c.deref.ensures.value at c.number_at.ensures) in
-    let far : c.widen-beyond.result ≡ marks g.N.Number.number level.far.items c.args.owner =
-    omega (arith, rw c.deref-2.ensures.value at c.number_at-2.ensures) in
+    let near : c.widen-fits.result ≡ marks g.N.Number.number c.args.self.now.near.now c.args.owner = omega (arith, c.number_at.ensures) in
+    let far : c.widen-beyond.result ≡ marks g.N.Number.number c.args.self.now.far.now c.args.owner = omega (arith, c.number_at-2.ensures) in
     record {
-      so_far = rw (near, far) (stop-first (c.requires.turns.level.farther c.args.owner c.requires.owner).2 c.requires.beyond);
+      so_far = rw (near, far) (stop-first c.args.self.now.first (c.requires.turns.level.farther c.args.owner c.requires.owner).2 c.requires.beyond);
       fits = omega (arith, c.widen-fits.ensures, c.min_with.ensures, c.greatest-most.ensures);
       beyond = omega (arith, c.widen-beyond.ensures, c.min_with-2.ensures, c.greatest-most.ensures);
     }
@@ -18,23 +15,6 @@ loop-middle-init g c =
 pub loop-middle-preserved-then-weight-left : goal.loop-middle-preserved-then-weight-left
 loop-middle-preserved-then-weight-left g c =
     let takes = rw (c.narrow.ensures, c.narrow-in-loop-middle.ensures) at c.weight_from-weight.ensures in
-    let halved = stop-halved c.loop-middle.invariant.so_far _ (omega (arith, c.min.ensures))
+    let halved = stop-halved c.args.self.now.first c.loop-middle.invariant.so_far _ (omega (arith, c.min.ensures))
     (omega (arith, c.min.ensures, c.abs_diff-in-loop-middle.ensures)) takes in
     record { so_far = halved.0 c.if-weight-left.true; fits = omega (arith, c.min.ensures); beyond = omega (arith, c.min.ensures) }
-
-pub loop-middle-preserved : goal.loop-middle-preserved
-loop-middle-preserved g c =
-    let takes = rw (c.narrow.ensures, c.narrow-in-loop-middle.ensures) at c.weight_from-weight.ensures in
-    let halved = stop-halved c.loop-middle.invariant.so_far _ (omega (arith, c.min.ensures))
-    (omega (arith, c.min.ensures, c.abs_diff-in-loop-middle.ensures)) takes in
-    record { so_far = halved.1 c.if-weight-left.false; fits = omega (arith, c.min.ensures); beyond = omega (arith, c.min.ensures) }
-
-pub returns : goal.returns
-returns g c =
-    record {
-      beyond = c.loop-middle.beyond;
-      left = c.loop-middle.left;
-      so_far = rw c.narrow-2.ensures c.loop-middle.invariant.so_far;
-      below = omega (arith, c.narrow-2.ensures, c.loop-middle-test.false);
-      above = omega (arith, c.narrow-2.ensures, c.loop-middle-test.false);
-    }

@@ -1,8 +1,13 @@
 -- From an offer's marks to the marks of a delta between two tables.
 -- Serves `delta_above` and `Merged`.
-use Rattle.version_tables.proofs.Common.{◌≡◌, ℕ, ◌<◌, ◌≤◌, List, length, get_or, map, inl, inr, refl, sym, ap, ◌∙◌, subst, arith, nat_lt, ◌&&◌, total_above, cases_eq, length-map, nat_tests, Entry, First, Oldest, Newest, Rules, DigestKind, Scuttle, Precise, digest_kind, first_sent, Table, candidates, delta_between, write_numbered, all_writes, Cells, cell, HasNoneAbove, Offer, HasSet, by_first, AreMarked, KeepsLow, IsOffer, IsHistory, Offers, offered_by, told_by, lets_through, NumbersDiffer, IsOffered, candidate-place, candidate-number, lets, count-above, count-sent, count-cut, are-sent, shared-sent, whole-sent, numbered-some, VersionTableView, HistoriesView, table_in, is_taken_at, AreLaidBoth, AreMarksOf, AreLow, AreOffered, AreTold, is_taken}
-use Rattle.version_tables.proofs.Fitting.{turned, first-keyed, first-upto}
-use Rattle.version_tables.proofs.Told.{told-offers, offered-is, offered-upto}
+use Rattle.version_tables.proofs.Common.{◌≡◌, ℕ, ◌<◌, ◌≤◌, List, length, get_or, map, Some, ◌⊎◌, inl, inr, refl, sym, ap, ◌∙◌, subst, arith, nat_lt, ◌&&◌, total_above, cases_eq, lt-ltb, le-ltb, length-map, nat_tests, Entry, First, Oldest, Newest, Rules, DigestKind, Scuttle, Precise, digest_kind, first_sent, Table, entry_at, candidates, delta_between, write_numbered, all_writes, Cells, cell, Offer, HasNoneAbove, HasSet, by_first, AreMarked, KeepsLow, IsOffer, is_lacked, offered_by, told_by, lets_through, IsOffered, candidate-place, candidate-number, lets, count-above, count-sent, count-cut, are-sent, shared-sent, whole-sent, VersionTableView, HistoriesView, table_in, is_taken_at, AreMarksOf, AreLow, AreOffered, AreTold, is_taken}
+use Rattle.version_tables.proofs.Fitting.{AreLaidBoth, cells-are, cells-held, cells-upto, lacks}
+
+-- what is offered is a number itself, or 0
+offered-either : (kind : DigestKind) (sender receiver : Cells) (low : ℕ → ℕ) (owner key : ℕ)
+    → (offered_by kind sender receiver low owner key ≡ sender owner key) ⊎ (offered_by kind sender receiver low owner key ≡ 0)
+offered-either Scuttle sender receiver low owner key = inl refl
+offered-either Precise sender receiver low owner key = grind (arith, nat_tests)
 
 -- what a receiver takes by the marks of a delta is what these let through of what is offered
 taken-by : (kind : DigestKind) (first : First) (sender receiver : Cells) (low mark high : List ℕ) (owner key : ℕ)
@@ -20,35 +25,24 @@ by_first-size : (first : First) (xs ys : List ℕ) (n : ℕ) → length xs ≡ n
 by_first-size Oldest xs ys n one other = one
 by_first-size Newest xs ys n one other = other
 
--- an offer is of what one table lacks of another's
+-- an offer of a sender's owners and keys, with the lists so far
+abbrev offer_of : {N : Type 0} → Rules → HistoriesView → VersionTableView → Offer N → Offer N
+offer_of rules h from given = record given {
+  grid = record given.grid { size = record { nodes = from.nodes; keys = from.keys } };
+  lists = record given.lists { now = h.lists };
+  budget = rules.budget;
+}
+
+-- it is of what one table lacks of another's
 pub record IsOfferOf {N : Type 0} (number : N → ℕ) (rules : Rules) (h : HistoriesView) (from to : VersionTableView) (given : Offer N) : Type 0 where
-  pub nodes : given.grid.size.nodes ≡ from.nodes
-  pub keys : given.grid.size.keys ≡ from.keys
-  pub lists : given.lists.now ≡ h.lists
-  pub budget : given.budget ≡ rules.budget
+  pub is : given ≡ offer_of rules h from given
   pub high : map number given.high.now ≡ from.greatest
   pub low : AreLow (digest_kind rules.mode) h from to (map number given.low.now)
   pub offered : AreOffered (digest_kind rules.mode) from to (map number given.low.now) (map number given.grid.cells.now)
   pub found : given.found ≡ total_above from.nodes from.keys (map number given.grid.cells.now) (map number given.low.now)
 
 module _ {N : Type 0} (number : N → ℕ) {written : ℕ → List Entry} {most : ℕ} {h : HistoriesView} {from to : VersionTableView}
-    (two : AreLaidBoth written most h from to)
-    (rules : Rules) (given : Offer N) (is : IsOfferOf number rules h from to given) where
-  -- the offer, of the sender's owners and keys and the lists so far
-  abbrev offer : Offer N
-  offer = record given {
-    grid = record given.grid { size = record { nodes = from.nodes; keys = from.keys } };
-    lists = record given.lists { now = h.lists };
-    budget = rules.budget;
-  }
-
-  same : given ≡ offer
-  same = λ i. record given {
-    grid = record given.grid { size = record { nodes = is.nodes i; keys = is.keys i } };
-    lists = record given.lists { now = is.lists i };
-    budget = is.budget i;
-  }
-
+    (two : AreLaidBoth written most h from to) (rules : Rules) (given : Offer N) (is : IsOfferOf number rules h from to given) where
   abbrev kind : DigestKind
   kind = digest_kind rules.mode
 
@@ -76,47 +70,73 @@ module _ {N : Type 0} (number : N → ℕ) {written : ℕ → List Entry} {most 
   abbrev cells : Cells
   cells = cell (map number given.grid.cells.now) from.nodes
 
-  sender-high : (owner key : ℕ) → owner < from.nodes → key < from.keys → sender owner key ≤ high owner
-  sender-high owner key in_nodes in_keys = omega (arith, (two.first.most.each owner in_nodes).upto key in_keys, ap (λ xs. get_or xs owner 0) is.high)
+  module _ (owner key : ℕ) (in_nodes : owner < from.nodes) (in_keys : key < from.keys) where
+    sender-high : sender owner key ≤ high owner
+    sender-high = omega (arith, (two.first.tops.each owner in_nodes).upto key in_keys, ap (λ xs. get_or xs owner 0) is.high)
 
-  cells-upto : (owner key : ℕ) → owner < from.nodes → key < from.keys → cells owner key ≤ sender owner key
-  cells-upto owner key in_nodes in_keys = omega (arith, is.offered.each owner key in_nodes in_keys, offered-upto kind sender receiver low owner key)
+    -- what is offered is the sender's number, or 0
+    either : (cells owner key ≡ sender owner key) ⊎ (cells owner key ≡ 0)
+    either =
+        subst (λ n. (n ≡ sender owner key) ⊎ (n ≡ 0)) (sym (is.offered.each owner key in_nodes in_keys)) (offered-either kind sender receiver low owner key)
 
-  offers : Offers rules.mode F T (all_writes h.lists) cells low
-  offers = told-offers two rules.mode (map number given.low.now) (map number given.grid.cells.now) is.low is.offered
+    upto : cells owner key ≤ sender owner key
+    upto = grind (arith, either)
+
+    at : 0 < cells owner key → cells owner key ≡ sender owner key
+    at some = grind (arith, either)
+
+  lacked-is : (owner key : ℕ) (e : Entry) → entry_at F owner key ≡ Some e
+      → is_lacked rules.mode T (record { owner = owner; entry = e }) ≡ nat_lt (low owner) (cells owner key)
+  lacked-is owner key e held =
+      let place = two.first.proper.in_place owner key e held in
+      let le = upto owner key place.owner_below place.key_below in
+      let offered = is.offered.each owner key place.owner_below place.key_below in
+      elim (cases_eq owner to.node) [
+        | inl own ↦ let none = subst (λ o. sender o key ≤ low o) (sym own) (is.low.sent key place.key_below) in grind (arith, nat_tests)
+        | inr other ↦
+            let in_to : owner < to.nodes = omega (arith, place.owner_below, two.nodes) in
+            let its = sym (cells-are two.first owner place.owner_below key place.key_below) ∙ held in
+            let in_keys : key < to.keys = omega (arith, place.key_below, two.keys) in
+            let at = lacks two.second owner in_to key in_keys e sender its place.keyed kind low (is.low.others owner in_to other) in
+            grind (arith, nat_tests)
+      ]
+
+  -- what is told gives the candidates
+  given_is : IsOffered rules.mode F T (all_writes h.lists) cells low
+  given_is = record {
+    proper = two.first.proper;
+    histories = λ owner. (two.first.known.so_far owner).history;
+    offers = record {
+      above = λ owner key in_nodes in_keys lt.
+          let its = at owner key in_nodes in_keys (omega (arith, lt)) in
+          let e = cells-held two.first owner in_nodes key in_keys (omega (arith, lt, its)) in
+          (e.0, e.2, ap (write_numbered (all_writes h.lists owner)) its ∙ e.1, lacked-is owner key e.0 e.2 ∙ lt-ltb (low owner) (cells owner key) lt);
+      below = λ owner key e held le. lacked-is owner key e held ∙ le-ltb (low owner) (cells owner key) le;
+    };
+  }
 
   covered : (owner : ℕ) → owner < from.nodes → HasNoneAbove cells from.keys owner (high owner)
-  covered owner in_nodes key in_keys = omega (arith, cells-upto owner key in_nodes in_keys, sender-high owner key in_nodes in_keys)
-
-  at : (owner key : ℕ) → owner < from.nodes → key < from.keys → 0 < cells owner key → cells owner key ≡ sender owner key
-  at owner key in_nodes in_keys some =
-      is.offered.each owner key in_nodes in_keys ∙ offered-is kind sender receiver low owner key
-      (omega (arith, some, is.offered.each owner key in_nodes in_keys))
-
-  differ : (owner : ℕ) → owner < from.nodes → NumbersDiffer cells from.keys owner
-  differ owner in_nodes k l in_k in_l some same =
-      let at_k : cells owner k ≡ sender owner k = at owner k in_nodes in_k some in
-      let at_l : cells owner l ≡ sender owner l = at owner l in_nodes in_l (omega (arith, some, same)) in
-      let there = numbered-some (all_writes h.lists owner) (sender owner k) (omega (arith, some, at_k)) (first-upto two owner k in_nodes in_k) in
-      sym (first-keyed two owner k there.0 in_nodes in_k there.1)
-      ∙ first-keyed two owner l there.0 in_nodes in_l (ap (write_numbered (all_writes h.lists owner)) (sym at_l ∙ sym same ∙ at_k) ∙ there.1)
+  covered owner lt key lt' = omega (arith, upto owner key lt lt', sender-high owner key lt lt')
 
   -- the numbers are an offer
   pub offer-is : IsOffer number most given
-  offer-is = subst (IsOffer number most) (sym same) (record {
+  offer-is = subst (IsOffer number most) (sym is.is) (record {
     grid = record {
       whole = sym (length-map given.grid.cells.now number) ∙ is.offered.size;
       few_nodes = two.first.proper.nodes_limit;
       few_keys = two.first.proper.keys_limit;
     };
-    low = sym (length-map given.low.now number) ∙ is.low.count ∙ sym two.both.size.nodes;
-    high = sym (length-map given.high.now number) ∙ ap length is.high ∙ two.first.most.size;
-    lists = sym two.both.first.nodes;
-    written = λ owner key in_nodes in_keys. omega (arith, cells-upto owner key in_nodes in_keys, first-upto two owner key in_nodes in_keys);
-    below = λ owner key in_nodes in_keys.
-        let upto = first-upto two owner key in_nodes in_keys in
-        omega (arith, cells-upto owner key in_nodes in_keys, upto, (two.known.so_far owner).few);
-    differ = differ;
+    low = sym (length-map given.low.now number) ∙ is.low.count ∙ sym two.nodes;
+    high = sym (length-map given.high.now number) ∙ ap length is.high ∙ two.first.tops.size;
+    lists = sym two.first.fits.nodes;
+    written = λ owner key lt lt'. omega (arith, upto owner key lt lt', cells-upto two.first owner lt key lt');
+    below = λ owner key lt lt'. omega (arith, upto owner key lt lt', cells-upto two.first owner lt key lt', (two.first.known.so_far owner).few);
+    differ = λ owner in_nodes k l in_k in_l some same.
+        let one = at owner k in_nodes in_k some in
+        let other = at owner l in_nodes in_l (omega (arith, some, same)) in
+        let e = cells-held two.first owner in_nodes k in_k (omega (arith, some, one)) in
+        let here = cells-are two.first owner in_nodes l in_l ∙ ap (write_numbered (all_writes h.lists owner)) (sym other ∙ sym same ∙ one) ∙ e.1 in
+        sym (two.first.proper.in_place owner k e.0 e.2).keyed ∙ (two.first.proper.in_place owner l e.0 here).keyed;
     covered = covered;
     found = is.found ∙ count-above cells from.nodes from.keys high covered low;
   })
@@ -127,14 +147,14 @@ module _ {N : Type 0} (number : N → ℕ) {written : ℕ → List Entry} {most 
     abbrev m : ℕ → ℕ
     m r = get_or mark r 0
 
-    marked : AreMarked rules.mode rotation number offer m sent cut
-    marked = subst (λ o. AreMarked rules.mode rotation number o m sent cut) same marked_is
+    abbrev lows : List ℕ
+    lows = map number given.low.now
 
-    histories : (owner : ℕ) → IsHistory (all_writes h.lists owner)
-    histories owner = (two.known.so_far owner).history
+    abbrev highs : List ℕ
+    highs = map number given.high.now
 
-    given_is : IsOffered rules.mode F T (all_writes h.lists) cells low
-    given_is = record { proper = two.first.proper; histories = histories; offers = offers }
+    marked : AreMarked rules.mode rotation number (offer_of rules h from given) m sent cut
+    marked = subst (λ o. AreMarked rules.mode rotation number o m sent cut) is.is marked_is
 
     has : HasSet (candidates rules.mode F T) (lets rules.mode cells m) (delta_between rules.mode rotation rules.budget F T)
     has = elim marked.how [
@@ -145,50 +165,45 @@ module _ {N : Type 0} (number : N → ℕ) {written : ℕ → List Entry} {most 
       | inr level ↦ shared-sent given_is in_nodes covered m marked.above rules.budget level.shape level.shared.stop level.shared.within level.shared.beyond
     ]
 
-    -- all that the receiver holds is up to the low marks of a scuttle digest
-    told-upto : (owner key : ℕ) → owner < to.nodes → key < to.keys → kind ≡ Scuttle → receiver owner key ≤ low owner
-    told-upto owner key in_to in_keys is_scuttle = elim (cases_eq owner to.node) [
-      | inl own ↦ subst (λ o. receiver o key ≤ low o) (sym own) (is.low.held key in_keys)
-      | inr other ↦
-          let told = is.low.others owner in_to other ∙ ap (λ k. told_by k (all_writes h.lists owner) (get_or to.greatest owner 0)) is_scuttle in
-          omega (arith, told, (two.second.most.each owner in_to).upto key in_keys)
-    ]
-
-    taken-is : (owner key : ℕ) → owner < from.nodes → key < from.keys
-        → is_taken_at from to (by_first first (map number given.low.now) mark) (by_first first mark (map number given.high.now)) owner key ≡
-        (nat_lt (low owner) (cells owner key) && lets_through first (m owner) (cells owner key))
+    taken-is : (owner key : ℕ) → owner < from.nodes → key < from.keys → is_taken_at from to (by_first first lows mark) (by_first first mark highs) owner key
+        ≡ (nat_lt (low owner) (cells owner key) && lets_through first (m owner) (cells owner key))
     taken-is owner key lt in_keys =
-        taken-by kind first sender receiver (map number given.low.now) mark (map number given.high.now) owner key
-        (told-upto owner key (omega (arith, lt, two.both.size.nodes)) (omega (arith, in_keys, two.both.size.keys)))
+        let in_to : owner < to.nodes = omega (arith, lt, two.nodes) in
+        let in_key : key < to.keys = omega (arith, in_keys, two.keys) in
+        taken-by kind first sender receiver lows mark highs owner key
+        (λ is_scuttle. elim (cases_eq owner to.node) [
+          | inl own ↦ subst (λ o. receiver o key ≤ low o) (sym own) (is.low.held key in_key)
+          | inr other ↦
+              let told = is.low.others owner in_to other ∙ ap (λ k. told_by k (all_writes h.lists owner) (get_or to.greatest owner 0)) is_scuttle in
+              omega (arith, told, (two.second.tops.each owner in_to).upto key in_key)
+        ])
         (λ is_newest. subst (λ f. KeepsLow f from.nodes low m) is_newest marked.above owner lt) (sender-high owner key lt in_keys)
-        ∙ (λ i. nat_lt (low owner) (sym (is.offered.each owner key lt in_keys) i) && lets_through first (m owner)
-        (sym (is.offered.each owner key lt in_keys) i))
+        ∙ ap (λ n. nat_lt (low owner) n && lets_through first (m owner) n) (sym (is.offered.each owner key lt in_keys))
 
-    pub delta-marks : length mark ≡ from.nodes
-        → AreMarksOf rules rotation written from to (by_first first (map number given.low.now) mark) (by_first first mark (map number given.high.now)) sent cut
+    pub delta-marks : length mark ≡ from.nodes → AreMarksOf rules rotation written from to (by_first first lows mark) (by_first first mark highs) sent cut
     delta-marks mark_size =
         let sent_is = marked.count ∙ sym (count-sent given_is in_nodes covered m marked.above rules.budget has) in
         record {
-          low_count = by_first-size first (map number given.low.now) mark from.nodes (is.low.count ∙ sym two.both.size.nodes) mark_size;
-          high_count = by_first-size first mark (map number given.high.now) from.nodes mark_size (ap length is.high ∙ two.first.most.size);
+          low_count = by_first-size first lows mark from.nodes (is.low.count ∙ sym two.nodes) mark_size;
+          high_count = by_first-size first mark highs from.nodes mark_size (ap length is.high ∙ two.first.tops.size);
           marks = are-sent given_is in_nodes covered m marked.above rules.budget has
-              (is_taken_at from to (by_first first (map number given.low.now) mark) (by_first first mark (map number given.high.now))) taken-is;
+              (is_taken_at from to (by_first first lows mark) (by_first first mark highs)) taken-is;
           count = sent_is;
           left = omega (arith, sent_is, marked.left, count-cut given_is in_nodes covered m marked.above rules.budget has);
         }
 
 -- what is told makes low marks: of the receiver itself the most, which no number is
 pub told-low : {written : ℕ → List Entry} {most : ℕ} {h : HistoriesView} {from to : VersionTableView} (two : AreLaidBoth written most h from to)
-    (kind : DigestKind) (low : List ℕ)
-    → AreTold kind most h to low → AreLow kind h from to low
+    (kind : DigestKind) (low : List ℕ) → AreTold kind most h to low → AreLow kind h from to low
 told-low {most = most} {h = h} {from = from} {to = to} two kind low told = record {
-  count = told.size ∙ sym two.both.second.nodes;
-  others = λ owner lt other. let is = told.each owner (omega (arith, lt, two.both.second.nodes)) in grind (arith, nat_tests);
-  sent = λ key in_keys.
-      let upto = first-upto two to.node key (omega (arith, two.second.proper.node_below, two.both.size.nodes)) in_keys in
-      omega (arith, own, upto, (two.known.so_far to.node).few);
-  held = λ key in_keys. omega (arith, own, first-upto (turned two) to.node key two.second.proper.node_below in_keys, (two.known.so_far to.node).few);
+  count = told.size ∙ sym two.second.fits.nodes;
+  others = λ owner lt other. let is = told.each owner (omega (arith, lt, two.second.fits.nodes)) in grind (arith, nat_tests);
+  sent = λ key lt. omega (arith, own, few, cells-upto two.first to.node (omega (arith, two.second.proper.node_below, two.nodes)) key lt);
+  held = λ key lt. omega (arith, own, few, cells-upto two.second to.node two.second.proper.node_below key lt);
 }
   where
+    few : length (all_writes h.lists to.node) < most
+    few = (two.first.known.so_far to.node).few
+
     own : get_or low to.node 0 ≡ most
-    own = let is = told.each to.node (omega (arith, two.second.proper.node_below, two.both.second.nodes)) in grind (arith, nat_tests)
+    own = let is = told.each to.node (omega (arith, two.second.proper.node_below, two.second.fits.nodes)) in grind (arith, nat_tests)

@@ -1,30 +1,22 @@
 -- What a table holds whose numbers lie in planes.
 -- Serves most of the crate.
-use Rattle.version_tables.proofs.Common.{◌≡◌, ◌≢◌, ℕ, zero, suc, ◌<◌, ◌≤◌, cond, nat_tests, eqb, ltb, List, [], length, map, Vec, Option, Some, None, ◌⊎◌, inl, inr, refl, sym, ap, ◌∙◌, subst, transport, arith, range_with_len, with_items, cases_lt, cases_eq, eq-eqb, ne_eqb, lt-ltb, le-ltb, get_or_past, with_items_is, none-some, get_or-map-range_with_len, length-map-range_with_len, Entry, Table, entry_at, IsProper, KeepsFrame, same_table, entry_in, get-held_by_lists, HasCells, write_numbered, cell, HasEach, HasEachPlace, with_entry, entries_below, VersionTableView, table_in, IsNumberOf, IsGreatest, IsKept}
+use Rattle.version_tables.proofs.Common.{◌≡◌, ℕ, zero, suc, ◌<◌, ◌≤◌, cond, nat_tests, eqb, ltb, List, [], length, map, Vec, Option, Some, None, ◌⊎◌, inl, inr, refl, sym, ap, ◌∙◌, subst, transport, arith, range_with_len, with_items, cases_lt, lt-ltb, le-ltb, get_or_past, with_items_is, none-some, get_or-map-range_with_len, length-map-range_with_len, Entry, Table, entry_at, IsProper, KeepsFrame, same_table, entry_in, get-held_by_lists, HasCells, write_numbered, cell, HasEach, HasEachPlace, with_entry, entries_below, VersionTableView, table_in, IsNumberOf, IsGreatest, IsKept}
 
 module _ (writes : List Entry) (numbers : ℕ → ℕ) (keys : ℕ)
     (keyed : (key : ℕ) (e : Entry) → key < keys → write_numbered writes (numbers key) ≡ Some e → e.key ≡ key) where
   abbrev held : ℕ → Option Entry
   held key = write_numbered writes (numbers key)
 
-  -- one key more is another one
-  other_key : (bound key : ℕ) → bound ≢ key → cond (ltb key bound) (held key) None ≡ cond (ltb key (suc bound)) (held key) None
-  other_key bound key other = grind (arith, nat_tests)
-
   row : (bound key : ℕ) → bound ≤ keys → entry_in (entries_below writes numbers bound) key ≡ cond (ltb key bound) (held key) None
   row zero key le = rw (le-ltb key 0 (omega arith))
   row (suc bound) key le =
       let es = entries_below writes numbers bound in
       let before = row bound key (omega (arith, le)) in
+      let same = λ (is : bound ≡ key). ap held is in
       elim (held bound) as (λ o. held bound ≡ o → entry_in (with_entry o es) key ≡ cond (ltb key (suc bound)) (held key) None) [
-        | None ↦ λ none. before ∙ elim (cases_eq bound key) [
-          | inl same ↦ rw (le-ltb key bound (omega (arith, same)), lt-ltb key (suc bound) (omega (arith, same))) (sym none ∙ ap held same)
-          | inr other ↦ other_key bound key other
-        ]
-        | Some e ↦ λ is. ap (λ k. cond (eqb k key) (Some e) (entry_in es key)) (keyed bound e (omega (arith, le)) is) ∙ elim (cases_eq bound key) [
-          | inl same ↦ rw (eq-eqb bound key same, lt-ltb key (suc bound) (omega (arith, same))) (sym is ∙ ap held same)
-          | inr other ↦ rw (ne_eqb bound key other) (before ∙ other_key bound key other)
-        ]
+        | None ↦ λ none. before ∙ grind (arith, nat_tests, same, none)
+        | Some e ↦ λ is. ap (λ k. cond (eqb k key) (Some e) (entry_in es key)) (keyed bound e (omega (arith, le)) is)
+            ∙ grind (arith, nat_tests, same, is, before)
       ] refl
 
 module _ (written : ℕ → List Entry) (v : VersionTableView) (are : HasEachPlace v.nodes v.keys (λ r k n. IsNumberOf (written r) k n) v.cells) where
@@ -103,10 +95,7 @@ module _ {written : ℕ → List Entry} {v : VersionTableView} {is : Table} (lie
       none : (owner key : ℕ) → (v.nodes ≤ owner) ⊎ (v.keys ≤ key) → entry_at (table_in written v) owner key ≡ entry_at is owner key
       none owner key past = outside written v numbers owner key past ∙ sym (none-unless (entry_at is owner key) (λ e held.
           let place = lies.proper.in_place owner key e held in
-          elim past [
-            | inl over ↦ omega (arith, over, place.owner_below, lies.frame.nodes)
-            | inr over ↦ omega (arith, over, place.key_below, lies.frame.keys)
-          ]))
+          grind (arith, past, place.owner_below, place.key_below, lies.frame.nodes, lies.frame.keys)))
 
   pub lies-kept : IsKept written v
   lies-kept = record { proper = subst IsProper (sym lies-table) lies.proper; numbers = numbers; most = lies.most }

@@ -1,13 +1,10 @@
-pub mod TakenEntries
-pub mod Told
 pub mod Delivered
 pub mod Laid
 pub mod Fitting
 pub mod OwnCalls
 pub mod NextWrites
 pub mod Standing
-pub mod TakenViews
-pub mod ExchangedViews
+pub mod Taken
 pub mod Merged
 pub mod DigestSizes
 pub mod HistoryCalls

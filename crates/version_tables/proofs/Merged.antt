@@ -1,11 +1,10 @@
 -- Tables that take all that the other has above their own greatest numbers exchange as the model's do.
 -- Serves `exchange`.
-use Rattle.version_tables.proofs.Common.{◌≡◌, ℕ, zero, suc, ◌+◌, ◌-◌, ◌<◌, ◌≤◌, false, max, List, get_or, length, map, inl, inr, refl, sym, ap, ◌∙◌, arith, Option, Some, None, mul-le-mul_right, cases_lt, map-id, nat_tests, Entry, Budget, Entries, Bytes, Scuttle, Exchange, First, Oldest, Newest, Record, Rules, amount_of, largest_share, digest_kind, first_sent, sum_below-le, DeltaView, digest_size, last_fate, sent_until, MakesOf, write_numbered, all_writes, Cells, cell, count_between, most_ahead, total_above, BothCounts, Offer, NumbersDiffer, by_first, IsOffer, share_or_none, number_shares, count_all_between, weight_between, sum_below-none, whole-size, whole-marked, part, part-cases, weight_of-none, weight_of-split, weight_between-most, count_between-most, VersionTableView, HistoriesView, table_in, delta_of_views, AreLaidBoth, AreMarksOf, bases_in, BothStayMerged, HasMerged, HaveMerged, MayMerge, MayTakeAll, HasTaken}
+use Rattle.version_tables.proofs.Common.{◌≡◌, ℕ, zero, suc, ◌+◌, ◌-◌, ◌<◌, ◌≤◌, false, max, List, get_or, length, map, inl, inr, refl, sym, ap, ◌∙◌, arith, Option, Some, None, mul-le-mul_right, cases_lt, map-id, nat_tests, Entry, Budget, Entries, Bytes, Scuttle, Exchange, First, Oldest, Newest, Record, Rules, amount_of, largest_share, digest_kind, first_sent, sum_below-le, DeltaView, digest_size, last_fate, sent_until, MakesOf, write_numbered, all_writes, Cells, cell, count_between, most_ahead, total_above, BothCounts, Offer, NumbersDiffer, by_first, IsOffer, share_or_none, number_shares, count_all_between, weight_between, sum_below-none, whole-size, whole-marked, part, part-cases, weight_of-none, weight_of-split, weight_between-most, count_between-most, VersionTableView, HistoriesView, table_in, delta_of_views, AreMarksOf, bases_in, BothStayMerged, HasMerged, HaveMerged, MayMerge, MayTakeAll, HasTaken}
 use Rattle.version_tables.proofs.Delivered.{IsOfferOf, offer-is, delta-marks}
-use Rattle.version_tables.proofs.Fitting.{turned}
+use Rattle.version_tables.proofs.Fitting.{AreLaidBoth, turned}
 use Rattle.version_tables.proofs.Laid.{LiesAs, lies-kept, lies-table}
-use Rattle.version_tables.proofs.TakenEntries.{after}
-use Rattle.version_tables.proofs.TakenViews.{becomes}
+use Rattle.version_tables.proofs.Taken.{after, becomes}
 use Rattle.version_tables.specs.inner.Merged.{SurelyFits}
 
 -- marks that let all through are the high ones, or from the newest on the low ones, beside which are the others
@@ -68,20 +67,17 @@ module _ (rules : Rules) (rotation : ℕ) {written : ℕ → List Entry} {most :
   cells = cell from.cells from.nodes
 
   sender-upto : (owner key : ℕ) → owner < from.nodes → key < from.keys → cells owner key ≤ high owner
-  sender-upto owner key in_owners in_keys = (two.first.most.each owner in_owners).upto key in_keys
+  sender-upto owner key in_owners in_keys = (two.first.tops.each owner in_owners).upto key in_keys
 
   of-all : IsOfferOf id rules h from to all
   of-all = record {
-    nodes = refl;
-    keys = refl;
-    lists = refl;
-    budget = refl;
+    is = refl;
     high = map-id from.greatest;
     low = simp (scuttle, map-id) (record {
-      count = two.second.most.size;
+      count = two.second.tops.size;
       others = λ _ _ _. refl;
-      sent = λ key in_keys. omega (arith, may.own, sender-upto to.node key (omega (arith, two.second.proper.node_below, two.both.size.nodes)) in_keys);
-      held = (two.second.most.each to.node two.second.proper.node_below).upto;
+      sent = λ key in_keys. omega (arith, may.own, sender-upto to.node key (omega (arith, two.second.proper.node_below, two.nodes)) in_keys);
+      held = (two.second.tops.each to.node two.second.proper.node_below).upto;
     });
     offered = simp (scuttle, map-id) (record { size = two.first.numbers.size; each = λ _ _ _ _. refl });
     found = simp map-id;
@@ -123,28 +119,26 @@ module _ (rules : Rules) (rotation : ℕ) {written : ℕ → List Entry} {most :
   module _ {new : VersionTableView} (merged : HasMerged from to new) where
     here-sent : (owner key : ℕ) → owner < to.nodes → key < to.keys → cell from.cells to.nodes owner key ≤ high owner
     here-sent owner key in_owners in_keys =
-        let upto = sender-upto owner key (omega (arith, in_owners, two.both.size.nodes)) (omega (arith, in_keys, two.both.size.keys)) in
-        omega (arith, upto, ap (λ n. cell from.cells n owner key) two.both.size.nodes)
+        let upto = sender-upto owner key (omega (arith, in_owners, two.nodes)) (omega (arith, in_keys, two.keys)) in
+        omega (arith, upto, ap (λ n. cell from.cells n owner key) two.nodes)
 
     taken : HasTaken h.lists to from.cells to.greatest from.greatest new
     taken = record {
       raised = record {
-        size = merged.most.size ∙ two.second.most.size;
+        size = merged.most.size ∙ two.second.tops.size;
         each = λ owner lt.
-            let is : get_or new.greatest owner 0 ≡ max (low owner) (high owner) = merged.most.each owner (omega (arith, lt, two.second.most.size)) in
+            let is : get_or new.greatest owner 0 ≡ max (low owner) (high owner) = merged.most.each owner (omega (arith, lt, two.second.tops.size)) in
             record {
               rises = omega (arith, is);
-              upto = λ key in_keys. let held = (two.second.most.each owner lt).upto key in_keys in let sent = here-sent owner key lt in_keys in grind
-                  (arith, nat_tests);
-              from = elim (cases_lt (low owner) (high owner)) [
-                | inr not_below ↦ inl (omega (arith, is, not_below))
-                | inl below ↦ elim (two.first.most.each owner (omega (arith, lt, two.both.size.nodes))).held [
-                  | inl none ↦ absurd (omega (arith, none, below))
-                  | inr (key, in_keys, top) ↦
-                      let in_key : key < to.keys = omega (arith, in_keys, two.both.size.keys) in
-                      let there : cell from.cells to.nodes owner key ≡ high owner = ap (λ n. cell from.cells n owner key) (sym two.both.size.nodes) ∙ top in
-                      let held = (two.second.most.each owner lt).upto key in_key in
-                      inr (key, in_key, grind (arith, nat_tests))
+              upto = λ key in_keys. grind (arith, nat_tests, (two.second.tops.each owner lt).upto key in_keys, here-sent owner key lt in_keys);
+              from = elim (two.first.tops.each owner (omega (arith, lt, two.nodes))).held [
+                | inl none ↦ inl (omega (arith, none, is))
+                | inr (key, in_keys, top) ↦ elim (cases_lt (low owner) (high owner)) [
+                  | inr not_below ↦ inl (omega (arith, is, not_below))
+                  | inl below ↦
+                      let in_key : key < to.keys = omega (arith, in_keys, two.keys) in
+                      let there : cell from.cells to.nodes owner key ≡ high owner = ap (λ n. cell from.cells n owner key) (sym two.nodes) ∙ top in
+                      inr (key, in_key, grind (arith, nat_tests, (two.second.tops.each owner lt).upto key in_key))
                 ]
               ];
             };
@@ -152,26 +146,24 @@ module _ (rules : Rules) (rotation : ℕ) {written : ℕ → List Entry} {most :
       kept = record {
         size = merged.numbers.size;
         each = λ owner key lt in_keys.
-            let is = merged.numbers.each owner key lt in_keys in
-            let sent = here-sent owner key lt in_keys in
-            let current = may.current owner lt in
-            grind (arith, nat_tests);
+            grind (arith, nat_tests, merged.numbers.each owner key lt in_keys, here-sent owner key lt in_keys, may.current owner lt);
       };
       rest = merged.rest;
     }
 
     pub merged-lies : LiesAs written new (after rules rotation two)
-    merged-lies = becomes two marks-of (λ _ _ _ _. refl) taken
+    merged-lies = becomes rules rotation two marks-of _ (λ _ _ _ _. refl) new taken
 
 -- both tables take all
 module _ (rules : Rules) (e : Exchange) {written : ℕ → List Entry} {most : ℕ} {h : HistoriesView} {p q : VersionTableView}
     (two : AreLaidBoth written most h p q) (in_nodes : e.rotation < p.nodes) (may : MayMerge rules h p q) where
   turns : e.rotation < q.nodes
-  turns = omega (arith, in_nodes, two.both.size.nodes)
+  turns = omega (arith, in_nodes, two.nodes)
 
   pub both-stay : BothStayMerged written p q
   both-stay = record {
-    size = two.both.size;
+    nodes = two.nodes;
+    keys = two.keys;
     first = λ new merged. lies-kept (merged-lies rules e.rotation (turned two) turns may.kind may.back merged);
     second = λ new merged. lies-kept (merged-lies rules e.rotation two in_nodes may.kind may.forth merged);
   }

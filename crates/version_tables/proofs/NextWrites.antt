@@ -1,6 +1,6 @@
 -- What an owner writes next stands under the number behind all that it wrote, above what its table holds of it.
 -- Serves `HistoriesRoundHistoriesVersionTable::write`.
-use Rattle.version_tables.proofs.Common.{◌≡◌, ℕ, zero, suc, ◌+◌, ◌≤◌, List, length, Some, inl, inr, sym, ◌∙◌, subst, arith, Contains, cases_lt, current-numbered, length-append, none-some, Entry, mark_of, mark_held, IsUpTo, Table, entry_at, greatest_mark, greatest_version, mark_at-up_to_greatest, write_numbered, OwnerListView, AreWrites, entries_of, next_entry, cell, numbered-placed, numbered-some, VersionTableView, table_in, IsKept, IsNextWrite, IsBeginning, IsWriteUnder, IsFirst}
+use Rattle.version_tables.proofs.Common.{◌≡◌, ℕ, zero, suc, ◌+◌, ◌<◌, ◌≤◌, List, length, Some, inl, inr, sym, ◌∙◌, subst, arith, Contains, current-numbered, length-append, none-some, Entry, mark_of, mark_held, IsUpTo, Table, entry_at, greatest_mark, greatest_version, mark_at-up_to_greatest, write_numbered, OwnerListView, AreWrites, entries_of, next_entry, cell, numbered-placed, numbered-some, VersionTableView, table_in, IsKept, IsNextWrite, IsBeginning, IsWriteUnder, IsFirst}
 use Rattle.version_tables.proofs.Fitting.{earlier-at, so-far-upto}
 use Rattle.version_tables.proofs.Laid.{has_cells}
 
@@ -38,12 +38,8 @@ module _ (written : ℕ → List Entry) (v : VersionTableView) (kept : IsKept wr
   first zero lt same = none-some (next_entry list key value born) (same ∙ under.is)
   first (suc place) lt same =
       let is = begins (suc place) (omega (arith, lt)) ∙ same ∙ under.is in
-      elim (cases_lt (length list.earlier) (suc place)) [
-        | inl behind ↦
-            let version = (current-numbered list are (suc place) (next_entry list key value born) is behind).version in
-            omega (arith, version, lt, length-append list.earlier list.current)
-        | inr early ↦ omega (arith, earlier-at list are (suc place) (next_entry list key value born) is (omega (arith, early)))
-      ]
+      let own = λ (behind : length list.earlier < suc place). (current-numbered list are (suc place) (next_entry list key value born) is behind).version in
+      grind (arith, length-append list.earlier list.current, own, earlier-at list are (suc place) (next_entry list key value born) is)
 
   pub next-write : IsNextWrite written v key (length (entries_of list) + 1)
   next-write = record {
@@ -53,7 +49,7 @@ module _ (written : ℕ → List Entry) (v : VersionTableView) (kept : IsKept wr
     above = elim (kept.most.each v.node kept.proper.node_below).held [
       | inl none ↦ omega (arith, none)
       | inr (k, in_keys, is) ↦
-          omega (arith, is, so-far-upto written v kept (entries_of list) v.node begins held_so_far k kept.proper.node_below in_keys)
+          omega (arith, is, so-far-upto kept (entries_of list) v.node begins held_so_far k kept.proper.node_below in_keys)
     ];
     first = first;
   }

@@ -1,17 +1,10 @@
 -- A node's own calls on its table: its numbers lie as those of the table that the model has then.
--- Serves `VersionTable::forget_all`, `VersionTable::forget_others`, `VersionTable::new`, `VersionTable::write_own`
--- and `HistoryCalls`.
-use Rattle.version_tables.proofs.Common.{◌≡◌, ◌≢◌, ℕ, ◌+◌, ◌*◌, ◌<◌, ◌≤◌, ◌==◌, Bool, true, false, cond, List, length, get_or, set, Some, None, ◌⊎◌, refl, same_from_place, inl, inr, sym, ap, ◌∙◌, subst, transport, arith, mul-le-mul_right, cases_eq, get_or-set_same, get_or-set_other, length-set, same_Some, Entry, AreSizes, Table, entry_at, empty_table, KeepsFrame, with_own_write, without_others, without_all, IsProper, entry_at-own_write, entry_at-own_write_other, entry_at-without_others, entry_at-without_all, entry_at-empty_table, proper-empty_table, proper-with_own_write, proper-without_others, proper-without_all, Cells, cell, ArePlanesChanged, HasEach, HasEachPlace, AreChanged, numbered-within, VersionTableView, table_in, IsKept, IsNextWrite, HasOwnWrite, IsGreatest}
+-- Serves the functions of `histories` and `tables` and `HistoryCalls`.
+use Rattle.version_tables.proofs.Common.{◌≡◌, ◌≢◌, ℕ, ◌+◌, ◌*◌, ◌<◌, ◌==◌, Bool, true, false, cond, List, length, get_or, set, Some, None, ◌⊎◌, refl, same_from_place, inl, inr, sym, ap, ◌∙◌, subst, transport, arith, mul-le-mul_right, cases_eq, get_or-set_same, get_or-set_other, length-set, same_Some, Entry, AreSizes, Table, entry_at, empty_table, KeepsFrame, with_own_write, without_others, without_all, IsProper, entry_at-own_write, entry_at-own_write_other, entry_at-without_others, entry_at-without_all, entry_at-empty_table, proper-empty_table, proper-with_own_write, proper-without_others, proper-without_all, Cells, cell, ArePlanesChanged, HasEach, HasEachPlace, AreChanged, numbered-within, VersionTableView, table_in, IsKept, IsNextWrite, HasOwnWrite, IsGreatest}
 use Rattle.version_tables.proofs.Laid.{HoldsNumber, LiesAs, holds-same, kept-number, lies-table, no-number}
 
 pub place-within : (nodes keys r k : ℕ) → r < nodes → k < keys → k * nodes + r < keys * nodes
 place-within nodes keys r k in_nodes in_keys = omega (arith, in_nodes, mul-le-mul_right {m = k + 1} {n = keys} nodes (omega (arith, in_keys)))
-
--- at another place in planes another index stands
-pub other-place : (nodes r k s j : ℕ) → r < nodes → s < nodes → (r ≢ s) ⊎ (k ≢ j) → k * nodes + r ≢ j * nodes + s
-other-place nodes r k s j in_nodes in_node other is =
-    let same = same_from_place k r j s nodes in_nodes in_node is in
-    elim other [ inl ne ↦ ne same.1 | inr ne ↦ ne same.0 ]
 
 -- one number of an owner is set
 pub each-set : (is : ℕ → ℕ → Type 0) (xs : List ℕ) (nodes owner n : ℕ) → length xs ≡ nodes → owner < nodes → is owner n
@@ -34,7 +27,8 @@ module _ (xs : List ℕ) (nodes keys owner key n : ℕ) (size : length xs ≡ ke
   place-here = get_or-set_same xs index n 0 (omega (arith, size, place-within nodes keys owner key in_nodes in_keys))
 
   place-other : (r k : ℕ) → r < nodes → (r ≢ owner) ⊎ (k ≢ key) → cell (set xs index n) nodes r k ≡ cell xs nodes r k
-  place-other r k lt other = get_or-set_other xs index (k * nodes + r) n 0 (other-place nodes r k owner key lt in_nodes other)
+  place-other r k lt other = get_or-set_other xs index (k * nodes + r) n 0 (λ is.
+      let same = same_from_place k r key owner nodes lt in_nodes is in elim other [ inl ne ↦ ne same.1 | inr ne ↦ ne same.0 ])
 
   pub place-set : (is : ℕ → ℕ → ℕ → Type 0) → is owner key n
       → ((r k : ℕ) → r < nodes → k < keys → (r ≢ owner) ⊎ (k ≢ key) → is r k (cell xs nodes r k)) → HasEachPlace nodes keys is (set xs index n)
@@ -85,7 +79,7 @@ kept-greatest true most same is = record {
 }
 kept-greatest false most same is = record { upto = λ key lt. omega (arith, same key lt, is); held = inl is }
 
-module _ (written : ℕ → List Entry) (v : VersionTableView) (kept : IsKept written v) where
+module _ {written : ℕ → List Entry} {v : VersionTableView} (kept : IsKept written v) where
   abbrev t : Table
   t = table_in written v
 
@@ -145,12 +139,6 @@ module _ (written : ℕ → List Entry) (v : VersionTableView) (kept : IsKept wr
     stays : (r k : ℕ) → r < v.nodes → (r ≢ v.node) ⊎ (k ≢ key) → cell cells v.nodes r k ≡ cell v.cells v.nodes r k
     stays = place-other v.cells v.nodes v.keys v.node key number kept.numbers.size kept.proper.node_below in_keys
 
-    upto : (k : ℕ) → k < v.keys → cell cells v.nodes v.node k ≤ number
-    upto k lt = elim (cases_eq k key) [
-      | inl same ↦ omega (arith, ap (cell cells v.nodes v.node) same, stands)
-      | inr other ↦ omega (arith, stays v.node k kept.proper.node_below (inr other), (kept.most.each v.node kept.proper.node_below).upto k lt, write.above)
-    ]
-
     pub writes : LiesAs written (record v { cells = cells; greatest = set v.greatest v.node number }) (with_own_write t key e.value e.born)
     writes = record {
       frame = record { node = refl; nodes = refl; keys = refl; generation = refl };
@@ -159,7 +147,13 @@ module _ (written : ℕ → List Entry) (v : VersionTableView) (kept : IsKept wr
           (λ r k n. HoldsNumber (written r) k (entry_at (with_own_write t key e.value e.born) r k) n) own
           (λ r k lt lt' other. holds-same (entry_at-own_write_other t key e.value e.born r k other) refl (kept-number kept r k lt lt'));
       most = each-set (λ r n. IsGreatest (cell cells v.nodes) v.keys r n) v.greatest v.nodes v.node number kept.most.size kept.proper.node_below
-          (record { upto = upto; held = inr (key, in_keys, stands) })
+          (record {
+            upto = λ k lt.
+                let same = λ (is : k ≡ key). ap (cell cells v.nodes v.node) is in
+                let others = λ (other : k ≢ key). stays v.node k kept.proper.node_below (inr other) in
+                grind (arith, same, others, stands, (kept.most.each v.node kept.proper.node_below).upto k lt, write.above);
+            held = inr (key, in_keys, stands);
+          })
           (λ r lt other. kept-greatest true (kept.most.each r lt) (λ k _. stays r k lt (inl other)) refl);
     }
 

@@ -42,7 +42,7 @@ module _ (written : ℕ → List Entry) (views : List VersionTableView) (h : His
       numbers-here = transport (λ i. HasEachPlace (standing.nodes i) (standing.keys i) (IsNumberAt h.lists (sym read i)) v.cells) (record {
         size = kept.numbers.size;
         each = λ r k in_r in_k.
-            let upto = so-far-upto written v kept (all_writes h.lists r) r (begins r) (λ j e held. (standing.holds r j e held).0) k in_r in_k in
+            let upto = so-far-upto kept (all_writes h.lists r) r (begins r) (λ j e held. (standing.holds r j e held).0) k in_r in_k in
             record { held = has_cells written v kept.numbers r k in_r in_k ∙ sym (begins r (cell v.cells v.nodes r k) upto); written = upto };
       })
 

@@ -1,10 +1,7 @@
 //! Tables of versions as tables that a simulation carries through its rounds.
 
-ghost use Rattle.std.specs.Prelude.{IfOk, IsOkUnless};
 ghost use denote.Param.Send.{IsSync};
-ghost use Rattle.bench_types.specs.declared.faults.Fault.TheVariants.{OutOfMemory};
-ghost use Rattle.round_histories.specs.Histories.{AreFiguresCounted, StandAtRoundEnd};
-ghost use Rattle.version_tables.specs.Views.{table_in};
+ghost use Rattle.version_tables.specs.inner.Common.{IfOk, IsOkUnless, OutOfMemory, AreFiguresCounted, StandAtRoundEnd, table_in};
 
 use crate::ended::{Ended, figures_in_parts};
 use crate::histories::Histories;

@@ -1,11 +1,9 @@
 //! What one table sends another, as marks.
 
-ghost use Rattle.std.specs.Prelude.{◌≡◌};
-ghost use Rattle.version_tables.specs.inner.Common.{map, IfOk, IsOkUnless, OutOfMemory, digest_kind, digest_size, table_in, IsKept};
+ghost use Rattle.version_tables.specs.inner.Common.{IfOk, IsOkUnless, OutOfMemory, digest_kind, table_in, IsKept};
 ghost use Rattle.version_tables.specs.inner.Deltas.{MaySend};
-ghost use Rattle.version_tables.specs.inner.Offered.{AreTold, IsDelta, IsOffered};
+ghost use Rattle.version_tables.specs.inner.Offered.{IsDelta, IsOffered};
 
-use crate::digests::digest_size;
 use crate::histories::Histories;
 use crate::tables::{VersionTable, Written};
 use bench_types::{DigestKind, Exchange, Fault, Rules};
@@ -46,8 +44,8 @@ pub(crate) fn delta<N: Number, H: Written>(
     receiver: &VersionTable<N, H>,
     course: &Course<N, H>,
 ) -> Result<DeltaMarks<N>, Fault>
-    requires { MaySend course.now.rules.now course.now.plan.now.rotation H.lists course.now.histories.now
-        sender.now receiver.now }
+    requires { MaySend course.now.rules.now course.now.plan.now.rotation course.now.histories.now
+        (table_in H.lists sender.now) (table_in H.lists receiver.now) }
     ensures delta { IfOk result (IsDelta N.number H.lists course.now.rules.now course.now.plan.now.rotation
         sender.now receiver.now) }
     ensures kept { IfOk result (λ d. IsKept H.lists sender.now × IsKept H.lists receiver.now) }
@@ -68,7 +66,7 @@ pub(crate) fn delta<N: Number, H: Written>(
             let offered = Offered {
                 cells: grid.cells,
                 found: planes::total_above(grid, &low, sender.greatest()),
-                digest: digest_size(sender, mode),
+                digest: sender.digest_size(mode),
             };
             delta_above(sender, receiver, low, offered, course)
         }
@@ -97,15 +95,11 @@ fn delta_above<N: Number, H: Written>(
     offered: Offered<N>,
     course: &Course<N, H>,
 ) -> Result<DeltaMarks<N>, Fault>
-    requires may { MaySend course.now.rules.now course.now.plan.now.rotation H.lists course.now.histories.now
-        sender.now receiver.now }
+    requires may { MaySend course.now.rules.now course.now.plan.now.rotation course.now.histories.now
+        (table_in H.lists sender.now) (table_in H.lists receiver.now) }
     requires kept { IsKept H.lists receiver.now }
-    requires told { AreTold (digest_kind course.now.rules.now.mode) N.most course.now.histories.now receiver.now
-        (map N.number low.items) }
-    requires offered { IsOffered N.number (digest_kind course.now.rules.now.mode) sender.now receiver.now low.items
-        offered }
-    requires digest { offered.digest ≡ digest_size (digest_kind course.now.rules.now.mode)
-        (table_in H.lists sender.now) }
+    requires offered { IsOffered N.number N.most H.lists (digest_kind course.now.rules.now.mode)
+        course.now.histories.now sender.now receiver.now low.items offered }
     ensures delta { IfOk result (IsDelta N.number H.lists course.now.rules.now course.now.plan.now.rotation
         sender.now receiver.now) }
     ensures only { IsOkUnless result OutOfMemory }

@@ -1,19 +1,54 @@
-//! The exchange of an initiator and a responder whose tables keep versions alone.
+//! The exchange of an initiator and a responder whose tables keep versions alone. It reads all histories.
 
 ghost use Rattle.std.specs.Prelude.{◌≡◌};
 ghost use Rattle.version_tables.specs.inner.Common.{false, IfOk, OnErr, IsOkUnless, OutOfMemory, MakesOf, table_in};
-ghost use Rattle.version_tables.specs.inner.Histories.{IsReadyExchange};
+ghost use Rattle.version_tables.specs.inner.Deltas.{MaySend};
+ghost use Rattle.version_tables.specs.inner.Histories.{AreKnown};
 ghost use Rattle.version_tables.specs.inner.Taken.{BothStay};
 
 use crate::deltas::{Course, delta};
-use crate::digests::digest_size;
+use crate::histories::Histories;
 use crate::merging::{may_merge, merge};
 use crate::tables::{VersionTable, Written};
 use crate::taking::{take_unless, what_comes};
-use bench_types::{Fault, Record};
+use bench_types::{Exchange, Fault, Record, Rules};
 use delta_plans::First;
-use model::{DeltaCounts, sent_back, sent_before_an_answer, sent_both};
+use model::{DeltaCounts, Exchanging, MemoryTable, sent_back, sent_before_an_answer, sent_both};
 use planes::Number;
+use std::alloc::Global;
+
+impl<N: Number, H: Written> MemoryTable for VersionTable<N, H> {
+    ghost use Rattle.version_tables.specs.Views.{table_in};
+
+    ghost table = { table_in H.lists };
+}
+
+impl<N: Number + Send + Sync, H: Written + Send + Sync> Exchanging<VersionTable<N, H>>
+    for Histories<N, H> {
+    ghost use Rattle.version_tables.specs.inner.Histories.{FitsRun};
+    ghost use Rattle.version_tables.specs.inner.FitsKept.{fits_stays};
+
+    ghost fits = { FitsRun H.lists N.most };
+
+    ghost stays_fit = { fits_stays H.lists N.most };
+
+    fn exchange(
+        &self,
+        alloc: Global,
+        initiator: &mut VersionTable<N, H>,
+        responder: &mut VersionTable<N, H>,
+        plan: &Exchange,
+        rules: &Rules,
+    ) -> Result<Record, Fault> {
+        let course = Course {
+            alloc,
+            histories: self,
+            rules,
+            plan,
+        };
+        exchange(&course, initiator, responder)
+    }
+}
 
 /// Carries out one exchange. The first table is the initiator's. An error is lack of memory, all of which is taken
 /// before either table changes.
@@ -22,7 +57,8 @@ pub(crate) fn exchange<N: Number, H: Written>(
     initiator: &mut VersionTable<N, H>,
     responder: &mut VersionTable<N, H>,
 ) -> Result<Record, Fault>
-    requires { IsReadyExchange H.lists N.most course.now.rules.now course.now.plan.now course.now.histories.now
+    requires known { AreKnown H.lists N.most course.now.histories.now }
+    requires may { MaySend course.now.rules.now course.now.plan.now.rotation course.now.histories.now
         (table_in H.lists initiator.old) (table_in H.lists responder.old) }
     ensures ok { IfOk result
         (MakesOf (table_in H.lists) course.now.rules.now course.now.plan.now initiator.old responder.old
@@ -33,12 +69,12 @@ pub(crate) fn exchange<N: Number, H: Written>(
     let plan = course.plan;
     let rules = course.rules;
     if plan.lost1 {
-        let digest1 = digest_size(initiator, rules.mode);
+        let digest1 = initiator.digest_size(rules.mode);
         return Ok(sent_before_an_answer(digest1));
     }
     if !plan.lost2 && !plan.lost3 && may_merge(initiator, responder, course.histories, rules) {
-        let digest1 = digest_size(initiator, rules.mode);
-        let digest2 = digest_size(responder, rules.mode);
+        let digest1 = initiator.digest_size(rules.mode);
+        let digest2 = responder.digest_size(rules.mode);
         let came = merge(initiator, responder);
         let back = DeltaCounts {
             sent: came.first,
@@ -60,7 +96,8 @@ fn exchange_deltas<N: Number, H: Written>(
     responder: &mut VersionTable<N, H>,
 ) -> Result<Record, Fault>
     requires came { course.now.plan.now.lost1 ≡ false }
-    requires ready { IsReadyExchange H.lists N.most course.now.rules.now course.now.plan.now course.now.histories.now
+    requires known { AreKnown H.lists N.most course.now.histories.now }
+    requires may { MaySend course.now.rules.now course.now.plan.now.rotation course.now.histories.now
         (table_in H.lists initiator.old) (table_in H.lists responder.old) }
     ensures ok { IfOk result
         (MakesOf (table_in H.lists) course.now.rules.now course.now.plan.now initiator.old responder.old
@@ -72,7 +109,7 @@ fn exchange_deltas<N: Number, H: Written>(
     let back = delta(responder, initiator, course)?;
     let mode = course.rules.mode;
     if plan.lost2 {
-        let digest1 = digest_size(initiator, mode);
+        let digest1 = initiator.digest_size(mode);
         return Ok(sent_back(digest1, back.digest, back.marked.counts));
     }
     let forth = delta(initiator, responder, course)?;

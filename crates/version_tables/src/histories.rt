@@ -1,7 +1,7 @@
 //! What all owners have written, beside tables that keep numbers of writes alone.
 
-ghost use Rattle.std.specs.Prelude.{◌≡◌, IfOk, IsOkUnless};
-ghost use Rattle.bench_types.specs.declared.faults.Fault.TheVariants.{OutOfMemory};
+ghost use Rattle.std.specs.Prelude.{◌≡◌};
+ghost use Rattle.version_tables.specs.inner.Common.{IfOk, IsOkUnless, OutOfMemory};
 ghost use Rattle.version_tables.specs.inner.Histories.{AreNoWrites};
 
 use crate::tables::Written;
@@ -46,14 +46,9 @@ impl<N: Number, H: Written> Model for Histories<N, H> {
 }
 
 impl<N: Number, H: Written> Histories<N, H> {
-    ghost use Rattle.std.specs.Prelude.{◌+◌, ◌^◌, ◌<◌, map, length, IfOk, OnOk, OnErr};
-    ghost use Rattle.bench_types.specs.declared.limits.TheConstants.{MOST_ROUNDS};
-    ghost use Rattle.model.specs.calls.OwnerListView.{all_writes, list_of_owner, with_write, begun_generation};
-    ghost use Rattle.planes.specs.Planes.{HasEach, HasEachPlace};
-    ghost use Rattle.round_histories.specs.Histories.{round_ended, AreNewHistories, HistoryBecomes, KeepLimits};
-    ghost use Rattle.version_tables.specs.Views.{AreSizes};
+    ghost use Rattle.std.specs.Prelude.{◌+◌, ◌^◌, ◌<◌};
+    ghost use Rattle.version_tables.specs.inner.Common.{map, length, OnOk, OnErr, MOST_ROUNDS, all_writes, list_of_owner, with_write, begun_generation, HasEach, HasEachPlace, round_ended, AreNewHistories, HistoryBecomes, KeepLimits, AreSizes, IsLastNumber};
     ghost use Rattle.version_tables.specs.inner.Histories.{bases_in, AreEndsOf, AreKnown, MayAddWrite};
-    ghost use Rattle.version_lags.specs.Missed.{IsLastNumber};
 
     /// Where so many owners with so many keys each have written nothing, before the first round. An error is lack of
     /// memory (`OutOfMemory`).

@@ -21,14 +21,11 @@
 
 mod carrying;
 mod deltas;
-mod digests;
 mod ended;
 mod exchanges;
-mod exchanging;
 mod histories;
 mod lags;
 mod merging;
-mod owners;
 mod tables;
 mod taking;
 

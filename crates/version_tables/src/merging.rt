@@ -2,8 +2,8 @@
 //! numbers, both ways in one pass. Nothing is planned, and no memory is taken.
 
 ghost use Rattle.std.specs.Prelude.{◌≡◌, ◌*◌, ◌≤◌, ◌↔◌};
-ghost use Rattle.version_tables.specs.inner.Common.{IsTrue, amount_of, largest_share, most_ahead};
-ghost use Rattle.version_tables.specs.inner.Deltas.{AreOfOneSize, FitBoth};
+ghost use Rattle.version_tables.specs.inner.Common.{IsTrue, amount_of, largest_share, most_ahead, table_in};
+ghost use Rattle.version_tables.specs.inner.Deltas.{FitBoth};
 ghost use Rattle.version_tables.specs.inner.Histories.{bases_in};
 ghost use Rattle.version_tables.specs.inner.Merged.{AreCurrent, BothStayMerged, HasNoNewer, HaveMerged, MayMerge, SurelyFits};
 
@@ -39,11 +39,11 @@ fn all_ahead_fits<N: Number, H: Written>(
     ensures { IsTrue result ↔ SurelyFits budget from.now to.now }
 {
     let grid = from.grid();
-    if surely_fit(budget, most) {
-        return true;
-    }
-    let count = planes::total_above(grid, to.greatest(), from.greatest());
-    surely_fit(budget, count)
+    surely_fit(budget, most)
+        || surely_fit(
+            budget,
+            planes::total_above(grid, to.greatest(), from.greatest()),
+        )
 }
 
 fn all_fits<N: Number, H: Written>(
@@ -51,7 +51,8 @@ fn all_fits<N: Number, H: Written>(
     responder: &VersionTable<N, H>,
     budget: Budget,
 ) -> bool
-    requires { AreOfOneSize initiator.now responder.now }
+    requires nodes { initiator.now.nodes ≡ responder.now.nodes }
+    requires keys { initiator.now.keys ≡ responder.now.keys }
     ensures { IsTrue result ↔ (SurelyFits budget responder.now initiator.now
         × SurelyFits budget initiator.now responder.now) }
 {
@@ -66,7 +67,7 @@ fn are_current<N: Number, H: Written>(
     responder: &VersionTable<N, H>,
     histories: &Histories<N, H>,
 ) -> bool
-    requires { FitBoth H.lists histories.now initiator.now responder.now }
+    requires { FitBoth histories.now (table_in H.lists initiator.now) (table_in H.lists responder.now) }
     ensures { IsTrue result ↔ (AreCurrent (bases_in histories.now.lists) initiator.now
         × AreCurrent (bases_in histories.now.lists) responder.now) }
 {
@@ -96,7 +97,7 @@ pub(crate) fn may_merge<N: Number, H: Written>(
     histories: &Histories<N, H>,
     rules: &Rules,
 ) -> bool
-    requires { FitBoth H.lists histories.now initiator.now responder.now }
+    requires { FitBoth histories.now (table_in H.lists initiator.now) (table_in H.lists responder.now) }
     ensures { IsTrue result ↔ MayMerge rules.now histories.now initiator.now responder.now }
 {
     match rules.mode.digest_kind() {

@@ -1,9 +1,9 @@
 //! A node's table that keeps versions alone: it begins empty, writes its keys, and forgets.
 
-ghost use Rattle.std.specs.Prelude.{◌≡◌};
+ghost use Rattle.std.specs.Prelude.{◌≡◌, ◌==◌, if◌then◌else◌};
+ghost use Rattle.version_tables.specs.inner.Common.{map, HasColumn, ArePlanesChanged, AreChanged};
 
-use crate::owners::{clear, keep_one, keep_owner};
-use bench_types::Fault;
+use bench_types::{DigestKind, Fault, Mode};
 use planes::{Grid, Number, Size, zeros};
 use std::alloc::Global;
 use std::marker::{Model, PhantomData};
@@ -59,11 +59,8 @@ impl<N: Number, H: Written> Model for VersionTable<N, H> {
 }
 
 impl<N: Number, H: Written> VersionTable<N, H> {
-    ghost use Rattle.std.specs.Prelude.{◌+◌, ◌^◌, ◌<◌, ◌≤◌, length, map, slice_index, IfOk, IsOkUnless};
-    ghost use Rattle.bench_types.specs.declared.faults.Fault.TheVariants.{OutOfMemory};
-    ghost use Rattle.bench_types.specs.declared.limits.TheConstants.{MOST_NODES};
-    ghost use Rattle.model.specs.Table.{empty_table, without_others, without_all};
-    ghost use Rattle.version_tables.specs.Views.{table_in, AreSizes, HasOwnWrite, IsGridIn, IsKept, IsNextWrite};
+    ghost use Rattle.std.specs.Prelude.{◌+◌, ◌^◌, ◌<◌, ◌≤◌};
+    ghost use Rattle.version_tables.specs.inner.Common.{length, map, slice_index, IfOk, IsOkUnless, OutOfMemory, MOST_NODES, digest_kind, digest_size, empty_table, without_others, without_all, table_in, AreSizes, HasOwnWrite, IsGridIn, IsKept, IsNextWrite};
 
     /// The empty table of a node, in its generation 0. It has a number for each owner and key. An error is lack of
     /// memory (`OutOfMemory`).
@@ -182,6 +179,17 @@ impl<N: Number, H: Written> VersionTable<N, H> {
         self.greatest[owner as usize]
     }
 
+    // How much a digest tells: of how many owners something is held, or how many entries are.
+    pub(crate) fn digest_size(&self, mode: Mode) -> u32
+        ensures size { result ≡ digest_size (digest_kind mode) (table_in H.lists self.now) }
+        ensures kept { IsKept H.lists self.now }
+    {
+        match mode.digest_kind() {
+            DigestKind::Scuttle => planes::count_held(self.greatest()),
+            DigestKind::Precise => planes::count_held(self.cells()),
+        }
+    }
+
     // The greatest number of each owner.
     pub(crate) fn greatest(&self) -> &[N]
         ensures value { map N.number result.now ≡ self.now.greatest }
@@ -190,5 +198,33 @@ impl<N: Number, H: Written> VersionTable<N, H> {
         ensures kept { IsKept H.lists self.now }
     {
         &self.greatest
+    }
+}
+
+fn clear<N: Number>(numbers: &mut [N])
+    ensures { AreChanged (λ r x y. y ≡ 0) (map N.number numbers.old) (map N.number numbers.new) }
+{
+    planes::change(numbers, |_, _| N::zero());
+}
+
+fn keep_one<N: Number>(numbers: &mut [N], owner: usize)
+    ensures { AreChanged (λ r x y. y ≡ (if r == owner then x else 0)) (map N.number numbers.old)
+        (map N.number numbers.new) }
+{
+    planes::change(
+        numbers,
+        |r, number| planes::pick(r == owner, number, N::zero()),
+    );
+}
+
+fn keep_owner<N: Number>(cells: &mut [N], size: Size, owner: usize)
+    requires { HasColumn size cells.old owner }
+    ensures { ArePlanesChanged (λ r k x y. y ≡ (if r == owner then x else 0)) size.nodes size.keys
+        (map N.number cells.old) (map N.number cells.new) }
+{
+    for key in 0..size.keys {
+        let start = key * size.nodes;
+        let plane = &mut cells[start..start + size.nodes];
+        keep_one(plane, owner);
     }
 }

@@ -1,7 +1,7 @@
 -- A delta as marks for each owner. Source: this project.
 use Rattle.std.specs.Prelude.{◌≡◌, ◌<◌}
-use Rattle.version_tables.specs.inner.Common.{ℕ, Bool, List, length, slice_index, Entry, Rules, IsLawfulBudget, cell, DeltaView, delta_between, HistoriesView, VersionTableView, table_in, IsKept, AreSent}
-use Rattle.version_tables.specs.inner.Histories.{AreKnown, FitsHistories}
+use Rattle.version_tables.specs.inner.Common.{ℕ, Bool, List, length, slice_index, Entry, Rules, IsLawfulBudget, cell, DeltaView, delta_between, HistoriesView, VersionTableView, Table, table_in, AreSent}
+use Rattle.version_tables.specs.inner.Histories.{FitsHistories}
 use Rattle.version_tables.specs.inner.Taken.{is_taken}
 
 -- the delta from one table to another, where this is what the owners write
@@ -15,31 +15,18 @@ is_taken_at from to low high owner key =
     is_taken (cell to.cells to.nodes owner key) (cell from.cells from.nodes owner key)
     (slice_index low owner) (slice_index high owner)
 
--- two tables with as many nodes and keys
-pub record AreOfOneSize (one other : VersionTableView) : Type 0 where
+-- two tables with as many nodes and keys, which both fit the histories
+pub record FitBoth (h : HistoriesView) (one other : Table) : Type 0 where
   pub nodes : one.nodes ≡ other.nodes
   pub keys : one.keys ≡ other.keys
-
--- which both fit the histories
-pub record FitBoth (written : ℕ → List Entry) (h : HistoriesView) (from to : VersionTableView) : Type 0 where
-  pub size : AreOfOneSize from to
-  pub first : FitsHistories h (table_in written from)
-  pub second : FitsHistories h (table_in written to)
+  pub first : FitsHistories h one
+  pub second : FitsHistories h other
 
 -- and of which one may send the other a delta
-pub record MaySend (rules : Rules) (turn : ℕ) (written : ℕ → List Entry) (h : HistoriesView)
-    (from to : VersionTableView) : Type 0 where
+pub record MaySend (rules : Rules) (turn : ℕ) (h : HistoriesView) (from to : Table) : Type 0 where
   pub budget : IsLawfulBudget rules.budget
   pub rotation : turn < from.nodes
-  pub both : FitBoth written h from to
-
--- what is known of both, beside what is known of all owners' writes
-pub record AreLaidBoth (written : ℕ → List Entry) (most : ℕ) (h : HistoriesView)
-    (from to : VersionTableView) : Type 0 where
-  pub known : AreKnown written most h
-  pub both : FitBoth written h from to
-  pub first : IsKept written from
-  pub second : IsKept written to
+  pub both : FitBoth h from to
 
 -- marks that let the receiver take what a delta has
 pub record AreMarksOf (rules : Rules) (rotation : ℕ) (written : ℕ → List Entry) (from to : VersionTableView)

@@ -1,23 +1,18 @@
 -- What tables of versions owe to the histories stays through exchanges. Source: this project.
 use Rattle.std.specs.Prelude.{◌≡◌}
-use Rattle.version_tables.specs.inner.Common.{ℕ, List, length, Entry, Table, IsProper, delta_between, fate_of, IsKeptByExchanges, MayMeet, StoodInEither, HistoriesView}
+use Rattle.version_tables.specs.inner.Common.{ℕ, List, length, Entry, Table, IsProper, IsKeptByExchanges, MayMeet, StoodInEither, HistoriesView}
 use Rattle.std.proofs.Common.{inl, inr, ◌∙◌}
-use Rattle.model.proofs.TableLaws.{frame-applied}
-use Rattle.model.proofs.Cases.{initiator_after-either, responder_after-either}
+use Rattle.model.proofs.Owns.{initiator_keeps_own, responder_keeps_own}
 use Rattle.model.proofs.ExchangeLaws.{initiator_proper, responder_proper, initiator_either, responder_either}
 use Rattle.version_tables.specs.inner.Histories.{FitsRun}
 
 pub fits_stays : (written : ℕ → List Entry) (most : ℕ) (h : HistoriesView) → IsKeptByExchanges (FitsRun written most h)
-fits_stays written most h rules e p q may fit_p fit_q =
-    let back = delta_between rules.mode e.rotation rules.budget q p in
-    let forth = delta_between rules.mode e.rotation rules.budget p q in (
-      after _ (initiator_proper rules e p q meet)
-          (initiator_after-either (λ t. t.nodes ≡ length h.lists) (fate_of e) p back fit_p.among.nodes ((frame-applied p back.items).nodes ∙ fit_p.among.nodes))
-          (initiator_either rules e p q meet),
-      after _ (responder_proper rules e p q meet)
-          (responder_after-either (λ t. t.nodes ≡ length h.lists) (fate_of e) q forth fit_q.among.nodes ((frame-applied q forth.items).nodes ∙ fit_q.among.nodes))
-          (responder_either rules e p q meet),
-    )
+fits_stays written most h rules e p q may fit_p fit_q = (
+  after _ (initiator_proper rules e p q meet) ((initiator_keeps_own rules e p q).nodes ∙ fit_p.among.nodes)
+      (initiator_either rules e p q meet),
+  after _ (responder_proper rules e p q meet) ((responder_keeps_own rules e p q).nodes ∙ fit_q.among.nodes)
+      (responder_either rules e p q meet),
+)
   where
     meet : MayMeet e p q
     meet = record { initiator = fit_p.among.proper; responder = fit_q.among.proper; nodes = may.nodes; keys = may.keys; rotation = may.rotation }

@@ -1,6 +1,6 @@
 -- What the owners wrote so far, beside all that they write in the run. Source: this project.
 use Rattle.std.specs.Prelude.{◌≡◌, ◌+◌, ◌*◌, ◌^◌, ◌<◌, ◌≤◌}
-use Rattle.version_tables.specs.inner.Common.{ℕ, List, length, map, Contains, Some, Entry, Exchange, Rules, IsLawfulBudget, mark_of, MayBeExchanged, Table, entry_at, IsProper, OwnerListView, all_writes, AreWrites, list_of_owner, next_entry, no_writes, write_numbered, HasEach, HasEachPlace, cell, Ends, HistoriesView, KeepLimits, Owners, IsLastNumber, IsHistory, IsNumberedHistory, AreEnds, AreMadeBy}
+use Rattle.version_tables.specs.inner.Common.{ℕ, List, length, map, Contains, Some, Entry, mark_of, Table, entry_at, IsProper, OwnerListView, all_writes, AreWrites, list_of_owner, next_entry, no_writes, write_numbered, HasEach, HasEachPlace, cell, Ends, HistoriesView, KeepLimits, Owners, IsLastNumber, IsHistory, IsNumberedHistory, AreEnds, AreMadeBy}
 
 -- some writes are the first of all
 abbrev pub IsBeginning : List Entry → List Entry → Type 0
@@ -11,16 +11,16 @@ abbrev pub bases_in : List OwnerListView → ℕ → ℕ
 bases_in lists owner = length (list_of_owner lists owner).earlier
 
 -- what an owner wrote so far, of all that it writes, whose numbers are below a bound
-pub record IsWrittenSoFar (all : List Entry) (most rounds : ℕ) (so_far : List Entry) : Type 0 where
+pub record IsWrittenSoFar (all : List Entry) (most : ℕ) (so_far : List Entry) : Type 0 where
   pub begins : IsBeginning so_far all
   pub few : length so_far < most
   pub history : IsHistory so_far
   pub numbered : IsNumberedHistory so_far
-  pub made : AreMadeBy (rounds + 1) so_far
 
 -- what is known of all owners' writes, where this is what they write in the run
 pub record AreKnown (written : ℕ → List Entry) (most : ℕ) (h : HistoriesView) : Type 0 where
-  pub so_far : (owner : ℕ) → IsWrittenSoFar (written owner) most h.rounds (all_writes h.lists owner)
+  pub so_far : (owner : ℕ) → IsWrittenSoFar (written owner) most (all_writes h.lists owner)
+  pub made : (owner : ℕ) → AreMadeBy (h.rounds + 1) (all_writes h.lists owner)
   pub writes : (owner : ℕ) → AreWrites (list_of_owner h.lists owner)
 
 -- so many owners that have written nothing
@@ -68,15 +68,6 @@ pub record FitsHistories (h : HistoriesView) (t : Table) : Type 0 where
 pub record FitsRun (written : ℕ → List Entry) (most : ℕ) (h : HistoriesView) (t : Table) : Type 0 where
   pub known : AreKnown written most h
   pub among : FitsHistories h t
-
--- two tables of which an exchange may be made
-pub record IsReadyExchange (written : ℕ → List Entry) (most : ℕ) (rules : Rules) (plan : Exchange)
-    (h : HistoriesView) (initiator responder : Table) : Type 0 where
-  pub budget : IsLawfulBudget rules.budget
-  pub tables : MayBeExchanged plan initiator responder
-  pub known : AreKnown written most h
-  pub initiator_fits : FitsHistories h initiator
-  pub responder_fits : FitsHistories h responder
 
 -- an entry is what an owner writes under a number, which is below a bound, and no two of its writes have one mark
 pub record IsWriteUnder (written : ℕ → List Entry) (most owner number : ℕ) (e : Entry) : Type 0 where

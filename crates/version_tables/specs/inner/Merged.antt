@@ -2,7 +2,6 @@
 use Rattle.std.specs.Prelude.{◌≡◌, ◌*◌, ◌<◌, ◌≤◌, ◌&&◌, ◌⊎◌}
 use Rattle.version_tables.specs.inner.Common.{ℕ, false, max, nat_lt, nat_le, List, slice_index, Entry, Budget, Scuttle, Rules, amount_of, largest_share, digest_kind, AreChanged, BothCounts, cell, most_ahead, number_raised, total_above, ArePlanesChanged, HistoriesView, VersionTableView, IsKept}
 use Rattle.version_tables.specs.inner.Histories.{bases_in}
-use Rattle.version_tables.specs.inner.Deltas.{AreOfOneSize}
 
 -- nothing that is held is of an earlier generation than its owner's, which has so many writes before it
 abbrev pub AreCurrent : (ℕ → ℕ) → VersionTableView → Type 0
@@ -45,7 +44,8 @@ pub record HasMerged (from to new : VersionTableView) : Type 0 where
 
 -- both tables stay tables where each takes all of the other
 pub record BothStayMerged (written : ℕ → List Entry) (initiator responder : VersionTableView) : Type 0 where
-  pub size : AreOfOneSize initiator responder
+  pub nodes : initiator.nodes ≡ responder.nodes
+  pub keys : initiator.keys ≡ responder.keys
   pub first : (new : VersionTableView) → HasMerged responder initiator new → IsKept written new
   pub second : (new : VersionTableView) → HasMerged initiator responder new → IsKept written new
 

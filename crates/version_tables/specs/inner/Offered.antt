@@ -25,11 +25,13 @@ AreOffered kind from to low cells =
     HasEachPlace from.nodes from.keys (λ r k n. n
     ≡ offered_by kind (cell from.cells from.nodes) (cell to.cells to.nodes) (slice_index low) r k) cells
 
--- the numbers offered over low marks, and how many these are
-pub record IsOffered {N : Type 0} (number : N → ℕ) (kind : DigestKind) (from to : VersionTableView)
-    (low : List N) (offered : Offered N) : Type 0 where
+-- the numbers offered over low marks that are told, how many these are, and the size of the sender's digest
+pub record IsOffered {N : Type 0} (number : N → ℕ) (most : ℕ) (written : ℕ → List Entry) (kind : DigestKind)
+    (h : HistoriesView) (from to : VersionTableView) (low : List N) (offered : Offered N) : Type 0 where
+  pub told : AreTold kind most h to (map number low)
   pub cells : AreOffered kind from to (map number low) (map number offered.cells.now)
   pub found : offered.found ≡ total_above from.nodes from.keys (map number offered.cells.now) (map number low)
+  pub digest : offered.digest ≡ digest_size kind (table_in written from)
 
 -- beside the low marks these are the marks of a delta, up to them or above them, by what goes first; and this is the
 -- size of the sender's digest

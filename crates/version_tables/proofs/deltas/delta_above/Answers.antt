@@ -1,15 +1,11 @@
-use Rattle.version_tables.proofs.Common.{refl, ◌∙◌, map, length-map, digest_kind, AreLaidBoth}
+use Rattle.version_tables.proofs.Common.{◌∙◌, map, length-map, digest_kind}
+use Rattle.version_tables.proofs.Fitting.{AreLaidBoth, laid-both}
 use Rattle.version_tables.proofs.Delivered.{IsOfferOf, offer-is, delta-marks, told-low}
 use Rattle.version_tables.proofs.deltas.delta_above.Goals as goal
 
 module _ (g : _) (c : goal.After-ends g) where
   two : AreLaidBoth g.H.Written.lists g.N.Number.most c.args.course.now.histories.now c.args.sender.now c.args.receiver.now
-  two = record {
-    known = c.lists.ensures.known;
-    both = c.requires.may.both;
-    first = c.grid.ensures.kept;
-    second = c.requires.kept;
-  }
+  two = laid-both c.lists.ensures.known c.requires.may.both c.grid.ensures.kept c.requires.kept
 
   of-both : IsOfferOf g.N.Number.number c.args.course.now.rules.now c.args.course.now.histories.now c.args.sender.now c.args.receiver.now (record {
     grid = record { cells = c.args.offered.cells; size = c.grid.result.size };
@@ -19,16 +15,20 @@ module _ (g : _) (c : goal.After-ends g) where
     budget = c.args.course.now.rules.now.budget;
     found = c.args.offered.found;
   })
-  of-both = rw c.deref.ensures.value (record {
-    nodes = c.grid.ensures.nodes;
-    keys = c.grid.ensures.keys;
-    lists = c.lists.ensures.value;
-    budget = refl;
+  of-both = record {
+    is = λ i. record {
+      grid = record { cells = c.args.offered.cells; size = record { nodes = c.grid.ensures.nodes i; keys = c.grid.ensures.keys i } };
+      low = c.deref.result;
+      high = c.greatest.result;
+      lists = record c.lists.result { now = c.lists.ensures.value i };
+      budget = c.args.course.now.rules.now.budget;
+      found = c.args.offered.found;
+    };
     high = c.greatest.ensures.value;
-    low = told-low two (digest_kind c.args.course.now.rules.now.mode) (map g.N.Number.number c.args.low.items) c.requires.told;
-    offered = c.requires.offered.cells;
-    found = c.requires.offered.found;
-  })
+    low = rw c.deref.ensures.value (told-low two (digest_kind c.args.course.now.rules.now.mode) _ c.requires.offered.told);
+    offered = rw c.deref.ensures.value c.requires.offered.cells;
+    found = rw c.deref.ensures.value c.requires.offered.found;
+  }
 
 pub planned-requires-clause-offer : goal.planned-requires-clause-offer
 planned-requires-clause-offer g c = offer-is g.N.Number.number (two g c) c.args.course.now.rules.now _ (of-both g c)
@@ -42,5 +42,5 @@ returns-clause-delta g c =
           at (delta-marks g.N.Number.number (two g ends) c.args.course.now.rules.now _ (of-both g ends) c.args.course.now.plan.now.rotation
           c.requires.may.rotation (map g.N.Number.number marked.mark.items) marked.counts.sent marked.counts.cut c.in_ok-marked.ensures.marked
           (length-map marked.mark.items g.N.Number.number ∙ c.in_ok-marked.ensures.size ∙ c.grid.ensures.nodes));
-      digest = c.requires.digest;
+      digest = c.requires.offered.digest;
     }

@@ -1,5 +1,5 @@
 use Rattle.version_tables.proofs.Common.{[], ap, sym, Exchanged, DeltaView, Record, table_in}
-use Rattle.version_tables.proofs.Fitting.{ready}
+use Rattle.version_tables.proofs.Fitting.{laid-both}
 use Rattle.version_tables.proofs.Merged.{both-stay, merged-whole}
 use Rattle.version_tables.proofs.exchanges.exchange.Goals as goal
 
@@ -14,14 +14,14 @@ returns-then-plan-clause-ok g c =
 pub merge-came-requires : goal.merge-came-requires
 merge-came-requires g c =
     both-stay c.args.course.now.rules.now c.args.course.now.plan.now
-    (ready c.requires c.digest_size-digest1-then-may_merge.ensures.kept c.digest_size-digest2.ensures.kept) c.requires.tables.rotation
-    (c.may_merge.ensures.0 c.if-may_merge.true)
+    (laid-both c.requires.known c.requires.may.both c.digest_size-digest1-then-may_merge.ensures.kept c.digest_size-digest2.ensures.kept)
+    c.requires.may.rotation (c.may_merge.ensures.0 c.if-may_merge.true)
 
 pub returns-then-may_merge-clause-ok : goal.returns-then-may_merge-clause-ok
 returns-then-may_merge-clause-ok g c =
     merged-whole c.args.course.now.rules.now c.args.course.now.plan.now
-    (ready c.requires c.digest_size-digest1-then-may_merge.ensures.kept c.digest_size-digest2.ensures.kept) c.requires.tables.rotation
-    (c.may_merge.ensures.0 c.if-may_merge.true)
+    (laid-both c.requires.known c.requires.may.both c.digest_size-digest1-then-may_merge.ensures.kept c.digest_size-digest2.ensures.kept)
+    c.requires.may.rotation (c.may_merge.ensures.0 c.if-may_merge.true)
     c.merge-came.ensures c.digest_size-digest1-then-may_merge.result c.digest_size-digest2.result c.digest_size-digest1-then-may_merge.ensures.size
     c.digest_size-digest2.ensures.size c.if-plan.false c.if-not-plan.true c.if-not-plan-2.true
     c.sent_both.result c.sent_both.ensures

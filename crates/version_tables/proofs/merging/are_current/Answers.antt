@@ -15,7 +15,7 @@ returns-then-count_held-eq0 g c =
     let no_base = none_held owner
     (omega (arith, lt, c.requires.first.nodes, c.bases-bases.ensures.count)) in
     grind (arith, nat_tests) in
-    (λ _. (λ owner lt. none-current _ _ (none owner lt), λ owner lt. none-current _ _ (none owner (omega (arith, lt, c.requires.size.nodes)))), λ _. refl)
+    (λ _. (λ owner lt. none-current _ _ (none owner lt), λ owner lt. none-current _ _ (none owner (omega (arith, lt, c.requires.nodes)))), λ _. refl)
 
 pub returns-else-none_upto : goal.returns-else-none_upto
 returns-else-none_upto g c = (

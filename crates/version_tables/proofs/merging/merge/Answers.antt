@@ -1,4 +1,4 @@
-use Rattle.version_tables.proofs.Common.{ℕ, map, refl, sym, ◌∙◌, transport, with_items, with_items_is, VersionTableView, AreOfOneSize, HasMerged, IsKept}
+use Rattle.version_tables.proofs.Common.{ℕ, map, refl, ◌∙◌, with_items, with_items_is, VersionTableView, BothStayMerged, HasMerged}
 use Rattle.version_tables.proofs.Laid.{seen}
 use Rattle.version_tables.proofs.merging.merge.Goals as goal
 
@@ -12,8 +12,8 @@ module _ (g : _) (c : goal.After-responder-2-1 g) where
   abbrev q : VersionTableView
   q = seen c.responder.view_is
 
-  size : AreOfOneSize p q
-  size = rw (c.initiator.view_is, c.responder.view_is) c.requires.size
+  stay : BothStayMerged g.H.Written.lists p q
+  stay = rw (c.initiator.view_is, c.responder.view_is) c.requires
 
   came : HasMerged q p (record p {
     cells = map number (with_items c.initiator.inside.cells c.merge-came.new.first).items;
@@ -37,28 +37,23 @@ module _ (g : _) (c : goal.After-responder-2-1 g) where
       let greatest = with_items_is c.responder.inside.greatest c.raise_both.new.second (c.raise_both.auto.second ∙ c.deref_mut-4.ensures.len) in
       record {
         numbers =
-            rw (c.deref_mut.ensures.value, c.deref-2.ensures.value, c.deref_mut-2.ensures.value, ← cells, size.nodes, size.keys)
+            rw (c.deref_mut.ensures.value, c.deref-2.ensures.value, c.deref_mut-2.ensures.value, ← cells, stay.nodes, stay.keys)
             at c.merge-came.ensures.second;
         most = rw (c.deref_mut-3.ensures.value, c.deref_mut-4.ensures.value, ← greatest) at c.raise_both.ensures.second;
         rest = refl;
       }
 
 pub invariant_of-initiator : goal.invariant_of-initiator
-invariant_of-initiator g c =
-    transport (λ i. (new : VersionTableView) → HasMerged (sym c.responder.view_is i) (sym c.initiator.view_is i) new → IsKept g.H.Written.lists new)
-    c.requires.first _ (came g c)
+invariant_of-initiator g c = (stay g c).first _ (came g c)
 
 pub invariant_of-responder : goal.invariant_of-responder
-invariant_of-responder g c =
-    transport (λ i. (new : VersionTableView) → HasMerged (sym c.initiator.view_is i) (sym c.responder.view_is i) new → IsKept g.H.Written.lists new)
-    c.requires.second _ (went g c)
+invariant_of-responder g c = (stay g c).second _ (went g c)
 
 pub returns : goal.returns
 returns g c =
-    let size = size g c in
     rw (← c.initiator.view_is, ← c.responder.view_is) (record {
       first = came g c;
       second = went g c;
-      back = rw (c.deref_mut-2.ensures.value, c.deref.ensures.value, size.nodes, size.keys) at c.merge-came.ensures.first_count;
+      back = rw (c.deref_mut-2.ensures.value, c.deref.ensures.value, (stay g c).nodes, (stay g c).keys) at c.merge-came.ensures.first_count;
       forth = rw (c.deref_mut.ensures.value, c.deref-2.ensures.value) at c.merge-came.ensures.second_count;
     })

@@ -1,4 +1,4 @@
-use Rattle.version_tables.proofs.Common.{◌≡◌, length, map, slice_index, ap, arith, refl, subst, sym, ◌∙◌, with_items, with_items_is, all_writes, VersionTableView, drop_start, number_kept, HasTaken, StaysOne}
+use Rattle.version_tables.proofs.Common.{◌≡◌, length, length-map, map, slice_index, ap, arith, refl, subst, sym, ◌∙◌, with_items, with_items_is, all_writes, VersionTableView, drop_start, number_kept, HasTaken, StaysOne}
 use Rattle.version_tables.proofs.Laid.{seen}
 use Rattle.version_tables.proofs.taking.take_unless.Goals as goal
 
@@ -52,4 +52,24 @@ drop_older-requires-clause-known g c =
       base_count = c.bases.ensures.count;
       bases = c.bases.ensures.each;
       numbered = λ owner. (c.lists.ensures.known.so_far owner).numbered;
+    })
+
+pub take-requires : goal.take-requires
+take-requires g c =
+    let number = g.N.Number.number in
+    let inside = c.table.inside in
+    let kept = c.table.invariant in
+    let nodes = ap (λ (v : VersionTableView). v.nodes) c.table.view_is in
+    let size = length-map inside.cells.items number in
+    rw (c.deref_mut.ensures.value, c.deref_mut-2.ensures.value) (record {
+      may = record {
+        beside = record {
+          shape = record { whole = omega (arith, size, kept.numbers.size); few_nodes = kept.proper.nodes_limit; few_keys = kept.proper.keys_limit };
+          count = omega (arith, size, length-map c.args.cells.now number, ap (λ (v : VersionTableView). length v.cells) c.table.view_is);
+        };
+        greatest_count = sym (length-map inside.greatest.items number) ∙ kept.most.size;
+        low_count = c.requires.may.low_count ∙ sym nodes;
+        high_count = c.requires.may.high_count ∙ sym nodes;
+        covered = λ owner lt key lt'. (kept.most.each owner lt).upto key lt';
+      };
     })

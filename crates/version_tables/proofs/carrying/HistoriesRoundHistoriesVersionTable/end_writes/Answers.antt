@@ -14,7 +14,7 @@ returns-clause-fits g c =
         nodes = standing.nodes;
         holds = λ owner key e held. (standing.holds owner key e held).0;
         made = λ owner. record {
-          first = (known.so_far owner).made.first;
+          first = (known.made owner).first;
           last = λ number e is.
               let at = numbered-placed (all_writes h.lists owner) number e is in
               omega (arith, written.born owner at.place e at.within, ap (λ (x : Entry). x.born) (at.there e));

@@ -1,6 +1,7 @@
-use Rattle.version_tables.proofs.Common.{rules, refl, ◌≡◌, ◌+◌, ◌*◌, length, map, set, ap, subst, sym, ◌∙◌, all_writes, list_of_owner, with_write, ListBecomes, HistoriesView, MayAddWrite}
+use Rattle.version_tables.proofs.Common.{rules, arith, refl, ◌≡◌, ◌+◌, ◌*◌, ◌<◌, length, length-map, map, set, ap, subst, sym, ◌∙◌, all_writes, list_of_owner, with_write, ListBecomes, HistoriesView, MayAddWrite}
 use Rattle.version_tables.proofs.HistoryCalls.{count-read, histories-written, list-becomes, nodes-are, numbers-set}
 use Rattle.version_tables.proofs.Laid.{seen}
+use Rattle.version_tables.proofs.OwnCalls.{place-within}
 use Rattle.version_tables.proofs.histories.Histories.write.Goals as goal
 
 module _ (g : _) (c : goal.After-self-3-1 g) where
@@ -34,3 +35,12 @@ returns-clause-number g c = subst (λ (h : HistoriesView). g.N.Number.number c.p
 
 pub returns-clause-ok : goal.returns-clause-ok
 returns-clause-ok g c = rw (← c.self.view_is) (record { lists = becomes g c; beside = record { keys = refl; rounds = refl } })
+
+pub index_mut-requires-3 : goal.index_mut-requires-3
+index_mut-requires-3 g c =
+    let lasts = c.self.inside.lasts in
+    let count : c.len-nodes.result ≡ length c.self.inside.lists.items = search rules in
+    let within = place-within (length c.self.inside.lists.items) c.self.inside.keys c.args.owner c.args.key
+    (omega (arith, ap (λ (h : HistoriesView). length h.lists) c.self.view_is)) (omega (arith, ap (λ (h : HistoriesView). h.keys) c.self.view_is)) in
+    subst (λ n. c.args.key * n + c.args.owner < lasts.len) (sym count)
+    (omega (arith, within, c.self.invariant.last.size, length-map lasts.items g.N.Number.number, lasts.ok.0))

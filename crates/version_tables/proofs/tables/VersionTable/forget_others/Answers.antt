@@ -12,7 +12,7 @@ module _ (g : _) (c : goal.After-self-2-1 g) where
     greatest = map g.N.Number.number (with_items c.self.inside.greatest c.keep_one.new.numbers).items;
   }) (without_others (table_in g.H.Written.lists old))
   after =
-      restarts g.H.Written.lists old c.self.invariant
+      restarts c.self.invariant
       (put-back (ArePlanesChanged (λ r k x y. y ≡ (if r == old.node then x else 0)) old.nodes old.keys) g.N.Number.number c.self.inside.cells _ _
       (c.keep_owner.auto.cells ∙ c.deref_mut.ensures.len) c.deref_mut.ensures.value c.keep_owner.ensures)
       (put-back (AreChanged (λ r x y. y ≡ (if r == old.node then x else 0))) g.N.Number.number c.self.inside.greatest _ _

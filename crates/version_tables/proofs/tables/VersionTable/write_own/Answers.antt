@@ -14,12 +14,11 @@ module _ (g : _) (c : goal.After-self-2-1 g) where
   next = subst (λ (v : VersionTableView). IsNextWrite g.H.Written.lists v c.args.key (g.N.Number.number c.args.number)) (sym c.self.view_is) c.requires.next
 
 pub invariant_of-self : goal.invariant_of-self
-invariant_of-self g c =
-    simp map-set (lies-kept (writes g.H.Written.lists (old g c) c.self.invariant c.args.key (g.N.Number.number c.args.number) (in_keys g c) (next g c)))
+invariant_of-self g c = simp map-set (lies-kept (writes c.self.invariant c.args.key (g.N.Number.number c.args.number) (in_keys g c) (next g c)))
 
 pub returns : goal.returns
 returns g c =
     transport (λ i. HasOwnWrite g.H.Written.lists (c.self.view_is i) (g.N.Number.number c.args.number) (record (old g c) {
       cells = sym (map-set g.N.Number.number c.self.inside.cells.items (c.args.key * c.self.inside.nodes + c.self.inside.node) c.args.number) i;
     }))
-    (writes-table g.H.Written.lists (old g c) c.self.invariant c.args.key (g.N.Number.number c.args.number) (in_keys g c) (next g c))
+    (writes-table c.self.invariant c.args.key (g.N.Number.number c.args.number) (in_keys g c) (next g c))

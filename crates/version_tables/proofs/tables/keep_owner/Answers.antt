@@ -1,5 +1,5 @@
 use Rattle.version_tables.proofs.Common.{◌+◌, ◌*◌, ◌-◌, arith, map, grid-within, planes-written}
-use Rattle.version_tables.proofs.owners.keep_owner.Goals as goal
+use Rattle.version_tables.proofs.tables.keep_owner.Goals as goal
 
 pub loop-key-preserved : goal.loop-key-preserved
 loop-key-preserved g c =

@@ -1,5 +1,5 @@
 use Rattle.version_tables.proofs.Common.{◌≡◌, ◌==◌, map, if◌then◌else◌, ArePlanesChangedUpto}
-use Rattle.version_tables.proofs.owners.keep_owner.Given as goal
+use Rattle.version_tables.proofs.tables.keep_owner.Given as goal
 
 abbrev pub invariant-loop-key : goal.invariant-loop-key
 invariant-loop-key g l =

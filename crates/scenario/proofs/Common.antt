@@ -1,11 +1,12 @@
 -- The names of other libraries that these proofs cite, passed on from one place. Declares nothing.
 -- Serves most of the crate.
-pub use Rattle.std.proofs.Common.{All, Bool, Err, IfErr, IfOk, IsUtf8, List, None, Ok, OnOk, Option, Result, Some, [], ap, arith, cond, drop, false, get_or, inl, inr, length, map, nat_le, negsuc, pos, refl, rules, string_bytes, subst, suc, sym, tests, true, zero, ℕ, ◌&&◌, ◌*◌, ◌++◌, ◌+◌, ◌-◌, ◌<◌, ◌∙◌, ◌∷◌, ◌≡◌, ◌≢◌, ◌≤◌, ◌⊎◌}
+pub use Rattle.std.proofs.Common.{All, Bool, Err, IfErr, IfOk, IsUtf8, List, None, Ok, OnOk, Option, Result, Some, [], ap, append_assoc, append-nil, arith, cond, drop, false, get_or, inl, inr, length, length-append, map, nat_le, negsuc, pos, refl, rules, string_bytes, subst, suc, sym, tests, true, zero, ℕ, ◌&&◌, ◌*◌, ◌++◌, ◌+◌, ◌-◌, ◌<◌, ◌∙◌, ◌∷◌, ◌≡◌, ◌≢◌, ◌≤◌, ◌⊎◌}
 pub use Rattle.std.proofs.lemmas.Bool.{and_parts, leb-true}
 pub use Rattle.std.proofs.lemmas.Grind.{common_steps}
 pub use Rattle.std.proofs.lemmas.Iterator.Consumers.{YieldsList-from_rest}
 pub use Rattle.std.proofs.lemmas.Iterator.Search.{all_from_yields_List}
-pub use Rattle.std.proofs.lemmas.List.Elements.{All-cons, All-nil, All-weaker}
+pub use Rattle.std.proofs.lemmas.List.{at_drop_all, at_drop_more}
+pub use Rattle.std.proofs.lemmas.List.Elements.{All-cons, All-nil, All-push, All-weaker}
 pub use Rattle.std.proofs.lemmas.Map.Text.{is_eq-slice_cmp}
 pub use Rattle.std.proofs.lemmas.Slice.Eq.{bytes_eq-Decides}
 pub use Rattle.std.proofs.lemmas.Str.{IsUtf8-from_is_utf8, is_utf8-from_IsUtf8}

@@ -1,4 +1,4 @@
-use Rattle.board.proofs.Common.{arith, ap, sym, ◌∙◌, ◌∷◌, ◌++◌, [], ◌≡◌, ◌<◌, length, vec_capacity, take, set, get_or, get_or-set_same, get_or-set_other, false, inl, inr, ℕ, suc, ◌+◌, cases_eq, slots_filled, slots_counts, length_push, same_Some, get_elem?}
+use Rattle.board.proofs.Common.{arith, ap, sym, ◌∙◌, ◌∷◌, ◌++◌, [], ◌≡◌, ◌<◌, length, vec_capacity, take, set, get_or, get_or-set_same, get_or-set_other, false, inl, inr, ℕ, suc, ◌+◌, cases_eq, slots_filled, slots_counts, length_push, length-map, take_all, in_place, subst, refl, ◌≤◌, same_Some, get_elem?}
 use Rattle.board.proofs.Filling.{taken_next}
 use Rattle.board.proofs.boards.all_out.Goals as goal
 use Rattle.board.proofs.boards.all_out.Goals.{in-Some, in_default}
@@ -35,3 +35,31 @@ loop-i-preserved g c =
             | in_default w ↦ absurd (w.in_default.not-Some there.0 there.1)
           ],
     )
+
+pub loop-i-init : goal.loop-i-init
+loop-i-init g c =
+    let bare = c.requires.room.1 in
+    (c.requires.room.0, λ k below. absurd (omega (arith, below)), refl, refl, omega (arith, ap length bare), refl, λ kept is. bare)
+
+pub take-requires : goal.take-requires
+take-requires g c =
+    let inv = c.loop-i.invariant in
+    let within = subst (λ n. c.loop-i.i < n) (c.slot_count-i-end.ensures ∙ sym inv.3) c.loop-i-test.true in
+    (within, inv.0 c.loop-i.i (omega arith) within)
+
+pub push_reserved-requires : goal.push_reserved-requires
+push_reserved-requires g c =
+    let inv = c.loop-i.invariant in
+    omega (arith, c.loop-i.room.ok.0, inv.4, inv.5, c.loop-i-test.true, c.slot_count-i-end.ensures, c.requires.room.2)
+
+pub free-requires : goal.free-requires
+free-requires g c = λ k below.
+    let inv = c.loop-i.invariant in
+    inv.1 k (omega (arith, below, inv.3, c.loop-i-test.false, c.slot_count-i-end.ensures))
+
+pub returns : goal.returns
+returns g c = λ kept is.
+    let inv = c.loop-i.invariant in
+    let all : length kept ≤ c.loop-i.i =
+    omega (arith, c.loop-i-test.false, c.slot_count-i-end.ensures, ap length is, length-map kept in_place, (slots_counts c.args.closed.slots).0) in
+    inv.6 kept is ∙ take_all c.loop-i.i kept all

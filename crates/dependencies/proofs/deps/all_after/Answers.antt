@@ -1,5 +1,5 @@
-use Rattle.dependencies.proofs.Common.{◌≡◌, ◌+◌, ◌-◌, ◌<◌, None, length, subst, ap, ◌∙◌, arith, get_or_read}
-use Rattle.dependencies.specs.Sharing.{exchange_at, no_exchange}
+use Rattle.dependencies.proofs.Common.{◌≡◌, ◌+◌, ◌-◌, ◌<◌, None, length, find, get_or, range_with_len, rules, get_or-replicate, subst, ap, ◌∙◌, arith, get_or_read}
+use Rattle.dependencies.specs.Sharing.{exchange_at, no_exchange, takes_part}
 use Rattle.dependencies.specs.Neighbours.{unless_same}
 use Rattle.dependencies.proofs.Passes.{IsBackward, backward_more, backward_all}
 use Rattle.dependencies.proofs.deps.all_after.Goals as goal
@@ -23,3 +23,16 @@ returns-clause-value c =
     let start : c.loop-i.i ≡ 0 = omega arith in
     let es = c.args.exchanges.now in
     backward_all es c.args.nodes c.loop-i.next.items c.loop-i.after.items (subst (λ n. IsBackward es c.args.nodes n c.loop-i.next.items c.loop-i.after.items) start c.loop-i.invariant)
+
+pub loop-i-init : goal.loop-i-init
+loop-i-init c =
+    let es = c.args.exchanges.now in
+    let start = c.in_ok-next.ensures.items_if_clones_equal (λ y clone. search rules) in
+    record {
+      size = omega (arith, c.in_ok-next.next.ok.0, c.in_ok-next.ensures.len);
+      room = omega (arith, c.in_ok-after.after.ok.0, c.in_ok-after.ensures.len);
+      known = λ node within.
+          ap (λ xs. get_or xs node None) start ∙ get_or-replicate c.args.nodes node None None within
+          ∙ ap (λ n. find (takes_part es node) (range_with_len (length es) n)) {x = 0} {y = length es - length es} (omega arith);
+      done = λ k d from within. absurd (omega (arith, from, within));
+    }

@@ -1,6 +1,6 @@
-use Rattle.dependencies.proofs.Common.{None, ap, ◌∙◌, arith, get_or_read}
+use Rattle.dependencies.proofs.Common.{None, length, map, get_or, range_with_len, ap, ◌∙◌, arith, rules, get_or_read, get_or-replicate}
 use Rattle.dependencies.specs.Sharing.{exchange_at, no_exchange}
-use Rattle.dependencies.specs.Neighbours.{unless_same}
+use Rattle.dependencies.specs.Neighbours.{predecessors_of, unless_same}
 use Rattle.dependencies.proofs.Passes.{forward_more}
 use Rattle.dependencies.proofs.deps.all_before.Goals as goal
 
@@ -15,3 +15,17 @@ loop-i-preserved c =
     rw c.in_ok-push.ensures.items
     (forward_more es c.args.nodes i last c.loop-i.before.items c.index-first.result.now c.unless_same-second.result c.loop-i.invariant planned one
     (c.unless_same-second.ensures ∙ ap (unless_same c.index-first.result.now) two))
+
+pub loop-i-init : goal.loop-i-init
+loop-i-init c =
+    let start = c.in_ok-last.ensures.items_if_clones_equal (λ y clone. search rules) in
+    record {
+      size = omega (arith, c.in_ok-last.last.ok.0, c.in_ok-last.ensures.len);
+      known = λ node within. ap (λ xs. get_or xs node None) start ∙ get_or-replicate c.args.nodes node None None within;
+      done = c.in_ok-before.ensures.items;
+    }
+
+pub returns-clause-value : goal.returns-clause-value
+returns-clause-value c =
+    let es = c.args.exchanges.now in
+    c.loop-i.invariant.done ∙ ap (λ n. map (predecessors_of es) (range_with_len 0 n)) {y = length es} (omega arith)

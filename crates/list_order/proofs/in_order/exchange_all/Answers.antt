@@ -1,4 +1,4 @@
-use Rattle.list_order.proofs.Common.{◌≡◌, length, map, take, false, sym, ap, subst, ◌∙◌, arith, take_all, length-map, Exchange, Folded, fold_of, table_of_node, HoldsOfEach, IsCluster, cluster_of, before_keeps_each}
+use Rattle.list_order.proofs.Common.{◌≡◌, ◌<◌, List, get_or, IsPlanned, length, map, take, false, sym, ap, subst, ◌∙◌, arith, take_all, length-map, Exchange, Folded, fold_of, table_of_node, HoldsOfEach, IsCluster, cluster_of, before_keeps_each}
 use Rattle.list_order.proofs.Turns.{IsTurned, turned_none, turned_more, still_tables}
 use Rattle.list_order.proofs.in_order.exchange_all.Goals as goal
 
@@ -47,3 +47,14 @@ returns-clause-exchanged g c =
     let i = c.loop-i.i in
     let all : take i es ≡ es = take_all i es (omega (arith, c.loop-i-test.false, ap length c.exchanges-plan-items.ensures.value)) in
     sym (ap (fold_of c.args.work.rules.now (map g.T.MemoryTable.table c.args.tables.now)) all) ∙ c.loop-i.invariant.folded
+
+pub exchange_pair-requires-clause-planned : goal.exchange_pair-requires-clause-planned
+exchange_pair-requires-clause-planned g c =
+    let es = c.exchanges-plan-items.ensures in
+    let i = c.loop-i.i in
+    let size : c.args.work.list.now.nodes ≡ length c.loop-i.tables =
+    omega (arith, c.requires.tables.cluster.size, length-map c.args.tables.now g.T.MemoryTable.table, c.loop-i.auto.tables) in
+    λ _ _.
+    subst (λ (l : List Exchange). IsPlanned (length c.loop-i.tables) (get_or l i behind)) (sym es.value)
+    (subst (λ n. IsPlanned n (get_or c.args.work.list.now.exchanges i behind)) size
+    (es.kept.planned i behind (subst (λ (l : List Exchange). i < length l) es.value c.loop-i-test.true)))

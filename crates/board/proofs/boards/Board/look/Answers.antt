@@ -1,5 +1,8 @@
-use Rattle.board.proofs.Common.{arith, refl}
+use Rattle.board.proofs.Common.{arith, ◌/◌, ap, refl, subst}
 use Rattle.board.specs.Boards.{plan_of}
+use Rattle.board.specs.Plan.{BoardPlan}
+use Rattle.board.specs.Seats.{LookTells}
+use Rattle.board.specs.inner.Plays.{is_odd}
 use Rattle.board.proofs.Steps.{look_allowed}
 use Rattle.board.proofs.Calls.{seat_rests, word_zero, rests_again}
 use Rattle.board.proofs.boards.Board.look.Goals as goal
@@ -13,3 +16,10 @@ load-word-requires g c = (
 
 pub returns-clause-seat : goal.returns-clause-seat
 returns-clause-seat g c = rests_again g.T.MemoryTable.table c.args.self.now c.args.seat.now _ _ c.requires.seat c.load-word.ensures.0 c.load-word.ensures.2.0 refl (λ i. omega arith)
+
+pub returns-clause-progress : goal.returns-clause-progress
+returns-clause-progress g c = (
+  ap (λ m. m.0.seat) c.load-word.ensures.2.0,
+  subst (λ (plan : BoardPlan). LookTells plan.list.exchanges c.args.seat.now.raw.me.0.seat (c.load-word.result / 2) (is_odd c.load-word.result))
+      c.requires.seat.plan c.load-word.ensures.2.1,
+)

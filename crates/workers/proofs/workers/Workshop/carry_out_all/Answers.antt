@@ -1,19 +1,55 @@
-use Rattle.workers.proofs.Common.{◌≡◌, ℕ, ◌⊎◌, Bool, true, false, length, inl, inr, rules, sym, ap, subst, ◌∙◌, Table, SeatView, BoardPlan, plan_of, seat_view, Board}
+use Rattle.workers.proofs.Common.{◌≡◌, ℕ, ◌⊎◌, Bool, true, false, length, ◌++◌, append_assoc, inl, inr, refl, rules, sym, ap, subst, ◌∙◌, Table, SeatView, BoardPlan, plan_of, seat_view, Board, IsSeatOf}
 use Rattle.board.specs.SeatView.{having_seen}
 use Rattle.board.specs.declared.boards.Seat.{Seat}
+use Rattle.deques.specs.Pushes.{pushed}
+use Rattle.deques.specs.declared.tasks.Tasks.{Tasks}
 use Rattle.workers.specs.declared.workers.Worker.{Worker}
-use Rattle.workers.specs.inner.AtWork.{HasWorked}
+use Rattle.workers.specs.inner.AtWork.{HasWorked, StaysAtWork}
 use Rattle.workers.specs.inner.Returns.{SeesTheEnd}
 use Rattle.workers.proofs.workers.Workshop.carry_out_all.Goals as goal
 use Rattle.workers.proofs.workers.Workshop.carry_out_all.Goals.{in-None, in-Some+then-progress}
 
--- a look leaves what the seat has put back and freed
-still_worked : {T : Type 0} (table : T → Table) (board : Board T) (old worker : Worker T) (seat : Seat T)
-    → (seat_view seat).made ≡ (seat_view worker.seat).made → (seat_view seat).freed ≡ (seat_view worker.seat).freed
-    → HasWorked table board old worker → HasWorked table board old (record worker { seat = seat })
-still_worked table board old worker seat made freed worked = record {
-  records = record { made = worked.records.made ∙ sym made; each = worked.records.each };
-  pushes = record { ready = worked.pushes.ready; freed = freed ∙ worked.pushes.freed; pushed = worked.pushes.pushed };
+-- a look, and what is taken then, leave what the seat has put back, freed and pushed
+module _ {T : Type 0} (table : T → Table) (board : Board T) (old worker : Worker T) (seat : Seat T) (tasks : Tasks) (finished : ℕ) (is_stopped : Bool) where
+  still_stays : IsSeatOf table seat board → seat_view seat ≡ having_seen (seat_view worker.seat) finished is_stopped
+      → StaysAtWork table board old worker → StaysAtWork table board old (record worker { seat = seat; tasks = tasks })
+  still_stays of_board looked stays = record {
+    of_board = of_board;
+    parts = ap (λ (v : SeatView). v.parts) looked ∙ stays.parts;
+    is_halted = ap (λ (v : SeatView). v.is_halted) looked ∙ stays.is_halted;
+  }
+
+  still_worked : seat_view seat ≡ having_seen (seat_view worker.seat) finished is_stopped → pushed tasks ≡ pushed worker.tasks
+      → HasWorked table board old worker → HasWorked table board old (record worker { seat = seat; tasks = tasks })
+  still_worked looked kept worked = record {
+    records = record { made = worked.records.made ∙ sym (ap (λ (v : SeatView). v.made) looked); each = worked.records.each };
+    pushes = record {
+      ready = worked.pushes.ready;
+      freed = ap (λ (v : SeatView). v.freed) looked ∙ worked.pushes.freed;
+      pushed = kept ∙ worked.pushes.pushed;
+    };
+  }
+
+-- one more exchange was tried
+stays_on : {T : Type 0} (table : T → Table) (board : Board T) (old mid new : Worker T)
+    → StaysAtWork table board old mid → StaysAtWork table board mid new → StaysAtWork table board old new
+stays_on table board old mid new first later = record {
+  of_board = later.of_board;
+  parts = later.parts ∙ first.parts;
+  is_halted = later.is_halted ∙ first.is_halted;
+}
+
+worked_on : {T : Type 0} (table : T → Table) (board : Board T) (old mid new : Worker T)
+    → HasWorked table board old mid → HasWorked table board mid new → HasWorked table board old new
+worked_on table board old mid new first later = record {
+  records = later.records;
+  pushes = record {
+    ready = first.pushes.ready ++ later.pushes.ready;
+    freed = later.pushes.freed ∙ ap (λ l. l ++ later.pushes.ready) first.pushes.freed
+        ∙ append_assoc (seat_view old.seat).freed first.pushes.ready later.pushes.ready;
+    pushed = later.pushes.pushed ∙ ap (λ l. l ++ later.pushes.ready) first.pushes.pushed
+        ∙ append_assoc (pushed old.tasks) first.pushes.ready later.pushes.ready;
+  };
 }
 
 -- a look at which all are finished, or a stop was called, sees the end
@@ -33,8 +69,7 @@ returns-clause-worked g c =
         | in-Some+then-progress w ↦
             let looked = w.look-progress.ensures.progress.0 in
             subst (HasWorked table board c.args.worker.now) (sym w.worker-is)
-            (still_worked table board c.args.worker.now c.loop.worker w.look-progress.new.seat (ap (λ (v : SeatView). v.made) looked)
-            (ap (λ (v : SeatView). v.freed) looked) worked)
+            (still_worked table board c.args.worker.now c.loop.worker w.look-progress.new.seat c.loop.worker.tasks _ _ looked refl worked)
       ];
       ends = elim c.match-next.branch [
         | in-None w ↦ search rules
@@ -44,4 +79,37 @@ returns-clause-worked g c =
             (looked_at_end (plan_of table board) (seat_view c.loop.worker.seat) (seat_view look.new.seat) look.result.finished look.result.stopped
             c.len-count.result look.ensures.progress.0 c.len-count.ensures w.then-progress.either)
       ];
+    }
+
+pub loop-preserved : goal.loop-preserved
+loop-preserved g c =
+    let looked = c.look-progress.ensures in
+    let table = g.T.MemoryTable.table in
+    let board = c.args.self.now.board in
+    let seat = c.look-progress.new.seat in
+    let tasks = c.next-in-loop.new.self in
+    record {
+      more = tt;
+      finite = tt;
+      stays = still_stays table board c.args.worker.now c.loop.worker seat tasks _ _ looked.seat looked.progress.0 c.loop.invariant.stays;
+      worked = still_worked table board c.args.worker.now c.loop.worker seat tasks _ _ looked.progress.0 c.next-in-loop.ensures.kept
+          c.loop.invariant.worked;
+    }
+
+pub loop-preserved-in-Some-next : goal.loop-preserved-in-Some-next
+loop-preserved-in-Some-next g c =
+    let looked = c.look-progress.ensures in
+    let table = g.T.MemoryTable.table in
+    let board = c.args.self.now.board in
+    let seat = c.look-progress.new.seat in
+    let tasks = c.next-in-loop.new.self in
+    let tried = c.in_ok-try_one.ensures in
+    record {
+      more = tt;
+      finite = tt;
+      stays = stays_on table board c.args.worker.now _ c.try_one.new.worker
+          (still_stays table board c.args.worker.now c.loop.worker seat tasks _ _ looked.seat looked.progress.0 c.loop.invariant.stays) tried.stays;
+      worked = worked_on table board c.args.worker.now _ c.try_one.new.worker
+          (still_worked table board c.args.worker.now c.loop.worker seat tasks _ _ looked.progress.0 c.next-in-loop.ensures.kept
+          c.loop.invariant.worked) tried.worked;
     }

@@ -55,7 +55,7 @@ born-own_writes s owner round before =
     (All-map (λ (e : Entry). e.born ≡ round) (own_write_at s owner round before) (range_with_len 0 (writes_in s round)) (λ k d lt. refl))
 
 -- what is left of a list where a node may forget it
-length_unless : {X : Type 0} (b : Bool) (xs : List X) → length (if b then [] else xs) ≡ (if b then 0 else length xs)
+pub length_unless : {X : Type 0} (b : Bool) (xs : List X) → length (if b then [] else xs) ≡ (if b then 0 else length xs)
 length_unless true xs = refl
 length_unless false xs = refl
 

@@ -119,6 +119,7 @@ fn write_words(scenario: &Scenario, node: u32, round: u32) -> [u32; ROUND_WORDS 
 
 /// As `writes_of`, by the node's words of the round, which matter only if writes are random. Costs
 /// a step for each restart and load.
+#[inline(always)]
 pub fn writes_by(
     scenario: &Scenario,
     node: u32,

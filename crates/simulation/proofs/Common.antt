@@ -4,7 +4,7 @@ pub use Rattle.std.proofs.Common.{All, IfOk, List, Option, Some, [], add-one, ap
 pub use Rattle.std.proofs.Math.ListN.{get_or-append}
 pub use Rattle.std.proofs.Math.Seq.{take-length}
 pub use Rattle.std.proofs.lemmas.Bool.{both_ways, cases_eq, cases_lt}
-pub use Rattle.std.proofs.lemmas.List.{append-nil, ext_get_or, get_or-append_right, get_or-map, get_or_past, length-map, length-set, length-take-le, map-append, map-set, take_more}
+pub use Rattle.std.proofs.lemmas.List.{append-nil, ext_get_or, get_or-append_right, get_or-map, get_or_past, get_or_push, length-map, length-set, length-take-le, map-append, map-set, take_more}
 pub use Rattle.std.proofs.lemmas.List.Elements.{All-append, All-nil, All-push, All-weaker}
 pub use Rattle.std.proofs.lemmas.List.FromFn.{get_or-map-range_with_len, length-map-range_with_len, map-range_with_len_more}
 pub use Rattle.std.proofs.lemmas.List.Sums.{fold-append}
@@ -44,14 +44,14 @@ pub use Rattle.model.specs.declared.writes.Write.{Write}
 pub use Rattle.model.specs.inner.Owns.{KeepOwnParts, KeepsOwn}
 pub use Rattle.model.specs.inner.Writes.{next_write}
 pub use Rattle.round_plan.proofs.Generations.{generation_upto-next, generation_upto-same, generation_upto_le, restarts-forgets}
-pub use Rattle.round_plan.proofs.Growth.{born-own_writes, count_before-grown, count_upto-grown, keys-own_writes, length-writes_before, next-own_writes, writes_before-grown, writes_upto-grown, written_upto-grown}
+pub use Rattle.round_plan.proofs.Growth.{born-own_writes, count_before-grown, count_upto-grown, keys-own_writes, length-writes_before, length_unless, next-own_writes, writes_before-grown, writes_upto-grown, written_upto-grown}
 pub use Rattle.round_plan.proofs.Planned.{planned_list}
 pub use Rattle.round_plan.specs.Generations.{generation_upto}
 pub use Rattle.round_plan.specs.Outages.{forgets_now, restarts_now}
 pub use Rattle.round_plan.specs.Plan.{round_list_of}
 pub use Rattle.round_plan.specs.Writes.{count_before, count_upto, own_writes, writes_upto, written_upto}
 pub use Rattle.round_plan.specs.calls.Words.{RunWordsView, run_words_of}
-pub use Rattle.round_plan.specs.calls.Writes.{born_in, writes_before}
+pub use Rattle.round_plan.specs.calls.Writes.{AreWritesOf, born_in, writes_before}
 pub use Rattle.round_plan.specs.declared.owners.OwnWrite.{OwnWrite}
 pub use Rattle.round_histories.specs.Histories.{AddsWrite, AreWrittenBy, BirthsRise, HistoriesView, MayWrite, StandsAmong, StandsBeside, StaysBesideLists, own_list}
 pub use Rattle.scenario.specs.Settings.{IsBudgetOf, IsLawfulScenario, Settings}

@@ -1,5 +1,6 @@
 pub mod Written
 pub mod Writing
+pub mod Ahead
 pub mod Begun
 pub mod Opening
 pub mod Standing

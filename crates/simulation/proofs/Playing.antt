@@ -1,14 +1,21 @@
 -- A round, from the tables with which it begins to those that its exchanges leave.
--- Serves `NextRound::play`.
-use Rattle.simulation.proofs.Common.{◌≡◌, ℕ, ◌-◌, ◌≤◌, All, List, [], length, map, sym, ap, ◌∙◌, subst, arith, length-map, IsLawfulBudget, IsPlanned, Budget, Entries, Bytes, Record, Rules, Figures, Table, KeepOwnParts, Folded, fold_of, AreTablesInOrder, AreProper, HoldsOfEach, IsCluster, fold_counts_tables, fold_counts_records, fold_keeps_own, fold_proper, cluster_of, RoundListView, IsRoundPlan, round_list_of, Settings, IsBudgetOf, IsLawfulScenario, figures_of, OwnerListView, lists_in, HistoriesView, StandsAmong}
+-- Serves `UnderWay::carry_out`.
+use Rattle.simulation.proofs.Common.{◌≡◌, ℕ, ◌-◌, ◌≤◌, All, List, [], length, map, sym, ap, ◌∙◌, subst, arith, length-map, IsLawfulBudget, IsPlanned, Budget, Entries, Bytes, Record, Rules, Figures, Table, KeepOwnParts, Folded, fold_of, AreTablesInOrder, AreProper, HoldsOfEach, IsCluster, fold_counts_tables, fold_counts_records, fold_keeps_own, fold_proper, cluster_of, RoundListView, IsRoundPlan, round_list_of, Settings, IsBudgetOf, IsLawfulScenario, figures_of, OwnerListView, lists_in, HistoriesView, AreWrittenBy, StandsAmong}
+use Rattle.round_histories.specs.Histories.{AreFiguresCounted, StandAtRoundEnd}
+use Rattle.round_histories.specs.declared.round_histories.Counted.{Counted}
+use Rattle.simulation.specs.declared.clusters.UnderWay.{UnderWay}
+use Rattle.simulation.specs.declared.plans.Drawn.{Drawn}
+use Rattle.simulation.specs.inner.Insides.{IsAfterRound}
+use Rattle.simulation.specs.inner.Plans.{IsDrawnAfter}
+use Rattle.simulation.specs.inner.Playing.{IsUnderWay}
 use Rattle.simulation.specs.calls.Outcomes.{played_with}
-use Rattle.simulation.specs.inner.Steps.{IsPlayedFrom}
+use Rattle.simulation.specs.inner.Steps.{HaveEnded, IsPlayedFrom}
 use Rattle.simulation.specs.calls.RoundView.{RoundView}
 use Rattle.simulation.specs.Rounds.{begun, rules_of, round_of, tables_after}
 use Rattle.simulation.specs.calls.Standing.{StandAfterRound}
 use Rattle.simulation.specs.Soundness.{AreSound}
 use Rattle.simulation.proofs.Soundness.{begun_sound, sound_run}
-use Rattle.simulation.proofs.Standing.{standing_kept, each_among}
+use Rattle.simulation.proofs.Standing.{standing_kept, each_among, written_by}
 use Rattle.simulation.proofs.Stepping.{left_after}
 
 stand_in_order : (s : Settings) (round : ℕ) (ts : List Table) (lists : List OwnerListView) → StandAfterRound s round ts lists → AreTablesInOrder s.nodes s.keys ts
@@ -59,21 +66,23 @@ module _ (s : Settings) (round : ℕ) (list : RoundListView) (plan : IsRoundPlan
     pub round_is : round_of s round before ≡ record { tables = new; records = records }
     round_is = (λ i. fold_of (sym rules_are i) (sym begun_is i) (sym list_is i).exchanges) ∙ exchanged
 
--- what the exchanges find and leave, where those before the round are the tables of the definition
-pub each_begun : (s : Settings) (round : ℕ) (before old : List Table) (h : HistoriesView) → IsLawfulScenario s → 1 ≤ round → before ≡ tables_after s (round - 1) → old ≡ begun s round before → h.keys ≡ s.keys → StandAfterRound s round old h.lists → HoldsOfEach (StandsAmong h) old
-each_begun s round before old h lawful first after begun_is keys standing =
+-- what the exchanges find and leave
+pub each_begun : (s : Settings) (round : ℕ) (old : List Table) (h : HistoriesView) → IsLawfulScenario s → 1 ≤ round
+    → old ≡ begun s round (tables_after s (round - 1)) → h.keys ≡ s.keys → StandAfterRound s round old h.lists → HoldsOfEach (StandsAmong h) old
+each_begun s round old h lawful first begun_is keys standing =
     each_among s round old h keys standing
-    (subst (AreSound s round) (sym (begun_is ∙ ap (begun s round) after)) (begun_sound s lawful.nodes.0 lawful.nodes.1 lawful.keys.0 lawful.keys.1 round first))
+    (subst (AreSound s round) (sym begun_is) (begun_sound s lawful.nodes.0 lawful.nodes.1 lawful.keys.0 lawful.keys.1 round first))
 
 pub record IsLeft {T : Type 0} (table : T → Table) (s : Settings) (round : ℕ) (tables : List T) (h : HistoriesView) : Type 0 where
   pub standing : StandAfterRound s round (map table tables) h.lists
   pub after : map table tables ≡ tables_after s round
   pub each : HoldsOfEach (StandsAmong h) (map table tables)
 
-pub is_left : {T : Type 0} (table : T → Table) (s : Settings) (round : ℕ) (list : RoundListView) (rules : Rules) (before old : List Table) (new : List T) (records : List Record) (h : HistoriesView) → IsLawfulScenario s → 1 ≤ round
-    → IsRoundPlan list → list ≡ round_list_of s round → rules ≡ rules_of s → before ≡ tables_after s (round - 1) → old ≡ begun s round before → h.keys ≡ s.keys → StandAfterRound s round old h.lists
+pub is_left : {T : Type 0} (table : T → Table) (s : Settings) (round : ℕ) (list : RoundListView) (rules : Rules) (old : List Table) (new : List T)
+    (records : List Record) (h : HistoriesView) → IsLawfulScenario s → 1 ≤ round → IsRoundPlan list → list ≡ round_list_of s round → rules ≡ rules_of s
+    → old ≡ begun s round (tables_after s (round - 1)) → h.keys ≡ s.keys → StandAfterRound s round old h.lists
     → fold_of rules old list.exchanges ≡ record { tables = map table new; records = records } → IsLeft table s round new h
-is_left table s round list rules before old new records h lawful first plan list_is rules_are after begun_is keys standing exchanged = record {
+is_left table s round list rules old new records h lawful first plan list_is rules_are begun_is keys standing exchanged = record {
   standing = stands;
   after = left;
   each = each_among s round (map table new) h keys stands (subst (AreSound s round) (sym left) ((sound_run s lawful.nodes.0 lawful.nodes.1 lawful.keys.0 lawful.keys.1).after round));
@@ -83,7 +92,9 @@ is_left table s round list rules before old new records h lawful first plan list
     stands = standing_exchanged s round list plan list_is rules old (map table new) records exchanged h.lists standing
 
     left : map table new ≡ tables_after s round
-    left = left_after s round before (map table new) records first after (round_is s round list plan list_is rules old (map table new) records exchanged before begun_is rules_are)
+    left =
+        left_after s round (map table new) records first
+        (round_is s round list plan list_is rules old (map table new) records exchanged (tables_after s (round - 1)) begun_is rules_are)
 
 -- all that a round came to
 pub played_is : (s : Settings) (round : ℕ) (old new : List Table) (lists : List OwnerListView) (list : RoundListView) (records : List Record) (lag : Figures) (played : RoundView)
@@ -91,3 +102,42 @@ pub played_is : (s : Settings) (round : ℕ) (old new : List Table) (lists : Lis
     → played ≡ played_with round list records lag → IsPlayedFrom s round old new lists played
 played_is s round old new lists list records lag played list_is round_was lag_is is =
     is ∙ (λ i. played_with round (list_is i) (sym round_was i).records (lag_is i))
+
+-- the tables and histories that its exchanges leave
+module _ {T K : Type 0} (table : T → Table) (kept : K → HistoriesView) (Fits : K → Table → Type 0) (s : Settings) (round : ℕ)
+    (u : UnderWay T K) (is : IsUnderWay table kept Fits s round u) (plan : IsRoundPlan u.list) (rules : Rules) (rules_are : rules ≡ rules_of s) (new : List T) (records : List Record)
+    (exchanged : fold_of rules (map table u.tables.items) u.list.exchanges ≡ record { tables = map table new; records = records }) where
+  pub left : IsLeft table s round new (kept u.histories)
+  left =
+      is_left table s round u.list rules (map table u.tables.items) new records (kept u.histories) is.lawful is.may_draw.first plan is.list rules_are
+      is.tables is.ended.keys is.standing exchanged
+
+  pub may_count : StandAtRoundEnd table new (kept u.histories)
+  may_count = record {
+    cluster = standing_cluster table s round new _ left.standing;
+    one_list_each = one_list_each table s round new _ left.standing;
+    written_by = subst (λ r. AreWrittenBy r (kept u.histories).lists) (sym is.ended.rounds) (written_by s round _ _ left.standing);
+    standing = left.each;
+  }
+
+  -- and what it came to
+  pub played : (counted : Counted T K) (result : RoundView) → AreFiguresCounted table kept u.histories new counted
+      → result ≡ played_with round u.list records counted.figures
+      → IsPlayedFrom s round (tables_after s (round - 1)) (map table counted.tables.items) (kept counted.histories).lists result
+  played counted result are result_is =
+      subst (λ ts. IsPlayedFrom s round (tables_after s (round - 1)) (map table ts) (kept counted.histories).lists result) (sym are.same_tables)
+      (subst (λ k. IsPlayedFrom s round (tables_after s (round - 1)) (map table new) (kept k).lists result) (sym are.same_histories)
+      (played_is s round (tables_after s (round - 1)) (map table new) (kept u.histories).lists u.list records counted.figures result is.list
+      (round_is s round u.list plan is.list rules (map table u.tables.items) (map table new) records exchanged (tables_after s (round - 1)) is.tables rules_are)
+      (are.figures_are ∙ ap (λ r. figures_of r (map table new) (lists_in (kept u.histories).lists)) is.ended.rounds)
+      result_is))
+
+  pub after : (counted : Counted T K) → AreFiguresCounted table kept u.histories new counted → (drawn : Drawn) → IsDrawnAfter s round drawn
+      → IsAfterRound table kept s round (record { tables = counted.tables; histories = counted.histories; drawn = drawn })
+  after counted are drawn drawn_is = record {
+    standing = subst (λ ts. StandAfterRound s round (map table ts) (kept counted.histories).lists) (sym are.same_tables)
+        (subst (λ k. StandAfterRound s round (map table new) (kept k).lists) (sym are.same_histories) left.standing);
+    tables = ap (map table) are.same_tables ∙ left.after;
+    ended = subst (λ k. HaveEnded s round (kept k)) (sym are.same_histories) is.ended;
+    drawn = drawn_is;
+  }

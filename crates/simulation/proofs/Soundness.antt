@@ -1,10 +1,10 @@
 -- What holds of the tables along every run.
 -- Serves `every_run_is_sound`, `Playing`, `Stepping` and `run_laws`.
-use Rattle.simulation.proofs.Common.{◌≡◌, ℕ, zero, suc, ◌+◌, ◌-◌, ◌<◌, ◌≤◌, true, false, if◌then◌else◌, List, ◌++◌, length, All, inl, inr, refl, sym, ap, ◌∙◌, subst, arith, take-length, cases_lt, both_ways, get_or_past, length-map-range_with_len, Entry, Mark, Exchange, AreNextAfter, Table, empty_table, entry_at, greatest_version, with_own_writes, without_others, without_all, IsProper, entry_at-empty_table, greatest_mark-empty_table, greatest_mark-without_all, greatest_mark-without_others_own, generation_upto, forgets_now, restarts_now, round_list_of, count_upto, count_before, own_writes, written_upto, generation_upto-same, generation_upto-next, restarts-forgets, count_before-grown, count_upto-grown, keys-own_writes, next-own_writes, written_upto-grown, planned_list, Settings, IsPlanned, NoMarksFall, IsLastOf, table_of_node, AreTablesInOrder, AreProper, fold_of, tables_before, NoMarkFalls, marks_stay, marks_then, IsBegun, begun_same, begun_forget, begun_restart, begun_then, begun_writes, counted_writes, generation-written, written_rises, empty_copies, empty_no_gap, begun_copies, begun_no_gap, table_of_node-made, before_copies, before_no_gap, before_rises, before_keeps_own}
+use Rattle.simulation.proofs.Common.{◌≡◌, ℕ, zero, suc, ◌+◌, ◌-◌, ◌<◌, ◌≤◌, true, false, if◌then◌else◌, List, ◌++◌, length, All, inl, inr, refl, sym, ap, ◌∙◌, subst, arith, take-length, cases_lt, get_or_past, length-map-range_with_len, Entry, Mark, Exchange, AreNextAfter, Table, empty_table, entry_at, greatest_version, with_own_writes, without_others, without_all, IsProper, entry_at-empty_table, greatest_mark-empty_table, greatest_mark-without_all, greatest_mark-without_others_own, generation_upto, forgets_now, restarts_now, round_list_of, count_upto, count_before, own_writes, written_upto, generation_upto-same, generation_upto-next, count_before-grown, count_upto-grown, keys-own_writes, next-own_writes, written_upto-grown, planned_list, Settings, IsPlanned, NoMarksFall, IsLastOf, table_of_node, AreTablesInOrder, AreProper, fold_of, tables_before, NoMarkFalls, marks_stay, marks_then, IsBegun, begun_same, begun_forget, begun_restart, begun_then, begun_writes, counted_writes, generation-written, written_rises, empty_copies, empty_no_gap, begun_copies, begun_no_gap, table_of_node-made, before_copies, before_no_gap, before_rises, before_keeps_own}
 use Rattle.simulation.specs.Rounds.{opening_tables, restarted, written_table, after_restart, begun, rules_of, round_of, tables_after}
 use Rattle.simulation.specs.Soundness.{writes_by, AreSound, OnlyRestartsLowerMarks, tables_within, IsSoundRun}
 use Rattle.simulation.proofs.Begun.{begun_at}
-use Rattle.simulation.proofs.Standing.{opening_proper}
+use Rattle.simulation.proofs.Standing.{opening_proper, stays_same}
 
 -- each owner's greatest version is how many writes of its generation it has made
 abbrev AreCounted : Settings → ℕ → List Table → Type 0
@@ -139,14 +139,8 @@ module _ (s : Settings) (some : 2 ≤ s.nodes) (most : s.nodes ≤ 4096) (some_k
       node_rises : restarts_now s n round ≡ false → NoMarkFalls t (table_of_node (begun s round ts) n)
       node_rises stays = subst (NoMarkFalls t) (sym (begun_at s round ts n lt ∙ ap (λ u. with_own_writes u (writes n)) same)) (written_rises (writes n) t t_proper (subst (λ (u : Table). All (λ (e : Entry). e.key < u.keys) (writes n)) same keys_below))
         where
-          remembers : forgets_now s n round ≡ false
-          remembers = elim (forgets_now s n round) as (λ b. forgets_now s n round ≡ b → b ≡ false) [
-            | true ↦ λ forgets. absurd (both_ways (restarts_now s n round) stays (restarts-forgets s n round forgets))
-            | false ↦ λ _. refl
-          ] refl
-
           same : r ≡ t
-          same = ap (λ b. if b then without_all t else (if restarts_now s n round then without_others t else t)) remembers ∙ ap (λ b. if b then without_others t else t) stays
+          same = stays_same s n round t stays
 
     begun_size : length (begun s round ts) ≡ s.nodes
     begun_size = length-map-range_with_len (written_table s round (restarted s round ts)) 0 s.nodes

@@ -1,12 +1,12 @@
 -- What holds of all nodes at the beginning, and still holds after exchanges, restarts and writes.
 -- Serves the functions of `clusters` and `openings`, `Playing` and `Soundness`.
-use Rattle.simulation.proofs.Common.{◌≡◌, ℕ, ◌+◌, ◌-◌, ◌<◌, ◌≤◌, true, false, if◌then◌else◌, All, List, [], ◌∷◌, ◌++◌, length, map, inl, inr, refl, sym, ap, ◌∙◌, subst, arith, length-append, Contains, cases_lt, append_assoc, append-nil, get_or_past, length-map, All-nil, length-map-range_with_len, Entry, Mark, AreNextAfter, LEAST_KEYS, MOST_NODES, MOST_KEYS, Table, empty_table, entry_at, greatest_mark, with_own_write, with_own_writes, without_others, without_all, IsProper, entry_at-without_all, entry_at-without_others_own, greatest_mark-empty_table, greatest_mark-without_all, greatest_mark-without_others_own, proper-empty_table, proper-without_all, proper-without_others, OwnWrite, generation_upto, forgets_now, count_before, own_writes, writes_upto, written_upto, born_in, writes_before, generation_upto-same, generation_upto-next, next-own_writes, length-writes_before, writes_before-grown, writes_upto-grown, written_upto-grown, Settings, OwnerListView, all_writes, entries_of, no_writes, begun_generation, list_of_owner, write_of_entry, own_part-empty, KeepsOwn, KeepOwnParts, own_list, BirthsRise, AreWrittenBy, HistoriesView, StandsBeside, StandsAmong, StaysBesideLists, table_of_node, AreProper, HoldsOfEach, generation-written, table_of_node-made, still_table_of}
+use Rattle.simulation.proofs.Common.{◌≡◌, ℕ, both_ways, restarts_now, restarts-forgets, ◌+◌, ◌-◌, ◌<◌, ◌≤◌, true, false, if◌then◌else◌, All, List, [], ◌∷◌, ◌++◌, length, map, inl, inr, refl, sym, ap, ◌∙◌, subst, arith, length-append, Contains, cases_lt, append_assoc, append-nil, get_or_past, length-map, All-nil, length-map-range_with_len, Entry, Mark, AreNextAfter, LEAST_KEYS, MOST_NODES, MOST_KEYS, Table, empty_table, entry_at, greatest_mark, with_own_write, with_own_writes, without_others, without_all, IsProper, entry_at-without_all, entry_at-without_others_own, greatest_mark-empty_table, greatest_mark-without_all, greatest_mark-without_others_own, proper-empty_table, proper-without_all, proper-without_others, OwnWrite, generation_upto, forgets_now, count_before, own_writes, writes_upto, written_upto, born_in, writes_before, generation_upto-same, generation_upto-next, next-own_writes, length-writes_before, writes_before-grown, writes_upto-grown, written_upto-grown, Settings, OwnerListView, all_writes, entries_of, no_writes, begun_generation, list_of_owner, write_of_entry, own_part-empty, KeepsOwn, KeepOwnParts, own_list, BirthsRise, AreWrittenBy, HistoriesView, StandsBeside, StandsAmong, StaysBesideLists, table_of_node, AreProper, HoldsOfEach, generation-written, table_of_node-made, still_table_of}
 use Rattle.simulation.specs.Rounds.{opening_tables, after_restart}
 use Rattle.simulation.specs.calls.Simulation.{MayWriteAll}
 use Rattle.simulation.specs.Soundness.{AreSound}
 use Rattle.simulation.proofs.Written.{born_upto, births_rise, may_write_each}
 use Rattle.simulation.specs.calls.Standing.{IsOwnerOf, IsOwner, StandAfterRound}
-use Rattle.simulation.specs.inner.Steps.{HaveEnded, MayWriteEach, HasWritten, HasRestarted, begun_table}
+use Rattle.simulation.specs.inner.Steps.{HaveEnded, MayWriteEach, HasWritten, HasRestarted}
 
 -- the round that comes next, and histories beside which nothing has changed
 pub next_round : {s : Settings} {round : ℕ} {h : HistoriesView} → 1 ≤ round → HaveEnded s (round - 1) h → h.rounds + 1 ≡ round
@@ -111,6 +111,18 @@ keeps_own_forgotten t = record {
   greatest = greatest_mark-without_others_own t;
 }
 
+-- a node that doesn't restart forgets nothing, and its table stays
+pub stays_without : (s : Settings) (n round : ℕ) → restarts_now s n round ≡ false → forgets_now s n round ≡ false
+stays_without s n round stays = elim (forgets_now s n round) as (λ b. forgets_now s n round ≡ b → b ≡ false) [
+  | true ↦ λ forgets. absurd (both_ways (restarts_now s n round) stays (restarts-forgets s n round forgets))
+  | false ↦ λ _. refl
+] refl
+
+pub stays_same : (s : Settings) (n round : ℕ) (t : Table) → restarts_now s n round ≡ false → after_restart s round n t ≡ t
+stays_same s n round t stays =
+    ap (λ b. if b then without_all t else (if restarts_now s n round then without_others t else t)) (stays_without s n round stays)
+    ∙ ap (λ b. if b then without_others t else t) stays
+
 module _ (s : Settings) (round n : ℕ) (first : 1 ≤ round) (t : Table) (v : OwnerListView) (is : IsOwner s (round - 1) n t v) where
   before_is : forgets_now s n round ≡ false → writes_upto s n (round - 1) ≡ writes_before s n round
   before_is stays = sym (writes_before-grown s n round first ∙ ap (λ b. if b then [] else writes_upto s n (round - 1)) stays)
@@ -166,12 +178,12 @@ module _ (s : Settings) (round n : ℕ) (t : Table) (lists : List OwnerListView)
       (may_write_each May s n round all below first last)))
 
 -- and after its writes it is the round's
-pub owner_written : (s : Settings) (round n : ℕ) (before t u : Table) (h h' : HistoriesView) (writes : List OwnWrite) → 1 ≤ round → length writes ≤ 8
-    → h.rounds + 1 ≡ round → t ≡ after_restart s round n before → HasRestarted s round n t (list_of_owner h.lists n)
+pub owner_written : (s : Settings) (round n : ℕ) (t u : Table) (h h' : HistoriesView) (writes : List OwnWrite) → 1 ≤ round → length writes ≤ 8
+    → h.rounds + 1 ≡ round → HasRestarted s round n t (list_of_owner h.lists n)
     → HasWritten (h.rounds + 1) writes t u (own_list t h.lists) (own_list t h'.lists)
     → map (born_in round (generation_upto s n round)) writes ≡ own_writes s n round (length (list_of_owner h.lists n).current)
-    → IsOwner s round n u (list_of_owner h'.lists n) × (u ≡ begun_table s round n before)
-owner_written s round n before t u h h' writes first small next restarted is made_in made = (
+    → IsOwner s round n u (list_of_owner h'.lists n) × (u ≡ with_own_writes t (own_writes s n round (count_before s n round)))
+owner_written s round n t u h h' writes first small next is made_in made = (
   record {
     table = record {
       node = ap (λ (v : Table). v.node) written.table ∙ node-with_own_writes t entries ∙ is.table.node;
@@ -193,7 +205,7 @@ owner_written s round n before t u h h' writes first small next restarted is mad
     own_part = written.own_part;
     born = written.born;
   },
-  written.table ∙ (λ i. with_own_writes (restarted i) (now i)),
+  written.table ∙ ap (with_own_writes t) now,
 )
   where
     v : OwnerListView

@@ -45,12 +45,12 @@ tables_after-more s done =
     ap (tables_after s) next ∙ unfolded s done ∙ ap (λ n. (round_of s n (tables_after s done)).tables) (sym next)
 
 -- the tables that a round leaves
-pub left_after : (s : Settings) (round : ℕ) (before new : List Table) (records : List Record) → 1 ≤ round → before ≡ tables_after s (round - 1)
-    → round_of s round before ≡ record { tables = new; records = records } → new ≡ tables_after s round
-left_after s round before new records first before_is round_was =
+pub left_after : (s : Settings) (round : ℕ) (new : List Table) (records : List Record) → 1 ≤ round
+    → round_of s round (tables_after s (round - 1)) ≡ record { tables = new; records = records } → new ≡ tables_after s round
+left_after s round new records first round_was =
     let next : round - 1 + 1 ≡ round = omega (arith, first) in
     sym (ap (λ (f : Folded). f.tables) round_was)
-    ∙ (λ i. (round_of s (sym next i) (before_is i)).tables)
+    ∙ (λ i. (round_of s (sym next i) (tables_after s (round - 1))).tables)
     ∙ sym (tables_after-more s (round - 1))
     ∙ ap (tables_after s) next
 
@@ -74,7 +74,7 @@ after_before table kept May s cluster old done so_far is = subst (λ r. IsAfterR
 -- a cluster that was taken out has played the next round, and was put back
 pub step_played : {T K : Type 0} (table : T → Table) (kept : K → HistoriesView) (May : ℕ → ℕ → Entry → Type 0) (old out new : SimView T)
     (c d : Cluster T K) (round : RoundView) → HasTakenOut table kept May old out c
-    → IsPlayed table kept out.settings (out.rounds_done + 1) c d round
+    → IsPlayed table kept out.settings (out.rounds_done + 1) d round
     → new ≡ simulation_of kept out.settings (Some d) (out.rounds_done + 1) → PlaysNext table old new round
 step_played table kept May old out new c d round taken played is = subst (λ v. PlaysNext table old v round) (sym is) (record {
   may = taken.may;
@@ -87,8 +87,8 @@ step_played table kept May old out new c d round taken played is = subst (λ v. 
   kept = subst (λ ts. OnlyRestartsLowerMarks s (done + 1) ts (map table d.tables.items)) (sym before)
       (subst (OnlyRestartsLowerMarks s (done + 1) (tables_after s done)) (sym played.after.tables)
       (round_rises s lawful.nodes.0 lawful.nodes.1 lawful.keys.0 lawful.keys.1 done));
-  played = played.played ∙ (λ i. played_with (done + 1) (round_list_of s (done + 1)) (records i)
-      (figures_are s (done + 1) (map table d.tables.items) (kept d.histories).lists played.after.standing played.after.tables i));
+  played = played.played ∙ ap (played_with (done + 1) (round_list_of s (done + 1)) (records_in s (done + 1)))
+      (figures_are s (done + 1) (map table d.tables.items) (kept d.histories).lists played.after.standing played.after.tables);
 })
   where
     s : Settings
@@ -102,6 +102,3 @@ step_played table kept May old out new c d round taken played is = subst (λ v. 
 
     before : map table old.tables ≡ tables_after s done
     before = ap (map table) taken.tables ∙ taken.before.before.tables ∙ ap (tables_after s) (omega arith)
-
-    records : (round_of s (done + 1) (map table c.tables.items)).records ≡ records_in s (done + 1)
-    records = ap (λ ts. (round_of s (done + 1) ts).records) taken.before.before.tables

@@ -1,26 +1,26 @@
 //! All nodes' tables and the histories of their owners, and how a round changes them.
 
-ghost use Rattle.std.specs.Prelude.{◌≡◌, ◌+◌, ◌-◌, ◌≤◌, map, IfOk, IfErr, OnOk, IsOkUnless};
+ghost use Rattle.std.specs.Prelude.{◌≡◌, ◌+◌, ◌-◌, ◌≤◌, true, length, map, IfOk, IfErr, OnOk, IsOkUnless};
 ghost use Rattle.bench_types.specs.declared.faults.Fault.TheVariants.{OutOfMemory};
+ghost use Rattle.bench_types.specs.declared.limits.TheConstants.{MOST_ROUNDS};
 ghost use Rattle.model.specs.calls.OwnerListView.{written};
 ghost use Rattle.model.specs.Runs.{IsFaultOfWorkers};
 ghost use Rattle.model.specs.Tables.{AreProper};
-ghost use Rattle.round_plan.specs.calls.Words.{run_words_of};
 ghost use Rattle.simulation.specs.Rounds.{opening_tables, after_restart, rules_of};
 ghost use Rattle.round_histories.specs.Histories.{AreNewHistories};
-ghost use Rattle.simulation.specs.inner.InMemory.{HasBegun, IsBeforeRound, IsBegun, TablesStand, IsOwnerIn, IsRestartedIn, WritesIn};
+ghost use Rattle.simulation.specs.inner.InMemory.{HasBegun, IsBeforeRound, IsBegun, IsOwnerIn, IsRestartedIn, IsWritten, MayWriteNow, TablesStand, WritesIn};
 ghost use Rattle.simulation.specs.inner.Insides.{IsAfterRound};
-ghost use Rattle.simulation.specs.inner.Playing.{MayPlay, Plays};
-ghost use Rattle.simulation.specs.inner.Plans.{IsDrawnAfter, MayDraw};
+ghost use Rattle.simulation.specs.inner.Playing.{IsBefore, IsPlayed, IsUnderWay, MayPlay, Plays};
+ghost use Rattle.simulation.specs.inner.Plans.{IsDrawnAfter, IsPlanOf, MayDraw, counted_in};
 ghost use Rattle.simulation.specs.inner.Steps.{HaveEnded, IsRoundOf, LeavesOthers, MayWriteOwn};
 
 use crate::openings::{empty_tables, empty_tables_by, histories_of, shares_of};
 use crate::plans::{Drawn, Plan, next_plan};
 use crate::rounds::Round;
 use bench_types::{Fault, Rules};
-use model::MemoryTable;
+use model::{MemoryTable, RoundList};
 use round_histories::{Counted, Hands, Resources, RoundHistories};
-use round_plan::{OwnWrite, RunWords, forgets_now, restarts_now, writes_by};
+use round_plan::{OwnWrite, RunWords, Writes, forgets_now, restarts_now, writes_by};
 use scenario::Scenario;
 use std::alloc::Global;
 use std::sync::Wait;
@@ -149,27 +149,53 @@ impl<T: MemoryTable + Send + Sync, K: RoundHistories<T>, G: Gate + Sync + Drop> 
         ensures played { IfOk result (λ p. Plays T.table K.kept self.entry p.0 p.1) }
         ensures only { IsOkUnless result OutOfMemory }
     {
-        let rt = resources.rt;
-        let alloc = resources.alloc;
-        let hands = resources.hands;
         let NextRound {
             cluster,
             scenario,
             round,
             gate,
         } = self;
-        let Cluster {
-            tables,
-            histories,
-            drawn,
-        } = cluster;
-        let Plan { words, list } = drawn.plan(resources, scenario, round)?;
-        let start = Start {
+        let under_way = begin_round(resources, cluster, scenario, round)?;
+        under_way.carry_out(resources, posts, gate)
+    }
+}
+
+// A round that has begun: its exchanges come next.
+#[derive(Drop)]
+struct UnderWay<'a, T, K> {
+    scenario: &'a Scenario,
+    round: u32,
+    tables: Vec<T>,
+    histories: K,
+    list: RoundList,
+    words: RunWords,
+    // How many writes of its generation each node has made, where the next round is to be drawn meanwhile.
+    counts: Option<Vec<u32>>,
+}
+
+impl<T: MemoryTable + Send + Sync, K: RoundHistories<T>> UnderWay<'_, T, K> {
+    // The rest of the round, by workers at their posts. Where it fails, the tables are given up.
+    fn carry_out<H: Threads + Wait + Sync, G: Gate + Sync + Drop>(
+        self,
+        resources: &Resources<H>,
+        posts: &Posts<T, K, G, K::Job>,
+        gate: G,
+    ) -> Result<(Cluster<T, K>, Round), Fault>
+        requires { IsUnderWay T.table K.kept K.fits self.scenario.now self.round self }
+        ensures played { IfOk result (λ p. IsPlayed T.table K.kept self.entry.scenario.now self.entry.round p.0 p.1) }
+        ensures only { IsOkUnless result OutOfMemory }
+    {
+        let rt = resources.rt;
+        let alloc = resources.alloc;
+        let UnderWay {
             scenario,
             round,
-            words: &words,
-        };
-        let (begun, histories) = begin(&start, tables, histories)?;
+            tables,
+            histories,
+            list,
+            words,
+            counts,
+        } = self;
         let rules = rules_of(scenario);
         let batch = Batch {
             shared: histories,
@@ -178,15 +204,15 @@ impl<T: MemoryTable + Send + Sync, K: RoundHistories<T>, G: Gate + Sync + Drop> 
             gate,
         };
         let draw = move || -> Result<Drawn, Fault>
-            requires { MayDraw scenario.now round words }
+            requires { MayDraw scenario.now round words counts }
             ensures drawn { IfOk result (IsDrawnAfter scenario.entry.now round) }
             ensures only { IsOkUnless result OutOfMemory }
         {
-            // (several workers leave this thread idle)
-            if hands.workers == 1 || round == scenario.rounds() {
+            let Some(counts) = counts else {
                 return Ok(Drawn::Words(words));
-            }
+            };
             let next = next_plan(words, rt, alloc, scenario, round + 1)?;
+            let next = next.with_writes(alloc, scenario, round + 1, &counts)?;
             Ok(Drawn::Next(next))
         };
         let Done {
@@ -194,7 +220,7 @@ impl<T: MemoryTable + Send + Sync, K: RoundHistories<T>, G: Gate + Sync + Drop> 
             records,
             shared: histories,
             made,
-        } = posts.carry_out(rt, batch, begun, draw)?;
+        } = posts.carry_out(rt, batch, tables, draw)?;
         let drawn = made?;
         let Counted {
             figures,
@@ -213,6 +239,50 @@ impl<T: MemoryTable + Send + Sync, K: RoundHistories<T>, G: Gate + Sync + Drop> 
     }
 }
 
+// A round begins: its restarts and its writes are made.
+fn begin_round<'a, T: MemoryTable, K: RoundHistories<T>>(
+    resources: &Resources<impl Threads + Sync>,
+    cluster: Cluster<T, K>,
+    scenario: &'a Scenario,
+    round: u32,
+) -> Result<UnderWay<'a, T, K>, Fault>
+    requires { IsBefore T.table K.kept K.may_write scenario.now round cluster }
+    ensures under_way { IfOk result (IsUnderWay T.table K.kept K.fits scenario.now round) }
+    ensures only { IsOkUnless result OutOfMemory }
+{
+    let Cluster {
+        tables,
+        histories,
+        drawn,
+    } = cluster;
+    let plan = drawn.plan(resources, scenario, round)?;
+    let start = Start {
+        scenario,
+        round,
+        plan: &plan,
+    };
+    let (tables, histories) = begin(&start, tables, histories)?;
+    let counts = if draws_ahead(resources.hands, scenario, round) {
+        Some(counts_of(resources.alloc, &histories, scenario.nodes())?)
+    } else {
+        None
+    };
+    let Plan {
+        words,
+        list,
+        writes: _,
+    } = plan;
+    Ok(UnderWay {
+        scenario,
+        round,
+        tables,
+        histories,
+        list,
+        words,
+        counts,
+    })
+}
+
 // The rules of all exchanges of the scenario's run.
 fn rules_of(scenario: &Scenario) -> Rules
     ensures { result ≡ rules_of scenario.now }
@@ -223,13 +293,12 @@ fn rules_of(scenario: &Scenario) -> Rules
     }
 }
 
-// A round that begins, and the words of its nodes.
+// A round that begins, and its plan.
 #[derive(Clone, Copy)]
 struct Start<'a> {
     scenario: &'a Scenario,
     round: u32,
-    words: &'a RunWords,
-    ghost drawn: { words.now ≡ run_words_of scenario.now round },
+    plan: &'a Plan,
 }
 
 // What a round begins with: its restarts and its writes, by node.
@@ -239,6 +308,7 @@ fn begin<T: MemoryTable, K: RoundHistories<T>>(
     mut histories: K,
 ) -> Result<(Vec<T>, K), Fault>
     requires round { IsRoundOf K.may_write start.now.scenario.now start.now.round }
+    requires plan { IsPlanOf start.now.scenario.now start.now.round start.now.plan.now }
     requires ended { HaveEnded start.now.scenario.now (start.now.round - 1) (K.kept histories) }
     requires standing { TablesStand T.table K.kept start.now.scenario.now (start.now.round - 1) tables.items histories }
     ensures begun { IfOk result (λ p. HasBegun T.table K.kept K.fits start.now.scenario.now start.now.round
@@ -262,6 +332,7 @@ fn begin_node<T: MemoryTable, K: RoundHistories<T>>(
     histories: &mut K,
 ) -> Result<(), Fault>
     requires round { IsRoundOf K.may_write start.now.scenario.now start.now.round }
+    requires plan { IsPlanOf start.now.scenario.now start.now.round start.now.plan.now }
     requires before { IsBeforeRound T.table K.kept start.now.scenario.now start.now.round node table.old histories.old }
     ensures owner { OnOk result
         (IsOwnerIn T.table K.kept start.now.scenario.now start.now.round node table.new histories.new) }
@@ -273,16 +344,60 @@ fn begin_node<T: MemoryTable, K: RoundHistories<T>>(
     let Start {
         scenario,
         round,
-        words,
+        plan,
     } = *start;
-    let writes = writes_by(
-        scenario,
-        node,
-        round,
-        histories.count(node),
-        words.of_node(node),
-    );
+    match &plan.writes {
+        Some(writes) => write_round(start, node, table, histories, &writes[node as usize]),
+        None => {
+            let count = histories.count(node);
+            let writes = writes_by(scenario, node, round, count, plan.words.of_node(node));
+            write_round(start, node, table, histories, &writes)
+        }
+    }
+}
+
+// The writes of a node in a round, after its restarts.
+fn write_round<T: MemoryTable, K: RoundHistories<T>>(
+    start: &Start,
+    node: u32,
+    table: &mut T,
+    histories: &mut K,
+    writes: &Writes,
+) -> Result<(), Fault>
+    requires round { IsRoundOf K.may_write start.now.scenario.now start.now.round }
+    requires now { MayWriteNow T.table K.kept start.now.scenario.now start.now.round node table.old histories.old
+        writes.now }
+    ensures owner { OnOk result
+        (IsOwnerIn T.table K.kept start.now.scenario.now start.now.round node table.new histories.new) }
+    ensures table { OnOk result (IsWritten T.table start.now.scenario.now start.now.round node table.old table.new) }
+    ensures others { OnOk result (LeavesOthers node (K.kept histories.old) (K.kept histories.new)) }
+    ensures only { IsOkUnless result OutOfMemory }
+{
     write_own(table, histories, writes.as_slice())
+}
+
+// Whether the next round is drawn while this one is under way: several workers leave the caller's thread idle.
+fn draws_ahead(hands: Hands, scenario: &Scenario, round: u32) -> bool
+    ensures { result ≡ true → round + 1 ≤ MOST_ROUNDS }
+{
+    hands.workers > 1 && round < scenario.rounds()
+}
+
+// How many writes of its generation each owner has made.
+fn counts_of<T: MemoryTable, K: RoundHistories<T>>(
+    alloc: Global,
+    histories: &K,
+    nodes: u32,
+) -> Result<Vec<u32>, Fault>
+    requires { length (K.kept histories.now).lists ≡ nodes }
+    ensures counts { IfOk result (λ counts. counts.items ≡ map counted_in (K.kept histories.now).lists) }
+    ensures only { IsOkUnless result OutOfMemory }
+{
+    let mut counts = Vec::with_capacity(alloc, nodes as usize)?;
+    for owner in 0..nodes {
+        counts.push(histories.count(owner))?;
+    }
+    Ok(counts)
 }
 
 // The restarts of a node in a round: they empty its copies of all others, or where it forgets its whole table.
@@ -299,10 +414,12 @@ fn restart<T: MemoryTable, K: RoundHistories<T>>(
         ≡ after_restart start.now.scenario.now start.now.round node (T.table table.old) }
     ensures others { LeavesOthers node (K.kept histories.old) (K.kept histories.new) }
 {
-    if forgets_now(start.scenario, node, start.round) {
-        histories.forget(table);
-    } else if restarts_now(start.scenario, node, start.round) {
-        K::restart(table);
+    if restarts_now(start.scenario, node, start.round) {
+        if forgets_now(start.scenario, node, start.round) {
+            histories.forget(table);
+        } else {
+            K::restart(table);
+        }
     }
 }
 

@@ -1,24 +1,63 @@
-//! What a run draws round by round: the words of its nodes, and by them the list of a round.
+//! What a run draws round by round: the words of its nodes, and by them the list of a round and what the nodes write.
 
 ghost use Rattle.std.specs.Prelude.{◌≡◌, ◌-◌, ◌≤◌, IfOk, IsOkUnless};
 ghost use Rattle.bench_types.specs.declared.faults.Fault.TheVariants.{OutOfMemory};
 ghost use Rattle.round_plan.specs.calls.Words.{run_words_of};
-ghost use Rattle.simulation.specs.inner.Plans.{IsPlanOf, IsDrawnAfter};
+ghost use Rattle.simulation.specs.inner.Plans.{AreCountsAfter, IsPlanOf, IsDrawnAfter};
 
 use bench_types::Fault;
 use bench_types::limits::MOST_ROUNDS;
 use model::RoundList;
 use round_histories::Resources;
-use round_plan::{RunWords, round_list_by};
+use round_plan::{RunWords, Writes, forgets_now, round_list_by, writes_by};
 use scenario::Scenario;
 use std::alloc::Global;
 use std::thread::Threads;
 
-/// The words of a round and its list.
+/// The words of a round and its list, and by node what is written in it, where that is worked out beforehand.
 #[derive(Drop)]
 pub(crate) struct Plan {
     pub(crate) words: RunWords,
     pub(crate) list: RoundList,
+    pub(crate) writes: Option<Vec<Writes>>,
+}
+
+impl Plan {
+    /// With what is written in the round, by how many writes of its generation each node has made before it.
+    pub(crate) fn with_writes(
+        self,
+        alloc: Global,
+        scenario: &Scenario,
+        round: u32,
+        counts: &[u32],
+    ) -> Result<Plan, Fault>
+        requires first { 1 ≤ round }
+        requires last { round ≤ MOST_ROUNDS }
+        requires plan { IsPlanOf scenario.now round self }
+        requires counts { AreCountsAfter scenario.now (round - 1) counts.now }
+        ensures plan { IfOk result (IsPlanOf scenario.now round) }
+        ensures only { IsOkUnless result OutOfMemory }
+    {
+        let Plan {
+            words,
+            list,
+            writes: _,
+        } = self;
+        let mut writes = Vec::with_capacity(alloc, counts.len())?;
+        for node in 0..scenario.nodes() {
+            let count = if forgets_now(scenario, node, round) {
+                0
+            } else {
+                counts[node as usize]
+            };
+            writes.push(writes_by(scenario, node, round, count, words.of_node(node)))?;
+        }
+        Ok(Plan {
+            words,
+            list,
+            writes: Some(writes),
+        })
+    }
 }
 
 /// What is drawn once a round is done.
@@ -69,5 +108,9 @@ pub(crate) fn next_plan(
 {
     words.next_round();
     let list = round_list_by(rt, alloc, scenario, round, &words)?;
-    Ok(Plan { words, list })
+    Ok(Plan {
+        words,
+        list,
+        writes: None,
+    })
 }

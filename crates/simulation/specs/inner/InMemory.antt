@@ -1,13 +1,15 @@
 -- The parts of a step, of tables and histories in memory: `table` gives the table of a value, and `kept` what contracts
 -- see of histories. Source: this project.
-use Rattle.std.specs.Prelude.{◌≡◌, ℕ, ◌+◌, ◌-◌, ◌≤◌, List, length, map, Result, IfOk, IsOkUnless, Vec}
+use Rattle.std.specs.Prelude.{◌≡◌, ℕ, ◌+◌, ◌-◌, ◌<◌, ◌≤◌, List, length, map, Result, IfOk, IsOkUnless, Vec}
 use Rattle.bench_types.specs.declared.faults.Fault.{Fault}
 use Rattle.bench_types.specs.declared.faults.Fault.TheVariants.{OutOfMemory}
 use Rattle.std.specs.declared.alloc.Global.{Global}
 use Rattle.std.specs.List.{range_with_len}
 use Rattle.bench_types.specs.declared.limits.TheConstants.{MOST_ROUNDS}
-use Rattle.model.specs.Table.{Table, empty_table}
+use Rattle.model.specs.Table.{Table, empty_table, with_own_writes}
 use Rattle.model.specs.calls.OwnerListView.{list_of_owner}
+use Rattle.round_plan.specs.Writes.{count_before, own_writes}
+use Rattle.round_plan.specs.calls.Writes.{AreWritesOf}
 use Rattle.round_plan.specs.declared.owners.OwnWrite.{OwnWrite}
 use Rattle.round_histories.specs.Histories.{HistoriesView, own_list, StandsAmong}
 use Rattle.scenario.specs.Settings.{Settings}
@@ -27,9 +29,13 @@ abbrev pub AreMadeEmpty : {T : Type 0} → (T → Table) → HistoriesView → �
 AreMadeEmpty table h from to answer =
     IfOk answer (λ v. map table v.items ≡ empty_tables_in h from to) × IsOkUnless answer OutOfMemory
 
--- what a round begins with, of one table and of all
+-- what a round begins with: of one table, and of what its writes leave, and of all
 abbrev pub IsBegun : {T : Type 0} → (T → Table) → Settings → ℕ → ℕ → T → T → Type 0
 IsBegun table s round n old new = table new ≡ begun_table s round n (table old)
+
+abbrev pub IsWritten : {T : Type 0} → (T → Table) → Settings → ℕ → ℕ → T → T → Type 0
+IsWritten table s round n old new =
+    table new ≡ with_own_writes (table old) (own_writes s n round (count_before s n round))
 
 abbrev pub AreBegun : {T : Type 0} → (T → Table) → Settings → ℕ → List T → List T → Type 0
 AreBegun table s round old new = map table new ≡ begun s round (map table old)
@@ -51,6 +57,15 @@ module _ {T K : Type 0} (table : T → Table) (kept : K → HistoriesView) where
   WritesIn writes old new k k' =
       HasWritten ((kept k).rounds + 1) writes (table old) (table new) (own_list (table old) (kept k).lists)
       (own_list (table old) (kept k').lists)
+
+-- a node that has restarted may make these writes of a round
+pub record MayWriteNow {T K : Type 0} (table : T → Table) (kept : K → HistoriesView) (s : Settings) (round n : ℕ) (t : T)
+    (k : K) (writes : List OwnWrite) : Type 0 where
+  pub node : n < s.nodes
+  pub one_each : length (kept k).lists ≡ s.nodes
+  pub ended : HaveEnded s (round - 1) (kept k)
+  pub restarted : IsRestartedIn table kept s round n t k
+  pub made : AreWritesOf s n round (length (list_of_owner (kept k).lists n).current) writes
 
 -- the tables and histories with which a round begins: as many rounds have ended, and what stands among the lists fits
 pub record HasBegun {T K : Type 0} (table : T → Table) (kept : K → HistoriesView) (Fits : K → Table → Type 0)

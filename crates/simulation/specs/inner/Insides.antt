@@ -9,10 +9,9 @@ use Rattle.simulation.specs.declared.clusters.Cluster.{Cluster}
 use Rattle.model.specs.Table.{Table}
 use Rattle.scenario.specs.Settings.{Settings}
 use Rattle.model.specs.calls.OwnerListView.{OwnerListView}
-use Rattle.simulation.specs.calls.RoundView.{RoundView}
 use Rattle.simulation.specs.Rounds.{tables_after}
 use Rattle.simulation.specs.inner.Plans.{IsDrawnAfter}
-use Rattle.simulation.specs.inner.Steps.{HaveEnded, IsPlayedFrom}
+use Rattle.simulation.specs.inner.Steps.{HaveEnded}
 use Rattle.simulation.specs.calls.Standing.{StandAfterRound}
 use Rattle.simulation.specs.calls.Simulation.{AreTablesAfter, MayWriteAll, SimView}
 
@@ -56,12 +55,6 @@ pub record IsInside {T K : Type 0} (table : T → Table) (kept : K → Histories
   pub ended : IfSome cluster (λ c. HaveEnded s done (kept c.histories))
   pub drawn : IfSome cluster (λ c. IsDrawnAfter s done c.drawn)
   pub may_write : MayWriteAll May s
-
--- what a round of a cluster answers
-abbrev pub HasPlayed : {T K : Type 0} → (T → Table) → (K → HistoriesView) → Settings → ℕ
-    → Cluster T K → Cluster T K → RoundView → Type 0
-HasPlayed table kept s round old new =
-    IsPlayedFrom s round (tables_of table old) (tables_of table new) (kept new.histories).lists
 
 -- a cluster after a round: what its nodes hold and have written is what the definition gives, its histories have ended
 -- the round, and what is drawn is that of the round or of the next one

@@ -1,15 +1,20 @@
 -- A round that a cluster plays. Source: this project.
-use Rattle.std.specs.Prelude.{◌≡◌, ℕ, ◌+◌, ◌-◌, true}
+use Rattle.std.specs.Prelude.{◌≡◌, ℕ, ◌+◌, ◌-◌, map, true}
 use Rattle.bench_types.specs.declared.entries.Entry.{Entry}
 use Rattle.scenario.specs.Settings.{IsLawfulScenario, Settings}
 use Rattle.model.specs.Table.{Table}
-use Rattle.round_histories.specs.Histories.{HistoriesView}
+use Rattle.round_histories.specs.Histories.{HistoriesView, StandsAmong}
+use Rattle.round_plan.specs.Plan.{round_list_of}
 use Rattle.simulation.specs.declared.clusters.Cluster.{Cluster}
 use Rattle.simulation.specs.declared.clusters.NextRound.{NextRound}
+use Rattle.simulation.specs.declared.clusters.UnderWay.{UnderWay}
+use Rattle.simulation.specs.Rounds.{begun, tables_after}
 use Rattle.simulation.specs.calls.RoundView.{RoundView}
 use Rattle.simulation.specs.calls.Simulation.{MayStep, SimView}
-use Rattle.simulation.specs.inner.Insides.{HasPlayed, IsAfterRound}
-use Rattle.simulation.specs.inner.Steps.{IsRoundOf}
+use Rattle.simulation.specs.inner.InMemory.{TablesStand}
+use Rattle.simulation.specs.inner.Insides.{IsAfterRound, tables_of}
+use Rattle.simulation.specs.inner.Plans.{MayDraw}
+use Rattle.simulation.specs.inner.Steps.{HaveEnded, IsPlayedFrom, IsRoundOf}
 
 -- a cluster may play this round of a scenario
 pub record IsBefore {T K : Type 0} (table : T → Table) (kept : K → HistoriesView) (May : ℕ → ℕ → Entry → Type 0)
@@ -22,15 +27,28 @@ abbrev pub MayPlay : {T K G : Type 0} → (T → Table) → (K → HistoriesView
     → NextRound T K G → Type 0
 MayPlay table kept May next = IsBefore table kept May next.scenario.now next.round next.cluster
 
--- it did: this is what it came to
+-- one that has begun: of all nodes the restarts and the writes are made
+pub record IsUnderWay {T K : Type 0} (table : T → Table) (kept : K → HistoriesView) (Fits : K → Table → Type 0)
+    (s : Settings) (round : ℕ) (u : UnderWay T K) : Type 0 where
+  pub lawful : IsLawfulScenario s
+  pub scenario_is : u.scenario.now ≡ s
+  pub round_is : u.round ≡ round
+  pub standing : TablesStand table kept s round u.tables.items u.histories
+  pub tables : map table u.tables.items ≡ begun s round (tables_after s (round - 1))
+  pub ended : HaveEnded s round (kept u.histories)
+  pub fits : (t : Table) → StandsAmong (kept u.histories) t → Fits u.histories t
+  pub list : u.list ≡ round_list_of s round
+  pub may_draw : MayDraw s round u.words u.counts
+
+-- it is done: this is what it came to
 pub record IsPlayed {T K : Type 0} (table : T → Table) (kept : K → HistoriesView) (s : Settings) (round : ℕ)
-    (old new : Cluster T K) (result : RoundView) : Type 0 where
+    (new : Cluster T K) (result : RoundView) : Type 0 where
   pub after : IsAfterRound table kept s round new
-  pub played : HasPlayed table kept s round old new result
+  pub played : IsPlayedFrom s round (tables_after s (round - 1)) (tables_of table new) (kept new.histories).lists result
 
 abbrev pub Plays : {T K G : Type 0} → (T → Table) → (K → HistoriesView) → NextRound T K G → Cluster T K → RoundView
     → Type 0
-Plays table kept next new played = IsPlayed table kept next.scenario.now next.round next.cluster new played
+Plays table kept next new played = IsPlayed table kept next.scenario.now next.round new played
 
 -- the cluster of a simulation, which is broken without it, may play the next round
 pub record HasTakenOut {T K : Type 0} (table : T → Table) (kept : K → HistoriesView) (May : ℕ → ℕ → Entry → Type 0)

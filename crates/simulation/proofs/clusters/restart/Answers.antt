@@ -1,6 +1,6 @@
 use Rattle.simulation.proofs.Common.{◌≡◌, ◌-◌, ap, sym, ◌∙◌, subst, arith, without_all, begun_generation, list_of_owner, generation_upto_le}
 use Rattle.simulation.specs.inner.Steps.{HasRestarted}
-use Rattle.simulation.proofs.Standing.{restarted_forgot, restarted_kept}
+use Rattle.simulation.proofs.Standing.{restarted_forgot, restarted_kept, restarted_same, stays_same, stays_without}
 use Rattle.simulation.proofs.clusters.restart.Goals as goal
 
 pub forget-requires : goal.forget-requires
@@ -27,10 +27,22 @@ returns-then-forgets_now-clause-owner g c =
     (restarted_forgot s c.args.start.now.round c.args.node c.requires.first (g.T.MemoryTable.table c.args.table.now) (list_of_owner old c.args.node)
     c.requires.node.owner (sym c.forgets_now.ensures ∙ c.if-forgets_now.true)))
 
-pub returns-then-restarts_now-clause-owner : goal.returns-then-restarts_now-clause-owner
-returns-then-restarts_now-clause-owner g c =
+pub returns-else-forgets_now-clause-owner : goal.returns-else-forgets_now-clause-owner
+returns-else-forgets_now-clause-owner g c =
     let s = c.args.start.now.scenario.now in
     let list = list_of_owner (g.K.RoundHistories.kept c.args.histories.now).lists c.args.node in
     subst (λ t. HasRestarted s c.args.start.now.round c.args.node t list) (sym c.restart.ensures)
     (restarted_kept s c.args.start.now.round c.args.node c.requires.first (g.T.MemoryTable.table c.args.table.now) list c.requires.node.owner
     (sym c.forgets_now.ensures ∙ c.if-forgets_now.false))
+
+-- where no restart is due, none forgets
+pub returns-else-restarts_now-clause-owner : goal.returns-else-restarts_now-clause-owner
+returns-else-restarts_now-clause-owner g c =
+    restarted_same c.args.start.now.scenario.now c.args.start.now.round c.args.node c.requires.first (g.T.MemoryTable.table c.args.table.now)
+    (list_of_owner (g.K.RoundHistories.kept c.args.histories.now).lists c.args.node) c.requires.node.owner
+    (stays_without c.args.start.now.scenario.now c.args.node c.args.start.now.round (sym c.restarts_now.ensures ∙ c.if-restarts_now.false))
+
+pub returns-else-restarts_now-clause-table : goal.returns-else-restarts_now-clause-table
+returns-else-restarts_now-clause-table g c =
+    sym (stays_same c.args.start.now.scenario.now c.args.node c.args.start.now.round (g.T.MemoryTable.table c.args.table.now)
+    (sym c.restarts_now.ensures ∙ c.if-restarts_now.false))

@@ -1,0 +1,48 @@
+use Rattle.simulation.proofs.Common.{map, subst, sym, ap, IfOk, IsLawfulBudget, Rules, IsCluster, RoundListView, IsRoundPlan}
+use Rattle.simulation.specs.inner.Plans.{IsDrawnAfter}
+use Rattle.round_histories.specs.Histories.{AreFiguresCounted, StandAtRoundEnd}
+use Rattle.simulation.proofs.Playing.{lawful_budget, each_begun, nodes_cluster, one_record_each, may_count, played, after}
+use Rattle.simulation.proofs.clusters.UnderWay.carry_out.Goals as goal
+
+-- each table stands among the lists as the exchanges begin
+pub carry_out-requires-clause-tables : goal.carry_out-requires-clause-tables
+carry_out-requires-clause-tables g c _ _ =
+    let s = c.args.self.scenario.now in
+    let is = c.requires in
+    record {
+      cluster =
+          subst (λ n. IsCluster n (map g.T.MemoryTable.table c.args.self.tables.items)) (sym (ap (λ (l : RoundListView). l.nodes) is.list))
+          (nodes_cluster g.T.MemoryTable.table s c.args.self.round c.args.self.tables.items (g.K.RoundHistories.kept c.args.self.histories).lists is.standing);
+      each_fits = λ n lt.
+          is.fits _ (each_begun s c.args.self.round _ _ is.lawful is.may_draw.first is.tables is.ended.keys is.standing n lt);
+      budget = subst (λ (r : Rules). IsLawfulBudget r.budget) (sym c.rules_of-rules.ensures) (lawful_budget s.format s.budget is.lawful.budget);
+    }
+
+pub figures_by-requires-clause-ended : goal.figures_by-requires-clause-ended
+figures_by-requires-clause-ended g c =
+    subst (λ k. StandAtRoundEnd g.T.MemoryTable.table c.in_ok-tables.field-0.tables.items (g.K.RoundHistories.kept k)) (sym c.in_ok-tables.ensures.done.shared)
+    (may_count g.T.MemoryTable.table g.K.RoundHistories.kept g.K.Exchanging.fits c.args.self.scenario.now c.args.self.round c.args.self c.requires
+    (subst IsRoundPlan c.list.view_is c.list.invariant) _ c.rules_of-rules.ensures c.in_ok-tables.field-0.tables.items c.in_ok-tables.field-0.records.items
+    c.in_ok-tables.ensures.done.exchanged)
+
+pub of-played-requires : goal.of-played-requires
+of-played-requires g c =
+    one_record_each c.args.self.scenario.now c.args.self.round c.args.self.list (subst IsRoundPlan c.list.view_is c.list.invariant)
+    c.requires.list _ _ _ c.in_ok-tables.field-0.records.items c.in_ok-tables.ensures.done.exchanged
+
+pub returns-clause-played : goal.returns-clause-played
+returns-clause-played g c =
+    let plan = subst IsRoundPlan c.list.view_is c.list.invariant in
+    let done = c.in_ok-tables.ensures.done in
+    let counted = subst (λ k. AreFiguresCounted g.T.MemoryTable.table g.K.RoundHistories.kept k c.in_ok-tables.field-0.tables.items c.in_ok-figures.field-0)
+    done.shared c.in_ok-figures.ensures.counted in
+    record {
+      after =
+          after g.T.MemoryTable.table g.K.RoundHistories.kept g.K.Exchanging.fits c.args.self.scenario.now c.args.self.round c.args.self c.requires plan _
+          c.rules_of-rules.ensures c.in_ok-tables.field-0.tables.items c.in_ok-tables.field-0.records.items done.exchanged c.in_ok-figures.field-0 counted
+          c.in_ok-drawn.drawn (subst (λ r. IfOk r (IsDrawnAfter c.args.self.scenario.now c.args.self.round)) c.in_ok-drawn.was done.made.0);
+      played =
+          played g.T.MemoryTable.table g.K.RoundHistories.kept g.K.Exchanging.fits c.args.self.scenario.now c.args.self.round c.args.self c.requires plan _
+          c.rules_of-rules.ensures c.in_ok-tables.field-0.tables.items c.in_ok-tables.field-0.records.items done.exchanged c.in_ok-figures.field-0
+          c.of-played.result counted c.of-played.ensures;
+    }

@@ -1,0 +1,33 @@
+use Rattle.simulation.proofs.Common.{◌≡◌, ◌+◌, ◌<◌, if◌then◌else◌, length, get_or, ap, subst, sym, ◌∙◌, arith, writes_before, AreWritesOf}
+use Rattle.simulation.proofs.Ahead.{AreWritesUpto, writes_more, counted_before, all_writes_of}
+use Rattle.simulation.proofs.plans.Plan.with_writes.Goals as goal
+use Rattle.simulation.proofs.plans.Plan.with_writes.Goals.{then-forgets_now, else-forgets_now}
+
+pub loop-node-init : goal.loop-node-init
+loop-node-init c = record { count = ap length c.in_ok-writes.ensures.items; each = λ n lt. absurd (omega (arith, lt)) }
+
+-- how many there were before
+counted : (c : goal.In_ok-push) → c.if-forgets_now.count ≡ length (writes_before c.args.scenario.now c.loop-node.node c.args.round)
+counted c =
+    let s = c.args.scenario.now in
+    let n = c.loop-node.node in
+    let counts = c.args.counts.now in
+    let below : n < s.nodes = omega (arith, c.loop-node-test.true, c.nodes-node-end.ensures.value) in
+    let before = counted_before s n c.args.round counts c.requires.first below c.requires.counts in
+    elim c.if-forgets_now.branch [
+      | then-forgets_now w ↦ w.count-is ∙ ap (λ b. if b then 0 else get_or counts n 0) w.if-forgets_now.ensures ∙ before
+      | else-forgets_now w ↦ w.count-is ∙ ap (λ b. if b then 0 else get_or counts n 0) w.if-forgets_now.ensures ∙ before
+    ]
+
+pub loop-node-preserved : goal.loop-node-preserved
+loop-node-preserved c =
+    subst (AreWritesUpto c.args.scenario.now c.args.round (c.loop-node.node + 1)) (sym c.in_ok-push.ensures.items)
+    (writes_more c.loop-node.invariant
+    (subst (λ k. AreWritesOf c.args.scenario.now c.loop-node.node c.args.round k c.writes_by.result) (counted c) c.writes_by.ensures))
+
+pub returns-clause-plan : goal.returns-clause-plan
+returns-clause-plan c = record {
+  words = c.requires.plan.words;
+  list = c.requires.plan.list;
+  writes = all_writes_of c.loop-node.invariant (omega (arith, c.loop-node-test.false, c.loop-node.auto.node-end, c.nodes-node-end.ensures.value));
+}

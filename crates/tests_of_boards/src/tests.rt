@@ -2,6 +2,7 @@
 
 mod comparing;
 mod crews;
+mod freed;
 mod gates;
 mod jobs;
 mod long_lists;

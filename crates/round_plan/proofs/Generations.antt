@@ -1,8 +1,9 @@
 -- The generation of a node never falls, and grows in a round in which the node forgets and in no other.
 -- Serves `run_laws` and `simulation`.
-use Rattle.round_plan.proofs.Common.{◌≡◌, ℕ, zero, suc, ◌+◌, ◌-◌, ◌≤◌, Bool, true, false, ◌&&◌, if◌then◌else◌, List, [], ◌∷◌, ◌||◌, get_or, All, refl, ap, ◌∙◌, inl, inr, arith, list_any, cases_lt, and_parts, All-tail, Settings, IsLawfulScenario}
+use Rattle.round_plan.proofs.Common.{◌≡◌, ℕ, zero, suc, ◌+◌, ◌-◌, ◌≤◌, Bool, true, false, ◌&&◌, ◌==◌, if◌then◌else◌, List, [], ◌∷◌, ◌||◌, get_or, All, refl, ap, ◌∙◌, inl, inr, arith, list_any, cases_lt, and_parts, All-tail, Settings, IsLawfulScenario}
 use Rattle.round_plan.specs.Generations.{generation_upto}
 use Rattle.round_plan.specs.Outages.{restarts_in, forgets_in, restarts_now, forgets_now}
+use Rattle.round_plan.specs.calls.Outages.{any_restart_now}
 
 one_or_none : (b : Bool) → (if b then 1 else 0) ≤ 1
 one_or_none true = omega arith
@@ -56,6 +57,12 @@ pub restarts-forgets : (s : Settings) (node round : ℕ) → forgets_now s node 
 unfolding forgets_now restarts_now
 restarts-forgets s node round =
     any_then (forgets_in node round) (restarts_in node round) (λ r is. (and_parts (restarts_in node round r) r.forget is).0) s.restarts
+
+-- a node restarts in no round in which none does
+pub restarts-any : (s : Settings) (node round : ℕ) → restarts_now s node round ≡ true → any_restart_now s round ≡ true
+unfolding restarts_now any_restart_now
+restarts-any s node round =
+    any_then (restarts_in node round) (λ r. r.round == round) (λ r is. (and_parts (r.node == node) (r.round == round) is).1) s.restarts
 
 none_of : {X : Type 0} (p : X → Bool) (xs : List X) → All (λ x. p x ≡ false) xs → list_any p xs ≡ false
 none_of p [] none = refl

@@ -1,2 +1,3 @@
+pub mod Outages
 pub mod Words
 pub mod Writes

@@ -25,7 +25,7 @@ mod run_words;
 mod words;
 
 pub use model::{MOST_EXCHANGES, RoundList};
-pub use outages::{forgets_now, is_up, restarts_now, separated};
+pub use outages::{any_restart_now, forgets_now, is_up, restarts_now, separated};
 pub use owners::{OwnWrite, Writes, writes_by, writes_in, writes_of};
 pub use peers::peer;
 pub use rounds::{round_list, round_list_by};

@@ -3,6 +3,7 @@
 ghost use Rattle.std.specs.Prelude.{◌≡◌, ◌<◌, ◌≤◌};
 ghost use Rattle.std.specs.List.Sorted.{IsStrictlyIncreasing};
 ghost use Rattle.round_plan.specs.Outages.{is_between, is_up, restarts_in, restarts_now, forgets_now, separated, separates, takes_down};
+ghost use Rattle.round_plan.specs.calls.Outages.{any_restart_now};
 
 use bench_types::limits::MOST_ROUNDS;
 use scenario::{Partition, Restart, Scenario};
@@ -49,6 +50,18 @@ pub fn restarts_now(scenario: &Scenario, node: u32, round: u32) -> bool
         .restarts()
         .iter()
         .any(|restart| restarts_in(restart, node, round))
+}
+
+/// Whether any node restarts at the beginning of a round. Costs a step for each restart.
+pub fn any_restart_now(scenario: &Scenario, round: u32) -> bool
+    requires first { 1 ≤ round }
+    requires last { round ≤ MOST_ROUNDS }
+    ensures { result ≡ any_restart_now scenario.now round }
+{
+    scenario
+        .restarts()
+        .iter()
+        .any(|restart| restart.round == round)
 }
 
 /// Whether a node forgets all that it holds at the beginning of a round, and so begins its next

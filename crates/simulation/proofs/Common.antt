@@ -1,6 +1,6 @@
 -- The names of other libraries that these proofs cite, passed on from one place. Declares nothing.
 -- Serves most of the crate.
-pub use Rattle.std.proofs.Common.{All, IfOk, List, Option, Some, [], add-one, ap, append_assoc, arith, false, get_or, if◌then◌else◌, inl, inr, length, length-append, map, refl, rules, set, subst, suc, sym, take, true, zero, ℕ, ◌*◌, ◌++◌, ◌+◌, ◌-◌, ◌<◌, ◌^◌, ◌∙◌, ◌∷◌, ◌≡◌, ◌≢◌, ◌≤◌}
+pub use Rattle.std.proofs.Common.{All, Bool, IfOk, List, Option, Some, [], add-one, ap, append_assoc, arith, false, get_or, if◌then◌else◌, inl, inr, length, length-append, map, refl, rules, set, subst, suc, sym, take, true, zero, ℕ, ◌*◌, ◌++◌, ◌+◌, ◌-◌, ◌<◌, ◌^◌, ◌∙◌, ◌∷◌, ◌≡◌, ◌≢◌, ◌≤◌}
 pub use Rattle.std.proofs.Math.ListN.{get_or-append}
 pub use Rattle.std.proofs.Math.Seq.{take-length}
 pub use Rattle.std.proofs.lemmas.Bool.{both_ways, cases_eq, cases_lt}
@@ -43,13 +43,14 @@ pub use Rattle.model.specs.calls.Writes.{AreBornBy}
 pub use Rattle.model.specs.declared.writes.Write.{Write}
 pub use Rattle.model.specs.inner.Owns.{KeepOwnParts, KeepsOwn}
 pub use Rattle.model.specs.inner.Writes.{next_write}
-pub use Rattle.round_plan.proofs.Generations.{generation_upto-next, generation_upto-same, generation_upto_le, restarts-forgets}
+pub use Rattle.round_plan.proofs.Generations.{generation_upto-next, generation_upto-same, generation_upto_le, restarts-any, restarts-forgets}
 pub use Rattle.round_plan.proofs.Growth.{born-own_writes, count_before-grown, count_upto-grown, keys-own_writes, length-writes_before, length_unless, next-own_writes, writes_before-grown, writes_upto-grown, written_upto-grown}
 pub use Rattle.round_plan.proofs.Planned.{planned_list}
 pub use Rattle.round_plan.specs.Generations.{generation_upto}
 pub use Rattle.round_plan.specs.Outages.{forgets_now, restarts_now}
 pub use Rattle.round_plan.specs.Plan.{round_list_of}
 pub use Rattle.round_plan.specs.Writes.{count_before, count_upto, own_writes, writes_upto, written_upto}
+pub use Rattle.round_plan.specs.calls.Outages.{any_restart_now}
 pub use Rattle.round_plan.specs.calls.Words.{RunWordsView, run_words_of}
 pub use Rattle.round_plan.specs.calls.Writes.{AreWritesOf, born_in, writes_before}
 pub use Rattle.round_plan.specs.declared.owners.OwnWrite.{OwnWrite}

@@ -267,11 +267,7 @@ fn begin_round<'a, T: MemoryTable, K: RoundHistories<T>>(
     } else {
         None
     };
-    let Plan {
-        words,
-        list,
-        writes: _,
-    } = plan;
+    let Plan { words, list, .. } = plan;
     Ok(UnderWay {
         scenario,
         round,
@@ -407,13 +403,17 @@ fn restart<T: MemoryTable, K: RoundHistories<T>>(
     table: &mut T,
     histories: &mut K,
 )
-    requires { IsBeforeRound T.table K.kept start.now.scenario.now start.now.round node table.old histories.old }
+    requires before { IsBeforeRound T.table K.kept start.now.scenario.now start.now.round node table.old histories.old }
+    requires plan { IsPlanOf start.now.scenario.now start.now.round start.now.plan.now }
     ensures owner { IsRestartedIn T.table K.kept start.now.scenario.now start.now.round node table.new
         histories.new }
     ensures table { T.table table.new
         ≡ after_restart start.now.scenario.now start.now.round node (T.table table.old) }
     ensures others { LeavesOthers node (K.kept histories.old) (K.kept histories.new) }
 {
+    if !start.plan.any_restart {
+        return;
+    }
     if restarts_now(start.scenario, node, start.round) {
         if forgets_now(start.scenario, node, start.round) {
             histories.forget(table);

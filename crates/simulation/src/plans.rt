@@ -9,15 +9,17 @@ use bench_types::Fault;
 use bench_types::limits::MOST_ROUNDS;
 use model::RoundList;
 use round_histories::Resources;
-use round_plan::{RunWords, Writes, forgets_now, round_list_by, writes_by};
+use round_plan::{RunWords, Writes, any_restart_now, forgets_now, round_list_by, writes_by};
 use scenario::Scenario;
 use std::alloc::Global;
 use std::thread::Threads;
 
-/// The words of a round and its list, and by node what is written in it, where that is worked out beforehand.
+/// The words of a round, whether any node restarts in it, and its list, and by node what is written in it, where that
+/// is worked out beforehand.
 #[derive(Drop)]
 pub(crate) struct Plan {
     pub(crate) words: RunWords,
+    pub(crate) any_restart: bool,
     pub(crate) list: RoundList,
     pub(crate) writes: Option<Vec<Writes>>,
 }
@@ -25,7 +27,7 @@ pub(crate) struct Plan {
 impl Plan {
     /// With what is written in the round, by how many writes of its generation each node has made before it.
     pub(crate) fn with_writes(
-        self,
+        mut self,
         alloc: Global,
         scenario: &Scenario,
         round: u32,
@@ -38,11 +40,6 @@ impl Plan {
         ensures plan { IfOk result (IsPlanOf scenario.now round) }
         ensures only { IsOkUnless result OutOfMemory }
     {
-        let Plan {
-            words,
-            list,
-            writes: _,
-        } = self;
         let mut writes = Vec::with_capacity(alloc, counts.len())?;
         for node in 0..scenario.nodes() {
             let count = if forgets_now(scenario, node, round) {
@@ -50,13 +47,10 @@ impl Plan {
             } else {
                 counts[node as usize]
             };
-            writes.push(writes_by(scenario, node, round, count, words.of_node(node)))?;
+            writes.push(writes_by(scenario, node, round, count, self.words.of_node(node)))?;
         }
-        Ok(Plan {
-            words,
-            list,
-            writes: Some(writes),
-        })
+        self.writes = Some(writes);
+        Ok(self)
     }
 }
 
@@ -110,6 +104,7 @@ pub(crate) fn next_plan(
     let list = round_list_by(rt, alloc, scenario, round, &words)?;
     Ok(Plan {
         words,
+        any_restart: any_restart_now(scenario, round),
         list,
         writes: None,
     })

@@ -5,6 +5,7 @@ use Rattle.bench_types.specs.declared.limits.TheConstants.{MOST_ROUNDS, MOST_WRI
 use Rattle.model.specs.calls.OwnerListView.{OwnerListView}
 use Rattle.round_plan.specs.Plan.{round_list_of}
 use Rattle.round_plan.specs.Writes.{writes_upto}
+use Rattle.round_plan.specs.calls.Outages.{any_restart_now}
 use Rattle.round_plan.specs.calls.Words.{RunWordsView, run_words_of}
 use Rattle.round_plan.specs.calls.Writes.{writes_before, AreWritesOf}
 use Rattle.round_plan.specs.declared.owners.OwnWrite.{OwnWrite}
@@ -19,9 +20,10 @@ pub record AreWritesOfAll (s : Settings) (round : ℕ) (all : List (List OwnWrit
   pub each : (n : ℕ) → n < s.nodes
       → AreWritesOf s n round (length (writes_before s n round)) (slice_index_or all n [])
 
--- the words and the list of a round, and its writes if they are there
+-- the words of a round, whether any node restarts in it, its list, and its writes if they are there
 pub record IsPlanOf (s : Settings) (round : ℕ) (plan : Plan) : Type 0 where
   pub words : plan.words ≡ run_words_of s round
+  pub restarts : plan.any_restart ≡ any_restart_now s round
   pub list : plan.list ≡ round_list_of s round
   pub writes : IfSome plan.writes (λ v. AreWritesOfAll s round v.items)
 

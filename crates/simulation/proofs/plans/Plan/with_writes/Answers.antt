@@ -28,6 +28,7 @@ loop-node-preserved c =
 pub returns-clause-plan : goal.returns-clause-plan
 returns-clause-plan c = record {
   words = c.requires.plan.words;
+  restarts = c.requires.plan.restarts;
   list = c.requires.plan.list;
   writes = all_writes_of c.loop-node.invariant (omega (arith, c.loop-node-test.false, c.loop-node.auto.node-end, c.nodes-node-end.ensures.value));
 }

@@ -1,6 +1,6 @@
 -- A delta by marks: whole levels, and of the next one what comes before the first candidate that doesn't fit.
 -- Serves `version_tables`.
-use Rattle.delta_plans.proofs.Common.{◌≡◌, ◌≢◌, ℕ, ◌+◌, ◌<◌, ◌≤◌, Bool, true, false, cond, not, List, length, inl, inr, refl, sym, ap, ◌∙◌, arith, nat_tests, nat_lt, ltb, ◌&&◌, Contains, sum_by, Ordering, nat_cmp, ordering_then, is_lt, cases_eq, and_parts, ltb-true, same_Some, Entry, Item, Budget, Mode, ScuttleBreadth, ScuttleDepth, PreciseOldest, PreciseNewest, amount_of, Table, candidates, rank_among, owner_count, DeltaView, delta_between, item_share, rotated, sending_order, rotated-injective, sending_order-total, order-levels, level_order, Cells, HasNoneAbove, sum_below-same, First, Oldest, Newest, HasSet, comes_first, item_number, KeepsLow, AreSent, first_sent, first_level, lets_through, level_number, round_of, AreLevelMarks, StopAt, share_or_none, number_shares, weight_between, weight_through, one_each, sum_below, size_in, IsInPlace, count_by-not, sum_by-ones}
+use Rattle.delta_plans.proofs.Common.{◌≡◌, ◌≢◌, ℕ, ◌+◌, ◌<◌, ◌≤◌, Bool, true, false, cond, not, List, length, inl, inr, refl, sym, ap, ◌∙◌, arith, nat_tests, nat_lt, ltb, ◌&&◌, Contains, sum_by, Ordering, nat_cmp, ordering_then, is_lt, cases_eq, same_Some, Entry, Item, Budget, Mode, ScuttleBreadth, ScuttleDepth, PreciseOldest, PreciseNewest, amount_of, Table, candidates, rank_among, owner_count, DeltaView, delta_between, item_share, rotated, sending_order, rotated-injective, sending_order-total, order-levels, level_order, Cells, HasNoneAbove, sum_below-same, First, Oldest, Newest, HasSet, comes_first, item_number, KeepsLow, AreSent, first_sent, first_level, lets_through, level_number, round_of, AreLevelMarks, StopAt, share_or_none, number_shares, weight_between, weight_through, one_each, sum_below, size_in, count_by-not, sum_by-ones}
 use Rattle.delta_plans.proofs.Candidates.{IsOffered, candidate-at, candidate-number, candidate-place, offered-sum, older, one_item, owner_count-is, rank_among-is}
 use Rattle.delta_plans.proofs.SentSets.{stops_sent, all_sent, set_sent}
 
@@ -64,9 +64,6 @@ module _ {mode : Mode} {from to : Table} {lists : ℕ → List Entry} {cells : C
   abbrev way : First
   way = first_level mode
 
-  abbrev turn : ℕ → ℕ
-  turn = rotated from.nodes rotation
-
   abbrev order : Item → Item → Ordering
   order = sending_order mode from.nodes rotation cs
 
@@ -90,40 +87,35 @@ module _ {mode : Mode} {from to : Table} {lists : ℕ → List Entry} {cells : C
     its_number : item_number cells next ≡ cells stop.owner stop.key
     its_number = ap (cells stop.owner) (given.proper.in_place stop.owner stop.key entry held).keyed
 
-    outside : lets mode cells near next ≡ false
-    outside = ap (lets_through first (near stop.owner)) its_number ∙ stop.stops.outside
-
-    inside : lets mode cells far next ≡ true
-    inside = ap (lets_through first (far stop.owner)) its_number ∙ stop.stops.inside
-
-    module _ (c : Item) (in_c : Contains cs c) where
-      place : IsInPlace from.nodes from.keys c.owner c.entry.key c.entry
-      place = candidate-place given c in_c
-
-      level-lets : (lets mode cells near c ≡ comes_first way (level_key mode cs c) shape.next)
-          × (lets mode cells far c ≡ not (comes_first way shape.next (level_key mode cs c)))
-      level-lets =
-          let above = (candidate-number given c in_c).0 in
-          rw (← level-is mode c in_c) (
-            shape.near_is c.owner c.entry.key place.owner_below place.key_below above,
-            shape.far_is c.owner c.entry.key place.owner_below place.key_below above,
-          )
+    level-lets : (c : Item) → Contains cs c → (lets mode cells near c ≡ comes_first way (level_key mode cs c) shape.next)
+        × (lets mode cells far c ≡ not (comes_first way shape.next (level_key mode cs c)))
+    level-lets c in_c =
+        let place = candidate-place given c in_c in
+        let above = (candidate-number given c in_c).0 in
+        rw (← level-is mode c in_c) (
+          shape.near_is c.owner c.entry.key place.owner_below place.key_below above,
+          shape.far_is c.owner c.entry.key place.owner_below place.key_below above,
+        )
 
     marks-stop : (c : Item) → Contains cs c → lets mode cells mark c ≡ is_lt (order c next)
     marks-stop c in_c =
-        let below = (place c in_c).owner_below in
+        let place = candidate-place given c in_c in
+        let outside : lets mode cells near next ≡ false = ap (lets_through first (near stop.owner)) its_number ∙ stop.stops.outside in
+        let inside : lets mode cells far next ≡ true = ap (lets_through first (far stop.owner)) its_number ∙ stop.stops.inside in
         let before = sym (level-lets next in_next).0 ∙ outside in
         let upto = sym (level-lets next in_next).1 ∙ inside in
-        let ordered = order-levels mode from.nodes rotation cs c next in_nodes below stop.owner_below in_c in_next ∙ order-by mode from.nodes rotation cs c next in
+        let ordered = order-levels mode from.nodes rotation cs c next in_nodes place.owner_below stop.owner_below in_c in_next
+        ∙ order-by mode from.nodes rotation cs c next in
         elim (cases_eq c.owner stop.owner) [
           | inl same ↦
               let one = one_item given c next in_c in_next same in
-              same-lets way first _ _ _ _ _ _ _ _ _ _ _ _ _ _ (ap turn same) (level-lets c in_c).0 (level-lets c in_c).1 before upto
-              (cc (its_number, stop.stops.own c.entry.key (place c in_c).key_below)) (cc outside) (cc inside)
+              same-lets way first _ _ _ _ _ _ _ _ _ _ _ _ _ _ (ap (rotated from.nodes rotation) same) (level-lets c in_c).0 (level-lets c in_c).1 before upto
+              (cc (its_number, stop.stops.own c.entry.key place.key_below)) (cc outside) (cc inside)
               (older given c next in_c in_next same) (older given next c in_next in_c (sym same))
               (λ e. (ap (λ (i : Item). i.entry.version) (one e), ap (λ (i : Item). i.entry.key) (one e)))
-          | inr other ↦ other-lets way first _ _ _ _ _ _ _ _ _ _ (λ e. other (rotated-injective from.nodes rotation c.owner stop.owner in_nodes below stop.owner_below e))
-              (level-lets c in_c).0 (level-lets c in_c).1 before upto (stop.others c.owner below other)
+          | inr other ↦ other-lets way first _ _ _ _ _ _ _ _ _ _
+              (λ e. other (rotated-injective from.nodes rotation c.owner stop.owner in_nodes place.owner_below stop.owner_below e))
+              (level-lets c in_c).0 (level-lets c in_c).1 before upto (stop.others c.owner place.owner_below other)
         ]
         ∙ sym (ap is_lt ordered)
 
@@ -146,11 +138,6 @@ module _ {mode : Mode} {from to : Table} {lists : ℕ → List Entry} {cells : C
         by Oldest _ = refl
         by Newest above = sum_below-same from.nodes _ _
             (λ owner lt. sum_below-same from.keys _ _ (λ key lt'. let le = above owner lt in let upto = covered owner lt key lt' in grind (arith, nat_tests)))
-
-    all-counted : sum_by (λ c. 1) cs ≡ weight_between one_each cells from.nodes from.keys low high
-    all-counted =
-        offered-sum given (λ c. 1) (λ owner key. 1) (λ c in_c. refl)
-        ∙ sum_below-same from.nodes _ _ (λ owner lt. sum_below-same from.keys _ _ (λ key lt'. let upto = covered owner lt key lt' in grind (arith, nat_tests)))
 
     module _ (budget : Budget) where
       abbrev weights : ℕ → ℕ → ℕ
@@ -188,7 +175,11 @@ module _ {mode : Mode} {from to : Table} {lists : ℕ → List Entry} {cells : C
         count-sent = has.count ∙ sum-through _ one_each (λ c in_c. refl)
 
         pub count-cut : length delta.items + delta.cut ≡ weight_between one_each cells from.nodes from.keys low high
-        count-cut = omega (arith, has.count, has.cut, count_by-not (lets mode cells mark) cs, sum_by-ones (λ c. 1) (λ _. refl) cs, all-counted)
+        count-cut =
+            let all : sum_by (λ c. 1) cs ≡ weight_between one_each cells from.nodes from.keys low high =
+            offered-sum given (λ c. 1) (λ owner key. 1) (λ c in_c. refl) ∙ sum_below-same from.nodes _ _ (λ owner lt.
+            sum_below-same from.keys _ _ (λ key lt'. let upto = covered owner lt key lt' in grind (arith, nat_tests))) in
+            omega (arith, has.count, has.cut, count_by-not (lets mode cells mark) cs, sum_by-ones (λ c. 1) (λ _. refl) cs, all)
 
         pub are-sent : (sent : ℕ → ℕ → Bool)
             → ((owner key : ℕ) → owner < from.nodes → key < from.keys → sent owner key ≡
@@ -216,7 +207,4 @@ module _ {mode : Mode} {from to : Table} {lists : ℕ → List Entry} {cells : C
           where
             parts : (owner key : ℕ) → owner < from.nodes → key < from.keys → sent owner key ≡ true
                 → (low owner < cells owner key) × (lets_through first (mark owner) (cells owner key) ≡ true)
-            parts owner key lt lt' holds =
-                let both = and_parts (nat_lt (low owner) (cells owner key)) (lets_through first (mark owner) (cells owner key))
-                (sym (is owner key lt lt') ∙ holds) in
-                (ltb-true (low owner) (cells owner key) both.0, both.1)
+            parts owner key lt lt' holds = grind (arith, nat_tests, is owner key lt lt')

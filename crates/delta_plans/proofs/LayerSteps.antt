@@ -56,16 +56,12 @@ module _ (cells : Cells) (keys owner : ℕ) where
           omega (arith, is.above, some, one-next mark next differ some, full, split)
     ]
 
--- marks of so many layers
-abbrev pub AreLayerMarks : {N : Type 0} → (N → ℕ) → Offer N → ℕ → (ℕ → ℕ) → Type 0
-AreLayerMarks number offer layers mark =
-    (r : ℕ) → r < offer.grid.size.nodes → IsLayerMark (cells_in number offer) offer.grid.size.keys r (low_in number offer r) layers (mark r)
-
 -- layers as far as they were gone over
 pub record HasLayers {N : Type 0} (number : N → ℕ) (offer : Offer N) (near : List N) (whole left : ℕ) : Type 0 where
   pub so_far : HaveLeft Oldest number offer near whole left
   layers : ℕ
-  near_is : AreLayerMarks number offer layers (marks number near)
+  near_is : (r : ℕ) → r < offer.grid.size.nodes
+      → IsLayerMark (cells_in number offer) offer.grid.size.keys r (low_in number offer r) layers (marks number near r)
 
 module _ {N : Type 0} {number : N → ℕ} {most : ℕ} {offer : Offer N} (is : IsOffer number most offer) where
   open parts_of number offer use {cells, low, high}
@@ -73,16 +69,17 @@ module _ {N : Type 0} {number : N → ℕ} {most : ℕ} {offer : Offer N} (is : 
 
   -- none at first
   pub layers-none : {near : List N} → near ≡ offer.low.now → HasLayers number offer near 0 (amount_of offer.budget)
-  layers-none {near} start =
-      let near_is : AreLayerMarks number offer 0 (marks number near) = rw start (λ owner lt.
-      let none = weight_of-none (λ _. 1) cells keys owner (low owner) (low owner) (omega arith) in omega (arith, none)) in
-      record { so_far = level-none is start; layers = 0; near_is = near_is }
+  layers-none start = record {
+    so_far = level-none is start;
+    layers = 0;
+    near_is = rw start (λ r lt. let none = weight_of-none (λ _. 1) cells keys r (low r) (low r) (omega arith) in omega (arith, none));
+  }
 
   module _ {near : List N} {whole left : ℕ} {next : Step N} (has : HasLayers number offer near whole left) (step : IsNextLayer number offer (marks number near) next) where
     abbrev far : ℕ → ℕ
     far = marks number next.marks.items
 
-    far_is : AreLayerMarks number offer (has.layers + 1) far
+    far_is : (r : ℕ) → r < nodes → IsLayerMark cells keys r (low r) (has.layers + 1) (far r)
     far_is r lt = layer-more cells keys r (low r) has.layers (marks number near r) (has.near_is r lt) (far r) (is.differ r lt) (step.next r lt)
 
     -- the level at which they end
@@ -97,15 +94,13 @@ module _ {N : Type 0} {number : N → ℕ} {most : ℕ} {offer : Offer N} (is : 
     module _ {rest : ℕ} (fits : IsLeftOf left (weight_in number offer (marks number near) far) (Some rest)) where
       -- where not all fits, a layer that does has something
       pub layers-more : amount_of offer.budget < weight_in number offer low high → 0 < next.more
-      layers-more cut = grind (arith, (level-next is has.so_far step fits).rest, all, step.more)
-        where
+      layers-more cut =
           -- (a number beyond both would be of the next layer)
-          all : count_in number offer (marks number near) far ≡ 0 → weight_in number offer low far ≡ weight_in number offer low high
-          all none =
-              let nothing = offer-beyond is (weights_in offer) far (λ owner lt key in_keys.
-              let split = weight_of-split (λ _. 1) cells keys owner (low owner) (marks number near owner) (far owner) (has.so_far.above owner lt) (step.rises owner lt) in
-              grind (arith, sum_below-each_none nodes _ none owner lt, (has.near_is owner lt).count, (far_is owner lt).full key in_keys)) in
-              omega (arith, nothing, offer-parts is (weights_in offer) far (λ r lt. (far_is r lt).above))
+          let nothing = λ (none : count_in number offer (marks number near) far ≡ 0). offer-beyond is (weights_in offer) far (λ r lt key in_keys.
+          let split = weight_of-split (λ _. 1) cells keys r (low r) (marks number near r) (far r) (has.so_far.above r lt) (step.rises r lt) in
+          grind (arith, sum_below-each_none nodes _ none r lt, (has.near_is r lt).count, (far_is r lt).full key in_keys)) in
+          let parts = offer-parts is (weights_in offer) far (λ r lt. (far_is r lt).above) in
+          grind (arith, (level-next is has.so_far step fits).rest, nothing, parts, step.more)
 
       -- one layer more
       pub layers-next : HasLayers number offer next.marks.items (whole + next.more) rest

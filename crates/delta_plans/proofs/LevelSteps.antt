@@ -1,8 +1,7 @@
 -- Levels of an offer, gone over as long as they fit: what a step from one to the next writes, and what all steps keep.
 -- Serves the functions of `breadths` and `depths`, `LayerSteps` and `RunSteps`.
-use Rattle.delta_plans.proofs.Common.{◌≡◌, ℕ, ◌+◌, ◌*◌, ◌<◌, ◌≤◌, length, inl, Some, None, Vec, Global, ap, ◌∙◌, arith, sum_below-same, amount_of, MOST_NODES, MOST_KEYS, Offer, Step, Oldest, cells_in, marks, weights_in, weight_in, IsLeftOf, IsOffer, one_each, weight_between, HaveLeft, IsLevel, IsStep, Bool, List, cond, sym, count_between}
-use Rattle.planes.specs.Loops.{count_passing}
-use Rattle.delta_plans.proofs.WeightLaws.{offer-few, offer-none, parts_of, sum_below-scaled, weight_between-parts}
+use Rattle.delta_plans.proofs.Common.{◌≡◌, ℕ, ◌+◌, ◌*◌, ◌<◌, ◌≤◌, length, inl, Some, None, Vec, Global, ap, ◌∙◌, arith, sum_below-same, amount_of, MOST_NODES, MOST_KEYS, Offer, Step, Oldest, cells_in, marks, weights_in, weight_in, IsLeftOf, IsOffer, one_each, weight_between, HaveLeft, IsLevel, IsStep, Bool, List, cond, sym, count_between, count_passing}
+use Rattle.delta_plans.proofs.WeightLaws.{offer-few, parts_of, sum_below-none, sum_below-scaled, weight_between-parts, weight_of-none}
 
 -- far marks are a step where none is lower than its near one, and each that passes a test lets so many numbers more
 -- through
@@ -28,7 +27,10 @@ module _ {N : Type 0} {number : N → ℕ} {most : ℕ} {offer : Offer N} (is : 
 
   -- the low marks let nothing through
   pub level-none : {near : List N} → near ≡ offer.low.now → HaveLeft Oldest number offer near 0 (amount_of offer.budget)
-  level-none same = rw same (omega (arith, is.low, offer-none number offer one_each low, offer-none number offer (weights_in offer) low))
+  level-none same =
+      let none : (weights : ℕ → ℕ → ℕ) → weight_between weights cells nodes keys low low ≡ 0 = λ weights.
+      sum_below-none nodes _ (λ r lt. weight_of-none (weights r) cells keys r (low r) (low r) (omega arith)) in
+      rw same (omega (arith, is.low, none one_each, none (weights_in offer)))
 
   module _ {near : List N} {whole left : ℕ} (so_far : HaveLeft Oldest number offer near whole left) {is_next : ℕ → ℕ → Type 0} {next : Step N}
       (step : IsStep number offer (marks number near) is_next next) where

@@ -1,6 +1,6 @@
 -- Marks of all that is offered, or of a level that was shared out.
 -- Serves `planned` and `version_tables`.
-use Rattle.delta_plans.proofs.Common.{◌≡◌, ℕ, ◌-◌, ◌<◌, ◌≤◌, true, List, length, inl, inr, sym, ap, ◌∙◌, subst, arith, lt-ltb, le-leb, Mode, amount_of, First, Oldest, Newest, Offer, Level, by_first, first_sent, lets_through, KeepsLow, AreMarked, IsLevelOf, cells_in, marks, weights_in, weight_in, count_in, IsOffer, count_on, AreShared, weight_between, weight_through, one_each}
+use Rattle.delta_plans.proofs.Common.{◌≡◌, ℕ, ◌-◌, ◌<◌, ◌≤◌, true, List, length, inl, inr, sym, ap, ◌∙◌, arith, lt-ltb, le-leb, Mode, amount_of, First, Oldest, Newest, Offer, Level, by_first, first_sent, lets_through, KeepsLow, AreMarked, IsLevelOf, marks, weights_in, weight_in, count_in, IsOffer, count_on, AreShared, weight_between, weight_through, one_each}
 use Rattle.delta_plans.proofs.WeightLaws.{offer-parts, parts_of}
 
 module _ {N : Type 0} (number : N → ℕ) (most : ℕ) (offer : Offer N) (is : IsOffer number most offer) where
@@ -28,28 +28,23 @@ module _ {N : Type 0} (number : N → ℕ) (most : ℕ) (offer : Offer N) (is : 
   pub whole-size : (first : First) (xs : List N) → xs ≡ whole_marks first → length xs ≡ offer.grid.size.nodes
   whole-size first xs same = ap length same ∙ (whole-tells first).0
 
-  module _ (rotation : ℕ) where
-    -- all where it fits
-    module _ (fits : weight_in number offer low high ≤ amount_of offer.budget) where
-      pub whole-marked : (mode : Mode) (xs : List N) → xs ≡ whole_marks (first_sent mode)
-          → AreMarked mode rotation number offer (marks number xs) offer.found 0
-      whole-marked mode xs same = subst (λ ys. AreMarked mode rotation number offer (marks number ys) offer.found 0) (sym same) (record {
-        above = (whole-tells (first_sent mode)).1;
-        count = is.found ∙ sym ((whole-tells (first_sent mode)).2 one_each);
-        left = omega (arith, is.found);
-        how = inl (record { all = (whole-tells (first_sent mode)).3; within = omega (arith, fits, (whole-tells (first_sent mode)).2 (weights_in offer)) });
-      })
+  -- all where it fits
+  pub whole-marked : (rotation : ℕ) → weight_in number offer low high ≤ amount_of offer.budget → (mode : Mode) (xs : List N)
+      → xs ≡ whole_marks (first_sent mode) → AreMarked mode rotation number offer (marks number xs) offer.found 0
+  whole-marked rotation fits mode xs same = let tells = whole-tells (first_sent mode) in rw same (record {
+    above = tells.1;
+    count = is.found ∙ sym (tells.2 one_each);
+    left = omega (arith, is.found);
+    how = inl (record { all = tells.3; within = omega (arith, fits, tells.2 (weights_in offer)) });
+  })
 
-    -- and a level that was shared out
-    module _ (mode : Mode) {level : Level N} (is_level : IsLevelOf mode number offer level) (xs : List N) {sent : ℕ}
-        (shared : AreShared (first_sent mode) rotation number offer (marks number level.near.items) (marks number level.far.items) (marks number xs) sent) where
-      pub sent-found : sent ≤ offer.found
-      sent-found = omega (arith, is.found, shared.count, (above-tells (first_sent mode) (marks number xs) shared.above).0)
-
-      pub share-marked : AreMarked mode rotation number offer (marks number xs) sent (offer.found - sent)
-      share-marked = record {
-        above = (above-tells (first_sent mode) (marks number xs) shared.above).1;
-        count = shared.count;
-        left = omega (arith, is.found, sent-found);
-        how = inr (record { near = marks number level.near.items; far = marks number level.far.items; shape = is_level.shape; shared = shared });
-      }
+  -- and a level that was shared out
+  pub share-marked : (rotation : ℕ) (mode : Mode) {level : Level N} (is_level : IsLevelOf mode number offer level) (xs : List N) {sent : ℕ}
+      → AreShared (first_sent mode) rotation number offer (marks number level.near.items) (marks number level.far.items) (marks number xs) sent
+      → AreMarked mode rotation number offer (marks number xs) sent (offer.found - sent)
+  share-marked rotation mode {level} is_level xs shared = let tells = above-tells (first_sent mode) (marks number xs) shared.above in record {
+    above = tells.1;
+    count = shared.count;
+    left = omega (arith, is.found, shared.count, tells.0);
+    how = inr (record { near = marks number level.near.items; far = marks number level.far.items; shape = is_level.shape; shared = shared });
+  }

@@ -1,6 +1,6 @@
 -- What marks at the ends of rounds let through.
 -- Serves `Rounds::count`, `Rounds::level` and `version_tables`.
-use Rattle.delta_plans.proofs.Common.{◌≡◌, ℕ, ◌+◌, ◌-◌, ◌<◌, ◌≤◌, map, leb, List, Some, None, sym, ap, ◌∙◌, subst, arith, nat_tests, nat_lt, length-map, amount_of, all_writes, Cells, cell, total_of, HasNoneAbove, sum_below-same, numbered-some, write_numbered, First, Oldest, Newest, by_first, Level, Fit, Rounds, marks, weights_in, count_on, weight_on, AreFarther, max, mark_of_rounds, AreFewAndEnough, AreRaised, AreRoundMarks, IsAsked, IsFound, IsLevelBy, AreLevelMarks, round_of, weight_through, count_all_between, one_each}
+use Rattle.delta_plans.proofs.Common.{◌≡◌, ℕ, ◌+◌, ◌-◌, ◌<◌, ◌≤◌, map, leb, List, Some, None, sym, ap, ◌∙◌, arith, nat_tests, nat_lt, length-map, amount_of, all_writes, Cells, cell, total_of, HasNoneAbove, sum_below-same, numbered-some, First, Oldest, Newest, by_first, Level, Fit, Rounds, marks, weights_in, count_on, weight_on, AreFarther, max, mark_of_rounds, AreFewAndEnough, AreRaised, AreRoundMarks, IsAsked, IsFound, IsLevelBy, AreLevelMarks, round_in, round_of, weight_between, weight_through, count_all_between, one_each}
 use Rattle.delta_plans.proofs.WeightLaws.{offer-beyond, offer-parts, parts_of, sum_below-none, weight_of-none}
 use Rattle.delta_plans.proofs.TurnSteps.{through-same}
 
@@ -27,10 +27,6 @@ module _ {N : Type 0} {number : N → ℕ} {most : ℕ} (rounds : Rounds N) (is 
   abbrev through : First → (ℕ → ℕ → ℕ) → (ℕ → ℕ) → ℕ
   through first weights mark = weight_through first weights cells nodes keys low high mark
 
-  -- the round in which a number was written
-  abbrev born : ℕ → ℕ → ℕ
-  born owner number = round_of (write_numbered (all_writes offer.lists.now owner) number)
-
   -- how many are above marks, and up to them
   pub rounds-count : {mark : List N} → AreRaised number most rounds mark → {above : ℕ}
       → above ≡ total_of nodes keys (λ r k. nat_lt (marks number mark r) (cells r k))
@@ -39,15 +35,15 @@ module _ {N : Type 0} {number : N → ℕ} {most : ℕ} (rounds : Rounds N) (is 
       let counted = told ∙ count-above cells nodes keys high offered.covered (marks number mark) in
       (counted, omega (arith, offered.found, counted, offer-parts offered one_each (marks number mark) raised.above))
 
-  module _ (owner key : ℕ) (in_nodes : owner < nodes) (in_keys : key < keys) where
+  module _ (owner : ℕ) (in_nodes : owner < nodes) (key : ℕ) (in_keys : key < keys) where
     -- a number is up to a round's end where it was written by then
     written-by : (round : ℕ) → round ≤ last → low owner < cells owner key
-        → leb (cells owner key) (end round owner) ≡ leb (born owner (cells owner key)) round
+        → leb (cells owner key) (end round owner) ≡ leb (round_in (all_writes offer.lists.now) owner (cells owner key)) round
     written-by round le over =
         let n = cells owner key in
         let there = numbered-some (all_writes offer.lists.now owner) n (omega (arith, over)) (offered.written owner key in_nodes in_keys) in
         let parts = is.are_ends_of.are_ends.parts owner round in_nodes le in
-        let its : born owner n ≡ there.0.born = ap round_of there.1 in
+        let its : round_in (all_writes offer.lists.now) owner n ≡ there.0.born = ap round_of there.1 in
         grind (arith, nat_tests, its, parts.above n there.0 (omega (arith, over)) there.1, parts.upto n there.0 (omega (arith, over)) there.1)
 
     -- all were by the last one
@@ -63,14 +59,14 @@ module _ {N : Type 0} {number : N → ℕ} {most : ℕ} (rounds : Rounds N) (is 
   no_rounds : (first : First) (weights : ℕ → ℕ → ℕ) → through first weights (mark first 0) ≡ 0
   no_rounds Oldest weights = sum_below-none nodes _ (λ owner in_nodes.
       weight_of-none (weights owner) cells keys owner (low owner) (end 0 owner) (omega (arith, is.are_ends_of.are_ends.none owner in_nodes)))
-  no_rounds Newest weights = offer-beyond offered weights (end (last - 0)) (λ owner in_nodes key in_keys.
-      subst (λ round. cells owner key ≤ end round owner) {x = last} {y = last - 0} (omega arith) (all-made owner key in_nodes in_keys))
+  no_rounds Newest weights =
+      ap (λ round. weight_between weights cells nodes keys (end round) high) {x = last - 0} {y = last} (omega arith)
+      ∙ offer-beyond offered weights (end last) all-made
 
   -- all rounds let all through
   all_rounds : (first : First) (weights : ℕ → ℕ → ℕ) → through first weights (mark first last) ≡ through Oldest weights high
   all_rounds Oldest weights =
-      let nothing = offer-beyond offered weights (end last) (λ owner in_nodes key in_keys. all-made owner key in_nodes in_keys) in
-      omega (arith, nothing, offer-parts offered weights (end last) (λ owner in_nodes. omega arith))
+      omega (arith, offer-beyond offered weights (end last) all-made, offer-parts offered weights (end last) (λ owner in_nodes. omega arith))
   all_rounds Newest weights = through-same weights cells nodes keys low high low (mark Newest last) Newest
       (λ owner in_nodes. ap (λ round. end round owner) {x = last - last} {y = 0} (omega arith) ∙ omega (arith, is.are_ends_of.are_ends.none owner in_nodes))
 
@@ -87,10 +83,6 @@ module _ {N : Type 0} {number : N → ℕ} {most : ℕ} (rounds : Rounds N) (is 
       }
 
   module _ (count : ℕ) (items : List N) (are : AreRoundMarks number rounds count items) where
-    -- such marks aren't below the low ones
-    pub rounds-raised : AreRaised number most rounds items
-    rounds-raised = record { is_asked = is; size = sym (length-map items number) ∙ are.size; above = λ r lt. omega (arith, are.each r lt) }
-
     pub let_through : (weights : ℕ → ℕ → ℕ)
         → through rounds.first weights (marks number items) ≡ through rounds.first weights (mark_of_rounds number rounds count)
     let_through weights = through-same weights cells nodes keys low high (mark_of_rounds number rounds count) (marks number items) rounds.first are.each
@@ -123,16 +115,16 @@ module _ {N : Type 0} {number : N → ℕ} {most : ℕ} (rounds : Rounds N) (is 
   pub rounds-level : {few enough : ℕ} {level : Level N} {fit : Fit} → AreFewAndEnough number rounds few enough fit → enough ≤ few + 1
       → level.whole ≡ fit.count → AreRoundMarks number rounds few level.near.items → AreRoundMarks number rounds enough level.far.items
       → weight_on rounds.first number offer (marks number level.near.items) + level.left ≡ amount_of offer.budget
-      → IsLevelBy rounds.first rounds.first born number offer level
+      → IsLevelBy rounds.first rounds.first (round_in (all_writes offer.lists.now)) number offer level
   rounds-level {few} {enough} {level} found last_one whole near far left = record {
     is_level = record {
       so_far = record {
-        size = (rounds-raised _ _ near).size;
-        above = (rounds-raised _ _ near).above;
+        size = sym (length-map level.near.items number) ∙ near.size;
+        above = λ r lt. omega (arith, near.each r lt);
         counted = whole ∙ (fitted _ _ near found).0;
         rest = left;
       };
-      each_far = (rounds-raised _ _ far).size;
+      each_far = sym (length-map level.far.items number) ∙ far.size;
       farther = λ owner in_nodes. rw (near.each owner in_nodes, far.each owner in_nodes)
           (farther rounds.first few enough owner next found.bound in_nodes);
       beyond = omega (arith, found.beyond, let_through _ _ far (weights_in offer));
@@ -145,16 +137,16 @@ module _ {N : Type 0} {number : N → ℕ} {most : ℕ} (rounds : Rounds N) (is 
 
       shape : (f : First) → ((owner : ℕ) → owner < nodes → marks number level.near.items owner ≡ mark f few owner)
           → ((owner : ℕ) → owner < nodes → marks number level.far.items owner ≡ mark f enough owner)
-          → AreLevelMarks f f born cells nodes keys low (marks number level.near.items) (marks number level.far.items)
+          → AreLevelMarks f f (round_in (all_writes offer.lists.now)) cells nodes keys low (marks number level.near.items) (marks number level.far.items)
       shape Oldest nears fars = record {
         next = enough;
-        near_is = λ r key lt in_keys over. grind (arith, nat_tests, written-by r key lt in_keys few (omega (arith, found.bound, next)) over, nears r lt, next);
-        far_is = λ r key lt in_keys over. grind (arith, nat_tests, written-by r key lt in_keys enough found.bound over, fars r lt);
+        near_is = λ r key lt in_keys over. grind (arith, nat_tests, written-by r lt key in_keys few (omega (arith, found.bound, next)) over, nears r lt, next);
+        far_is = λ r key lt in_keys over. grind (arith, nat_tests, written-by r lt key in_keys enough found.bound over, fars r lt);
       }
       shape Newest nears fars = record {
         next = last - few;
-        near_is = λ r key lt in_keys over. grind (arith, nat_tests, written-by r key lt in_keys (last - few) (omega arith) over, nears r lt);
+        near_is = λ r key lt in_keys over. grind (arith, nat_tests, written-by r lt key in_keys (last - few) (omega arith) over, nears r lt);
         far_is = λ r key lt in_keys over.
             let one : last - few ≡ last - enough + 1 = omega (arith, next, found.bound) in
-            grind (arith, nat_tests, written-by r key lt in_keys (last - enough) (omega arith) over, fars r lt);
+            grind (arith, nat_tests, written-by r lt key in_keys (last - enough) (omega arith) over, fars r lt);
       }

@@ -1,6 +1,6 @@
 -- Runs of an offer, gone over as long as they fit.
 -- Serves `depth` and `next_runs`.
-use Rattle.delta_plans.proofs.Common.{◌≡◌, ℕ, ◌+◌, ◌*◌, ◌<◌, ◌≤◌, ◌&&◌, cond, leb, ltb, List, Some, map, inl, inr, ◌∙◌, arith, nat_tests, cases_eq, length-map, amount_of, Cells, count_above, count_between, HasNoneAbove, HasEach, count_le, sum_below-same, MOST_KEYS, Offer, Step, Oldest, Newest, owner_count_in, marks, weights_in, weight_in, HaveLeft, IsLeftOf, IsLongestBelow, IsMarkFrom, IsOffer, IsStep, AreMarksFrom, AreRunsFrom, AreLevelMarks, weight_of}
+use Rattle.delta_plans.proofs.Common.{◌≡◌, ℕ, ◌+◌, ◌*◌, ◌<◌, ◌≤◌, ◌&&◌, cond, leb, ltb, List, Some, map, inl, inr, ◌∙◌, arith, nat_tests, cases_eq, length-map, amount_of, Cells, count_above, count_between, HasNoneAbove, HasEach, count_le, sum_below-same, MOST_KEYS, Offer, Step, Oldest, Newest, owner_count_in, marks, weights_in, weight_in, HaveLeft, IsLeftOf, HasNoneBetween, IsMarkFrom, IsOffer, IsStep, AreMarksFrom, AreRunsFrom, AreLevelMarks, weight_of}
 use Rattle.delta_plans.proofs.WeightLaws.{owner-most, parts_of, weight_of-none}
 use Rattle.delta_plans.proofs.LevelSteps.{level-next, level-none}
 
@@ -43,37 +43,35 @@ module _ {N : Type 0} {number : N → ℕ} {most : ℕ} {offer : Offer N} (is : 
 
   -- none at first, as no owner has more numbers than there may be keys
   pub runs-none : {near : List N} → near ≡ offer.low.now → HasRuns number offer near 0 (amount_of offer.budget) (MOST_KEYS + 1)
-  runs-none {near} start = record { so_far = level-none is start; from = rw start from; some = omega arith; few = omega arith }
-    where
-      from : AreMarksFrom number offer (MOST_KEYS + 1) low
-      from r lt = let few = count_le keys (λ key. ltb (low r) (cells r key)) in grind (arith, nat_tests, is.grid.few_keys)
+  runs-none start = record {
+    so_far = level-none is start;
+    from = rw start (λ r lt. let few = count_le keys (λ key. ltb (low r) (cells r key)) in grind (arith, nat_tests, is.grid.few_keys));
+    some = omega arith;
+    few = omega arith;
+  }
 
   -- where not all fits, the longest of the others are next, which have one number at least
   pub runs-from : {counts near : List N} {whole left bound size : ℕ} → amount_of offer.budget < weight_in number offer low high
       → HasRuns number offer near whole left bound → HasEach nodes (λ r n. n ≡ owner_count_in number offer r) (map number counts)
-      → IsLongestBelow number counts bound size → AreRunsFrom number most offer counts near size
-  runs-from {counts} {near} {size = size} beyond has known next = record {
-    is_offer = is;
-    counts_are = known;
-    each_near = has.so_far.size;
-    some = grind (arith, has.so_far.rest, λ (none : size ≡ 0). sum_below-same nodes _ _ (all none));
-    few = omega (arith, next.below, has.few);
-    longer = longer;
-  }
-    where
-      longer : AreMarksFrom number offer (size + 1) (marks number near)
-      longer r lt =
-          let upto = next.longest r (omega (arith, lt, known.size, length-map counts number)) in
-          grind (arith, nat_tests, next.below, has.from r lt, known.each r lt)
-
-      all : size ≡ 0 → (r : ℕ) → r < nodes → weight_of (weights_in offer r) cells keys r (low r) (marks number near r)
-          ≡ weight_of (weights_in offer r) cells keys r (low r) (high r)
-      all none r lt =
-          let here = longer r lt in
-          let nothing = weight_of-none (weights_in offer r) cells keys r (low r) (low r) (omega arith) in
-          let few = owner-most number offer keys r (low r) (high r) in
-          let counted = count-covered cells keys r (low r) (high r) (is.covered r lt) in
-          grind (arith, nat_tests)
+      → HasNoneBetween number counts bound size → AreRunsFrom number most offer counts near size
+  runs-from {counts} {near} {size = size} beyond has known next =
+      let longer : AreMarksFrom number offer (size + 1) (marks number near) = λ r lt.
+      let upto = next.none r (omega (arith, lt, known.size, length-map counts number)) in
+      grind (arith, nat_tests, next.below, has.from r lt, known.each r lt) in
+      let weighs = λ (mark : ℕ → ℕ) (r : ℕ). weight_of (weights_in offer r) cells keys r (low r) (mark r) in
+      let all = λ (none : size ≡ 0). sum_below-same nodes (weighs (marks number near)) (weighs high) (λ r lt.
+      let here = longer r lt in
+      let nothing = weight_of-none (weights_in offer r) cells keys r (low r) (low r) (omega arith) in
+      let few = owner-most number offer keys r (low r) (high r) in
+      let counted = count-covered cells keys r (low r) (high r) (is.covered r lt) in
+      grind (arith, nat_tests)) in record {
+        is_offer = is;
+        counts_are = known;
+        each_near = has.so_far.size;
+        some = grind (arith, has.so_far.rest, all);
+        few = omega (arith, next.below, has.few);
+        longer = longer;
+      }
 
   module _ {counts near : List N} {size : ℕ} {next : Step N} (from : AreRunsFrom number most offer counts near size)
       (step : IsStep number offer (marks number near) (IsMarkFrom number offer size) next) where

@@ -1,6 +1,6 @@
 -- Any set of candidates that is closed downwards, fits, and lets nothing more in is what is sent.
 -- Serves `deltas_have_their_sets` and `DeltaMarks`.
-use Rattle.delta_plans.proofs.Common.{is_lacked, ◌≡◌, ℕ, suc, ◌+◌, ◌-◌, ◌<◌, ◌≤◌, Bool, true, false, cond, not, List, [], ◌∷◌, refl, sym, ap, ◌∙◌, subst, arith, nat_tests, count_by, filter, IsPermutation, Contains, sum_by, Ordering, Less, Equal, Greater, is_lt, ordering_reverse, IsTotalOrder, tied_itself, both_ways, le-leb, lt-leb, AllPairs-filter, length_permutation, get_or-le-sum_by, sum_by-cons, length-filter, Item, items_of, stands_at, IsApart, candidates, DeltaView, delta_between, sending_order, sending_order-total, sending_order-strict, Contains-filter, Contains-kept, same_members, before_count, size_through, fits, sent, cut_count, Contains-first_places, first_places-Contains, sent_apart, size_in, IsKeptOut, IsSentSet, DeltasHaveTheirSets}
+use Rattle.delta_plans.proofs.Common.{is_lacked, ◌≡◌, ℕ, suc, ◌+◌, ◌-◌, ◌<◌, ◌≤◌, Bool, true, false, cond, not, List, [], ◌∷◌, refl, sym, ap, ◌∙◌, subst, arith, nat_tests, count_by, filter, Contains, sum_by, Ordering, Less, Equal, Greater, is_lt, less, ordering_reverse, IsTotalOrder, tied_itself, both_ways, le-leb, lt-leb, AllPairs-filter, length_permutation, get_or-le-sum_by, sum_by-cons, length-filter, Item, items_of, stands_at, candidates, delta_between, sending_order-total, sending_order-strict, Contains-filter, Contains-kept, same_members, size_through, fits, sent, cut_count, Contains-first_places, first_places-Contains, sent_apart, size_in, IsSentSet, DeltasHaveTheirSets}
 use Rattle.delta_plans.proofs.Candidates.{table_apart}
 
 -- a sum over a list whose terms are no greater, and by how much, for the elements of the list
@@ -16,11 +16,6 @@ sum_by-more : {X : Type 0} (f g : X → ℕ) (xs : List X) (n : ℕ) (y : X) →
 sum_by-more f g xs n y (k, lt, is) le more =
     omega (arith, sum_by-gap f g xs le, get_or-le-sum_by (λ x. g x - f x) xs k y lt, ap (λ x. g x - f x) is, more)
 
-is_less : (r : Ordering) → is_lt r ≡ true → r ≡ Less
-is_less Less e = refl
-is_less Equal e = cc
-is_less Greater e = cc
-
 module _ {X : Type 0} {order : X → X → Ordering} {cs : List X} {size : X → ℕ} {is_in : X → Bool} {budget : ℕ} (total : IsTotalOrder order)
     (strict : (c d : X) → Contains cs c → Contains cs d → order c d ≡ Equal → c ≡ d) (is : IsSentSet order cs size is_in budget) where
   abbrev term : X → ℕ
@@ -31,7 +26,7 @@ module _ {X : Type 0} {order : X → X → Ordering} {cs : List X} {size : X →
 
   -- what stands before one in the set, and behind none
   before_in : (c d : X) → Contains cs c → Contains cs d → is_lt (order c d) ≡ true → is_in d ≡ true → is_in c ≡ true
-  before_in c d at_c at_d before yes' = is.closed c d at_c at_d (is_less (order c d) before) yes'
+  before_in c d at_c at_d before yes' = is.closed c d at_c at_d (less (order c d) (rw before tt)) yes'
 
   behind_in : (c d : X) → Contains cs c → Contains cs d → is_lt (order c d) ≡ false → is_in c ≡ true → is_in d ≡ true
   behind_in c d at_c at_d behind yes' = elim (order c d) as (λ r. order c d ≡ r → is_in d ≡ true) [
@@ -40,49 +35,37 @@ module _ {X : Type 0} {order : X → X → Ordering} {cs : List X} {size : X →
     | Greater ↦ λ e. is.closed d c at_d at_c (total.antisymm d c ∙ ap ordering_reverse e) yes'
   ] refl
 
-  sent_fits : (c : X) → Contains cs c → is_in c ≡ true → size_through order cs size c ≤ size_in order cs size is_in
-  sent_fits c at_c yes' =
-      omega (arith, sum_by-gap (through c) term cs (λ d at_d. let behind = behind_in c d at_c at_d in grind (arith, nat_tests)))
-
-  kept_out : (c : X) → Contains cs c → is_in c ≡ false → (out : IsKeptOut order cs size is_in budget c)
-      → size_in order cs size is_in + size out.next ≤ size_through order cs size c
-  kept_out c at_c no' out = sum_by-more term (through c) cs (size out.next) out.next out.candidate
-      (λ d at_d. let before = before_in c d at_c at_d in grind (arith, nat_tests))
-      (let no_later = λ (before : is_lt (order c out.next) ≡ true). out.no_later (is_less (order c out.next) before) in
-      grind (arith, nat_tests, out.outside, no_later))
-
   -- a candidate fits where it is in the set
   fits-is : (c : X) → Contains cs c → fits order cs size budget c ≡ is_in c
   fits-is c at_c = elim (is_in c) as (λ b. is_in c ≡ b → fits order cs size budget c ≡ b) [
-    | true ↦ λ e. le-leb (size_through order cs size c) budget (omega (arith, sent_fits c at_c e, is.within))
-    | false ↦ λ e. let out = is.tight c at_c e in lt-leb (size_through order cs size c) budget (omega (arith, kept_out c at_c e out, out.beyond))
+    | true ↦ λ e.
+        let upto = sum_by-gap (through c) term cs (λ d at_d. let behind = behind_in c d at_c at_d in grind (arith, nat_tests)) in
+        le-leb (size_through order cs size c) budget (omega (arith, upto, is.within))
+    | false ↦ λ e.
+        let out = is.tight c at_c e in
+        let no_later = λ (before : is_lt (order c out.next) ≡ true). out.no_later (less (order c out.next) (rw before tt)) in
+        let beyond = sum_by-more term (through c) cs (size out.next) out.next out.candidate
+        (λ d at_d. let before = before_in c d at_c at_d in grind (arith, nat_tests)) (grind (arith, nat_tests, out.outside, no_later)) in
+        lt-leb (size_through order cs size c) budget (omega (arith, beyond, out.beyond))
   ] refl
-
-  -- a candidate is sent where it is in the set
-  abbrev places : ℕ
-  places = count_by (fits order cs size budget) cs
 
   abbrev one : Bool → ℕ
   one b = cond b 1 0
 
-  set_place : (c : X) → Contains cs c → is_in c ≡ true → before_count order cs c < places
-  set_place c at_c yes' =
+  -- so it is sent where it is in the set
+  pub sent-in_set : (c : X) → Contains (sent order cs size budget) c → Contains cs c × (is_in c ≡ true)
+  sent-in_set c there =
+      let at = Contains-first_places order total cs _ c there in
+      let le = λ (e : is_in c ≡ false). sum_by-gap (λ d. one (fits order cs size budget d)) (λ d. one (is_lt (order d c))) cs
+      (λ d at_d. let behind = behind_in d c at_d at.0 in grind (arith, nat_tests, fits-is d at_d)) in
+      (at.0, grind (arith, nat_tests, le, at.1))
+
+  pub in_set-sent : (c : X) → Contains cs c → is_in c ≡ true → Contains (sent order cs size budget) c
+  in_set-sent c at_c yes' =
       let more = sum_by-more (λ d. one (is_lt (order d c))) (λ d. one (fits order cs size budget d)) cs 1 c at_c
       (λ d at_d. let before = before_in d c at_d at_c in grind (arith, nat_tests, fits-is d at_d))
       (let tied = ap is_lt (tied_itself total c) in grind (arith, nat_tests, fits-is c at_c)) in
-      omega (arith, more)
-
-  place_set : (c : X) → Contains cs c → before_count order cs c < places → is_in c ≡ true
-  place_set c at_c lt =
-      let le = λ (e : is_in c ≡ false). sum_by-gap (λ d. one (fits order cs size budget d)) (λ d. one (is_lt (order d c))) cs
-      (λ d at_d. let behind = behind_in d c at_d at_c in grind (arith, nat_tests, fits-is d at_d)) in
-      grind (arith, nat_tests, le)
-
-  pub sent-in_set : (c : X) → Contains (sent order cs size budget) c → Contains cs c × (is_in c ≡ true)
-  sent-in_set c there = let at = Contains-first_places order total cs places c there in (at.0, place_set c at.0 at.1)
-
-  pub in_set-sent : (c : X) → Contains cs c → is_in c ≡ true → Contains (sent order cs size budget) c
-  in_set-sent c at_c yes' = first_places-Contains order total cs strict places c at_c (set_place c at_c yes')
+      first_places-Contains order total cs strict _ c at_c (omega (arith, more))
 
   pub cut-is : cut_count order cs size budget ≡ count_by (λ c. not (is_in c)) cs
   cut-is =
@@ -95,7 +78,7 @@ module _ {X : Type 0} {order : X → X → Ordering} {cs : List X} {size : X →
   pub stops_sent : IsTotalOrder order → (next : X) → Contains cs next → ((c : X) → Contains cs c → is_in c ≡ is_lt (order c next))
       → size_in order cs size is_in ≤ budget → budget < size_in order cs size is_in + size next → IsSentSet order cs size is_in budget
   stops_sent total next candidate set within beyond = record {
-    closed = λ c d at_c at_d before yes'. set c at_c ∙ ap is_lt (total.trans c d next before (is_less (order d next) (sym (set d at_d) ∙ yes')));
+    closed = λ c d at_c at_d before yes'. set c at_c ∙ ap is_lt (total.trans c d next before (less (order d next) (rw (← set d at_d, yes') tt)));
     within = within;
     tight = λ c at_c no'. record {
       next = next;
@@ -112,30 +95,17 @@ module _ {X : Type 0} {order : X → X → Ordering} {cs : List X} {size : X →
       record { closed = λ c d at_c at_d before yes'. all c at_c; within = within; tight = λ c at_c no'. absurd (both_ways (is_in c) no' (all c at_c)) }
 
 pub set_sent : DeltasHaveTheirSets
-set_sent mode rotation budget from to is_in proper in_nodes is = record {
-  members = λ c. (sent-in_set total strict is c, (λ both. in_set-sent total strict is c both.0 both.1));
-  count = sym (length_permutation delta.items (filter is_in cs) same_items) ∙ length-filter is_in cs;
-  cut = cut-is total strict is;
-}
-  where
-    cs : List Item
-    cs = candidates mode from to
-
-    total : IsTotalOrder (sending_order mode from.nodes rotation cs)
-    total = sending_order-total mode from.nodes rotation cs
-
-    strict : (c d : Item) → Contains cs c → Contains cs d → sending_order mode from.nodes rotation cs c d ≡ Equal → c ≡ d
-    strict = sending_order-strict mode from to rotation proper in_nodes
-
-    delta : DeltaView
-    delta = delta_between mode rotation budget from to
-
-    filtered_apart : IsApart (filter is_in cs)
-    filtered_apart = let apart = λ (i j : Item). stands_at i.owner i.entry.key j ≡ false in
-        AllPairs-filter apart is_in cs (AllPairs-filter apart (is_lacked mode to) (items_of from) (table_apart from proper))
-
-    same_items : IsPermutation delta.items (filter is_in cs)
-    same_items = same_members delta.items (filter is_in cs)
-        (sent_apart _ total from proper cs (λ c there. (Contains-kept (is_lacked mode to) (items_of from) c there).0) _) filtered_apart
-        (λ c there. let at = sent-in_set total strict is c there in Contains-filter is_in cs c at.0 at.1)
-        (λ c there. let at = Contains-kept is_in cs c there in in_set-sent total strict is c at.0 at.1)
+set_sent mode rotation budget from to is_in proper in_nodes is =
+    let cs = candidates mode from to in
+    let total = sending_order-total mode from.nodes rotation cs in
+    let strict = sending_order-strict mode from to rotation proper in_nodes in
+    let apart = λ (i j : Item). stands_at i.owner i.entry.key j ≡ false in
+    let same = same_members (delta_between mode rotation budget from to).items (filter is_in cs)
+    (sent_apart _ total from proper cs (λ c there. (Contains-kept (is_lacked mode to) (items_of from) c there).0) _)
+    (AllPairs-filter apart is_in cs (AllPairs-filter apart (is_lacked mode to) (items_of from) (table_apart from proper)))
+    (λ c there. let at = sent-in_set total strict is c there in Contains-filter is_in cs c at.0 at.1)
+    (λ c there. let at = Contains-kept is_in cs c there in in_set-sent total strict is c at.0 at.1) in record {
+      members = λ c. (sent-in_set total strict is c, (λ both. in_set-sent total strict is c both.0 both.1));
+      count = sym (length_permutation _ (filter is_in cs) same) ∙ length-filter is_in cs;
+      cut = cut-is total strict is;
+    }

@@ -12,15 +12,11 @@ some-term (suc n) f some = elim (cases_lt 0 (f n)) [
 ]
 
 -- what a number between such marks tells, if there is no other between them
-stops-at : (first : First) (cells : Cells) (keys owner low near far mark beyond next : ℕ) → AreFarther first low near far
+stops-at : (first : First) (cells : Cells) (keys owner low near far mark beyond next : ℕ) → low ≤ near → AreFarther first low near far
     → IsOn first near mark → IsOn first mark beyond → IsOn first beyond far → mark ≤ beyond + 1 → beyond ≤ mark + 1
     → by_first first mark beyond < next → next ≤ by_first first beyond mark → StopsBefore first cells keys owner low near far mark next
-stops-at Oldest cells keys owner low near far mark beyond next level on between upto below above over le = grind (arith, nat_tests)
-stops-at Newest cells keys owner low near far mark beyond next level on between upto below above over le = grind (arith, nat_tests)
-
-one-apart : (first : First) (a b : ℕ) → a ≤ b + 1 → b ≤ a + 1 → by_first first b a ≤ by_first first a b + 1
-one-apart Oldest a b below above = omega arith
-one-apart Newest a b below above = omega arith
+stops-at Oldest cells keys owner low near far mark beyond next over_low level on between upto below above over le = grind (arith, nat_tests)
+stops-at Newest cells keys owner low near far mark beyond next over_low level on between upto below above over le = grind (arith, nat_tests)
 
 -- at first nothing is let through
 pub stop-first : (first : First) {weight : ℕ → ℕ} {cells : Cells} {keys owner near far room : ℕ} → IsOn first near far
@@ -46,15 +42,16 @@ stop-halved Newest {weight} {cells} {keys} {owner} {near} {far} {room} {mark} {b
 module _ {first : First} {weight : ℕ → ℕ} {cells : Cells} {keys owner near far room mark beyond left : ℕ}
     (so_far : IsStopBetween first weight cells keys owner near far room mark beyond left) where
   -- in the end there is one number between, which doesn't fit
-  pub stop-tells : {low : ℕ} → NumbersDiffer cells keys owner → mark ≤ beyond + 1 → beyond ≤ mark + 1 → AreFarther first low near far
+  pub stop-tells : {low : ℕ} → NumbersDiffer cells keys owner → mark ≤ beyond + 1 → beyond ≤ mark + 1 → low ≤ near → AreFarther first low near far
       → (key : ℕ) × (key < keys) × StopsBefore first cells keys owner low near far mark (cells owner key) × (left < weight (cells owner key))
-  stop-tells {low} differ below above level =
+  stop-tells {low} differ below above over_low level =
       let from = by_first first mark beyond in
       let to = by_first first beyond mark in
       let some = some-term keys (λ k. part weight from to (cells owner k)) (omega (arith, so_far.more)) in
       let key = some.0 in
       let has : (from < cells owner key) × (cells owner key ≤ to) = grind (arith, nat_tests, some.2) in
-      let near_by = one-apart first mark beyond below above in
+      let near_by : to ≤ from + 1 = elim first as (λ f. by_first f beyond mark ≤ by_first f mark beyond + 1) [ Oldest ↦ omega arith | Newest ↦ omega arith ] in
       let one = weight_of-one weight cells keys owner from to key some.1 has.0 has.1
       (λ k lt over le. differ k key lt some.1 (omega (arith, over)) (omega (arith, over, le, near_by, has.0, has.1))) in
-      (key, some.1, stops-at first cells keys owner low near far mark beyond _ level so_far.on so_far.between so_far.upto below above has.0 has.1, omega (arith, so_far.more, one))
+      let stops = stops-at first cells keys owner low near far mark beyond _ over_low level so_far.on so_far.between so_far.upto below above has.0 has.1 in
+      (key, some.1, stops, omega (arith, so_far.more, one))

@@ -1,6 +1,6 @@
 -- The owners' turns in a level.
 -- Serves the functions of `sharing` and `RoundMarks`.
-use Rattle.delta_plans.proofs.Common.{◌≡◌, ◌≢◌, ℕ, ◌+◌, ◌-◌, ◌*◌, ◌<◌, ◌≤◌, cond, ltb, List, get_or, set, map, length, inr, refl, sym, ap, ◌∙◌, transport, arith, nat_tests, get_or-set_same, get_or-set_other, length-map, map-set, Entries, MOST_NODES, MOST_KEYS, MOST_ENTRY_SIZE, Cells, HasNoneAbove, sum_below-same, rotated, rotated-injective, rotated-is, First, Oldest, Newest, Reached, Turns, by_first, marks, weights_in, AreFarther, lt-ltb, le-ltb, IsStopOf, weight_to, part_weight, AreTurns, HasReached, HaveLeft, HaveTurns, AreSharedBy, length-set, weight_of, weight_from, weight_through, one_each}
+use Rattle.delta_plans.proofs.Common.{◌≡◌, ◌≢◌, ℕ, ◌+◌, ◌-◌, ◌*◌, ◌<◌, ◌≤◌, cond, ltb, List, get_or, set, map, length, inr, refl, sym, ap, ◌∙◌, transport, arith, nat_tests, get_or-set_same, get_or-set_other, length-map, map-set, Entries, MOST_NODES, MOST_KEYS, MOST_ENTRY_SIZE, Cells, HasNoneAbove, sum_below-same, rotated, rotated-injective, rotated-is, First, Oldest, Newest, Reached, Turns, by_first, marks, weights_in, AreFarther, IsOn, lt-ltb, le-ltb, IsStopOf, weight_to, part_weight, AreTurns, HasReached, HaveLeft, HaveTurns, AreSharedBy, length-set, weight_of, weight_from, weight_through, one_each}
 use Rattle.delta_plans.proofs.WeightLaws.{count_between-most, offer-few, owner-entries, owner-most, parts_of, sum_below-changed, weight_of-parts, weight_of-split}
 use Rattle.delta_plans.proofs.StopSteps.{stop-tells}
 
@@ -13,15 +13,15 @@ module _ (weights : ℕ → ℕ → ℕ) (cells : Cells) (nodes keys : ℕ) (low
 
   -- and marks that differ for one
   module _ (owner : ℕ) (in_nodes : owner < nodes) (others : (r : ℕ) → r < nodes → r ≢ owner → next r ≡ mark r) where
-    through-changed : (first : First) → HasNoneAbove cells keys owner (high owner) → AreFarther first (low owner) (mark owner) (next owner)
+    through-changed : (first : First) → HasNoneAbove cells keys owner (high owner) → low owner ≤ mark owner → IsOn first (mark owner) (next owner)
         → weight_through first weights cells nodes keys low high next
         ≡ weight_through first weights cells nodes keys low high mark + weight_from first (weights owner) cells keys owner (mark owner) (next owner)
-    through-changed Oldest covered ordered =
+    through-changed Oldest covered above on =
         sum_below-changed nodes owner _ _ _ in_nodes (λ r lt ne. ap (weight_of (weights r) cells keys r (low r)) (others r lt ne))
-        (weight_of-split (weights owner) cells keys owner (low owner) (mark owner) (next owner) ordered.0 ordered.2)
-    through-changed Newest covered ordered =
+        (weight_of-split (weights owner) cells keys owner (low owner) (mark owner) (next owner) above on)
+    through-changed Newest covered above on =
         sum_below-changed nodes owner _ _ _ in_nodes (λ r lt ne. ap (λ m. weight_of (weights r) cells keys r m (high r)) (others r lt ne))
-        (omega (arith, weight_of-parts (weights owner) cells keys owner (next owner) (mark owner) (high owner) ordered.2 (inr covered)))
+        (omega (arith, weight_of-parts (weights owner) cells keys owner (next owner) (mark owner) (high owner) on (inr covered)))
 
 -- what is reached, in other words
 pub turns-same : {N : Type 0} {number : N → ℕ} {turns : Turns N} {mark : List N} {reached other : Reached} → HasReached number turns mark reached
@@ -47,9 +47,6 @@ module _ {N : Type 0} {number : N → ℕ} {most : ℕ} {turns : Turns N} (are :
   pub from-few : (owner from to : ℕ) → weight_to number (λ _. 1) turns owner from to ≤ MOST_KEYS
   from-few owner from to =
       omega (arith, count_between-most cells keys owner (by_first turns.first from to) (by_first turns.first to from), are.offer.grid.few_keys)
-
-  pub part-few : (owner : ℕ) → part_weight number (λ _. 1) turns owner ≤ MOST_KEYS
-  part-few owner = from-few owner (near owner) (far owner)
 
   module _ {mark : List N} {reached : Reached} (so_far : HasReached number turns mark reached) where
     -- so many numbers at most
@@ -85,7 +82,7 @@ module _ {N : Type 0} {number : N → ℕ} {most : ℕ} {turns : Turns N} (are :
           → HaveLeft turns.first number offer (set mark owner to) (reached.sent + count) (reached.left - weight)
       goes-on ordered fits weighs counts = record {
         size = length-set mark owner to ∙ so_far.so_far.size;
-        above = λ r lt. grind (arith, others r, so_far.so_far.above r lt, λ (e : r ≡ owner). ap low e, λ (e : r ≡ owner). ap next e, here, ordered.1);
+        above = λ r lt. grind (arith, others r, so_far.so_far.above r lt, λ (e : r ≡ owner). ap low e, λ (e : r ≡ owner). ap next e, here, ordered.0);
         counted = omega (arith, so_far.so_far.counted, counts, grown one_each);
         rest = omega (arith, so_far.so_far.rest, fits, weighs, grown (weights_in offer));
       }
@@ -98,7 +95,7 @@ module _ {N : Type 0} {number : N → ℕ} {most : ℕ} {turns : Turns N} (are :
               + weight_from turns.first (weights owner) cells keys owner (near owner) (number to)
           grown weights = rw (← waits, ← here)
               (through-changed weights cells nodes keys low high (marks number mark) next owner in_nodes (λ r lt. others r) turns.first
-              (are.offer.covered owner in_nodes) (rw (waits, here) ordered))
+              (are.offer.covered owner in_nodes) (so_far.so_far.above owner in_nodes) (rw (waits, here) ordered.1))
 
       -- all the way
       pub turns-next : {weight count : ℕ} → weight ≤ reached.left → weight ≡ part_weight number (weights_in offer owner) turns owner
@@ -117,10 +114,11 @@ module _ {N : Type 0} {number : N → ℕ} {most : ℕ} {turns : Turns N} (are :
       pub turns-shared : {sent : ℕ} → IsStopOf number turns owner reached.left (number to)
           → sent ≡ weight_to number (λ _. 1) turns owner (near owner) (number to) → AreSharedBy number turns (set mark owner to) (reached.sent + sent)
       turns-shared stop counts =
-          let tells = stop-tells stop.so_far (are.offer.differ owner in_nodes) stop.below stop.above (are.level.farther owner in_nodes) in
+          let tells = stop-tells stop.so_far (are.offer.differ owner in_nodes) stop.below stop.above
+          (are.level.so_far.above owner in_nodes) (are.level.farther owner in_nodes) in
           let stays = λ (r : ℕ) (lt : r < nodes) (other : r ≢ owner).
           others r other ∙ so_far.each r lt ∙ ap (λ t. cond (ltb (turn r) t) (far r) (near r)) (sym its) in
-          let passed = goes-on ((are.level.farther owner in_nodes).0, tells.2.above, stop.so_far.on) (omega (arith, stop.so_far.rest)) refl counts in record {
+          let passed = goes-on (tells.2.above, stop.so_far.on) (omega (arith, stop.so_far.rest)) refl counts in record {
             size = passed.size;
             shared = record {
               stop = record { owner = owner; key = tells.0; owner_below = in_nodes; key_below = tells.1; stops = rw here tells.2; others = stays };

@@ -56,13 +56,6 @@ part-cases weight low high number = grind (arith, nat_tests)
 pub weight_of-none : (weight : ℕ → ℕ) (cells : Cells) (keys owner low high : ℕ) → high ≤ low → weight_of weight cells keys owner low high ≡ 0
 weight_of-none weight cells keys owner low high le = sum_below-none keys _ (λ key lt. grind (arith, nat_tests))
 
--- nor where nothing is counted
-pub weight_of-uncounted : (weight : ℕ → ℕ) (cells : Cells) (keys owner low high : ℕ) → count_between cells keys owner low high ≡ 0
-    → weight_of weight cells keys owner low high ≡ 0
-weight_of-uncounted weight cells keys owner low high none = sum_below-none keys _ (λ key lt.
-    let here = sum_below-each_none keys (λ k. part (λ _. 1) low high (cells owner k)) none key lt in
-    grind (arith, nat_tests, here))
-
 -- a single number of an owner lies between two marks
 pub weight_of-one : (weight : ℕ → ℕ) (cells : Cells) (keys owner low high key : ℕ) → key < keys → low < cells owner key → cells owner key ≤ high
     → ((k : ℕ) → k < keys → low < cells owner k → cells owner k ≤ high → k ≡ key) → weight_of weight cells keys owner low high ≡ weight (cells owner key)
@@ -125,10 +118,6 @@ module _ {N : Type 0} (number : N → ℕ) (offer : Offer N) where
 
   most : (owner n : ℕ) → weights_in offer owner n ≤ MOST_ENTRY_SIZE
   most owner n = share-most offer.budget (write_numbered (all_writes offer.lists.now owner) n)
-
-  -- nothing is between marks and themselves
-  pub offer-none : (weights : ℕ → ℕ → ℕ) (mark : ℕ → ℕ) → weight_between weights cells nodes keys mark mark ≡ 0
-  offer-none weights mark = sum_below-none nodes _ (λ owner lt. weight_of-none (weights owner) cells keys owner (mark owner) (mark owner) (omega arith))
 
   -- no more than so many times the largest size
   pub offer-most : (low high : ℕ → ℕ) → weight_in number offer low high ≤ count_in number offer low high * MOST_ENTRY_SIZE

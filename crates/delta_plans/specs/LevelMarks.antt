@@ -57,12 +57,16 @@ abbrev pub round_of : Option Entry → ℕ
 round_of None = 0
 round_of (Some e) = e.born
 
+-- and so of an owner's number
+abbrev pub round_in : (ℕ → List Entry) → ℕ → ℕ → ℕ
+round_in lists owner number = round_of (write_numbered (lists owner) number)
+
 -- the level of an owner's number: how many are offered below it, how many of its owner are, or when it was written
 abbrev pub level_number : Mode → (ℕ → List Entry) → Cells → ℕ → (ℕ → ℕ) → ℕ → ℕ → ℕ
 level_number ScuttleBreadth lists cells keys low owner number = rank_above cells keys owner (low owner) number
 level_number ScuttleDepth lists cells keys low owner number = count_above cells keys owner (low owner)
-level_number PreciseOldest lists cells keys low owner number = round_of (write_numbered (lists owner) number)
-level_number PreciseNewest lists cells keys low owner number = round_of (write_numbered (lists owner) number)
+level_number PreciseOldest lists cells keys low owner number = round_in lists owner number
+level_number PreciseNewest lists cells keys low owner number = round_in lists owner number
 
 -- near marks let through what is of the levels before one, and far marks what is of that level too
 pub record AreLevelMarks (first way : First) (level : ℕ → ℕ → ℕ) (cells : Cells) (nodes keys : ℕ)

@@ -70,13 +70,8 @@ pub record HasOwner {N : Type 0} (number : N → ℕ) (most : ℕ) (offer : Offe
   pub is_offer : IsOffer number most offer
   pub in_nodes : owner < offer.grid.size.nodes
 
--- a low and a high mark for each owner of an offer, and how many numbers lie between them
+-- a low and a high mark for each owner of an offer
 pub record HasMarks {N : Type 0} (number : N → ℕ) (most : ℕ) (offer : Offer N) (low high : List N) : Type 0 where
   pub is_offer : IsOffer number most offer
   pub each_low : length low ≡ offer.grid.size.nodes
   pub each_high : length high ≡ offer.grid.size.nodes
-
-pub record AreCounted {N : Type 0} (number : N → ℕ) (most : ℕ) (offer : Offer N) (count : ℕ)
-    (low high : List N) : Type 0 where
-  pub has_marks : HasMarks number most offer low high
-  pub counted : count ≡ count_in number offer (marks number low) (marks number high)

@@ -37,7 +37,7 @@ count_on first number offer mark =
 
 -- far marks, which let through all that near marks do; none is below the low one
 abbrev pub AreFarther : First → ℕ → ℕ → ℕ → Type 0
-AreFarther first low near far = (low ≤ near) × (low ≤ far) × IsOn first near far
+AreFarther first low near far = (low ≤ far) × IsOn first near far
 
 -- marks for each owner, none below the low one, that let so many numbers through and leave so much
 pub record HaveLeft {N : Type 0} (first : First) (number : N → ℕ) (offer : Offer N) (mark : List N)
@@ -83,7 +83,7 @@ pub record AreRunsFrom {N : Type 0} (number : N → ℕ) (most : ℕ) (offer : O
   pub few : size ≤ MOST_KEYS
   pub longer : AreMarksFrom number offer (size + 1) (marks number near)
 
--- a size below a bound that is no less than any number of owners' that is
-pub record IsLongestBelow {N : Type 0} (number : N → ℕ) (counts : List N) (bound size : ℕ) : Type 0 where
+-- no owner has more numbers than a size and fewer than a bound above it
+pub record HasNoneBetween {N : Type 0} (number : N → ℕ) (counts : List N) (bound size : ℕ) : Type 0 where
   pub below : size < bound
-  pub longest : (r : ℕ) → r < length counts → marks number counts r < bound → marks number counts r ≤ size
+  pub none : (r : ℕ) → r < length counts → marks number counts r < bound → marks number counts r ≤ size

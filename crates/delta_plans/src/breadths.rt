@@ -32,7 +32,7 @@ pub(crate) fn breadth<N: Number>(alloc: Global, offer: &Offer<N>) -> Result<Leve
     let mut near = Vec::from_slice(alloc, offer.low)?;
     let mut whole = 0;
     let mut left = offer.budget.amount();
-    'layers: loop {
+    loop {
         let next = one_more(alloc, offer, &near)?;
         let Some(rest) = offer.left_of(Scuttle, left, next.more, &near, &next.marks) else {
             return Ok(Level {

@@ -4,7 +4,7 @@ ghost use Rattle.std.specs.Prelude.{◌+◌, ◌<◌, ◌≤◌};
 ghost use Rattle.delta_plans.specs.Common.{MOST_KEYS, ScuttleDepth};
 ghost use Rattle.delta_plans.specs.Marked.{IsLevelOf};
 ghost use Rattle.delta_plans.specs.OfferInMemory.{marks, IfGranted, IsTooLarge};
-ghost use Rattle.delta_plans.specs.Plans.{AreRunsFrom, IsLongestBelow, IsMarkFrom, IsStep};
+ghost use Rattle.delta_plans.specs.Plans.{AreRunsFrom, HasNoneBetween, IsMarkFrom, IsStep};
 
 use crate::offers::{Level, Offer, Step};
 use bench_types::DigestKind::Scuttle;
@@ -16,11 +16,11 @@ use std::alloc::Global;
 /// Up to so many numbers there are most often owners with just as many.
 const SHORT: u32 = 8;
 
-// The longest run that is shorter than a bound, or 0 where there is none. Short ones aren't looked for.
-fn longest_below<N: Number>(counts: &[N], bound: u32) -> u32
+// A size below a bound, with no run between the two: that of the longest one below, or 0. Short ones aren't looked for.
+fn next_size_below<N: Number>(counts: &[N], bound: u32) -> u32
     requires some { 0 < bound }
     requires few { bound ≤ MOST_KEYS + 1 }
-    ensures { IsLongestBelow N.number counts.now bound result }
+    ensures { HasNoneBetween N.number counts.now bound result }
 {
     if bound <= SHORT {
         return bound - 1;
@@ -67,8 +67,8 @@ pub(crate) fn depth<N: Number>(alloc: Global, offer: &Offer<N>) -> Result<Level<
     let mut size = MOST_KEYS + 1;
     let mut whole = 0;
     let mut left = offer.budget.amount();
-    'runs: loop {
-        size = longest_below(&counts, size);
+    loop {
+        size = next_size_below(&counts, size);
         let next = next_runs(alloc, offer, &counts, &near, size)?;
         let Some(rest) = offer.left_of(Scuttle, left, next.more, &near, &next.marks) else {
             return Ok(Level {

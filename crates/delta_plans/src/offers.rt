@@ -1,8 +1,8 @@
 //! What is offered, as numbers of writes, what these weigh, and levels of them.
 
-ghost use Rattle.std.specs.Prelude.{◌≡◌, ◌+◌, ◌^◌, ◌*◌, ◌<◌, ◌≤◌, ◌↔◌, IsTrue, length, if◌then◌else◌};
+ghost use Rattle.std.specs.Prelude.{◌≡◌, ◌+◌, ◌*◌, ◌<◌, ◌≤◌, ◌↔◌, IsTrue, length};
 ghost use Rattle.delta_plans.specs.Common.{MOST_ENTRY_SIZE, amount_of, count_between};
-ghost use Rattle.delta_plans.specs.OfferInMemory.{cells_in, high_in, low_in, marks, weight_in, weights_in, AreCounted, HasMarks, HasOwner, IsLeftOf, IsOffer};
+ghost use Rattle.delta_plans.specs.OfferInMemory.{cells_in, count_in, high_in, low_in, marks, weight_in, weights_in, HasMarks, HasOwner, IsLeftOf, IsOffer};
 ghost use Rattle.delta_plans.specs.Weights.{weight_of};
 
 use crate::between::Between;
@@ -113,7 +113,8 @@ impl<'a, N: Number> Offer<'a, N> {
         low: &[N],
         high: &[N],
     ) -> Option<u32>
-        requires { AreCounted N.number N.most self.now count low.now high.now }
+        requires marks { HasMarks N.number N.most self.now low.now high.now }
+        requires count { count ≡ count_in N.number self.now (marks N.number low.now) (marks N.number high.now) }
         ensures { IsLeftOf room (weight_in N.number self.now (marks N.number low.now)
             (marks N.number high.now)) result }
     {

@@ -2,8 +2,8 @@
 
 ghost use Rattle.std.specs.Prelude.{◌≡◌, ◌+◌, ◌<◌, ◌≤◌, length, map, max, slice_index, Some};
 ghost use Rattle.bench_types.specs.Budget.{amount_of};
-ghost use Rattle.delta_plans.specs.Common.{all_writes, write_numbered};
-ghost use Rattle.delta_plans.specs.LevelMarks.{round_of};
+ghost use Rattle.delta_plans.specs.Common.{all_writes};
+ghost use Rattle.delta_plans.specs.LevelMarks.{round_in};
 ghost use Rattle.delta_plans.specs.OfferInMemory.{marks, IfGranted, IsLeftOf};
 ghost use Rattle.delta_plans.specs.Plans.{count_on, weight_on, IsLevelBy};
 ghost use Rattle.delta_plans.specs.RoundLevels.{AreRaised, AreRoundMarks, IsAsked, IsFound};
@@ -35,8 +35,8 @@ impl<'a, 'b, N: Number> Rounds<'a, 'b, N> {
     #[inline(never)]
     pub(crate) fn level(&self, alloc: Global) -> Result<Level<N>, Fault>
         requires { IsAsked N.number N.most self.now.offer.now self.now.ends }
-        ensures { IfGranted result (IsLevelBy self.now.first self.now.first (λ owner number. round_of (write_numbered
-            (all_writes self.now.offer.now.lists.now owner) number)) N.number self.now.offer.now) }
+        ensures { IfGranted result (IsLevelBy self.now.first self.now.first
+            (round_in (all_writes self.now.offer.now.lists.now)) N.number self.now.offer.now) }
     {
         let mut few = 0;
         let mut enough = self.ends.rounds;

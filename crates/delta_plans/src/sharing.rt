@@ -142,8 +142,8 @@ impl<'a, 'b, N: Number> Turns<'a, 'b, N> {
     }
 
     // Gives some owners in turn the far mark, from one on, if entries are counted and the parts of all fit.
-    fn pass_all(&self, counts: &[N], mark: &mut [N], at: usize, reached: &mut Reached) -> bool
-        requires turns { HaveTurns N.number N.most self.now mark.old reached.old at counts.now }
+    fn pass_all(&self, counts: &[N], mark: &mut [N], owner: usize, reached: &mut Reached) -> bool
+        requires turns { HaveTurns N.number N.most self.now mark.old reached.old owner counts.now }
         ensures reached { HasReached N.number self.now mark.new reached.new }
         ensures turn { reached.new.turn ≡ reached.old.turn + (if result then length counts.now else 0) }
     {
@@ -151,12 +151,12 @@ impl<'a, 'b, N: Number> Turns<'a, 'b, N> {
             Budget::Entries(_) => {}
             Budget::Bytes(_) => return false,
         }
-        let count = self.count_of_parts(counts, at);
+        let count = self.count_of_parts(counts, owner);
         if reached.left < count {
             return false;
         }
         for i in 0..counts.len() {
-            mark[at + i] = number_at(self.far, at + i);
+            mark[owner + i] = number_at(self.far, owner + i);
         }
         reached.turn += counts.len();
         reached.left -= count;
@@ -170,26 +170,26 @@ impl<'a, 'b, N: Number> Turns<'a, 'b, N> {
         &self,
         counts: &[N],
         mark: &mut [N],
-        at: usize,
+        owner: usize,
         reached: &mut Reached,
     ) -> Option<u32>
-        requires turns { HaveTurns N.number N.most self.now mark.old reached.old at counts.now }
+        requires turns { HaveTurns N.number N.most self.now mark.old reached.old owner counts.now }
         ensures reached { IfNone result (HasReached N.number self.now mark.new reached.new) }
         ensures turn { IfNone result (reached.new.turn ≡ reached.old.turn + length counts.now) }
         ensures shared { IfSome result (AreSharedBy N.number self.now mark.new) }
     {
         let mut passed = *reached;
         for i in 0..counts.len() {
-            let owner = at + i;
+            let here = owner + i;
             let count = number_at(counts, i).widen();
-            let weight = self.weight_of_part(owner, count);
+            let weight = self.weight_of_part(here, count);
             if passed.left < weight {
-                let near = number_at(self.near, owner);
-                let stop = self.stop_of(owner, passed.left);
-                mark[owner] = stop;
-                return Some(passed.sent + self.count_from(owner, near, stop));
+                let near = number_at(self.near, here);
+                let stop = self.stop_of(here, passed.left);
+                mark[here] = stop;
+                return Some(passed.sent + self.count_from(here, near, stop));
             }
-            mark[owner] = number_at(self.far, owner);
+            mark[here] = number_at(self.far, here);
             passed.turn += 1;
             passed.left -= weight;
             passed.sent += count;
@@ -231,9 +231,10 @@ impl<'a, 'b, N: Number> Turns<'a, 'b, N> {
             let size = MANY.min(nodes - owner.max(reached.turn));
             let parts = &mut counts[..size];
             self.count_parts(parts, owner);
-            if !self.pass_all(parts, mark, owner, &mut reached)
-                && let Some(sent) = self.pass_few(parts, mark, owner, &mut reached)
-            {
+            if self.pass_all(parts, mark, owner, &mut reached) {
+                continue;
+            }
+            if let Some(sent) = self.pass_few(parts, mark, owner, &mut reached) {
                 return sent;
             }
         }

@@ -3,32 +3,32 @@ use Rattle.delta_plans.proofs.LayerSteps.{layers-more, layers-next, layers-none,
 use Rattle.delta_plans.proofs.LevelSteps.{level-ends, level-few}
 use Rattle.delta_plans.proofs.breadths.breadth.Goals as goal
 
-pub layers-init : goal.layers-init
-layers-init g c = record { has = rw c.amount-left.ensures (layers-none c.requires.offer.is_offer c.in_ok-near.ensures.items) }
+pub loop-near-init : goal.loop-near-init
+loop-near-init g c = record { has = rw c.amount-left.ensures (layers-none c.requires.offer.is_offer c.in_ok-near.ensures.items) }
 
 pub returns-in_default : goal.returns-in_default
 returns-in_default g c =
     let is = c.requires.offer.is_offer in
-    let has = c.layers.invariant.has in
+    let has = c.loop-near.invariant.has in
     let layer = rw c.deref.ensures.value at c.in_ok-next.ensures.0 in
-    let told = rw (c.deref-in-layers.ensures.value, c.deref-in-layers-2.ensures.value, c.in_default.is) at c.left_of.ensures in
+    let told = rw (c.deref-in-loop-near.ensures.value, c.deref-in-loop-near-2.ensures.value, c.in_default.is) at c.left_of.ensures in
     (record { is_level = level-ends is has.so_far layer told; shape = level-of_layers is has layer }, tt)
 
 pub overflow_add-whole : goal.overflow_add-whole
 overflow_add-whole g c =
     let layer = rw c.deref.ensures.value at c.in_ok-next.ensures.0 in
-    omega (arith, level-few c.requires.offer.is_offer c.layers.invariant.has.so_far layer)
+    omega (arith, level-few c.requires.offer.is_offer c.loop-near.invariant.has.so_far layer)
 
-pub layers-smaller : goal.layers-smaller
-layers-smaller g c =
+pub loop-near-smaller : goal.loop-near-smaller
+loop-near-smaller g c =
     let is = c.requires.offer.is_offer in
-    let has = c.layers.invariant.has in
+    let has = c.loop-near.invariant.has in
     let layer = rw c.deref.ensures.value at c.in_ok-next.ensures.0 in
-    let fits = rw (c.deref-in-layers.ensures.value, c.deref-in-layers-2.ensures.value, c.in-Some.is) at c.left_of.ensures in
+    let fits = rw (c.deref-in-loop-near.ensures.value, c.deref-in-loop-near-2.ensures.value, c.in-Some.is) at c.left_of.ensures in
     omega (arith, layers-more is has layer fits c.requires.offer.beyond, level-few is has.so_far layer)
 
-pub layers-preserved : goal.layers-preserved
-layers-preserved g c =
+pub loop-near-preserved : goal.loop-near-preserved
+loop-near-preserved g c =
     let layer = rw c.deref.ensures.value at c.in_ok-next.ensures.0 in
-    let fits = rw (c.deref-in-layers.ensures.value, c.deref-in-layers-2.ensures.value, c.in-Some.is) at c.left_of.ensures in
-    record { has = layers-next c.requires.offer.is_offer c.layers.invariant.has layer fits }
+    let fits = rw (c.deref-in-loop-near.ensures.value, c.deref-in-loop-near-2.ensures.value, c.in-Some.is) at c.left_of.ensures in
+    record { has = layers-next c.requires.offer.is_offer c.loop-near.invariant.has layer fits }

@@ -1,5 +1,5 @@
-use Rattle.delta_plans.proofs.Common.{ap, ◌∙◌, by_first}
-use Rattle.delta_plans.proofs.MarkedLaws.{whole-marked, sent-found, share-marked}
+use Rattle.delta_plans.proofs.Common.{ap, ◌∙◌, arith, by_first}
+use Rattle.delta_plans.proofs.MarkedLaws.{share-marked, whole-marked}
 use Rattle.delta_plans.proofs.marked.planned.Goals as goal
 
 pub returns-then-fits-clause-marked : goal.returns-then-fits-clause-marked
@@ -11,8 +11,9 @@ returns-then-fits-clause-marked g c =
 
 pub overflow_sub-counts : goal.overflow_sub-counts
 overflow_sub-counts g c =
-    sent-found g.N.Number.number g.N.Number.most c.args.offer.now c.requires.offer c.args.rotation c.args.mode c.in_ok-level.ensures.0
-    c.in_ok-share.share.marks.items (rw (c.of-first.ensures, c.deref.ensures.value, c.deref-2.ensures.value) at c.in_ok-share.ensures.0.shared)
+    let is = share-marked g.N.Number.number g.N.Number.most c.args.offer.now c.requires.offer c.args.rotation c.args.mode c.in_ok-level.ensures.0
+    c.in_ok-share.share.marks.items (rw (c.of-first.ensures, c.deref.ensures.value, c.deref-2.ensures.value) at c.in_ok-share.ensures.0.shared) in
+    omega (arith, is.left, c.requires.offer.found)
 
 pub returns-clause-marked : goal.returns-clause-marked
 returns-clause-marked g c =

@@ -1,5 +1,5 @@
-use Rattle.delta_plans.proofs.Common.{get_or, arith, map, nat_tests, list_of_owner}
-use Rattle.delta_plans.proofs.Starts.{start-lower}
+use Rattle.delta_plans.proofs.Common.{◌≡◌, ◌<◌, get_or, sym, ap, ◌∙◌, arith, map, nat_tests, entries_of, list_of_owner, start_of}
+use Rattle.delta_plans.proofs.Starts.{start_own}
 use Rattle.delta_plans.proofs.told_marks.put_starts.Goals as goal
 
 pub returns-then-none_upto : goal.returns-then-none_upto
@@ -9,8 +9,11 @@ returns-then-none_upto g c =
     record {
       size = c.lower.ensures.least.size;
       each = λ r lt.
-          start-lower g.N.Number.most (list_of_owner c.args.owners.lists.now r) (get_or numbers r 0) (get_or bases r 0) _
-          (c.requires.each r (omega (arith, lt, c.requires.count)))
-          (λ some upto. let none = c.none_upto.ensures.0 c.if-none_upto.true r lt in grind (arith, nat_tests))
-          (c.lower.ensures.least.each r lt);
+          let writes = entries_of (list_of_owner c.args.owners.lists.now r) in
+          let known = c.requires.each r (omega (arith, lt, c.requires.count)) in
+          let behind : get_or bases r 0 < get_or numbers r 0 → start_of writes (get_or numbers r 0) ≡ get_or bases r 0 = λ over.
+          start_own (list_of_owner c.args.owners.lists.now r) _ known.writes (omega (arith, over, known.based)) known.within ∙ sym known.based in
+          let none : get_or numbers r 0 ≡ 0 → start_of writes (get_or numbers r 0) ≡ 0 = ap (start_of writes) in
+          let own = c.none_upto.ensures.0 c.if-none_upto.true r lt in
+          grind (arith, nat_tests, c.lower.ensures.least.each r lt, own, behind, none);
     }

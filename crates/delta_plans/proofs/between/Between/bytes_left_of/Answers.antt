@@ -1,5 +1,4 @@
-use Rattle.delta_plans.proofs.Common.{arith}
-use Rattle.delta_plans.specs.Between.{owner_weight}
+use Rattle.delta_plans.proofs.Common.{arith, owner_weight}
 use Rattle.delta_plans.proofs.WeightLaws.{sum_below-longer}
 use Rattle.delta_plans.proofs.between.Between.bytes_left_of.Goals as goal
 

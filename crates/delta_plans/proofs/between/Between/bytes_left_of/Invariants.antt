@@ -1,5 +1,4 @@
-use Rattle.delta_plans.proofs.Common.{◌≡◌, ◌+◌, ◌-◌, ◌≤◌, sum_below}
-use Rattle.delta_plans.specs.Between.{owner_weight}
+use Rattle.delta_plans.proofs.Common.{◌≡◌, ◌+◌, ◌-◌, ◌≤◌, sum_below, owner_weight}
 use Rattle.delta_plans.proofs.between.Between.bytes_left_of.Given as goal
 
 abbrev pub decreases-loop-first : goal.decreases-loop-first

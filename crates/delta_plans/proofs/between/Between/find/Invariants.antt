@@ -1,5 +1,5 @@
-use Rattle.delta_plans.proofs.Common.{◌≡◌, ℕ, ◌+◌, ◌<◌, ◌≤◌, true, false, get_or}
-use Rattle.delta_plans.specs.Between.{owner_count, AreFound}
+use Rattle.delta_plans.proofs.Common.{◌≡◌, ℕ, ◌+◌, ◌<◌, ◌≤◌, true, false, get_or, AreFound}
+use Rattle.delta_plans.specs.Between.{owner_count}
 use Rattle.delta_plans.proofs.between.Between.find.Given as goal
 
 abbrev pub invariant-loop-key : goal.invariant-loop-key

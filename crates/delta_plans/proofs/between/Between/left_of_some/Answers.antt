@@ -1,6 +1,5 @@
-use Rattle.delta_plans.proofs.Common.{suc, ◌+◌, ap, arith, cells_in, marks, sum_below, weights_in}
-use Rattle.delta_plans.specs.Between.{owner_weight}
-use Rattle.delta_plans.proofs.WeightLaws.{sum_below-longer, weight_of-uncounted}
+use Rattle.delta_plans.proofs.Common.{suc, ◌+◌, ap, arith, marks, sum_below, owner_weight}
+use Rattle.delta_plans.proofs.WeightLaws.{owner-most, sum_below-longer}
 use Rattle.delta_plans.proofs.between.Between.left_of_some.Goals as goal
 
 pub loop-owner-preserved : goal.loop-owner-preserved
@@ -15,10 +14,10 @@ loop-owner-preserved g c =
           let weight = rw (c.number_at-from.ensures, c.number_at-to.ensures) at w.weight_of-weight.ensures in
           record { left = omega (arith, next, weight, c.loop-owner.invariant.left, w.in_ok-left.ensures.0, w.in_ok-left.ensures.1, w.left-is) }
       | goal.else-has w ↦
-          let none = weight_of-uncounted (weights_in offer owner) (cells_in number offer) offer.grid.size.keys owner (marks number self.low.now owner)
-          (marks number self.high.now owner) (c.requires.passed owner c.number_at-from.result c.number_at-to.result c.loop-owner.auto.owner c.loop-owner-test.true
-          c.number_at-from.ensures c.number_at-to.ensures (rw w.if-has.false at c.has.ensures)) in
-          record { left = omega (arith, next, none, c.loop-owner.invariant.left, w.left-is) }
+          let most = owner-most number offer offer.grid.size.keys owner (marks number self.low.now owner) (marks number self.high.now owner) in
+          let none = c.requires.passed owner c.number_at-from.result c.number_at-to.result c.loop-owner.auto.owner c.loop-owner-test.true
+          c.number_at-from.ensures c.number_at-to.ensures (rw w.if-has.false at c.has.ensures) in
+          record { left = omega (arith, next, most, none, c.loop-owner.invariant.left, w.left-is) }
     ]
 
 pub returns-in_err-left : goal.returns-in_err-left

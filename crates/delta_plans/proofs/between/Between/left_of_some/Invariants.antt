@@ -1,5 +1,4 @@
-use Rattle.delta_plans.proofs.Common.{◌≡◌, ◌+◌, sum_below}
-use Rattle.delta_plans.specs.Between.{owner_weight}
+use Rattle.delta_plans.proofs.Common.{◌≡◌, ◌+◌, sum_below, owner_weight}
 use Rattle.delta_plans.proofs.between.Between.left_of_some.Given as goal
 
 abbrev pub invariant-loop-owner : goal.invariant-loop-owner

@@ -1,11 +1,7 @@
 use Rattle.delta_plans.proofs.rounds.Rounds.weighed.Goals as goal
 
-pub left_of-requires : goal.left_of-requires
-left_of-requires g c =
-    let is = c.requires.mark.is_asked.too_large.is_offer in
-    record { has_marks = record { is_offer = is; each_low = is.low; each_high = c.requires.mark.size }; counted = rw c.in-Oldest.is at c.requires.count }
+pub left_of-requires-clause-count : goal.left_of-requires-clause-count
+left_of-requires-clause-count g c = rw c.in-Oldest.is at c.requires.count
 
-pub left_of-requires-in-Newest : goal.left_of-requires-in-Newest
-left_of-requires-in-Newest g c =
-    let is = c.requires.mark.is_asked.too_large.is_offer in
-    record { has_marks = record { is_offer = is; each_low = c.requires.mark.size; each_high = is.high }; counted = rw c.in-Newest.is at c.requires.count }
+pub left_of-requires-in-Newest-clause-count : goal.left_of-requires-in-Newest-clause-count
+left_of-requires-in-Newest-clause-count g c = rw c.in-Newest.is at c.requires.count

@@ -7,7 +7,7 @@ pub loop-i-preserved : goal.loop-i-preserved
 loop-i-preserved g c =
     let have = c.requires.turns in
     let turns = c.args.self.now in
-    let owner = c.args.at in
+    let owner = c.args.owner in
     let i = c.loop-i.i in
     let lt = c.loop-i-test.true in
     let within : owner + i < turns.offer.now.grid.size.nodes = omega (arith, have.in_nodes, lt) in
@@ -21,5 +21,5 @@ loop-i-preserved g c =
 pub overflow_add-reached-2 : goal.overflow_add-reached-2
 overflow_add-reached-2 g c =
     let whole : c.loop-i.i ≡ length c.args.counts.now = omega (arith, c.loop-i-test.false, c.loop-i.auto.i-end) in
-    let all = ap (parts_count g.N.Number.number c.args.self.now c.args.at) whole in
+    let all = ap (parts_count g.N.Number.number c.args.self.now c.args.owner) whole in
     omega (arith, all, c.count_of_parts-count.ensures, turns-few c.requires.turns.are c.loop-i.invariant)

@@ -1,12 +1,12 @@
-use Rattle.delta_plans.proofs.Common.{◌+◌, ◌<◌, ◌∙◌, arith}
-use Rattle.delta_plans.proofs.TurnSteps.{from-few, part-few, part-is, turn-next, turns-few, turns-next, turns-shared}
+use Rattle.delta_plans.proofs.Common.{◌+◌, ◌<◌, ◌≤◌, ◌∙◌, arith, MOST_KEYS, part_weight}
+use Rattle.delta_plans.proofs.TurnSteps.{from-few, part-is, turn-next, turns-few, turns-next, turns-shared}
 use Rattle.delta_plans.proofs.sharing.Turns.pass_few.Goals as goal
 
 pub loop-i-preserved : goal.loop-i-preserved
 loop-i-preserved g c =
     let have = c.requires.turns in
     let lt = c.loop-i-test.true in
-    let within : c.args.at + c.loop-i.i < c.args.self.now.offer.now.grid.size.nodes = omega (arith, have.in_nodes, lt) in
+    let within : c.args.owner + c.loop-i.i < c.args.self.now.offer.now.grid.size.nodes = omega (arith, have.in_nodes, lt) in
     record {
       so_far = turns-next have.are c.loop-i.invariant.so_far within (turn-next have c.loop-i.i lt ∙ omega (arith, c.loop-i.invariant.turn))
           c.number_at-in-loop-i.result c.if-passed-weight.false c.weight_of_part-weight.ensures
@@ -18,16 +18,17 @@ pub overflow_add-passed-in-loop-i : goal.overflow_add-passed-in-loop-i
 overflow_add-passed-in-loop-i g c =
     let are = c.requires.turns.are in
     let count = part-is c.requires.turns c.loop-i.i c.loop-i-test.true c.number_at.ensures c.widen-count.ensures in
-    omega (arith, count, part-few are (c.args.at + c.loop-i.i), turns-few are c.loop-i.invariant.so_far)
+    let few : part_weight g.N.Number.number (λ _. 1) c.args.self.now (c.args.owner + c.loop-i.i) ≤ MOST_KEYS = from-few are _ _ _ in
+    omega (arith, count, few, turns-few are c.loop-i.invariant.so_far)
 
 pub overflow_add-result : goal.overflow_add-result
 overflow_add-result g c =
-    let few = from-few c.requires.turns.are (c.args.at + c.loop-i.i) (g.N.Number.number c.number_at-near.result) (g.N.Number.number c.stop_of-stop.result) in
+    let few = from-few c.requires.turns.are (c.args.owner + c.loop-i.i) (g.N.Number.number c.number_at-near.result) (g.N.Number.number c.stop_of-stop.result) in
     omega (arith, c.count_from.ensures, few, turns-few c.requires.turns.are c.loop-i.invariant.so_far)
 
 pub returns-then-passed-weight-clause-shared : goal.returns-then-passed-weight-clause-shared
 returns-then-passed-weight-clause-shared g c =
     let have = c.requires.turns in
-    let within : c.args.at + c.loop-i.i < c.args.self.now.offer.now.grid.size.nodes = omega (arith, have.in_nodes, c.loop-i-test.true) in
+    let within : c.args.owner + c.loop-i.i < c.args.self.now.offer.now.grid.size.nodes = omega (arith, have.in_nodes, c.loop-i-test.true) in
     turns-shared have.are c.loop-i.invariant.so_far within (turn-next have c.loop-i.i c.loop-i-test.true ∙ omega (arith, c.loop-i.invariant.turn))
     c.stop_of-stop.result c.stop_of-stop.ensures (rw c.number_at-near.ensures at c.count_from.ensures)

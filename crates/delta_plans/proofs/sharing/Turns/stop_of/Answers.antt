@@ -7,7 +7,7 @@ loop-middle-init g c =
     let near : c.widen-fits.result ≡ marks g.N.Number.number c.args.self.now.near.now c.args.owner = omega (arith, c.number_at.ensures) in
     let far : c.widen-beyond.result ≡ marks g.N.Number.number c.args.self.now.far.now c.args.owner = omega (arith, c.number_at-2.ensures) in
     record {
-      so_far = rw (near, far) (stop-first c.args.self.now.first (c.requires.turns.level.farther c.args.owner c.requires.owner).2 c.requires.beyond);
+      so_far = rw (near, far) (stop-first c.args.self.now.first (c.requires.turns.level.farther c.args.owner c.requires.owner).1 c.requires.beyond);
       fits = omega (arith, c.widen-fits.ensures, c.min_with.ensures, c.greatest-most.ensures);
       beyond = omega (arith, c.widen-beyond.ensures, c.min_with-2.ensures, c.greatest-most.ensures);
     }

@@ -1,5 +1,5 @@
 use Rattle.delta_plans.proofs.Common.{◌<◌, ◌≤◌, arith, nat_tests, below_more, number-at, marks}
-use Rattle.delta_plans.proofs.depths.longest_below.Goals as goal
+use Rattle.delta_plans.proofs.depths.next_size_below.Goals as goal
 
 pub loop-r-preserved : goal.loop-r-preserved
 loop-r-preserved g c =
@@ -10,6 +10,6 @@ loop-r-preserved g c =
     grind (arith, nat_tests, here, c.is_upto.ensures, c.narrow-last.ensures, c.pick.ensures, c.zero.ensures, c.max_with-longest.ensures, c.loop-r.invariant.below) in
     record {
       below = next.0;
-      longest = below_more (λ k. marks number counts k < c.args.bound → marks number counts k ≤ number c.max_with-longest.result) c.loop-r.r
-          (λ r lt less. omega (arith, c.loop-r.invariant.longest r lt less, c.max_with-longest.ensures)) next.1;
+      none = below_more (λ k. marks number counts k < c.args.bound → marks number counts k ≤ number c.max_with-longest.result) c.loop-r.r
+          (λ r lt less. omega (arith, c.loop-r.invariant.none r lt less, c.max_with-longest.ensures)) next.1;
     }

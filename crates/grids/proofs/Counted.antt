@@ -1,6 +1,6 @@
 -- Planes of which some places are counted.
 -- Serves the functions of `counts`, `grids`, `lags` and `merges`.
-use Rattle.grids.proofs.Common.{◌≡◌, ℕ, AreChangedUpto, AnswersBy, Made, AreCounted, IsCounted, refl, count_same, subst, ◌+◌, ◌*◌, ◌<◌, ◌≤◌, Bool, cond, nat_tests, List, length, get_or, map, take, drop, nat_lt, max, sym, ◌∙◌, ap, arith, length-map, put_mid, sum_below, cell, number_ahead, total_above, total_of, IsGrid, ArePlanesChangedUpto, ArePlanesChanged, AreCountedUpto, AreRaisedUpto, number_raised, count_passing, HasNoOtherMark, HasEachPlace, HasNoneUptoMark, number_kept, cases_eq, inl, inr, changed_all, sum_next, plane-cells, plane_count, planes-all, planes-written, block-cells, plane-within, total-places, total-same, total_whole}
+use Rattle.grids.proofs.Common.{◌≡◌, ℕ, AreChangedUpto, AnswersBy, Made, AreCounted, IsCounted, refl, count_same, subst, ◌+◌, ◌*◌, ◌<◌, ◌≤◌, Bool, cond, nat_tests, List, length, get_or, map, take, drop, nat_lt, max, sym, ◌∙◌, ap, arith, length-map, put_mid, sum_below, cell, number_ahead, total_above, total_of, IsGrid, ArePlanesChangedUpto, ArePlanesChanged, AreCountedUpto, AreRaisedUpto, number_raised, count_passing, HasNoOtherMark, HasEachPlace, HasNoneUptoMark, number_kept, changed_all, sum_next, plane-cells, plane_count, planes-all, planes-written, block-cells, plane-within, total-places, total-same, total_whole}
 
 -- numbers that calls change and count: none, and a part behind another one
 module _ {N : Type 0} (number : N → ℕ) (makes : ℕ → N → Made N → Type 0) where
@@ -130,11 +130,6 @@ masked-once nodes keys own mark cells peer low new count size none is_mark none_
     each : (r k : ℕ) → r < nodes → k < keys → cell new nodes r k ≡ number_ahead (cells r k) (peer r k) (get_or low r 0)
     each r k in_nodes in_keys =
         let now = kept.each r k in_nodes in_keys in
-        elim (cases_eq r own) [
-          | inl same ↦
-              let upto = none_upto k in_keys in
-              let there = ap (λ o. cell new nodes o k) same in
-              let low_there = ap (λ o. get_or low o 0) same in
-              grind (arith, nat_tests)
-          | inr other ↦ let zero_here = none r (omega (arith, in_nodes, size)) other in grind (arith, nat_tests)
-        ]
+        let upto = none_upto k in_keys in
+        let other = none r (omega (arith, in_nodes, size)) in
+        grind (arith, nat_tests)

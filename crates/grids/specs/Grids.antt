@@ -1,17 +1,6 @@
 -- What loops over all planes of a table do to its numbers. Source: this project.
 use Rattle.std.specs.Prelude.{◌≡◌, ℕ, ◌<◌, ◌≤◌, ◌==◌, List, length, map, max, nat_lt, slice_index, if◌then◌else◌}
-use Rattle.bench_types.specs.declared.limits.TheConstants.{MOST_KEYS, MOST_NODES}
-use Rattle.planes.specs.declared.sizes.Grid.{Grid}
-use Rattle.planes.specs.declared.sizes.Size.{Size}
-use Rattle.planes.specs.Elementwise.{AreChanged}
-use Rattle.planes.specs.Grids.{cells_in, HasMarkOfEach}
-use Rattle.planes.specs.Loops.{count_passing}
-use Rattle.planes.specs.Planes.{cell, most_ahead, number_ahead, number_raised, number_taken, total_above, AreCovered, AreRaised, ArePlanesChanged, HasEachPlace, IsGrid}
-use Rattle.grids.specs.declared.grids.Masked.{Masked}
-use Rattle.grids.specs.declared.grids.Peer.{Peer}
-use Rattle.grids.specs.declared.grids.Sent.{Sent}
-use Rattle.grids.specs.declared.merges.BothCounts.{BothCounts}
-use Rattle.grids.specs.declared.merges.BothMarks.{BothMarks}
+use Rattle.grids.specs.Common.{MOST_KEYS, MOST_NODES, Grid, Size, AreChanged, cells_in, HasMarkOfEach, count_passing, cell, most_ahead, number_ahead, number_raised, number_taken, total_above, AreCovered, AreRaised, ArePlanesChanged, HasEachPlace, IsGrid, Masked, Peer, Sent, BothCounts, BothMarks}
 
 -- numbers, as many as a table of a size has
 pub record IsBeside {N : Type 0} (grid : Grid N) (others : List N) : Type 0 where

@@ -1,8 +1,6 @@
 -- Numbers compared with the last ones. Source: this project.
 use Rattle.std.specs.Prelude.{◌≡◌, ◌⊎◌, ℕ, ◌<◌, ◌≤◌, List, length, map, min, nat_lt}
-use Rattle.planes.specs.declared.sizes.Grid.{Grid}
-use Rattle.planes.specs.Grids.{cells_in}
-use Rattle.planes.specs.Planes.{cell, total_of, ArePlanesChanged, Cells}
+use Rattle.grids.specs.Common.{Grid, cells_in, cell, total_of, ArePlanesChanged, Cells}
 use Rattle.grids.specs.Grids.{IsBeside}
 
 -- the least of an owner's numbers that are below the last ones, or the most where none is

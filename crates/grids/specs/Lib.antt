@@ -1,3 +1,4 @@
+pub mod Common
 pub mod Grids
 pub mod Lags
 pub mod inner

@@ -1,8 +1,7 @@
 //! Loops over one plane, or all planes as one, that count.
 
 ghost use Rattle.std.specs.Prelude.{ℕ, ◌*◌, ◌<◌, ◌≤◌, length};
-ghost use Rattle.bench_types.specs.declared.limits.TheConstants.{MOST_KEYS, MOST_NODES};
-ghost use Rattle.planes.specs.Loops.{IsPart};
+ghost use Rattle.grids.specs.Common.{MOST_KEYS, MOST_NODES, IsPart};
 ghost use Rattle.grids.specs.inner.Loops.{AreCounted};
 
 use planes::Number;

@@ -2,11 +2,8 @@
 //! (`OutOfMemory`).
 
 ghost use Rattle.std.specs.Prelude.{◌≡◌, ◌<◌, ◌≤◌, ◌↔◌, IsTrue, length, map, max, nat_lt, slice_index, IfOk, IsOkUnless};
-ghost use Rattle.bench_types.specs.declared.faults.Fault.TheVariants.{OutOfMemory};
-ghost use Rattle.planes.specs.Grids.{IsGridOf};
-ghost use Rattle.planes.specs.Planes.{cell, number_ahead, HasEach};
+ghost use Rattle.grids.specs.Common.{OutOfMemory, IsGridOf, cell, number_ahead, HasEach, MOST_NODES};
 ghost use Rattle.grids.specs.Grids.{number_kept, AreSentTaken, HasColumn, HasPeer, IsAhead, IsOwnerKept, MayTake};
-ghost use Rattle.bench_types.specs.declared.limits.TheConstants.{MOST_NODES};
 ghost use Rattle.grids.specs.inner.Loops.{IsPlaneTaken, MayTakePlane};
 ghost use Rattle.grids.specs.inner.Masks.{AreAbovePeer, HasNoneUptoMark, HasNoOtherMark};
 

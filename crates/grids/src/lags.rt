@@ -1,11 +1,9 @@
 //! Loops over all planes of a table that compare its numbers with the last ones.
 
 ghost use Rattle.std.specs.Prelude.{map, IfOk, IsOkUnless};
-ghost use Rattle.bench_types.specs.declared.faults.Fault.TheVariants.{OutOfMemory};
+ghost use Rattle.grids.specs.Common.{OutOfMemory, cells_in, cell, HasEach};
 ghost use Rattle.grids.specs.Grids.{IsBeside};
 ghost use Rattle.grids.specs.Lags.{AreLoweredCounting, HasLast, IsLeastBehind};
-ghost use Rattle.planes.specs.Grids.{cells_in};
-ghost use Rattle.planes.specs.Planes.{cell, HasEach};
 
 use crate::counts::change_counting;
 use bench_types::Fault;

@@ -1,9 +1,8 @@
 //! Two tables that take of each other all that is above their marks, both ways in one pass.
 
 ghost use Rattle.std.specs.Prelude.{◌≡◌, ◌≤◌, length};
-ghost use Rattle.bench_types.specs.declared.limits.TheConstants.{MOST_NODES};
+ghost use Rattle.grids.specs.Common.{MOST_NODES, IsPart};
 ghost use Rattle.grids.specs.Grids.{AreBothCovered, AreBothGreatest, AreBothRaised, AreMostAhead, AreRaisedToOther};
-ghost use Rattle.planes.specs.Loops.{IsPart};
 ghost use Rattle.grids.specs.inner.Loops.{AreBothMarked, ArePartMerged, ArePlanesMerged};
 
 use crate::owners;

@@ -2,7 +2,7 @@
 //! another, and are passed over.
 
 ghost use Rattle.std.specs.Prelude.{◌≡◌, ◌<◌, length, map};
-ghost use Rattle.planes.specs.Planes.{cell, HasNoneAbove};
+ghost use Rattle.grids.specs.Common.{cell, HasNoneAbove};
 ghost use Rattle.grids.specs.Grids.{AreBothCovered, AreBothRaised, AreSentTaken, IsBeside, MayTake};
 ghost use Rattle.grids.specs.inner.Owners.{HasRaisedOwner, HasTakenOwner};
 

@@ -1,12 +1,7 @@
 -- What loops over one plane make of it, and what they ask. Source: this project.
 use Rattle.std.specs.Prelude.{◌≡◌, ℕ, ◌+◌, ◌*◌, ◌<◌, ◌≤◌, nat_lt, Bool, List, length, map, max, slice_index}
-use Rattle.planes.specs.Elementwise.{AreChanged, AreChangedUpto}
-use Rattle.planes.specs.Loops.{count_passing, AreCountedUpto}
-use Rattle.planes.specs.Planes.{number_raised}
+use Rattle.grids.specs.Common.{AreChanged, AreChangedUpto, count_passing, AreCountedUpto, number_raised, Sent, BothCounts, BothMarks}
 use Rattle.grids.specs.Grids.{taken_by}
-use Rattle.grids.specs.declared.grids.Sent.{Sent}
-use Rattle.grids.specs.declared.merges.BothCounts.{BothCounts}
-use Rattle.grids.specs.declared.merges.BothMarks.{BothMarks}
 
 -- what a call makes of a number, and its answers to two questions
 abbrev pub Made : Type 0 → Type 0

@@ -1,10 +1,7 @@
 -- Numbers of which those are kept that are ahead of a peer's. Source: this project.
 use Rattle.std.specs.Prelude.{◌≡◌, ◌≢◌, ℕ, ◌<◌, ◌&&◌, false, nat_le, nat_lt, List, length, map, slice_index}
-use Rattle.planes.specs.declared.sizes.Grid.{Grid}
-use Rattle.planes.specs.Grids.{cells_in}
-use Rattle.planes.specs.Planes.{cell, total_of, Cells, HasEachPlace}
+use Rattle.grids.specs.Common.{Grid, cells_in, cell, total_of, Cells, HasEachPlace, Masked}
 use Rattle.grids.specs.Grids.{count_held, number_kept}
-use Rattle.grids.specs.declared.grids.Masked.{Masked}
 
 -- no owner but one has a mark above 0
 abbrev pub HasNoOtherMark : List ℕ → ℕ → Type 0

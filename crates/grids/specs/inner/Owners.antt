@@ -1,7 +1,6 @@
 -- One owner's numbers, key by key. Source: this project.
 use Rattle.std.specs.Prelude.{◌≡◌, ℕ, ◌≤◌, ◌==◌, List, map, if◌then◌else◌}
-use Rattle.planes.specs.Planes.{cell, count_above, number_raised, ArePlanesChanged, IsRaised}
-use Rattle.grids.specs.declared.grids.Sent.{Sent}
+use Rattle.grids.specs.Common.{cell, count_above, number_raised, ArePlanesChanged, IsRaised, Sent}
 use Rattle.grids.specs.Grids.{taken_by}
 
 -- an owner's numbers once they were raised to those of another table that are above a mark, and so many are

@@ -1,5 +1,4 @@
-use Rattle.grids.proofs.Common.{◌-◌, ◌≤◌, length}
-use Rattle.grids.specs.inner.Loops.{AreCounted}
+use Rattle.grids.proofs.Common.{◌-◌, ◌≤◌, length, AreCounted}
 use Rattle.grids.proofs.counts.change_counting.Given as goal
 
 abbrev pub invariant-loop-numbers : goal.invariant-loop-numbers

@@ -1,5 +1,4 @@
-use Rattle.grids.proofs.Common.{◌+◌, ◌*◌, arith, rules, sym, ◌∙◌, ap, length-map, get_or-map, plane-within}
-use Rattle.grids.specs.Grids.{number_kept}
+use Rattle.grids.proofs.Common.{◌+◌, ◌*◌, arith, rules, sym, ◌∙◌, ap, length-map, get_or-map, plane-within, number_kept}
 use Rattle.grids.proofs.ByOwner.{owner-next}
 use Rattle.grids.proofs.grids.drop_owner.Goals as goal
 

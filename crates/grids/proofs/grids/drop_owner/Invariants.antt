@@ -1,5 +1,4 @@
-use Rattle.grids.proofs.Common.{map, ArePlanesChangedUpto}
-use Rattle.grids.specs.Grids.{number_kept}
+use Rattle.grids.proofs.Common.{map, ArePlanesChangedUpto, number_kept}
 use Rattle.grids.proofs.ByOwner.{owner_changed}
 use Rattle.grids.proofs.grids.drop_owner.Given as goal
 

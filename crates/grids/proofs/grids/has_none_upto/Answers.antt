@@ -1,6 +1,4 @@
-use Rattle.grids.proofs.Common.{◌≡◌, ◌+◌, ◌*◌, ◌<◌, ◌&&◌, false, nat_le, nat_lt, refl, sym, ◌∙◌, arith, length, map, below_more, cell}
-use Rattle.planes.proofs.Elementwise.{number-at}
-use Rattle.planes.proofs.Places.{plane-within}
+use Rattle.grids.proofs.Common.{◌≡◌, ◌+◌, ◌*◌, ◌&&◌, false, nat_le, nat_lt, refl, sym, ◌∙◌, arith, map, below_more, cell, number-at, plane-within}
 use Rattle.grids.proofs.grids.has_none_upto.Goals as goal
 
 pub loop-key-preserved : goal.loop-key-preserved
@@ -9,9 +7,8 @@ loop-key-preserved g c =
     let nodes = c.args.size.nodes in
     let key = c.loop-key.key in
     let mark = number c.args.mark in
-    let within = plane-within nodes c.args.size.keys (length c.args.cells.now) key c.requires.grid c.loop-key-test.true in
-    let inside : key * nodes + c.args.owner < length c.args.cells.now = omega (arith, within, c.requires.among) in
-    let at = number-at number c.args.cells.now (key * nodes + c.args.owner) c.index-cells-key.result inside c.index-cells-key.is in
+    let within = plane-within _ _ _ key c.requires.grid c.loop-key-test.true in
+    let at = number-at number c.args.cells.now (key * nodes + c.args.owner) c.index-cells-key.result (omega arith) c.index-cells-key.is in
     let cells = cell (map number c.args.cells.now) nodes c.args.owner in
     below_more (λ k. (nat_lt 0 (cells k) && nat_le (cells k) mark) ≡ false) key c.loop-key.invariant
     (sym (c.is_between.ensures ∙ (λ i. nat_lt (c.zero.ensures i) (at i) && nat_le (at i) mark)) ∙ c.if-is_between.false)

@@ -1,5 +1,4 @@
-use Rattle.grids.proofs.Common.{◌≡◌, ℕ, ◌-◌, replicate, sym, ap, ◌∙◌, arith, map, get_or-map, get_or-replicate, length-map, length-replicate, map-append, take_all}
-use Rattle.std.specs.Vec.{vec_len}
+use Rattle.grids.proofs.Common.{◌≡◌, ℕ, ◌-◌, replicate, sym, ap, ◌∙◌, arith, map, get_or-map, get_or-replicate, length-map, length-replicate, map-append, take_all, vec_len}
 use Rattle.std.proofs.lemmas.List.Elements.{All-append}
 use Rattle.grids.proofs.grids.zeros.Goals as goal
 

@@ -1,5 +1,4 @@
-use Rattle.grids.proofs.Common.{◌≡◌, ◌-◌, ◌≤◌, length, map}
-use Rattle.std.specs.Prelude.{All}
+use Rattle.grids.proofs.Common.{◌≡◌, ◌-◌, ◌≤◌, length, map, All}
 use Rattle.grids.proofs.grids.zeros.Given as goal
 
 abbrev pub invariant-loop-filled : goal.invariant-loop-filled

@@ -1,5 +1,4 @@
-use Rattle.grids.proofs.Common.{◌≡◌, ◌+◌, ◌*◌, ◌-◌, ◌≤◌, length, map, MOST_KEYS}
-use Rattle.planes.specs.Planes.{most_ahead}
+use Rattle.grids.proofs.Common.{◌≡◌, ◌+◌, ◌*◌, ◌-◌, ◌≤◌, length, map, MOST_KEYS, most_ahead}
 use Rattle.grids.proofs.merges.most_ahead.Given as goal
 
 abbrev pub invariant-loop-from : goal.invariant-loop-from

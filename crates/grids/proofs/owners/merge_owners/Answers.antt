@@ -1,5 +1,4 @@
-use Rattle.grids.proofs.Common.{sym, ◌∙◌, arith, ltb-false, ltb-true, number-at}
-use Rattle.planes.proofs.Counts.{sum_whole}
+use Rattle.grids.proofs.Common.{sym, ◌∙◌, arith, ltb-false, ltb-true, number-at, sum_whole}
 use Rattle.grids.proofs.ByOwner.{come-next, come-passed, owners-all}
 use Rattle.grids.proofs.owners.merge_owners.Goals as goal
 use Rattle.grids.proofs.owners.merge_owners.Goals.{then-is_above, else-is_above+then-is_above-2, else-is_above+else-is_above-2}

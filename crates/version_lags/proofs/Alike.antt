@@ -1,15 +1,12 @@
 -- What is counted of tables doesn't depend on where their numbers lie.
 -- Serves `version_tables`.
-use Rattle.std.proofs.Math.Nat.{div-lt_iff_lt-mul}
-use Rattle.std.proofs.lemmas.List.{ext_get_or}
-use Rattle.version_lags.proofs.Common.{◌≡◌, ℕ, zero, suc, ◌+◌, ◌*◌, ◌/◌, ◌%◌, ◌<◌, ◌≤◌, List, length, map, slice_index, inl, inr, sym, ◌∙◌, subst, arith, cases_lt, cell, Table, OwnerListView, list_of_owner, HistoriesView, IsLastNumber, RoundNumbers, histories_of, numbers_in, numbers_seen, AreNumbersOf, AreRoundNumbers, CountsPiece}
+use Rattle.version_lags.proofs.Common.{◌≡◌, ℕ, zero, suc, ◌+◌, ◌*◌, ◌/◌, ◌%◌, ◌<◌, ◌≤◌, List, length, map, slice_index, sym, ◌∙◌, subst, arith, cell, Table, OwnerListView, IsLastNumber, RoundNumbers, histories_of, numbers_in, numbers_seen, AreNumbersOf, AreRoundNumbers, CountsPiece, div-lt_iff_lt-mul, ext_get_or}
 
 -- a key has one last number
 last-upto : (v : OwnerListView) (key m n : ℕ) → IsLastNumber v key m → IsLastNumber v key n → n ≤ m
-last-upto v key m n one two = elim (cases_lt m n) [
-  | inl before ↦ absurd (one.last n (two.there m before).0 (two.there m before).1)
-  | inr upto ↦ upto
-]
+last-upto v key m n one two =
+    let below = λ (before : m < n). one.last n (two.there m before).0 (two.there m before).1 in
+    grind arith
 
 -- planes are alike where all of their places are
 places-alike : (nodes keys : ℕ) (xs ys : List ℕ) → length xs ≡ keys * nodes → length ys ≡ keys * nodes
@@ -20,26 +17,20 @@ places-alike (suc n) keys xs ys one other each = ext_get_or 0 xs ys (one ∙ sym
     let same : i / suc n * suc n + i % suc n ≡ i = omega arith in
     subst (λ j. slice_index xs j ≡ slice_index ys j) same (each (i % suc n) (i / suc n) (omega arith) ((div-lt_iff_lt-mul some).1 (omega arith))))
 
--- what is counted beside tables is alike
-alike : (tables : List Table) (h : HistoriesView) (cells cells' : List (List ℕ)) (bases last bases' last' : List ℕ)
-    → AreNumbersOf tables h cells bases last → AreNumbersOf tables h cells' bases' last' → (bases ≡ bases') × (last ≡ last')
-alike tables h cells cells' bases last bases' last' one two = (
-  ext_get_or 0 bases bases' (one.based.size ∙ sym two.based.size) (λ r lt. one.based.each r (omega arith) ∙ sym (two.based.each r (omega arith))),
-  places-alike (length h.lists) h.keys last last' one.lasts.size two.lasts.size (λ r k in_r in_k.
-      let first = one.lasts.each r k in_r in_k in
-      let second = two.lasts.each r k in_r in_k in
-      let v = list_of_owner h.lists r in
-      omega (arith, last-upto v k _ _ first second, last-upto v k _ _ second first)),
-)
-
 module _ {N : Type 0} (number : N → ℕ) (most : ℕ) (tables : List Table) (a b : RoundNumbers N)
     (of_a : AreRoundNumbers number most a tables) (of_b : AreRoundNumbers number most b tables)
     (same : histories_of a ≡ histories_of b) (cells : numbers_in number a.cells.now ≡ numbers_in number b.cells.now) where
   pub counts-alike : (from to stale leftover : ℕ) (least : List ℕ) → CountsPiece (numbers_seen number a) from to stale leftover least
       → CountsPiece (numbers_seen number b) from to stale leftover least
   counts-alike from to stale leftover least =
-      let both = alike tables (histories_of b) _ _ _ _ _ _
-      (subst (λ h. AreNumbersOf tables h (numbers_in number a.cells.now) (map number a.bases.now) (map number a.last.now)) same of_a.are) of_b.are in
+      let one = subst (λ h. AreNumbersOf tables h (numbers_in number a.cells.now) (map number a.bases.now) (map number a.last.now)) same of_a.are in
+      let two = of_b.are in
+      let bases = ext_get_or 0 _ _ (one.based.size ∙ sym two.based.size)
+      (λ r lt. one.based.each r (omega arith) ∙ sym (two.based.each r (omega arith))) in
+      let last = places-alike _ _ _ _ one.lasts.size two.lasts.size (λ r k in_r in_k.
+      let first = one.lasts.each r k in_r in_k in
+      let second = two.lasts.each r k in_r in_k in
+      omega (arith, last-upto _ k _ _ first second, last-upto _ k _ _ second first)) in
       let seen : numbers_seen number a ≡ numbers_seen number b =
-      λ i. record { nodes = length (same i).lists; keys = (same i).keys; tables = cells i; bases = both.0 i; last = both.1 i } in
+      λ i. record { nodes = length (same i).lists; keys = (same i).keys; tables = cells i; bases = bases i; last = last i } in
       subst (λ v. CountsPiece v from to stale leftover least) seen

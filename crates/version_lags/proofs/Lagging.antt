@@ -1,6 +1,6 @@
 -- How long copies have been behind, by the numbers that they hold: the least number has been longest.
 -- Serves `Pieces`, `Walks` and `Whole`.
-use Rattle.version_lags.proofs.Common.{◌≡◌, ℕ, zero, suc, ◌+◌, ◌-◌, ◌<◌, ◌≤◌, min, max, ◌&&◌, List, length, get_or, Some, None, if◌then◌else◌, option_map, inl, inr, refl, sym, ap, ◌∙◌, arith, nat_lt, nat_le, cases_lt, lt-ltb, le-ltb, le-leb, lt-leb, reverse, is_write_of, position_or_len, find_at, find_passes, fails_before_first, slice_get-get_or, both_ways, eq-eqb, eqb-true, get_or-reverse, length-reverse, length-map, get_or_append_left, same_Some, get_or-map, Entry, Table, entry_at, IsProper, Write, write_of_entry, last_write, OwnerListView, entries_of, written, AreWrites, write_numbered, BirthsRise, StandsBeside, is_left_over, most_below, stale_count, rounds_behind, numbered-placed, numbered-some, base_of, number_staleness, IsMissed, IsLastNumber, least_below}
+use Rattle.version_lags.proofs.Common.{◌≡◌, ℕ, zero, suc, ◌+◌, ◌-◌, ◌<◌, ◌≤◌, min, max, ◌&&◌, List, length, get_or, Some, None, if◌then◌else◌, option_map, inl, inr, refl, sym, ap, ◌∙◌, arith, nat_lt, nat_le, nat_tests, reverse, is_write_of, position_or_len, find_at, find_passes, fails_before_first, slice_get-get_or, eq-eqb, eqb-true, get_or-reverse, length-reverse, length-map, get_or_append_left, same_Some, get_or-map, Entry, Table, entry_at, IsProper, Write, write_of_entry, last_write, OwnerListView, entries_of, written, AreWrites, write_numbered, BirthsRise, StandsBeside, is_left_over, most_below, stale_count, rounds_behind, numbered-placed, numbered-some, base_of, number_staleness, IsMissed, IsLastNumber, least_below}
 use Rattle.version_lags.proofs.Missed.{numbers-born, current-numbered, missed_cases}
 
 module _ (v : OwnerListView) (are : AreWrites v) where
@@ -25,12 +25,11 @@ module _ (v : OwnerListView) (are : AreWrites v) where
     -- a copy is stale just where its number is below the last one
     pub stale_by_number : (last c : ℕ) → IsLastNumber v key last → c ≤ length all
         → stale_count (number_staleness round v key c) ≡ (if nat_lt c last then 1 else 0)
-    stale_by_number last c is within = elim (cases_lt c last) [
-      | inl below ↦ rw (lt-ltb c last below) (elim (missed_cases v are rise key c within round) [
-        | inl none ↦ let there = is.there c below in absurd (none.0 last there.0 there.1)
-        | inr found ↦ ap stale_count found.staleness
-      ])
-      | inr not_below ↦ rw (le-ltb c last not_below) (ap stale_count (last_fresh last c is not_below within))
+    stale_by_number last c is within = elim (missed_cases v are rise key c within round) [
+      | inl none ↦ let upto = λ (below : c < last). none.0 last (is.there c below).0 (is.there c below).1 in rw none.1 (grind (arith, nat_tests))
+      | inr found ↦
+          let below = λ (le : last ≤ c). is.last found.number found.e (missed-of c last _ _ found.missed le) in
+          rw found.staleness (grind (arith, nat_tests))
     ]
 
     -- no longer than since any write that may be missed, and as long as since each that is
@@ -53,10 +52,10 @@ module _ (v : OwnerListView) (are : AreWrites v) where
 
     -- so the lesser of two has been longest
     lag-least : (c d : ℕ) → c ≤ length all → d ≤ length all → max (lag c) (lag d) ≡ lag (min c d)
-    lag-least c d in_c in_d = elim (cases_lt c d) [
-      | inl lt ↦ let is : min c d ≡ c = omega arith in omega (arith, lag-falls c d (omega arith) in_d, ap lag is)
-      | inr ge ↦ let is : min c d ≡ d = omega arith in omega (arith, lag-falls d c ge in_c, ap lag is)
-    ]
+    lag-least c d in_c in_d =
+        let one = λ (le : c ≤ d). lag-falls c d le in_d in
+        let other = λ (le : d ≤ c). lag-falls d c le in_c in
+        grind arith
 
     pub lag-least_below : (f : ℕ → ℕ) (last n : ℕ) → IsLastNumber v key last → ((p : ℕ) → p < n → f p ≤ length all)
         → (least_below n f last ≤ length all) × (most_below n (λ p. lag (f p)) ≡ lag (least_below n f last))
@@ -78,12 +77,9 @@ module _ (v : OwnerListView) (are : AreWrites v) where
   left_over-by_number zero le = refl
   left_over-by_number (suc i) le =
       let (e, is) = numbered-some all (suc i) (omega arith) le in
-      rw (is, lt-ltb 0 (suc i) (omega arith)) (elim (cases_lt (base_of v) (suc i)) [
-        | inl later ↦
-            let same = (current-numbered v are (suc i) e is later).generation in
-            rw (lt-leb (suc i) (base_of v) later) (le-ltb e.generation v.generation (omega arith))
-        | inr upto ↦ rw (le-leb (suc i) (base_of v) upto) (lt-ltb e.generation v.generation (earlier-numbered (suc i) e is upto))
-      ])
+      let later = λ (above : base_of v < suc i). (current-numbered v are (suc i) e is above).generation in
+      let earlier = earlier-numbered (suc i) e is in
+      rw is (grind (arith, nat_tests))
 
   -- the last write of a key has the number of each other one, or a greater one
   last-from : (m : ℕ) (e : Entry) → write_numbered all m ≡ Some e → base_of v < m
@@ -99,10 +95,7 @@ module _ (v : OwnerListView) (are : AreWrites v) where
       let same : length ws - 1 - turned ≡ at.place = omega arith in
       let there = get_or-reverse ws turned d (omega arith) ∙ ap (λ k. get_or ws k d) same ∙ at.there d in
       let passes = eq-eqb (get_or back turned d).key e.key (ap (λ (w : Write). w.key) there) in
-      let upto : first ≤ turned = elim (cases_lt turned first) [
-        | inl before ↦ absurd (both_ways (test (get_or back turned d)) (fails_before_first test back turned d before) passes)
-        | inr le ↦ le
-      ] in
+      let upto : first ≤ turned = grind (arith, fails_before_first test back turned d) in
       let place = length ws - 1 - first in
       let within : place < length v.current = omega (arith, length-map v.current write_of_entry) in
       let here = get_or-reverse ws first d (omega arith) ∙ get_or-map write_of_entry v.current place e d within in
@@ -148,7 +141,4 @@ module _ (v : OwnerListView) (are : AreWrites v) where
         found = ap (option_map write_of_entry) (sym held) ∙ beside.own_part key
 
         newer : (e : Entry) → write_numbered all c ≡ Some e → base_of v < c
-        newer e is = elim (cases_lt (base_of v) c) [
-          | inl later ↦ later
-          | inr upto ↦ absurd (omega (arith, earlier-numbered c e is upto, proper.own key e (held ∙ is)))
-        ]
+        newer e is = grind (arith, earlier-numbered c e is, proper.own key e (held ∙ is), beside.generation)

@@ -1,6 +1,6 @@
 -- The first write that a copy misses, by numbers.
 -- Serves `Lagging`, `Walks` and `version_tables`.
-use Rattle.version_lags.proofs.Common.{◌≡◌, ℕ, zero, suc, ◌+◌, ◌-◌, ◌<◌, ◌≤◌, Bool, eqb, ltb, ◌&&◌, List, length, get_or, Some, None, ◌⊎◌, option_map, inl, inr, refl, sym, ap, ◌∙◌, arith, length-append, position_or_len, find_at, fails_before_first, passes_at_first, slice_get_cases, cases_lt, lt-ltb, ltb-true, eq-eqb, eqb-true, and_parts, both_ways, get_or-append_right, get_or-map, length-map, Entry, absent, mark_of, mark_held, is_before, before-yes, Write, write_of_entry, OwnerListView, entries_of, written, AreWrites, write_numbered, BirthsRise, numbered-placed, numbered-some, numbered-within, numbers-compare, base_of, number_staleness, IsMissed, HasNoneMissed}
+use Rattle.version_lags.proofs.Common.{◌≡◌, ℕ, zero, suc, ◌+◌, ◌-◌, ◌<◌, ◌≤◌, Bool, eqb, ltb, ◌&&◌, List, length, get_or, Some, None, ◌⊎◌, option_map, inl, inr, refl, sym, ap, ◌∙◌, arith, length-append, position_or_len, find_at, fails_before_first, passes_at_first, slice_get_cases, lt-ltb, ltb-true, eq-eqb, eqb-true, and_parts, get_or-append_right, get_or-map, length-map, Entry, absent, mark_of, mark_held, is_before, before-yes, Write, write_of_entry, OwnerListView, entries_of, written, AreWrites, write_numbered, BirthsRise, numbered-placed, numbered-some, numbered-within, numbers-compare, base_of, number_staleness, IsMissed, HasNoneMissed}
 
 -- births don't fall with the numbers
 pub numbers-born : (writes : List Entry) (rise : BirthsRise writes) (m n : ℕ) (d e : Entry)
@@ -73,10 +73,7 @@ module _ (v : OwnerListView) (are : AreWrites v) where
           let at = current-numbered m e missed.written missed.current in
           let w = write_of_entry e in
           let passes = ap test (at.there w) ∙ tested m e missed.written at ∙ (λ i. eq-eqb e.key key missed.keyed i && lt-ltb c m missed.over i) in
-          elim (cases_lt at.place first) [
-            | inl before ↦ absurd (both_ways (test (get_or (written v) at.place w)) (fails_before_first test (written v) at.place w before) passes)
-            | inr behind ↦ omega arith
-          ]
+          grind (arith, at.is, fails_before_first test (written v) at.place w)
 
       pub record HasMissed (round : ℕ) : Type 0 where
         pub number : ℕ

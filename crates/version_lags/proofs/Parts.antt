@@ -22,7 +22,7 @@ table-read number numbers grids p d lt =
     let read = sym (get_or-map (λ y. map number y.now) numbers.cells.now p d [] (omega arith)) in
     (read, sym (length-map (get_or numbers.cells.now p d).now number) ∙ ap length read ∙ grids.alike p lt ∙ length-map numbers.last.now number)
 
-pub least_below-le : (n : ℕ) (f : ℕ → ℕ) (most : ℕ) → least_below n f most ≤ most
+least_below-le : (n : ℕ) (f : ℕ → ℕ) (most : ℕ) → least_below n f most ≤ most
 least_below-le zero f most = omega arith
 least_below-le (suc n) f most = omega (arith, least_below-le n f most)
 

@@ -20,11 +20,6 @@ module _ (tables : List Table) (h : HistoriesView) (are : StandTogether tables h
   beside : (r : ℕ) → r < length lists → StandsBeside (table_of_node tables r) (list_of_owner lists r)
   beside r lt = subst (λ o. StandsBeside (table_of_node tables r) (list_of_owner lists o)) (node r lt) (stands r lt).own
 
-  -- an owner's own number is its last one
-  own_last : (r k c : ℕ) → r < length lists → IsNumberAt lists (table_of_node tables r) r k c → IsLastNumber (list_of_owner lists r) k c
-  own_last r k c lt at = own_is_last (list_of_owner lists r) (are.writes r) (table_of_node tables r) (stands r lt).proper (beside r lt) k c
-      (ap (λ o. entry_at (table_of_node tables r) o k) (node r lt) ∙ at.held) at.written
-
   -- each key that an owner wrote is one of the keys
   pub key_within : (r m : ℕ) (e : Entry) → r < length lists → write_numbered (entries_of (list_of_owner lists r)) m ≡ Some e
       → base_of (list_of_owner lists r) < m → e.key < h.keys
@@ -37,8 +32,13 @@ module _ (tables : List Table) (h : HistoriesView) (are : MayBeCounted tables h)
   abbrev list : OwnerListView
   list = list_of_owner h.lists r
 
+  -- an owner's own number is its last one
   at_own : p ≡ r → IsLastNumber list k c
-  at_own same = own_last tables h are.together r k c in_r (subst (λ q. IsNumberAt h.lists (table_of_node tables q) r k c) same at)
+  at_own same =
+      let t = table_of_node tables r in
+      let own = subst (λ q. IsNumberAt h.lists (table_of_node tables q) r k c) same at in
+      own_is_last list (are.together.writes r) t (stands tables h are.together r in_r).proper (beside tables h are.together r in_r) k c
+      (ap (λ o. entry_at t o k) (node tables h are.together r in_r) ∙ own.held) own.written
 
   generation : generation_at tables r ≡ list.generation
   generation = (beside tables h are.together r in_r).generation

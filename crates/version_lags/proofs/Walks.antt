@@ -1,6 +1,6 @@
 -- The first write of an owner that some copy misses has been missed for longest.
 -- Serves `Piece::figures` and `lag_of_owner`.
-use Rattle.version_lags.proofs.Common.{◌≡◌, ℕ, zero, suc, ◌+◌, ◌-◌, ◌*◌, ◌<◌, ◌≤◌, max, List, length, get_or, Some, inl, inr, refl, sym, ap, ◌∙◌, arith, cases_lt, Entry, OwnerListView, entries_of, write_numbered, most_below, rounds_behind, IsRoundMark, numbered-placed, numbered-within, number-at, plane-within, cells_in, Grid, base_of, number_staleness, NonePassUpto, MayWalk, WalksFrom, most_lag}
+use Rattle.version_lags.proofs.Common.{◌≡◌, ℕ, zero, suc, ◌+◌, ◌-◌, ◌*◌, ◌<◌, ◌≤◌, max, List, length, get_or, Some, refl, ap, ◌∙◌, arith, Entry, OwnerListView, entries_of, write_numbered, most_below, rounds_behind, IsRoundMark, numbered-placed, numbered-within, number-at, plane-within, cells_in, Grid, base_of, number_staleness, NonePassUpto, MayWalk, WalksFrom, most_lag}
 use Rattle.version_lags.proofs.Missed.{numbers-born}
 use Rattle.version_lags.proofs.Lagging.{lag-upto, lag-since}
 
@@ -20,10 +20,9 @@ module _ {list : OwnerListView} {keys round most first : ℕ} {least : ℕ → �
   walk-upto : (place longest : ℕ) → NonePassUpto list least place
       → ((m : ℕ) (e : Entry) → place < m → write_numbered all m ≡ Some e → round - e.born + 1 ≤ longest) → most_lag keys round list least ≤ longest
   walk-upto place longest none upto = most_below-le _ keys longest (λ k in_keys.
-      lag-upto list walks.writes walks.in_order round k (least k) longest (walks.written k in_keys) (λ m e missed. elim (cases_lt place m) [
-        | inl behind ↦ upto m e behind missed.written
-        | inr before ↦ absurd (omega (arith, none m e missed.written missed.current before, ap least missed.keyed))
-      ]))
+      lag-upto list walks.writes walks.in_order round k (least k) longest (walks.written k in_keys) (λ m e missed.
+      let behind = λ (later : place < m). upto m e later missed.written in
+      grind (arith, none m e missed.written missed.current, ap least missed.keyed, missed.over)))
 
   pub walk-none : (place : ℕ) → NonePassUpto list least place → length all ≤ place → 0 ≡ most_lag keys round list least
   walk-none place none past = omega (arith, walk-upto place 0 none (λ m e behind is. absurd (omega (arith, (numbered-within all m e is).1))))
@@ -43,12 +42,10 @@ module _ {list : OwnerListView} {keys round most first : ℕ} {least : ℕ → �
   module _ (place : ℕ) (current : base_of list ≤ place) where
     pub walk-next : NonePassUpto list least place → ((e : Entry) → write_numbered all (place + 1) ≡ Some e → place < least e.key)
         → NonePassUpto list least (place + 1)
-    walk-next none here m e is later le = elim (cases_lt place m) [
-      | inl next ↦
-          let same : m ≡ place + 1 = omega arith in
-          omega (arith, here e (sym (ap (write_numbered all) same) ∙ is))
-      | inr before ↦ none m e is later before
-    ]
+    walk-next none here m e is later le =
+        let before = none m e is later in
+        let next = λ (same : place + 1 ≡ m). here e (ap (write_numbered all) same ∙ is) in
+        grind arith
 
     pub walk-found : (e : Entry) → write_numbered all (place + 1) ≡ Some e → NonePassUpto list least place → least e.key ≤ place
         → round - e.born + 1 ≡ most_lag keys round list least

@@ -1,8 +1,8 @@
 -- What is counted of all tables comes to the figures of a round.
 -- Serves `Piece::figures`.
-use Rattle.version_lags.proofs.Common.{Bor, Grid, ◌≡◌, ℕ, ◌<◌, Bool, cond, refl, ◌&&◌, inl, inr, List, length, get_or, map, nat_lt, nat_le, sym, ap, ◌∙◌, subst, arith, cases_lt, number-at, HasEach, IsGrid, IsLeastBehind, Figures, OwnerListView, list_of_owner, lists_in, sum_below, most_below, total_of, cell, sum_below-same, most_below-same, leftover_at, stale_count, staleness_at, rounds_behind, figures_of, most_by_owner, table_of_node, length-map, number_staleness, AreAllCounted, Piece, RoundNumbers, NumbersView, numbers_seen, numbers_at, is_stale, is_left, least_below, IsTotal, MayWalk, most_lag}
+use Rattle.version_lags.proofs.Common.{Bor, Grid, ◌≡◌, ℕ, ◌<◌, Bool, cond, refl, ◌&&◌, List, length, get_or, map, nat_lt, nat_le, sym, ap, ◌∙◌, subst, arith, number-at, HasEach, IsGrid, IsLeastBehind, Figures, OwnerListView, list_of_owner, lists_in, sum_below, most_below, total_of, cell, sum_below-same, most_below-same, leftover_at, stale_count, staleness_at, rounds_behind, figures_of, most_by_owner, table_of_node, length-map, number_staleness, AreAllCounted, Piece, RoundNumbers, NumbersView, numbers_seen, numbers_at, is_stale, is_left, least_below, IsLeastFrom, IsTotal, MayWalk, most_lag}
 use Rattle.version_lags.proofs.Lagging.{lag-least_below}
-use Rattle.version_lags.proofs.Parts.{grids-of, least_below-le}
+use Rattle.version_lags.proofs.Parts.{grids-of}
 use Rattle.version_lags.proofs.Pieces.{stands, key_within, place_staleness, place_stale, place_left}
 
 module _ {N : Type 0} {number : N → ℕ} {most : ℕ} {numbers : RoundNumbers N} {piece : Piece N}
@@ -34,10 +34,8 @@ module _ {N : Type 0} {number : N → ℕ} {most : ℕ} {numbers : RoundNumbers 
   keys_are : (p : ℕ) → p < nodes → numbers.keys ≡ (table_of_node all.tables p).keys
   keys_are p in_p = sym (stands _ _ all.are.may.together p in_p).keys
 
-  least_is : (r k : ℕ) → r < nodes → k < numbers.keys → least_held r k ≡ least_below nodes (λ p. held p r k) (last r k)
-  least_is r k in_r in_k =
-      let each = all.whole.least_is.each r k in_r in_k in
-      omega (arith, ap (λ xs. cell (map number xs) nodes r k) same)
+  least_is : (r k : ℕ) → r < nodes → k < numbers.keys → IsLeastFrom (λ p. held p r k) (last r k) 0 nodes (least_held r k)
+  least_is r k in_r in_k = rw same (all.whole.least_is.each r k in_r in_k)
 
   -- an owner's list may be walked over, from the least number that is behind on
   module _ (firsts : List N) (behind : HasEach nodes (λ r n. IsLeastBehind most least_held last numbers.keys r n) (map number firsts))
@@ -57,22 +55,14 @@ module _ {N : Type 0} {number : N → ℕ} {most : ℕ} {numbers : RoundNumbers 
         born = all.are.may.written.born owner;
         in_order = all.are.may.written.in_order owner;
         keyed = λ m e there current. key_within _ _ all.are.may.together owner m e among there current;
-        written = λ k in_k.
-            let upto = least_below-le nodes (λ p. held p owner k) (last owner k) in
-            omega (arith, least_is owner k among in_k, (all.are.are.lasts.each owner k among in_k).written);
+        written = λ k in_k. omega (arith, (least_is owner k among in_k).upto, (all.are.are.lasts.each owner k among in_k).written);
         start = λ m e there current le.
             let in_keys = key_within _ _ all.are.may.together owner m e among there current in
-            elim (cases_lt (least_held owner e.key) (last owner e.key)) [
-              | inl before ↦
-                  let read = number-at number firsts owner first (omega (arith, length-map firsts number)) is in
-                  omega (arith, (behind.each owner among).no_less e.key in_keys before)
-              | inr not_before ↦ elim (cases_lt (last owner e.key) m) [
-                | inl over ↦
-                    absurd ((all.are.are.lasts.each owner e.key among in_keys).last m e
-                    (record { written = there; current = current; keyed = refl; over = over }))
-                | inr not_over ↦ omega arith
-              ]
-            ];
+            let read = number-at number firsts owner first (omega (arith, length-map firsts number)) is in
+            let no_less = (behind.each owner among).no_less e.key in_keys in
+            let upto = λ (over : last owner e.key < m). (all.are.are.lasts.each owner e.key among in_keys).last m e
+            (record { written = there; current = current; keyed = refl; over = over }) in
+            grind arith;
       };
     }
 
@@ -96,10 +86,12 @@ module _ {N : Type 0} {number : N → ℕ} {most : ℕ} {numbers : RoundNumbers 
   unfolding behind
   longest r k in_r in_k =
       let list = list_of_owner lists r in
+      let held_least = least_is r k in_r in_k in
+      let is : least_held r k ≡ least_below nodes (λ p. held p r k) (last r k) = omega (arith, held_least.upto, held_least.is) in
       let least = lag-least_below list (all.are.may.together.writes r) (all.are.may.written.in_order r) round k (λ p. held p r k) (last r k) nodes
       (all.are.are.lasts.each r k in_r in_k) (λ p in_p. ((all.are.are.cells_are p in_p).each r k in_r in_k).written) in
       let each = λ (p : ℕ) (in_p : p < nodes). place_staleness _ _ all.are.may p r k _ in_p in_r ((all.are.are.cells_are p in_p).each r k in_r in_k) in
-      ap (λ c. rounds_behind (number_staleness round list k c)) (least_is r k in_r in_k)
+      ap (λ c. rounds_behind (number_staleness round list k c)) is
       ∙ sym least.1 ∙ most_below-same _ _ nodes (λ p in_p. sym (ap rounds_behind (each p in_p)))
 
   pub figures-are : (greatest : ℕ) → greatest ≡ most_below nodes (λ r. most_lag numbers.keys round (list_of_owner lists r) (least_held r))

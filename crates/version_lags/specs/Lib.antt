@@ -1,3 +1,4 @@
 pub mod Bounds
+pub mod Common
 pub mod Missed
 pub mod Pieces

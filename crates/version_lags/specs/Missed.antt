@@ -1,12 +1,7 @@
 -- How far copies lag, told by numbers of writes. The writes of an owner's generation are those above the number of its
 -- earlier ones. Source: this project.
 use Rattle.std.specs.Prelude.{◌≡◌, ℕ, ◌<◌, ◌≤◌, List, length, Option, Some}
-use Rattle.bench_types.specs.declared.entries.Entry.{Entry}
-use Rattle.bench_types.specs.Mark.{mark_held}
-use Rattle.model.specs.Table.{Table, entry_at}
-use Rattle.model.specs.calls.OwnerListView.{OwnerListView, entries_of, written, list_of_owner}
-use Rattle.model.specs.calls.Numbers.{write_numbered}
-use Rattle.model.specs.Figures.{staleness_of}
+use Rattle.version_lags.specs.Common.{Entry, mark_held, Table, entry_at, OwnerListView, entries_of, written, list_of_owner, write_numbered, staleness_of}
 
 -- how many writes an owner made in its earlier generations
 abbrev pub base_of : OwnerListView → ℕ

@@ -1,26 +1,6 @@
 -- What is counted of some of the tables at the end of a round. Source: this project.
 use Rattle.std.specs.Prelude.{◌≡◌, ℕ, zero, suc, ◌+◌, ◌*◌, ◌<◌, ◌≤◌, ◌&&◌, min, max, All, Bool, List, [], length, map, slice_get, slice_index, slice_index_or, nat_lt, nat_le, IfOk, IsOkUnless, Result, Some}
-use Rattle.std.specs.Borrow.{Bor}
-use Rattle.bench_types.specs.declared.entries.Entry.{Entry}
-use Rattle.bench_types.specs.declared.faults.Fault.{Fault}
-use Rattle.bench_types.specs.declared.faults.Fault.TheVariants.{OutOfMemory}
-use Rattle.bench_types.specs.declared.rows.Figures.{Figures}
-use Rattle.bench_types.specs.declared.limits.TheConstants.{MOST_NODES, MOST_KEYS, MOST_ROUNDS}
-use Rattle.model.specs.Table.{Table}
-use Rattle.model.specs.Tables.{table_of_node, HoldsOfEach}
-use Rattle.model.specs.calls.Tables.{IsCluster}
-use Rattle.model.specs.calls.OwnerListView.{OwnerListView, all_writes, entries_of, list_of_owner, lists_in, AreWrites}
-use Rattle.model.specs.calls.Numbers.{write_numbered}
-use Rattle.bench_types.specs.Sums.{sum_below, most_below}
-use Rattle.planes.specs.declared.sizes.Grid.{Grid}
-use Rattle.planes.specs.Grids.{cells_in, IsOwnerOf}
-use Rattle.planes.specs.Planes.{cell, total_of, HasEach, HasEachPlace, IsGrid}
-use Rattle.round_histories.specs.Histories.{HistoriesView, BirthsRise, AreWrittenBy, KeepLimits, StandsAmong}
-use Rattle.model.specs.Figures.{figures_of, rounds_behind}
-use Rattle.version_lags.specs.Bounds.{AreBounds, IsStretchOf}
-use Rattle.version_lags.specs.declared.lags.Piece.{Piece}
-use Rattle.version_lags.specs.declared.lags.RoundNumbers.{RoundNumbers}
-use Rattle.owner_writes.specs.Numbered.{AreEnds}
+use Rattle.version_lags.specs.Common.{Bor, Entry, Fault, OutOfMemory, Figures, MOST_NODES, MOST_KEYS, MOST_ROUNDS, Table, table_of_node, HoldsOfEach, IsCluster, OwnerListView, all_writes, entries_of, list_of_owner, lists_in, AreWrites, write_numbered, sum_below, most_below, Grid, cells_in, IsOwnerOf, cell, total_of, HasEach, HasEachPlace, IsGrid, HistoriesView, BirthsRise, AreWrittenBy, KeepLimits, StandsAmong, figures_of, rounds_behind, AreBounds, IsStretchOf, Piece, RoundNumbers, AreEnds}
 use Rattle.version_lags.specs.Missed.{base_of, number_staleness, IsLastNumber, IsNumberAt, NonePassUpto}
 
 -- the tables of all nodes beside the histories

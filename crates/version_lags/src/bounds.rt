@@ -1,8 +1,7 @@
 //! The parts of the tables that the threads of a crew count.
 
 ghost use Rattle.std.specs.Prelude.{◌≤◌, IfOk, IfSome, IsOkUnless};
-ghost use Rattle.bench_types.specs.declared.faults.Fault.TheVariants.{OutOfMemory};
-ghost use Rattle.version_lags.specs.Bounds.{AreBounds};
+ghost use Rattle.version_lags.specs.Common.{OutOfMemory, AreBounds};
 
 use bench_types::Fault;
 use planes::Number;

@@ -1,10 +1,7 @@
 //! How far the copies lag behind their owners, told by numbers of writes: the figures of a round.
 
 ghost use Rattle.std.specs.Prelude.{◌≡◌, ℕ, ◌≤◌, List, length, IfOk, IsOkUnless};
-ghost use Rattle.bench_types.specs.declared.faults.Fault.TheVariants.{OutOfMemory};
-ghost use Rattle.model.specs.Table.{Table};
-ghost use Rattle.planes.specs.Grids.{cells_in};
-ghost use Rattle.version_lags.specs.Bounds.{IsStretchOf};
+ghost use Rattle.version_lags.specs.Common.{OutOfMemory, Table, cells_in, IsStretchOf};
 ghost use Rattle.version_lags.specs.Pieces.{numbers_seen, AreAllCounted, AreBehindEachOther, AreFigures, AreGrids, ArePieces, AreRoundNumbers, Counts, HasCounted, IsPieceOf, MayWalk, NumbersView, most_lag};
 
 use crate::bounds::{LEAST_BYTES_OF_A_THREAD, threads_for};

@@ -1,5 +1,4 @@
-use Rattle.version_lags.proofs.Common.{◌-◌, ◌≤◌}
-use Rattle.version_lags.specs.Bounds.{AreBounds}
+use Rattle.version_lags.proofs.Common.{◌-◌, ◌≤◌, AreBounds}
 use Rattle.version_lags.proofs.bounds.bounds.Given as goal
 
 abbrev pub decreases-loop-at : goal.decreases-loop-at

@@ -1,11 +1,9 @@
-use Rattle.version_lags.proofs.Common.{◌≡◌, ◌+◌, ◌-◌, length, slice_index, refl, sym, subst, arith, IfOk-at_ok, HasCounted, numbers_seen}
-use Rattle.std.proofs.lemmas.Option.{slice_get_read}
+use Rattle.version_lags.proofs.Common.{◌≡◌, ◌+◌, ◌-◌, length, slice_index, refl, arith, IfOk-at_ok, numbers_seen, slice_get_read}
 use Rattle.version_lags.proofs.Parts.{grids-of}
 use Rattle.version_lags.proofs.lags.figures_of_pieces.Goals as goal
 
 pub loop-counted-init : goal.loop-counted-init
-loop-counted-init g c are =
-    subst (λ n. HasCounted g.N.Number.number c.args.numbers.now 0 n c.in_ok-whole.whole) (sym are.are.begins) (c.in_ok-whole.ensures.0 0)
+loop-counted-init g c are = rw are.are.begins (c.in_ok-whole.ensures.0 0)
 
 pub take_in-requires : goal.take_in-requires
 take_in-requires g c =

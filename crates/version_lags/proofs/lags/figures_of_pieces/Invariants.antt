@@ -1,5 +1,4 @@
-use Rattle.version_lags.proofs.Common.{slice_index}
-use Rattle.version_lags.specs.Pieces.{ArePieces, HasCounted}
+use Rattle.version_lags.proofs.Common.{slice_index, ArePieces, HasCounted}
 use Rattle.version_lags.proofs.lags.figures_of_pieces.Given as goal
 
 abbrev pub invariant-loop-counted : goal.invariant-loop-counted

@@ -1,6 +1,5 @@
 -- What these proofs cite of other libraries and of this crate's definitions, passed on from one place.
--- Serves `OwnerWrites::begin_generation`, `OwnerWrites::numbered`, `OwnerWrites::write`, `Keeping`, `Numbers` and
--- `version_lags`.
+-- Serves `OwnerWrites::begin_generation`, `OwnerWrites::numbered`, `OwnerWrites::write`, `Keeping` and `Numbers`.
 pub use Rattle.std.proofs.lemmas.List.{append-nil, append_assoc, drop-append-le, drop_all, get_or-append_right, get_or-map, get_or_append_left, get_or_push, length-drop, length-map, map-append, take-append-drop, take-append-le, take_all}
 pub use Rattle.std.proofs.lemmas.List.Elements.{All-append}
 pub use Rattle.std.proofs.lemmas.Option.{get_or_from_slice_get, slice_get-get_or, slice_get_past, slice_get_within}

@@ -1,6 +1,5 @@
 -- Sums that a loop counts.
--- Serves the functions of `grids`, `owners` and `planes`, `Elementwise`, `Places`, `delta_plans`, `grids` and
--- `version_lags`.
+-- Serves the functions of `grids`, `owners` and `planes`, `Elementwise`, `Places`, `delta_plans` and `grids`.
 use Rattle.planes.proofs.Common.{◌≡◌, ℕ, suc, ◌+◌, ◌-◌, ◌<◌, ◌≤◌, ◌==◌, ◌↔◌, Bool, true, false, cond, nat_lt, refl, ap, ◌∙◌, arith, IsTrue, le-ltb, eq-eqb, eqb-true, fold_below-join, sums, sum_below, sum_below-most, count_passing, Cells, count_above, HasNoneAbove}
 
 pub one_le : (b : Bool) → cond b 1 0 ≤ 1

@@ -1,5 +1,5 @@
 -- Lists that are changed element by element.
--- Serves the functions of `grids`, `owners` and `planes`, `delta_plans`, `grids` and `version_lags`.
+-- Serves the functions of `grids`, `owners` and `planes`, `delta_plans` and `grids`.
 use Rattle.planes.proofs.Common.{◌≡◌, ℕ, ◌+◌, ◌<◌, ◌≤◌, List, length, get_or, set, map, sym, ap, ◌∙◌, subst, arith, below_more, get_or-set_same, get_or-set_other, length-set, get_or-map, length-map, map-set, Bool, cond, AreChangedUpto, AreChanged, IsMade, AreCountedUpto}
 use Rattle.planes.proofs.Counts.{count_next, count_same}
 

@@ -1,5 +1,5 @@
 -- The numbers of a table's planes, one after another.
--- Serves the functions of `grids` and `owners`, `grids`, `version_lags` and `version_tables`.
+-- Serves the functions of `grids` and `owners`, `grids` and `version_tables`.
 use Rattle.planes.proofs.Counts.{sum_whole}
 use Rattle.planes.proofs.Common.{Fits, w64, MOST_KEYS, ◌≡◌, ℕ, zero, suc, ◌+◌, ◌*◌, ◌-◌, ◌<◌, ◌≤◌, Bool, cond, List, length, get_or, map, take, drop, max, inl, inr, sym, ap, ◌∙◌, subst, arith, rules, places, mul-le-mul_right, below_more, cases_lt, get_or-take, get_or-drop, length-map, length-drop, length-take-le, map-append, take-map, drop-map, put_mid, sum_below, sum_below-same, sum_below-turned, sums, fold_below-join, one_more, count_passing, AreChanged, Cells, IsRaised, cell, total_of, IsGrid, HasEach, ArePlanesChangedUpto, ArePlanesChanged}
 

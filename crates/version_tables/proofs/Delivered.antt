@@ -4,10 +4,10 @@ use Rattle.version_tables.proofs.Common.{◌≡◌, ℕ, ◌<◌, ◌≤◌, Lis
 use Rattle.version_tables.proofs.Fitting.{AreLaidBoth, cells-are, cells-held, cells-upto, lacks}
 
 -- what is offered is a number itself, or 0
-offered-either : (kind : DigestKind) (sender receiver : Cells) (low : ℕ → ℕ) (owner key : ℕ)
-    → (offered_by kind sender receiver low owner key ≡ sender owner key) ⊎ (offered_by kind sender receiver low owner key ≡ 0)
-offered-either Scuttle sender receiver low owner key = inl refl
-offered-either Precise sender receiver low owner key = grind (arith, nat_tests)
+offered-either : (kind : DigestKind) (sender receiver : Cells) (low : ℕ → ℕ) (owner key n : ℕ) → n ≡ offered_by kind sender receiver low owner key
+    → (n ≡ sender owner key) ⊎ (n ≡ 0)
+offered-either Scuttle sender receiver low owner key n is = inl is
+offered-either Precise sender receiver low owner key n is = grind (arith, nat_tests)
 
 -- what a receiver takes by the marks of a delta is what these let through of what is offered
 taken-by : (kind : DigestKind) (first : First) (sender receiver : Cells) (low mark high : List ℕ) (owner key : ℕ)
@@ -76,8 +76,7 @@ module _ {N : Type 0} (number : N → ℕ) {written : ℕ → List Entry} {most 
 
     -- what is offered is the sender's number, or 0
     either : (cells owner key ≡ sender owner key) ⊎ (cells owner key ≡ 0)
-    either =
-        subst (λ n. (n ≡ sender owner key) ⊎ (n ≡ 0)) (sym (is.offered.each owner key in_nodes in_keys)) (offered-either kind sender receiver low owner key)
+    either = offered-either kind sender receiver low owner key (cells owner key) (is.offered.each owner key in_nodes in_keys)
 
     upto : cells owner key ≤ sender owner key
     upto = grind (arith, either)

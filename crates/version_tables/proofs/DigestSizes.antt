@@ -1,6 +1,6 @@
 -- How many owners and entries a table of versions holds.
 -- Serves `VersionTable::digest_size` and `delta`.
-use Rattle.version_tables.proofs.Common.{nat_tests, ◌≡◌, ℕ, zero, suc, ◌+◌, ◌<◌, ◌≤◌, Bool, cond, nat_lt, List, length, map, map-id, Some, inl, inr, refl, sym, ap, ◌∙◌, arith, count_by, slice_index, entries, len-entries, range_with_len, cases_lt, lt-ltb, length-map, sum_by-map-range_with_len_more, Entry, Item, Mark, Scuttle, Precise, IsUpTo, mark_held, mark_of, greatest_mark, subst, Table, entry_at, items_of, item_of, greatest_version, greatest_mark-none, mark_at-up_to_greatest, write_numbered, cell, sum_below, sum_below-same, count_held, total-places, digest_size, sum_by-ones, number_here, items_sum, numbered-some, VersionTableView, table_in, IsKept}
+use Rattle.version_tables.proofs.Common.{nat_tests, ◌≡◌, ℕ, zero, suc, ◌+◌, ◌<◌, ◌≤◌, Bool, cond, nat_lt, List, length, map, map-id, Some, inl, inr, refl, sym, ap, ◌∙◌, arith, count_by, slice_index, entries, len-entries, range_with_len, cases_lt, lt-ltb, length-map, sum_by-map-range_with_len_more, Entry, Item, Mark, Scuttle, Precise, Table, entry_at, items_of, item_of, greatest_version, greatest_mark-none, mark_at-up_to_greatest, write_numbered, cell, sum_below, sum_below-same, count_held, total-places, digest_size, sum_by-ones, number_here, items_sum, numbered-some, VersionTableView, table_in, IsKept}
 use Rattle.version_tables.proofs.Laid.{has_cells}
 
 count-range : (p : ℕ → Bool) (n : ℕ) → count_by p (map (λ i. i) (range_with_len 0 n)) ≡ sum_below n (λ i. cond (p i) 1 0)
@@ -54,8 +54,7 @@ module _ {written : ℕ → List Entry} {v : VersionTableView} (kept : IsKept wr
           | inr (key, lt, is) ↦
               let there = numbered-some (written r) (number r key) (omega (arith, is, some)) (kept.numbers.each r key in_nodes lt).written in
               let held : entry_at t r key ≡ Some there.0 = has r key in_nodes lt ∙ there.1 in
-              let upto : IsUpTo (mark_of there.0) (greatest_mark t r) =
-              subst (λ h. IsUpTo (mark_held h) (greatest_mark t r)) held (mark_at-up_to_greatest t r key lt) in
+              let upto = rw held at (mark_at-up_to_greatest t r key lt) in
               let version = upto.version (kept.proper.copies r key there.0 held) in
               let some_version = (kept.proper.in_place r key there.0 held).written in
               grind (arith, nat_tests)

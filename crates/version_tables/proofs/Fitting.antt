@@ -1,6 +1,6 @@
 -- Tables beside the histories: the numbers that they hold are of writes made so far, and compare as the marks of these.
 -- Serves most of the crate.
-use Rattle.version_tables.proofs.Common.{◌≡◌, ℕ, zero, suc, ◌-◌, ◌<◌, ◌≤◌, max, List, length, get_or, Option, Some, None, inl, inr, refl, sym, ap, ◌∙◌, subst, arith, nat_lt, nat_tests, cases_lt, get_or_append_left, Contains, Entry, Item, Mark, DigestKind, Scuttle, Precise, mark_of, mark_held, is_before, IsUpTo, absent-first, Table, entry_at, mark_at, greatest_mark, greatest_mark-unique, known_mark, told_by, offered_by, write_from-here, write_numbered, OwnerListView, entries_of, AreWrites, all_writes, Cells, cell, start_before, start_of, numbered-none, numbered-placed, numbered-some, numbered-within, numbers-before, numbers-compare, numbers-up_to, VersionTableView, HistoriesView, table_in, IsKept, IsGreatest, AreKnown, FitBoth, FitsHistories, IsBeginning, IsWrittenSoFar}
+use Rattle.version_tables.proofs.Common.{◌≡◌, ℕ, zero, suc, ◌-◌, ◌<◌, ◌≤◌, max, List, length, get_or, Option, Some, None, inl, inr, refl, sym, ap, ◌∙◌, arith, rules, nat_lt, nat_tests, cases_lt, get_or_append_left, Contains, Entry, Item, Mark, DigestKind, Scuttle, Precise, mark_of, mark_held, is_before, IsUpTo, absent-first, Table, entry_at, mark_at, greatest_mark, greatest_mark-unique, known_mark, told_by, offered_by, write_from-here, write_numbered, OwnerListView, entries_of, AreWrites, all_writes, Cells, cell, start_before, start_of, numbered-none, numbered-placed, numbered-some, numbered-within, numbers-before, numbers-compare, numbers-up_to, VersionTableView, HistoriesView, table_in, IsKept, IsGreatest, AreKnown, FitBoth, FitsHistories, IsBeginning, IsWrittenSoFar}
 use Rattle.version_tables.proofs.Laid.{has_cells}
 
 -- writes of earlier generations are of older ones than the owner's own
@@ -9,8 +9,7 @@ pub earlier-at : (v : OwnerListView) → AreWrites v → (number : ℕ) (e : Ent
 earlier-at v are number e is upto =
     let at = numbered-placed (entries_of v) number e is in
     let before : at.place < length v.earlier = omega (arith, at.is, upto) in
-    subst (λ (x : Entry). x.generation < v.generation)
-    (sym (get_or_append_left v.earlier v.current e at.place before) ∙ at.there e) (are.earlier at.place e before)
+    grind (arith, get_or_append_left v.earlier v.current e at.place before, at.there e, are.earlier at.place e before)
 
 -- numbers of writes so far, where a table holds no others of an owner, are up to their count
 pub so-far-upto : {written : ℕ → List Entry} {v : VersionTableView} → IsKept written v → (so_far : List Entry) (owner : ℕ) → IsBeginning so_far (written owner)
@@ -43,12 +42,7 @@ pub record AreLaidBoth (written : ℕ → List Entry) (most : ℕ) (h : Historie
 
 pub laid-both : {written : ℕ → List Entry} {most : ℕ} {h : HistoriesView} {p q : VersionTableView} → AreKnown written most h
     → FitBoth h (table_in written p) (table_in written q) → IsKept written p → IsKept written q → AreLaidBoth written most h p q
-laid-both known both p_kept q_kept = record {
-  nodes = both.nodes;
-  keys = both.keys;
-  first = record { known = known; fits = both.first; kept = p_kept };
-  second = record { known = known; fits = both.second; kept = q_kept };
-}
+laid-both known both p_kept q_kept = search rules
 
 pub turned : {written : ℕ → List Entry} {most : ℕ} {h : HistoriesView} {p q : VersionTableView} → AreLaidBoth written most h p q
     → AreLaidBoth written most h q p

@@ -52,10 +52,7 @@ module _ {all : List Entry} {most : ℕ} {v : OwnerListView} (key value rounds :
   ]
 
   pub made-more : AreMadeBy (rounds + 1) more
-  made-more = record {
-    first = λ number d is. grind (arith, either number d is, made.first number d);
-    last = λ number d is. grind (arith, either number d is, made.last number d);
-  }
+  made-more = grind (arith, either, made)
 
   pub so_far-more : write_numbered all (length w + 1) ≡ Some e → length w + 1 < most → IsWrittenSoFar all most more
   so_far-more is below = record {
@@ -103,10 +100,7 @@ module _ {all : List Entry} {most : ℕ} {v : OwnerListView} (key value rounds :
 
   -- and where the rounds before end doesn't change
   pub parts-more : (round n : ℕ) → round ≤ rounds → n ≤ length w → IsRoundMark w 0 round n → IsRoundMark more 0 round n
-  parts-more round n upto within parts = record {
-    upto = λ number d some is le. grind (arith, either number d is, parts.upto number d some);
-    above = λ number d some is behind. grind (arith, either number d is, parts.above number d some);
-  }
+  parts-more round n upto within parts = grind (arith, either, parts)
 
 module _ {written : ℕ → List Entry} {most : ℕ} {h : HistoriesView} {nodes : ℕ} {counts bases lasts ends : List ℕ}
     (kept : AreHistories written most h nodes counts bases lasts ends) where
@@ -117,15 +111,6 @@ module _ {written : ℕ → List Entry} {most : ℕ} {h : HistoriesView} {nodes 
 
     abbrev n : ℕ
     n = length (all_writes h.lists owner)
-
-    are : AreWrites list
-    are = kept.known.writes owner
-
-    so_far : IsWrittenSoFar (written owner) most (entries_of list)
-    so_far = kept.known.so_far owner
-
-    made : AreMadeBy (h.rounds + 1) (entries_of list)
-    made = kept.known.made owner
 
     module _ {list' : OwnerListView} (changes : ListBecomes owner list' h.lists new) where
       -- what holds of the others' lists, which stay, and of this one holds of all
@@ -143,12 +128,7 @@ module _ {written : ℕ → List Entry} {most : ℕ} {h : HistoriesView} {nodes 
           → AreHistories written most (record h { lists = new }) nodes counts' bases' lasts' ends
       histories-changed now now_so_far now_made counted based last longer parts = record {
         count = changes.count ∙ kept.count;
-        limits = record {
-          few_nodes = omega (arith, kept.limits.few_nodes, changes.count);
-          some_key = kept.limits.some_key;
-          few_keys = kept.limits.few_keys;
-          few_rounds = kept.limits.few_rounds;
-        };
+        limits = grind (arith, kept.limits, changes.count);
         known = record {
           so_far = each-list (λ r v. IsWrittenSoFar (written r) most (entries_of v)) (λ r _. kept.known.so_far r) now_so_far;
           made = each-list (λ _ v. AreMadeBy (h.rounds + 1) (entries_of v)) (λ r _. kept.known.made r) now_made;
@@ -174,6 +154,9 @@ module _ {written : ℕ → List Entry} {most : ℕ} {h : HistoriesView} {nodes 
         → counts' ≡ set counts owner (n + 1) → lasts' ≡ set lasts (key * nodes + owner) (n + 1)
         → AreHistories written most (record h { lists = new }) nodes counts' bases lasts' ends
     histories-written key value may changes is last_is =
+        let are = kept.known.writes owner in
+        let so_far = kept.known.so_far owner in
+        let made = kept.known.made owner in
         let more = longer key value h.rounds are so_far made in
         transport (λ i. AreHistories written most (record h { lists = new }) nodes (sym is i) bases (sym last_is i) ends)
         (histories-changed changes (writes_more list are key value (h.rounds + 1)) (so_far-more key value h.rounds are so_far made may.under.is may.under.below)
@@ -198,8 +181,7 @@ module _ {written : ℕ → List Entry} {most : ℕ} {h : HistoriesView} {nodes 
         → AreHistories written most (record h { lists = new }) nodes counts bases' lasts' ends
     histories-begun {lasts' = lasts'} changes is cleared =
         subst (λ bs. AreHistories written most (record h { lists = new }) nodes counts bs lasts' ends) (sym is)
-        (histories-changed changes (writes_begun list are) (subst (IsWrittenSoFar (written owner) most) (sym whole) so_far)
-        (subst (AreMadeBy (h.rounds + 1)) (sym whole) made)
+        (histories-changed changes (writes_begun list (kept.known.writes owner)) (rw whole (kept.known.so_far owner)) (rw whole (kept.known.made owner))
         (record {
           size = kept.counted.size;
           each = λ r lt. kept.counted.each r lt
@@ -219,7 +201,7 @@ module _ {written : ℕ → List Entry} {most : ℕ} {h : HistoriesView} {nodes 
                 there = λ below lt. absurd (omega (arith, lt));
               })) r lt;
         })
-        (omega (arith, same)) (λ round m _ _ parts. subst (λ es. IsRoundMark es 0 round m) (sym whole) parts))
+        (omega (arith, same)) (λ round m _ _ parts. rw whole parts))
       where
         whole : entries_of (begun_generation list) ≡ entries_of list
         whole = append-nil (entries_of list)
@@ -251,11 +233,6 @@ module _ {written : ℕ → List Entry} {most : ℕ} {h : HistoriesView} {nodes 
       | inr not_new ↦ let old : round ≤ h.rounds = omega (arith, not_new) in subst (P round) (sym (row-before round old)) (before round old)
     ]
 
-    rise-ended : (round : ℕ) → round < h.rounds + 1 → cell (ends ++ counts) nodes owner round ≤ cell (ends ++ counts) nodes owner (round + 1)
-    rise-ended round before =
-        let last = λ (is : h.rounds ≡ round). ap (λ m. cell (ends ++ counts) nodes owner (m + 1)) is in
-        grind (arith, row-before round, row-before (round + 1), row-last, kept.ended.rise owner round lt, kept.reached owner round lt, last)
-
   pub histories-ended : {ends' : List ℕ} → ends' ≡ ends ++ counts → h.rounds < MOST_ROUNDS
       → AreHistories written most (round_ended h) nodes counts bases lasts ends'
   histories-ended is left = subst (AreHistories written most (round_ended h) nodes counts bases lasts) (sym is) (record {
@@ -272,7 +249,11 @@ module _ {written : ℕ → List Entry} {most : ℕ} {h : HistoriesView} {nodes 
     ends_size = grind (arith, length-append ends counts, kept.ends_size, kept.counted.size);
     ended = record {
       none = λ owner lt. row-before owner lt 0 (omega arith) ∙ kept.ended.none owner lt;
-      rise = λ owner round lt. rise-ended owner lt round;
+      rise = λ owner round lt before.
+          let last = λ (is : h.rounds ≡ round). ap (λ m. cell (ends ++ counts) nodes owner (m + 1)) is in
+          let was = kept.ended.rise owner round lt in
+          let within = kept.reached owner round lt in
+          grind (arith, row-before owner lt round, row-before owner lt (round + 1), row-last owner lt, last);
       parts = λ owner round lt. each-round owner lt (λ round mark. IsRoundMark (all_writes h.lists owner) 0 round mark)
           (λ round. kept.ended.parts owner round lt) (record {
             upto = λ number d _ is _. (kept.known.made owner).last number d is;
@@ -286,8 +267,7 @@ module _ {written : ℕ → List Entry} {most : ℕ} {h : HistoriesView} {nodes 
 -- there are as many lists as nodes
 pub nodes-are : {written : ℕ → List Entry} {most : ℕ} {h : HistoriesView} {nodes : ℕ} {counts bases lasts ends : List ℕ}
     → AreHistories written most h nodes counts bases lasts ends → AreHistories written most h (length h.lists) counts bases lasts ends
-nodes-are {written = written} {most = most} {h = h} {counts = counts} {bases = bases} {lasts = lasts} {ends = ends} kept =
-    subst (λ m. AreHistories written most h m counts bases lasts ends) (sym kept.count) kept
+nodes-are kept = rw kept.count kept
 
 -- what code reads of counts is how much the owner wrote
 pub count-read : {N : Type 0} {written : ℕ → List Entry} {most nodes : ℕ} {h : HistoriesView} {bases lasts ends : List ℕ} (number : N → ℕ) (counts : List N)
@@ -295,10 +275,6 @@ pub count-read : {N : Type 0} {written : ℕ → List Entry} {most nodes : ℕ} 
     → (owner : ℕ) (x : N) → owner < nodes → x ≡ get_or counts owner x → number x ≡ length (all_writes h.lists owner)
 count-read number counts kept owner x lt is =
     number-at number counts owner x (omega (arith, lt, kept.counted.size, length-map counts number)) is ∙ kept.counted.each owner lt
-
--- there is no place in an empty list
-never : {P : Type 0} {i : ℕ} → i < 0 → P
-never lt = absurd (omega (arith, lt))
 
 -- no number is that of a write where nothing was written
 none-written : {P : Type 0} (number : ℕ) (e : Entry) → write_numbered [] number ≡ Some e → P
@@ -308,7 +284,7 @@ so_far-none : (all : List Entry) (most : ℕ) → 0 < most → IsWrittenSoFar al
 so_far-none all most some = record {
   begins = λ number le. subst (λ n. write_numbered [] n ≡ write_numbered all n) {x = 0} {y = number} (omega (arith, le)) refl;
   few = some;
-  history = record { rise = λ i j d _. never; born = λ i j d _. never };
+  history = record { rise = λ i j d _ lt. absurd (omega arith); born = λ i j d _ lt. absurd (omega arith) };
   numbered = record { counted = λ n e. none-written n e; older = λ m n d e is _ _. none-written m d is; alike = λ m n d e is _ _ _. none-written m d is };
 }
 
@@ -323,7 +299,8 @@ histories-empty written most nodes keys lists {counts} {bases} {lasts} {ends} so
   known = record {
     so_far = λ r. of-none (λ v. IsWrittenSoFar (written r) most (entries_of v)) r (so_far-none (written r) most some);
     made = λ r. of-none (λ v. AreMadeBy 1 (entries_of v)) r (record { first = λ n e. none-written n e; last = λ n e. none-written n e });
-    writes = λ r. of-none AreWrites r (record { current = λ i d. never; earlier = λ i d. never; rising = λ i j d _. never });
+    writes = λ r. of-none AreWrites r
+        (record { current = λ i d lt. absurd (omega arith); earlier = λ i d lt. absurd (omega arith); rising = λ i j d _ lt. absurd (omega arith) });
   };
   counted = record { size = no_counts.size; each = λ r lt. of-none (λ v. get_or counts r 0 ≡ length (entries_of v)) r (no_counts.each r lt) };
   based = record { size = no_bases.size; each = λ r lt. of-none (λ v. get_or bases r 0 ≡ length v.earlier) r (no_bases.each r lt) };
@@ -333,13 +310,13 @@ histories-empty written most nodes keys lists {counts} {bases} {lasts} {ends} so
         (subst (IsLastNumber no_writes k) (sym (no_lasts.each (k * nodes + r) (place-within nodes keys r k lt in_keys))) (record {
           written = omega arith;
           last = λ m d missed. none-written m d missed.written;
-          there = λ below. never;
+          there = λ below lt. absurd (omega arith);
         }));
   };
   ends_size = omega (arith, no_ends.size);
   ended = record {
     none = λ r lt. row r 0 lt (omega arith);
-    rise = λ r round _. never;
+    rise = λ r round _ lt. absurd (omega arith);
     parts = λ r round lt upto. of-none (λ v. IsRoundMark (entries_of v) 0 round (cell ends nodes r round)) r
         (record { upto = λ n e _ is _. none-written n e is; above = λ n e _ is _. none-written n e is });
   };

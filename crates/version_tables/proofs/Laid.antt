@@ -1,6 +1,6 @@
 -- What a table holds whose numbers lie in planes.
 -- Serves most of the crate.
-use Rattle.version_tables.proofs.Common.{◌≡◌, ℕ, zero, suc, ◌<◌, ◌≤◌, cond, nat_tests, eqb, ltb, List, [], length, map, Vec, Option, Some, None, ◌⊎◌, inl, inr, refl, sym, ap, ◌∙◌, subst, transport, arith, range_with_len, with_items, cases_lt, lt-ltb, le-ltb, get_or_past, with_items_is, none-some, get_or-map-range_with_len, length-map-range_with_len, Entry, Table, entry_at, IsProper, KeepsFrame, same_table, entry_in, get-held_by_lists, HasCells, write_numbered, cell, HasEach, HasEachPlace, with_entry, entries_below, VersionTableView, table_in, IsNumberOf, IsGreatest, IsKept}
+use Rattle.version_tables.proofs.Common.{◌≡◌, ℕ, zero, suc, ◌<◌, ◌≤◌, cond, nat_tests, eqb, ltb, List, [], length, map, Vec, Option, Some, None, ◌⊎◌, inl, inr, refl, sym, ap, ◌∙◌, subst, transport, arith, range_with_len, with_items, cases_lt, lt-ltb, le-ltb, get_or_past, with_items_is, get_or-map-range_with_len, length-map-range_with_len, Entry, Table, entry_at, IsProper, KeepsFrame, same_table, entry_in, get-held_by_lists, HasCells, write_numbered, cell, HasEach, HasEachPlace, with_entry, entries_below, VersionTableView, table_in, IsNumberOf, IsGreatest, IsKept}
 
 module _ (writes : List Entry) (numbers : ℕ → ℕ) (keys : ℕ)
     (keyed : (key : ℕ) (e : Entry) → key < keys → write_numbered writes (numbers key) ≡ Some e → e.key ≡ key) where
@@ -56,10 +56,7 @@ pub record HoldsNumber (writes : List Entry) (key : ℕ) (held : Option Entry) (
   pub holds : held ≡ write_numbered writes number
 
 pub no-number : (writes : List Entry) (key : ℕ) → HoldsNumber writes key None 0
-no-number writes key = record {
-  is = record { written = omega arith; keyed = λ e is. absurd (none-some e is); first = λ m lt. absurd (omega (arith, lt)) };
-  holds = refl;
-}
+no-number writes key = grind arith
 
 pub holds-same : {writes : List Entry} {key : ℕ} {held held' : Option Entry} {number number' : ℕ}
     → held' ≡ held → number' ≡ number → HoldsNumber writes key held number → HoldsNumber writes key held' number'

@@ -86,11 +86,7 @@ module _ (rules : Rules) (rotation : ℕ) {written : ℕ → List Entry} {most :
   is-offer : IsOffer id most all
   is-offer = offer-is id two rules all of-all
 
-  -- so many, which are no more than the greatest numbers are apart
-  abbrev count : ℕ
-  count = count_all_between cells from.nodes from.keys low high
-
-  -- so all of it fits
+  -- they are no more than the greatest numbers are apart, so all of it fits
   within : weight_between (number_shares rules.budget (all_writes h.lists)) cells from.nodes from.keys low high ≤ amount_of rules.budget
   unfolding SurelyFits
   within =
@@ -98,7 +94,8 @@ module _ (rules : Rules) (rotation : ℕ) {written : ℕ → List Entry} {most :
       (λ owner number. largest-share rules.budget (write_numbered (all_writes h.lists owner) number)) in
       elim may.fits [
         | inl apart ↦
-            let few = mul-le-mul_right {m = count} {n = most_ahead from.nodes from.keys from.greatest to.greatest} (largest_share rules.budget)
+            let few = mul-le-mul_right {m = count_all_between cells from.nodes from.keys low high}
+            {n = most_ahead from.nodes from.keys from.greatest to.greatest} (largest_share rules.budget)
             (sum_below-le from.nodes _ _ (λ r lt.
             let few = few-upto cells r from.keys (high r - low r) (low r) (high r) (omega arith) (simp map-id at (is-offer.differ r lt)) in
             omega (arith, few, count_between-most cells from.keys r (low r) (high r)))) in

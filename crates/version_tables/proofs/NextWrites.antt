@@ -1,6 +1,6 @@
 -- What an owner writes next stands under the number behind all that it wrote, above what its table holds of it.
 -- Serves `HistoriesRoundHistoriesVersionTable::write`.
-use Rattle.version_tables.proofs.Common.{◌≡◌, ℕ, zero, suc, ◌+◌, ◌<◌, ◌≤◌, List, length, Some, inl, inr, sym, ◌∙◌, subst, arith, Contains, current-numbered, length-append, none-some, Entry, mark_of, mark_held, IsUpTo, Table, entry_at, greatest_mark, greatest_version, mark_at-up_to_greatest, write_numbered, OwnerListView, AreWrites, entries_of, next_entry, cell, numbered-placed, numbered-some, VersionTableView, table_in, IsKept, IsNextWrite, IsBeginning, IsWriteUnder, IsFirst}
+use Rattle.version_tables.proofs.Common.{◌≡◌, ℕ, zero, suc, ◌+◌, ◌<◌, ◌≤◌, List, length, Some, inl, inr, sym, ◌∙◌, arith, Contains, current-numbered, length-append, none-some, Entry, Table, entry_at, greatest_version, mark_at-up_to_greatest, write_numbered, OwnerListView, AreWrites, entries_of, next_entry, cell, numbered-placed, numbered-some, VersionTableView, table_in, IsKept, IsNextWrite, IsBeginning, IsWriteUnder, IsFirst}
 use Rattle.version_tables.proofs.Fitting.{earlier-at, so-far-upto}
 use Rattle.version_tables.proofs.Laid.{has_cells}
 
@@ -15,9 +15,7 @@ module _ (written : ℕ → List Entry) (v : VersionTableView) (kept : IsKept wr
   held_so_far : (k : ℕ) (e : Entry) → entry_at t v.node k ≡ Some e → Contains (entries_of list) e
   held_so_far k e holds =
       let in_place = kept.proper.in_place v.node k e holds in
-      let most : IsUpTo (mark_of e) (greatest_mark t v.node) =
-      subst (λ h. IsUpTo (mark_held h) (greatest_mark t v.node)) holds (mark_at-up_to_greatest t v.node k in_place.key_below)
-      in
+      let most = rw holds at (mark_at-up_to_greatest t v.node k in_place.key_below) in
       let low : e.version ≤ length list.current = omega (arith, most.version (kept.proper.copies v.node k e holds), greatest) in
       let own = length list.earlier + e.version in
       let within : own ≤ length (entries_of list) = omega (arith, low, length-append list.earlier list.current) in

@@ -1,17 +1,10 @@
 -- A table that took a delta by marks, and dropped what is of older generations, is the model's table that took its items.
 -- Serves `exchange_deltas` and `Merged`.
-use Rattle.version_tables.proofs.Common.{◌≡◌, ℕ, ◌-◌, ◌<◌, ◌≤◌, ◌↔◌, true, false, List, Some, inl, inr, if◌then◌else◌, refl, sym, ap, ◌∙◌, subst, get_or, arith, cases_lt, current-numbered, nat_tests, not_both, Entry, Mark, Rules, mark_of, mark_held, Table, entry_at, generation_held, write_numbered, all_writes, list_of_owner, cell, numbers_taken, IsRaised, start_before, start_of, numbered-some, numbered-within, numbers-before, numbers-up_to, IsGreatest, VersionTableView, HistoriesView, table_in, is_taken_at, AreMarksOf, bases_in, IsWrittenSoFar, IsNumberedHistory, drop_start, HasTaken, frame-applied, delta_of_views, Option, None, ◌⊎◌, Contains, Item, DigestKind, Scuttle, Precise, IsUpTo, digest_kind, greatest_mark, IsProper, greatest_mark-from, entry_at-applied_from, applied, Lacks, candidates-lacked, sent-candidate, sent-held, received-proper, kept, sent-up_to, Bool, eqb, [], ◌∷◌, length, ◌||◌, both_ways, eqb-true, Exchange, Record, initiator_after, last_fate, responder_after, sent_until, MakesOf, DeltaView, digest_size, HasTakenUnless, map, length-map, by_first, first_sent, First, transport, ◌*◌}
+use Rattle.version_tables.proofs.Common.{◌≡◌, ℕ, ◌-◌, ◌<◌, ◌≤◌, ◌↔◌, true, false, List, Some, inl, inr, refl, sym, ap, ◌∙◌, subst, get_or, arith, cases_lt, current-numbered, nat_tests, not_both, Entry, Mark, Rules, mark_of, mark_held, Table, entry_at, generation_held, write_numbered, all_writes, list_of_owner, cell, numbers_taken, IsRaised, start_before, start_of, numbered-some, numbered-within, numbers-before, numbers-up_to, IsGreatest, VersionTableView, HistoriesView, table_in, is_taken_at, AreMarksOf, bases_in, IsWrittenSoFar, IsNumberedHistory, drop_start, HasTaken, frame-applied, delta_of_views, Option, None, ◌⊎◌, Contains, Item, Scuttle, Precise, IsUpTo, digest_kind, greatest_mark, IsProper, greatest_mark-from, entry_at-applied_from, applied, Lacks, candidates-lacked, sent-candidate, sent-held, received-proper, kept, sent-up_to, Bool, eqb, [], ◌∷◌, length, ◌||◌, both_ways, eqb-true, Exchange, Record, initiator_after, last_fate, responder_after, sent_until, MakesOf, DeltaView, digest_size, HasTakenUnless, map, length-map, first_sent, First, ◌*◌, IsDelta, IsArrivalOf, MayArrive}
 use Rattle.version_tables.specs.declared.deltas.DeltaMarks.{DeltaMarks}
 use Rattle.version_tables.specs.declared.taking.Arrival.{Arrival}
-use Rattle.version_tables.specs.inner.Offered.{IsDelta}
-use Rattle.version_tables.specs.inner.Taken.{IsArrivalOf, MayArrive}
 use Rattle.version_tables.proofs.Fitting.{AreLaidBoth, cells-are, cells-held, greatest-mark, greatest-within, turned}
 use Rattle.version_tables.proofs.Laid.{HoldsNumber, holds-same, kept-number, lies-kept, lies-table, no-number, none-unless, LiesAs}
-
--- nothing that a receiver lacks is of an older generation than its copy
-lacks-generation : (kind : DigestKind) (to : Table) (i : Item) → Lacks kind to i → generation_held to i.owner ≤ i.entry.generation
-lacks-generation Scuttle to i lacked = lacked.1.generation
-lacks-generation Precise to i lacked = lacked.1
 
 -- where no later mark than an entry's is held, something is
 stands : (e : Entry) (o : Option Entry) → 1 ≤ e.version → IsUpTo (mark_of e) (mark_held o) → (d : Entry) × (o ≡ Some d) × IsUpTo (mark_of e) (mark_of d)
@@ -29,16 +22,10 @@ start-parts {writes = writes} numbered m n d e is_d is_e le = (
     start : start_of writes n ≡ n - e.version
     start = ap (start_before n) is_e
 
--- where nothing is sent nothing changes
-nothing_applied : (t : Table) (items : List Item) → length items ≡ 0 → applied t items ≡ t
-nothing_applied t [] none = refl
-nothing_applied t (i ∷ is) none = absurd (omega (arith, none))
-
--- where the third message was sent
-sent-last : (lost : Bool) (p q : Table) (back forth : DeltaView) → (initiator_after (last_fate lost) p back ≡ applied p back.items)
-    × (responder_after (last_fate lost) q forth ≡ (if lost then q else applied q forth.items))
-sent-last true p q back forth = (refl, refl)
-sent-last false p q back forth = (refl, refl)
+-- where the third message was sent, the second came
+came-back : (lost : Bool) (p : Table) (back : DeltaView) → initiator_after (last_fate lost) p back ≡ applied p back.items
+came-back true p back = refl
+came-back false p back = refl
 
 -- what a table takes of some numbers it takes of others
 abbrev pub SendAlike : VersionTableView → List ℕ → List ℕ → List ℕ → List ℕ → Type 0
@@ -74,8 +61,10 @@ module _ (rules : Rules) (rotation : ℕ) {written : ℕ → List Entry} {most :
     came-current : (e : Entry) → Comes e → generation_held T owner ≤ e.generation
     came-current e comes =
         let i : Item = record { owner = owner; entry = e } in
-        lacks-generation (digest_kind rules.mode) T i
-        ((candidates-lacked rules.mode F T i two.first.proper two.second.proper).0 (sent-candidate rules.mode F T rotation rules.budget i comes)).1
+        elim (digest_kind rules.mode) as (λ kind. Lacks kind T i → generation_held T owner ≤ e.generation) [
+          | Scuttle ↦ λ lacked. lacked.1.generation
+          | Precise ↦ λ lacked. lacked.1
+        ] ((candidates-lacked rules.mode F T i two.first.proper two.second.proper).0 (sent-candidate rules.mode F T rotation rules.budget i comes)).1
 
     of-sender : (e : Entry) → Comes e → e.generation ≡ generation_held F owner
     of-sender e comes = two.first.proper.copies owner e.key e (came-held e comes)
@@ -324,9 +313,12 @@ module _ (rules : Rules) (rotation : ℕ) {written : ℕ → List Entry} {most :
 
     -- or stays, where nothing is sent or the message was lost
     pub becomes-unless : (skips lost : Bool) → skips ≡ (lost || eqb count 0) → HasTakenUnless skips h.lists to now low high new
-        → table_in written new ≡ (if lost then T else after)
+        → table_in written new ≡ responder_after (last_fate lost) T (delta_of_views rules rotation written from to)
     becomes-unless true true is unchanged = ap (table_in written) unchanged
-    becomes-unless true false is unchanged = ap (table_in written) unchanged ∙ sym (nothing_applied T sent (sym delta.count ∙ eqb-true count 0 (sym is)))
+    becomes-unless true false is unchanged = ap (table_in written) unchanged ∙ elim sent as (λ items. length items ≡ 0 → T ≡ applied T items) [
+      | [] ↦ λ _. refl
+      | i ∷ is ↦ λ none. absurd (omega (arith, none))
+    ] (sym delta.count ∙ eqb-true count 0 (sym is))
     becomes-unless false true is takes = absurd (both_ways false refl is)
     becomes-unless false false is takes = lies-table (becomes takes)
 
@@ -336,10 +328,7 @@ pub marks-come : {N : Type 0} {number : N → ℕ} {rules : Rules} {rotation : �
     → IsDelta number written rules rotation from to delta → first ≡ first_sent rules.mode → greatest ≡ from.greatest
     → IsArrivalOf number delta greatest first lost arrival
     → AreMarksOf rules rotation written from to (map number arrival.low.now) (map number arrival.high.now) delta.marked.counts.sent delta.marked.counts.cut
-marks-come {number = number} {rules = rules} {rotation = rotation} {written = written} {from = from} {to = to} {delta = delta} is first top come =
-    let low = (λ i. by_first (sym first i) (map number delta.low.items) (map number delta.marked.mark.items)) ∙ sym come.low in
-    let high = (λ i. by_first (sym first i) (map number delta.marked.mark.items) (sym top i)) ∙ sym come.high in
-    transport (λ i. AreMarksOf rules rotation written from to (low i) (high i) delta.marked.counts.sent delta.marked.counts.cut) is.marks
+marks-come is first top come = rw (come.low, come.high, first, top) is.marks
 
 -- and may be taken
 pub may-arrive : {N : Type 0} {number : N → ℕ} {rules : Rules} {rotation : ℕ} {written : ℕ → List Entry} {most : ℕ} {h : HistoriesView}
@@ -347,12 +336,12 @@ pub may-arrive : {N : Type 0} {number : N → ℕ} {rules : Rules} {rotation : �
     → AreMarksOf rules rotation written from to (map number arrival.low.now) (map number arrival.high.now) count cut → (sent : List ℕ)
     → SendAlike to (map number arrival.low.now) (map number arrival.high.now) from.cells sent → length sent ≡ length from.cells
     → MayArrive number written h to sent arrival
-may-arrive {number = number} {rules = rules} {rotation = rotation} {arrival = arrival} two marks sent same size = record {
+may-arrive two marks sent same size = record {
   nodes = two.second.fits.nodes;
   cells = size ∙ two.first.numbers.size ∙ (λ i. two.keys i * two.nodes i) ∙ sym two.second.numbers.size;
-  low_count = sym (length-map arrival.low.now number) ∙ marks.low_count ∙ two.nodes;
-  high_count = sym (length-map arrival.high.now number) ∙ marks.high_count ∙ two.nodes;
-  stays = λ new taken. lies-kept (becomes rules rotation two marks sent same new taken);
+  low_count = sym (length-map _ _) ∙ marks.low_count ∙ two.nodes;
+  high_count = sym (length-map _ _) ∙ marks.high_count ∙ two.nodes;
+  stays = λ new taken. lies-kept (becomes _ _ two marks sent same new taken);
 }
 
 -- what both take, the initiator p of q first
@@ -398,5 +387,4 @@ module _ {rules : Rules} {written : ℕ → List Entry} {most : ℕ} {h : Histor
       let b = delta_of_views rules e.rotation written q p in
       let f = delta_of_views rules e.rotation written p q in
       let is = said b f back.count back.left forth.count forth.left in
-      let after = sent-last e.lost3 (table_in written p) (table_in written q) b f in
-      rw (first, second) (cc (after.0, after.1))
+      rw (first, second) (cc (came-back e.lost3 (table_in written p) b))

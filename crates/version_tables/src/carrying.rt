@@ -1,7 +1,9 @@
 //! Tables of versions as tables that a simulation carries through its rounds.
 
 ghost use denote.Param.Send.{IsSync};
+ghost use Rattle.std.specs.Prelude.{[]};
 ghost use Rattle.version_tables.specs.inner.Common.{IfOk, IsOkUnless, OutOfMemory, AreFiguresCounted, StandAtRoundEnd, table_in};
+ghost use Rattle.version_tables.specs.inner.Histories.{IsWriteUnder};
 
 use crate::ended::{Ended, figures_in_parts};
 use crate::histories::Histories;
@@ -18,15 +20,11 @@ use std::thread::Threads;
 use version_lags::bounds_for;
 
 impl Written for Brand {
-    ghost use Rattle.std.specs.Prelude.{[]};
-
     ghost lists = { λ _. [] };
 }
 
 impl<N: SharedNumber + Send + Sync, H: Written + Send + Sync> RoundHistories<VersionTable<N, H>>
     for Histories<N, H> {
-    ghost use Rattle.version_tables.specs.inner.Histories.{IsWriteUnder};
-
     type Job = LookJob<Ended<N, H>>;
 
     ghost kept = { λ h. h };

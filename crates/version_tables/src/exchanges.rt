@@ -3,7 +3,8 @@
 ghost use Rattle.std.specs.Prelude.{◌≡◌};
 ghost use Rattle.version_tables.specs.inner.Common.{false, IfOk, OnErr, IsOkUnless, OutOfMemory, MakesOf, table_in};
 ghost use Rattle.version_tables.specs.inner.Deltas.{MaySend};
-ghost use Rattle.version_tables.specs.inner.Histories.{AreKnown};
+ghost use Rattle.version_tables.specs.inner.FitsKept.{fits_stays};
+ghost use Rattle.version_tables.specs.inner.Histories.{AreKnown, FitsRun};
 ghost use Rattle.version_tables.specs.inner.Taken.{BothStay};
 
 use crate::deltas::{Course, delta};
@@ -18,16 +19,11 @@ use planes::Number;
 use std::alloc::Global;
 
 impl<N: Number, H: Written> MemoryTable for VersionTable<N, H> {
-    ghost use Rattle.version_tables.specs.Views.{table_in};
-
     ghost table = { table_in H.lists };
 }
 
 impl<N: Number + Send + Sync, H: Written + Send + Sync> Exchanging<VersionTable<N, H>>
     for Histories<N, H> {
-    ghost use Rattle.version_tables.specs.inner.Histories.{FitsRun};
-    ghost use Rattle.version_tables.specs.inner.FitsKept.{fits_stays};
-
     ghost fits = { FitsRun H.lists N.most };
 
     ghost stays_fit = { fits_stays H.lists N.most };

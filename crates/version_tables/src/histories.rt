@@ -1,8 +1,9 @@
 //! What all owners have written, beside tables that keep numbers of writes alone.
 
-ghost use Rattle.std.specs.Prelude.{◌≡◌};
-ghost use Rattle.version_tables.specs.inner.Common.{IfOk, IsOkUnless, OutOfMemory};
-ghost use Rattle.version_tables.specs.inner.Histories.{AreNoWrites};
+ghost use Rattle.std.specs.Prelude.{◌≡◌, ◌+◌, ◌^◌, ◌<◌};
+ghost use Rattle.owner_writes.specs.inner.Codes.{list_code};
+ghost use Rattle.version_tables.specs.inner.Common.{length, map, IfOk, IsOkUnless, OnOk, OnErr, OutOfMemory, MOST_ROUNDS, all_writes, list_of_owner, with_write, begun_generation, HasEach, HasEachPlace, HistoriesView, histories_code, round_ended, AreNewHistories, HistoryBecomes, KeepLimits, AreSizes, IsLastNumber};
+ghost use Rattle.version_tables.specs.inner.Histories.{bases_in, AreEndsOf, AreHistories, AreKnown, AreNoWrites, MayAddWrite};
 
 use crate::tables::Written;
 use bench_types::Fault;
@@ -28,11 +29,6 @@ pub struct Histories<N: Number, H: Written> {
 }
 
 impl<N: Number, H: Written> Model for Histories<N, H> {
-    ghost use Rattle.std.specs.Prelude.{length, map};
-    ghost use Rattle.owner_writes.specs.inner.Codes.{list_code};
-    ghost use Rattle.round_histories.specs.Histories.{HistoriesView, histories_code};
-    ghost use Rattle.version_tables.specs.inner.Histories.{AreHistories};
-
     ghost Value = { HistoriesView };
 
     ghost coded = { histories_code list_code };
@@ -46,10 +42,6 @@ impl<N: Number, H: Written> Model for Histories<N, H> {
 }
 
 impl<N: Number, H: Written> Histories<N, H> {
-    ghost use Rattle.std.specs.Prelude.{◌+◌, ◌^◌, ◌<◌};
-    ghost use Rattle.version_tables.specs.inner.Common.{map, length, OnOk, OnErr, MOST_ROUNDS, all_writes, list_of_owner, with_write, begun_generation, HasEach, HasEachPlace, round_ended, AreNewHistories, HistoryBecomes, KeepLimits, AreSizes, IsLastNumber};
-    ghost use Rattle.version_tables.specs.inner.Histories.{bases_in, AreEndsOf, AreKnown, MayAddWrite};
-
     /// Where so many owners with so many keys each have written nothing, before the first round. An error is lack of
     /// memory (`OutOfMemory`).
     pub fn new(alloc: Global, nodes: u32, keys: u32) -> Result<Self, Fault>

@@ -1,5 +1,6 @@
 //! The figures of a round, where tables keep versions alone.
 
+ghost use denote.Param.Send.{IsSync};
 ghost use Rattle.std.specs.Prelude.{◌≡◌};
 ghost use Rattle.version_tables.specs.inner.Common.{List, map, IfOk, IsOkUnless, OutOfMemory, figures_of, lists_in, StandAtRoundEnd, numbers_in, VersionTableView, table_in};
 ghost use Rattle.version_tables.specs.inner.Beside.{AreCellsOf, AreNumbersBeside};
@@ -65,8 +66,6 @@ pub(crate) fn figures<N: Number + Send + Sync, H: Written>(
 /// Numbers that threads may share. What starts threads is written for each type of them, since no proof is had of what
 /// sends a parameter's values to a thread in a generic `impl` of a trait.
 pub trait SharedNumber: Number {
-    ghost use denote.Param.Send.{IsSync};
-
     /// The figures at the end of a round, as `figures` has them.
     fn figures<H: Written, R: Threads + Sync>(
         resources: &Resources<R>,

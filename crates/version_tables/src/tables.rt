@@ -1,7 +1,8 @@
 //! A node's table that keeps versions alone: it begins empty, writes its keys, and forgets.
 
-ghost use Rattle.std.specs.Prelude.{◌≡◌, ◌==◌, if◌then◌else◌};
-ghost use Rattle.version_tables.specs.inner.Common.{map, HasColumn, ArePlanesChanged, AreChanged};
+ghost use Rattle.std.specs.Prelude.{◌≡◌, ◌+◌, ◌^◌, ◌<◌, ◌≤◌, ◌==◌, if◌then◌else◌};
+ghost use Rattle.version_tables.specs.inner.Codes.{table_view_code};
+ghost use Rattle.version_tables.specs.inner.Common.{ℕ, List, Entry, length, map, slice_index, IfOk, IsOkUnless, OutOfMemory, MOST_NODES, digest_kind, digest_size, empty_table, without_others, without_all, table_in, AreChanged, ArePlanesChanged, AreSizes, HasColumn, HasOwnWrite, IsGridIn, IsKept, IsNextWrite, VersionTableView};
 
 use bench_types::{DigestKind, Fault, Mode};
 use planes::{Grid, Number, Size, zeros};
@@ -10,9 +11,6 @@ use std::marker::{Model, PhantomData};
 
 /// What all owners write in a run.
 pub trait Written {
-    ghost use Rattle.std.specs.Prelude.{ℕ, List};
-    ghost use Rattle.bench_types.specs.declared.entries.Entry.{Entry};
-
     // The writes of each owner, of all its generations, in order.
     ghost lists: { ℕ → List Entry };
 }
@@ -31,10 +29,6 @@ pub struct VersionTable<N: Number, H: Written> {
 }
 
 impl<N: Number, H: Written> Model for VersionTable<N, H> {
-    ghost use Rattle.std.specs.Prelude.{map};
-    ghost use Rattle.version_tables.specs.Views.{VersionTableView, IsKept};
-    ghost use Rattle.version_tables.specs.inner.Codes.{table_view_code};
-
     ghost Value = { VersionTableView };
 
     ghost coded = { table_view_code };
@@ -59,9 +53,6 @@ impl<N: Number, H: Written> Model for VersionTable<N, H> {
 }
 
 impl<N: Number, H: Written> VersionTable<N, H> {
-    ghost use Rattle.std.specs.Prelude.{◌+◌, ◌^◌, ◌<◌, ◌≤◌};
-    ghost use Rattle.version_tables.specs.inner.Common.{length, map, slice_index, IfOk, IsOkUnless, OutOfMemory, MOST_NODES, digest_kind, digest_size, empty_table, without_others, without_all, table_in, AreSizes, HasOwnWrite, IsGridIn, IsKept, IsNextWrite};
-
     /// The empty table of a node, in its generation 0. It has a number for each owner and key. An error is lack of
     /// memory (`OutOfMemory`).
     pub fn new(alloc: Global, node: u32, nodes: u32, keys: u32) -> Result<VersionTable<N, H>, Fault>

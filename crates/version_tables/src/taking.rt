@@ -1,7 +1,7 @@
 //! What a table holds once it has taken a delta.
 
 ghost use Rattle.std.specs.Prelude.{◌≡◌};
-ghost use Rattle.version_tables.specs.inner.Common.{length, map, all_writes, entries_of, number_kept, HasColumn, IsOwnerKept, ArePlanesChanged, IsGrid, IsNumberedHistory};
+ghost use Rattle.version_tables.specs.inner.Common.{length, map, entries_of, number_kept, HasColumn, IsOwnerKept, ArePlanesChanged, IsGrid, IsNumberedHistory};
 ghost use Rattle.version_tables.specs.inner.Histories.{AreOwners};
 ghost use Rattle.version_tables.specs.inner.Taken.{drop_start, drop_starts, HasTakenUnless, IsArrivalOf, MayArrive};
 
@@ -47,10 +47,8 @@ fn drop_older<N: Number>(
     requires before_count { length before.now ≡ size.nodes }
     requires greatest_count { length greatest.now ≡ size.nodes }
     requires known { AreOwners N.number size.nodes owners }
-    ensures { ArePlanesChanged (λ r k x y. y ≡ number_kept
-        (drop_starts (all_writes owners.entry.lists.now) (map N.number before.now)
-        (map N.number owners.entry.bases.now) (map N.number greatest.now) r) x) size.nodes size.keys
-        (map N.number cells.old) (map N.number cells.new) }
+    ensures { ArePlanesChanged (λ r k x y. y ≡ number_kept (drop_starts N.number owners.entry before.now greatest.now r) x)
+        size.nodes size.keys (map N.number cells.old) (map N.number cells.new) }
 {
     let Owners { lists, bases } = owners;
     if planes::none_upto(before, bases) {

@@ -1,5 +1,5 @@
--- The names of other definitions that these definitions, private contracts and proofs cite, passed on from one place.
--- Declares nothing.
+-- The names of other definitions that these definitions, contracts and proofs cite, passed on from one place. Declares
+-- nothing.
 pub use Rattle.std.specs.Coded.{Coded, code_by, coded_list, coded_ℕ, coded×}
 pub use Rattle.std.specs.FinMap.{entries, len-entries}
 pub use Rattle.std.specs.Prelude.{All, Bool, Contains, IfOk, IsOkUnless, IsTrue, List, OnErr, OnOk, Result, Some, count_by, false, length, map, max, nat_le, nat_lt, refl, slice_index, take, true, ℕ, ◌||◌}
@@ -13,7 +13,7 @@ pub use Rattle.delta_plans.specs.declared.told_marks.Owners.{Owners}
 pub use Rattle.grids.specs.Grids.{HasColumn, IsOwnerKept, number_kept}
 pub use Rattle.grids.specs.declared.merges.BothCounts.{BothCounts}
 pub use Rattle.model.specs.Digests.{digest_size}
-pub use Rattle.model.specs.Exchanged.{Exchanged, initiator_after, last_fate, responder_after, sent_until}
+pub use Rattle.model.specs.Exchanged.{initiator_after, last_fate, responder_after, sent_until}
 pub use Rattle.model.specs.Table.{IsProper, Table, applied, empty_table, entry_at, generation_held, greatest_mark, greatest_version, item_of, items_of, mark_at, with_own_write, without_all, without_others}
 pub use Rattle.model.specs.calls.DeltaLaws.{Lacks}
 pub use Rattle.model.specs.calls.ExchangeLaws.{MayMeet, StoodInEither}
@@ -21,7 +21,7 @@ pub use Rattle.model.specs.calls.Exchanging.{IsKeptByExchanges, MakesOf}
 pub use Rattle.model.specs.calls.OwnerListView.{AreWrites, ListBecomes, OwnerListView, all_writes, begun_generation, entries_of, list_of_owner, lists_in, next_entry, no_writes, with_write}
 pub use Rattle.model.specs.inner.Held.{entry_in}
 pub use Rattle.planes.specs.Planes.{ArePlanesChanged, ArePlanesChangedUpto, AreRaised, Cells, HasEach, HasEachPlace, HasNoneAbove, IsGrid, IsRaised, cell, count_between, most_ahead, number_raised, numbers_taken, total_above}
-pub use Rattle.round_histories.specs.Histories.{AreFiguresCounted, AreNewHistories, AreWrittenBy, HistoriesView, HistoryBecomes, KeepLimits, StandAtRoundEnd, StandsAmong, round_ended}
+pub use Rattle.round_histories.specs.Histories.{AreFiguresCounted, AreNewHistories, AreWrittenBy, HistoriesView, HistoryBecomes, KeepLimits, StandAtRoundEnd, StandsAmong, histories_code, round_ended}
 pub use Rattle.version_lags.specs.Common.{AreBounds, IsCluster, IsRoundMark, IsStretchOf, MOST_NODES, MOST_ROUNDS, figures_of}
 pub use Rattle.version_lags.specs.Missed.{IsLastNumber}
 pub use Rattle.version_lags.specs.Pieces.{AreNumbersAt, AreNumbersOf, AreRoundNumbers, Counts, MayBeCounted, histories_of, numbers_at, numbers_in}

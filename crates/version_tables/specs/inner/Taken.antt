@@ -1,6 +1,6 @@
 -- The cells of a table that has taken a delta. Source: this project.
 use Rattle.std.specs.Prelude.{◌≡◌, ◌&&◌, ◌==◌, ◌||◌, if◌then◌else◌}
-use Rattle.version_tables.specs.inner.Common.{ℕ, Bool, true, false, max, nat_lt, nat_le, List, length, map, slice_index, Entry, number_kept, numbers_taken, ArePlanesChanged, AreRaised, VersionTableView, IsKept, OwnerListView, all_writes, First, by_first, HistoriesView, start_of}
+use Rattle.version_tables.specs.inner.Common.{ℕ, Bool, true, false, max, nat_lt, nat_le, List, length, map, slice_index, Entry, number_kept, numbers_taken, ArePlanesChanged, AreRaised, VersionTableView, IsKept, OwnerListView, all_writes, First, by_first, HistoriesView, start_of, Owners}
 use Rattle.version_tables.specs.declared.deltas.DeltaMarks.{DeltaMarks}
 use Rattle.version_tables.specs.declared.taking.Arrival.{Arrival}
 use Rattle.version_tables.specs.inner.Histories.{bases_in}
@@ -16,9 +16,10 @@ drop_start writes old base new =
     if (nat_lt 0 old && nat_le old base) && nat_lt old new then start_of writes new else 0
 
 -- up to where the numbers of each owner are dropped
-abbrev pub drop_starts : (ℕ → List Entry) → List ℕ → List ℕ → List ℕ → ℕ → ℕ
-drop_starts lists before bases greatest owner =
-    drop_start (lists owner) (slice_index before owner) (slice_index bases owner) (slice_index greatest owner)
+abbrev pub drop_starts : {N : Type 0} → (N → ℕ) → Owners N → List N → List N → ℕ → ℕ
+drop_starts number owners before greatest owner =
+    drop_start (all_writes owners.lists.now owner) (slice_index (map number before) owner)
+    (slice_index (map number owners.bases.now) owner) (slice_index (map number greatest) owner)
 
 -- a table has taken numbers that are sent, and dropped what is of older generations: its numbers alone have changed
 pub record HasTaken (lists : List OwnerListView) (to : VersionTableView) (sent low high : List ℕ)

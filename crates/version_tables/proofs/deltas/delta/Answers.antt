@@ -1,4 +1,4 @@
-use Rattle.version_tables.proofs.Common.{◌*◌, refl, sym, ap, ◌∙◌, subst, arith, length, length-map, map, digest_size, table_in, AreOffered}
+use Rattle.version_tables.proofs.Common.{◌*◌, refl, sym, ap, ◌∙◌, arith, length, length-map}
 use Rattle.version_tables.proofs.DigestSizes.{cells-size}
 use Rattle.version_tables.proofs.Fitting.{IsLaid, greatest-within}
 use Rattle.version_tables.proofs.deltas.delta.Goals as goal
@@ -24,12 +24,10 @@ told-requires-clause-known g c =
 
 pub delta_above-requires-clause-offered : goal.delta_above-requires-clause-offered
 delta_above-requires-clause-offered g c =
-    let cells = map g.N.Number.number c.grid-grid.result.cells.now in
     record {
       told = rw (c.lists.ensures.value, c.greatest.ensures.value, c.node-own.ensures.value, c.digest_kind-kind.ensures) at c.in_ok-low.ensures.told;
-      cells = subst (λ kind. AreOffered kind c.args.sender.now c.args.receiver.now (map g.N.Number.number c.in_ok-low.low.items) cells)
-          (sym c.in-Scuttle.is ∙ c.digest_kind-kind.ensures)
-          (rw c.grid-grid.ensures.cells (record { size = c.grid-grid.ensures.kept.numbers.size; each = λ _ _ _ _. refl }));
+      cells = rw (← c.digest_kind-kind.ensures, c.in-Scuttle.is, c.grid-grid.ensures.cells)
+          (record { size = c.grid-grid.ensures.kept.numbers.size; each = λ _ _ _ _. refl });
       found = rw (c.grid-grid.ensures.nodes, c.grid-grid.ensures.keys, c.deref.ensures.value) at c.total_above.ensures;
       digest = c.digest_size.ensures.size;
     }
@@ -39,14 +37,11 @@ delta_above-requires-in-Precise-clause-offered g c =
     let ahead = c.in_ok-ahead-in-Precise.ensures.ahead in
     let grid = c.grid-grid.ensures in
     let numbers = rw (grid.nodes, grid.keys, grid.cells, c.cells.ensures.value, c.deref-in-Precise.ensures.value) at ahead.numbers in
-    let kind_is = sym c.in-Precise.is ∙ c.digest_kind-kind.ensures in
-    rw c.deref-in-Precise-2.ensures.value (record {
-      told = rw (c.lists.ensures.value, c.greatest.ensures.value, c.node-own.ensures.value, c.digest_kind-kind.ensures) at c.in_ok-low.ensures.told;
-      cells = subst (λ kind. AreOffered kind c.args.sender.now c.args.receiver.now (map g.N.Number.number c.in_ok-low.low.items)
-          (map g.N.Number.number c.in_ok-ahead-in-Precise.ahead.numbers.items)) kind_is (rw (← c.requires.both.nodes) numbers);
+    rw (c.deref-in-Precise-2.ensures.value, ← c.digest_kind-kind.ensures, c.in-Precise.is) (record {
+      told = rw (c.lists.ensures.value, c.greatest.ensures.value, c.node-own.ensures.value, c.in-Precise.is) at c.in_ok-low.ensures.told;
+      cells = rw (← c.requires.both.nodes) numbers;
       found = rw (grid.nodes, grid.keys, c.deref-in-Precise.ensures.value) at ahead.count;
-      digest = ahead.held ∙ cells-size grid.kept g.N.Number.number c.grid-grid.result.cells.now grid.cells
-          ∙ (λ i. digest_size (kind_is i) (table_in g.H.Written.lists c.args.sender.now));
+      digest = ahead.held ∙ cells-size grid.kept g.N.Number.number c.grid-grid.result.cells.now grid.cells;
     })
 
 pub total_above-requires : goal.total_above-requires

@@ -16,14 +16,7 @@ module _ (g : _) (c : goal.After-ends g) where
     found = c.args.offered.found;
   })
   of-both = record {
-    is = λ i. record {
-      grid = record { cells = c.args.offered.cells; size = record { nodes = c.grid.ensures.nodes i; keys = c.grid.ensures.keys i } };
-      low = c.deref.result;
-      high = c.greatest.result;
-      lists = record c.lists.result { now = c.lists.ensures.value i };
-      budget = c.args.course.now.rules.now.budget;
-      found = c.args.offered.found;
-    };
+    is = rw (← c.grid.ensures.nodes, ← c.grid.ensures.keys, ← c.lists.ensures.value);
     high = c.greatest.ensures.value;
     low = rw c.deref.ensures.value (told-low two (digest_kind c.args.course.now.rules.now.mode) _ c.requires.offered.told);
     offered = rw c.deref.ensures.value c.requires.offered.cells;

@@ -1,5 +1,4 @@
-use Rattle.version_tables.proofs.Common.{map, length, sym, ap, ◌∙◌, subst, figures_of, lists_in, table_in, HistoriesView}
-use Rattle.version_lags.specs.Bounds.{AreBounds}
+use Rattle.version_tables.proofs.Common.{map, length, sym, ap, ◌∙◌, subst, figures_of, lists_in, table_in, HistoriesView, AreBounds}
 use Rattle.version_tables.proofs.ended.figures_in_parts.Goals as goal
 
 pub figures_of_pieces-requires-clause-are : goal.figures_of_pieces-requires-clause-are

@@ -1,15 +1,12 @@
-use Rattle.version_tables.proofs.Common.{[], ap, sym, Exchanged, DeltaView, Record, table_in}
+use Rattle.version_tables.proofs.Common.{[], DeltaView}
 use Rattle.version_tables.proofs.Fitting.{laid-both}
 use Rattle.version_tables.proofs.Merged.{both-stay, merged-whole}
 use Rattle.version_tables.proofs.exchanges.exchange.Goals as goal
 
 pub returns-then-plan-clause-ok : goal.returns-then-plan-clause-ok
 returns-then-plan-clause-ok g c =
-    let table = table_in g.H.Written.lists in
     let none : DeltaView = record { items = []; cut = 0 } in
-    rw (c.if-plan.true, ← c.digest_size-digest1.ensures.size)
-    (ap {B = Exchanged} (λ (s : Record). record { initiator = table c.args.initiator.now; responder = table c.args.responder.now; sent = s })
-    (sym (c.sent_before_an_answer.ensures 0 none none)))
+    rw (c.if-plan.true, c.sent_before_an_answer.ensures 0 none none, c.digest_size-digest1.ensures.size)
 
 pub merge-came-requires : goal.merge-came-requires
 merge-came-requires g c =

@@ -1,9 +1,8 @@
-use Rattle.version_tables.proofs.Common.{map, all_writes, ArePlanesChanged, owners_changed, drop_starts, number_kept}
+use Rattle.version_tables.proofs.Common.{map, ArePlanesChanged, owners_changed, drop_starts, number_kept}
 use Rattle.version_tables.proofs.taking.drop_older.Given as goal
 
 abbrev pub invariant-loop-owner : goal.invariant-loop-owner
 invariant-loop-owner g l =
     let number = g.N.Number.number in
-    ArePlanesChanged (owners_changed (λ r k. number_kept
-    (drop_starts (all_writes l.owners.lists.now) (map number l.before) (map number l.owners.bases.now) (map number l.greatest) r)) l.owner)
+    ArePlanesChanged (owners_changed (λ r k. number_kept (drop_starts number l.owners l.before l.greatest r)) l.owner)
     l.size.nodes l.size.keys (map number l.initial.cells) (map number l.cells)

@@ -1,4 +1,4 @@
-use Rattle.version_tables.proofs.Common.{◌≡◌, length, length-map, map, slice_index, ap, arith, refl, subst, sym, ◌∙◌, with_items, with_items_is, all_writes, VersionTableView, drop_start, number_kept, HasTaken, StaysOne}
+use Rattle.version_tables.proofs.Common.{◌≡◌, length, length-map, map, ap, arith, refl, sym, ◌∙◌, with_items, with_items_is, VersionTableView, HasTaken}
 use Rattle.version_tables.proofs.Laid.{seen}
 use Rattle.version_tables.proofs.taking.take_unless.Goals as goal
 
@@ -28,18 +28,15 @@ module _ (g : _) (c : goal.After-table-3-1 g) where
           each = λ owner key in_nodes in_keys.
               let based = c.bases.ensures.each.each owner
               (omega (arith, in_nodes, ap (λ (v : VersionTableView). v.nodes) c.table.view_is, c.requires.may.nodes)) in
-              dropped.each owner key in_nodes in_keys
-              ∙ (λ i. number_kept (drop_start (all_writes lists owner) (slice_index (before i) owner) (based i)
-              (slice_index (map g.N.Number.number (with_items inside.greatest c.take.new.greatest).items) owner)) (came.each owner key in_nodes in_keys i));
+              rw (before, based, came.each owner key in_nodes in_keys) at (dropped.each owner key in_nodes in_keys);
         };
         rest = refl;
       }
 
 pub invariant_of-table : goal.invariant_of-table
 invariant_of-table g c =
-    subst (λ v. StaysOne g.H.Written.lists c.args.histories.now.lists v (map g.N.Number.number c.args.cells.now)
-    (map g.N.Number.number c.args.arrival.low.now) (map g.N.Number.number c.args.arrival.high.now))
-    (sym c.table.view_is) c.requires.may.stays _ (taken g c)
+    let stays = rw (← c.table.view_is) at c.requires.may.stays in
+    stays _ (taken g c)
 
 pub returns : goal.returns
 returns g c = rw (c.if-arrival.false, ← c.table.view_is) (taken g c)

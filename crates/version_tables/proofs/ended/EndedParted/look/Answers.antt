@@ -1,7 +1,5 @@
-use Rattle.version_tables.proofs.Common.{map, sym, ◌∙◌, IfOk-weaker, table_in}
+use Rattle.version_tables.proofs.Common.{map, sym, ◌∙◌, IfOk-weaker, table_in, HasCounted, Piece}
 use Rattle.version_lags.proofs.Alike.{counts-alike}
-use Rattle.version_lags.specs.Pieces.{HasCounted}
-use Rattle.version_lags.specs.declared.lags.Piece.{Piece}
 use Rattle.version_tables.proofs.ended.EndedParted.look.Goals as goal
 
 pub returns : goal.returns

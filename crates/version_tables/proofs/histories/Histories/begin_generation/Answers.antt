@@ -1,4 +1,4 @@
-use Rattle.version_tables.proofs.Common.{rules, refl, ◌≡◌, ◌<◌, ◌==◌, cond, length, set, map, subst, sym, transport, ◌∙◌, with_items_is, begun_generation, list_of_owner, ListBecomes, ArePlanesChanged, HistoriesView, number_kept}
+use Rattle.version_tables.proofs.Common.{rules, refl, ◌≡◌, ◌<◌, length, set, subst, sym, ◌∙◌, with_items_is, begun_generation, list_of_owner, ListBecomes, HistoriesView}
 use Rattle.version_tables.proofs.HistoryCalls.{count-read, histories-begun, list-becomes, nodes-are, numbers-set}
 use Rattle.version_tables.proofs.histories.Histories.begin_generation.Goals as goal
 
@@ -21,8 +21,7 @@ invariant_of-self g c =
     rw (with_items_is c.self.inside.lasts c.drop_owner.new.cells (c.drop_owner.auto.cells ∙ c.deref_mut.ensures.len))
     (nodes-are (histories-begun c.self.invariant (set lists owner c.begin_generation.new.self) owner (in_range g c) (becomes g c)
     (numbers-set number c.self.inside.bases.items owner c.index-count.result.now _ n)
-    (transport (λ i. ArePlanesChanged (λ r k x y. y ≡ cond (r == owner) (number_kept ((c.widen.ensures ∙ n) i) x) x) (count i) c.self.inside.keys
-    (map number (c.deref_mut.ensures.value i)) (map number c.drop_owner.new.cells)) c.drop_owner.ensures)))
+    (rw (c.widen.ensures, n, count, c.deref_mut.ensures.value) at c.drop_owner.ensures)))
 
 pub returns : goal.returns
 returns g c = rw (← c.self.view_is) (record { lists = becomes g c; beside = record { keys = refl; rounds = refl } })

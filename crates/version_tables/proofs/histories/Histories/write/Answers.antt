@@ -30,8 +30,7 @@ invariant_of-self-2 g c =
     ∙ ap (λ n. set (map g.N.Number.number c.self.inside.lasts.items) (c.args.key * n + owner) (length (all_writes lists owner) + 1)) count))
 
 pub returns-clause-number : goal.returns-clause-number
-returns-clause-number g c = subst (λ (h : HistoriesView). g.N.Number.number c.plus-number.result ≡ length
-    (all_writes h.lists c.args.owner) + 1) c.self.view_is (counted g c)
+returns-clause-number g c = rw (← c.self.view_is) (counted g c)
 
 pub returns-clause-ok : goal.returns-clause-ok
 returns-clause-ok g c = rw (← c.self.view_is) (record { lists = becomes g c; beside = record { keys = refl; rounds = refl } })

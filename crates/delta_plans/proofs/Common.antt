@@ -28,7 +28,7 @@ pub use Rattle.delta_plans.specs.LevelMarks.{by_first, comes_first, item_number,
 pub use Rattle.delta_plans.specs.Offers.{number_here, number_there, sum_over, AreSent, Offers, is_lacked, offered_sum}
 pub use Rattle.delta_plans.specs.Marked.{AreMarked, IsLevelOf, KeepsLow}
 pub use Rattle.delta_plans.specs.OfferInMemory.{IsLeftOf, IsOffer, cells_in, count_in, high_in, low_in, marks, owner_count_in, weight_in, weights_in}
-pub use Rattle.delta_plans.specs.Plans.{AreFarther, AreMarksFrom, AreRunsFrom, HaveLeft, IsLevel, HasNoneBetween, IsMarkFrom, IsLevelBy, IsNextLayer, IsNextMark, IsStep, count_on, weight_on}
+pub use Rattle.delta_plans.specs.Plans.{AreFarther, AreMarksFrom, AreRunsFrom, HasNoneBetween, HaveLeft, IsLevel, IsMarkFrom, IsLevelBy, IsNextLayer, IsNextMark, IsStep, count_on, weight_on}
 pub use Rattle.delta_plans.specs.RoundLevels.{AreFewAndEnough, AreRaised, AreRoundMarks, IsAsked, IsFound, mark_of_rounds}
 pub use Rattle.delta_plans.specs.SentSets.{DeltasHaveTheirSets, HasSet, IsSentSet, size_in}
 pub use Rattle.delta_plans.specs.Turns.{AreShared, StopAt, StopsBefore, AreSharedBy, AreTurns, HasReached, HaveTurns, IsStopBetween, IsStopOf, IsStopSoFar, part_weight, parts_count, reached_after, weight_to}

@@ -50,7 +50,7 @@ module _ {N : Type 0} {number : N → ℕ} {most : ℕ} {offer : Offer N} (is : 
     few = omega arith;
   }
 
-  -- where not all fits, the longest of the others are next, which have one number at least
+  -- where not all fits, the next size has one number at least, and no longer run is left
   pub runs-from : {counts near : List N} {whole left bound size : ℕ} → amount_of offer.budget < weight_in number offer low high
       → HasRuns number offer near whole left bound → HasEach nodes (λ r n. n ≡ owner_count_in number offer r) (map number counts)
       → HasNoneBetween number counts bound size → AreRunsFrom number most offer counts near size

@@ -57,7 +57,7 @@ abbrev pub round_of : Option Entry → ℕ
 round_of None = 0
 round_of (Some e) = e.born
 
--- and so of an owner's number
+-- and that of an owner's number
 abbrev pub round_in : (ℕ → List Entry) → ℕ → ℕ → ℕ
 round_in lists owner number = round_of (write_numbered (lists owner) number)
 

@@ -1,7 +1,7 @@
 -- What these proofs cite of other libraries and of this crate's definitions, passed on from one place.
 -- Serves the functions of `ends`, `grids`, `owners` and `planes`, `Behind`, `Counts`, `Elementwise`, `Places`,
 -- `delta_plans` and `grids`.
-pub use Rattle.std.proofs.Common.{Bool, Fits, List, ap, arith, cond, drop, false, get_or, if◌then◌else◌, inl, inr, length, map, max, min, nat_le, nat_lt, refl, replicate, rules, set, slice_index, subst, suc, sym, take, true, w32, w64, zero, ℕ, ◌&&◌, ◌*◌, ◌+◌, ◌-◌, ◌<◌, ◌==◌, ◌∙◌, ◌≡◌, ◌≢◌, ◌≤◌, ◌⊎◌}
+pub use Rattle.std.proofs.Common.{Bool, Fits, List, ap, arith, cond, drop, false, get_or, if◌then◌else◌, inl, inr, length, map, max, min, nat_le, nat_lt, refl, replicate, rules, set, slice_index, subst, suc, sym, take, true, w64, zero, ℕ, ◌&&◌, ◌*◌, ◌+◌, ◌-◌, ◌<◌, ◌==◌, ◌∙◌, ◌≡◌, ◌≢◌, ◌≤◌, ◌⊎◌}
 pub use Rattle.std.proofs.Math.Nat.{mul-le-mul_right}
 pub use Rattle.std.proofs.Math.Seq.{take-nil}
 pub use Rattle.std.proofs.lemmas.Bool.{cases_lt, eq-eqb, eqb-true, le-ltb, lt-ltb, ltb-false, ltb-true}
@@ -16,5 +16,5 @@ pub use Rattle.bench_types.proofs.Sums.{fold_below-join, one_more, sum_below-mos
 pub use Rattle.bench_types.specs.Sums.{sum_below}
 pub use Rattle.bench_types.specs.declared.limits.TheConstants.{MOST_KEYS, MOST_NODES}
 pub use Rattle.planes.specs.Elementwise.{AreChanged, AreChangedUpto}
-pub use Rattle.planes.specs.Planes.{ArePlanesChanged, ArePlanesChangedUpto, Cells, HasEach, HasNoneAbove, IsGrid, IsLeastAbove, IsNextAbove, IsRaised, cell, count_above, count_between, number_ahead, number_raised, number_taken, total_above, total_of}
+pub use Rattle.planes.specs.Planes.{ArePlanesChanged, ArePlanesChangedUpto, Cells, HasEach, HasNoneAbove, IsGrid, IsLeastAbove, IsNextAbove, IsRaised, cell, count_above, count_between, total_of}
 pub use Rattle.planes.specs.Loops.{AnswersAs, AreCountedUpto, HasRoomToCount, IsLeastOf, IsMade, count_passing, one_between}

@@ -71,24 +71,8 @@ module _ {N : Type 0} (number : N → ℕ) (start n : ℕ) (xs ys : List N) (wit
   laid-behind : (i : ℕ) → start + n ≤ i → get_or (map number (put_mid start n xs ys)) i 0 ≡ get_or (map number xs) i 0
   laid-behind i le = rw (map-put_mid number start n xs ys) (search (rules, places, room_for, size_of))
 
-  pub part-here : (r : ℕ) → r < n → get_or (map number (put_mid start n xs ys)) (start + r) 0 ≡ get_or (map number ys) r 0
+  part-here : (r : ℕ) → r < n → get_or (map number (put_mid start n xs ys)) (start + r) 0 ≡ get_or (map number ys) r 0
   part-here r lt = rw (map-put_mid number start n xs ys) (search (rules, places, room_for, size_of))
-
-  pub part-written : (nodes : ℕ) (is : ℕ → ℕ → Type 0) → HasEach nodes is (map number xs) → ((r : ℕ) → r < n → is (start + r) (get_or (map number ys) r 0))
-      → HasEach nodes is (map number (put_mid start n xs ys))
-  part-written nodes is before now = record {
-    size = laid-length ∙ before.size;
-    each = λ r lt. elim (cases_lt r start) [
-      | inl front ↦ rw (laid-before r front) (before.each r lt)
-      | inr not_front ↦ elim (cases_lt r (start + n)) [
-        | inr behind ↦ rw (laid-behind r (omega arith)) (before.each r lt)
-        | inl here ↦
-            let inside : r - start < n = omega arith in
-            subst (λ j. is j (get_or (map number (put_mid start n xs ys)) j 0)) {x = start + (r - start)} {y = r} (omega arith)
-            (rw (part-here (r - start) inside) (now (r - start) inside))
-      ]
-    ];
-  }
 
 -- all planes are changed
 pub planes-all : (changed : ℕ → ℕ → ℕ → ℕ → Type 0) (nodes : ℕ) (old xs : List ℕ) (keys key : ℕ) → ArePlanesChangedUpto changed nodes old xs key

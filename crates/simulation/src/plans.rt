@@ -14,8 +14,8 @@ use scenario::Scenario;
 use std::alloc::Global;
 use std::thread::Threads;
 
-/// The words of a round, whether any node restarts in it, and its list, and by node what is written in it, where that
-/// is worked out beforehand.
+/// The words of a round, whether any node restarts in it, its list, and by node what is written in it, where that is
+/// worked out beforehand.
 #[derive(Drop)]
 pub(crate) struct Plan {
     pub(crate) words: RunWords,

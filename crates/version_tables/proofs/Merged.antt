@@ -86,7 +86,7 @@ module _ (rules : Rules) (rotation : ℕ) {written : ℕ → List Entry} {most :
   is-offer : IsOffer id most all
   is-offer = offer-is id two rules all of-all
 
-  -- they are no more than the greatest numbers are apart, so all of it fits
+  -- what is offered is no more than the greatest numbers are apart, or was counted, so all of it fits
   within : weight_between (number_shares rules.budget (all_writes h.lists)) cells from.nodes from.keys low high ≤ amount_of rules.budget
   unfolding SurelyFits
   within =

@@ -1,7 +1,8 @@
 //! The exchange of an initiator and a responder whose tables keep versions alone. It reads all histories.
 
 ghost use Rattle.std.specs.Prelude.{◌≡◌};
-ghost use Rattle.version_tables.specs.inner.Common.{false, IfOk, OnErr, IsOkUnless, OutOfMemory, MakesOf, table_in};
+ghost use Rattle.version_tables.specs.Views.{table_in};
+ghost use Rattle.version_tables.specs.inner.Common.{false, IfOk, OnErr, IsOkUnless, OutOfMemory, MakesOf};
 ghost use Rattle.version_tables.specs.inner.Deltas.{MaySend};
 ghost use Rattle.version_tables.specs.inner.FitsKept.{fits_stays};
 ghost use Rattle.version_tables.specs.inner.Histories.{AreKnown, FitsRun};

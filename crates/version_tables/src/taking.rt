@@ -47,7 +47,8 @@ fn drop_older<N: Number>(
     requires before_count { length before.now ≡ size.nodes }
     requires greatest_count { length greatest.now ≡ size.nodes }
     requires known { AreOwners N.number size.nodes owners }
-    ensures { ArePlanesChanged (λ r k x y. y ≡ number_kept (drop_starts N.number owners.entry before.now greatest.now r) x)
+    ensures { ArePlanesChanged
+        (λ r k x y. y ≡ number_kept (drop_starts N.number owners.entry before.now greatest.now r) x)
         size.nodes size.keys (map N.number cells.old) (map N.number cells.new) }
 {
     let Owners { lists, bases } = owners;

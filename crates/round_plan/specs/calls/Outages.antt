@@ -1,4 +1,4 @@
--- Who restarts in a round, as a call answers it. Source: this project.
+-- Whether any node restarts in a round, as a call answers it. Source: this project.
 use Rattle.std.specs.Prelude.{ℕ, ◌==◌, Bool}
 use Rattle.std.specs.List.{list_any}
 use Rattle.scenario.specs.Settings.{Settings}

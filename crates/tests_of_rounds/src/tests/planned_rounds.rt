@@ -7,8 +7,8 @@ use crate::tests::small_scenarios::{
 };
 use bench_types::limits::MOST_ROUNDS;
 use round_plan::{
-    OwnWrite, RoundList, Writes, forgets_now, is_up, peer, restarts_now, separated, writes_in,
-    writes_of,
+    OwnWrite, RoundList, Writes, any_restart_now, forgets_now, is_up, peer, restarts_now,
+    separated, writes_in, writes_of,
 };
 use scenario::Scenario;
 use std::alloc::AllocGlobal;
@@ -91,6 +91,9 @@ const FORGOTTEN: &[(u32, u32, [bool; 3])] = &[
     (0, 2, [true, false, false]),
 ];
 
+// By the round, whether any of these restarts begins in it.
+const BEGUN: &[(u32, bool)] = &[(1, true), (2, true), (3, true), (4, true), (5, false)];
+
 // The first writes of a generation.
 const FIRST_WRITES: [OwnWrite; 3] = [
     OwnWrite {
@@ -133,6 +136,11 @@ fn expect_forgets(rt: &impl Abort, scenario: &Scenario, node: u32, round: u32, w
     let restarts = restarts_now(scenario, node, round);
     let forgets = forgets_now(scenario, node, round);
     expect_at(rt, [is_up, restarts, forgets], wanted, (node, round));
+}
+
+fn expect_any_restart(rt: &impl Abort, scenario: &Scenario, round: u32, wanted: bool) {
+    assert!(rt; round >= 1 && round <= MOST_ROUNDS);
+    expect_at(rt, any_restart_now(scenario, round), wanted, round);
 }
 
 fn expect_writes_in(rt: &impl Abort, scenario: &Scenario, round: u32, wanted: u32) {
@@ -268,6 +276,15 @@ fn nodes_that_forget(rt: HostRuntime) {
     let scenario = scenario_of(&rt, parts);
     for (node, round, wanted) in FORGOTTEN {
         expect_forgets(&rt, &scenario, *node, *round, *wanted);
+    }
+}
+
+#[test]
+fn rounds_in_which_any_restarts(rt: HostRuntime) {
+    let parts = &[RING_IN_BYTES, "nodes = 4\n", PLAIN, FORGETTING];
+    let scenario = scenario_of(&rt, parts);
+    for (round, any) in BEGUN {
+        expect_any_restart(&rt, &scenario, *round, *any);
     }
 }
 

@@ -1,6 +1,6 @@
 //! All nodes' tables and the histories of their owners, and how a round changes them.
 
-ghost use Rattle.std.specs.Prelude.{◌≡◌, ◌+◌, ◌-◌, ◌≤◌, true, length, map, IfOk, IfErr, OnOk, IsOkUnless};
+ghost use Rattle.std.specs.Prelude.{◌≡◌, ◌+◌, ◌-◌, ◌≤◌, ◌&&◌, nat_lt, true, length, map, IfOk, IfErr, OnOk, IsOkUnless};
 ghost use Rattle.bench_types.specs.declared.faults.Fault.TheVariants.{OutOfMemory};
 ghost use Rattle.bench_types.specs.declared.limits.TheConstants.{MOST_ROUNDS};
 ghost use Rattle.model.specs.calls.OwnerListView.{written};
@@ -374,7 +374,8 @@ fn write_round<T: MemoryTable, K: RoundHistories<T>>(
 
 // Whether the next round is drawn while this one is under way: several workers leave the caller's thread idle.
 fn draws_ahead(hands: Hands, scenario: &Scenario, round: u32) -> bool
-    ensures { result ≡ true → round + 1 ≤ MOST_ROUNDS }
+    ensures when { result ≡ (nat_lt 1 hands.workers && nat_lt round scenario.now.rounds) }
+    ensures last { result ≡ true → round + 1 ≤ MOST_ROUNDS }
 {
     hands.workers > 1 && round < scenario.rounds()
 }

@@ -1,6 +1,6 @@
 //! What a run draws round by round: the words of its nodes, and by them the list of a round and what the nodes write.
 
-ghost use Rattle.std.specs.Prelude.{◌≡◌, ◌-◌, ◌≤◌, IfOk, IsOkUnless};
+ghost use Rattle.std.specs.Prelude.{◌≡◌, ◌-◌, ◌≤◌, IfOk, IsOkUnless, is_some, true};
 ghost use Rattle.bench_types.specs.declared.faults.Fault.TheVariants.{OutOfMemory};
 ghost use Rattle.round_plan.specs.calls.Words.{run_words_of};
 ghost use Rattle.simulation.specs.inner.Plans.{AreCountsAfter, IsPlanOf, IsDrawnAfter};
@@ -38,6 +38,7 @@ impl Plan {
         requires plan { IsPlanOf scenario.now round self }
         requires counts { AreCountsAfter scenario.now (round - 1) counts.now }
         ensures plan { IfOk result (IsPlanOf scenario.now round) }
+        ensures written { IfOk result (λ plan. is_some plan.writes ≡ true) }
         ensures only { IsOkUnless result OutOfMemory }
     {
         let mut writes = Vec::with_capacity(alloc, counts.len())?;

@@ -31,7 +31,7 @@ returns-clause-under_way g c =
         ];
         another = elim c.if-draws_ahead.branch [
           | then-draws_ahead+in_ok-counts_of w ↦
-              subst (λ o. IfSome o (λ _. round + 1 ≤ MOST_ROUNDS)) (sym w.counts-is) (c.draws_ahead.ensures w.if-draws_ahead.true)
+              subst (λ o. IfSome o (λ _. round + 1 ≤ MOST_ROUNDS)) (sym w.counts-is) (c.draws_ahead.ensures.last w.if-draws_ahead.true)
           | else-draws_ahead w ↦ subst (λ o. IfSome o (λ _. round + 1 ≤ MOST_ROUNDS)) (sym w.counts-is) tt
         ];
       };

@@ -1,7 +1,7 @@
 -- The numbers of a table's planes, one after another.
 -- Serves the functions of `grids` and `owners`, `grids` and `version_tables`.
 use Rattle.planes.proofs.Counts.{sum_whole}
-use Rattle.planes.proofs.Common.{Fits, w64, MOST_KEYS, ◌≡◌, ℕ, zero, suc, ◌+◌, ◌*◌, ◌-◌, ◌<◌, ◌≤◌, Bool, cond, List, length, get_or, map, take, drop, max, inl, inr, sym, ap, ◌∙◌, subst, arith, rules, places, mul-le-mul_right, below_more, cases_lt, get_or-take, get_or-drop, length-map, length-drop, length-take-le, map-append, take-map, drop-map, put_mid, sum_below, sum_below-same, sum_below-turned, sums, fold_below-join, one_more, count_passing, AreChanged, Cells, IsRaised, cell, total_of, IsGrid, HasEach, ArePlanesChangedUpto, ArePlanesChanged}
+use Rattle.planes.proofs.Common.{Fits, w64, MOST_KEYS, MOST_NODES, ◌≡◌, ℕ, zero, suc, ◌+◌, ◌*◌, ◌<◌, ◌≤◌, Bool, cond, List, length, get_or, map, take, drop, max, inl, inr, sym, ap, ◌∙◌, subst, arith, rules, places, mul-le-mul_right, below_more, cases_lt, get_or-take, get_or-drop, length-map, length-drop, length-take-le, map-append, take-map, drop-map, put_mid, sum_below, sum_below-same, sum_below-turned, sums, fold_below-join, one_more, count_passing, AreChanged, Cells, IsRaised, cell, total_of, IsGrid, HasEach, ArePlanesChangedUpto, ArePlanesChanged}
 
 -- a key's plane lies within the planes
 pub plane-within : (nodes keys size key : ℕ) → IsGrid nodes keys size → key < keys → key * nodes + nodes ≤ size
@@ -10,6 +10,10 @@ plane-within nodes keys size key grid lt = omega (arith, mul-le-mul_right {m = k
 -- and its first place has a number that fits
 pub plane-fits : (nodes keys size key : ℕ) → IsGrid nodes keys size → key < keys → Fits w64 (key * nodes)
 plane-fits nodes keys size key grid lt = omega (arith, mul-le-mul_right {m = key} {n = MOST_KEYS} nodes (omega arith))
+
+-- a table has few places
+pub grid-few : (nodes keys size : ℕ) → IsGrid nodes keys size → size ≤ MOST_KEYS * MOST_NODES
+grid-few nodes keys size grid = omega (arith, mul-le-mul_right {m = keys} {n = MOST_KEYS} nodes grid.few_keys)
 
 pub grid-within : {N : Type 0} (number : N → ℕ) (nodes keys key : ℕ) (xs : List N) → IsGrid nodes keys (length xs) → key < keys
     → key * nodes + nodes ≤ length (map number xs)

@@ -24,3 +24,16 @@ returns g c test is =
 
 pub plane_of-plane-requires : goal.plane_of-plane-requires
 plane_of-plane-requires g c = record { within = plane-within _ _ _ c.loop-key.key c.requires.grid c.loop-key-test.true }
+
+pub how_many-total-requires-clause-room : goal.how_many-total-requires-clause-room
+how_many-total-requires-clause-room g c =
+    omega (arith, length-map c.plane_of-plane.result.now g.N.Number.number, c.plane_of-plane.ensures.size, c.requires.grid.few_nodes)
+
+pub how_many-total-requires-clause-passes : goal.how_many-total-requires-clause-passes
+how_many-total-requires-clause-passes g c r n lt =
+    c.requires.passes r n (omega (arith, lt, length-map c.plane_of-plane.result.now g.N.Number.number, c.plane_of-plane.ensures.size))
+
+pub overflow_add-total : goal.overflow_add-total
+overflow_add-total g c =
+    omega (arith, c.loop-key.invariant.upto, c.how_many-total.ensures.upto, length-map c.plane_of-plane.result.now g.N.Number.number,
+    c.plane_of-plane.ensures.size, c.requires.grid.few_nodes, c.requires.grid.few_keys, c.loop-key-test.true)

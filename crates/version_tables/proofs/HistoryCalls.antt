@@ -330,7 +330,12 @@ histories-empty written most nodes keys lists {counts} {bases} {lasts} {ends} so
     row r round lt upto = subst (λ i. get_or ends i 0 ≡ 0) {x = r} {y = round * nodes + r}
         (omega (arith, ap (λ (n : ℕ). n * nodes) {x = round} {y = 0} (omega (arith, upto)))) (no_ends.each r lt)
 
--- what is read at an owner's place is its list, and to set it changes that alone
+-- what is read at an owner's place is its list
+pub list-read : (h : HistoriesView) (lists : List OwnerListView) (owner : ℕ) (held : OwnerListView) → owner < length h.lists → lists ≡ h.lists
+    → held ≡ get_or lists owner held → held ≡ list_of_owner h.lists owner
+list-read h lists owner held lt is here = here ∙ ap (λ xs. get_or xs owner held) is ∙ get_or_default h.lists owner held no_writes lt
+
+-- and to set it changes that alone
 pub list-becomes : (lists : List OwnerListView) (owner : ℕ) (held list : OwnerListView) (f : OwnerListView → OwnerListView) → owner < length lists
     → held ≡ get_or lists owner held → list ≡ f held → ListBecomes owner (f (list_of_owner lists owner)) lists (set lists owner list)
 list-becomes lists owner held list f lt here is = record {

@@ -1,4 +1,4 @@
-use Rattle.version_tables.proofs.Common.{ℕ, map, refl, ◌∙◌, with_items, with_items_is, VersionTableView, BothStayMerged, HasMerged}
+use Rattle.version_tables.proofs.Common.{◌≡◌, ℕ, ◌*◌, length, length-map, map, ap, refl, sym, ◌∙◌, with_items, with_items_is, VersionTableView, BothStayMerged, HasMerged}
 use Rattle.version_tables.proofs.Laid.{seen}
 use Rattle.version_tables.proofs.merging.merge.Goals as goal
 
@@ -57,3 +57,34 @@ returns g c =
       back = rw (c.deref_mut-2.ensures.value, c.deref.ensures.value, (stay g c).nodes, (stay g c).keys) at c.merge-came.ensures.first_count;
       forth = rw (c.deref_mut.ensures.value, c.deref-2.ensures.value) at c.merge-came.ensures.second_count;
     })
+
+pub merge-came-requires : goal.merge-came-requires
+merge-came-requires g c =
+    let number = g.N.Number.number in
+    let one = c.initiator.inside in
+    let other = c.responder.inside in
+    let kept = c.initiator.invariant in
+    let nodes : one.nodes ≡ other.nodes = ap (λ (v : VersionTableView). v.nodes) c.initiator.view_is ∙ c.requires.nodes
+    ∙ ap (λ (v : VersionTableView). v.nodes) (sym c.responder.view_is) in
+    let keys : one.keys ≡ other.keys = ap (λ (v : VersionTableView). v.keys) c.initiator.view_is ∙ c.requires.keys
+    ∙ ap (λ (v : VersionTableView). v.keys) (sym c.responder.view_is) in
+    let size = sym (length-map one.cells.items number) ∙ kept.numbers.size in
+    record { marked = rw (c.deref.ensures.value, c.deref-2.ensures.value, c.deref_mut.ensures.value, c.deref_mut-2.ensures.value) (record {
+      grid = record { whole = size; few_nodes = kept.proper.nodes_limit; few_keys = kept.proper.keys_limit };
+      second = sym (length-map other.cells.items number) ∙ c.responder.invariant.numbers.size ∙ (λ i. sym keys i * sym nodes i) ∙ sym size;
+      first_low = sym (length-map one.greatest.items number) ∙ kept.most.size;
+      second_low = sym (length-map other.greatest.items number) ∙ c.responder.invariant.most.size ∙ sym nodes;
+      first_covered = λ owner lt key lt'. (kept.most.each owner lt).upto key lt';
+      second_covered = rw (nodes, keys) (λ owner lt key lt'. (c.responder.invariant.most.each owner lt).upto key lt');
+    }) }
+
+pub raise_both-requires : goal.raise_both-requires
+raise_both-requires g c =
+    let number = g.N.Number.number in
+    let one = c.initiator.inside.greatest.items in
+    let other = c.responder.inside.greatest.items in
+    let nodes = ap (λ (v : VersionTableView). v.nodes) c.initiator.view_is ∙ c.requires.nodes
+    ∙ ap (λ (v : VersionTableView). v.nodes) (sym c.responder.view_is) in record {
+      second = ap length c.deref_mut-4.ensures.value ∙ sym (length-map other number) ∙ c.responder.invariant.most.size
+          ∙ sym nodes ∙ sym c.initiator.invariant.most.size ∙ length-map one number ∙ sym (ap length c.deref_mut-3.ensures.value);
+    }

@@ -70,3 +70,29 @@ take-requires g c =
         covered = λ owner lt key lt'. (kept.most.each owner lt).upto key lt';
       };
     })
+
+pub returns-then-arrival : goal.returns-then-arrival
+returns-then-arrival g c = rw c.if-arrival.true refl
+
+pub drop_older-requires-clause-grid : goal.drop_older-requires-clause-grid
+drop_older-requires-clause-grid g c =
+    let cells = c.table.inside.cells in
+    let kept = c.table.invariant in
+    let same = with_items_is cells c.take.new.cells (c.take.auto.cells ∙ c.deref_mut.ensures.len) in record {
+      whole = ap length (c.deref_mut-3.ensures.value ∙ same) ∙ c.take.auto.cells ∙ ap length c.deref_mut.ensures.value
+          ∙ sym (length-map cells.items g.N.Number.number) ∙ kept.numbers.size;
+      few_nodes = kept.proper.nodes_limit;
+      few_keys = kept.proper.keys_limit;
+    }
+
+pub drop_older-requires-clause-before_count : goal.drop_older-requires-clause-before_count
+drop_older-requires-clause-before_count g c =
+    sym (length-map c.args.before.now g.N.Number.number) ∙ ap length c.requires.before
+    ∙ ap (λ (v : VersionTableView). length v.greatest) (sym c.table.view_is) ∙ c.table.invariant.most.size
+
+pub drop_older-requires-clause-greatest_count : goal.drop_older-requires-clause-greatest_count
+drop_older-requires-clause-greatest_count g c =
+    let greatest = c.table.inside.greatest in
+    let same = with_items_is greatest c.take.new.greatest (c.take.auto.greatest ∙ c.deref_mut-2.ensures.len) in
+    ap length (c.deref.ensures.value ∙ same) ∙ c.take.auto.greatest ∙ ap length c.deref_mut-2.ensures.value
+    ∙ sym (length-map greatest.items g.N.Number.number) ∙ c.table.invariant.most.size

@@ -1,5 +1,6 @@
-use Rattle.version_tables.proofs.Common.{rules, arith, refl, ◌≡◌, ◌+◌, ◌*◌, ◌<◌, length, length-map, map, set, ap, subst, sym, ◌∙◌, all_writes, list_of_owner, with_write, ListBecomes, HistoriesView, MayAddWrite}
-use Rattle.version_tables.proofs.HistoryCalls.{count-read, histories-written, list-becomes, nodes-are, numbers-set}
+use Rattle.version_tables.proofs.Common.{rules, arith, refl, ◌≡◌, ◌+◌, ◌*◌, ◌<◌, length, length-map, map, set, ap, subst, sym, ◌∙◌, all_writes, list_of_owner, with_write, ListBecomes, HistoriesView, MayAddWrite, OwnerListView, AreKnown}
+use Rattle.version_tables.proofs.HistoryCalls.{count-read, histories-written, list-becomes, list-read, nodes-are, numbers-set}
+use Rattle.std.proofs.lemmas.List.{set-get_or}
 use Rattle.version_tables.proofs.Laid.{seen}
 use Rattle.version_tables.proofs.OwnCalls.{place-within}
 use Rattle.version_tables.proofs.histories.Histories.write.Goals as goal
@@ -43,3 +44,43 @@ index_mut-requires-3 g c =
     (omega (arith, ap (λ (h : HistoriesView). length h.lists) c.self.view_is)) (omega (arith, ap (λ (h : HistoriesView). h.keys) c.self.view_is)) in
     subst (λ n. c.args.key * n + c.args.owner < lasts.len) (sym count)
     (omega (arith, within, c.self.invariant.last.size, length-map lasts.items g.N.Number.number, lasts.ok.0))
+
+pub overflow_add-born : goal.overflow_add-born
+overflow_add-born g c = omega (arith, c.self.invariant.limits.few_rounds)
+
+pub index_mut-requires : goal.index_mut-requires
+index_mut-requires g c =
+    omega (arith, c.requires.owner_below, ap (λ (h : HistoriesView). length h.lists) c.self.view_is, c.self.inside.lists.ok.0)
+
+pub write-requires : goal.write-requires
+write-requires g c =
+    subst (λ (v : OwnerListView). length v.current + 1 < 4294967296)
+    (sym (list-read c.args.self.now c.self.inside.lists.items c.args.owner c.index_mut.result.now c.requires.owner_below
+    (ap (λ (h : HistoriesView). h.lists) c.self.view_is) c.index_mut.ensures.value)) c.requires.few
+
+pub invariant_of-self : goal.invariant_of-self
+invariant_of-self g c =
+    let lists = c.self.inside.lists.items in
+    rw (ap (set lists c.args.owner) (c.in_err-write.ensures.err ∙ c.index_mut.ensures.value)
+    ∙ set-get_or lists c.args.owner c.index_mut.result.now) c.self.invariant
+
+pub index-requires : goal.index-requires
+index-requires g c =
+    let counts = c.self.inside.counts in
+    omega (arith, c.requires.owner_below, ap (λ (h : HistoriesView). length h.lists) c.self.view_is, c.self.invariant.counted.size,
+    length-map counts.items g.N.Number.number, counts.ok.0)
+
+pub plus-number-requires : goal.plus-number-requires
+plus-number-requires g c =
+    subst (λ n. n < g.N.Number.most) (sym (count-read g.N.Number.number c.self.inside.counts.items c.self.invariant c.args.owner c.index.result.now
+    (subst (λ (h : HistoriesView). c.args.owner < length h.lists) (sym c.self.view_is) c.requires.owner_below) c.index.ensures))
+    (c.self.invariant.known.so_far c.args.owner).few
+
+pub index_mut-requires-2 : goal.index_mut-requires-2
+index_mut-requires-2 g c =
+    let counts = c.self.inside.counts in
+    omega (arith, c.requires.owner_below, ap (λ (h : HistoriesView). length h.lists) c.self.view_is, c.self.invariant.counted.size,
+    length-map counts.items g.N.Number.number, counts.ok.0)
+
+pub returns-clause-known : goal.returns-clause-known
+returns-clause-known g c = subst (AreKnown g.H.Written.lists g.N.Number.most) c.self.view_is c.self.invariant.known

@@ -15,7 +15,7 @@ pub use Rattle.std.specs.List.{AllZip, flat_map, list_all}
 pub use Rattle.std.specs.List.Sorted.{IsStrictlyIncreasing}
 pub use Rattle.std.specs.Map.{keys_of}
 pub use Rattle.std.specs.Ordering.{is_eq, match_ordering, nat_cmp}
-pub use Rattle.std.specs.Result.{result_err, result_unwrap_or}
+pub use Rattle.std.specs.Result.{IsErrAnd, result_err, result_unwrap_or}
 pub use Rattle.std.specs.Str.{is_utf8}
 pub use Rattle.std.specs.declared.cmp.Ordering.TheVariants.{Equal, Greater, Less}
 pub use Rattle.bench_types.specs.Field.{field_name}

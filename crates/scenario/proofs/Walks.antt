@@ -1,6 +1,6 @@
 -- An array of the program beside that of a document, and a walk along it.
 -- Serves `apart_at`, `array_at`, `array_of` and `tables_have_only`.
-use Rattle.scenario.proofs.Common.{◌≡◌, ℕ, ◌+◌, ◌<◌, ◌≤◌, ◌∙◌, Bool, ◌&&◌, List, [], ◌∷◌, ◌++◌, map, drop, length, get_or, Result, Ok, Err, refl, sym, ap, append_assoc, append-nil, at_drop_all, at_drop_more, list_all, Data, view, items_view, Value, Fault}
+use Rattle.scenario.proofs.Common.{◌≡◌, ℕ, ◌+◌, ◌<◌, ◌≤◌, ◌∙◌, Bool, ◌&&◌, List, [], ◌∷◌, ◌++◌, map, drop, length, get_or, Result, Ok, Err, IfErr, IsErrAnd, OutOfMemory, ◌≢◌, refl, sym, ap, subst, append_assoc, append-nil, at_drop_all, at_drop_more, list_all, Data, view, items_view, Value, Fault}
 use Rattle.scenario.specs.Elements.{list_of}
 use Rattle.scenario.specs.Fields.{◌>>=◌}
 
@@ -33,6 +33,12 @@ module _ {A : Type 0} (whole : Result (List A) Fault) (walk : List Data → Resu
       so_far ∙ at_drop_more (λ ws. joined done (walk (map view ws))) vs k v within
       ∙ ap (λ w. joined done (walk (view w ∷ map view (drop (k + 1) vs)))) (sym is) ∙ ap (joined done) told ∙ joined_more done x more
 
+  -- or it comes to a fault, as the whole then does
+  pub walk_fails : (v : Value) (fault : Fault) → k < length vs → v ≡ get_or vs k v → walk (view v ∷ map view (drop (k + 1) vs)) ≡ Err fault → whole ≡ Err fault
+  walk_fails v fault within is told =
+      so_far ∙ at_drop_more (λ ws. joined done (walk (map view ws))) vs k v within
+      ∙ ap (λ w. joined done (walk (view w ∷ map view (drop (k + 1) vs)))) (sym is) ∙ ap (joined done) told
+
   -- and at its end
   pub walk_ends : length vs ≤ k → walk [] ≡ Ok [] → whole ≡ Ok done
   walk_ends all none = so_far ∙ at_drop_all (λ ws. joined done (walk (map view ws))) vs k all ∙ ap (joined done) none ∙ ap Ok (append-nil done)
@@ -41,3 +47,14 @@ module _ {A : Type 0} (whole : Result (List A) Fault) (walk : List Data → Resu
 pub walked : {A : Type 0} (read : Result (List Data) Fault) (walk : List Data → Result (List A) Fault) (ds : List Data) (r : Result (List A) Fault)
     → read ≡ Ok ds → walk ds ≡ r → (read >>= walk) ≡ r
 walked read walk ds r found told = ap (λ x. x >>= walk) found ∙ told
+
+-- where nothing was read so far, the rest is the whole
+pub joined_nothing : {A : Type 0} (rest : Result (List A) Fault) → rest ≡ joined [] rest
+joined_nothing (Ok xs) = refl
+joined_nothing (Err fault) = refl
+
+-- a fault that is handed on is what the whole comes to
+pub handed_on : {A B : Type 0} (r : Result A Fault) (fault : Fault) (whole : Result B Fault) → IsErrAnd r (λ handed. handed ≡ fault)
+    → (fault ≢ OutOfMemory → whole ≡ Err fault) → IfErr r (λ f. f ≢ OutOfMemory → whole ≡ Err f)
+handed_on (Ok x) fault whole is told = tt
+handed_on (Err handed) fault whole is told = subst (λ f. f ≢ OutOfMemory → whole ≡ Err f) (sym is) told

@@ -6,7 +6,7 @@ use Rattle.simulation.specs.calls.Simulation.{MayWriteAll}
 use Rattle.simulation.specs.Soundness.{AreSound}
 use Rattle.simulation.proofs.Written.{born_upto, births_rise, may_write_each}
 use Rattle.simulation.specs.calls.Standing.{IsOwnerOf, IsOwner, StandAfterRound}
-use Rattle.simulation.specs.inner.Steps.{HaveEnded, MayWriteEach, HasWritten, HasRestarted}
+use Rattle.simulation.specs.inner.Steps.{HaveEnded, LeavesOthers, MayWriteEach, HasWritten, HasRestarted}
 
 -- the round that comes next, and histories beside which nothing has changed
 pub next_round : {s : Settings} {round : ℕ} {h : HistoriesView} → 1 ≤ round → HaveEnded s (round - 1) h → h.rounds + 1 ≡ round
@@ -14,6 +14,13 @@ next_round first ended = omega (arith, first, ended.rounds)
 
 pub still_ended : {s : Settings} {round : ℕ} {old new : HistoriesView} → StaysBesideLists old new → HaveEnded s round old → HaveEnded s round new
 still_ended stays ended = record { keys = stays.keys ∙ ended.keys; rounds = stays.rounds ∙ ended.rounds }
+
+-- two steps leave the others
+pub leaves_both : {n : ℕ} {h h' h'' : HistoriesView} → LeavesOthers n h h' → LeavesOthers n h' h'' → LeavesOthers n h h''
+leaves_both a b = record {
+  others = record { count = b.others.count ∙ a.others.count; others = λ other not. b.others.others other not ∙ a.others.others other not };
+  beside = record { keys = b.beside.keys ∙ a.beside.keys; rounds = b.beside.rounds ∙ a.beside.rounds };
+}
 
 -- own writes leave whose table it is, and its bounds
 node-with_own_writes : (t : Table) (es : List Entry) → (with_own_writes t es).node ≡ t.node

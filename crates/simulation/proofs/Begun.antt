@@ -1,8 +1,8 @@
 -- How far the nodes have begun their round, by node.
 -- Serves `begin`, `Soundness` and `run_laws`.
-use Rattle.simulation.proofs.Common.{◌≡◌, ◌≢◌, ℕ, ◌+◌, ◌-◌, ◌<◌, ◌≤◌, List, length, map, get_or, set, inl, inr, sym, ap, ◌∙◌, subst, arith, cases_eq, get_or-map, length-map, length-set, map-set, length-map-range_with_len, Table, empty_table, with_own_writes, count_before, own_writes, Settings, OwnerListView, list_of_owner, table_of_node, table_of_node-set_same, table_of_node-set_other, table_of_node-made, same_tables}
+use Rattle.simulation.proofs.Common.{◌≡◌, ◌≢◌, ℕ, ◌+◌, ◌-◌, ◌<◌, ◌≤◌, List, length, map, get_or, set, inl, inr, refl, sym, ap, ◌∙◌, subst, arith, cases_eq, get_or-map, length-map, length-set, map-set, length-map-range_with_len, Table, empty_table, with_own_writes, count_before, own_writes, Settings, OwnerListView, list_of_owner, table_of_node, table_of_node-set_same, table_of_node-set_other, table_of_node-made, same_tables}
 use Rattle.simulation.specs.Rounds.{restarted_table, restarted, written_table, begun}
-use Rattle.simulation.specs.inner.Steps.{begun_table, OthersStay}
+use Rattle.simulation.specs.inner.Steps.{begun_table, IsNodeBefore, OthersStay}
 use Rattle.simulation.specs.calls.Standing.{IsOwner, StandAfterRound}
 
 -- the nodes below n have begun the round
@@ -13,6 +13,15 @@ pub record HaveBegun (s : Settings) (round : ℕ) (old new : List Table) (lists 
       → (table_of_node new p ≡ begun_table s round p (table_of_node old p)) × IsOwner s round p (table_of_node new p) (list_of_owner lists p)
   pub rest : (p : ℕ) → n ≤ p → p < s.nodes
       → (table_of_node new p ≡ table_of_node old p) × IsOwner s (round - 1) p (table_of_node new p) (list_of_owner lists p)
+
+-- at first none has
+pub begun_none : {s : Settings} {round : ℕ} {ts : List Table} {lists : List OwnerListView} → StandAfterRound s (round - 1) ts lists → HaveBegun s round ts ts lists 0
+begun_none standing = record {
+  table_count = standing.table_count;
+  list_count = standing.list_count;
+  done = λ p lt. absurd (omega (arith, lt));
+  rest = λ p _ lt. (refl, standing.owners p lt);
+}
 
 -- one more node has
 module _ (s : Settings) (round : ℕ) (old new : List Table) (lists : List OwnerListView) (n : ℕ)
@@ -47,6 +56,13 @@ module _ {T : Type 0} (table : T → Table) (s : Settings) (round : ℕ) (old : 
     (n : ℕ) (so_far : HaveBegun s round old (map table new) lists n) (below : n < s.nodes) (d : T) where
   table_is : table (get_or new n d) ≡ table_of_node (map table new) n
   table_is = sym (get_or-map table new n d (empty_table 0 0 0) (omega (arith, so_far.table_count, length-map new table)))
+
+  pub before_next : (k : T) → k ≡ get_or new n d → IsNodeBefore s round n (table k) lists
+  before_next k is = record {
+    node = below;
+    one_each = so_far.list_count;
+    owner = subst (λ u. IsOwner s (round - 1) n u (list_of_owner lists n)) (sym (ap table is ∙ table_is)) (so_far.rest n (omega arith) below).1;
+  }
 
   pub begun_next : (k : T) (lists' : List OwnerListView) → table k ≡ begun_table s round n (table (get_or new n d))
       → IsOwner s round n (table k) (list_of_owner lists' n)

@@ -1,9 +1,27 @@
-use Rattle.simulation.proofs.Common.{map, sym, ap, ◌∙◌, subst, arith, AreWrittenBy, HistoriesView}
-use Rattle.simulation.proofs.Begun.{begun_next, begun_all}
+use Rattle.simulation.proofs.Common.{length-map, map, sym, ap, ◌∙◌, subst, arith, AreWrittenBy, HistoriesView}
+use Rattle.simulation.proofs.Begun.{begun_none, before_next, begun_next, begun_all}
 use Rattle.simulation.proofs.Standing.{next_round, still_ended, written_by}
 use Rattle.simulation.specs.calls.Standing.{StandAfterRound}
 use Rattle.simulation.specs.inner.Steps.{HaveEnded, begun_table}
 use Rattle.simulation.proofs.clusters.begin.Goals as goal
+
+pub loop-node-init : goal.loop-node-init
+loop-node-init g c = (begun_none c.requires.standing, c.requires.ended)
+
+pub index_mut-requires : goal.index_mut-requires
+index_mut-requires g c =
+    let v = c.loop-node.tables in
+    omega (arith, c.loop-node-test.true, c.nodes-node-end.ensures.value, c.loop-node.invariant.0.table_count, length-map v.items g.T.MemoryTable.table, v.ok.0)
+
+pub begin_node-requires-clause-before : goal.begin_node-requires-clause-before
+begin_node-requires-clause-before g c _ _ = record {
+  first = c.requires.round.first;
+  last = c.requires.round.last;
+  node = before_next g.T.MemoryTable.table c.args.start.now.scenario.now c.args.start.now.round (map g.T.MemoryTable.table c.args.tables.items)
+      c.loop-node.tables.items (g.K.RoundHistories.kept c.loop-node.histories).lists c.loop-node.node c.loop-node.invariant.0
+      (omega (arith, c.loop-node-test.true, c.nodes-node-end.ensures.value)) c.index_mut.result.now c.index_mut.result.now c.index_mut.ensures.value;
+  ended = c.loop-node.invariant.1;
+}
 
 pub loop-node-preserved : goal.loop-node-preserved
 loop-node-preserved g c = (

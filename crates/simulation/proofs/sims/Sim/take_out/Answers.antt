@@ -1,7 +1,8 @@
-use Rattle.simulation.proofs.Common.{sym, ◌∙◌, subst, arith, ap, is_none, IsLawfulScenario}
+use Rattle.simulation.proofs.Common.{◌≡◌, inl, refl, sym, ◌∙◌, subst, arith, ap, is_none, IsLawfulScenario}
 use Rattle.simulation.specs.calls.Simulation.{SimView, MayStep}
-use Rattle.simulation.specs.inner.Insides.{tables_held}
+use Rattle.simulation.specs.inner.Insides.{IsInside, simulation_of, tables_held}
 use Rattle.simulation.proofs.Stepping.{after_before}
+use Rattle.simulation.proofs.sims.Sim.take_out.Given as given
 use Rattle.simulation.proofs.sims.Sim.take_out.Goals as goal
 
 pub returns-clause-taken : goal.returns-clause-taken
@@ -21,4 +22,24 @@ returns-clause-taken g c =
       broken = ap is_none c.take.ensures.after;
       settings = ap (λ (v : SimView g.row.T.Denot). v.settings) c.self.view_is;
       rounds_done = ap (λ (v : SimView g.row.T.Denot). v.rounds_done) c.self.view_is;
+    }
+
+-- where there was no cluster, it is as it was
+still : (g : given.Over) (c : goal.In_default g) → c.take.new.self ≡ c.self.inside.cluster
+still g c = c.take.ensures.after ∙ sym c.in_default.is ∙ c.take.ensures.value
+
+pub invariant_of-self : goal.invariant_of-self
+invariant_of-self g c =
+    subst (λ o. IsInside g.T.MemoryTable.table g.K.RoundHistories.kept g.K.RoundHistories.may_write c.self.inside.scenario o c.self.inside.rounds_done)
+    (sym (still g c)) c.self.invariant
+
+pub returns-in_default : goal.returns-in_default
+returns-in_default g c =
+    let none = ap is_none (sym c.take.ensures.value ∙ c.in_default.is) in
+    record {
+      taken = tt;
+      refused = (
+        inl (refl, sym (ap (λ (v : SimView g.row.T.Denot). v.broken) c.self.view_is) ∙ none),
+        ap (λ o. simulation_of g.K.RoundHistories.kept c.self.inside.scenario o c.self.inside.rounds_done) (still g c) ∙ c.self.view_is,
+      );
     }

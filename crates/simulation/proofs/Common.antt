@@ -1,6 +1,6 @@
 -- The names of other libraries that these proofs cite, passed on from one place. Declares nothing.
 -- Serves most of the crate.
-pub use Rattle.std.proofs.Common.{All, Bool, IfOk, List, Option, Some, [], add-one, ap, append_assoc, arith, false, get_or, if◌then◌else◌, inl, inr, length, length-append, map, refl, rules, set, subst, suc, sym, take, true, zero, ℕ, ◌*◌, ◌++◌, ◌+◌, ◌-◌, ◌<◌, ◌^◌, ◌∙◌, ◌∷◌, ◌≡◌, ◌≢◌, ◌≤◌}
+pub use Rattle.std.proofs.Common.{All, Bool, Err, IfErr, IfOk, List, Ok, Option, Result, Some, [], add-one, ap, append_assoc, arith, false, get_or, if◌then◌else◌, inl, inr, length, length-append, map, refl, rules, set, subst, suc, sym, take, true, zero, ℕ, ◌*◌, ◌++◌, ◌+◌, ◌-◌, ◌<◌, ◌^◌, ◌∙◌, ◌∷◌, ◌≡◌, ◌≢◌, ◌≤◌}
 pub use Rattle.std.proofs.Math.ListN.{get_or-append}
 pub use Rattle.std.proofs.Math.Seq.{take-length}
 pub use Rattle.std.proofs.lemmas.Bool.{both_ways, cases_eq, cases_lt}
@@ -11,9 +11,11 @@ pub use Rattle.std.proofs.lemmas.List.Sums.{fold-append}
 pub use Rattle.std.proofs.lemmas.Result.{IfOk-at_ok, IfOk-weaker, on_ok_weaker}
 pub use Rattle.std.specs.List.{range_with_len}
 pub use Rattle.std.specs.Prelude.{Contains, IfSome, Vec, is_none}
+pub use Rattle.std.specs.Result.{IsErrAnd}
 pub use Rattle.std.specs.declared.alloc.Global.{Global}
 pub use Rattle.bench_types.specs.calls.Budget.{IsLawfulBudget}
 pub use Rattle.bench_types.specs.declared.exchanges.Budget.TheVariants.{Bytes, Entries}
+pub use Rattle.bench_types.specs.declared.faults.Fault.{Fault}
 pub use Rattle.bench_types.specs.declared.rows.Figures.{Figures}
 pub use Rattle.model.proofs.Common.{AreNextAfter, Budget, Entry, Exchange, IsNextAfter, IsPlanned, LEAST_KEYS, MOST_KEYS, MOST_NODES, Mark, Record, Rules, next_version}
 pub use Rattle.model.proofs.BeginLaws.{IsBegun, begun_copies, begun_forget, begun_no_gap, begun_restart, begun_same, begun_then, begun_writes, counted_write, counted_writes, empty_copies, empty_no_gap, generation-written, written_rises}
@@ -31,6 +33,7 @@ pub use Rattle.model.specs.ExchangeLaws.{NoMarkFalls}
 pub use Rattle.model.specs.Figures.{figures_of}
 pub use Rattle.model.specs.Folds.{Folded, fold_of, tables_before}
 pub use Rattle.model.specs.RoundLists.{RoundListView}
+pub use Rattle.model.specs.Runs.{IsFaultOfWorkers}
 pub use Rattle.model.specs.Table.{IsProper, Table, empty_table, entry_at, greatest_mark, greatest_version, with_own_write, with_own_writes, without_all, without_others}
 pub use Rattle.model.specs.Tables.{AreProper, AreTablesInOrder, HoldsOfEach, table_of_node}
 pub use Rattle.model.specs.Writes.{write_of_entry}

@@ -1,6 +1,6 @@
 -- A step that carries out the next round.
 -- Serves `Sim::step`, `Sim::step_by`, `Sim::take_out` and `Playing`.
-use Rattle.simulation.proofs.Common.{◌≡◌, ℕ, ◌<◌, ◌≤◌, List, [], length, map, get_or, sym, ◌∙◌, arith, suc, ◌+◌, ◌-◌, false, Option, Some, refl, ap, subst, ext_get_or, get_or-map-range_with_len, length-map-range_with_len, Table, Settings, IsLawfulScenario, HistoriesView, OwnerListView, no_writes, lists_in, write_of_entry, length-lists_in, list_read, figures_of, is_none, IfSome, Folded, Entry, Record, round_list_of}
+use Rattle.simulation.proofs.Common.{Err, Fault, IfErr, IsErrAnd, IsFaultOfWorkers, Ok, Result, inl, ◌≡◌, ℕ, ◌<◌, ◌≤◌, List, [], length, map, get_or, sym, ◌∙◌, arith, suc, ◌+◌, ◌-◌, false, Option, Some, refl, ap, subst, ext_get_or, get_or-map-range_with_len, length-map-range_with_len, Table, Settings, IsLawfulScenario, HistoriesView, OwnerListView, no_writes, lists_in, write_of_entry, length-lists_in, list_read, figures_of, is_none, IfSome, Folded, Entry, Record, round_list_of}
 use Rattle.simulation.specs.Rounds.{tables_after, round_of, records_in}
 use Rattle.simulation.specs.Lists.{list_after, lists_after}
 use Rattle.simulation.specs.Outcomes.{figures_in}
@@ -13,7 +13,7 @@ use Rattle.simulation.specs.inner.Playing.{HasTakenOut, IsPlayed}
 use Rattle.simulation.specs.inner.Insides.{IsInside, IsAfterRound, simulation_of, tables_held, lists_held}
 use Rattle.simulation.specs.inner.Plans.{IsDrawnAfter}
 use Rattle.simulation.specs.inner.Steps.{HaveEnded}
-use Rattle.simulation.specs.calls.Simulation.{PlaysNext, SimView}
+use Rattle.simulation.specs.calls.Simulation.{IsStepFault, PlaysNext, SimView}
 use Rattle.simulation.proofs.Soundness.{sound_run, round_rises}
 
 -- the lists are those of the definition
@@ -102,3 +102,12 @@ step_played table kept May old out new c d round taken played is = subst (λ v. 
 
     before : map table old.tables ≡ tables_after s done
     before = ap (map table) taken.tables ∙ taken.before.before.tables ∙ ap (tables_after s) (omega arith)
+
+-- or the round failed
+pub step_failed : {T K R : Type 0} (table : T → Table) (kept : K → HistoriesView) (May : ℕ → ℕ → Entry → Type 0) (old out new : SimView T)
+    (c : Cluster T K) (workers : ℕ) (r : Result R Fault) (fault : Fault) → IsErrAnd r (λ handed. handed ≡ fault) → IsFaultOfWorkers workers fault
+    → HasTakenOut table kept May old out c → new ≡ out → IfErr r (IsStepFault workers old new)
+step_failed table kept May old out new c workers (Ok x) fault is of_workers taken same = tt
+step_failed table kept May old out new c workers (Err handed) fault is of_workers taken same =
+    subst (λ f. IsStepFault workers old new f) (sym is) (subst (λ v. IsStepFault workers old v fault) (sym same)
+    (inl (of_workers, taken.may, taken.broken, taken.settings, taken.rounds_done)))

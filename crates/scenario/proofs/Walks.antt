@@ -1,5 +1,5 @@
 -- An array of the program beside that of a document, and a walk along it.
--- Serves `apart_at`, `array_at`, `array_of` and `tables_have_only`.
+-- Serves `apart_at`, `array_at`, `array_of` and `tables_have_only`; its last part `basics_at` and `conduct_at`.
 use Rattle.scenario.proofs.Common.{◌≡◌, ℕ, ◌+◌, ◌<◌, ◌≤◌, ◌∙◌, Bool, ◌&&◌, List, [], ◌∷◌, ◌++◌, map, drop, length, get_or, Result, Ok, Err, IfErr, IsErrAnd, OutOfMemory, ◌≢◌, refl, sym, ap, subst, append_assoc, append-nil, at_drop_all, at_drop_more, list_all, Data, view, items_view, Value, Fault}
 use Rattle.scenario.specs.Elements.{list_of}
 use Rattle.scenario.specs.Fields.{◌>>=◌}
@@ -58,3 +58,14 @@ pub handed_on : {A B : Type 0} (r : Result A Fault) (fault : Fault) (whole : Res
     → (fault ≢ OutOfMemory → whole ≡ Err fault) → IfErr r (λ f. f ≢ OutOfMemory → whole ≡ Err f)
 handed_on (Ok x) fault whole is told = tt
 handed_on (Err handed) fault whole is told = subst (λ f. f ≢ OutOfMemory → whole ≡ Err f) (sym is) told
+
+pub fault_is : {A : Type 0} (r : Result A Fault) (fault : Fault) → IsErrAnd r (λ handed. handed ≡ fault) → r ≡ Err fault
+fault_is (Ok x) fault is = absurd is
+fault_is (Err handed) fault is = ap (λ f. Err f) is
+
+-- a check passed, and the next ones come to y; or it fails
+pub passes : {A B : Type 0} (r : Result A Fault) (next : A → Result B Fault) (x : A) (y : Result B Fault) → Ok x ≡ r → y ≡ next x → y ≡ (r >>= next)
+passes r next x y is rest = rest ∙ ap (λ s. s >>= next) is
+
+pub fails : {A B : Type 0} (r : Result A Fault) (next : A → Result B Fault) (fault : Fault) → Err fault ≡ r → Err fault ≡ (r >>= next)
+fails r next fault is = ap (λ s. s >>= next) is

@@ -1,4 +1,4 @@
-use Rattle.simulation.proofs.Common.{ℕ, ◌∙◌, [], arith, Table, Settings, ap, sym, subst, get_or, get_or_default, length, list_of_owner, on_ok_weaker, with_own_writes, own_writes, count_before, IfSome, AreWritesOf}
+use Rattle.simulation.proofs.Common.{ℕ, ◌∙◌, [], arith, Table, Settings, ap, sym, subst, get_or, get_or_default, length, on_ok_weaker, with_own_writes, own_writes, count_before, IfSome, AreWritesOf}
 use Rattle.simulation.specs.inner.Plans.{AreWritesOfAll}
 use Rattle.simulation.proofs.Standing.{leaves_both, still_ended}
 use Rattle.simulation.proofs.clusters.begin_node.Goals as goal

@@ -1,6 +1,6 @@
 -- The check of a document, done one check after another, answers the first fault of them all.
 -- Serves `read`.
-use Rattle.scenario.proofs.Common.{◌≡◌, ◌≢◌, ℕ, ◌+◌, ◌-◌, List, [], ◌∷◌, ◌++◌, Option, None, Some, Result, Ok, Err, IfOk, IfErr, OnOk, refl, sym, ◌∙◌, ap, flat_map, result_err, result_unwrap_or, Data, integer, Members, get_member, Fault, OutOfMemory, Field, MOST_ROUNDS, MOST_WRITES}
+use Rattle.scenario.proofs.Common.{◌≡◌, ◌≢◌, ℕ, ◌+◌, ◌-◌, List, [], ◌∷◌, ◌++◌, Option, None, Some, Result, Ok, Err, IfOk, IfErr, OnOk, refl, sym, ◌∙◌, ap, flat_map, result_err, result_unwrap_or, Data, Members, Fault, OutOfMemory, Field, MOST_ROUNDS, MOST_WRITES}
 use Rattle.toml.specs.Data as toml
 use Rattle.bench_types.specs.declared.fields.Field.TheVariants as field
 use Rattle.bench_types.specs.declared.fields.TableName.TheVariants as name

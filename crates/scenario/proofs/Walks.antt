@@ -1,5 +1,5 @@
 -- An array of the program beside that of a document, and a walk along it.
--- Serves `apart_at`, `array_at`, `array_of` and `tables_have_only`; its last part `basics_at` and `conduct_at`.
+-- Serves `apart_at`, `array_at`, `array_of`, `conduct_at` and `tables_have_only`.
 use Rattle.scenario.proofs.Common.{◌≡◌, ℕ, ◌+◌, ◌<◌, ◌≤◌, ◌∙◌, Bool, ◌&&◌, List, [], ◌∷◌, ◌++◌, map, drop, length, get_or, Result, Ok, Err, IfErr, IsErrAnd, OutOfMemory, ◌≢◌, refl, sym, ap, subst, append_assoc, append-nil, at_drop_all, at_drop_more, list_all, Data, view, items_view, Value, Fault}
 use Rattle.scenario.specs.Elements.{list_of}
 use Rattle.scenario.specs.Fields.{◌>>=◌}

@@ -1,5 +1,5 @@
 -- The check of a document as a chain of checks, as the reader makes them. Source: this project.
-use Rattle.std.specs.Prelude.{ℕ, Result, Ok, List, Option, None, Some, Err}
+use Rattle.std.specs.Prelude.{ℕ, Result, Ok, Option, None, Some, Err}
 use Rattle.toml.specs.Data.{Members}
 use Rattle.bench_types.specs.declared.faults.Fault.{Fault}
 use Rattle.scenario.specs.declared.parts.Basics.{Basics}

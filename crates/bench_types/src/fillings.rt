@@ -7,7 +7,7 @@ use crate::fields::{Field, TableName};
 use std::fmt;
 
 /// What tells one fault from others of its kind in its line.
-#[derive(Clone, Copy, Debug, PartialEq, Eq)]
+#[derive(Clone, Copy)]
 pub enum Filling {
     Nothing,
     Number(u64),

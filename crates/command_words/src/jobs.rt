@@ -2,7 +2,7 @@
 
 /// What the words of a command line ask for. Workers are how many threads do the exchanges of a round, from 1
 /// to `MOST_WORKERS`.
-#[derive(Clone, Copy, Debug, PartialEq, Eq)]
+#[derive(Clone, Copy)]
 pub enum Job<'a> {
     /// To check a scenario.
     Check,

@@ -17,7 +17,7 @@ use std::alloc::Global;
 use std::convert::AsStr;
 
 /// Why words ask for no job.
-#[derive(Debug, Drop)]
+#[derive(Drop)]
 pub enum NoJob {
     /// They ask for help, which is this text.
     Help(String),

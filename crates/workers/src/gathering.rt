@@ -9,7 +9,7 @@ use board::Seat;
 use std::alloc::Global;
 
 /// The record of an exchange, with the place of that exchange in its list.
-#[derive(Clone, Copy, Debug)]
+#[derive(Clone, Copy)]
 pub(crate) struct Stamped {
     pub index: u32,
     pub outcome: Record,

@@ -1,5 +1,6 @@
-use Rattle.board.proofs.Common.{arith, ap, sym, ◌∙◌, length, ◌∷◌, map, subst, range_with_len, length-map, length-map-range_with_len, RoundListView, pending_of, in_place}
+use Rattle.board.proofs.Common.{arith, ap, sym, ◌∙◌, ℕ, ◌<◌, length, ◌∷◌, map, subst, range_with_len, length-map, length-map-range_with_len, RoundListView, pending_of, in_place}
 use Rattle.board.specs.Rule.{Orderly}
+use Rattle.board.specs.Weights.{Has}
 use Rattle.board.specs.Keys.{IsBoardKey, key_plan}
 use Rattle.board.specs.Models.{slot_model}
 use Rattle.board.specs.inner.Plays.{opened_view}
@@ -34,3 +35,21 @@ invariant_of-result g c =
       slots = made.1 ∙ ap length c.in_ok-slots.ensures.moved.placed ∙ length-map c.args.tables.items in_place ∙ sym (length-map c.args.tables.items table) ∙ c.requires.cluster.size;
       roomy = (c.in_ok-slots.ensures.moved.empty, omega (arith, c.in_ok-slots.ensures.moved.fits, length-map c.args.tables.items table, c.requires.cluster.size));
     }
+
+pub returns-in-Ok-clause-plan : goal.returns-in-Ok-clause-plan
+returns-in-Ok-clause-plan g c =
+    let table = g.T.MemoryTable.table in
+    ap (key_plan table) c.in-Ok.ensures.ok.5 ∙ (λ j. record { rules = c.args.rules; list = c.of.ensures j; tables = map table ((c.of-2.ensures j).items) })
+
+pub returns-in-Ok-clause-seat : goal.returns-in-Ok-clause-seat
+returns-in-Ok-clause-seat g c =
+    let made = c.in-Ok.ensures.ok in
+    let all = length c.in-Ok.table.shared.key.list.value.exchanges in (
+      record {
+        id = made.2;
+        plan = ap (λ m. m.0.plan) made.4 ∙ ap (key_plan g.T.MemoryTable.table) (sym made.5);
+        rests = record { slots = ap (λ m. m.1) made.4; moving = ap (λ m. m.0.moving) made.4; owes = ap (λ m. m.0.owes) made.4; parts = subst (λ m. 0 < m.0.seat.parts) (sym made.4) (omega arith) };
+        within = subst (λ m. (i : ℕ) → Has m.0.seat.held i → i < all) (sym made.4) (λ i has. absurd (omega (arith, has)));
+      },
+      ap (λ m. m.0.seat) made.4,
+    )

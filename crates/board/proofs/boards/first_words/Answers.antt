@@ -1,4 +1,4 @@
-use Rattle.board.proofs.Common.{arith, ap, sym, ◌∙◌, ◌∷◌, ◌++◌, [], map-range_with_len_more, pending_of}
+use Rattle.board.proofs.Common.{arith, ℕ, ap, sym, ◌∙◌, ◌∷◌, ◌++◌, ◌≡◌, [], map, range_with_len, map-range_with_len_more, length, pending_of}
 use Rattle.board.proofs.boards.first_words.Goals as goal
 
 pub loop-i-preserved : goal.loop-i-preserved
@@ -8,3 +8,9 @@ loop-i-preserved c =
     c.in_ok-push-2.ensures.items
     ∙ (λ t. c.loop-i.invariant t ++ ((c.from.ensures ∙ c.pending.ensures) t) ∷ [])
     ∙ ap (λ xs. 0 ∷ xs) (sym (map-range_with_len_more (pending_of es) 0 i i (omega arith)))
+
+pub returns-clause-words : goal.returns-clause-words
+returns-clause-words c =
+    let es = c.args.deps.now.exchanges in
+    let all : c.loop-i.i ≡ length es = omega (arith, c.loop-i-test.false, c.loop-i.auto.i-end, c.len-i-end.ensures.value) in
+    c.loop-i.invariant ∙ ap (λ (n : ℕ). 0 ∷ map (pending_of es) (range_with_len 0 n)) all

@@ -1,4 +1,4 @@
-use Rattle.board.proofs.Common.{◌≡◌, refl, ap, sym, ◌∙◌, ◌<◌, subst, length, IfSome, successors}
+use Rattle.board.proofs.Common.{arith, RoundListView, ◌≡◌, refl, ap, sym, ◌∙◌, ◌<◌, subst, length, IfSome, successors}
 use Rattle.board.specs.Boards.{plan_of, seat_view, exchanges_of, IsSeatOf, IsPutBack}
 use Rattle.board.specs.declared.boards.Seat.{Seat}
 use Rattle.board.specs.inner.Plays.{OwesTo, IsReleased}
@@ -58,3 +58,8 @@ returns-clause-seat g c = (put_back g c _ refl).0
 
 pub returns-clause-put_back : goal.returns-clause-put_back
 returns-clause-put_back g c = (put_back g c (record c.args.seat.now { raw = c.release-second.new.raw }) refl).1
+
+pub after-after-requires : goal.after-after-requires
+after-after-requires g c =
+    let within = c.requires.seat.within c.args.hold.index c.requires.hold.held in
+    record { within = omega (arith, within, ap (λ (l : RoundListView). length l.exchanges) c.args.self.now.planned.1) }

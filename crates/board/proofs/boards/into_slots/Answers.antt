@@ -1,4 +1,4 @@
-use Rattle.board.proofs.Common.{◌≡◌, ℕ, ◌<◌, ◌+◌, List, [], ◌∷◌, ◌++◌, length, map, reverse, Option, None, Some, refl, sym, ap, ◌∙◌, arith, length-append, same_Some, false≢true, in_place}
+use Rattle.board.proofs.Common.{◌≡◌, ℕ, ◌<◌, ◌+◌, append-nil, List, [], ◌∷◌, ◌++◌, length, map, reverse, Option, None, Some, refl, sym, ap, ◌∙◌, arith, length-append, same_Some, false≢true, in_place}
 use Rattle.std.proofs.lemmas.List.{append_assoc, map-append, reverse-append}
 use Rattle.std.specs.Prelude.{IsSome, option_to_list}
 use Rattle.board.proofs.boards.into_slots.Goals as goal
@@ -50,3 +50,8 @@ returns-clause-moved g c =
     let moved = all_moved all.items c.loop.tables.items c.loop.slots.items c.reverse.new.self.items so_far.0
     (omega (arith, so_far.2, c.loop-test.false, c.len-end.ensures, all.ok.0)) c.reverse.ensures.items in
     record { placed = moved.0; empty = moved.1; fits = omega (arith, so_far.1, all.ok.0, all.ok.1) }
+
+pub loop-init : goal.loop-init
+loop-init g c =
+    let tables = map in_place c.args.tables.items in
+    (sym (append-nil tables) ∙ ap (λ xs. tables ++ reverse xs) (sym c.in_ok-slots.ensures.items), refl, omega arith)

@@ -1,4 +1,4 @@
-use Rattle.board.proofs.Common.{rules, arith, ap, ◌∙◌, inl, inr, cases_lt}
+use Rattle.board.proofs.Common.{arith, ap, ◌∙◌, inl, inr, cases_lt}
 use Rattle.board.specs.Weights.{times, only}
 use Rattle.board.specs.SeatView.{joined}
 use Rattle.board.specs.Boards.{plan_of, seat_view}
@@ -33,7 +33,7 @@ load-requires g c =
     let a = c.requires.seats.0 in
     let me = c.join_seat.new.seat.me in
     let is = c.join_seat.ensures.2 ∙ joined_me plan one.raw.me other.raw.me a.plan a.rests in (
-      search rules,
+      c.join_seat.ensures.0 ∙ a.id,
       word_zero c.args.self.now,
       show_allowed table plan _ _ me (joined (seat_view one) (seat_view other)) (omega (arith, a.rests.parts)) is,
     )

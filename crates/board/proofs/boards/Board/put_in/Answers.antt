@@ -1,4 +1,4 @@
-use Rattle.board.proofs.Common.{ℕ, Option, rules, ap, ◌∙◌, refl, ◌∷◌, [], None, Some, ◌≡◌, ◌+◌, none, Me, step, exchange_at}
+use Rattle.board.proofs.Common.{ℕ, Option, ap, ◌∙◌, refl, ◌∷◌, [], None, Some, ◌≡◌, ◌+◌, none, Me, step, exchange_at}
 use Rattle.board.specs.Boards.{plan_of}
 use Rattle.board.specs.Plan.{BoardPlan, initiator_of, responder_of}
 use Rattle.board.specs.SeatView.{SeatView, without_held}
@@ -28,7 +28,7 @@ exchange-requires-2 g c =
     let plan = plan_of g.T.MemoryTable.table c.args.self.now in
     let i = c.args.hold.index in
     let found = c.exchange-exchange.ensures.value ∙ ap (λ l. exchange_at l.exchanges i) c.args.self.now.planned.1 in (
-      search rules,
+      c.turn.ensures.0 ∙ c.exchange.ensures.0 ∙ c.load.ensures.0 ∙ c.requires.id,
       second_out (view plan (without_held c.args.raw.now.me.0.seat i) (i ∷ []) []) (initiator_of plan i) (responder_of plan i) c.exchange-exchange.result.initiator c.exchange-exchange.result.responder None None (Some c.args.hold.responder) c.load.new.seat.me c.exchange.new.seat.me c.turn.new.self.me
           (goes g (goal.at.exchange-requires-2 g c).After-load) (ap (λ e. e.initiator) found) (ap (λ e. e.responder) found) c.exchange.ensures.3 c.turn.ensures.2,
     )
@@ -45,7 +45,7 @@ filled g c out =
 
 pub fetch_add-requires : goal.fetch_add-requires
 fetch_add-requires g c = (
-  search rules,
+  c.exchange-2.ensures.0 ∙ c.turn.ensures.0 ∙ c.exchange.ensures.0 ∙ c.load.ensures.0 ∙ c.requires.id,
   word_zero c.args.self.now,
   finish_allowed g.T.MemoryTable.table (plan_of g.T.MemoryTable.table c.args.self.now) _ _ c.exchange-2.new.seat.me (without_held c.args.raw.now.me.0.seat c.args.hold.index) c.requires.parts c.args.hold.index c.args.hold.initiator c.args.hold.responder c.requires.may.initiator c.requires.may.responder
       (filled g (goal.at.fetch_add-requires g c).After-exchange-2 (goes g (goal.at.fetch_add-requires g c).After-load)),
@@ -53,7 +53,7 @@ fetch_add-requires g c = (
 
 pub returns : goal.returns
 returns g c = record {
-  id = search rules;
+  id = c.fetch_add.ensures.0 ∙ c.exchange-2.ensures.0 ∙ c.turn.ensures.0 ∙ c.exchange.ensures.0 ∙ c.load.ensures.0;
   seat =
       finished_of g.T.MemoryTable.table (plan_of g.T.MemoryTable.table c.args.self.now) c.args.raw.now.me.0.seat c.args.hold.index c.fetch_add.result c.exchange-2.new.seat.me c.fetch_add.new.seat.me (step c.args.self.now.table.shared.table_id.slots 0 2 0 none) _
       (filled g (goal.at.returns g c).After-exchange-2 (goes g (goal.at.returns g c).After-load)) c.fetch_add.ensures.2;

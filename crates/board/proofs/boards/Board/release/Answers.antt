@@ -37,3 +37,10 @@ returns-else-found-eq1 g c =
       released = subst (λ x. IfSome x (λ k. IsReleased (plan_of g.T.MemoryTable.table c.args.self.now) c.args.raw.now.me k None c.fetch_sub-found.new.seat.me)) (sym some)
           (released_more g.T.MemoryTable.table (plan_of g.T.MemoryTable.table c.args.self.now) c.args.raw.now.me c.fetch_sub-found.new.seat.me j c.fetch_sub-found.result (step c.args.self.now.table.shared.table_id.slots (j + 1) 1 0 none) (owed g (goal.at.returns-else-found-eq1 g c).In_ok-j).1 refl c.fetch_sub-found.ensures.2 c.if-found-eq1.false);
     }
+
+pub returns-in_err-j : goal.returns-in_err-j
+returns-in_err-j g c = record {
+  id = refl;
+  none = λ is. (c.from_residual.ensures, refl);
+  released = subst (λ x. IfSome x (λ k. IsReleased (plan_of g.T.MemoryTable.table c.args.self.now) c.args.raw.now.me k c.from_residual.result c.args.raw.now.me)) (sym c.in_err-j.was) tt;
+}

@@ -21,7 +21,7 @@ exchange-initiator-requires g c =
     let plan = plan_of g.T.MemoryTable.table c.args.self.now in
     let out = c.requires.out in
     let found = c.exchange-exchange.ensures.value ∙ ap (λ l. exchange_at l.exchanges c.args.i) c.args.self.now.planned.1 in (
-      search rules,
+      c.turn.ensures.0 ∙ c.exchange-responder.ensures.0 ∙ c.requires.id,
       second_out (view plan c.args.raw.now.me.0.seat (c.args.i ∷ []) []) (initiator_of plan c.args.i) (responder_of plan c.args.i) c.exchange-exchange.result.initiator c.exchange-exchange.result.responder (Some out.initiator) (Some out.responder) None c.args.raw.now.me c.exchange-responder.new.seat.me c.turn.new.self.me
           out.seat (ap (λ e. e.initiator) found) (ap (λ e. e.responder) found) c.exchange-responder.ensures.3 c.turn.ensures.2,
     )
@@ -31,7 +31,7 @@ load-requires g c =
     let plan = plan_of g.T.MemoryTable.table c.args.self.now in
     let out = c.requires.out in
     let found = c.exchange-exchange.ensures.value ∙ ap (λ l. exchange_at l.exchanges c.args.i) c.args.self.now.planned.1 in (
-      search rules,
+      c.exchange-initiator.ensures.0 ∙ c.turn.ensures.0 ∙ c.exchange-responder.ensures.0 ∙ c.requires.id,
       word_zero c.args.self.now,
       empty_allowed g.T.MemoryTable.table plan _ _ c.exchange-initiator.new.seat.me c.args.raw.now.me.0.seat out.parts c.args.i
           (both_out (view plan c.args.raw.now.me.0.seat (c.args.i ∷ []) []) (initiator_of plan c.args.i) (responder_of plan c.args.i) c.exchange-exchange.result.initiator c.exchange-exchange.result.responder (Some out.initiator) (Some out.responder) None c.args.raw.now.me c.exchange-responder.new.seat.me c.turn.new.self.me
@@ -43,7 +43,7 @@ returns g c =
     let plan = plan_of g.T.MemoryTable.table c.args.self.now in
     let out = c.requires.out in
     let found = c.exchange-exchange.ensures.value ∙ ap (λ l. exchange_at l.exchanges c.args.i) c.args.self.now.planned.1 in record {
-      id = search rules;
+      id = c.load.ensures.0 ∙ c.exchange-initiator.ensures.0 ∙ c.turn.ensures.0 ∙ c.exchange-responder.ensures.0;
       seat =
           emptied_of g.T.MemoryTable.table plan c.args.raw.now.me.0.seat c.args.i c.load.result c.exchange-initiator.new.seat.me c.load.new.seat.me (step c.args.self.now.table.shared.table_id.slots 0 0 0 none) _
           (both_out (view plan c.args.raw.now.me.0.seat (c.args.i ∷ []) []) (initiator_of plan c.args.i) (responder_of plan c.args.i) c.exchange-exchange.result.initiator c.exchange-exchange.result.responder (Some out.initiator) (Some out.responder) None c.args.raw.now.me c.exchange-responder.new.seat.me c.turn.new.self.me

@@ -14,3 +14,9 @@ returns-clause-words c =
     let es = c.args.deps.now.exchanges in
     let all : c.loop-i.i ≡ length es = omega (arith, c.loop-i-test.false, c.loop-i.auto.i-end, c.len-i-end.ensures.value) in
     c.loop-i.invariant ∙ ap (λ (n : ℕ). 0 ∷ map (pending_of es) (range_with_len 0 n)) all
+
+pub returns-clause-kept : goal.returns-clause-kept
+returns-clause-kept c = c.len.ensures.kept
+
+pub returns-in_err-push-2-clause-kept : goal.returns-in_err-push-2-clause-kept
+returns-in_err-push-2-clause-kept c = c.len.ensures.kept

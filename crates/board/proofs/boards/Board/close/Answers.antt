@@ -26,7 +26,8 @@ ended g c =
 pub returns-then-finished-from-clause-unfinished : goal.returns-then-finished-from-clause-unfinished
 returns-then-finished-from-clause-unfinished g c =
     let end = ended g (goal.at.returns-then-finished-from-clause-unfinished g c).After-word-finished in
-    let all : c.from.result ≡ length (exchanges_of c.args.self) = c.from.ensures ∙ c.len.ensures.value ∙ ap (λ (l : RoundListView). length l.exchanges) c.args.self.planned.1 in
+    let all : c.from.result ≡ length (exchanges_of c.args.self) =
+    c.from.ensures ∙ c.len.ensures.value ∙ ap (λ (l : RoundListView). length l.exchanges) c.args.self.planned.1 in
     (refl, (omega (arith, end.0.tells.seen, end.1, all, c.if-finished-from.true), omega (arith, end.0.tells.made, end.1, all, c.if-finished-from.true)))
 
 pub returns-clause-tables : goal.returns-clause-tables
@@ -35,7 +36,8 @@ returns-clause-tables g c =
     let plan = plan_of table c.args.self in
     let slots = slots_items c.close_with-closed.result.slots in
     let end = ended g (goal.at.returns-clause-tables g c).After-word-finished in
-    let all : c.from.result ≡ length plan.list.exchanges = c.from.ensures ∙ c.len.ensures.value ∙ ap (λ (l : RoundListView). length l.exchanges) c.args.self.planned.1 in
+    let all : c.from.result ≡ length plan.list.exchanges =
+    c.from.ensures ∙ c.len.ensures.value ∙ ap (λ (l : RoundListView). length l.exchanges) c.args.self.planned.1 in
     let count : length slots ≡ plan.list.nodes = sym (slots_counts c.close_with-closed.result.slots).0 ∙ c.close_with-closed.ensures.counts.1 ∙ c.args.self.slots ∙ ap (λ (l : RoundListView). l.nodes) c.args.self.planned.1 in
     let left = close_left table plan slots (planned_by table c.args.self.table.shared.key c.args.self.planned.0) count (end.0.tables (omega (arith, end.0.tells.most, end.1, all, c.if-finished-from.false))) in
     ap (map table) (c.all_out-tables.ensures left.0 left.1) ∙ left.2
@@ -43,7 +45,8 @@ returns-clause-tables g c =
 pub returns-clause-whole : goal.returns-clause-whole
 returns-clause-whole g c =
     let end = ended g (goal.at.returns-clause-whole g c).After-word-finished in
-    let all : c.from.result ≡ length (exchanges_of c.args.self) = c.from.ensures ∙ c.len.ensures.value ∙ ap (λ (l : RoundListView). length l.exchanges) c.args.self.planned.1 in
+    let all : c.from.result ≡ length (exchanges_of c.args.self) =
+    c.from.ensures ∙ c.len.ensures.value ∙ ap (λ (l : RoundListView). length l.exchanges) c.args.self.planned.1 in
     let full : get_or (slots_items c.close_with-closed.result.words) 0 0 / 2 ≡ length (exchanges_of c.args.self) = omega (arith, end.0.tells.most, end.1, all, c.if-finished-from.false) in
     λ whole. (sym (end.0.tells.whole_count whole) ∙ full, end.0.whole whole full)
 

@@ -48,7 +48,12 @@ returns-in-Ok-clause-seat g c =
       record {
         id = made.2;
         plan = ap (λ m. m.0.plan) made.4 ∙ ap (key_plan g.T.MemoryTable.table) (sym made.5);
-        rests = record { slots = ap (λ m. m.1) made.4; moving = ap (λ m. m.0.moving) made.4; owes = ap (λ m. m.0.owes) made.4; parts = subst (λ m. 0 < m.0.seat.parts) (sym made.4) (omega arith) };
+        rests = record {
+          slots = ap (λ m. m.1) made.4;
+          moving = ap (λ m. m.0.moving) made.4;
+          owes = ap (λ m. m.0.owes) made.4;
+          parts = subst (λ m. 0 < m.0.seat.parts) (sym made.4) (omega arith);
+        };
         within = subst (λ m. (i : ℕ) → Has m.0.seat.held i → i < all) (sym made.4) (λ i has. absurd (omega (arith, has)));
       },
       ap (λ m. m.0.seat) made.4,

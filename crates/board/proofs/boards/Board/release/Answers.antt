@@ -39,8 +39,9 @@ returns-else-found-eq1 g c =
     }
 
 pub returns-in_err-j : goal.returns-in_err-j
-returns-in_err-j g c = record {
-  id = refl;
-  none = λ is. (c.from_residual.ensures, refl);
-  released = subst (λ x. IfSome x (λ k. IsReleased (plan_of g.T.MemoryTable.table c.args.self.now) c.args.raw.now.me k c.from_residual.result c.args.raw.now.me)) (sym c.in_err-j.was) tt;
-}
+returns-in_err-j g c =
+    let plan = plan_of g.T.MemoryTable.table c.args.self.now in record {
+      id = refl;
+      none = λ is. (c.from_residual.ensures, refl);
+      released = subst (λ x. IfSome x (λ k. IsReleased plan c.args.raw.now.me k c.from_residual.result c.args.raw.now.me)) (sym c.in_err-j.was) tt;
+    }

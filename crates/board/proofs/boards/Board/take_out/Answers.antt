@@ -56,7 +56,11 @@ returns g c =
           c.load.ensures.2;
       is_hold = record {
         index = refl;
-        initiator = ap table (same_Some c.in-Some-Some.initiator out.initiator (sym c.in-Some-Some.is-0 ∙ ap found_in (sym c.exchange-initiator.ensures.2 ∙ (λ k. (second k).1)))) ∙ out.first;
-        responder = ap table (same_Some c.in-Some-Some.responder out.responder (sym c.in-Some-Some.is-1 ∙ ap found_in (sym c.exchange-responder.ensures.2 ∙ (λ k. (out.seat k).1)))) ∙ out.second;
+        initiator =
+            ap table (same_Some c.in-Some-Some.initiator out.initiator (sym c.in-Some-Some.is-0 ∙ ap found_in (sym c.exchange-initiator.ensures.2 ∙ (λ k. (second k).1))))
+            ∙ out.first;
+        responder =
+            ap table (same_Some c.in-Some-Some.responder out.responder (sym c.in-Some-Some.is-1 ∙ ap found_in (sym c.exchange-responder.ensures.2 ∙ (λ k. (out.seat k).1))))
+            ∙ out.second;
       };
     }

@@ -59,6 +59,10 @@ module _ {X V : Type 0} (kept : ℕ → X → Type 0) where
   shuts n id i m v held more e ok = subst (λ (x : Me (Option X) V). Allows (AreTraysKept kept) n id x i (λ _. 0) (λ _ _. Unit {0})) (sym e)
       (λ s is wide me _. (v, gives, tt, shut s i held (set s.views id v) is ok, tt))
 
+  -- an opened tray comes first of all that a thread holds
+  pub held_first : (i : ℕ) (m : Me (Option X) V) → IsTrayOpened (kept i) i m → (held : Option X) × (m.1 ≡ (i, held) ∷ rest m.1)
+  held_first i m opened = (opened.0, opened.1 ∙ ap (λ l. (i, opened.0) ∷ rest l) (sym opened.1))
+
   -- what an opened tray held keeps the promise
   pub was_kept : (i : ℕ) (m : Me (Option X) V) (found : Option X) → IsTrayOpened (kept i) i m → m.1 ≡ (i, found) ∷ rest m.1 → IfSome found (kept i)
   was_kept i m found opened e =

@@ -1,7 +1,6 @@
-use Rattle.std.proofs.Common.{rules, arith, ap, sym, ◌∙◌, ◌∷◌}
-use Rattle.atomic_table.specs.Table.{rest}
+use Rattle.std.proofs.Common.{rules, arith}
 use Rattle.crew.specs.Named.{label_of}
-use Rattle.crew.proofs.Turns.{opens, shuts, was_kept}
+use Rattle.crew.proofs.Turns.{held_first, opens, shuts, was_kept}
 use Rattle.crew.proofs.trays.Trays.turn.Goals as goal
 
 pub swap_new_seat-found-requires : goal.swap_new_seat-found-requires
@@ -10,8 +9,8 @@ swap_new_seat-found-requires g c =
 
 pub exchange-before-requires : goal.exchange-before-requires
 exchange-before-requires g c =
-    let t = c.swap_new_seat-found.ensures.1 c.if-found-eq-FREE.true in
-    (c.swap_new_seat-found.ensures.0, (t.0, t.1 ∙ ap (λ l. (c.args.i, t.0) ∷ rest l) (sym t.1)))
+    (c.swap_new_seat-found.ensures.0,
+    held_first (g.P.Label.keeps (label_of c.args.self.now)) c.args.i c.swap_new_seat-found.result.1.me (c.swap_new_seat-found.ensures.1 c.if-found-eq-FREE.true))
 
 pub store-requires : goal.store-requires
 store-requires g c =

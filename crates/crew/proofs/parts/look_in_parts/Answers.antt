@@ -1,0 +1,29 @@
+use Rattle.std.proofs.Common.{◌≡◌, arith, ap, ◌∙◌, subst}
+use Rattle.crew.specs.Parts.{HoldsAnswers}
+use Rattle.crew.proofs.parts.look_in_parts.Goals as goal
+
+pub returns : goal.returns
+returns g c =
+    let looked : c.deref.result.now.divided ≡ c.args.divided = ap (λ s. s.divided) c.deref.ensures ∙ c.in_ok-shared.ensures.divided in
+    record {
+      whole = ap (λ s. s.divided.whole) c.alone-divided.ensures ∙ ap (λ d. d.whole) c.in_ok-shared.ensures.divided;
+      one_each = omega (arith, c.take_all-answers.ensures.count, c.len-count.ensures, c.requires.some, c.args.divided.bounds.ok.0);
+      each = subst (λ d. HoldsAnswers g.S.Parted.tells d.whole d.bounds.items c.take_all-answers.result.items) looked c.take_all-answers.ensures.each;
+    }
+
+pub looks_of-requires : goal.looks_of-requires
+looks_of-requires g c = record {
+  shared = c.in_ok-shared.ensures.shared;
+  within = rw c.in_ok-shared.ensures.divided (omega (arith, c.len-count.ensures, c.requires.some));
+}
+
+pub share-requires : goal.share-requires
+share-requires g c = record { some = c.requires.some; may = c.requires.may }
+
+pub take_all-answers-requires : goal.take_all-answers-requires
+take_all-answers-requires g c = record {
+  shared = rw c.deref.ensures c.in_ok-shared.ensures.shared;
+  within = rw c.deref.ensures (rw c.in_ok-shared.ensures.divided (omega (arith, c.len-count.ensures, c.requires.some)));
+  empty = c.in_ok-answers.ensures.len;
+  room = c.in_ok-answers.ensures.capacity;
+}

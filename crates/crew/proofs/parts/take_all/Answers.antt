@@ -10,12 +10,6 @@ each_push P [] y all last (suc i) x e = absurd (none-some x e)
 each_push P (z ∷ zs) y all last zero x e = all 0 x e
 each_push P (z ∷ zs) y all last (suc i) x e = each_push (λ k. P (suc k)) zs y (λ k. all (suc k)) last i x e
 
-pub wait_for-answer-requires : goal.wait_for-answer-requires
-wait_for-answer-requires g c = record { within = omega (arith, c.requires.shared.one_each, c.requires.within, c.loop-place-test.true) }
-
-pub push_reserved-requires : goal.push_reserved-requires
-push_reserved-requires g c = omega (arith, c.loop-place.invariant.count, c.loop-place.invariant.room, c.loop-place-test.true)
-
 pub loop-place-init : goal.loop-place-init
 loop-place-init g c = record {
   count = c.requires.empty;
@@ -37,12 +31,3 @@ loop-place-preserved g c =
           (each_push (TellsOfPart g.S.Parted.tells c.args.shared.now.divided.whole c.args.shared.now.divided.bounds.items) c.loop-place.answers.items c.wait_for-answer.result
           c.loop-place.invariant.each (subst here full told));
     }
-
-pub returns-clause-each : goal.returns-clause-each
-returns-clause-each g c = c.loop-place.invariant.each
-
-pub returns-clause-count : goal.returns-clause-count
-returns-clause-count g c = omega (arith, c.loop-place.invariant.count, c.loop-place-test.false, c.loop-place.auto.place-end)
-
-pub loop-place-smaller : goal.loop-place-smaller
-loop-place-smaller g c = omega (arith, c.loop-place-test.true)

@@ -21,13 +21,14 @@ pub loop-place-preserved : goal.loop-place-preserved
 loop-place-preserved g c =
     let count = c.loop-place.invariant.count in
     let full : c.loop-place.place ≡ length c.loop-place.answers.items = omega (arith, count, c.loop-place.answers.ok.0) in
-    let here : ℕ → Type 0 = λ n. TellsOfPart g.S.Parted.tells c.args.shared.now.divided.whole c.args.shared.now.divided.bounds.items n c.wait_for-answer.result in
-    let told : here c.loop-place.place =
-        subst (λ d. TellsOfPart g.S.Parted.tells d.whole d.bounds.items c.loop-place.place c.wait_for-answer.result) c.requires.shared.labelled c.wait_for-answer.ensures.kept in
+    let tells_of : ℕ → g.row.S-Answer.Denot → Type 0 = TellsOfPart g.S.Parted.tells c.args.shared.now.divided.whole c.args.shared.now.divided.bounds.items in
+    let told : tells_of c.loop-place.place c.wait_for-answer.result =
+        subst (λ d. TellsOfPart g.S.Parted.tells d.whole d.bounds.items c.loop-place.place c.wait_for-answer.result)
+        c.requires.shared.labelled c.wait_for-answer.ensures.kept in
     record {
       count = omega (arith, count, c.push_reserved.ensures.len);
       room = omega (arith, c.loop-place.invariant.room, c.push_reserved.ensures.capacity);
       each = rw c.push_reserved.ensures.items
-          (each_push (TellsOfPart g.S.Parted.tells c.args.shared.now.divided.whole c.args.shared.now.divided.bounds.items) c.loop-place.answers.items c.wait_for-answer.result
-          c.loop-place.invariant.each (subst here full told));
+          (each_push tells_of c.loop-place.answers.items c.wait_for-answer.result c.loop-place.invariant.each
+          (subst (λ n. tells_of n c.wait_for-answer.result) full told));
     }

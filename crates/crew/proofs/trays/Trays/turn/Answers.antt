@@ -10,7 +10,8 @@ swap_new_seat-found-requires g c =
 pub exchange-before-requires : goal.exchange-before-requires
 exchange-before-requires g c =
     (c.swap_new_seat-found.ensures.0,
-    held_first (g.P.Label.keeps (label_of c.args.self.now)) c.args.i c.swap_new_seat-found.result.1.me (c.swap_new_seat-found.ensures.1 c.if-found-eq-FREE.true))
+    held_first (g.P.Label.keeps (label_of c.args.self.now)) c.args.i c.swap_new_seat-found.result.1.me
+        (c.swap_new_seat-found.ensures.1 c.if-found-eq-FREE.true))
 
 pub store-requires : goal.store-requires
 store-requires g c =

@@ -15,7 +15,8 @@ pub record HaveBegun (s : Settings) (round : ℕ) (old new : List Table) (lists 
       → (table_of_node new p ≡ table_of_node old p) × IsOwner s (round - 1) p (table_of_node new p) (list_of_owner lists p)
 
 -- at first none has
-pub begun_none : {s : Settings} {round : ℕ} {ts : List Table} {lists : List OwnerListView} → StandAfterRound s (round - 1) ts lists → HaveBegun s round ts ts lists 0
+pub begun_none : {s : Settings} {round : ℕ} {ts : List Table} {lists : List OwnerListView} → StandAfterRound s (round - 1) ts lists
+    → HaveBegun s round ts ts lists 0
 begun_none standing = record {
   table_count = standing.table_count;
   list_count = standing.list_count;

@@ -56,7 +56,8 @@ returns-in-None g c =
     let end = c.write_round-in-None.ensures in
     record {
       owner = end.owner;
-      table = on_ok_weaker c.write_round-in-None.result (λ is. is ∙ ap (λ (t : Table). with_writes c.args.start.now.scenario.now c.args.start.now.round c.args.node t)
+      table = on_ok_weaker c.write_round-in-None.result (λ is. is ∙ ap (λ (t : Table). with_writes c.args.start.now.scenario.now c.args.start.now.round
+          c.args.node t)
           c.restart.ensures.table) end.table;
       others = on_ok_weaker c.write_round-in-None.result (leaves_both c.restart.ensures.others) end.others;
       only = end.only;

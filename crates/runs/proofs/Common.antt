@@ -2,13 +2,13 @@
 -- Serves most of the crate.
 pub use Rattle.std.proofs.Common.{Bool, Err, IfErr, IfOk, IfSome, List, None, Ok, Option, Result, Some, [], add-one, ap, append_assoc, arith, cond, drop, drop-cons, false, get_or, inl, inr, length, length-append, refl, rules, subst, suc, sym, take, take-append-drop, true, zero, ℕ, ◌*◌, ◌++◌, ◌+◌, ◌-◌, ◌<◌, ◌∙◌, ◌∷◌, ◌≡◌, ◌≢◌, ◌≤◌}
 pub use Rattle.std.proofs.Math.Path.{transport}
-pub use Rattle.std.proofs.KnownBytes.{Appends-trans, Consumes-trans}
+pub use Rattle.std.proofs.KnownBytes.{Appends-trans, Consumes-all, Consumes-trans}
 pub use Rattle.std.proofs.lemmas.Grind.{flat_map-append}
-pub use Rattle.std.proofs.lemmas.List.{append-nil, length-take, length-take-le, map-id, take_all, take_more}
+pub use Rattle.std.proofs.lemmas.List.{append-nil, length-take, length-take-le, map-id, take-append-le, take_all, take_more}
 pub use Rattle.std.proofs.lemmas.List.FromFn.{map-range_with_len_more}
 pub use Rattle.std.proofs.lemmas.Option.{same_Some}
 pub use Rattle.std.proofs.lemmas.Result.{IfErr-weaker, on_ok_weaker}
-pub use Rattle.std.specs.Io.KnownBytes.{Consumes}
+pub use Rattle.std.specs.Io.KnownBytes.{Consumes, IsAtEnd}
 pub use Rattle.std.specs.List.{range_with_len}
 pub use Rattle.std.specs.Prelude.{Contains, IsErrAnd, IsSomeAnd, OnOk, flat_map}
 pub use Rattle.bench_types.proofs.Sums.{sum_below-most}

@@ -1,6 +1,6 @@
 -- What a source gave up to a pull, and then by that pull; and what reading a scenario comes to.
 -- Serves the functions of `comparing`, `inputs`, `rounds` and `runs`.
-use Rattle.runs.proofs.Common.{◌≡◌, ◌≢◌, ◌<◌, ◌≤◌, ◌+◌, ◌++◌, ◌∙◌, ℕ, Bool, true, false, List, Option, None, Some, Result, Ok, Err, IfSome, IfOk, IfErr, inl, inr, length, take, arith, ap, refl, sym, subst, length-append, IsErrAnd, IsSomeAnd, OnOk, length-take-le, Consumes-trans, Consumes, Fault, OutOfMemory, document_of, first_fault, Says, IsFaultOfCheck, Settings}
+use Rattle.runs.proofs.Common.{◌≡◌, ◌≢◌, ◌<◌, ◌≤◌, ◌+◌, ◌++◌, ◌∙◌, ℕ, Bool, true, false, List, Option, None, Some, Result, Ok, Err, IfSome, IfOk, IfErr, inl, inr, length, take, arith, ap, refl, sym, subst, length-append, IsErrAnd, IsSomeAnd, OnOk, length-take-le, take-append-le, append-nil, [], Consumes-all, Consumes-trans, IsAtEnd, Consumes, Fault, OutOfMemory, document_of, first_fault, Says, IsFaultOfCheck, Settings}
 use Rattle.bench_types.specs.declared.sources.Source.{Ghosts as Source}
 use Rattle.runs.specs.Inputs.{Gave, GaveUpTo, IsReadWhole, IsRead, IsInputFault}
 
@@ -31,10 +31,35 @@ only_false true never = absurd (never refl)
 only_false false never = refl
 
 -- who hasn't failed at the last pull hadn't at the first
-pub was_sound : {R : Type 0} (source : Source R) (old now : R) → (source.failed old ≡ true → now ≡ old) → (source.failed now ≡ true → ⊥)
+pub never_failed : {R : Type 0} (source : Source R) (old now : R) → (source.failed old ≡ true → now ≡ old) → (source.failed now ≡ true → false ≡ true)
+    → source.failed old ≡ true → ⊥
+never_failed source old now stays sound failed =
+    let no : false ≡ true = sound (subst (λ r. source.failed r ≡ true) (sym (stays failed)) failed) in
+    cc
+
+pub was_sound : {R : Type 0} (source : Source R) (old now : R) → (source.failed old ≡ true → now ≡ old) → (source.failed now ≡ true → false ≡ true)
     → source.failed old ≡ false
-was_sound source old now stays sound =
-    only_false (source.failed old) (λ failed. sound (subst (λ r. source.failed r ≡ true) (sym (stays failed)) failed))
+was_sound source old now stays sound = only_false (source.failed old) (never_failed source old now stays sound)
+
+-- what a pull gave stands in front of what was in the chunk
+pub pushed : {R : Type 0} (source : Source R) (old now new : R) (text more buf rest : List ℕ) (count : ℕ)
+    → Consumes (source.left old) (source.left now) text → Consumes (source.left now) (source.left new) (take count buf) → count ≤ length buf
+    → more ≡ text ++ take count (buf ++ rest) → Consumes (source.left old) (source.left new) more × (length more ≡ length text + count)
+unfolding gave_more
+pushed source old now new text more buf rest count so_far given bound is =
+    let same : text ++ take count buf ≡ more = ap (λ part. text ++ part) (sym (take-append-le count buf rest bound)) ∙ sym is in
+    let gave = gave_more source old now new text buf count so_far given bound in
+    (subst (Consumes (source.left old) (source.left new)) same gave.1, ap length (sym same) ∙ gave.2)
+
+-- a pull of no byte at the end ends the text
+pub ended : {R : Type 0} (source : Source R) (old now new : R) (text buf : List ℕ) (count : ℕ)
+    → Consumes (source.left old) (source.left now) text → Consumes (source.left now) (source.left new) (take count buf) → count ≡ 0
+    → IsAtEnd (source.left new) → Consumes (source.left old) (source.left new) text × IfSome (source.left old) (λ bytes. text ≡ bytes)
+ended source old now new text buf count so_far given none at_end =
+    let whole : Consumes (source.left old) (source.left new) text =
+    subst (Consumes (source.left old) (source.left new)) (ap (λ n. text ++ take n buf) none ∙ append-nil text)
+    (Consumes-trans (source.left old) (source.left now) (source.left new) text (take count buf) so_far given) in
+    (whole, Consumes-all (source.left old) (source.left new) text [] text whole at_end refl)
 
 -- what holds of a fault that is handed on
 pub at_fault : {A : Type 0} (r : Result A Fault) (fault : Fault) (P : Fault → Type 0) → IsErrAnd r (λ handed. handed ≡ fault) → P fault → IfErr r P

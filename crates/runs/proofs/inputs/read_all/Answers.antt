@@ -1,6 +1,6 @@
-use Rattle.runs.proofs.Common.{arith, ◌≡◌, ◌≤◌, ◌+◌, length, subst, length-take, OutOfMemory, MOST_BYTES}
+use Rattle.runs.proofs.Common.{arith, ◌≡◌, ◌≤◌, ◌<◌, ◌+◌, length, subst, length-take, OutOfMemory, MOST_BYTES}
 use Rattle.runs.specs.Inputs.{Gave}
-use Rattle.runs.proofs.InputFacts.{at_fault, gave_more, gave_up_to, had_more, was_sound}
+use Rattle.runs.proofs.InputFacts.{at_fault, ended, gave_more, gave_up_to, had_more, never_failed, pushed, was_sound}
 use Rattle.runs.proofs.inputs.read_all.Goals as goal
 
 pub returns-then-count-space-clause-fault : goal.returns-then-count-space-clause-fault
@@ -14,7 +14,7 @@ returns-then-count-space-clause-fault g c =
       given = gave;
       longer = had_more _ _ gave.0 MOST_BYTES gave.1 gave.2;
       sound = c.in-Ok.ensures.fails;
-      was_sound = was_sound g.R.Source _ _ c.loop-count.invariant.stays (λ failed. let e = (c.in-Ok.ensures.stays failed).0 in cc);
+      was_sound = was_sound g.R.Source _ _ c.loop-count.invariant.stays (λ failed. (c.in-Ok.ensures.stays failed).0);
     }
 
 pub returns-in_err-extend_from_slice-clause-fault :
@@ -27,5 +27,36 @@ returns-in_err-extend_from_slice-clause-fault g c =
     (record {
       given = gave_up_to g.R.Source _ _ _ _ more bound;
       sound = c.in-Ok.ensures.fails;
-      was_sound = was_sound g.R.Source _ _ c.loop-count.invariant.stays (λ failed. let e = (c.in-Ok.ensures.stays failed).0 in cc);
+      was_sound = was_sound g.R.Source _ _ c.loop-count.invariant.stays (λ failed. (c.in-Ok.ensures.stays failed).0);
     })
+
+pub loop-count-preserved : goal.loop-count-preserved
+loop-count-preserved g c =
+    let more = pushed g.R.Source _ _ _ c.loop-count.text.items c.extend_from_slice.new.self.items c.pull.new.buf _ c.in-Ok.count
+    c.loop-count.invariant.given c.in-Ok.ensures.bytes c.in-Ok.ensures.bound c.in_ok-extend_from_slice.ensures.items in
+    record {
+      given = more.0;
+      within = omega (arith, more.1, c.if-count-space.false, c.len-space.ensures, c.loop-count.text.ok.0, c.loop-count.invariant.within);
+      stays = λ failed. absurd (never_failed g.R.Source _ _ c.loop-count.invariant.stays (λ failed. (c.in-Ok.ensures.stays failed).0) failed);
+    }
+
+pub loop-count-smaller : goal.loop-count-smaller
+loop-count-smaller g c =
+    let more = pushed g.R.Source _ _ _ c.loop-count.text.items c.extend_from_slice.new.self.items c.pull.new.buf _ c.in-Ok.count
+    c.loop-count.invariant.given c.in-Ok.ensures.bytes c.in-Ok.ensures.bound c.in_ok-extend_from_slice.ensures.items in
+    omega (arith, more.1, c.if-count-eq0.false, c.if-count-space.false, c.len-space.ensures, c.loop-count.text.ok.0, c.loop-count.invariant.within)
+
+pub returns-then-count-eq0-clause-whole : goal.returns-then-count-eq0-clause-whole
+returns-then-count-eq0-clause-whole g c =
+    let some : 0 < length c.pull.new.buf = rw (c.pull.auto.buf, length-take) (omega (arith, c.min-room.ensures)) in
+    let at_end = c.in-Ok.ensures.end c.if-count-eq0.true some in
+    let all = ended g.R.Source _ _ _ c.loop-count.text.items c.pull.new.buf c.in-Ok.count c.loop-count.invariant.given c.in-Ok.ensures.bytes
+    c.if-count-eq0.true at_end in
+    record {
+      given = all.0;
+      end = at_end;
+      all = all.1;
+      within = c.loop-count.invariant.within;
+      sound = c.in-Ok.ensures.fails;
+      was_sound = was_sound g.R.Source _ _ c.loop-count.invariant.stays (λ failed. (c.in-Ok.ensures.stays failed).0);
+    }

@@ -7,10 +7,11 @@ use Rattle.std.proofs.lemmas.Bool.{le-leb, lt-leb}
 use Rattle.std.proofs.lemmas.List.{take_all, length-map, map-append}
 use Rattle.std.proofs.lemmas.List.Elements.{filter_more}
 use Rattle.std.proofs.lemmas.List.Folds.{list_all-append}
-use Rattle.report.specs.inner.Cells.{cell_text, is_plain_cell, AddsCells}
+use Rattle.report.specs.inner.Cells.{cell_text, is_plain, is_plain_cell, AddsCells}
 use Rattle.report.specs.Columns.{rule_of, all_columns, columns}
 use Rattle.report.specs.declared.cells.Cell.{Cell}
 use Rattle.report.specs.declared.columns.Column.{Column}
+use Rattle.report.specs.declared.columns.Column.TheVariants as column
 
 abbrev pub is_in : ℕ → Column → Bool
 is_in format c = nat_le (rule_of c).since format
@@ -66,3 +67,14 @@ module _ (text : Column → List ℕ) (format : ℕ) (old : List Cell) (i : ℕ)
             (append_assoc (map cell_text old) (map text front) (text (get_or all_columns i d) ∷ []));
         plain = rw (added, list_all-append is_plain_cell now (cell ∷ []), so_far.plain, plain) refl;
       }
+
+pub plain_name : (c : Column) → is_plain (rule_of c).name ≡ true
+plain_name column.Round = refl
+plain_name column.Exchanges = refl
+plain_name column.Unreached = refl
+plain_name column.Lost = refl
+plain_name column.Entries = refl
+plain_name column.Cut = refl
+plain_name column.Stale = refl
+plain_name column.Greatest = refl
+plain_name column.Leftover = refl

@@ -30,7 +30,8 @@ module _ (text : Column → List ℕ) (format : ℕ) (old : List Cell) where
       rw first (omega arith)
 
   -- all are pushed
-  pub all_pushed : 1 ≤ format → (i : ℕ) (now : List Cell) → length all_columns ≤ i → ArePushed text format i old now → AddsCells old now (map text (columns format))
+  pub all_pushed : 1 ≤ format → (i : ℕ) (now : List Cell) → length all_columns ≤ i → ArePushed text format i old now
+      → AddsCells old now (map text (columns format))
   unfolding columns
   all_pushed some i now past pushed =
       let shown : map cell_text now ≡ map cell_text old ++ map text (columns format) =
@@ -38,7 +39,8 @@ module _ (text : Column → List ℕ) (format : ℕ) (old : List Cell) where
       record {
         shown = shown;
         plain = pushed.plain;
-        some = omega (arith, length-map now cell_text, ap length shown, length-append (map cell_text old) (map text (columns format)), some_columns some, length-map (columns format) text);
+        some = omega (arith, length-map now cell_text, ap length shown, length-append (map cell_text old) (map text (columns format)), some_columns some,
+            length-map (columns format) text);
       }
 
 module _ (text : Column → List ℕ) (format : ℕ) (old : List Cell) (i : ℕ) (d : Column) (now new : List Cell) (since : ℕ) (below : i < length all_columns) where

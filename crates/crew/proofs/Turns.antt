@@ -23,8 +23,17 @@ module _ {X V : Type 0} (kept : ℕ → X → Type 0) where
   pub all_empty : (words : List ℕ) (n : ℕ) (v : V) → length words ≡ n → AreTraysKept kept (opening words (replicate n None) v)
   all_empty words n v long = record {
     words = omega (arith, long, length-map (replicate {A = Option X} n None) some, length-replicate {A = Option X} n None);
-    free = λ i below _. (None, empty_at {X = X} n i (omega (arith, below, length-map (replicate {A = Option X} n None) some, length-replicate {A = Option X} n
-        None)), tt);
+    free = λ i below _. (
+      None,
+      empty_at {X = X} n i (omega (
+        arith,
+        below,
+        length-map (replicate {A = Option X} n None) some,
+        length-replicate {A = Option X} n
+            None,
+      )),
+      tt,
+    );
   }
 
   -- once a tray's word is 1, nothing is said of that tray
@@ -42,9 +51,13 @@ module _ {X V : Type 0} (kept : ℕ → X → Type 0) where
   opens n i v within s is wide _ =
       let below : i < length s.homes = omega arith in
       dite (ℕ_discrete (get_or s.words i 0) 0)
-      (λ free. let t = is.free i below free in
-      (v, takes i t.0, t.1, opened s i (set s.homes i none) (s.views ++ v ∷ []) is (length-set s.homes i none) below (λ j ne. set_else s.homes i j none ne),
-          λ _. (t.0, refl, t.2)))
+      (λ free. let t = is.free i below free in (
+        v,
+        takes i t.0,
+        t.1,
+        opened s i (set s.homes i none) (s.views ++ v ∷ []) is (length-set s.homes i none) below (λ j ne. set_else s.homes i j none ne),
+        λ _. (t.0, refl, t.2),
+      ))
       (λ taken. (v, keeps, tt, opened s i s.homes (s.views ++ v ∷ []) is refl below (λ j ne. refl), λ e. absurd (taken e)))
 
   shut : (s : State (Option X) V) (i : ℕ) (held : Option X) (views : List V) → AreTraysKept kept s → IfSome held (kept i)
@@ -52,8 +65,12 @@ module _ {X V : Type 0} (kept : ℕ → X → Type 0) where
   shut s i held views is ok = record {
     words = length-set s.words i 0 ∙ (is.words ∙ sym (length-set s.homes i (some held)));
     free = λ j below free. let within : j < length s.homes = omega (arith, length-set s.homes i (some held)) in dite (ℕ_discrete j i)
-        (λ e. (held, subst (λ k. get_elem? (set s.homes i (some held)) k ≡ some (some held)) (sym e) (set_here s.homes i (some held) (omega arith)), subst
-            (λ k. IfSome held (kept k)) (sym e) ok))
+        (λ e. (
+          held,
+          subst (λ k. get_elem? (set s.homes i (some held)) k ≡ some (some held)) (sym e) (set_here s.homes i (some held) (omega arith)),
+          subst
+              (λ k. IfSome held (kept k)) (sym e) ok,
+        ))
         (λ ne. let was = is.free j within (sym (get_or-set_other s.words i j 0 0 ne) ∙ free) in (was.0, set_else s.homes i j (some held) ne ∙ was.1, was.2));
   }
 

@@ -39,8 +39,14 @@ module _ (text : Column → List ℕ) (format : ℕ) (old : List Cell) where
       record {
         shown = shown;
         plain = pushed.plain;
-        some = omega (arith, length-map now cell_text, ap length shown, length-append (map cell_text old) (map text (columns format)), some_columns some,
-            length-map (columns format) text);
+        some = omega (
+          arith,
+          length-map now cell_text,
+          ap length shown,
+          length-append (map cell_text old) (map text (columns format)),
+          some_columns some,
+          length-map (columns format) text,
+        );
       }
 
 module _ (text : Column → List ℕ) (format : ℕ) (old : List Cell) (i : ℕ) (d : Column) (now new : List Cell) (since : ℕ) (below : i < length all_columns) where

@@ -134,18 +134,18 @@ first_of-faults table =
     steps (basics_at table) _ (basics_faults table) (conduct_faults (format_in table) table ++ arrays) (first_of-basics table) (λ basics is_basics.
     let format = format_known table basics is_basics in
     steps (conduct_at basics.format table) _ (conduct_faults (format_in table) table) arrays (ap (λ n. result_err (conduct_at n table)) (sym format)
-        ∙ first_of-conduct (format_in table) table) (λ conduct _.
+    ∙ first_of-conduct (format_in table) table) (λ conduct _.
     let same = nodes_known table basics is_basics in
     steps (partitions_at basics.nodes table) _ (array_faults field.Partition (partition_faults (nodes_in table)) table)
-        (array_faults field.Restart (restart_faults (format_in table) (nodes_in table)) table ++ (array_faults field.Load load_faults table ++ unknown_faults
-        table)) (first_of-array field.Partition _ (partition_faults (nodes_in table)) (λ value. first_of-partition basics.nodes value
-        ∙ ap (λ n. first_of (partition_faults n value)) (sym same)) table) (λ partitions _.
+    (array_faults field.Restart (restart_faults (format_in table) (nodes_in table)) table ++ (array_faults field.Load load_faults table ++ unknown_faults
+    table)) (first_of-array field.Partition _ (partition_faults (nodes_in table)) (λ value. first_of-partition basics.nodes value
+    ∙ ap (λ n. first_of (partition_faults n value)) (sym same)) table) (λ partitions _.
     steps (restarts_at basics.format basics.nodes table) _ (array_faults field.Restart (restart_faults (format_in table) (nodes_in table)) table)
-        (array_faults field.Load load_faults table ++ unknown_faults table) (first_of-array field.Restart _ (restart_faults (format_in table) (nodes_in table))
-        (λ value. first_of-restart basics.format basics.nodes value ∙ ap (λ n. first_of (restart_faults n basics.nodes value)) (sym format)
-        ∙ ap (λ n. first_of (restart_faults (format_in table) n value)) (sym same)) table) (λ restarts _.
+    (array_faults field.Load load_faults table ++ unknown_faults table) (first_of-array field.Restart _ (restart_faults (format_in table) (nodes_in table))
+    (λ value. first_of-restart basics.format basics.nodes value ∙ ap (λ n. first_of (restart_faults n basics.nodes value)) (sym format)
+    ∙ ap (λ n. first_of (restart_faults (format_in table) n value)) (sym same)) table) (λ restarts _.
     steps (loads_at table) _ (array_faults field.Load load_faults table) (unknown_faults table) (first_of-array field.Load _ load_faults first_of-load table)
-        (λ loads _.
+    (λ loads _.
     made _ _ ∙ ap (λ n. result_err (unknown_checked n table)) (sym format) ∙ first_of-unknown table))))) where
       arrays : List (Option Fault)
       arrays =

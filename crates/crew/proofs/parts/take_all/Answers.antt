@@ -23,8 +23,8 @@ loop-place-preserved g c =
     let full : c.loop-place.place ≡ length c.loop-place.answers.items = omega (arith, count, c.loop-place.answers.ok.0) in
     let tells_of : ℕ → g.row.S-Answer.Denot → Type 0 = TellsOfPart g.S.Parted.tells c.args.shared.now.divided.whole c.args.shared.now.divided.bounds.items in
     let told : tells_of c.loop-place.place c.wait_for-answer.result =
-        subst (λ d. TellsOfPart g.S.Parted.tells d.whole d.bounds.items c.loop-place.place c.wait_for-answer.result)
-        c.requires.shared.labelled c.wait_for-answer.ensures.kept in
+    subst (λ d. TellsOfPart g.S.Parted.tells d.whole d.bounds.items c.loop-place.place c.wait_for-answer.result)
+    c.requires.shared.labelled c.wait_for-answer.ensures.kept in
     record {
       count = omega (arith, count, c.push_reserved.ensures.len);
       room = omega (arith, c.loop-place.invariant.room, c.push_reserved.ensures.capacity);

@@ -35,5 +35,6 @@ how_many-total-requires-clause-passes g c r n lt =
 
 pub overflow_add-total : goal.overflow_add-total
 overflow_add-total g c =
-    omega (arith, c.loop-key.invariant.upto, c.how_many-total.ensures.upto, length-map c.plane_of-plane.result.now g.N.Number.number,
-    c.plane_of-plane.ensures.size, c.requires.grid.few_nodes, c.requires.grid.few_keys, c.loop-key-test.true)
+    let grid = c.requires.grid in
+    let size = sym (length-map c.plane_of-plane.result.now g.N.Number.number) ∙ c.plane_of-plane.ensures.size in
+    omega (arith, c.loop-key.invariant.upto, c.how_many-total.ensures.upto, size, grid.few_nodes, grid.few_keys, c.loop-key-test.true)

@@ -11,10 +11,10 @@ returns-clause-added c =
 pub loop-column-preserved : goal.loop-column-preserved
 loop-column-preserved c =
     elim c.if-since-format.branch [
-    | then-since-format+in_ok-push w ↦
-      pushed_more _ _ _ _ _ _ _ _ c.loop-column-test.true (Number w.number.result) (ap decimal w.number.ensures) refl w.if-since-format.true
-      c.since.ensures (ap (λ cells. cells.items) w.cells-is ∙ w.in_ok-push.ensures.items) c.loop-column.invariant
-    | else-since-format w ↦
-      pushed_none _ _ _ _ _ _ _ _ c.loop-column-test.true w.if-since-format.false c.since.ensures (ap (λ cells. cells.items) w.cells-is)
-      c.loop-column.invariant
+      | then-since-format+in_ok-push w ↦
+          pushed_more _ _ _ _ _ _ _ _ c.loop-column-test.true (Number w.number.result) (ap decimal w.number.ensures) refl w.if-since-format.true
+          c.since.ensures (ap (λ cells. cells.items) w.cells-is ∙ w.in_ok-push.ensures.items) c.loop-column.invariant
+      | else-since-format w ↦
+          pushed_none _ _ _ _ _ _ _ _ c.loop-column-test.true w.if-since-format.false c.since.ensures (ap (λ cells. cells.items) w.cells-is)
+          c.loop-column.invariant
     ]

@@ -6,7 +6,7 @@ use Rattle.report.proofs.traces.make_rows.Goals as goal
 pub loop-index-preserved : goal.loop-index-preserved
 loop-index-preserved c =
     rows_more _ _ _ _ _ _ _ _ c.loop-index-test.true (omega (arith, c.loop-index-test.true, c.requires.one_each)) c.loop-index.invariant
-        c.in_ok-put_line.ensures.between
+    c.in_ok-put_line.ensures.between
     (c.in_ok-put_line.ensures.line ∙ ap (λ line. bytes_written c.loop-index.lines ++ line) c.cells_of-cells.ensures.line)
 
 pub loop-index-init : goal.loop-index-init

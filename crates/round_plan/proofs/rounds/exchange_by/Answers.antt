@@ -9,7 +9,7 @@ by-parts : (s : Settings) (node round : ℕ) {peer rotation : ℕ} {lost1 lost2 
     → lost1 ≡ is_lost s (word_of s node round 1) → lost2 ≡ is_lost s (word_of s node round 2) → lost3 ≡ is_lost s (word_of s node round 3)
     → rotation ≡ rotation_by s.rotation s.nodes (word_of s node round 4)
     → ◌≡◌ {A = Exchange} (record { initiator = node; responder = peer; lost1 = lost1; lost2 = lost2; lost3 = lost3; rotation = rotation })
-        (exchange_of s round node)
+    (exchange_of s round node)
 by-parts s node round peer lost1 lost2 lost3 rotation = rw (peer, lost1, lost2, lost3, rotation) refl
 
 pub returns-in-Off-clause-value : goal.returns-in-Off-clause-value

@@ -60,5 +60,9 @@ returns-clause-answer c =
     (passes (writes_at t) _ _ _ c.in_ok-writes.ensures.answer (refl)))))))
 
 pub returns-clause-lawful : goal.returns-clause-lawful
-returns-clause-lawful c = record { budget = c.in_ok-budget.ensures.lawful; loss_ppm = c.in_ok-loss_ppm.ensures.within.1; writes =
-    c.in_ok-writes.ensures.within.1 }
+returns-clause-lawful c = record {
+  budget = c.in_ok-budget.ensures.lawful;
+  loss_ppm = c.in_ok-loss_ppm.ensures.within.1;
+  writes =
+      c.in_ok-writes.ensures.within.1;
+}

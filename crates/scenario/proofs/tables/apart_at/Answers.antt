@@ -15,7 +15,7 @@ pub returns-in_err-values-clause-refused : goal.returns-in_err-values-clause-ref
 returns-in_err-values-clause-refused c =
     handed_on _ c.in_err-values.field-0.0 _ c.from_residual-in_err-values.ensures.1
     (λ _. ap (λ r. r >>= ascending field.PartitionApart 0 (c.args.nodes - 1)) (ap (λ r. r >>= array_of field.PartitionApart) c.in_ok-value.ensures.ok
-        ∙ c.in_err-values.ensures.fault))
+    ∙ c.in_err-values.ensures.fault))
 
 pub loop-value-init : goal.loop-value-init
 loop-value-init c = rw c.new-apart.ensures.items (joined_nothing _)
@@ -33,7 +33,7 @@ returns-in_err-node-clause-refused c =
     handed_on _ fault _ c.from_residual-in_err-node.ensures.1 (λ _.
     walked _ (from 0) (map view vs) (Err fault) (ap (λ r. r >>= array_of field.PartitionApart) c.in_ok-value.ensures.ok ∙ c.in_ok-values.ensures.ok)
     (walk_fails (from 0 (map view vs)) (from l.least) vs l.value-index l.apart.items l.invariant c.value-item.result fault c.loop-value-test.true
-        c.value-item.is
+    c.value-item.is
     (ap (λ r. r >>= (λ n. from (n + 1) rest >>= (λ ns. Ok (n ∷ ns)))) (sym c.in_err-node.ensures.answer))))
 
 pub returns-in_err-push-clause-refused : goal.returns-in_err-push-clause-refused

@@ -69,14 +69,16 @@ merge-came-requires g c =
     let keys : one.keys ≡ other.keys = ap (λ (v : VersionTableView). v.keys) c.initiator.view_is ∙ c.requires.keys
     ∙ ap (λ (v : VersionTableView). v.keys) (sym c.responder.view_is) in
     let size = sym (length-map one.cells.items number) ∙ kept.numbers.size in
-    record { marked = rw (c.deref.ensures.value, c.deref-2.ensures.value, c.deref_mut.ensures.value, c.deref_mut-2.ensures.value) (record {
-      grid = record { whole = size; few_nodes = kept.proper.nodes_limit; few_keys = kept.proper.keys_limit };
-      second = sym (length-map other.cells.items number) ∙ c.responder.invariant.numbers.size ∙ (λ i. sym keys i * sym nodes i) ∙ sym size;
-      first_low = sym (length-map one.greatest.items number) ∙ kept.most.size;
-      second_low = sym (length-map other.greatest.items number) ∙ c.responder.invariant.most.size ∙ sym nodes;
-      first_covered = λ owner lt key lt'. (kept.most.each owner lt).upto key lt';
-      second_covered = rw (nodes, keys) (λ owner lt key lt'. (c.responder.invariant.most.each owner lt).upto key lt');
-    }) }
+    record {
+      marked = rw (c.deref.ensures.value, c.deref-2.ensures.value, c.deref_mut.ensures.value, c.deref_mut-2.ensures.value) (record {
+        grid = record { whole = size; few_nodes = kept.proper.nodes_limit; few_keys = kept.proper.keys_limit };
+        second = sym (length-map other.cells.items number) ∙ c.responder.invariant.numbers.size ∙ (λ i. sym keys i * sym nodes i) ∙ sym size;
+        first_low = sym (length-map one.greatest.items number) ∙ kept.most.size;
+        second_low = sym (length-map other.greatest.items number) ∙ c.responder.invariant.most.size ∙ sym nodes;
+        first_covered = λ owner lt key lt'. (kept.most.each owner lt).upto key lt';
+        second_covered = rw (nodes, keys) (λ owner lt key lt'. (c.responder.invariant.most.each owner lt).upto key lt');
+      });
+    }
 
 pub raise_both-requires : goal.raise_both-requires
 raise_both-requires g c =

@@ -41,9 +41,9 @@ returns-clause-tables g c =
     let all : c.from.result ≡ length plan.list.exchanges =
     c.from.ensures ∙ c.len.ensures.value ∙ ap (λ (l : RoundListView). length l.exchanges) c.args.self.planned.1 in
     let count : length slots ≡ plan.list.nodes = sym (slots_counts c.close_with-closed.result.slots).0 ∙ c.close_with-closed.ensures.counts.1
-        ∙ c.args.self.slots ∙ ap (λ (l : RoundListView). l.nodes) c.args.self.planned.1 in
+    ∙ c.args.self.slots ∙ ap (λ (l : RoundListView). l.nodes) c.args.self.planned.1 in
     let left = close_left table plan slots (planned_by table c.args.self.table.shared.key c.args.self.planned.0) count
-        (end.0.tables (omega (arith, end.0.tells.most, end.1, all, c.if-finished-from.false))) in
+    (end.0.tables (omega (arith, end.0.tells.most, end.1, all, c.if-finished-from.false))) in
     ap (map table) (c.all_out-tables.ensures left.0 left.1) ∙ left.2
 
 pub returns-clause-whole : goal.returns-clause-whole
@@ -52,7 +52,7 @@ returns-clause-whole g c =
     let all : c.from.result ≡ length (exchanges_of c.args.self) =
     c.from.ensures ∙ c.len.ensures.value ∙ ap (λ (l : RoundListView). length l.exchanges) c.args.self.planned.1 in
     let full : get_or (slots_items c.close_with-closed.result.words) 0 0 / 2 ≡ length (exchanges_of c.args.self) =
-        omega (arith, end.0.tells.most, end.1, all, c.if-finished-from.false) in
+    omega (arith, end.0.tells.most, end.1, all, c.if-finished-from.false) in
     λ whole. (sym (end.0.tells.whole_count whole) ∙ full, end.0.whole whole full)
 
 pub all_out-tables-requires : goal.all_out-tables-requires

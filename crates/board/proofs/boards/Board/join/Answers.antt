@@ -51,7 +51,7 @@ returns-clause-seat g c =
     let w = seat_view other in
     let is = c.join_seat.ensures.2 ∙ joined_me plan one.raw.me other.raw.me a.plan a.rests in
     seat_again table c.args.self.now one _ (joined v w) a (c.load.ensures.0 ∙ c.join_seat.ensures.0) (rests_of table c.load.new.seat.me _ (c.load.ensures.2.0
-        ∙ ap (seat_model table) is)) (omega (arith, a.rests.parts))
+    ∙ ap (seat_model table) is)) (omega (arith, a.rests.parts))
     (λ i holds. elim (cases_lt 0 (times i v.held)) [
       | inl mine ↦ a.within i mine
       | inr theirs ↦ b.within i (omega (arith, theirs, holds, total-append (only i) v.held w.held))

@@ -24,7 +24,7 @@ release-first-requires g c =
       owes =
           subst (λ x. IfSome x (λ j. (j < length (exchanges_of c.args.self.now)) × OwesTo plan c.put_in.new.raw.me j)) (sym (ap (λ a. a.first) after))
           (owes_first plan (seat_view c.args.seat.now) i c.put_in.new.raw.me c.put_in.ensures.seat c.requires.seat.rests.parts
-              (c.requires.seat.within i c.requires.hold.held));
+          (c.requires.seat.within i c.requires.hold.held));
     }
 
 pub release-second-requires : goal.release-second-requires
@@ -36,31 +36,31 @@ release-second-requires g c =
       owes =
           subst (λ x. IfSome x (λ j. (j < length (exchanges_of c.args.self.now)) × OwesTo plan c.release-first.new.raw.me j)) (sym (ap (λ a. a.second) after))
           (owes_second plan (seat_view c.args.seat.now) i c.put_in.new.raw.me c.put_in.ensures.seat c.requires.seat.rests.parts
-              (c.requires.seat.within i c.requires.hold.held) c.release-first.new.raw.me c.release-first.result
+          (c.requires.seat.within i c.requires.hold.held) c.release-first.new.raw.me c.release-first.result
           (λ none. c.release-first.ensures.none (ap (λ a. a.first) after ∙ none))
-              (subst (λ x. IfSome x (λ j. IsReleased plan c.put_in.new.raw.me j c.release-first.result c.release-first.new.raw.me)) (ap (λ a. a.first) after)
-              c.release-first.ensures.released));
+          (subst (λ x. IfSome x (λ j. IsReleased plan c.put_in.new.raw.me j c.release-first.result c.release-first.new.raw.me)) (ap (λ a. a.first) after)
+          c.release-first.ensures.released));
     }
 
 -- what the two releases leave
 put_back : (g : given.Over) (c : goal.After-release-second g) (new : Seat g.row.T.Denot) → new.raw ≡ c.release-second.new.raw
     → IsSeatOf g.T.MemoryTable.table new c.args.self.now
     × IsPutBack (plan_of g.T.MemoryTable.table c.args.self.now) (seat_view c.args.seat.now) c.args.hold.index
-        (record { first = c.release-first.result; second = c.release-second.result }) (seat_view new)
+    (record { first = c.release-first.result; second = c.release-second.result }) (seat_view new)
 put_back g c new is =
     let plan = plan_of g.T.MemoryTable.table c.args.self.now in
     let i = c.args.hold.index in
     let after = c.after-after.ensures ∙ ap (λ l. successors l.exchanges i) c.args.self.now.planned.1 in
     let both = after_second plan (seat_view c.args.seat.now) i c.put_in.new.raw.me c.put_in.ensures.seat c.requires.seat.rests.parts
-        (c.requires.seat.within i c.requires.hold.held) c.release-first.new.raw.me c.release-first.result
+    (c.requires.seat.within i c.requires.hold.held) c.release-first.new.raw.me c.release-first.result
     (λ none. c.release-first.ensures.none (ap (λ a. a.first) after ∙ none))
-        (subst (λ x. IfSome x (λ j. IsReleased plan c.put_in.new.raw.me j c.release-first.result c.release-first.new.raw.me)) (ap (λ a. a.first) after)
-        c.release-first.ensures.released)
+    (subst (λ x. IfSome x (λ j. IsReleased plan c.put_in.new.raw.me j c.release-first.result c.release-first.new.raw.me)) (ap (λ a. a.first) after)
+    c.release-first.ensures.released)
     c.release-second.new.raw.me c.release-second.result (λ none. c.release-second.ensures.none (ap (λ a. a.second) after ∙ none))
-        (subst (λ x. IfSome x (λ j. IsReleased plan c.release-first.new.raw.me j c.release-second.result c.release-second.new.raw.me))
-        (ap (λ a. a.second) after) c.release-second.ensures.released) in
+    (subst (λ x. IfSome x (λ j. IsReleased plan c.release-first.new.raw.me j c.release-second.result c.release-second.new.raw.me))
+    (ap (λ a. a.second) after) c.release-second.ensures.released) in
     let same : c.release-second.new.raw.table_id ≡ c.args.seat.now.raw.table_id = c.release-second.ensures.id ∙ c.release-first.ensures.id
-        ∙ c.put_in.ensures.id in (
+    ∙ c.put_in.ensures.id in (
       put_back_seat g.T.MemoryTable.table c.args.self.now c.args.seat.now new i _ _ c.release-first.result c.release-second.result c.requires.seat
           c.requires.hold.held (ap (λ r. r.table_id) is ∙ same) (ap (λ r. r.me) is ∙ both.0),
       subst (IsPutBack plan (seat_view c.args.seat.now) i (record { first = c.release-first.result; second = c.release-second.result }))

@@ -38,10 +38,10 @@ load-requires g c =
       word_zero c.args.self.now,
       empty_allowed g.T.MemoryTable.table plan _ _ c.exchange-initiator.new.seat.me c.args.raw.now.me.0.seat out.parts c.args.i
           (both_out (view plan c.args.raw.now.me.0.seat (c.args.i ∷ []) []) (initiator_of plan c.args.i) (responder_of plan c.args.i)
-              c.exchange-exchange.result.initiator c.exchange-exchange.result.responder (Some out.initiator) (Some out.responder) None c.args.raw.now.me
-              c.exchange-responder.new.seat.me c.turn.new.self.me
+          c.exchange-exchange.result.initiator c.exchange-exchange.result.responder (Some out.initiator) (Some out.responder) None c.args.raw.now.me
+          c.exchange-responder.new.seat.me c.turn.new.self.me
           out.seat (ap (λ e. e.initiator) found) (ap (λ e. e.responder) found) c.exchange-responder.ensures.3 c.turn.ensures.2 None
-              c.exchange-initiator.new.seat.me c.exchange-initiator.ensures.3),
+          c.exchange-initiator.new.seat.me c.exchange-initiator.ensures.3),
     )
 
 pub returns : goal.returns
@@ -53,28 +53,28 @@ returns g c =
     let found_in : List (ℕ × Option g.row.T.Denot) → Option g.row.T.Denot = λ l. (get_or l 0 (0, None)).1 in
     let second =
     second_in (view plan c.args.raw.now.me.0.seat (c.args.i ∷ []) []) (initiator_of plan c.args.i) (responder_of plan c.args.i)
-        c.exchange-exchange.result.initiator c.exchange-exchange.result.responder (Some out.initiator) (Some out.responder) None c.args.raw.now.me
-        c.exchange-responder.new.seat.me c.turn.new.self.me
+    c.exchange-exchange.result.initiator c.exchange-exchange.result.responder (Some out.initiator) (Some out.responder) None c.args.raw.now.me
+    c.exchange-responder.new.seat.me c.turn.new.self.me
     out.seat (ap (λ e. e.initiator) found) (ap (λ e. e.responder) found) c.exchange-responder.ensures.3 c.turn.ensures.2 in record {
       id = c.load.ensures.0 ∙ c.exchange-initiator.ensures.0 ∙ c.turn.ensures.0 ∙ c.exchange-responder.ensures.0;
       seat =
           emptied_of g.T.MemoryTable.table plan c.args.raw.now.me.0.seat c.args.i c.load.result c.exchange-initiator.new.seat.me c.load.new.seat.me
-              (step c.args.self.now.table.shared.table_id.slots 0 0 0 none) _
+          (step c.args.self.now.table.shared.table_id.slots 0 0 0 none) _
           (both_out (view plan c.args.raw.now.me.0.seat (c.args.i ∷ []) []) (initiator_of plan c.args.i) (responder_of plan c.args.i)
-              c.exchange-exchange.result.initiator c.exchange-exchange.result.responder (Some out.initiator) (Some out.responder) None c.args.raw.now.me
-              c.exchange-responder.new.seat.me c.turn.new.self.me
+          c.exchange-exchange.result.initiator c.exchange-exchange.result.responder (Some out.initiator) (Some out.responder) None c.args.raw.now.me
+          c.exchange-responder.new.seat.me c.turn.new.self.me
           out.seat (ap (λ e. e.initiator) found) (ap (λ e. e.responder) found) c.exchange-responder.ensures.3 c.turn.ensures.2 None
-              c.exchange-initiator.new.seat.me c.exchange-initiator.ensures.3)
+          c.exchange-initiator.new.seat.me c.exchange-initiator.ensures.3)
           c.load.ensures.2;
       is_hold = record {
         index = refl;
         initiator =
             ap table (same_Some c.in-Some-Some.initiator out.initiator (sym c.in-Some-Some.is-0 ∙ ap found_in (sym c.exchange-initiator.ensures.2
-                ∙ (λ k. (second k).1))))
+            ∙ (λ k. (second k).1))))
             ∙ out.first;
         responder =
             ap table (same_Some c.in-Some-Some.responder out.responder (sym c.in-Some-Some.is-1 ∙ ap found_in (sym c.exchange-responder.ensures.2
-                ∙ (λ k. (out.seat k).1))))
+            ∙ (λ k. (out.seat k).1))))
             ∙ out.second;
       };
     }

@@ -4,22 +4,30 @@ use Rattle.crew.proofs.Turns.{held_first, opens, shuts, was_kept}
 use Rattle.crew.proofs.trays.Trays.turn.Goals as goal
 
 pub swap_new_seat-found-requires : goal.swap_new_seat-found-requires
-swap_new_seat-found-requires g c =
-    (omega (arith, c.args.self.now.even, c.requires.within), opens (g.P.Label.keeps (label_of c.args.self.now)) _ c.args.i c.args.self.now.table.shared.key
-        c.requires.within)
+swap_new_seat-found-requires g c = (
+  omega (arith, c.args.self.now.even, c.requires.within),
+  opens (g.P.Label.keeps (label_of c.args.self.now)) _ c.args.i c.args.self.now.table.shared.key
+      c.requires.within,
+)
 
 pub exchange-before-requires : goal.exchange-before-requires
-exchange-before-requires g c =
-    (c.swap_new_seat-found.ensures.0,
-    held_first (g.P.Label.keeps (label_of c.args.self.now)) c.args.i c.swap_new_seat-found.result.1.me
-        (c.swap_new_seat-found.ensures.1 c.if-found-eq-FREE.true))
+exchange-before-requires g c = (
+  c.swap_new_seat-found.ensures.0,
+  held_first (g.P.Label.keeps (label_of c.args.self.now)) c.args.i c.swap_new_seat-found.result.1.me
+      (c.swap_new_seat-found.ensures.1 c.if-found-eq-FREE.true),
+)
 
 pub store-requires : goal.store-requires
-store-requires g c =
-    (search rules, omega (arith, c.args.self.now.even, c.requires.within), shuts (g.P.Label.keeps (label_of c.args.self.now)) _ _ c.args.i _ _ c.args.value _
-        c.exchange-before.ensures.3 c.requires.kept)
+store-requires g c = (
+  search rules,
+  omega (arith, c.args.self.now.even, c.requires.within),
+  shuts (g.P.Label.keeps (label_of c.args.self.now)) _ _ c.args.i _ _ c.args.value _
+      c.exchange-before.ensures.3 c.requires.kept,
+)
 
 pub returns-then-found-eq-FREE : goal.returns-then-found-eq-FREE
 returns-then-found-eq-FREE g c =
-    record { kept = was_kept (g.P.Label.keeps (label_of c.args.self.now)) c.args.i c.swap_new_seat-found.result.1.me c.exchange-before.result
-        (c.swap_new_seat-found.ensures.1 c.if-found-eq-FREE.true) c.exchange-before.ensures.2 }
+    record {
+      kept = was_kept (g.P.Label.keeps (label_of c.args.self.now)) c.args.i c.swap_new_seat-found.result.1.me c.exchange-before.result
+          (c.swap_new_seat-found.ensures.1 c.if-found-eq-FREE.true) c.exchange-before.ensures.2;
+    }

@@ -9,7 +9,7 @@ use Rattle.simulation.proofs.sims.Sim.step_by.Goals as goal
 pub overflow_add-next : goal.overflow_add-next
 overflow_add-next g c =
     let last = subst (λ (v : SimView g.row.T.Denot). v.rounds_done + 1 ≤ MOST_ROUNDS) (sym (c.self.view_is ∙ c.resources-resources.ensures.same))
-        c.in_ok-cluster.ensures.taken.before.of_run.last in
+    c.in_ok-cluster.ensures.taken.before.of_run.last in
     omega (arith, last)
 
 pub put_back-requires-clause-left : goal.put_back-requires-clause-left
@@ -31,10 +31,10 @@ returns-in_err-cluster-2-clause-fails g c =
 pub returns-clause-played : goal.returns-clause-played
 returns-clause-played g c =
     let taken = subst (λ out. HasTakenOut g.T.MemoryTable.table g.K.RoundHistories.kept g.K.RoundHistories.may_write c.args.self.now out
-        c.in_ok-cluster.cluster)
+    c.in_ok-cluster.cluster)
     (sym c.resources-resources.ensures.same) c.in_ok-cluster.ensures.taken in
     let played = subst (λ (v : SimView g.row.T.Denot). IsPlayed g.T.MemoryTable.table g.K.RoundHistories.kept v.settings (v.rounds_done + 1)
-        c.in_ok-cluster-2.cluster
-        c.in_ok-cluster-2.round) c.self.view_is c.in_ok-cluster-2.ensures.played in
+    c.in_ok-cluster-2.cluster
+    c.in_ok-cluster-2.round) c.self.view_is c.in_ok-cluster-2.ensures.played in
     step_played g.T.MemoryTable.table g.K.RoundHistories.kept g.K.RoundHistories.may_write c.args.self.now c.resources-resources.new.self c.put_back.new.self
     c.in_ok-cluster.cluster c.in_ok-cluster-2.cluster c.in_ok-cluster-2.round taken played c.put_back.ensures

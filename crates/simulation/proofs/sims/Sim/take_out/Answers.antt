@@ -14,8 +14,13 @@ returns-clause-taken g c =
       may = c.in_ok-check_step.ensures.ok;
       before = record {
         lawful = lawful;
-        of_run = record { first = omega arith; last = omega (arith, may.1, lawful.rounds.1); within = omega (arith, may.1); may_write =
-            c.self.invariant.may_write };
+        of_run = record {
+          first = omega arith;
+          last = omega (arith, may.1, lawful.rounds.1);
+          within = omega (arith, may.1);
+          may_write =
+              c.self.invariant.may_write;
+        };
         before = after_before g.T.MemoryTable.table g.K.RoundHistories.kept g.K.RoundHistories.may_write c.self.inside.scenario c.self.inside.cluster _
             c.self.inside.rounds_done c.self.invariant is;
       };

@@ -67,8 +67,8 @@ invariant_of-self g c =
 pub index-requires : goal.index-requires
 index-requires g c =
     let counts = c.self.inside.counts in
-    omega (arith, c.requires.owner_below, ap (λ (h : HistoriesView). length h.lists) c.self.view_is, c.self.invariant.counted.size,
-    length-map counts.items g.N.Number.number, counts.ok.0)
+    let lists = ap (λ (h : HistoriesView). length h.lists) c.self.view_is in
+    omega (arith, c.requires.owner_below, lists, c.self.invariant.counted.size, length-map counts.items g.N.Number.number, counts.ok.0)
 
 pub plus-number-requires : goal.plus-number-requires
 plus-number-requires g c =
@@ -79,8 +79,8 @@ plus-number-requires g c =
 pub index_mut-requires-2 : goal.index_mut-requires-2
 index_mut-requires-2 g c =
     let counts = c.self.inside.counts in
-    omega (arith, c.requires.owner_below, ap (λ (h : HistoriesView). length h.lists) c.self.view_is, c.self.invariant.counted.size,
-    length-map counts.items g.N.Number.number, counts.ok.0)
+    let lists = ap (λ (h : HistoriesView). length h.lists) c.self.view_is in
+    omega (arith, c.requires.owner_below, lists, c.self.invariant.counted.size, length-map counts.items g.N.Number.number, counts.ok.0)
 
 pub returns-clause-known : goal.returns-clause-known
 returns-clause-known g c = subst (AreKnown g.H.Written.lists g.N.Number.most) c.self.view_is c.self.invariant.known

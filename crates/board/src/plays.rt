@@ -21,7 +21,7 @@ pub struct BoardKey<T> {
 }
 
 // The rule of the table: what holds between any two steps of any threads.
-#[derive(Clone, Copy)]
+#[derive(Drop)]
 pub struct Order<T>(PhantomData<T>);
 
 impl<T: MemoryTable> TableRule<Option<T>, View, BoardKey<T>> for Order<T> {

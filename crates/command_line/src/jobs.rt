@@ -15,7 +15,7 @@ use std::thread::Threads;
 use std::{fs, io};
 
 /// The runtime and the memory of a process.
-#[derive(Clone, Copy)]
+#[derive(Drop)]
 pub struct Host<'a, H> {
     pub rt: &'a H,
     pub alloc: Global,

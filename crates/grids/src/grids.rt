@@ -32,7 +32,7 @@ pub struct Sent<'a, N: Number> {
 }
 
 /// What a peer has: its numbers, a mark for each owner that it told, and which owner it is itself.
-#[derive(Clone, Copy)]
+#[derive(Drop)]
 pub struct Peer<'a, N: Number> {
     pub cells: &'a [N],
     pub low: &'a [N],

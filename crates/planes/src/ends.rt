@@ -8,7 +8,7 @@ use crate::grids::plane_of;
 use crate::numbers::Number;
 
 /// For each round from 0 up to `rounds` a row with how many writes each owner has made up to its end.
-#[derive(Clone, Copy)]
+#[derive(Drop)]
 pub struct Ends<'a, N: Number> {
     pub numbers: &'a [N],
     pub rounds: u32,

@@ -104,6 +104,7 @@ fn carry_out_once<
             by.carry_out(rt, batch, tables, meanwhile)
         },
     );
+    posts.close();
     match answer {
         Ok(done) => done,
         Err(_) => Err(Fault::NoThread),

@@ -2,7 +2,7 @@
 
 ghost use Rattle.std.specs.Prelude.{◌≡◌, OnOk, IfErr};
 ghost use Rattle.simulation.specs.calls.Simulation.{MayWriteAll};
-ghost use Rattle.runs.specs.inner.Starts.{AnswersBegun, IsAtStart, IsBegun};
+ghost use Rattle.runs.specs.inner.Starts.{IsAtStart};
 ghost use Rattle.runs.specs.inner.Rounds.{AnswersRounds, IsFaultInTurn, StopsNext, WritesAll, WritesNext};
 
 use crate::resources::Resources;
@@ -70,6 +70,7 @@ pub(crate) fn write_over<
             (output, answer)
         },
     );
+    posts.close();
     match done {
         Ok((output, answer)) => {
             take_back(output);
@@ -116,22 +117,15 @@ fn write_by<
 {
     // (there is a first round, for which memory may be lacking)
     let _rounds = scenario.rounds();
-    let mut sim = open(resources, scenario)?;
-    write_all(resources.rt, posts, &mut sim, output)?;
-    Ok(sim.into_scenario())
-}
-
-// A simulation before its first round.
-fn open<T: MemoryTable + Send + Sync, K: RoundHistories<T>, H: Threads + Sync>(
-    resources: &Resources<H>,
-    scenario: Scenario,
-) -> Result<Sim<T, K>, Fault>
-    requires may_write { MayWriteAll K.may_write scenario }
-    ensures { AnswersBegun (IsBegun scenario) result }
-{
     let Resources { rt, alloc, workers } = *resources;
     match Sim::of_by(rt, alloc, workers, scenario) {
-        Ok(sim) => Ok(sim),
+        Ok(mut sim) => {
+            let written = write_all(rt, posts, &mut sim, output);
+            // (by a call of its own crate, so that letting a simulation go isn't proved here once more)
+            let scenario = sim.into_scenario();
+            written?;
+            Ok(scenario)
+        }
         Err((fault, _)) => Err(fault),
     }
 }

@@ -126,6 +126,7 @@ impl<
                 next.play(&resources, by)
             },
         );
+        posts.close();
         match answer {
             Ok(played) => played,
             Err(_) => Err(Fault::NoThread),

@@ -107,6 +107,10 @@ impl<T: MemoryTable, X: Exchanging<T> + Drop, G: Gate + Drop, J: Job> Posts<T, X
         self.workers
     }
 
+    /// Gives the posts up, once their threads have gone home. Where callers let them go by this call, how they are given
+    /// up isn't proved once more in each crate of a caller.
+    pub fn close(self) {}
+
     /// Carries out the exchanges of a list by threads that were started before. It calls `meanwhile` once they have
     /// what they need, works on the list too if the caller's thread is one of the workers, and waits for the others
     /// then. With one worker it calls `meanwhile` first. An error is lack of memory

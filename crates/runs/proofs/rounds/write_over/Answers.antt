@@ -10,8 +10,8 @@ returns-in_err-posts g c =
     (stops_at_first g.O.RoundWriter.wrote g.O.RoundWriter.stops _ _ _ _ (omega (arith, c.rounds-rounds.ensures.limits))
     (inl c.in_err-posts.ensures.only))
 
-pub returns : goal.returns
-returns g c =
+pub returns-in-Err : goal.returns-in-Err
+returns-in-Err g c =
     answers_fault g.O.RoundWriter.wrote g.O.RoundWriter.stops _ _ _ _ _ NoThread refl
     (subst (λ now. IsFaultInTurn g.O.RoundWriter.wrote g.O.RoundWriter.stops c.args.scenario c.args.output.now now c.args.resources.now.workers NoThread)
     (search rules)

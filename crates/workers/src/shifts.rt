@@ -86,10 +86,9 @@ fn share<T: MemoryTable, X: Exchanging<T> + Drop, G: Gate + Drop>(
         rules: *rules,
         gate,
     };
-    match Arc::new(alloc, Shift { shop, trays }) {
-        Ok(shift) => Ok(shift),
-        Err(_) => Err(Fault::OutOfMemory),
-    }
+    Arc::new(alloc, Shift { shop, trays })
+        .ok()
+        .ok_or(Fault::OutOfMemory)
 }
 
 // A tray for each worker of a board.

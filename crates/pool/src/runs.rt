@@ -105,8 +105,5 @@ fn carry_out_once<
         },
     );
     posts.close();
-    match answer {
-        Ok(done) => done,
-        Err(_) => Err(Fault::NoThread),
-    }
+    answer.unwrap_or(Err(Fault::NoThread))
 }

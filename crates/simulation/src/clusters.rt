@@ -127,10 +127,7 @@ impl<
             },
         );
         posts.close();
-        match answer {
-            Ok(played) => played,
-            Err(_) => Err(Fault::NoThread),
-        }
+        answer.unwrap_or(Err(Fault::NoThread))
     }
 }
 

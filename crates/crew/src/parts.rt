@@ -145,7 +145,9 @@ fn share<S: Parted>(alloc: Global, divided: Divided<S>) -> Result<Arc<Shared<S>>
 {
     let parts = Found(Snapshot::of(&divided));
     let trays = Trays::new(alloc, divided.bounds.len() - 1, &parts)?;
-    Arc::new(alloc, Shared { divided, trays }).ok().ok_or(AllocError)
+    Arc::new(alloc, Shared { divided, trays })
+        .ok()
+        .ok_or(AllocError)
 }
 
 // The jobs of the first so many parts.

@@ -89,7 +89,7 @@ impl Tasks {
         ensures pushed { OnOk result (pushed self.new ≡ pushed self.old ++ i ∷ []) }
         ensures only { IsOkUnless result OutOfMemory }
     {
-        self.own.push_as::<Push>(i).map_err(|_| Fault::OutOfMemory)
+        self.own.push_as::<Push>(i).ok().ok_or(Fault::OutOfMemory)
     }
 
     /// Puts an exchange that was made ready on its own deque, if there is one. An error is lack of memory.

@@ -26,7 +26,7 @@ pub(crate) fn make_line(alloc: Global, cells: &[Cell]) -> Result<Vec<u8>, Fault>
 {
     let mut lines = WriterBuilder::new().from_writer(Vec::new(alloc));
     put_line(alloc, &mut lines, cells)?;
-    lines.into_inner().map_err(|_| Fault::OutOfMemory)
+    lines.into_inner().ok().ok_or(Fault::OutOfMemory)
 }
 
 /// Adds a line of these cells to the lines so far.
@@ -46,7 +46,7 @@ pub(crate) fn put_line(
     for cell in cells {
         put_cell(alloc, lines, *cell)?;
     }
-    lines.end_record().map_err(|_| Fault::OutOfMemory)
+    lines.end_record().ok().ok_or(Fault::OutOfMemory)
 }
 
 fn put_cell(alloc: Global, lines: &mut Writer<Vec<u8>>, cell: Cell) -> Result<(), Fault>
@@ -58,7 +58,8 @@ fn put_cell(alloc: Global, lines: &mut Writer<Vec<u8>>, cell: Cell) -> Result<()
     match cell {
         Cell::Text(text) => lines
             .write_field(text.as_bytes())
-            .map_err(|_| Fault::OutOfMemory),
+            .ok()
+            .ok_or(Fault::OutOfMemory),
         Cell::Number(number) => put_number(alloc, lines, number),
     }
 }
@@ -70,5 +71,6 @@ fn put_number(alloc: Global, lines: &mut Writer<Vec<u8>>, number: u64) -> Result
 {
     lines
         .write_field(number.to_string(alloc)?.as_bytes())
-        .map_err(|_| Fault::OutOfMemory)
+        .ok()
+        .ok_or(Fault::OutOfMemory)
 }

@@ -1,7 +1,7 @@
 -- From an offer's marks to the marks of a delta between two tables.
 -- Serves `delta_above` and `Merged`.
-use Rattle.version_tables.proofs.Common.{◌≡◌, ℕ, ◌<◌, ◌≤◌, List, length, get_or, map, Some, ◌⊎◌, inl, inr, refl, sym, ap, ◌∙◌, subst, arith, nat_lt, ◌&&◌, total_above, cases_eq, lt-ltb, le-ltb, length-map, nat_tests, Entry, First, Oldest, Newest, Rules, DigestKind, Scuttle, Precise, digest_kind, first_sent, Table, entry_at, candidates, delta_between, write_numbered, all_writes, Cells, cell, Offer, HasNoneAbove, HasSet, by_first, AreMarked, KeepsLow, IsOffer, is_lacked, offered_by, told_by, lets_through, IsOffered, candidate-place, candidate-number, lets, count-above, count-sent, count-cut, are-sent, shared-sent, whole-sent, VersionTableView, HistoriesView, table_in, is_taken_at, AreMarksOf, AreLow, AreOffered, AreTold, is_taken}
-use Rattle.version_tables.proofs.Fitting.{AreLaidBoth, cells-are, cells-held, cells-upto, lacks}
+use Rattle.version_tables.proofs.Common.{◌≡◌, ℕ, ◌<◌, ◌≤◌, List, length, get_or, map, Some, ◌⊎◌, inl, inr, refl, sym, ap, ◌∙◌, subst, arith, nat_lt, ◌&&◌, total_above, cases_eq, lt-ltb, le-ltb, length-map, nat_tests, Entry, First, Oldest, Newest, Rules, DigestKind, Scuttle, Precise, digest_kind, first_sent, entry_at, candidates, delta_between, write_numbered, all_writes, Cells, cell, Offer, HasNoneAbove, HasSet, by_first, AreMarked, KeepsLow, IsOffer, is_lacked, offered_by, told_by, lets_through, IsOffered, candidate-place, candidate-number, lets, count-above, count-sent, count-cut, are-sent, shared-sent, whole-sent, VersionTableView, HistoriesView, table_in, is_taken_at, AreMarksOf, AreLow, AreOffered, AreTold, is_taken}
+pub use Rattle.version_tables.proofs.Fitting.{AreLaidBoth, cells-are, cells-held, cells-upto, lacks, laid-both}
 
 -- what is offered is a number itself, or 0
 offered-either : (kind : DigestKind) (sender receiver : Cells) (low : ℕ → ℕ) (owner key n : ℕ) → n ≡ offered_by kind sender receiver low owner key
@@ -55,12 +55,6 @@ module _ {N : Type 0} (number : N → ℕ) {written : ℕ → List Entry} {most 
   abbrev receiver : Cells
   receiver = cell to.cells to.nodes
 
-  abbrev F : Table
-  F = table_in written from
-
-  abbrev T : Table
-  T = table_in written to
-
   abbrev low : ℕ → ℕ
   low r = get_or (map number given.low.now) r 0
 
@@ -84,8 +78,8 @@ module _ {N : Type 0} (number : N → ℕ) {written : ℕ → List Entry} {most 
     at : 0 < cells owner key → cells owner key ≡ sender owner key
     at some = grind (arith, either)
 
-  lacked-is : (owner key : ℕ) (e : Entry) → entry_at F owner key ≡ Some e
-      → is_lacked rules.mode T (record { owner = owner; entry = e }) ≡ nat_lt (low owner) (cells owner key)
+  lacked-is : (owner key : ℕ) (e : Entry) → entry_at (table_in written from) owner key ≡ Some e
+      → is_lacked rules.mode (table_in written to) (record { owner = owner; entry = e }) ≡ nat_lt (low owner) (cells owner key)
   lacked-is owner key e held =
       let place = two.first.proper.in_place owner key e held in
       let le = upto owner key place.owner_below place.key_below in
@@ -101,7 +95,7 @@ module _ {N : Type 0} (number : N → ℕ) {written : ℕ → List Entry} {most 
       ]
 
   -- what is told gives the candidates
-  given_is : IsOffered rules.mode F T (all_writes h.lists) cells low
+  given_is : IsOffered rules.mode (table_in written from) (table_in written to) (all_writes h.lists) cells low
   given_is = record {
     proper = two.first.proper;
     histories = λ owner. (two.first.known.so_far owner).history;
@@ -155,7 +149,8 @@ module _ {N : Type 0} (number : N → ℕ) {written : ℕ → List Entry} {most 
     marked : AreMarked rules.mode rotation number (offer_of rules h from given) m sent cut
     marked = subst (λ o. AreMarked rules.mode rotation number o m sent cut) is.is marked_is
 
-    has : HasSet (candidates rules.mode F T) (lets rules.mode cells m) (delta_between rules.mode rotation rules.budget F T)
+    has : HasSet (candidates rules.mode (table_in written from) (table_in written to)) (lets rules.mode cells m)
+        (delta_between rules.mode rotation rules.budget (table_in written from) (table_in written to))
     has = elim marked.how [
       | inl all ↦
           whole-sent given_is in_nodes covered m marked.above rules.budget

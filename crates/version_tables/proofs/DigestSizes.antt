@@ -28,8 +28,7 @@ module _ {written : ℕ → List Entry} {v : VersionTableView} (kept : IsKept wr
   -- entries held
   pub cells-size : {N : Type 0} (number : N → ℕ) (xs : List N) → map number xs ≡ v.cells → count_held number xs ≡ digest_size Precise t
   cells-size number xs is =
-      let size = sym (length-map xs number) ∙ ap length is ∙ kept.numbers.size in
-      (λ i. sum_below (size i) (λ r. cond (nat_lt 0 (slice_index (is i) r)) 1 0))
+      (λ i. sum_below ((sym (length-map xs number) ∙ ap length is ∙ kept.numbers.size) i) (λ r. cond (nat_lt 0 (slice_index (is i) r)) 1 0))
       ∙ total-places v.nodes v.keys (λ i. nat_lt 0 (slice_index v.cells i))
       ∙ sym (sum_below-same v.nodes _ _ (λ owner in_nodes. sum_below-same v.keys _ _ (λ key in_keys.
       ap (number_here (λ _. 1) owner) (has owner key in_nodes in_keys)
@@ -63,8 +62,7 @@ module _ {written : ℕ → List Entry} {v : VersionTableView} (kept : IsKept wr
 
   pub owners-size : {N : Type 0} (number : N → ℕ) (xs : List N) → map number xs ≡ v.greatest → count_held number xs ≡ digest_size Scuttle t
   owners-size number xs is =
-      let size = sym (length-map xs number) ∙ ap length is ∙ kept.most.size in
-      (λ i. sum_below (size i) (λ r. cond (nat_lt 0 (slice_index (is i) r)) 1 0))
+      (λ i. sum_below ((sym (length-map xs number) ∙ ap length is ∙ kept.most.size) i) (λ r. cond (nat_lt 0 (slice_index (is i) r)) 1 0))
       ∙ sum_below-same v.nodes _ (λ r. cond (nat_lt 0 (greatest_version t r)) 1 0) (λ r lt. ap (λ b. cond b 1 0) (owner_here r lt))
       ∙ sym (count-range (λ r. nat_lt 0 (greatest_version t r)) v.nodes)
       ∙ ap (count_by (λ r. nat_lt 0 (greatest_version t r))) (map-id (range_with_len 0 v.nodes))

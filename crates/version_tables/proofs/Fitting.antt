@@ -1,7 +1,7 @@
 -- Tables beside the histories: the numbers that they hold are of writes made so far, and compare as the marks of these.
 -- Serves most of the crate.
-use Rattle.version_tables.proofs.Common.{◌≡◌, ℕ, zero, suc, ◌-◌, ◌<◌, ◌≤◌, max, List, length, get_or, Option, Some, None, inl, inr, refl, sym, ap, ◌∙◌, arith, rules, nat_lt, nat_tests, cases_lt, get_or_append_left, Contains, Entry, Item, Mark, DigestKind, Scuttle, Precise, mark_of, mark_held, is_before, IsUpTo, absent-first, Table, entry_at, mark_at, greatest_mark, greatest_mark-unique, known_mark, told_by, offered_by, write_from-here, write_numbered, OwnerListView, entries_of, AreWrites, all_writes, Cells, cell, start_before, start_of, numbered-none, numbered-placed, numbered-some, numbered-within, numbers-before, numbers-compare, numbers-up_to, VersionTableView, HistoriesView, table_in, IsKept, IsGreatest, AreKnown, FitBoth, FitsHistories, IsBeginning, IsWrittenSoFar}
-use Rattle.version_tables.proofs.Laid.{has_cells}
+use Rattle.version_tables.proofs.Common.{◌≡◌, ℕ, zero, suc, ◌-◌, ◌<◌, ◌≤◌, max, List, length, get_or, Option, Some, None, inl, inr, refl, sym, ap, ◌∙◌, arith, rules, nat_lt, nat_tests, cases_lt, get_or_append_left, Contains, Entry, Mark, DigestKind, Scuttle, Precise, mark_of, mark_held, is_before, IsUpTo, absent-first, entry_at, mark_at, greatest_mark, greatest_mark-unique, known_mark, told_by, offered_by, write_from-here, write_numbered, OwnerListView, entries_of, AreWrites, all_writes, Cells, cell, start_before, start_of, numbered-none, numbered-placed, numbered-some, numbered-within, numbers-before, numbers-compare, numbers-up_to, VersionTableView, HistoriesView, table_in, IsKept, IsGreatest, AreKnown, FitBoth, FitsHistories, IsBeginning, IsWrittenSoFar}
+pub use Rattle.version_tables.proofs.Laid.{HoldsNumber, LiesAs, has_cells, holds-same, kept-number, lies-kept, lies-table, no-number, none-unless}
 
 -- writes of earlier generations are of older ones than the owner's own
 pub earlier-at : (v : OwnerListView) → AreWrites v → (number : ℕ) (e : Entry) → write_numbered (entries_of v) number ≡ Some e
@@ -51,9 +51,6 @@ turned two = record { nodes = sym two.nodes; keys = sym two.keys; first = two.se
 -- what a table holds of an owner
 module _ {written : ℕ → List Entry} {most : ℕ} {h : HistoriesView} {v : VersionTableView} (laid : IsLaid written most h v) (owner : ℕ)
     (in_nodes : owner < v.nodes) where
-  abbrev T : Table
-  T = table_in written v
-
   abbrev writes : List Entry
   writes = all_writes h.lists owner
 
@@ -73,11 +70,12 @@ module _ {written : ℕ → List Entry} {most : ℕ} {h : HistoriesView} {v : Ve
   pub cells-upto : (key : ℕ) → key < v.keys → held key ≤ length writes
   cells-upto key = so-far-upto laid.kept writes owner so_far.begins (laid.fits.holds owner) key in_nodes
 
-  pub cells-are : (key : ℕ) → key < v.keys → entry_at T owner key ≡ write_numbered writes (held key)
+  pub cells-are : (key : ℕ) → key < v.keys → entry_at (table_in written v) owner key ≡ write_numbered writes (held key)
   cells-are key in_keys = has_cells written v laid.numbers owner key in_nodes in_keys ∙ sym (so_far.begins (held key) (cells-upto key in_keys))
 
   -- one that isn't 0 is of a write that it holds
-  pub cells-held : (key : ℕ) → key < v.keys → 0 < held key → (e : Entry) × (write_numbered writes (held key) ≡ Some e) × (entry_at T owner key ≡ Some e)
+  pub cells-held : (key : ℕ) → key < v.keys → 0 < held key → (e : Entry) × (write_numbered writes (held key) ≡ Some e)
+      × (entry_at (table_in written v) owner key ≡ Some e)
   cells-held key in_keys some =
       let there = numbered-some writes (held key) some (cells-upto key in_keys) in (there.0, there.1, cells-are key in_keys ∙ there.1)
 
@@ -96,8 +94,8 @@ module _ {written : ℕ → List Entry} {most : ℕ} {h : HistoriesView} {v : Ve
       let e = numbered-some writes greatest (omega (arith, le)) greatest-within in
       rw (d.1, e.1) (numbers-up_to writes so_far.history (suc place) greatest d.0 e.0 d.1 e.1 le)
 
-  pub greatest-mark : greatest_mark T owner ≡ mark_numbered greatest
-  greatest-mark = greatest_mark-unique T owner (mark_numbered greatest)
+  pub greatest-mark : greatest_mark (table_in written v) owner ≡ mark_numbered greatest
+  greatest-mark = greatest_mark-unique (table_in written v) owner (mark_numbered greatest)
       (λ key in_keys. rw (cells-are key in_keys) (up_to-greatest (held key) (top.upto key in_keys)))
       (elim top.held [
         | inl none ↦ inl (ap mark_numbered none)
@@ -109,9 +107,6 @@ module _ {written : ℕ → List Entry} {most : ℕ} {h : HistoriesView} {v : Ve
       (keyed : e.key ≡ key) where
     abbrev number : ℕ
     number = sender owner key
-
-    abbrev item : Item
-    item = record { owner = owner; entry = e }
 
     some : (0 < number) × (1 ≤ e.version)
     some = ((numbered-within writes number e is_e).0, (so_far.numbered.counted number e is_e).0)
@@ -146,13 +141,15 @@ module _ {written : ℕ → List Entry} {most : ℕ} {h : HistoriesView} {v : Ve
         ∙ ap (λ n. nat_lt n number) (omega (arith, below))
 
     pub lacks : (kind : DigestKind) (low : ℕ → ℕ) → low owner ≡ told_by kind writes greatest
-        → is_before (known_mark kind T item) (mark_of e) ≡ nat_lt (low owner) (offered_by kind sender (cell v.cells v.nodes) low owner key)
+        → is_before (known_mark kind (table_in written v) (record { owner = owner; entry = e })) (mark_of e)
+        ≡ nat_lt (low owner) (offered_by kind sender (cell v.cells v.nodes) low owner key)
     lacks Scuttle low is =
         ap (λ m. is_before m (mark_of e)) greatest-mark ∙ scuttle-of (write_numbered writes greatest) refl ∙ ap (λ n. nat_lt n number) (sym is)
     lacks Precise low is =
-        let at : is_before (known_mark Precise T item) (mark_of e) ≡ nat_lt (max (held key) (start_of writes greatest)) number =
+        let at : is_before (known_mark Precise (table_in written v) (record { owner = owner; entry = e })) (mark_of e)
+        ≡ nat_lt (max (held key) (start_of writes greatest)) number =
         (λ i. is_before (record {
           generation = (greatest-mark i).generation;
-          version = ((ap (mark_at T owner) keyed ∙ ap mark_held (cells-are key in_keys)) i).version;
+          version = ((ap (mark_at (table_in written v) owner) keyed ∙ ap mark_held (cells-are key in_keys)) i).version;
         }) (mark_of e)) ∙ precise-of (write_numbered writes (held key)) (write_numbered writes greatest) refl refl in
         grind (arith, nat_tests)

@@ -1,8 +1,13 @@
 -- What the calls of the histories make of all that is kept of the owners' writes.
 -- Serves `Histories::begin_generation`, `Histories::end_round`, `Histories::new` and `Histories::write`.
-use Rattle.version_tables.proofs.Common.{◌≡◌, ◌≢◌, ℕ, zero, suc, ◌+◌, ◌*◌, ◌<◌, ◌≤◌, ◌==◌, cond, List, [], ◌∷◌, ◌++◌, length, get_or, set, map, Some, ◌⊎◌, inl, inr, refl, sym, ap, ◌∙◌, subst, transport, arith, length-append, cases_lt, cases_eq, current-numbered, eq-eqb, ne_eqb, get_or-set_same, get_or-set_other, get_or_append_left, get_or_push, length-set, get_or-append-add, get_or_default, length-map, map-set, append_assoc, append-nil, same_Some, number-at, Entry, AreSizes, MOST_ROUNDS, write_numbered, OwnerListView, all_writes, entries_of, list_of_owner, no_writes, next_entry, with_write, begun_generation, AreWrites, ListBecomes, writes_more, writes_begun, HasEach, HasEachPlace, ArePlanesChanged, cell, nat_tests, number_kept, AreMadeBy, IsRoundMark, IsLastNumber, numbered-within, write_from-here, HistoriesView, round_ended, AreHistories, AreNoWrites, bases_in, IsWrittenSoFar, MayAddWrite}
+use Rattle.version_tables.proofs.Common.{◌≡◌, ◌≢◌, ℕ, zero, suc, ◌+◌, ◌*◌, ◌<◌, ◌≤◌, ◌==◌, cond, List, [], ◌∷◌, ◌++◌, length, get_or, set, map, Some, ◌⊎◌, inl, inr, refl, sym, ap, ◌∙◌, subst, transport, arith, length-append, cases_lt, cases_eq, current-numbered, eq-eqb, ne_eqb, get_or-set_same, get_or-set_other, get_or_append_left, get_or_push, length-set, get_or-append-add, get_or_default, length-map, map-set, append_assoc, append-nil, same_Some, number-at, Entry, AreSizes, MOST_ROUNDS, write_numbered, OwnerListView, all_writes, entries_of, list_of_owner, no_writes, next_entry, with_write, begun_generation, AreWrites, ListBecomes, writes_more, writes_begun, HasEach, HasEachPlace, ArePlanesChanged, cell, nat_tests, number_kept, AreMadeBy, IsRoundMark, IsLastNumber, numbered-within, write_from-here, HistoriesView, round_ended, AreHistories, AreNoWrites, bases_in, IsWrittenSoFar, MayAddWrite, Vec}
 use Rattle.version_tables.proofs.Fitting.{earlier-at}
-use Rattle.version_tables.proofs.OwnCalls.{each-set, place-set, place-within}
+pub use Rattle.version_tables.proofs.OwnCalls.{each-set, place-set, place-within, seen}
+
+-- an owner's number is among as many as there are lists
+pub owner-within : {N Z : Type 0} (number : N → ℕ) (v : Vec N Z) {h old : HistoriesView} {owner : ℕ} → length (map number v.items) ≡ length h.lists
+    → h ≡ old → owner < length old.lists → owner < v.len
+owner-within number v size is lt = omega (arith, size, lt, ap (λ (h : HistoriesView). length h.lists) is, length-map v.items number, v.ok.0)
 
 -- one more write, in the round that comes next
 module _ {all : List Entry} {most : ℕ} {v : OwnerListView} (key value rounds : ℕ) (are : AreWrites v) (so_far : IsWrittenSoFar all most (entries_of v))
@@ -51,9 +56,6 @@ module _ {all : List Entry} {most : ℕ} {v : OwnerListView} (key value rounds :
     | inr upto ↦ let le : number ≤ length w = omega (arith, upto) in inl (le, sym (numbered-before number le) ∙ is)
   ]
 
-  pub made-more : AreMadeBy (rounds + 1) more
-  made-more = grind (arith, either, made)
-
   pub so_far-more : write_numbered all (length w + 1) ≡ Some e → length w + 1 < most → IsWrittenSoFar all most more
   so_far-more is below = record {
     begins = λ number le. elim (cases_lt (length w) number) [
@@ -97,10 +99,6 @@ module _ {all : List Entry} {most : ℕ} {v : OwnerListView} (key value rounds :
         let old = last.there below lt in
         (old.0, record { written = numbered-before n last.written ∙ old.1.written; current = old.1.current; keyed = old.1.keyed; over = old.1.over });
   }
-
-  -- and where the rounds before end doesn't change
-  pub parts-more : (round n : ℕ) → round ≤ rounds → n ≤ length w → IsRoundMark w 0 round n → IsRoundMark more 0 round n
-  parts-more round n upto within parts = grind (arith, either, parts)
 
 module _ {written : ℕ → List Entry} {most : ℕ} {h : HistoriesView} {nodes : ℕ} {counts bases lasts ends : List ℕ}
     (kept : AreHistories written most h nodes counts bases lasts ends) where
@@ -160,7 +158,7 @@ module _ {written : ℕ → List Entry} {most : ℕ} {h : HistoriesView} {nodes 
         let more = longer key value h.rounds are so_far made in
         transport (λ i. AreHistories written most (record h { lists = new }) nodes (sym is i) bases (sym last_is i) ends)
         (histories-changed changes (writes_more list are key value (h.rounds + 1)) (so_far-more key value h.rounds are so_far made may.under.is may.under.below)
-        (made-more key value h.rounds are so_far made)
+        (grind (arith, either key value h.rounds are so_far made, made))
         (each-set (λ r m. m ≡ length (all_writes new r)) counts nodes owner (n + 1) kept.counted.size in_nodes
         (sym (ap (λ (v : OwnerListView). length (entries_of v)) changes.changed ∙ more))
         (λ r lt other. kept.counted.each r lt ∙ ap (λ (v : OwnerListView). length (entries_of v)) (sym (changes.others r other))))
@@ -174,7 +172,7 @@ module _ {written : ℕ → List Entry} {most : ℕ} {h : HistoriesView} {nodes 
         (λ r _ lt _. kept.last.each r k lt in_key)
         (λ lt other. last-other key value h.rounds are so_far made k (cell lasts nodes owner k) (elim other [ inl ne ↦ absurd (ne refl) | inr ne ↦ ne ])
         (kept.last.each owner k lt in_key)) r lt))
-        (omega (arith, more)) (parts-more key value h.rounds are so_far made))
+        (omega (arith, more)) (λ round n upto within parts. grind (arith, either key value h.rounds are so_far made, parts)))
 
     pub histories-begun : {bases' lasts' : List ℕ} → ListBecomes owner (begun_generation list) h.lists new → bases' ≡ set bases owner n
         → ArePlanesChanged (λ r k x y. y ≡ cond (r == owner) (number_kept n x) x) nodes h.keys lasts lasts'
@@ -330,12 +328,7 @@ histories-empty written most nodes keys lists {counts} {bases} {lasts} {ends} so
     row r round lt upto = subst (λ i. get_or ends i 0 ≡ 0) {x = r} {y = round * nodes + r}
         (omega (arith, ap (λ (n : ℕ). n * nodes) {x = round} {y = 0} (omega (arith, upto)))) (no_ends.each r lt)
 
--- what is read at an owner's place is its list
-pub list-read : (h : HistoriesView) (lists : List OwnerListView) (owner : ℕ) (held : OwnerListView) → owner < length h.lists → lists ≡ h.lists
-    → held ≡ get_or lists owner held → held ≡ list_of_owner h.lists owner
-list-read h lists owner held lt is here = here ∙ ap (λ xs. get_or xs owner held) is ∙ get_or_default h.lists owner held no_writes lt
-
--- and to set it changes that alone
+-- to set what is read at an owner's place changes that alone
 pub list-becomes : (lists : List OwnerListView) (owner : ℕ) (held list : OwnerListView) (f : OwnerListView → OwnerListView) → owner < length lists
     → held ≡ get_or lists owner held → list ≡ f held → ListBecomes owner (f (list_of_owner lists owner)) lists (set lists owner list)
 list-becomes lists owner held list f lt here is = record {

@@ -2,9 +2,7 @@
 -- Serves `exchange`.
 use Rattle.version_tables.proofs.Common.{◌≡◌, ℕ, zero, suc, ◌+◌, ◌-◌, ◌<◌, ◌≤◌, false, max, List, get_or, length, map, inl, inr, refl, sym, ap, ◌∙◌, arith, Option, Some, None, mul-le-mul_right, cases_lt, map-id, nat_tests, Entry, Budget, Entries, Bytes, Scuttle, Exchange, First, Oldest, Newest, Record, Rules, amount_of, largest_share, digest_kind, first_sent, sum_below-le, DeltaView, digest_size, last_fate, sent_until, MakesOf, write_numbered, all_writes, Cells, cell, count_between, most_ahead, total_above, BothCounts, Offer, NumbersDiffer, by_first, IsOffer, share_or_none, number_shares, count_all_between, weight_between, sum_below-none, whole-size, whole-marked, part, part-cases, weight_of-none, weight_of-split, weight_between-most, count_between-most, VersionTableView, HistoriesView, table_in, delta_of_views, AreMarksOf, bases_in, BothStayMerged, HasMerged, HaveMerged, MayMerge, MayTakeAll, HasTaken}
 use Rattle.version_tables.proofs.Delivered.{IsOfferOf, offer-is, delta-marks}
-use Rattle.version_tables.proofs.Fitting.{AreLaidBoth, turned}
-use Rattle.version_tables.proofs.Laid.{LiesAs, lies-kept, lies-table}
-use Rattle.version_tables.proofs.Taken.{after, becomes}
+pub use Rattle.version_tables.proofs.Taken.{AreLaidBoth, LiesAs, after, becomes, laid-both, lies-kept, lies-table, turned}
 use Rattle.version_tables.specs.inner.Merged.{SurelyFits}
 
 -- marks that let all through are the high ones, or from the newest on the low ones, beside which are the others
@@ -175,6 +173,8 @@ module _ (rules : Rules) (e : Exchange) {written : ℕ → List Entry} {most : �
       let forth = marks-of rules e.rotation two in_nodes may.kind may.forth in
       let p_is = lies-table (merged-lies rules e.rotation (turned two) turns may.kind may.back have.first) in
       let q_is = lies-table (merged-lies rules e.rotation two in_nodes may.kind may.forth have.second) in
-      let is = sent (delta_of_views rules e.rotation written q p) (delta_of_views rules e.rotation written p q) (have.back ∙ back.count) back.left
-      (have.forth ∙ forth.count) forth.left in
-      rw (first, second, third) cc
+      let b = delta_of_views rules e.rotation written q p in
+      let f = delta_of_views rules e.rotation written p q in
+      let is = sent b f (have.back ∙ back.count) back.left (have.forth ∙ forth.count) forth.left in
+      rw (first, second, third)
+      (λ i. record { initiator = sym p_is i; responder = sym q_is i; sent = sym (is ∙ (λ j. sent_until (last_fate false) (d1_is j) (d2_is j) b f)) i })

@@ -1,21 +1,17 @@
 -- What an owner writes next stands under the number behind all that it wrote, above what its table holds of it.
 -- Serves `HistoriesRoundHistoriesVersionTable::write`.
-use Rattle.version_tables.proofs.Common.{◌≡◌, ℕ, zero, suc, ◌+◌, ◌<◌, ◌≤◌, List, length, Some, inl, inr, sym, ◌∙◌, arith, Contains, current-numbered, length-append, none-some, Entry, Table, entry_at, greatest_version, mark_at-up_to_greatest, write_numbered, OwnerListView, AreWrites, entries_of, next_entry, cell, numbered-placed, numbered-some, VersionTableView, table_in, IsKept, IsNextWrite, IsBeginning, IsWriteUnder, IsFirst}
-use Rattle.version_tables.proofs.Fitting.{earlier-at, so-far-upto}
-use Rattle.version_tables.proofs.Laid.{has_cells}
+use Rattle.version_tables.proofs.Common.{◌≡◌, ℕ, zero, suc, ◌+◌, ◌<◌, ◌≤◌, List, length, Some, inl, inr, sym, ◌∙◌, arith, Contains, current-numbered, length-append, none-some, Entry, entry_at, greatest_version, mark_at-up_to_greatest, write_numbered, OwnerListView, AreWrites, entries_of, next_entry, cell, numbered-placed, numbered-some, VersionTableView, table_in, IsKept, IsNextWrite, IsBeginning, IsWriteUnder, IsFirst}
+use Rattle.version_tables.proofs.Fitting.{earlier-at, so-far-upto, has_cells}
 
 module _ (written : ℕ → List Entry) (v : VersionTableView) (kept : IsKept written v) (list : OwnerListView) (are : AreWrites list)
     (begins : IsBeginning (entries_of list) (written v.node)) (generation : v.generation ≡ list.generation)
     (greatest : greatest_version (table_in written v) v.node ≡ length list.current) (most key value born : ℕ)
     (under : IsWriteUnder written most v.node (length (entries_of list) + 1) (next_entry list key value born)) where
-  abbrev t : Table
-  t = table_in written v
-
   -- what the table holds of the node is a write so far
-  held_so_far : (k : ℕ) (e : Entry) → entry_at t v.node k ≡ Some e → Contains (entries_of list) e
+  held_so_far : (k : ℕ) (e : Entry) → entry_at (table_in written v) v.node k ≡ Some e → Contains (entries_of list) e
   held_so_far k e holds =
       let in_place = kept.proper.in_place v.node k e holds in
-      let most = rw holds at (mark_at-up_to_greatest t v.node k in_place.key_below) in
+      let most = rw holds at (mark_at-up_to_greatest (table_in written v) v.node k in_place.key_below) in
       let low : e.version ≤ length list.current = omega (arith, most.version (kept.proper.copies v.node k e holds), greatest) in
       let own = length list.earlier + e.version in
       let within : own ≤ length (entries_of list) = omega (arith, low, length-append list.earlier list.current) in

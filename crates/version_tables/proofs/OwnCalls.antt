@@ -1,7 +1,7 @@
 -- A node's own calls on its table: its numbers lie as those of the table that the model has then.
 -- Serves the functions of `histories` and `tables` and `HistoryCalls`.
 use Rattle.version_tables.proofs.Common.{◌≡◌, ◌≢◌, ℕ, ◌+◌, ◌*◌, ◌<◌, ◌==◌, Bool, true, false, cond, List, length, get_or, set, Some, None, ◌⊎◌, refl, same_from_place, inl, inr, sym, ap, ◌∙◌, subst, transport, arith, mul-le-mul_right, cases_eq, get_or-set_same, get_or-set_other, length-set, same_Some, Entry, AreSizes, Table, entry_at, empty_table, KeepsFrame, with_own_write, without_others, without_all, IsProper, entry_at-own_write, entry_at-own_write_other, entry_at-without_others, entry_at-without_all, entry_at-empty_table, proper-empty_table, proper-with_own_write, proper-without_others, proper-without_all, Cells, cell, ArePlanesChanged, HasEach, HasEachPlace, AreChanged, numbered-within, VersionTableView, table_in, IsKept, IsNextWrite, HasOwnWrite, IsGreatest}
-use Rattle.version_tables.proofs.Laid.{HoldsNumber, LiesAs, holds-same, kept-number, lies-table, no-number}
+pub use Rattle.version_tables.proofs.Laid.{HoldsNumber, LiesAs, holds-same, kept-number, lies-kept, lies-table, no-number, put-back, seen}
 
 pub place-within : (nodes keys r k : ℕ) → r < nodes → k < keys → k * nodes + r < keys * nodes
 place-within nodes keys r k in_nodes in_keys = omega (arith, in_nodes, mul-le-mul_right {m = k + 1} {n = keys} nodes (omega (arith, in_keys)))
@@ -20,25 +20,22 @@ each-set is xs nodes owner n size in_nodes own others = record {
 
 -- one number in planes is set
 module _ (xs : List ℕ) (nodes keys owner key n : ℕ) (size : length xs ≡ keys * nodes) (in_nodes : owner < nodes) (in_keys : key < keys) where
-  abbrev index : ℕ
-  index = key * nodes + owner
+  place-here : cell (set xs (key * nodes + owner) n) nodes owner key ≡ n
+  place-here = get_or-set_same xs (key * nodes + owner) n 0 (omega (arith, size, place-within nodes keys owner key in_nodes in_keys))
 
-  place-here : cell (set xs index n) nodes owner key ≡ n
-  place-here = get_or-set_same xs index n 0 (omega (arith, size, place-within nodes keys owner key in_nodes in_keys))
-
-  place-other : (r k : ℕ) → r < nodes → (r ≢ owner) ⊎ (k ≢ key) → cell (set xs index n) nodes r k ≡ cell xs nodes r k
-  place-other r k lt other = get_or-set_other xs index (k * nodes + r) n 0 (λ is.
+  place-other : (r k : ℕ) → r < nodes → (r ≢ owner) ⊎ (k ≢ key) → cell (set xs (key * nodes + owner) n) nodes r k ≡ cell xs nodes r k
+  place-other r k lt other = get_or-set_other xs (key * nodes + owner) (k * nodes + r) n 0 (λ is.
       let same = same_from_place k r key owner nodes lt in_nodes is in elim other [ inl ne ↦ ne same.1 | inr ne ↦ ne same.0 ])
 
   pub place-set : (is : ℕ → ℕ → ℕ → Type 0) → is owner key n
-      → ((r k : ℕ) → r < nodes → k < keys → (r ≢ owner) ⊎ (k ≢ key) → is r k (cell xs nodes r k)) → HasEachPlace nodes keys is (set xs index n)
+      → ((r k : ℕ) → r < nodes → k < keys → (r ≢ owner) ⊎ (k ≢ key) → is r k (cell xs nodes r k)) → HasEachPlace nodes keys is (set xs (key * nodes + owner) n)
   place-set is own others = record {
-    size = length-set xs index n ∙ size;
+    size = length-set xs (key * nodes + owner) n ∙ size;
     each = λ r k lt in_key. elim (cases_eq r owner) [
       | inr other ↦ subst (is r k) (sym (place-other r k lt (inl other))) (others r k lt in_key (inl other))
       | inl same ↦ elim (cases_eq k key) [
         | inr other ↦ subst (is r k) (sym (place-other r k lt (inr other))) (others r k lt in_key (inr other))
-        | inl same_key ↦ transport (λ i. is (sym same i) (sym same_key i) (cell (set xs index n) nodes (sym same i) (sym same_key i)))
+        | inl same_key ↦ transport (λ i. is (sym same i) (sym same_key i) (cell (set xs (key * nodes + owner) n) nodes (sym same i) (sym same_key i)))
             (subst (is owner key) (sym place-here) own)
       ]
     ];

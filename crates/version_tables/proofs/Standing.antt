@@ -1,8 +1,7 @@
 -- Tables of versions beside the owners' lists so far: what their numbers are.
 -- Serves `numbers_of`.
 use Rattle.version_tables.proofs.Common.{◌≡◌, ℕ, ◌<◌, List, [], length, get_or, map, sym, ap, ◌∙◌, subst, transport, arith, Bor, get_or-map, length-map, Entry, Table, empty_table, table_of_node, IsCluster, all_writes, list_of_owner, AreWrites, cell, HasEach, HasEachPlace, HistoriesView, KeepLimits, StandAtRoundEnd, StandsAmong, base_of, IsLastNumber, IsNumberAt, numbers_at, numbers_in, AreNumbersAt, AreNumbersOf, MayBeCounted, VersionTableView, table_in, IsKept, AreCellsOf, IsBeginning}
-use Rattle.version_tables.proofs.Fitting.{so-far-upto}
-use Rattle.version_tables.proofs.Laid.{has_cells}
+use Rattle.version_tables.proofs.Fitting.{so-far-upto, has_cells}
 
 module _ (written : ℕ → List Entry) (views : List VersionTableView) (h : HistoriesView) (end : StandAtRoundEnd (table_in written) views h) where
   abbrev tables : List Table

@@ -1,10 +1,9 @@
 -- A table that took a delta by marks, and dropped what is of older generations, is the model's table that took its items.
 -- Serves `exchange_deltas` and `Merged`.
-use Rattle.version_tables.proofs.Common.{◌≡◌, ℕ, ◌-◌, ◌<◌, ◌≤◌, ◌↔◌, true, false, List, Some, inl, inr, refl, sym, ap, ◌∙◌, subst, get_or, arith, cases_lt, current-numbered, nat_tests, not_both, Entry, Mark, Rules, mark_of, mark_held, Table, entry_at, generation_held, write_numbered, all_writes, list_of_owner, cell, numbers_taken, IsRaised, start_before, start_of, numbered-some, numbered-within, numbers-before, numbers-up_to, IsGreatest, VersionTableView, HistoriesView, table_in, is_taken_at, AreMarksOf, bases_in, IsWrittenSoFar, IsNumberedHistory, drop_start, HasTaken, frame-applied, delta_of_views, Option, None, ◌⊎◌, Contains, Item, Scuttle, Precise, IsUpTo, digest_kind, greatest_mark, IsProper, greatest_mark-from, entry_at-applied_from, applied, Lacks, candidates-lacked, sent-candidate, sent-held, received-proper, kept, sent-up_to, Bool, eqb, [], ◌∷◌, length, ◌||◌, both_ways, eqb-true, Exchange, Record, initiator_after, last_fate, responder_after, sent_until, MakesOf, DeltaView, digest_size, HasTakenUnless, map, length-map, first_sent, First, ◌*◌, IsDelta, IsArrivalOf, MayArrive}
+use Rattle.version_tables.proofs.Common.{◌≡◌, ℕ, ◌-◌, ◌<◌, ◌≤◌, ◌↔◌, true, false, List, Some, inl, inr, refl, sym, ap, ◌∙◌, subst, get_or, arith, cases_lt, current-numbered, nat_tests, not_both, Entry, Mark, Rules, mark_of, mark_held, Table, entry_at, generation_held, write_numbered, all_writes, list_of_owner, cell, is_taken, number_kept, number_taken, numbers_taken, IsRaised, start_before, start_of, numbered-some, numbered-within, numbers-before, numbers-up_to, IsGreatest, VersionTableView, HistoriesView, table_in, is_taken_at, AreMarksOf, bases_in, IsWrittenSoFar, IsNumberedHistory, drop_start, HasTaken, frame-applied, delta_of_views, Option, None, ◌⊎◌, Contains, Item, Scuttle, Precise, IsUpTo, digest_kind, greatest_mark, IsProper, greatest_mark-from, entry_at-applied_from, applied, Lacks, candidates-lacked, sent-candidate, sent-held, received-proper, kept, sent-up_to, Bool, eqb, [], ◌∷◌, length, ◌||◌, both_ways, eqb-true, Exchange, Record, initiator_after, last_fate, responder_after, sent_until, MakesOf, DeltaView, digest_size, HasTakenUnless, map, length-map, first_sent, First, ◌*◌, IsDelta, IsArrivalOf, MayArrive}
 use Rattle.version_tables.specs.declared.deltas.DeltaMarks.{DeltaMarks}
 use Rattle.version_tables.specs.declared.taking.Arrival.{Arrival}
-use Rattle.version_tables.proofs.Fitting.{AreLaidBoth, cells-are, cells-held, greatest-mark, greatest-within, turned}
-use Rattle.version_tables.proofs.Laid.{HoldsNumber, holds-same, kept-number, lies-kept, lies-table, no-number, none-unless, LiesAs}
+pub use Rattle.version_tables.proofs.Fitting.{AreLaidBoth, HoldsNumber, LiesAs, cells-are, cells-held, greatest-mark, greatest-within, holds-same, kept-number, laid-both, lies-kept, lies-table, no-number, none-unless, turned}
 
 -- where no later mark than an entry's is held, something is
 stands : (e : Entry) (o : Option Entry) → 1 ≤ e.version → IsUpTo (mark_of e) (mark_held o) → (d : Entry) × (o ≡ Some d) × IsUpTo (mark_of e) (mark_of d)
@@ -118,38 +117,32 @@ module _ (rules : Rules) (rotation : ℕ) {written : ℕ → List Entry} {most :
       abbrev writes : List Entry
       writes = all_writes h.lists owner
 
-      abbrev sender : ℕ → ℕ
-      sender = cell from.cells from.nodes owner
-
       -- the owner's numbers before older ones are dropped, and its greatest one before and then
       abbrev y : ℕ → ℕ
       y = numbers_taken to.nodes to.cells now low high owner
-
-      abbrev old : ℕ
-      old = get_or to.greatest owner 0
 
       abbrev greatest : ℕ
       greatest = get_or new.greatest owner 0
 
       abbrev start : ℕ
-      start = drop_start writes old (bases_in h.lists owner) greatest
+      start = drop_start writes (get_or to.greatest owner 0) (bases_in h.lists owner) greatest
 
       so_far : IsWrittenSoFar (written owner) most writes
       so_far = two.first.known.so_far owner
 
-      before : IsGreatest (cell to.cells to.nodes) to.keys owner old
+      before : IsGreatest (cell to.cells to.nodes) to.keys owner (get_or to.greatest owner 0)
       before = two.second.tops.each owner in_nodes
 
-      raised : IsRaised (numbers_taken to.nodes to.cells now low high) to.keys owner old greatest
+      raised : IsRaised (numbers_taken to.nodes to.cells now low high) to.keys owner (get_or to.greatest owner 0) greatest
       raised = taken.raised.each owner in_nodes
 
       in_node : owner < from.nodes
       in_node = omega (arith, in_nodes, two.nodes)
 
-      there : (key : ℕ) → cell from.cells to.nodes owner key ≡ sender key
+      there : (key : ℕ) → cell from.cells to.nodes owner key ≡ cell from.cells from.nodes owner key
       there key = ap (λ n. cell from.cells n owner key) (sym two.nodes)
 
-      y-sent : (key : ℕ) → key < to.keys → is_taken_at from to low high owner key ≡ true → y key ≡ sender key
+      y-sent : (key : ℕ) → key < to.keys → is_taken_at from to low high owner key ≡ true → y key ≡ cell from.cells from.nodes owner key
       y-sent key lt yes' = same owner key in_nodes lt ∙ (let at = there key in grind (arith, nat_tests))
 
       y-above : (key : ℕ) → cell to.cells to.nodes owner key ≤ y key
@@ -166,7 +159,7 @@ module _ (rules : Rules) (rotation : ℕ) {written : ℕ → List Entry} {most :
           let lt : e.key < to.keys = omega (arith, below, two.keys) in
           let at = y-sent e.key lt ((delta.marks.members owner e.key e held).1 came.0) in
           subst (λ k. (n : ℕ) × (write_numbered writes n ≡ Some e) × (n ≤ y k) × (y k ≤ greatest)) came.1
-          (sender e.key, sym (cells-are two.first owner in_node e.key below) ∙ held, omega (arith, at), raised.upto e.key lt)
+          (cell from.cells from.nodes owner e.key, sym (cells-are two.first owner in_node e.key below) ∙ held, omega (arith, at), raised.upto e.key lt)
 
       -- and that is of what stood there
       abbrev IsTaken : ℕ → Type 0
@@ -236,13 +229,13 @@ module _ (rules : Rules) (rotation : ℕ) {written : ℕ → List Entry} {most :
             let is_older : here.0.generation < top.0.generation = omega (arith, older, top.3) in
             let was = older-stood key top.2.0 here.0 top.0 here.2 top.2.1 is_older in
             let has = (numbered-within writes (cell to.cells to.nodes owner key) here.0 (sym (cells-are two.second owner in_nodes key in_keys) ∙ was.0)).0 in
-            let some_old : 0 < old = omega (arith, has, before.upto key in_keys) in
-            let f = numbered-some writes old some_old (greatest-within two.second owner in_nodes) in
+            let some_old : 0 < (get_or to.greatest owner 0) = omega (arith, has, before.upto key in_keys) in
+            let f = numbered-some writes (get_or to.greatest owner 0) some_old (greatest-within two.second owner in_nodes) in
             let copy = ap (λ (m : Mark). m.generation) (greatest-mark two.second owner in_nodes) ∙ ap (λ o. (mark_held o).generation) f.1 in
             let alike : f.0.generation < top.0.generation = omega (arith, is_older, was.1, copy) in
-            let later = λ (le : greatest ≤ old). (numbers-up_to writes so_far.history greatest old top.0 f.0 top.1 f.1 le).generation in
+            let later = λ (le : greatest ≤ get_or to.greatest owner 0). (numbers-up_to writes so_far.history greatest _ top.0 f.0 top.1 f.1 le).generation in
             let below = parts.1 is_older in
-            grind (arith, nat_tests, later, current old f.0 f.1, current greatest top.0 top.1)
+            grind (arith, nat_tests, later, current (get_or to.greatest owner 0) f.0 f.1, current greatest top.0 top.1)
 
       -- each number is then that of what the model's table holds, or 0
       number-now : (key : ℕ) → key < to.keys → HoldsNumber (written owner) key (entry_at after owner key) (cell new.cells to.nodes owner key)
@@ -334,30 +327,37 @@ marks-come is first top come = rw (come.low, come.high, first, top) is.marks
 pub may-arrive : {N : Type 0} {number : N → ℕ} {rules : Rules} {rotation : ℕ} {written : ℕ → List Entry} {most : ℕ} {h : HistoriesView}
     {from to : VersionTableView} {arrival : Arrival N} {count cut : ℕ} → AreLaidBoth written most h from to
     → AreMarksOf rules rotation written from to (map number arrival.low.now) (map number arrival.high.now) count cut → (sent : List ℕ)
-    → SendAlike to (map number arrival.low.now) (map number arrival.high.now) from.cells sent → length sent ≡ length from.cells
-    → MayArrive number written h to sent arrival
-may-arrive two marks sent same size = record {
+    → {read : List ℕ} → read ≡ sent → SendAlike to (map number arrival.low.now) (map number arrival.high.now) from.cells sent
+    → length sent ≡ length from.cells → MayArrive number written h to read arrival
+may-arrive two marks sent is same size = rw is (record {
   nodes = two.second.fits.nodes;
   cells = size ∙ two.first.numbers.size ∙ (λ i. two.keys i * two.nodes i) ∙ sym two.second.numbers.size;
   low_count = sym (length-map _ _) ∙ marks.low_count ∙ two.nodes;
   high_count = sym (length-map _ _) ∙ marks.high_count ∙ two.nodes;
   stays = λ new taken. lies-kept (becomes _ _ two marks sent same new taken);
-}
+})
+
+-- what one takes of another's number it takes of the one that this came to be
+taken-alike : (x x' y y' z z' low high flow fhigh : ℕ) → x' ≡ x → y' ≡ y → z' ≡ z → is_taken x y flow fhigh ≡ true → z ≡ number_taken y x' low high
+    → number_taken x z' flow fhigh ≡ number_taken x y' flow fhigh
+taken-alike x x' y y' z z' low high flow fhigh at_x at_y at_z yes' is = grind (arith, nat_tests)
+
+none-alike : (x x' y y' z z' low high flow fhigh start : ℕ) → x' ≡ x → y' ≡ y → z' ≡ z → is_taken x y flow fhigh ≡ false
+    → z ≡ number_kept start (number_taken y x' low high) → number_taken x z' flow fhigh ≡ number_taken x y' flow fhigh
+none-alike x x' y y' z z' low high flow fhigh start at_x at_y at_z no' is = grind (arith, nat_tests)
 
 -- what both take, the initiator p of q first
 module _ {rules : Rules} {written : ℕ → List Entry} {most : ℕ} {h : HistoriesView} {p q : VersionTableView} {low high flow fhigh : List ℕ}
     {back_sent back_cut forth_sent forth_cut : ℕ} (e : Exchange)
     (two : AreLaidBoth written most h p q) (back : AreMarksOf rules e.rotation written q p low high back_sent back_cut)
     (forth : AreMarksOf rules e.rotation written p q flow fhigh forth_sent forth_cut) where
-  abbrev TakesBack : Bool → VersionTableView → Type 0
-  TakesBack nothing p' = HasTakenUnless nothing h.lists p q.cells low high p'
-
   -- what came back to the initiator changes nothing of what is taken of it
-  pub same-taken : (nothing : Bool) (p' : VersionTableView) → TakesBack nothing p' → SendAlike q flow fhigh p.cells p'.cells
+  pub same-taken : (nothing : Bool) (p' : VersionTableView) → HasTakenUnless nothing h.lists p q.cells low high p' → SendAlike q flow fhigh p.cells p'.cells
   same-taken true p' is owner key _ _ = ap (λ (v : VersionTableView). numbers_taken q.nodes q.cells v.cells flow fhigh owner key) is
   same-taken false p' took owner key in_nodes in_keys =
       let now_at : cell p'.cells q.nodes owner key ≡ cell p'.cells p.nodes owner key = ap (λ n. cell p'.cells n owner key) (sym two.nodes) in
       let then_at : cell p.cells q.nodes owner key ≡ cell p.cells p.nodes owner key = ap (λ n. cell p.cells n owner key) (sym two.nodes) in
+      let q_at : cell q.cells p.nodes owner key ≡ cell q.cells q.nodes owner key = ap (λ n. cell q.cells n owner key) two.nodes in
       let in_node : owner < p.nodes = omega (arith, in_nodes, two.nodes) in
       let in_key : key < p.keys = omega (arith, in_keys, two.keys) in
       elim (is_taken_at p q flow fhigh owner key) as (λ b. is_taken_at p q flow fhigh owner key ≡ b
@@ -367,15 +367,15 @@ module _ {rules : Rules} {written : ℕ → List Entry} {most : ℕ} {h : Histor
             let current = came-current rules e.rotation two owner there.0 ((forth.marks.members owner key there.0 there.1).0 yes') in
             let stays = stays-unless rules e.rotation (turned two) owner back (λ _ _ _ _. refl) took in_node key in_key
             (omega (arith, current, two.first.proper.copies owner key there.0 there.1)) in
-            grind (arith, nat_tests)
-        | false ↦ λ no'. let is = took.kept.each owner key in_node in_key in grind (arith, nat_tests)
+            taken-alike _ _ _ _ _ _ _ _ _ _ q_at then_at now_at yes' stays
+        | false ↦ λ no'. none-alike _ _ _ _ _ _ _ _ _ _ _ q_at then_at now_at no' (took.kept.each owner key in_node in_key)
       ] refl
 
-  pub as-many : (nothing : Bool) (p' : VersionTableView) → TakesBack nothing p' → length p'.cells ≡ length p.cells
+  pub as-many : (nothing : Bool) (p' : VersionTableView) → HasTakenUnless nothing h.lists p q.cells low high p' → length p'.cells ≡ length p.cells
   as-many true p' is = ap (λ (v : VersionTableView). length v.cells) is
   as-many false p' took = took.kept.size
 
-  pub exchange_whole : (nothing : Bool) (p' : VersionTableView) → TakesBack nothing p' → (d1 d2 : ℕ)
+  pub exchange_whole : (nothing : Bool) (p' : VersionTableView) → HasTakenUnless nothing h.lists p q.cells low high p' → (d1 d2 : ℕ)
       → d1 ≡ digest_size (digest_kind rules.mode) (table_in written p) → d2 ≡ digest_size (digest_kind rules.mode) (table_in written q)
       → e.lost1 ≡ false → e.lost2 ≡ false → nothing ≡ eqb back_sent 0 → (skips : Bool) → skips ≡ (e.lost3 || eqb forth_sent 0)
       → (q' : VersionTableView) → HasTakenUnless skips h.lists q p'.cells flow fhigh q' → (r : Record)
@@ -385,6 +385,5 @@ module _ {rules : Rules} {written : ℕ → List Entry} {most : ℕ} {h : Histor
       let here = becomes-unless rules e.rotation (turned two) back _ (λ _ _ _ _. refl) p' nothing false none took in
       let there = becomes-unless rules e.rotation two forth _ (same-taken nothing p' took) q' skips e.lost3 skipped takes in
       let b = delta_of_views rules e.rotation written q p in
-      let f = delta_of_views rules e.rotation written p q in
-      let is = said b f back.count back.left forth.count forth.left in
+      let is = said b (delta_of_views rules e.rotation written p q) back.count back.left forth.count forth.left in
       rw (first, second) (cc (came-back e.lost3 (table_in written p) b))

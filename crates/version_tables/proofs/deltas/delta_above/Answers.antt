@@ -1,6 +1,5 @@
 use Rattle.version_tables.proofs.Common.{◌∙◌, map, length-map, digest_kind}
-use Rattle.version_tables.proofs.Fitting.{AreLaidBoth, laid-both}
-use Rattle.version_tables.proofs.Delivered.{IsOfferOf, offer-is, delta-marks, told-low}
+use Rattle.version_tables.proofs.Delivered.{AreLaidBoth, IsOfferOf, laid-both, offer-is, delta-marks, told-low}
 use Rattle.version_tables.proofs.deltas.delta_above.Goals as goal
 
 module _ (g : _) (c : goal.After-ends g) where
@@ -37,3 +36,8 @@ returns-clause-delta g c =
           (length-map marked.mark.items g.N.Number.number ∙ c.in_ok-marked.ensures.size ∙ c.grid.ensures.nodes));
       digest = c.requires.offered.digest;
     }
+
+pub planned-requires-clause-ends : goal.planned-requires-clause-ends
+planned-requires-clause-ends g c =
+    rw (c.grid.ensures.nodes, c.requires.may.both.first.nodes, c.lists.ensures.value, c.ends.ensures.rounds)
+    (record { size = c.ends.ensures.size; are_ends = c.ends.ensures.parts; made = c.requires.may.both.first.made })

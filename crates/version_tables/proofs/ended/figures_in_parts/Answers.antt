@@ -3,9 +3,8 @@ use Rattle.version_tables.proofs.ended.figures_in_parts.Goals as goal
 
 pub figures_of_pieces-requires-clause-are : goal.figures_of_pieces-requires-clause-are
 figures_of_pieces-requires-clause-are g c =
-    let whole = c.in_ok-whole.ensures.whole in
-    let beside = c.numbers_of.ensures c.args.ended.tables.items (rw whole c.requires.ended)
-    (rw (c.deref-2.ensures.value, ← whole, ← c.deref.ensures.value) c.in_ok-cells.ensures.cells) in
+    let beside = c.numbers_of.ensures c.args.ended.tables.items (rw c.in_ok-whole.ensures.whole c.requires.ended)
+    (rw (c.deref-2.ensures.value, ← c.in_ok-whole.ensures.whole, ← c.deref.ensures.value) c.in_ok-cells.ensures.cells) in
     (map (table_in g.H.Written.lists) c.args.ended.tables.items, beside.are)
 
 pub figures_of_pieces-requires-clause-pieces : goal.figures_of_pieces-requires-clause-pieces
@@ -32,3 +31,6 @@ returns-clause-counted g c =
       same_tables = rw whole;
       same_histories = rw whole;
     }
+
+pub look_in_parts-requires-clause-may : goal.look_in_parts-requires-clause-may
+look_in_parts-requires-clause-may g c i lt = (c.requires.ended, c.requires.bounds.parts i lt)

@@ -1,6 +1,5 @@
 use Rattle.version_tables.proofs.Common.{[], DeltaView}
-use Rattle.version_tables.proofs.Fitting.{laid-both}
-use Rattle.version_tables.proofs.Merged.{both-stay, merged-whole}
+use Rattle.version_tables.proofs.Merged.{both-stay, laid-both, merged-whole}
 use Rattle.version_tables.proofs.exchanges.exchange.Goals as goal
 
 pub returns-then-plan-clause-ok : goal.returns-then-plan-clause-ok

@@ -1,6 +1,5 @@
 use Rattle.version_tables.proofs.Common.{refl, ap, ◌∙◌, map, delta_of_views}
-use Rattle.version_tables.proofs.Fitting.{laid-both, turned}
-use Rattle.version_tables.proofs.Taken.{as-many, exchange_whole, marks-come, may-arrive, same-taken}
+use Rattle.version_tables.proofs.Taken.{as-many, exchange_whole, laid-both, marks-come, may-arrive, same-taken, turned}
 use Rattle.version_tables.proofs.exchanges.exchange_deltas.Goals as goal
 
 pub returns-then-plan-clause-ok : goal.returns-then-plan-clause-ok
@@ -14,26 +13,24 @@ take_unless-requires-clause-may g c =
     let both = laid-both c.requires.known c.requires.may.both c.in_ok-back.ensures.kept.1 c.in_ok-back.ensures.kept.0 in
     let top = ap (map g.N.Number.number) (c.deref.ensures.value ∙ c.in_ok-responder_before.ensures.items) ∙ c.greatest-2.ensures.value in
     let back = marks-come c.in_ok-back.ensures.delta c.of-first.ensures top c.what_comes-came.ensures in
-    rw c.cells-came_back.ensures.value (may-arrive (turned both) back _ (λ _ _ _ _. refl) refl)
+    may-arrive (turned both) back _ c.cells-came_back.ensures.value (λ _ _ _ _. refl) refl
 
 pub take_unless-requires-2-clause-may : goal.take_unless-requires-2-clause-may
 take_unless-requires-2-clause-may g c =
-    let number = g.N.Number.number in
     let both = laid-both c.requires.known c.requires.may.both c.in_ok-back.ensures.kept.1 c.in_ok-back.ensures.kept.0 in
-    let p_top = ap (map number) (c.deref-2.ensures.value ∙ c.in_ok-initiator_before.ensures.items) ∙ c.greatest.ensures.value in
-    let q_top = ap (map number) (c.deref.ensures.value ∙ c.in_ok-responder_before.ensures.items) ∙ c.greatest-2.ensures.value in
+    let p_top = ap (map g.N.Number.number) (c.deref-2.ensures.value ∙ c.in_ok-initiator_before.ensures.items) ∙ c.greatest.ensures.value in
+    let q_top = ap (map g.N.Number.number) (c.deref.ensures.value ∙ c.in_ok-responder_before.ensures.items) ∙ c.greatest-2.ensures.value in
     let back = marks-come c.in_ok-back.ensures.delta c.of-first.ensures q_top c.what_comes-came.ensures in
     let forth = marks-come c.in_ok-forth.ensures.delta c.of-first.ensures p_top c.what_comes-went.ensures in
     let took = rw c.cells-came_back.ensures.value at c.take_unless.ensures in
     let e = c.args.course.now.plan.now in
-    rw c.cells-came_forth.ensures.value (may-arrive both forth _ (same-taken e both back forth _ _ took) (as-many e both back forth _ _ took))
+    may-arrive both forth _ c.cells-came_forth.ensures.value (same-taken e both back forth _ _ took) (as-many e both back forth _ _ took)
 
 pub returns-clause-ok : goal.returns-clause-ok
 returns-clause-ok g c =
-    let number = g.N.Number.number in
     let both = laid-both c.requires.known c.requires.may.both c.in_ok-back.ensures.kept.1 c.in_ok-back.ensures.kept.0 in
-    let p_top = ap (map number) (c.deref-2.ensures.value ∙ c.in_ok-initiator_before.ensures.items) ∙ c.greatest.ensures.value in
-    let q_top = ap (map number) (c.deref.ensures.value ∙ c.in_ok-responder_before.ensures.items) ∙ c.greatest-2.ensures.value in
+    let p_top = ap (map g.N.Number.number) (c.deref-2.ensures.value ∙ c.in_ok-initiator_before.ensures.items) ∙ c.greatest.ensures.value in
+    let q_top = ap (map g.N.Number.number) (c.deref.ensures.value ∙ c.in_ok-responder_before.ensures.items) ∙ c.greatest-2.ensures.value in
     let back = marks-come c.in_ok-back.ensures.delta c.of-first.ensures q_top c.what_comes-came.ensures in
     let forth = marks-come c.in_ok-forth.ensures.delta c.of-first.ensures p_top c.what_comes-went.ensures in
     exchange_whole c.args.course.now.plan.now both back forth _ c.take_unless.new.table (rw c.cells-came_back.ensures.value at c.take_unless.ensures)

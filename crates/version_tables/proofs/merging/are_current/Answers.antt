@@ -1,4 +1,4 @@
-use Rattle.version_tables.proofs.Common.{ℕ, ◌≡◌, ◌<◌, ◌&&◌, false, nat_le, nat_lt, map, slice_index, refl, arith, both_ways, eq-eqb, nat_tests, bases_in, none-passes}
+use Rattle.version_tables.proofs.Common.{ℕ, ◌≡◌, ◌<◌, ◌&&◌, false, nat_le, nat_lt, map, slice_index, refl, arith, eq-eqb, nat_tests, bases_in, none-passes}
 use Rattle.version_tables.proofs.merging.are_current.Goals as goal
 
 -- no number is of an earlier generation where there is none
@@ -15,12 +15,3 @@ returns-then-count_held-eq0 g c =
     let no_base = none_held owner (omega (arith, lt, c.requires.first.nodes, c.bases-bases.ensures.count)) in
     grind (arith, nat_tests) in
     (λ _. (λ owner lt. none-current _ _ (none owner lt), λ owner lt. none-current _ _ (none owner (omega (arith, lt, c.requires.nodes)))), λ _. refl)
-
-pub returns-else-none_upto : goal.returns-else-none_upto
-returns-else-none_upto g c = (
-  (λ yes'. absurd (both_ways c.none_upto.result c.if-none_upto.false yes')),
-  (λ both. (rw c.greatest.ensures.value at c.none_upto.ensures).1 (λ owner lt.
-      let in_nodes : owner < c.args.initiator.now.nodes = omega (arith, lt, c.greatest.ensures.kept.most.size) in
-      let base = c.bases-bases.ensures.each.each owner (omega (arith, in_nodes, c.requires.first.nodes)) in
-      rw base (both.0 owner in_nodes))),
-)

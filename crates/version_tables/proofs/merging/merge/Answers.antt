@@ -1,4 +1,4 @@
-use Rattle.version_tables.proofs.Common.{◌≡◌, ℕ, ◌*◌, length, length-map, map, ap, refl, sym, ◌∙◌, with_items, with_items_is, VersionTableView, BothStayMerged, HasMerged}
+use Rattle.version_tables.proofs.Common.{◌≡◌, ℕ, ◌*◌, length, length-map, map, ap, refl, sym, ◌∙◌, with_items, with_items_is, VersionTableView, BothStayMerged, HasMerged, ArePlanesChanged, AreChanged, number_raised, cell, get_or, max, transport}
 use Rattle.version_tables.proofs.Laid.{seen}
 use Rattle.version_tables.proofs.merging.merge.Goals as goal
 
@@ -6,16 +6,10 @@ module _ (g : _) (c : goal.After-responder-2-1 g) where
   abbrev number : g.row.N.Denot → ℕ
   number = g.N.Number.number
 
-  abbrev p : VersionTableView
-  p = seen c.initiator.view_is
-
-  abbrev q : VersionTableView
-  q = seen c.responder.view_is
-
-  stay : BothStayMerged g.H.Written.lists p q
+  stay : BothStayMerged g.H.Written.lists (seen c.initiator.view_is) (seen c.responder.view_is)
   stay = rw (c.initiator.view_is, c.responder.view_is) c.requires
 
-  came : HasMerged q p (record p {
+  came : HasMerged (seen c.responder.view_is) (seen c.initiator.view_is) (record (seen c.initiator.view_is) {
     cells = map number (with_items c.initiator.inside.cells c.merge-came.new.first).items;
     greatest = map number (with_items c.initiator.inside.greatest c.raise_both.new.first).items;
   })
@@ -23,12 +17,15 @@ module _ (g : _) (c : goal.After-responder-2-1 g) where
       let cells = with_items_is c.initiator.inside.cells c.merge-came.new.first (c.merge-came.auto.first ∙ c.deref_mut.ensures.len) in
       let greatest = with_items_is c.initiator.inside.greatest c.raise_both.new.first (c.raise_both.auto.first ∙ c.deref_mut-3.ensures.len) in
       record {
-        numbers = rw (c.deref_mut-2.ensures.value, c.deref.ensures.value, c.deref_mut.ensures.value, ← cells) at c.merge-came.ensures.first;
-        most = rw (c.deref_mut-4.ensures.value, c.deref_mut-3.ensures.value, ← greatest) at c.raise_both.ensures.first;
+        numbers = transport (λ i. ArePlanesChanged (λ r k x y. y ≡ number_raised x
+            (cell (map number (c.deref_mut-2.ensures.value i)) c.initiator.inside.nodes r k) (get_or (map number (c.deref.ensures.value i)) r 0))
+            c.initiator.inside.nodes c.initiator.inside.keys (map number (c.deref_mut.ensures.value i)) (map number (sym cells i))) c.merge-came.ensures.first;
+        most = transport (λ i. AreChanged (λ r x y. y ≡ max x (get_or (map number (c.deref_mut-4.ensures.value i)) r 0))
+            (map number (c.deref_mut-3.ensures.value i)) (map number (sym greatest i))) c.raise_both.ensures.first;
         rest = refl;
       }
 
-  went : HasMerged p q (record q {
+  went : HasMerged (seen c.initiator.view_is) (seen c.responder.view_is) (record (seen c.responder.view_is) {
     cells = map number (with_items c.responder.inside.cells c.merge-came.new.second).items;
     greatest = map number (with_items c.responder.inside.greatest c.raise_both.new.second).items;
   })
@@ -36,10 +33,11 @@ module _ (g : _) (c : goal.After-responder-2-1 g) where
       let cells = with_items_is c.responder.inside.cells c.merge-came.new.second (c.merge-came.auto.second ∙ c.deref_mut-2.ensures.len) in
       let greatest = with_items_is c.responder.inside.greatest c.raise_both.new.second (c.raise_both.auto.second ∙ c.deref_mut-4.ensures.len) in
       record {
-        numbers =
-            rw (c.deref_mut.ensures.value, c.deref-2.ensures.value, c.deref_mut-2.ensures.value, ← cells, stay.nodes, stay.keys)
-            at c.merge-came.ensures.second;
-        most = rw (c.deref_mut-3.ensures.value, c.deref_mut-4.ensures.value, ← greatest) at c.raise_both.ensures.second;
+        numbers = transport (λ i. ArePlanesChanged (λ r k x y. y ≡ number_raised x (cell (map number (c.deref_mut.ensures.value i)) (stay.nodes i) r k)
+            (get_or (map number (c.deref-2.ensures.value i)) r 0)) (stay.nodes i) (stay.keys i) (map number (c.deref_mut-2.ensures.value i))
+            (map number (sym cells i))) c.merge-came.ensures.second;
+        most = transport (λ i. AreChanged (λ r x y. y ≡ max x (get_or (map number (c.deref_mut-3.ensures.value i)) r 0))
+            (map number (c.deref_mut-4.ensures.value i)) (map number (sym greatest i))) c.raise_both.ensures.second;
         rest = refl;
       }
 
@@ -60,21 +58,19 @@ returns g c =
 
 pub merge-came-requires : goal.merge-came-requires
 merge-came-requires g c =
-    let number = g.N.Number.number in
-    let one = c.initiator.inside in
     let other = c.responder.inside in
     let kept = c.initiator.invariant in
-    let nodes : one.nodes ≡ other.nodes = ap (λ (v : VersionTableView). v.nodes) c.initiator.view_is ∙ c.requires.nodes
+    let nodes : c.initiator.inside.nodes ≡ other.nodes = ap (λ (v : VersionTableView). v.nodes) c.initiator.view_is ∙ c.requires.nodes
     ∙ ap (λ (v : VersionTableView). v.nodes) (sym c.responder.view_is) in
-    let keys : one.keys ≡ other.keys = ap (λ (v : VersionTableView). v.keys) c.initiator.view_is ∙ c.requires.keys
+    let keys : c.initiator.inside.keys ≡ other.keys = ap (λ (v : VersionTableView). v.keys) c.initiator.view_is ∙ c.requires.keys
     ∙ ap (λ (v : VersionTableView). v.keys) (sym c.responder.view_is) in
-    let size = sym (length-map one.cells.items number) ∙ kept.numbers.size in
+    let size = sym (length-map c.initiator.inside.cells.items g.N.Number.number) ∙ kept.numbers.size in
     record {
       marked = rw (c.deref.ensures.value, c.deref-2.ensures.value, c.deref_mut.ensures.value, c.deref_mut-2.ensures.value) (record {
         grid = record { whole = size; few_nodes = kept.proper.nodes_limit; few_keys = kept.proper.keys_limit };
-        second = sym (length-map other.cells.items number) ∙ c.responder.invariant.numbers.size ∙ (λ i. sym keys i * sym nodes i) ∙ sym size;
-        first_low = sym (length-map one.greatest.items number) ∙ kept.most.size;
-        second_low = sym (length-map other.greatest.items number) ∙ c.responder.invariant.most.size ∙ sym nodes;
+        second = sym (length-map other.cells.items g.N.Number.number) ∙ c.responder.invariant.numbers.size ∙ (λ i. sym keys i * sym nodes i) ∙ sym size;
+        first_low = sym (length-map c.initiator.inside.greatest.items g.N.Number.number) ∙ kept.most.size;
+        second_low = sym (length-map other.greatest.items g.N.Number.number) ∙ c.responder.invariant.most.size ∙ sym nodes;
         first_covered = λ owner lt key lt'. (kept.most.each owner lt).upto key lt';
         second_covered = rw (nodes, keys) (λ owner lt key lt'. (c.responder.invariant.most.each owner lt).upto key lt');
       });
@@ -83,10 +79,8 @@ merge-came-requires g c =
 pub raise_both-requires : goal.raise_both-requires
 raise_both-requires g c =
     let number = g.N.Number.number in
-    let one = c.initiator.inside.greatest.items in
-    let other = c.responder.inside.greatest.items in
     let nodes = ap (λ (v : VersionTableView). v.nodes) c.initiator.view_is ∙ c.requires.nodes
     ∙ ap (λ (v : VersionTableView). v.nodes) (sym c.responder.view_is) in record {
-      second = ap length c.deref_mut-4.ensures.value ∙ sym (length-map other number) ∙ c.responder.invariant.most.size
-          ∙ sym nodes ∙ sym c.initiator.invariant.most.size ∙ length-map one number ∙ sym (ap length c.deref_mut-3.ensures.value);
+      second = ap length c.deref_mut-4.ensures.value ∙ sym (length-map c.responder.inside.greatest.items number) ∙ c.responder.invariant.most.size
+          ∙ sym nodes ∙ sym c.initiator.invariant.most.size ∙ length-map c.initiator.inside.greatest.items number ∙ sym (ap length c.deref_mut-3.ensures.value);
     }

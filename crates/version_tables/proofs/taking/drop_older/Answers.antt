@@ -1,15 +1,14 @@
-use Rattle.version_tables.proofs.Common.{◌≡◌, List, length, subst, arith, ap, number-at, owners-next, owners-all, IsNumberedHistory, all_writes-here, drop_starts, number_kept}
+use Rattle.version_tables.proofs.Common.{◌≡◌, ◌<◌, ◌∙◌, ℕ, List, length, length-map, nat_tests, refl, subst, arith, ap, number-at, owners-next, owners-all, IsNumberedHistory, all_writes-here, drop_starts, number_kept}
 use Rattle.version_tables.proofs.taking.drop_older.Goals as goal
 
 -- what an owner's numbers are dropped up to
 starts : (g : _) (c : goal.After-cells-1 g)
     → c.drop_from-start.result ≡ drop_starts g.N.Number.number c.args.owners c.args.before.now c.args.greatest.now c.loop-owner.owner
 starts g c =
-    let owner = c.loop-owner.owner in
     let at = λ (xs : List g.row.N.Denot) (x : g.row.N.Denot) (size : length xs ≡ c.args.size.nodes).
-    number-at g.N.Number.number xs owner x (omega (arith, size, c.loop-owner-test.true)) in
+    number-at g.N.Number.number xs c.loop-owner.owner x (omega (arith, size, c.loop-owner-test.true)) in
     rw (
-      all_writes-here c.args.owners.lists.now owner _ (omega (arith, c.requires.known.count, c.loop-owner-test.true)) c.index-lists-owner.is,
+      all_writes-here c.args.owners.lists.now c.loop-owner.owner _ (omega (arith, c.requires.known.count, c.loop-owner-test.true)) c.index-lists-owner.is,
       ← at c.args.before.now c.index-before-owner.result c.requires.before_count c.index-before-owner.is,
       ← at c.args.owners.bases.now c.index-bases-owner.result c.requires.known.base_count c.index-bases-owner.is,
       ← at c.args.greatest.now c.index-greatest-owner.result c.requires.greatest_count c.index-greatest-owner.is,
@@ -27,3 +26,9 @@ loop-owner-preserved g c =
 
 pub returns : goal.returns
 returns g c = owners-all _ _ _ _ _ _ c.loop-owner-test.false c.loop-owner.invariant
+
+pub returns-then-none_upto : goal.returns-then-none_upto
+returns-then-none_upto g c =
+    let size = length-map c.args.before.now g.N.Number.number ∙ c.requires.before_count in
+    let none = λ (r : ℕ) (lt : r < c.args.size.nodes). c.none_upto.ensures.0 c.if-none_upto.true r (omega (arith, lt, size)) in
+    record { size = refl; each = λ owner key lt _. grind (arith, nat_tests, none owner lt) }

@@ -1,34 +1,39 @@
-use Rattle.version_tables.proofs.Common.{◌≡◌, length, length-map, map, ap, arith, refl, sym, ◌∙◌, with_items, with_items_is, VersionTableView, HasTaken}
+use Rattle.version_tables.proofs.Common.{◌≡◌, length, length-map, map, ap, arith, transport, get_or, cell, number_kept, numbers_taken, all_writes, drop_start, bases_in, AreRaised, refl, sym, ◌∙◌, with_items, with_items_is, VersionTableView, HasTaken}
 use Rattle.version_tables.proofs.Laid.{seen}
 use Rattle.version_tables.proofs.taking.take_unless.Goals as goal
 
 module _ (g : _) (c : goal.After-table-3-1 g) where
-  abbrev old : VersionTableView
-  old = seen c.table.view_is
-
-  taken : HasTaken c.args.histories.now.lists old (map g.N.Number.number c.args.cells.now)
-      (map g.N.Number.number c.args.arrival.low.now) (map g.N.Number.number c.args.arrival.high.now) (record old {
+  taken : HasTaken c.args.histories.now.lists (seen c.table.view_is) (map g.N.Number.number c.args.cells.now)
+      (map g.N.Number.number c.args.arrival.low.now) (map g.N.Number.number c.args.arrival.high.now) (record (seen c.table.view_is) {
         cells = map g.N.Number.number (with_items (with_items c.table.inside.cells c.take.new.cells) c.drop_older.new.cells).items;
         greatest = map g.N.Number.number (with_items c.table.inside.greatest c.take.new.greatest).items;
       })
   taken =
       let inside = c.table.inside in
-      let lists = c.args.histories.now.lists in
       let greatest = with_items_is inside.greatest c.take.new.greatest (c.take.auto.greatest ∙ c.deref_mut-2.ensures.len) in
-      let cells = with_items_is inside.cells c.take.new.cells (c.take.auto.cells ∙ c.deref_mut.ensures.len) in
       let kept = with_items_is (with_items inside.cells c.take.new.cells) c.drop_older.new.cells (c.drop_older.auto.cells ∙ c.deref_mut-3.ensures.len) in
-      let came = rw c.deref_mut.ensures.value at c.take.ensures.cells in
-      let raises = rw (c.deref_mut.ensures.value, c.deref_mut-2.ensures.value, ← greatest) at c.take.ensures.greatest in
-      let dropped = rw (c.deref.ensures.value, c.deref_mut-3.ensures.value, c.lists.ensures.value, cells, ← kept) at c.drop_older.ensures in
+      let sent = map g.N.Number.number c.args.cells.now in
+      let low = map g.N.Number.number c.args.arrival.low.now in
+      let high = map g.N.Number.number c.args.arrival.high.now in
+      let read = c.deref_mut-3.ensures.value ∙ with_items_is inside.cells c.take.new.cells (c.take.auto.cells ∙ c.deref_mut.ensures.len) in
       let before = c.requires.before ∙ sym (ap (λ (v : VersionTableView). v.greatest) c.table.view_is) in
       record {
-        raised = raises;
+        raised = transport (λ i. AreRaised c.table.inside.nodes c.table.inside.keys (map g.N.Number.number (c.deref_mut.ensures.value i)) sent low high
+            (map g.N.Number.number (c.deref_mut-2.ensures.value i)) (map g.N.Number.number (sym greatest i))) c.take.ensures.greatest;
         kept = record {
-          size = dropped.size ∙ came.size;
+          size = (λ i. length (map g.N.Number.number (kept i))) ∙ c.drop_older.ensures.size ∙ (λ i. length (map g.N.Number.number (read i)))
+              ∙ c.take.ensures.cells.size ∙ (λ i. length (map g.N.Number.number (c.deref_mut.ensures.value i)));
           each = λ owner key in_nodes in_keys.
               let based = c.bases.ensures.each.each owner
               (omega (arith, in_nodes, ap (λ (v : VersionTableView). v.nodes) c.table.view_is, c.requires.may.nodes)) in
-              rw (before, based, came.each owner key in_nodes in_keys) at (dropped.each owner key in_nodes in_keys);
+              let start = drop_start (all_writes c.args.histories.now.lists owner)
+              (get_or (map g.N.Number.number inside.greatest.items) owner 0) (bases_in c.args.histories.now.lists owner) in
+              (λ i. cell (map g.N.Number.number (kept i)) c.table.inside.nodes owner key) ∙ c.drop_older.ensures.each owner key in_nodes in_keys
+              ∙ (λ i. number_kept (drop_start (all_writes (c.lists.ensures.value i) owner) (get_or (before i) owner 0) (based i)
+              (get_or (map g.N.Number.number (c.deref.ensures.value i)) owner 0)) (cell (map g.N.Number.number (read i)) c.table.inside.nodes owner key))
+              ∙ ap (number_kept (start (get_or (map g.N.Number.number (with_items inside.greatest c.take.new.greatest).items) owner 0)))
+              (c.take.ensures.cells.each owner key in_nodes in_keys
+              ∙ (λ i. numbers_taken c.table.inside.nodes (map g.N.Number.number (c.deref_mut.ensures.value i)) sent low high owner key));
         };
         rest = refl;
       }
@@ -53,36 +58,29 @@ drop_older-requires-clause-known g c =
 
 pub take-requires : goal.take-requires
 take-requires g c =
-    let number = g.N.Number.number in
-    let inside = c.table.inside in
     let kept = c.table.invariant in
     let nodes = ap (λ (v : VersionTableView). v.nodes) c.table.view_is in
-    let size = length-map inside.cells.items number in
+    let size = length-map c.table.inside.cells.items g.N.Number.number in
     rw (c.deref_mut.ensures.value, c.deref_mut-2.ensures.value) (record {
       may = record {
         beside = record {
           shape = record { whole = omega (arith, size, kept.numbers.size); few_nodes = kept.proper.nodes_limit; few_keys = kept.proper.keys_limit };
-          count = omega (arith, size, length-map c.args.cells.now number, ap (λ (v : VersionTableView). length v.cells) c.table.view_is);
+          count = omega (arith, size, length-map c.args.cells.now g.N.Number.number, ap (λ (v : VersionTableView). length v.cells) c.table.view_is);
         };
-        greatest_count = sym (length-map inside.greatest.items number) ∙ kept.most.size;
+        greatest_count = sym (length-map c.table.inside.greatest.items g.N.Number.number) ∙ kept.most.size;
         low_count = c.requires.may.low_count ∙ sym nodes;
         high_count = c.requires.may.high_count ∙ sym nodes;
         covered = λ owner lt key lt'. (kept.most.each owner lt).upto key lt';
       };
     })
 
-pub returns-then-arrival : goal.returns-then-arrival
-returns-then-arrival g c = rw c.if-arrival.true refl
-
 pub drop_older-requires-clause-grid : goal.drop_older-requires-clause-grid
 drop_older-requires-clause-grid g c =
-    let cells = c.table.inside.cells in
-    let kept = c.table.invariant in
-    let same = with_items_is cells c.take.new.cells (c.take.auto.cells ∙ c.deref_mut.ensures.len) in record {
+    let same = with_items_is c.table.inside.cells c.take.new.cells (c.take.auto.cells ∙ c.deref_mut.ensures.len) in record {
       whole = ap length (c.deref_mut-3.ensures.value ∙ same) ∙ c.take.auto.cells ∙ ap length c.deref_mut.ensures.value
-          ∙ sym (length-map cells.items g.N.Number.number) ∙ kept.numbers.size;
-      few_nodes = kept.proper.nodes_limit;
-      few_keys = kept.proper.keys_limit;
+          ∙ sym (length-map c.table.inside.cells.items g.N.Number.number) ∙ c.table.invariant.numbers.size;
+      few_nodes = c.table.invariant.proper.nodes_limit;
+      few_keys = c.table.invariant.proper.keys_limit;
     }
 
 pub drop_older-requires-clause-before_count : goal.drop_older-requires-clause-before_count
@@ -92,7 +90,6 @@ drop_older-requires-clause-before_count g c =
 
 pub drop_older-requires-clause-greatest_count : goal.drop_older-requires-clause-greatest_count
 drop_older-requires-clause-greatest_count g c =
-    let greatest = c.table.inside.greatest in
-    let same = with_items_is greatest c.take.new.greatest (c.take.auto.greatest ∙ c.deref_mut-2.ensures.len) in
+    let same = with_items_is c.table.inside.greatest c.take.new.greatest (c.take.auto.greatest ∙ c.deref_mut-2.ensures.len) in
     ap length (c.deref.ensures.value ∙ same) ∙ c.take.auto.greatest ∙ ap length c.deref_mut-2.ensures.value
-    ∙ sym (length-map greatest.items g.N.Number.number) ∙ c.table.invariant.most.size
+    ∙ sym (length-map c.table.inside.greatest.items g.N.Number.number) ∙ c.table.invariant.most.size

@@ -1,5 +1,5 @@
-use Rattle.version_tables.proofs.Common.{rules, refl, ◌≡◌, ◌<◌, length, set, subst, sym, ◌∙◌, with_items_is, begun_generation, list_of_owner, ListBecomes, HistoriesView}
-use Rattle.version_tables.proofs.HistoryCalls.{count-read, histories-begun, list-becomes, nodes-are, numbers-set}
+use Rattle.version_tables.proofs.Common.{refl, ◌<◌, length, length-map, set, subst, sym, ◌∙◌, with_items_is, begun_generation, list_of_owner, ListBecomes, HistoriesView}
+use Rattle.version_tables.proofs.HistoryCalls.{count-read, histories-begun, list-becomes, nodes-are, numbers-set, owner-within}
 use Rattle.version_tables.proofs.histories.Histories.begin_generation.Goals as goal
 
 module _ (g : _) (c : goal.After-self-3-1 g) where
@@ -13,15 +13,25 @@ module _ (g : _) (c : goal.After-self-3-1 g) where
 
 pub invariant_of-self : goal.invariant_of-self
 invariant_of-self g c =
-    let number = g.N.Number.number in
-    let lists = c.self.inside.lists.items in
     let owner = c.args.owner in
-    let count : c.len.result ≡ length lists = search rules in
-    let n = count-read number c.self.inside.counts.items c.self.invariant owner c.index-count.result.now (in_range g c) c.index-count.ensures in
+    let n = count-read g.N.Number.number c.self.inside.counts.items c.self.invariant owner c.index-count.result.now (in_range g c) c.index-count.ensures in
     rw (with_items_is c.self.inside.lasts c.drop_owner.new.cells (c.drop_owner.auto.cells ∙ c.deref_mut.ensures.len))
-    (nodes-are (histories-begun c.self.invariant (set lists owner c.begin_generation.new.self) owner (in_range g c) (becomes g c)
-    (numbers-set number c.self.inside.bases.items owner c.index-count.result.now _ n)
-    (rw (c.widen.ensures, n, count, c.deref_mut.ensures.value) at c.drop_owner.ensures)))
+    (nodes-are (histories-begun c.self.invariant (set c.self.inside.lists.items owner c.begin_generation.new.self) owner (in_range g c) (becomes g c)
+    (numbers-set g.N.Number.number c.self.inside.bases.items owner c.index-count.result.now _ n)
+    (rw (c.widen.ensures, n, c.len.ensures ∙ c.self.inside.lists.ok.0, c.deref_mut.ensures.value) at c.drop_owner.ensures)))
 
 pub returns : goal.returns
 returns g c = rw (← c.self.view_is) (record { lists = becomes g c; beside = record { keys = refl; rounds = refl } })
+
+pub drop_owner-requires : goal.drop_owner-requires
+drop_owner-requires g c =
+    let whole = sym (length-map c.self.inside.lasts.items g.N.Number.number) ∙ c.self.invariant.last.size in
+    let among = subst (λ (h : HistoriesView). c.args.owner < length h.lists) (sym c.self.view_is) c.requires.owner in
+    rw (c.deref_mut.ensures.value, c.len.ensures, c.self.inside.lists.ok.0)
+    (record { grid = record { whole = whole; few_nodes = c.self.invariant.limits.few_nodes; few_keys = c.self.invariant.limits.few_keys }; among = among })
+
+pub index-count-requires : goal.index-count-requires
+index-count-requires g c = owner-within g.N.Number.number c.self.inside.counts c.self.invariant.counted.size c.self.view_is c.requires.owner
+
+pub index_mut-requires-2 : goal.index_mut-requires-2
+index_mut-requires-2 g c = owner-within g.N.Number.number c.self.inside.bases c.self.invariant.based.size c.self.view_is c.requires.owner

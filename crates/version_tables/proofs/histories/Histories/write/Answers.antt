@@ -1,8 +1,5 @@
-use Rattle.version_tables.proofs.Common.{rules, arith, refl, ◌≡◌, ◌+◌, ◌*◌, ◌<◌, length, length-map, map, set, ap, subst, sym, ◌∙◌, all_writes, list_of_owner, with_write, ListBecomes, HistoriesView, MayAddWrite, OwnerListView, AreKnown}
-use Rattle.version_tables.proofs.HistoryCalls.{count-read, histories-written, list-becomes, list-read, nodes-are, numbers-set}
-use Rattle.std.proofs.lemmas.List.{set-get_or}
-use Rattle.version_tables.proofs.Laid.{seen}
-use Rattle.version_tables.proofs.OwnCalls.{place-within}
+use Rattle.version_tables.proofs.Common.{rules, arith, refl, ◌≡◌, ◌+◌, ◌*◌, ◌<◌, length, length-map, map, set, set-get_or, ap, subst, sym, ◌∙◌, all_writes, err_from_is_err_and, list_of_owner, with_write, ListBecomes, HistoriesView, MayAddWrite, AreKnown}
+use Rattle.version_tables.proofs.HistoryCalls.{count-read, histories-written, list-becomes, nodes-are, numbers-set, owner-within, place-within, seen}
 use Rattle.version_tables.proofs.histories.Histories.write.Goals as goal
 
 module _ (g : _) (c : goal.After-self-3-1 g) where
@@ -38,37 +35,22 @@ returns-clause-ok g c = rw (← c.self.view_is) (record { lists = becomes g c; b
 
 pub index_mut-requires-3 : goal.index_mut-requires-3
 index_mut-requires-3 g c =
-    let lasts = c.self.inside.lasts in
-    let count : c.len-nodes.result ≡ length c.self.inside.lists.items = search rules in
     let within = place-within (length c.self.inside.lists.items) c.self.inside.keys c.args.owner c.args.key
     (omega (arith, ap (λ (h : HistoriesView). length h.lists) c.self.view_is)) (omega (arith, ap (λ (h : HistoriesView). h.keys) c.self.view_is)) in
-    subst (λ n. c.args.key * n + c.args.owner < lasts.len) (sym count)
-    (omega (arith, within, c.self.invariant.last.size, length-map lasts.items g.N.Number.number, lasts.ok.0))
+    subst (λ n. c.args.key * n + c.args.owner < c.self.inside.lasts.len) (sym (c.len-nodes.ensures ∙ c.self.inside.lists.ok.0))
+    (omega (arith, within, c.self.invariant.last.size, length-map c.self.inside.lasts.items g.N.Number.number, c.self.inside.lasts.ok.0))
 
-pub overflow_add-born : goal.overflow_add-born
-overflow_add-born g c = omega (arith, c.self.invariant.limits.few_rounds)
-
-pub index_mut-requires : goal.index_mut-requires
-index_mut-requires g c =
-    omega (arith, c.requires.owner_below, ap (λ (h : HistoriesView). length h.lists) c.self.view_is, c.self.inside.lists.ok.0)
-
-pub write-requires : goal.write-requires
-write-requires g c =
-    subst (λ (v : OwnerListView). length v.current + 1 < 4294967296)
-    (sym (list-read c.args.self.now c.self.inside.lists.items c.args.owner c.index_mut.result.now c.requires.owner_below
-    (ap (λ (h : HistoriesView). h.lists) c.self.view_is) c.index_mut.ensures.value)) c.requires.few
+-- after an error the lists are as they were
+unchanged : (g : _) (c : goal.After-from_residual g) → set c.self.inside.lists.items c.args.owner c.write.new.self ≡ c.self.inside.lists.items
+unchanged g c =
+    ap (set c.self.inside.lists.items c.args.owner) (c.in_err-write.ensures.err ∙ c.index_mut.ensures.value)
+    ∙ set-get_or c.self.inside.lists.items c.args.owner c.index_mut.result.now
 
 pub invariant_of-self : goal.invariant_of-self
-invariant_of-self g c =
-    let lists = c.self.inside.lists.items in
-    rw (ap (set lists c.args.owner) (c.in_err-write.ensures.err ∙ c.index_mut.ensures.value)
-    ∙ set-get_or lists c.args.owner c.index_mut.result.now) c.self.invariant
+invariant_of-self g c = rw (unchanged g c) c.self.invariant
 
 pub index-requires : goal.index-requires
-index-requires g c =
-    let counts = c.self.inside.counts in
-    let lists = ap (λ (h : HistoriesView). length h.lists) c.self.view_is in
-    omega (arith, c.requires.owner_below, lists, c.self.invariant.counted.size, length-map counts.items g.N.Number.number, counts.ok.0)
+index-requires g c = owner-within g.N.Number.number c.self.inside.counts c.self.invariant.counted.size c.self.view_is c.requires.owner_below
 
 pub plus-number-requires : goal.plus-number-requires
 plus-number-requires g c =
@@ -77,10 +59,11 @@ plus-number-requires g c =
     (c.self.invariant.known.so_far c.args.owner).few
 
 pub index_mut-requires-2 : goal.index_mut-requires-2
-index_mut-requires-2 g c =
-    let counts = c.self.inside.counts in
-    let lists = ap (λ (h : HistoriesView). length h.lists) c.self.view_is in
-    omega (arith, c.requires.owner_below, lists, c.self.invariant.counted.size, length-map counts.items g.N.Number.number, counts.ok.0)
+index_mut-requires-2 g c = owner-within g.N.Number.number c.self.inside.counts c.self.invariant.counted.size c.self.view_is c.requires.owner_below
 
 pub returns-clause-known : goal.returns-clause-known
 returns-clause-known g c = subst (AreKnown g.H.Written.lists g.N.Number.most) c.self.view_is c.self.invariant.known
+
+pub returns-in_err-write-clause-err : goal.returns-in_err-write-clause-err
+returns-in_err-write-clause-err g c =
+    rw ((err_from_is_err_and c.from_residual.result c.from_residual.ensures.1).1, unchanged g c) c.self.view_is

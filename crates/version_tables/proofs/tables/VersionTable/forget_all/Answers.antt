@@ -1,17 +1,13 @@
-use Rattle.version_tables.proofs.Common.{◌≡◌, ◌+◌, map, ap, ◌∙◌, with_items, without_all, AreChanged, VersionTableView, table_in}
-use Rattle.version_tables.proofs.Laid.{LiesAs, lies-kept, lies-table, put-back, seen}
-use Rattle.version_tables.proofs.OwnCalls.{forgets}
+use Rattle.version_tables.proofs.Common.{◌≡◌, ◌+◌, map, ap, ◌∙◌, with_items, without_all, AreChanged, table_in}
+use Rattle.version_tables.proofs.OwnCalls.{LiesAs, lies-kept, lies-table, put-back, seen, forgets}
 use Rattle.version_tables.proofs.tables.VersionTable.forget_all.Goals as goal
 
 module _ (g : _) (c : goal.After-self-3-1 g) where
-  abbrev old : VersionTableView
-  old = seen c.self.view_is
-
-  after : LiesAs g.H.Written.lists (record old {
-    generation = old.generation + 1;
+  after : LiesAs g.H.Written.lists (record (seen c.self.view_is) {
+    generation = c.self.inside.generation + 1;
     cells = map g.N.Number.number (with_items c.self.inside.cells c.clear.new.numbers).items;
     greatest = map g.N.Number.number (with_items c.self.inside.greatest c.clear-2.new.numbers).items;
-  }) (without_all (table_in g.H.Written.lists old))
+  }) (without_all (table_in g.H.Written.lists (seen c.self.view_is)))
   after =
       let zeros = AreChanged (λ r x y. y ≡ 0) in
       forgets c.self.invariant

@@ -1,5 +1,4 @@
-use Rattle.version_tables.proofs.Laid.{lies-kept, lies-table}
-use Rattle.version_tables.proofs.OwnCalls.{starts}
+use Rattle.version_tables.proofs.OwnCalls.{lies-kept, lies-table, starts}
 use Rattle.version_tables.proofs.tables.VersionTable.new.Goals as goal
 
 pub invariant_of-result : goal.invariant_of-result

@@ -1,9 +1,10 @@
 -- The names of other libraries that these proofs cite, passed on from one place. Declares nothing.
 -- Serves the functions of `commands` and `words`, `Additions`, `Examples`, `Faults` and `Reading`.
-pub use Rattle.std.proofs.Common.{Box, Err, Global, IsErrAnd, List, MatchOption, MatchResult, None, Ok, Option, Result, Some, [], ap, arith, codes, false, inl, inr, is_some, map, not, option_map, pos, refl, subst, sym, true, ℕ, ◌∙◌, ◌∷◌, ◌≡◌, ◌≤◌}
+pub use Rattle.std.proofs.Common.{Box, Err, Global, IfOk, IsErrAnd, IsOkAnd, List, MatchOption, MatchResult, None, Ok, Option, Result, Some, [], ap, arith, codes, false, inl, inr, is_some, map, not, option_map, pos, refl, subst, sym, true, ℕ, ◌∙◌, ◌∷◌, ◌≡◌, ◌≤◌}
 pub use Rattle.std.proofs.lemmas.Result.{IfOk-weaker}
 pub use Rattle.std.specs.Box.{box_value}
 pub use Rattle.std.specs.Str.Parse.{ExplainsUnsignedError, HasUnsignedDigitsIfOk, IsNumeral, ParsesUnsigned, digits_value, without_leading_plus}
+pub use Rattle.std.specs.declared.alloc.AllocError.{AllocError}
 pub use Rattle.std.specs.declared.num.ParseIntError.{ParseIntError}
 pub use Rattle.clap.proofs.SimpleLemmas.{is_false, plain_fields}
 pub use Rattle.clap.proofs.WalkLemmas.{both, first_value-rows, one_text-rows}

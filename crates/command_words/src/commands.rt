@@ -1,7 +1,7 @@
 //! The program's commands, as clap has them.
 
-ghost use Rattle.std.specs.Prelude.{◌≡◌, IfOk, []};
-ghost use Rattle.clap.specs.Words.{app_of, rule_of, shape_of};
+ghost use Rattle.std.specs.Prelude.{◌≡◌, IfOk, IsOkAnd, []};
+ghost use Rattle.clap.specs.Words.{AddsSubcommand, app_of, rule_of, shape_of};
 ghost use Rattle.command_words.specs.Program.{check_command, compare_command, program, program_alone, run_command};
 ghost use Rattle.command_words.specs.Program.{trace_option, workers_option};
 
@@ -13,24 +13,44 @@ use std::alloc::{AllocError, Global};
 pub(crate) fn commands<'a>(alloc: Global) -> Result<Command<'a>, AllocError>
     ensures { IfOk result (λ command. app_of command ≡ program) }
 {
-    program(alloc)?
-        .subcommand(check(alloc))?
-        .subcommand(run(alloc)?)?
-        .subcommand(compare(alloc)?)
+    with(
+        with(with(program(alloc), Ok(check(alloc))), run(alloc)),
+        compare(alloc),
+    )
+}
+
+// A command with one more, where there are both. What is left is dropped by a call, which has far fewer steps to prove.
+fn with<'a>(
+    all: Result<Command<'a>, AllocError>,
+    one: Result<Command<'a>, AllocError>,
+) -> Result<Command<'a>, AllocError>
+    ensures { IfOk result (λ r. IsOkAnd all.entry (λ old. IsOkAnd one.entry (λ sub. AddsSubcommand old sub r))) }
+{
+    match all {
+        Ok(all) => match one {
+            Ok(one) => all.subcommand(one),
+            Err(error) => {
+                drop(all);
+                Err(error)
+            }
+        },
+        Err(error) => {
+            drop(one);
+            Err(error)
+        }
+    }
 }
 
 fn program<'a>(alloc: Global) -> Result<Command<'a>, AllocError>
     ensures { IfOk result (λ command. app_of command ≡ record { top = program_alone; subs = [] }) }
 {
-    Ok(
-        Command::new(alloc, "gossip_bench")
-            .about("Simulates anti-entropy gossip. Reads a scenario (TOML) on standard input.")
-            .after_help("Example: gossip_bench run < examples/two_nodes.toml")
-            .bin_name("gossip_bench")?
-            .no_binary_name(true)
-            .disable_help_subcommand(true)
-            .subcommand_required(true),
-    )
+    Command::new(alloc, "gossip_bench")
+        .about("Simulates anti-entropy gossip. Reads a scenario (TOML) on standard input.")
+        .after_help("Example: gossip_bench run < examples/two_nodes.toml")
+        .no_binary_name(true)
+        .disable_help_subcommand(true)
+        .subcommand_required(true)
+        .bin_name("gossip_bench")
 }
 
 fn check<'a>(alloc: Global) -> Command<'a>

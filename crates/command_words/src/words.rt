@@ -53,7 +53,10 @@ fn reason_of(alloc: Global, error: &Error) -> NoJob
 fn parse<'a, S: AsStr>(alloc: Global, words: &'a [S]) -> Result<Job<'a>, Error>
     ensures { IsParsed (map S.text words.entry.now) result }
 {
-    parse_by(&mut commands(alloc)?, words)
+    let mut commands = commands(alloc)?;
+    let parsed = parse_by(&mut commands, words);
+    drop(commands);
+    parsed
 }
 
 // Reads the words by the commands of the program.

@@ -1,4 +1,4 @@
-use Rattle.command_words.proofs.Common.{ap, refl, ◌∙◌, IfOk-weaker, with_subcommand}
+use Rattle.command_words.proofs.Common.{Ok, refl}
 use Rattle.command_words.specs.Program.{check_command, compare_command, program, run_command}
 use Rattle.command_words.proofs.Additions.{subcommand_added}
 use Rattle.command_words.proofs.commands.commands.Goals as goal
@@ -6,12 +6,6 @@ use Rattle.command_words.proofs.commands.commands.Goals as goal
 pub returns : goal.returns
 unfolding program
 returns c =
-    let one = subcommand_added c.in_ok-program.field-0 c.check.result c.in_ok-subcommand.field-0 check_command
-    c.in_ok-subcommand.ensures c.check.ensures refl
-    ∙ ap (λ a. with_subcommand a check_command) c.in_ok-program.ensures in
-    let two = subcommand_added c.in_ok-subcommand.field-0 c.in_ok-run.field-0 c.in_ok-subcommand-2.field-0 run_command
-    c.in_ok-subcommand-2.ensures c.in_ok-run.ensures refl
-    ∙ ap (λ a. with_subcommand a run_command) one in
-    IfOk-weaker c.subcommand-3.result _ _ (λ command added.
-    subcommand_added c.in_ok-subcommand-2.field-0 c.in_ok-compare.field-0 command compare_command added c.in_ok-compare.ensures refl
-    ∙ ap (λ a. with_subcommand a compare_command) two) c.subcommand-3.ensures
+    let one = subcommand_added c.program.result (Ok c.check.result) c.with.result _ check_command c.with.ensures c.program.ensures c.check.ensures refl in
+    let two = subcommand_added c.with.result c.run.result c.with-2.result _ run_command c.with-2.ensures one c.run.ensures refl in
+    subcommand_added c.with-2.result c.compare.result c.with-3.result _ compare_command c.with-3.ensures two c.compare.ensures refl

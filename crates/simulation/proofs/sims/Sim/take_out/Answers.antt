@@ -1,4 +1,5 @@
 use Rattle.simulation.proofs.Common.{◌≡◌, inl, refl, sym, ◌∙◌, subst, arith, ap, is_none, IsLawfulScenario}
+use Rattle.std.proofs.lemmas.Bool.{true≢false}
 use Rattle.simulation.specs.calls.Simulation.{SimView, MayStep}
 use Rattle.simulation.specs.inner.Insides.{IsInside, simulation_of, tables_held}
 use Rattle.simulation.proofs.Stepping.{after_before}
@@ -49,3 +50,11 @@ returns-in_default g c =
         ap (λ o. simulation_of g.K.RoundHistories.kept c.self.inside.scenario o c.self.inside.rounds_done) (still g c) ∙ c.self.view_is,
       );
     }
+
+pub invariant_of-self-2 : goal.invariant_of-self-2
+invariant_of-self-2 g c = rw c.take.ensures.after (record {
+  simulation = record { within = c.self.invariant.simulation.within; standing = λ b. absurd (true≢false b); tables = λ b. absurd (true≢false b) };
+  ended = tt;
+  drawn = tt;
+  may_write = c.self.invariant.may_write;
+})

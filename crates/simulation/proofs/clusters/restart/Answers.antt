@@ -61,3 +61,9 @@ returns-then-not-start-clause-table g c =
     let s = c.args.start.now.scenario.now in
     let none = none_restarts s c.args.node c.args.start.now.round (sym c.requires.plan.restarts ∙ c.if-not-start.true) in
     sym (stays_same s c.args.node c.args.start.now.round (g.T.MemoryTable.table c.args.table.now) none)
+
+pub returns-then-forgets_now-clause-table : goal.returns-then-forgets_now-clause-table
+returns-then-forgets_now-clause-table g c = rw (sym c.if-forgets_now.ensures) c.forget.ensures.table
+
+pub returns-else-forgets_now-clause-table : goal.returns-else-forgets_now-clause-table
+returns-else-forgets_now-clause-table g c = rw (sym c.if-forgets_now.ensures, sym c.if-restarts_now.ensures) c.restart.ensures

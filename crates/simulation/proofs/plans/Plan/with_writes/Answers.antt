@@ -19,6 +19,11 @@ counted c =
       | else-forgets_now w ↦ w.count-is ∙ ap (λ b. if b then 0 else get_or counts n 0) w.if-forgets_now.ensures ∙ before
     ]
 
+pub writes_by-requires-clause-fits : goal.writes_by-requires-clause-fits
+writes_by-requires-clause-fits c =
+    let few = c.requires.counts.few c.loop-node.node (omega (arith, c.loop-node-test.true, c.nodes-node-end.ensures.value)) in
+    elim c.if-forgets_now.branch [ then-forgets_now w ↦ omega (arith, w.count-is) | else-forgets_now w ↦ omega (arith, w.count-is, few, c.requires.last) ]
+
 pub loop-node-preserved : goal.loop-node-preserved
 loop-node-preserved c =
     subst (AreWritesUpto c.args.scenario.now c.args.round (c.loop-node.node + 1)) (sym c.in_ok-push.ensures.items)

@@ -20,11 +20,11 @@ words_next seed node round stream words is next = record {
 }
 
 -- what is lent whole comes back whole
-pub back : {X : Type 0} (n : ℕ) (xs ys : List X) → length ys ≡ length xs → length ys ≤ n → take n (ys ++ drop (length ys) xs) ≡ ys
-back n xs ys same le =
+pub back : {X : Type 0} (n : ℕ) (xs ys : List X) → length ys ≡ length xs → n ≡ length xs → take n (ys ++ drop (length ys) xs) ≡ ys
+back n xs ys same len =
     ap (λ rest. take n (ys ++ rest)) (drop_all (length ys) xs (omega (arith, same)))
     ∙ ap (take n) (append-nil ys)
-    ∙ take_all n ys le
+    ∙ take_all n ys (omega (arith, same, len))
 
 -- the parts below a place have drawn
 pub record HaveDrawnUpto (old new : List NodeWords) (i : ℕ) : Type 0 where

@@ -122,10 +122,10 @@ module _ {T K : Type 0} {table : T → Table} {kept : K → HistoriesView} {May 
       step_played table kept May old new end c d round (subst (λ o. HasTakenOut table kept May old o c) (sym same) taken) (next_played played)
 
 -- or the round failed
-pub step_failed : {T K R : Type 0} (table : T → Table) (kept : K → HistoriesView) (May : ℕ → ℕ → Entry → Type 0) (old out new : SimView T)
-    (c : Cluster T K) (workers : ℕ) (r : Result R Fault) (fault : Fault) → IsErrAnd r (λ handed. handed ≡ fault) → IsFaultOfWorkers workers fault
+pub step_failed : {T K R : Type 0} {table : T → Table} {kept : K → HistoriesView} {May : ℕ → ℕ → Entry → Type 0} {old out new : SimView T}
+    {c : Cluster T K} (workers : ℕ) (r : Result R Fault) (fault : Fault) → IsErrAnd r (λ handed. handed ≡ fault) → IsFaultOfWorkers workers fault
     → HasTakenOut table kept May old out c → new ≡ out → IfErr r (IsStepFault workers old new)
-step_failed table kept May old out new c workers (Ok x) fault is of_workers taken same = tt
-step_failed table kept May old out new c workers (Err handed) fault is of_workers taken same =
+step_failed workers (Ok x) fault is of_workers taken same = tt
+step_failed {old = old} {out = out} {new = new} workers (Err handed) fault is of_workers taken same =
     subst (λ f. IsStepFault workers old new f) (sym is) (subst (λ v. IsStepFault workers old v fault) (sym same)
     (inl (of_workers, taken.may, taken.broken, taken.settings, taken.rounds_done)))

@@ -41,12 +41,8 @@ end_writes-requires-clause-written g c =
 pub returns-clause-begun : goal.returns-clause-begun
 returns-clause-begun g c =
     let s = c.args.start.now.scenario.now in
-    let begun = begun_all _ _ _ _ _ c.loop-node.node c.loop-node.invariant.0 (omega (
-      arith,
-      c.loop-node-test.false,
-      c.loop-node.auto.node-end,
-      c.nodes-node-end.ensures.value,
-    )) in
+    let begun = begun_all _ _ _ _ _ c.loop-node.node c.loop-node.invariant.0
+    (omega (arith, c.loop-node-test.false, c.loop-node.auto.node-end, c.nodes-node-end.ensures.value)) in
     let kept = sym c.in_ok-end_writes.ensures.kept in
     record {
       standing = subst (λ (h : HistoriesView). StandAfterRound s c.args.start.now.round (map g.T.MemoryTable.table c.loop-node.tables.items)

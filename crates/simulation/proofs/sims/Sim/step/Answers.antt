@@ -17,8 +17,7 @@ put_back-requires-clause-after g c _ _ =
 
 pub returns-in_err-cluster-2-clause-fails : goal.returns-in_err-cluster-2-clause-fails
 returns-in_err-cluster-2-clause-fails g c =
-    step_failed g.T.MemoryTable.table g.K.RoundHistories.kept g.K.RoundHistories.may_write c.args.self.now c.take_out.new.self c.resources-resources.new.self
-    c.in_ok-cluster.cluster c.args.workers _ c.in_err-cluster-2.field-0.0 c.from_residual-in_err-cluster-2.ensures.1
+    step_failed c.args.workers _ c.in_err-cluster-2.field-0.0 c.from_residual-in_err-cluster-2.ensures.1
     (subst (λ n. IsFaultOfWorkers n c.in_err-cluster-2.field-0.0) c.resources-resources.ensures.workers c.in_err-cluster-2.ensures.fault)
     c.in_ok-cluster.ensures.taken c.resources-resources.ensures.same
 

@@ -17,8 +17,7 @@ put_back-requires-clause-after g c _ _ =
 
 pub returns-in_err-cluster-2-clause-fails : goal.returns-in_err-cluster-2-clause-fails
 returns-in_err-cluster-2-clause-fails g c =
-    step_failed g.T.MemoryTable.table g.K.RoundHistories.kept g.K.RoundHistories.may_write c.args.self.now c.take_out.new.self c.resources-resources.new.self
-    c.in_ok-cluster.cluster c.args.posts.now _ c.in_err-cluster-2.field-0.0 c.from_residual-in_err-cluster-2.ensures.1 (inl c.in_err-cluster-2.ensures.only)
+    step_failed c.args.posts.now _ c.in_err-cluster-2.field-0.0 c.from_residual-in_err-cluster-2.ensures.1 (inl c.in_err-cluster-2.ensures.only)
     c.in_ok-cluster.ensures.taken c.resources-resources.ensures.same
 
 pub returns-clause-played : goal.returns-clause-played

@@ -3,9 +3,6 @@ use Rattle.simulation.proofs.Ahead.{AreWritesUpto, writes_more, counted_before, 
 use Rattle.simulation.proofs.plans.Plan.with_writes.Goals as goal
 use Rattle.simulation.proofs.plans.Plan.with_writes.Goals.{then-forgets_now, else-forgets_now}
 
-pub loop-node-init : goal.loop-node-init
-loop-node-init c = record { count = ap length c.in_ok-writes.ensures.items; each = λ n lt. absurd (omega (arith, lt)) }
-
 -- how many there were before
 counted : (c : goal.In_ok-push) → c.if-forgets_now.count ≡ length (writes_before c.args.scenario.now c.loop-node.node c.args.round)
 counted c =

@@ -1,6 +1,7 @@
 -- The streams of all nodes, as they go on from round to round.
 -- Serves `RunWords::next_round`, `RunWords::of_round`, `draw_next` and `words_of`.
-use Rattle.round_plan.proofs.Common.{◌≡◌, ℕ, ◌+◌, ◌<◌, ◌≤◌, ◌++◌, List, length, take, drop, get_or, append-nil, ap, ◌∙◌, arith, drop_all, take_all, MOST_ROUNDS, ChaCha, word_at, key_of}
+use Rattle.round_plan.proofs.Common.{◌≡◌, ℕ, ◌+◌, ◌<◌, ◌≤◌, ◌++◌, ◌∷◌, [], List, cases_lt, inl, inr, length, length-append, sym, take, drop, get_or, append-nil, ap, ◌∙◌, arith, drop_all, take_all, MOST_ROUNDS, ChaCha, word_at, key_of}
+use Rattle.std.proofs.lemmas.List.{get_or_append_left, get_or_push}
 use Rattle.round_plan.specs.declared.run_words.NodeWords.{NodeWords}
 use Rattle.round_plan.specs.declared.words.TheConstants.{ROUND_WORDS}
 use Rattle.round_plan.specs.Words.{position, seed_bytes, word_by}
@@ -20,11 +21,21 @@ words_next seed node round stream words is next = record {
 }
 
 -- what is lent whole comes back whole
-pub back : {X : Type 0} (n : ℕ) (xs ys : List X) → length ys ≡ length xs → length ys ≤ n → take n (ys ++ drop (length ys) xs) ≡ ys
-back n xs ys same le =
+pub back : {X : Type 0} (n : ℕ) (xs ys : List X) → length ys ≡ length xs → n ≡ length xs → take n (ys ++ drop (length ys) xs) ≡ ys
+back n xs ys same len =
     ap (λ rest. take n (ys ++ rest)) (drop_all (length ys) xs (omega (arith, same)))
     ∙ ap (take n) (append-nil ys)
-    ∙ take_all n ys le
+    ∙ take_all n ys (omega (arith, same, len))
+
+-- one more part stands there too
+pub stand_more : (seed round node : ℕ) (parts : List NodeWords) (p : NodeWords) → length parts ≡ node → StandBefore seed round parts
+    → p.stream ≡ stream_of seed node round 0 → StandBefore seed round (parts ++ p ∷ [])
+stand_more seed round node parts p count before is n d lt = elim (cases_lt n (length parts)) [
+  | inl less ↦ ap (λ (q : NodeWords). q.stream) (get_or_append_left parts (p ∷ []) d n less) ∙ before n d less
+  | inr last ↦
+      let at : length parts ≡ n = omega (arith, last, lt, length-append parts (p ∷ [])) in
+      ap (λ (q : NodeWords). q.stream) (get_or_push parts p d n at) ∙ is ∙ ap (λ m. stream_of seed m round 0) (sym count ∙ at)
+]
 
 -- the parts below a place have drawn
 pub record HaveDrawnUpto (old new : List NodeWords) (i : ℕ) : Type 0 where

@@ -1,7 +1,9 @@
 -- The empty tables of a stretch of nodes.
--- Serves `+rest` and `empty_tables`.
-use Rattle.simulation.proofs.Common.{◌≡◌, ℕ, suc, zero, ◌+◌, ◌-◌, ◌≤◌, List, [], ◌∷◌, ◌++◌, length, map, ap, ◌∙◌, sym, arith, range_with_len, map-append, map-range_with_len_more, Table, empty_table, HistoriesView}
+-- Serves `+rest`, `empty_tables`, `Cluster::new` and `Cluster::new_by`.
+use Rattle.simulation.proofs.Common.{◌≡◌, ℕ, suc, zero, ◌+◌, ◌-◌, ◌≤◌, List, [], ◌∷◌, ◌++◌, length, map, ap, ◌∙◌, sym, arith, range_with_len, map-append, map-range_with_len_more, Table, empty_table, HistoriesView, Settings}
+use Rattle.simulation.specs.Rounds.{opening_tables}
 use Rattle.simulation.specs.inner.InMemory.{empty_tables_in}
+use Rattle.round_histories.specs.Histories.{AreNewHistories}
 
 joined_ranges : (a n m : ℕ) → range_with_len a n ++ range_with_len (a + n) m ≡ range_with_len a (n + m)
 joined_ranges a zero m =
@@ -38,3 +40,10 @@ module _ (h : HistoriesView) where
       → map table low ≡ empty_tables_in h from mid → map table high ≡ empty_tables_in h mid to → map table all ≡ empty_tables_in h from to
   made_by_both table from mid to low high all le le2 all_is low_is high_is =
       ap (map table) all_is ∙ map-append table low high ∙ (λ i. low_is i ++ high_is i) ∙ joined from mid to le le2
+
+  -- those of all nodes
+  pub opening_of : {ts : List Table} (s : Settings) (from to : ℕ) → AreNewHistories s.nodes s.keys h → from ≡ 0 → to ≡ s.nodes
+      → ts ≡ empty_tables_in h from to → ts ≡ opening_tables s
+  opening_of s from to new first last made =
+      let count : to - from ≡ s.nodes = omega (arith, first, last) in
+      made ∙ (λ i. map (λ n. empty_table n (new.count i) (new.keys_are i)) (range_with_len (first i) (count i)))

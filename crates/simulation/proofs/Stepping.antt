@@ -9,7 +9,7 @@ use Rattle.simulation.specs.calls.Standing.{StandAfterRound}
 use Rattle.simulation.specs.declared.clusters.Cluster.{Cluster}
 use Rattle.simulation.specs.calls.RoundView.{RoundView}
 use Rattle.simulation.specs.Soundness.{AreSound, OnlyRestartsLowerMarks}
-use Rattle.simulation.specs.inner.Playing.{HasTakenOut, IsPlayed}
+use Rattle.simulation.specs.inner.Playing.{HasTakenOut, IsBefore, IsPlayed}
 use Rattle.simulation.specs.inner.Insides.{IsInside, IsAfterRound, simulation_of, tables_held, lists_held}
 use Rattle.simulation.specs.inner.Plans.{IsDrawnAfter}
 use Rattle.simulation.specs.inner.Steps.{HaveEnded}
@@ -72,7 +72,7 @@ after_before table kept May s cluster old done so_far is = subst (λ r. IsAfterR
     unbroken = ap is_none is
 
 -- a cluster that was taken out has played the next round, and was put back
-pub step_played : {T K : Type 0} (table : T → Table) (kept : K → HistoriesView) (May : ℕ → ℕ → Entry → Type 0) (old out new : SimView T)
+step_played : {T K : Type 0} (table : T → Table) (kept : K → HistoriesView) (May : ℕ → ℕ → Entry → Type 0) (old out new : SimView T)
     (c d : Cluster T K) (round : RoundView) → HasTakenOut table kept May old out c
     → IsPlayed table kept out.settings (out.rounds_done + 1) d round
     → new ≡ simulation_of kept out.settings (Some d) (out.rounds_done + 1) → PlaysNext table old new round
@@ -103,11 +103,29 @@ step_played table kept May old out new c d round taken played is = subst (λ v. 
     before : map table old.tables ≡ tables_after s done
     before = ap (map table) taken.tables ∙ taken.before.before.tables ∙ ap (tables_after s) (omega arith)
 
+-- what is taken out may play the next round, and where it does it is put back
+module _ {T K : Type 0} {table : T → Table} {kept : K → HistoriesView} {May : ℕ → ℕ → Entry → Type 0} {old out new inside : SimView T}
+    {c : Cluster T K} (taken : HasTakenOut table kept May old out c) (same : new ≡ out) (is : inside ≡ new) where
+  pub may_play_next : IsBefore table kept May inside.settings (inside.rounds_done + 1) c
+  may_play_next = subst (λ (v : SimView T). IsBefore table kept May v.settings (v.rounds_done + 1) c) (sym (is ∙ same)) taken.before
+
+  pub round_left : new.rounds_done < new.settings.rounds
+  round_left = subst (λ (v : SimView T). v.rounds_done < v.settings.rounds) (sym same) (omega (arith, taken.before.of_run.within))
+
+  pub next_played : {d : Cluster T K} {round : RoundView} → IsPlayed table kept inside.settings (inside.rounds_done + 1) d round
+      → IsPlayed table kept new.settings (new.rounds_done + 1) d round
+  next_played {d} {round} = subst (λ (v : SimView T). IsPlayed table kept v.settings (v.rounds_done + 1) d round) is
+
+  pub step_done : {d : Cluster T K} {round : RoundView} {end : SimView T} → IsPlayed table kept inside.settings (inside.rounds_done + 1) d round
+      → end ≡ simulation_of kept new.settings (Some d) (new.rounds_done + 1) → PlaysNext table old end round
+  step_done {d} {round} {end} played =
+      step_played table kept May old new end c d round (subst (λ o. HasTakenOut table kept May old o c) (sym same) taken) (next_played played)
+
 -- or the round failed
-pub step_failed : {T K R : Type 0} (table : T → Table) (kept : K → HistoriesView) (May : ℕ → ℕ → Entry → Type 0) (old out new : SimView T)
-    (c : Cluster T K) (workers : ℕ) (r : Result R Fault) (fault : Fault) → IsErrAnd r (λ handed. handed ≡ fault) → IsFaultOfWorkers workers fault
+pub step_failed : {T K R : Type 0} {table : T → Table} {kept : K → HistoriesView} {May : ℕ → ℕ → Entry → Type 0} {old out new : SimView T}
+    {c : Cluster T K} (workers : ℕ) (r : Result R Fault) (fault : Fault) → IsErrAnd r (λ handed. handed ≡ fault) → IsFaultOfWorkers workers fault
     → HasTakenOut table kept May old out c → new ≡ out → IfErr r (IsStepFault workers old new)
-step_failed table kept May old out new c workers (Ok x) fault is of_workers taken same = tt
-step_failed table kept May old out new c workers (Err handed) fault is of_workers taken same =
+step_failed workers (Ok x) fault is of_workers taken same = tt
+step_failed {old = old} {out = out} {new = new} workers (Err handed) fault is of_workers taken same =
     subst (λ f. IsStepFault workers old new f) (sym is) (subst (λ v. IsStepFault workers old v fault) (sym same)
     (inl (of_workers, taken.may, taken.broken, taken.settings, taken.rounds_done)))

@@ -1,4 +1,4 @@
-use Rattle.simulation.proofs.Common.{length-map, map, sym, ap, ◌∙◌, subst, arith, AreWrittenBy, HistoriesView}
+use Rattle.simulation.proofs.Common.{map, sym, ap, ◌∙◌, subst, arith, AreWrittenBy, HistoriesView}
 use Rattle.simulation.proofs.Begun.{begun_none, before_next, begun_next, begun_all}
 use Rattle.simulation.proofs.Standing.{next_round, still_ended, written_by}
 use Rattle.simulation.specs.calls.Standing.{StandAfterRound}
@@ -7,11 +7,6 @@ use Rattle.simulation.proofs.clusters.begin.Goals as goal
 
 pub loop-node-init : goal.loop-node-init
 loop-node-init g c = (begun_none c.requires.standing, c.requires.ended)
-
-pub index_mut-requires : goal.index_mut-requires
-index_mut-requires g c =
-    let v = c.loop-node.tables in
-    omega (arith, c.loop-node-test.true, c.nodes-node-end.ensures.value, c.loop-node.invariant.0.table_count, length-map v.items g.T.MemoryTable.table, v.ok.0)
 
 pub begin_node-requires-clause-before : goal.begin_node-requires-clause-before
 begin_node-requires-clause-before g c _ _ = record {
@@ -46,12 +41,8 @@ end_writes-requires-clause-written g c =
 pub returns-clause-begun : goal.returns-clause-begun
 returns-clause-begun g c =
     let s = c.args.start.now.scenario.now in
-    let begun = begun_all _ _ _ _ _ c.loop-node.node c.loop-node.invariant.0 (omega (
-      arith,
-      c.loop-node-test.false,
-      c.loop-node.auto.node-end,
-      c.nodes-node-end.ensures.value,
-    )) in
+    let begun = begun_all _ _ _ _ _ c.loop-node.node c.loop-node.invariant.0
+    (omega (arith, c.loop-node-test.false, c.loop-node.auto.node-end, c.nodes-node-end.ensures.value)) in
     let kept = sym c.in_ok-end_writes.ensures.kept in
     record {
       standing = subst (λ (h : HistoriesView). StandAfterRound s c.args.start.now.round (map g.T.MemoryTable.table c.loop-node.tables.items)

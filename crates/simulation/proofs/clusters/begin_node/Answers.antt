@@ -33,7 +33,7 @@ returns-in-Some g c =
     let end = c.write_round.ensures in
     record {
       owner = end.owner;
-      table = on_ok_weaker c.write_round.result (λ is. is ∙ ap (λ (t : Table). with_writes c.args.start.now.scenario.now c.args.start.now.round c.args.node t)
+      table = on_ok_weaker c.write_round.result (λ is. is ∙ ap (with_writes c.args.start.now.scenario.now c.args.start.now.round c.args.node)
           c.restart.ensures.table) end.table;
       others = on_ok_weaker c.write_round.result (leaves_both c.restart.ensures.others) end.others;
       only = end.only;
@@ -56,8 +56,7 @@ returns-in-None g c =
     let end = c.write_round-in-None.ensures in
     record {
       owner = end.owner;
-      table = on_ok_weaker c.write_round-in-None.result (λ is. is ∙ ap (λ (t : Table). with_writes c.args.start.now.scenario.now c.args.start.now.round
-          c.args.node t)
+      table = on_ok_weaker c.write_round-in-None.result (λ is. is ∙ ap (with_writes c.args.start.now.scenario.now c.args.start.now.round c.args.node)
           c.restart.ensures.table) end.table;
       others = on_ok_weaker c.write_round-in-None.result (leaves_both c.restart.ensures.others) end.others;
       only = end.only;

@@ -2,12 +2,6 @@ use Rattle.simulation.proofs.Common.{List, ℕ, ◌≡◌, ◌++◌, ◌∙◌, 
 use Rattle.simulation.specs.inner.Plans.{counted_in}
 use Rattle.simulation.proofs.clusters.counts_of.Goals as goal
 
-pub loop-owner-init : goal.loop-owner-init
-loop-owner-init g c = c.in_ok-counts.ensures.items
-
-pub count-requires : goal.count-requires
-count-requires g c = omega (arith, c.loop-owner-test.true, c.requires)
-
 pub loop-owner-preserved : goal.loop-owner-preserved
 loop-owner-preserved g c =
     let lists = (g.K.RoundHistories.kept c.args.histories.now).lists in

@@ -1,5 +1,4 @@
-use Rattle.simulation.proofs.Common.{◌≡◌, ◌-◌, ap, sym, ◌∙◌, subst, arith, without_all, begun_generation, list_of_owner, generation_upto_le}
-use Rattle.simulation.specs.inner.Steps.{HasRestarted}
+use Rattle.simulation.proofs.Common.{◌≡◌, ◌-◌, ap, sym, ◌∙◌, subst, arith, begun_generation, list_of_owner, generation_upto_le}
 use Rattle.simulation.proofs.Standing.{none_restarts, restarted_forgot, restarted_kept, restarted_same, stays_same, stays_without}
 use Rattle.simulation.proofs.clusters.restart.Goals as goal
 
@@ -22,30 +21,26 @@ returns-then-forgets_now-clause-owner g c =
     let new = (g.K.RoundHistories.kept c.forget.new.self).lists in
     let list : list_of_owner new c.args.node ≡ begun_generation (list_of_owner old c.args.node) =
     subst (λ m. list_of_owner new m ≡ begun_generation (list_of_owner old m)) c.requires.before.node.owner.table.node c.forget.ensures.kept.lists.changed in
-    subst (λ t. HasRestarted s c.args.start.now.round c.args.node t (list_of_owner new c.args.node)) (sym c.forget.ensures.table)
-    (subst (HasRestarted s c.args.start.now.round c.args.node (without_all (g.T.MemoryTable.table c.args.table.now))) (sym list)
-    (restarted_forgot s c.args.start.now.round c.args.node c.requires.before.first (g.T.MemoryTable.table c.args.table.now) (list_of_owner old c.args.node)
-    c.requires.before.node.owner (sym c.forgets_now.ensures ∙ c.if-forgets_now.true)))
+    rw (c.forget.ensures.table, list) (restarted_forgot s c.args.start.now.round c.args.node c.requires.before.first (g.T.MemoryTable.table c.args.table.now)
+    (list_of_owner old c.args.node) c.requires.before.node.owner (sym c.if-forgets_now.ensures))
 
 pub returns-else-forgets_now-clause-owner : goal.returns-else-forgets_now-clause-owner
 returns-else-forgets_now-clause-owner g c =
     let s = c.args.start.now.scenario.now in
     let list = list_of_owner (g.K.RoundHistories.kept c.args.histories.now).lists c.args.node in
-    subst (λ t. HasRestarted s c.args.start.now.round c.args.node t list) (sym c.restart.ensures)
-    (restarted_kept s c.args.start.now.round c.args.node c.requires.before.first (g.T.MemoryTable.table c.args.table.now) list c.requires.before.node.owner
-    (sym c.forgets_now.ensures ∙ c.if-forgets_now.false))
+    rw c.restart.ensures (restarted_kept s c.args.start.now.round c.args.node c.requires.before.first (g.T.MemoryTable.table c.args.table.now) list
+    c.requires.before.node.owner (sym c.if-forgets_now.ensures))
 
 -- where no restart is due, none forgets
 pub returns-else-restarts_now-clause-owner : goal.returns-else-restarts_now-clause-owner
 returns-else-restarts_now-clause-owner g c =
     restarted_same c.args.start.now.scenario.now c.args.start.now.round c.args.node c.requires.before.first (g.T.MemoryTable.table c.args.table.now)
     (list_of_owner (g.K.RoundHistories.kept c.args.histories.now).lists c.args.node) c.requires.before.node.owner
-    (stays_without c.args.start.now.scenario.now c.args.node c.args.start.now.round (sym c.restarts_now.ensures ∙ c.if-restarts_now.false))
+    (stays_without c.args.start.now.scenario.now c.args.node c.args.start.now.round (sym c.if-restarts_now.ensures))
 
 pub returns-else-restarts_now-clause-table : goal.returns-else-restarts_now-clause-table
 returns-else-restarts_now-clause-table g c =
-    sym (stays_same c.args.start.now.scenario.now c.args.node c.args.start.now.round (g.T.MemoryTable.table c.args.table.now)
-    (sym c.restarts_now.ensures ∙ c.if-restarts_now.false))
+    sym (stays_same c.args.start.now.scenario.now c.args.node c.args.start.now.round (g.T.MemoryTable.table c.args.table.now) (sym c.if-restarts_now.ensures))
 
 -- where no node restarts, this one doesn't
 pub returns-then-not-start-clause-owner : goal.returns-then-not-start-clause-owner
@@ -61,3 +56,9 @@ returns-then-not-start-clause-table g c =
     let s = c.args.start.now.scenario.now in
     let none = none_restarts s c.args.node c.args.start.now.round (sym c.requires.plan.restarts ∙ c.if-not-start.true) in
     sym (stays_same s c.args.node c.args.start.now.round (g.T.MemoryTable.table c.args.table.now) none)
+
+pub returns-then-forgets_now-clause-table : goal.returns-then-forgets_now-clause-table
+returns-then-forgets_now-clause-table g c = rw (sym c.if-forgets_now.ensures) c.forget.ensures.table
+
+pub returns-else-forgets_now-clause-table : goal.returns-else-forgets_now-clause-table
+returns-else-forgets_now-clause-table g c = rw (sym c.if-forgets_now.ensures, sym c.if-restarts_now.ensures) c.restart.ensures

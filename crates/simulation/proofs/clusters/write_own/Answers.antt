@@ -1,3 +1,4 @@
+use Rattle.std.proofs.lemmas.List.{take_all}
 use Rattle.simulation.proofs.Writing.{may_write_at, writing_at}
 use Rattle.simulation.proofs.clusters.write_own.Goals as goal
 
@@ -15,3 +16,8 @@ loop-write-preserved g c =
     (g.K.RoundHistories.kept c.args.histories.now) (g.K.RoundHistories.kept c.loop-write.histories) c.args.writes.now c.loop-write.write-index
     c.loop-write-test.true c.loop-write.invariant c.requires.may
     (g.T.MemoryTable.table c.write.new.table) (g.K.RoundHistories.kept c.write.new.self) c.in_ok-write.ensures.table c.in_ok-write.ensures.kept
+
+pub returns-clause-written : goal.returns-clause-written
+returns-clause-written g c =
+    let is = rw (take_all c.loop-write.write-index c.args.writes.now c.loop-write-test.false) at c.loop-write.invariant.own in
+    record { table = is.table; list = is.list; proper = is.proper; greatest = is.greatest; own_part = is.own_part; born = is.born }

@@ -1,4 +1,4 @@
-use Rattle.simulation.proofs.Common.{◌≡◌, ◌+◌, map, arith, IfOk-at_ok, Vec, Global}
+use Rattle.simulation.proofs.Common.{◌≡◌, ℕ, ◌+◌, ◌-◌, ◌*◌, ◌<◌, ◌≤◌, map, arith, rules, IfOk-at_ok, Vec, Global}
 use Rattle.simulation.specs.inner.InMemory.{empty_tables_in}
 use Rattle.simulation.proofs.Opening.{made_by_both}
 use Rattle.simulation.proofs.openings.+rest.Goals as goal
@@ -19,3 +19,18 @@ returns g t c =
           (omega (arith, c.if-end-start.false)) c.in_ok-append.ensures.items low high,
       tt,
     )
+
+-- a share is taken off
+middle : (start end size n t : ℕ) → 1 ≤ size → start ≤ end → end ≤ n → size < end - start → 2 * (end - start) ≡ t
+    → (start ≤ start + size) × (start + size ≤ n) × (start + size ≤ end) × (2 * (end - (start + size)) + 1 < t)
+middle start end size n t some is within more whole = (omega arith, omega arith, omega arith, omega arith)
+
+pub join-first-requires-after_bounds : goal.join-first-requires-after_bounds
+join-first-requires-after_bounds g t c _ _ =
+    let m = middle c.args.shares.nodes.start c.args.shares.nodes.end _ _ t c.args.shares.some c.requires.0 c.requires.1 c.if-end-start.false c.decreases in
+    (((m.0, m.1), search rules), (m.3, ((λ a m. m), ((λ a m. m), ((λ a m. m), ((λ a m. m), (((m.2, c.requires.1), c.args.shares.some), search rules)))))))
+
+pub fn::empty_tables_by::others+FnOnce::call_once-others-requires : goal.fn::empty_tables_by::others+FnOnce::call_once-others-requires
+fn::empty_tables_by::others+FnOnce::call_once-others-requires g t c _ b =
+    let r = c.requires.1.1.1.1 in
+    (omega (arith, c.decreases), (b.0, (b.1.0, (b.1.1.0, (b.1.1.1, (r.1.0, (r.1.1, (r.1.2, (r.1.3, r.0)))))))))

@@ -3,9 +3,6 @@ use Rattle.simulation.proofs.Ahead.{AreWritesUpto, writes_more, counted_before, 
 use Rattle.simulation.proofs.plans.Plan.with_writes.Goals as goal
 use Rattle.simulation.proofs.plans.Plan.with_writes.Goals.{then-forgets_now, else-forgets_now}
 
-pub loop-node-init : goal.loop-node-init
-loop-node-init c = record { count = ap length c.in_ok-writes.ensures.items; each = λ n lt. absurd (omega (arith, lt)) }
-
 -- how many there were before
 counted : (c : goal.In_ok-push) → c.if-forgets_now.count ≡ length (writes_before c.args.scenario.now c.loop-node.node c.args.round)
 counted c =
@@ -18,6 +15,11 @@ counted c =
       | then-forgets_now w ↦ w.count-is ∙ ap (λ b. if b then 0 else get_or counts n 0) w.if-forgets_now.ensures ∙ before
       | else-forgets_now w ↦ w.count-is ∙ ap (λ b. if b then 0 else get_or counts n 0) w.if-forgets_now.ensures ∙ before
     ]
+
+pub writes_by-requires-clause-fits : goal.writes_by-requires-clause-fits
+writes_by-requires-clause-fits c =
+    let few = c.requires.counts.few c.loop-node.node (omega (arith, c.loop-node-test.true, c.nodes-node-end.ensures.value)) in
+    elim c.if-forgets_now.branch [ then-forgets_now w ↦ omega (arith, w.count-is) | else-forgets_now w ↦ omega (arith, w.count-is, few, c.requires.last) ]
 
 pub loop-node-preserved : goal.loop-node-preserved
 loop-node-preserved c =

@@ -1,6 +1,7 @@
 use Rattle.simulation.proofs.Common.{◌≡◌, inl, refl, sym, ◌∙◌, subst, arith, ap, is_none, IsLawfulScenario}
+use Rattle.std.proofs.lemmas.Bool.{true≢false}
 use Rattle.simulation.specs.calls.Simulation.{SimView, MayStep}
-use Rattle.simulation.specs.inner.Insides.{IsInside, simulation_of, tables_held}
+use Rattle.simulation.specs.inner.Insides.{simulation_of, tables_held}
 use Rattle.simulation.proofs.Stepping.{after_before}
 use Rattle.simulation.proofs.sims.Sim.take_out.Given as given
 use Rattle.simulation.proofs.sims.Sim.take_out.Goals as goal
@@ -18,8 +19,7 @@ returns-clause-taken g c =
           first = omega arith;
           last = omega (arith, may.1, lawful.rounds.1);
           within = omega (arith, may.1);
-          may_write =
-              c.self.invariant.may_write;
+          may_write = c.self.invariant.may_write;
         };
         before = after_before g.T.MemoryTable.table g.K.RoundHistories.kept g.K.RoundHistories.may_write c.self.inside.scenario c.self.inside.cluster _
             c.self.inside.rounds_done c.self.invariant is;
@@ -35,9 +35,7 @@ still : (g : given.Over) (c : goal.In_default g) → c.take.new.self ≡ c.self.
 still g c = c.take.ensures.after ∙ sym c.in_default.is ∙ c.take.ensures.value
 
 pub invariant_of-self : goal.invariant_of-self
-invariant_of-self g c =
-    subst (λ o. IsInside g.T.MemoryTable.table g.K.RoundHistories.kept g.K.RoundHistories.may_write c.self.inside.scenario o c.self.inside.rounds_done)
-    (sym (still g c)) c.self.invariant
+invariant_of-self g c = rw (still g c) c.self.invariant
 
 pub returns-in_default : goal.returns-in_default
 returns-in_default g c =
@@ -49,3 +47,11 @@ returns-in_default g c =
         ap (λ o. simulation_of g.K.RoundHistories.kept c.self.inside.scenario o c.self.inside.rounds_done) (still g c) ∙ c.self.view_is,
       );
     }
+
+pub invariant_of-self-2 : goal.invariant_of-self-2
+invariant_of-self-2 g c = rw c.take.ensures.after (record {
+  simulation = record { within = c.self.invariant.simulation.within; standing = λ b. absurd (true≢false b); tables = λ b. absurd (true≢false b) };
+  ended = tt;
+  drawn = tt;
+  may_write = c.self.invariant.may_write;
+})

@@ -1,6 +1,7 @@
 -- Each step of a thread that opens and shuts a tray keeps the rule. Serves the functions of `trays`.
 -- Serves `Trays::new` and `Trays::turn`.
 use Rattle.std.proofs.Common.{◌≡◌, ◌≢◌, ℕ, ◌<◌, List, [], ◌∷◌, ◌++◌, get_or, set, length, sym, refl, ap, ◌∙◌, subst, arith, Option, None, IfSome, replicate, map, zero, suc, length-set, get_or-set_same, get_or-set_other}
+use contract.BorrowLft.{◌⊑◌, ⊑_meet, ⊑_static}
 use mathlib.Core.Logic.{dite}
 use mathlib.Core.Option.{some, none}
 use native.Mathlib.Decide.{ℕ_discrete}
@@ -88,3 +89,12 @@ module _ {X V : Type 0} (kept : ℕ → X → Type 0) where
   was_kept i m found opened e =
       let same : opened.0 ≡ found = sym (ap (first_held None) opened.1) ∙ ap (first_held None) e in
       subst (λ x. IfSome x (kept i)) same opened.2
+
+-- What a call on the table asks of the lifetimes, which are those of the trays' values and of their label. An answer to the whole goal spares the
+-- check the forms that it makes of a part, and they are dear here.
+module _ (κ T : List ℕ) (w : κ ⊑ T) where
+  pub of_value : κ ⊑ (T ++ []) ++ ((T ++ []) ++ [])
+  of_value = search (⊑_meet, ⊑_static)
+
+  pub of_label : κ ⊑ (T ++ []) ++ (((T ++ []) ++ []) ++ [])
+  of_label = search (⊑_meet, ⊑_static)

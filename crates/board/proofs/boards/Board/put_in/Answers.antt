@@ -5,7 +5,7 @@ use Rattle.board.specs.SeatView.{SeatView, without_held}
 use Rattle.board.specs.declared.views.View.{View}
 use Rattle.board.specs.Seats.{view}
 use Rattle.board.proofs.Steps.{retake_allowed, finish_allowed}
-use Rattle.board.proofs.Calls.{with_rows, with_step, word_zero, word_within, second_out, both_out, retaken_of, finished_of}
+use Rattle.board.proofs.Calls.{with_rows, with_step, word_zero, word_within, first_out, second_out, both_out, retaken_of, finished_of}
 use Rattle.board.proofs.boards.Board.put_in.Given as given
 use Rattle.board.proofs.boards.Board.put_in.Goals as goal
 use Rattle.board.proofs.boards.Board.put_in.Goals.{After-load, After-exchange-2}
@@ -29,6 +29,17 @@ goes g c =
     let i = c.args.hold.index in
     retaken_of g.T.MemoryTable.table (plan_of g.T.MemoryTable.table c.args.self.now) c.args.raw.now.me.0.seat i c.load.result c.args.raw.now.me
     c.load.new.seat.me (step c.args.self.now.table.shared.table_id.slots (i + 1) 0 0 none) c.requires.rests refl c.load.ensures.2
+
+pub exchange-requires-whole : goal.exchange-requires-whole
+exchange-requires-whole g c κs w =
+    let plan = plan_of g.T.MemoryTable.table c.args.self.now in
+    let i = c.args.hold.index in
+    let found = c.exchange-exchange.ensures.value ∙ ap (λ l. exchange_at l.exchanges i) c.args.self.now.planned.1 in with_rows w (
+      c.load.ensures.0 ∙ c.requires.id,
+      first_out (view plan (without_held c.args.raw.now.me.0.seat i) (i ∷ []) []) (initiator_of plan i) (responder_of plan i) (initiator_of plan i)
+          c.exchange-exchange.result.responder None None None c.load.new.seat.me c.load.new.seat.me c.load.new.seat.me
+          (goes g (goal.at.exchange-requires g c).After-load) refl (ap (λ e. e.responder) found),
+    )
 
 -- the initiator's slot is the next to be filled
 pub exchange-requires-2-whole : goal.exchange-requires-2-whole

@@ -1,5 +1,6 @@
 -- What the calls of a board conclude from the steps that they make.
 -- Serves the functions of `boards`.
+use contract.BorrowLft.{◌⊑◌, ⊑_meet, ⊑_static}
 use Rattle.board.proofs.Common.{◌≡◌, ◌≢◌, ℕ, ◌+◌, ◌<◌, ◌≤◌, ◌/◌, ◌↔◌, Bool, ◌==◌, if◌then◌else◌, List, [], ◌∷◌, ◌++◌, length, map, drop, All, append-nil, Option, None, Some, inl, inr, refl, sym, ap, ◌∙◌, subst, arith, cases_eq, eq-eqb, ne_eqb, IfSome, step, rest, turned, Me, Step, none, Table, RoundListView, predecessors, as_list, successors}
 use Rattle.board.specs.Weights.{only, times, Has}
 use Rattle.board.specs.SeatView.{SeatView, IsWhole, with_held, with_told, without_held, with_made, freed_by, joined}
@@ -292,3 +293,24 @@ put_back_seat table board old new i seen is_stopped first second was holds same 
 
 pub joined_me : {S : Type 0} (plan : BoardPlan) (m k : Me S View) → m.0.plan ≡ plan → Rests m → ◌≡◌ {A = Me S View} (Rattle.board.specs.inner.Plays.both m.0 k.0, m.1) (resting plan (joined m.0.seat k.0.seat), [])
 joined_me plan m k planned rests = λ t. (record { plan = planned t; seat = joined m.0.seat k.0.seat; moving = rests.moving t; owes = rests.owes t }, rests.slots t)
+
+-- What a call on the table asks of the lifetimes, which are those of the tables in memory, before what it asks else. An answer to the whole of it
+-- spares the check the forms that it makes of a part, and they are dear here.
+abbrev Rows : (T κ1 κ2 κ3 κ4 : List ℕ) → Type 0 → Type 0
+Rows T κ1 κ2 κ3 κ4 A = (κ1 ⊑ (T ++ []) ++ ((T ++ []) ++ [])) × ((κ2 ⊑ []) × (
+    (κ3 ⊑ (T ++ []) ++ (((((T ++ []) ++ []) ++ []) ++ (((((T ++ []) ++ []) ++ []) ++ []) ++ [])) ++ []))
+    × ((κ4 ⊑ (T ++ []) ++ (((T ++ []) ++ []) ++ [])) × A)))
+
+plus : (κ T : List ℕ) → κ ⊑ T → κ ⊑ T ++ []
+plus κ T w = ⊑_meet κ T [] w (⊑_static κ)
+
+pub with_rows : {A : Type 0} {T κ1 κ2 κ3 κ4 : List ℕ} → (κ1 ⊑ T) × ((κ3 ⊑ T) × (κ4 ⊑ T)) → A → Rows T κ1 κ2 κ3 κ4 A
+with_rows {κ2 = κ2} {κ3 = κ3} w a =
+    let one = plus κ3 _ w.1.0 in
+    let three = plus κ3 _ (plus κ3 _ one) in
+    let third = ⊑_meet κ3 _ _ one (plus κ3 _ (⊑_meet κ3 _ _ three (plus κ3 _ (plus κ3 _ three)))) in
+    (search (⊑_meet, ⊑_static), (⊑_static κ2, (third, (search (⊑_meet, ⊑_static), a))))
+
+-- of a step
+pub with_step : {A : Type 0} {T κ1 κ2 κ3 κ4 κ5 : List ℕ} → (κ1 ⊑ T) × ((κ3 ⊑ T) × (κ4 ⊑ T)) → A → Rows T κ1 κ2 κ3 κ4 ((κ5 ⊑ []) × A)
+with_step {κ5 = κ5} w a = with_rows w (⊑_static κ5, a)

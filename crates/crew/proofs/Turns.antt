@@ -1,6 +1,7 @@
 -- Each step of a thread that opens and shuts a tray keeps the rule. Serves the functions of `trays`.
 -- Serves `Trays::new` and `Trays::turn`.
 use Rattle.std.proofs.Common.{◌≡◌, ◌≢◌, ℕ, ◌<◌, List, [], ◌∷◌, ◌++◌, get_or, set, length, sym, refl, ap, ◌∙◌, subst, arith, Option, None, IfSome, replicate, map, zero, suc, length-set, get_or-set_same, get_or-set_other}
+use contract.BorrowLft.{◌⊑◌, ⊑_meet, ⊑_static}
 use mathlib.Core.Logic.{dite}
 use mathlib.Core.Option.{some, none}
 use native.Mathlib.Decide.{ℕ_discrete}
@@ -88,3 +89,22 @@ module _ {X V : Type 0} (kept : ℕ → X → Type 0) where
   was_kept i m found opened e =
       let same : opened.0 ≡ found = sym (ap (first_held None) opened.1) ∙ ap (first_held None) e in
       subst (λ x. IfSome x (kept i)) same opened.2
+
+-- What a call on the table asks of the lifetimes, which are those of the trays' values and of their label, before what it asks else. An answer to
+-- the whole of it spares the check the forms that it makes of a part, and they are dear here.
+pub of_value : (κ X : List ℕ) → κ ⊑ X → κ ⊑ (X ++ []) ++ ((X ++ []) ++ [])
+of_value κ X w = search (⊑_meet, ⊑_static)
+
+pub of_label : (κ P : List ℕ) → κ ⊑ P → κ ⊑ (P ++ []) ++ (((P ++ []) ++ []) ++ [])
+of_label κ P w = search (⊑_meet, ⊑_static)
+
+abbrev Labels : (P κ1 κ2 κ3 : List ℕ) → Type 0 → Type 0
+Labels P κ1 κ2 κ3 A =
+    (κ1 ⊑ (P ++ []) ++ (((P ++ []) ++ []) ++ [])) × ((κ2 ⊑ (P ++ []) ++ (((P ++ []) ++ []) ++ [])) × ((κ3 ⊑ (P ++ []) ++ (((P ++ []) ++ []) ++ [])) × A))
+
+pub of_labels : {A : Type 0} {P κ1 κ2 κ3 : List ℕ} → (κ1 ⊑ P) × ((κ2 ⊑ P) × (κ3 ⊑ P)) → A → Labels P κ1 κ2 κ3 A
+of_labels w a = (of_label _ _ w.0, (of_label _ _ w.1.0, (of_label _ _ w.1.1, a)))
+
+pub of_rows : {A : Type 0} {X P κ κ1 κ2 κ3 : List ℕ} → (κ ⊑ X) × ((κ1 ⊑ P) × ((κ2 ⊑ P) × (κ3 ⊑ P))) → A
+    → (κ ⊑ (X ++ []) ++ ((X ++ []) ++ [])) × Labels P κ1 κ2 κ3 A
+of_rows w a = (of_value _ _ w.0, of_labels w.1 a)

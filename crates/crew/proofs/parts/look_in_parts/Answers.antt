@@ -11,19 +11,24 @@ returns g c =
       each = subst (λ d. HoldsAnswers g.S.Parted.tells d.whole d.bounds.items c.take_all-answers.result.items) looked c.take_all-answers.ensures.each;
     }
 
-pub looks_of-requires : goal.looks_of-requires
-looks_of-requires g c = record {
-  shared = c.in_ok-shared.ensures.shared;
-  within = rw c.in_ok-shared.ensures.divided (omega (arith, c.len-count.ensures, c.requires.some));
-}
+pub looks_of-requires-clause-shared : goal.looks_of-requires-clause-shared
+looks_of-requires-clause-shared g c = c.in_ok-shared.ensures.shared
 
-pub share-requires : goal.share-requires
-share-requires g c = record { some = c.requires.some; may = c.requires.may }
+pub looks_of-requires-clause-within : goal.looks_of-requires-clause-within
+looks_of-requires-clause-within g c = rw c.in_ok-shared.ensures.divided (omega (arith, c.len-count.ensures, c.requires.some))
 
-pub take_all-answers-requires : goal.take_all-answers-requires
-take_all-answers-requires g c = record {
-  shared = rw c.deref.ensures c.in_ok-shared.ensures.shared;
-  within = rw c.deref.ensures (rw c.in_ok-shared.ensures.divided (omega (arith, c.len-count.ensures, c.requires.some)));
-  empty = c.in_ok-answers.ensures.len;
-  room = c.in_ok-answers.ensures.capacity;
-}
+pub share-requires-clause-may : goal.share-requires-clause-may
+share-requires-clause-may g c = c.requires.may
+
+pub take_all-answers-requires-clause-shared : goal.take_all-answers-requires-clause-shared
+take_all-answers-requires-clause-shared g c = rw c.deref.ensures c.in_ok-shared.ensures.shared
+
+pub take_all-answers-requires-clause-within : goal.take_all-answers-requires-clause-within
+take_all-answers-requires-clause-within g c =
+    rw c.deref.ensures (rw c.in_ok-shared.ensures.divided (omega (arith, c.len-count.ensures, c.requires.some)))
+
+pub take_all-answers-requires-clause-empty : goal.take_all-answers-requires-clause-empty
+take_all-answers-requires-clause-empty g c = c.in_ok-answers.ensures.len
+
+pub take_all-answers-requires-clause-room : goal.take_all-answers-requires-clause-room
+take_all-answers-requires-clause-room g c = c.in_ok-answers.ensures.capacity

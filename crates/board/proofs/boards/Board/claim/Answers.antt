@@ -1,16 +1,16 @@
 use Rattle.board.proofs.Common.{rules, ◌∙◌, refl}
 use Rattle.board.specs.Boards.{plan_of}
 use Rattle.board.proofs.Steps.{claim_allowed}
-use Rattle.board.proofs.Calls.{at_rest, word_within, claim_won, claim_held, claim_taken, claim_refused}
+use Rattle.board.proofs.Calls.{with_step, at_rest, word_within, claim_won, claim_held, claim_taken, claim_refused}
 use Rattle.board.proofs.boards.Board.claim.Goals as goal
 
-pub compare_exchange-found-requires : goal.compare_exchange-found-requires
-compare_exchange-found-requires g c =
+pub compare_exchange-found-requires-whole : goal.compare_exchange-found-requires-whole
+compare_exchange-found-requires-whole g c κs w =
     let table = g.T.MemoryTable.table in
     let plan = plan_of table c.args.self.now in
     let me = c.args.seat.now.raw.me in
     let is = c.requires.seat in
-    (is.id, word_within c.args.self.now c.args.i c.requires.within, claim_allowed table plan _ _ me me.0.seat is.rests.parts (at_rest plan me is.plan is.rests) c.args.i c.requires.within)
+    with_step w (is.id, word_within c.args.self.now c.args.i c.requires.within, claim_allowed table plan _ _ me me.0.seat is.rests.parts (at_rest plan me is.plan is.rests) c.args.i c.requires.within)
 
 pub take_out-requires : goal.take_out-requires
 take_out-requires g c = record {

@@ -6,17 +6,17 @@ use Rattle.board.specs.Models.{seat_model}
 use Rattle.board.proofs.Sums.{total-append}
 use Rattle.board.proofs.Modelled.{rests_of}
 use Rattle.board.proofs.Steps.{join_allowed, show_allowed}
-use Rattle.board.proofs.Calls.{resting_seat, word_zero, joined_me, seat_again}
+use Rattle.board.proofs.Calls.{with_step, resting_seat, word_zero, joined_me, seat_again}
 use Rattle.board.proofs.boards.Board.join.Goals as goal
 
-pub join_seat-requires : goal.join_seat-requires
-join_seat-requires g c =
+pub join_seat-requires-whole : goal.join_seat-requires-whole
+join_seat-requires-whole g c κs w =
     let table = g.T.MemoryTable.table in
     let board = c.args.self.now in
     let one = c.args.seat.now in
     let other = c.args.other in
     let a = c.requires.seats.0 in
-    let b = c.requires.seats.1 in (
+    let b = c.requires.seats.1 in with_step w (
       a.id,
       b.id,
       b.rests.slots,
@@ -25,15 +25,15 @@ join_seat-requires g c =
           (resting_seat table board other b),
     )
 
-pub load-requires : goal.load-requires
-load-requires g c =
+pub load-requires-whole : goal.load-requires-whole
+load-requires-whole g c κs w =
     let table = g.T.MemoryTable.table in
     let plan = plan_of table c.args.self.now in
     let one = c.args.seat.now in
     let other = c.args.other in
     let a = c.requires.seats.0 in
     let me = c.join_seat.new.seat.me in
-    let is = c.join_seat.ensures.2 ∙ joined_me plan one.raw.me other.raw.me a.plan a.rests in (
+    let is = c.join_seat.ensures.2 ∙ joined_me plan one.raw.me other.raw.me a.plan a.rests in with_step w (
       c.join_seat.ensures.0 ∙ a.id,
       word_zero c.args.self.now,
       show_allowed table plan _ _ me (joined (seat_view one) (seat_view other)) (omega (arith, a.rests.parts)) is,

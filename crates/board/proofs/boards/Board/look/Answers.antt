@@ -4,11 +4,11 @@ use Rattle.board.specs.Plan.{BoardPlan}
 use Rattle.board.specs.Seats.{LookTells}
 use Rattle.board.specs.inner.Plays.{is_odd}
 use Rattle.board.proofs.Steps.{look_allowed}
-use Rattle.board.proofs.Calls.{seat_rests, word_zero, rests_again}
+use Rattle.board.proofs.Calls.{with_step, seat_rests, word_zero, rests_again}
 use Rattle.board.proofs.boards.Board.look.Goals as goal
 
-pub load-word-requires : goal.load-word-requires
-load-word-requires g c = (
+pub load-word-requires-whole : goal.load-word-requires-whole
+load-word-requires-whole g c κs w = with_step w (
   c.requires.seat.id,
   word_zero c.args.self.now,
   look_allowed g.T.MemoryTable.table (plan_of g.T.MemoryTable.table c.args.self.now) _ _ c.args.seat.now.raw.me c.args.seat.now.raw.me.0.seat c.requires.seat.rests.parts (seat_rests g.T.MemoryTable.table c.args.self.now c.args.seat.now c.requires.seat),

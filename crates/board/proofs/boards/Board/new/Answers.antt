@@ -1,3 +1,4 @@
+use contract.BorrowLft.{⊑_static}
 use Rattle.board.proofs.Common.{arith, ap, sym, ◌∙◌, ℕ, ◌<◌, length, ◌∷◌, map, subst, range_with_len, length-map, length-map-range_with_len, RoundListView, pending_of, in_place}
 use Rattle.board.specs.Rule.{Orderly}
 use Rattle.board.specs.Weights.{Has}
@@ -5,13 +6,14 @@ use Rattle.board.specs.Keys.{IsBoardKey, key_plan}
 use Rattle.board.specs.Models.{slot_model}
 use Rattle.board.specs.inner.Plays.{opened_view}
 use Rattle.board.specs.declared.plays.BoardKey.{BoardKey}
+use Rattle.board.proofs.Calls.{with_step}
 use Rattle.board.proofs.Ends.{starts}
 use Rattle.board.proofs.Modelled.{opening_model}
 use Rattle.board.proofs.Filling.{key_is, planned_by, opening_of, placed_models}
 use Rattle.board.proofs.boards.Board.new.Goals as goal
 
-pub new-requires : goal.new-requires
-new-requires g c =
+pub new-requires-whole : goal.new-requires-whole
+new-requires-whole g c κs w =
     let table = g.T.MemoryTable.table in
     let key : BoardKey g.row.T.Denot = record { rules = c.args.rules; list = c.of.result; tables = c.of-2.result } in
     let plan = key_plan table key in
@@ -21,8 +23,9 @@ new-requires g c =
     let slots = map (slot_model table) c.in_ok-slots.slots.items in
     let slots_are = ap (map (slot_model table)) c.in_ok-slots.ensures.moved.placed ∙ placed_models table c.args.tables.items
     ∙ ap (λ v. map in_place (map table v.items)) (sym c.of-2.ensures) in
-    opening_model table (Orderly plan) c.deref.result.now c.in_ok-slots.slots.items (opened_view plan)
-    (starts plan c.deref.result.now slots (planned_by table key is) (opening_of plan c.deref.result.now slots (planned_by table key is) words_are slots_are))
+    let planned = planned_by table key is in
+    let opens = starts plan c.deref.result.now slots planned (opening_of plan c.deref.result.now slots planned words_are slots_are) in
+    with_step w (⊑_static _, opening_model table (Orderly plan) c.deref.result.now c.in_ok-slots.slots.items (opened_view plan) opens)
 
 pub invariant_of-result : goal.invariant_of-result
 invariant_of-result g c =

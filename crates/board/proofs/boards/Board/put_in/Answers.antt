@@ -5,13 +5,13 @@ use Rattle.board.specs.SeatView.{SeatView, without_held}
 use Rattle.board.specs.declared.views.View.{View}
 use Rattle.board.specs.Seats.{view}
 use Rattle.board.proofs.Steps.{retake_allowed, finish_allowed}
-use Rattle.board.proofs.Calls.{word_zero, word_within, second_out, both_out, retaken_of, finished_of}
+use Rattle.board.proofs.Calls.{with_rows, with_step, word_zero, word_within, first_out, second_out, both_out, retaken_of, finished_of}
 use Rattle.board.proofs.boards.Board.put_in.Given as given
 use Rattle.board.proofs.boards.Board.put_in.Goals as goal
 use Rattle.board.proofs.boards.Board.put_in.Goals.{After-load, After-exchange-2}
 
-pub load-requires : goal.load-requires
-load-requires g c = (
+pub load-requires-whole : goal.load-requires-whole
+load-requires-whole g c κs w = with_step w (
   c.requires.id,
   word_within c.args.self.now c.args.hold.index c.requires.within,
   retake_allowed g.T.MemoryTable.table
@@ -30,12 +30,23 @@ goes g c =
     retaken_of g.T.MemoryTable.table (plan_of g.T.MemoryTable.table c.args.self.now) c.args.raw.now.me.0.seat i c.load.result c.args.raw.now.me
     c.load.new.seat.me (step c.args.self.now.table.shared.table_id.slots (i + 1) 0 0 none) c.requires.rests refl c.load.ensures.2
 
--- the initiator's slot is the next to be filled
-pub exchange-requires-2 : goal.exchange-requires-2
-exchange-requires-2 g c =
+pub exchange-requires-whole : goal.exchange-requires-whole
+exchange-requires-whole g c κs w =
     let plan = plan_of g.T.MemoryTable.table c.args.self.now in
     let i = c.args.hold.index in
-    let found = c.exchange-exchange.ensures.value ∙ ap (λ l. exchange_at l.exchanges i) c.args.self.now.planned.1 in (
+    let found = c.exchange-exchange.ensures.value ∙ ap (λ l. exchange_at l.exchanges i) c.args.self.now.planned.1 in with_rows w (
+      c.load.ensures.0 ∙ c.requires.id,
+      first_out (view plan (without_held c.args.raw.now.me.0.seat i) (i ∷ []) []) (initiator_of plan i) (responder_of plan i) (initiator_of plan i)
+          c.exchange-exchange.result.responder None None None c.load.new.seat.me c.load.new.seat.me c.load.new.seat.me
+          (goes g (goal.at.exchange-requires g c).After-load) refl (ap (λ e. e.responder) found),
+    )
+
+-- the initiator's slot is the next to be filled
+pub exchange-requires-2-whole : goal.exchange-requires-2-whole
+exchange-requires-2-whole g c κs w =
+    let plan = plan_of g.T.MemoryTable.table c.args.self.now in
+    let i = c.args.hold.index in
+    let found = c.exchange-exchange.ensures.value ∙ ap (λ l. exchange_at l.exchanges i) c.args.self.now.planned.1 in with_rows w (
       c.turn.ensures.0 ∙ c.exchange.ensures.0 ∙ c.load.ensures.0 ∙ c.requires.id,
       second_out (view plan (without_held c.args.raw.now.me.0.seat i) (i ∷ []) []) (initiator_of plan i) (responder_of plan i)
           c.exchange-exchange.result.initiator c.exchange-exchange.result.responder None None (Some c.args.hold.responder) c.load.new.seat.me
@@ -65,8 +76,8 @@ filled g c out =
     out (ap (λ e. e.initiator) found) (ap (λ e. e.responder) found) c.exchange.ensures.3 c.turn.ensures.2 (Some c.args.hold.initiator) c.exchange-2.new.seat.me
     c.exchange-2.ensures.3
 
-pub fetch_add-requires : goal.fetch_add-requires
-fetch_add-requires g c = (
+pub fetch_add-requires-whole : goal.fetch_add-requires-whole
+fetch_add-requires-whole g c κs w = with_step w (
   c.exchange-2.ensures.0 ∙ c.turn.ensures.0 ∙ c.exchange.ensures.0 ∙ c.load.ensures.0 ∙ c.requires.id,
   word_zero c.args.self.now,
   finish_allowed g.T.MemoryTable.table (plan_of g.T.MemoryTable.table c.args.self.now) _ _ c.exchange-2.new.seat.me

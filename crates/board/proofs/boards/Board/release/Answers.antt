@@ -3,7 +3,7 @@ use Rattle.std.proofs.lemmas.Option.{none-some}
 use Rattle.board.specs.Boards.{plan_of, exchanges_of}
 use Rattle.board.specs.inner.Plays.{OwesTo, IsReleased}
 use Rattle.board.proofs.Steps.{release_allowed}
-use Rattle.board.proofs.Calls.{word_within, released_last, released_more}
+use Rattle.board.proofs.Calls.{with_step, word_within, released_last, released_more}
 use Rattle.board.proofs.boards.Board.release.Given as given
 use Rattle.board.proofs.boards.Board.release.Goals as goal
 use Rattle.board.proofs.boards.Board.release.Goals.{In_ok-j}
@@ -15,9 +15,9 @@ owed g c =
     subst (λ x. IfSome x (λ k. (k < length (exchanges_of c.args.self.now)) × OwesTo (plan_of g.T.MemoryTable.table c.args.self.now) c.args.raw.now.me k)) some
     c.requires.owes
 
-pub fetch_sub-found-requires : goal.fetch_sub-found-requires
-fetch_sub-found-requires g c =
-    let owes = owed g (goal.at.fetch_sub-found-requires g c).In_ok-j in (
+pub fetch_sub-found-requires-whole : goal.fetch_sub-found-requires-whole
+fetch_sub-found-requires-whole g c κs w =
+    let owes = owed g (goal.at.fetch_sub-found-requires g c).In_ok-j in with_step w (
       c.requires.id,
       word_within c.args.self.now c.in_ok-j.j owes.0,
       release_allowed g.T.MemoryTable.table (plan_of g.T.MemoryTable.table c.args.self.now) _ _

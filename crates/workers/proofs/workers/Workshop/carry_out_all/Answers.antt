@@ -1,4 +1,4 @@
-use Rattle.workers.proofs.Common.{◌≡◌, ℕ, ◌⊎◌, Bool, true, false, length, ◌++◌, append_assoc, inl, inr, refl, rules, sym, ap, subst, ◌∙◌, Table, SeatView, BoardPlan, plan_of, seat_view, Board, IsSeatOf}
+use Rattle.workers.proofs.Common.{◌≡◌, ℕ, ◌⊎◌, Bool, true, false, [], length, ◌++◌, append_assoc, append-nil, inl, inr, refl, rules, sym, ap, subst, ◌∙◌, Table, SeatView, BoardPlan, plan_of, seat_view, Board, IsSeatOf}
 use Rattle.board.specs.SeatView.{having_seen}
 use Rattle.board.specs.declared.boards.Seat.{Seat}
 use Rattle.deques.specs.Pushes.{pushed}
@@ -113,3 +113,34 @@ loop-preserved-in-Some-next g c =
           (still_worked table board c.args.worker.now c.loop.worker seat tasks _ _ looked.progress.0 c.next-in-loop.ensures.kept
           c.loop.invariant.worked) tried.worked;
     }
+
+pub loop-init : goal.loop-init
+loop-init g c =
+    let at_work = c.requires.worker in
+    record {
+      more = tt;
+      finite = tt;
+      stays = record { of_board = at_work.of_board; parts = refl; is_halted = refl };
+      worked = record { records = at_work.records; pushes = record { ready = []; freed = sym (append-nil _); pushed = sym (append-nil _) } };
+    }
+
+pub try_one-requires-clause-worker : goal.try_one-requires-clause-worker
+try_one-requires-clause-worker g c _ _ =
+    let looked = c.look-progress.ensures in
+    let records = c.loop.invariant.worked.records in
+    let made = records.made ∙ sym (ap (λ (v : SeatView). v.made) looked.progress.0) in
+    record { of_board = looked.seat; records = record { made = made; each = records.each } }
+
+pub returns-clause-stays : goal.returns-clause-stays
+returns-clause-stays g c =
+    let table = g.T.MemoryTable.table in
+    let board = c.args.self.now.board in
+    let old = c.args.worker.now in
+    let stays = c.loop.invariant.stays in
+    elim c.match-next.branch [
+      | in-None w ↦ subst (StaysAtWork table board old) (sym w.worker-is) stays
+      | in-Some+then-progress w ↦
+          let look = w.look-progress in
+          subst (StaysAtWork table board old) (sym w.worker-is)
+          (still_stays table board old c.loop.worker look.new.seat c.loop.worker.tasks _ _ look.ensures.seat look.ensures.progress.0 stays)
+    ]

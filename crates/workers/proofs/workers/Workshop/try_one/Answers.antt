@@ -1,8 +1,10 @@
-use Rattle.workers.proofs.Common.{◌≡◌, ℕ, List, [], ◌∷◌, ◌++◌, map, All, sym, ap, ◌∙◌, subst, append_assoc, map-append, All-push, SeatView, BoardPlan, Freed, as_list, plan_of, seat_view, IsHoldOf, now_held}
+use Rattle.workers.proofs.Common.{◌≡◌, ℕ, List, [], ◌∷◌, ◌++◌, map, All, sym, ap, ◌∙◌, subst, append_assoc, map-append, All-push, SeatView, BoardPlan, Freed, as_list, plan_of, seat_view, Table, Board, IsHoldOf, IsSeatOf, now_held}
 use Rattle.board.specs.Boards.{IsPutBack}
 use Rattle.board.specs.SeatView.{with_held}
 use Rattle.workers.specs.declared.gathering.Stamped.{Stamped}
 use Rattle.deques.specs.Pushes.{pushed}
+use Rattle.workers.specs.declared.workers.Worker.{Worker}
+use Rattle.workers.specs.inner.AtWork.{StaysAtWork}
 use Rattle.workers.specs.inner.Returns.{HasDone, IsRecordOf, AreRecordsOf}
 use Rattle.workers.proofs.workers.Workshop.try_one.Goals as goal
 
@@ -29,6 +31,16 @@ one_more_record plan old claimed new stamps more i j stamped freed held pushed s
       ∙ ap (λ j. claimed.made ++ j ∷ []) done.index
       ∙ sym (ap (λ (v : SeatView). v.made) done.put_back.seat);
   each = subst (All (IsRecordOf plan)) (sym pushed) (All-push (IsRecordOf plan) stamps stamped so_far.each done.stamp);
+}
+
+-- a seat that puts back what it has claimed stays at work
+stays_done : {T : Type 0} {table : T → Table} {board : Board T} {old new : Worker T} {claimed : SeatView} {i : ℕ} {freed : Freed} (j : ℕ)
+    → IsSeatOf table new.seat board → claimed ≡ with_held (seat_view old.seat) j
+    → IsPutBack (plan_of table board) claimed i freed (seat_view new.seat) → StaysAtWork table board old new
+stays_done j of_board held put_back = record {
+  of_board = of_board;
+  parts = ap (λ (v : SeatView). v.parts) put_back.seat ∙ ap (λ (v : SeatView). v.parts) held;
+  is_halted = ap (λ (v : SeatView). v.is_halted) put_back.seat ∙ ap (λ (v : SeatView). v.is_halted) held;
 }
 
 pub carry_out-requires-clause-hold : goal.carry_out-requires-clause-hold
@@ -62,3 +74,15 @@ returns-clause-worked g c =
             (as_list freed.first) (as_list freed.second) c.in_ok-push_freed.ensures.pushed c.in_ok-push_freed-2.ensures.pushed;
       };
     }
+
+pub returns-in_err-push_freed-2-clause-stays : goal.returns-in_err-push_freed-2-clause-stays
+returns-in_err-push_freed-2-clause-stays g c =
+    stays_done c.args.i c.carry_out.ensures.seat c.in-Held.ensures.claim.1 c.in_ok-stamped.ensures.done.put_back
+
+pub returns-in_err-push_freed-clause-stays : goal.returns-in_err-push_freed-clause-stays
+returns-in_err-push_freed-clause-stays g c =
+    stays_done c.args.i c.carry_out.ensures.seat c.in-Held.ensures.claim.1 c.in_ok-stamped.ensures.done.put_back
+
+pub returns-clause-stays : goal.returns-clause-stays
+returns-clause-stays g c =
+    stays_done c.args.i c.carry_out.ensures.seat c.in-Held.ensures.claim.1 c.in_ok-stamped.ensures.done.put_back

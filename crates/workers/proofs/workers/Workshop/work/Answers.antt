@@ -1,0 +1,21 @@
+use Rattle.workers.proofs.Common.{ap, ◌∙◌, SeatView}
+use Rattle.workers.proofs.workers.Workshop.work.Goals as goal
+
+pub returns-in-Ok : goal.returns-in-Ok
+returns-in-Ok g c =
+    let stays = c.carry_out_all.ensures.stays in
+    let worked = c.in-Ok.ensures.worked in
+    record {
+      of_board = stays.of_board;
+      same_parts = stays.parts;
+      records = (worked.worked.records, record { unhalted = stays.is_halted ∙ c.requires.seat.unhalted; ends = worked.ends });
+      fault = tt;
+      halted = tt;
+    }
+
+pub returns-in-Err : goal.returns-in-Err
+returns-in-Err g c =
+    let stop = c.stop.ensures in
+    let parts = ap (λ (v : SeatView). v.parts) stop.stopped.seat ∙ c.carry_out_all.ensures.stays.parts in
+    let halted = ap (λ (v : SeatView). v.is_halted) stop.stopped.seat in
+    record { of_board = stop.seat; same_parts = parts; records = tt; fault = c.in-Err.ensures.worked; halted = halted }

@@ -1,9 +1,10 @@
 -- The names of other libraries that these proofs cite, passed on from one place. Declares nothing.
 -- Serves most of the crate and `version_tables`.
-pub use Rattle.std.proofs.Common.{Bool, Contains, Global, List, None, Option, Some, Vec, [], ap, arith, cond, eqb, false, get_or, inl, inr, leb, length, ltb, map, max, min, nat_lt, not, refl, rules, set, subst, suc, sym, true, zero, ℕ, ◌*◌, ◌+◌, ◌-◌, ◌<◌, ◌∙◌, ◌∷◌, ◌≡◌, ◌≢◌, ◌≤◌, ◌⊎◌}
+pub use Rattle.std.proofs.Common.{Bool, Contains, Global, List, None, Option, Some, Vec, [], add-one, ap, arith, cond, drop, eqb, false, get_or, inl, inr, leb, length, length-drop, length-take-le, ltb, map, max, min, nat_lt, not, refl, rules, set, subst, suc, sym, take, true, zero, ℕ, ◌||◌, ◌*◌, ◌++◌, ◌+◌, ◌-◌, ◌<◌, ◌∙◌, ◌∷◌, ◌≡◌, ◌≢◌, ◌≤◌, ◌⊎◌}
 pub use Rattle.std.proofs.Math.Path.{transport}
 pub use Rattle.std.proofs.lemmas.List.Sums.{get_or-le-sum_by}
 pub use Rattle.std.specs.Vec.{with_items}
+pub use borrow.Author.Rules.{scaled_Fits}
 pub use Rattle.bench_types.proofs.Sums.{sum_below-plus}
 pub use Rattle.model.proofs.Common.{AllPairs-filter, Budget, Contains-get_or, Entry, IsTotalOrder, Item, MOST_KEYS, MOST_NODES, Mode, PreciseNewest, PreciseOldest, ScuttleBreadth, ScuttleDepth, amount_of, both_ways, cases_eq, cases_lt, count_by, filter, get_or-append_right, get_or-set_other, get_or-set_same, get_or_default, is_eq, is_lt, le-leb, le-ltb, length-append, length-filter, length-map, length-set, length_permutation, less, lt-leb, lt-ltb, mul-le-mul_right, nat_cmp, ordering_reverse, ordering_then, same_Some, sum_below, sum_below-le, sum_by-cons, tied_itself, ◌&&◌}
 pub use Rattle.planes.proofs.Common.{below_more, count_passing, fold_below-join, map-set, nat_tests, sum_below-most, sum_below-same, sums, with_items_is}

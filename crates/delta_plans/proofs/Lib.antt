@@ -6,8 +6,5 @@ pub mod Starts
 pub mod DeltaMarks
 pub mod WeightLaws
 pub mod LevelSteps
-pub mod LayerSteps
-pub mod RunSteps
-pub mod StopSteps
 pub mod TurnSteps
 pub mod Common

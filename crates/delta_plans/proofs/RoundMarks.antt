@@ -83,6 +83,9 @@ module _ {N : Type 0} {number : N → ℕ} {most : ℕ} (rounds : Rounds N) (is 
       }
 
   module _ (count : ℕ) (items : List N) (are : AreRoundMarks number rounds count items) where
+    pub raised : AreRaised number most rounds items
+    raised = record { is_asked = is; size = sym (length-map items number) ∙ are.size; above = λ r lt. omega (arith, are.each r lt) }
+
     pub let_through : (weights : ℕ → ℕ → ℕ)
         → through rounds.first weights (marks number items) ≡ through rounds.first weights (mark_of_rounds number rounds count)
     let_through weights = through-same weights cells nodes keys low high (mark_of_rounds number rounds count) (marks number items) rounds.first are.each

@@ -10,6 +10,13 @@ sum_by-gap f g (x ∷ xs) le =
     let rest = sum_by-gap f g xs (λ y (k, lt, is). le y (suc k, omega (arith, lt), is)) in
     omega (arith, sum_by-cons f x xs, sum_by-cons g x xs, sum_by-cons (λ y. g y - f y) x xs, le x (0, omega arith, refl), rest)
 
+-- a term
+no_more : (before is_in : Bool) (n : ℕ) → (before ≡ false → is_in ≡ true) → cond before 0 n ≤ cond is_in n 0
+no_more before is_in n covers = grind (arith, nat_tests)
+
+no_less : (before is_in : Bool) (n : ℕ) → (before ≡ true → is_in ≡ true → ⊥) → cond is_in n 0 ≤ cond before 0 n
+no_less before is_in n apart = grind (arith, nat_tests)
+
 -- and where one of them is greater by n
 sum_by-more : {X : Type 0} (f g : X → ℕ) (xs : List X) (n : ℕ) (y : X) → Contains xs y
     → ((x : X) → Contains xs x → f x ≤ g x) → f y + n ≤ g y → sum_by f xs + n ≤ sum_by g xs
@@ -39,13 +46,14 @@ module _ {X : Type 0} {order : X → X → Ordering} {cs : List X} {size : X →
   fits-is : (c : X) → Contains cs c → fits order cs size budget c ≡ is_in c
   fits-is c at_c = elim (is_in c) as (λ b. is_in c ≡ b → fits order cs size budget c ≡ b) [
     | true ↦ λ e.
-        let upto = sum_by-gap (through c) term cs (λ d at_d. let behind = behind_in c d at_c at_d in grind (arith, nat_tests)) in
+        let upto = sum_by-gap (through c) term cs (λ d at_d. no_more (is_lt (order c d)) (is_in d) (size d) (λ behind. behind_in c d at_c at_d behind e)) in
         le-leb (size_through order cs size c) budget (omega (arith, upto, is.within))
     | false ↦ λ e.
         let out = is.tight c at_c e in
         let no_later = λ (before : is_lt (order c out.next) ≡ true). out.no_later (less (order c out.next) (rw before tt)) in
         let beyond = sum_by-more term (through c) cs (size out.next) out.next out.candidate
-        (λ d at_d. let before = before_in c d at_c at_d in grind (arith, nat_tests)) (grind (arith, nat_tests, out.outside, no_later)) in
+        (λ d at_d. no_less (is_lt (order c d)) (is_in d) (size d) (λ before yes'. both_ways (is_in c) e (before_in c d at_c at_d before yes')))
+        (omega (arith, no_less (is_lt (order c out.next)) true (size out.next) (λ b _. no_later b), ap (λ b. cond b (size out.next) 0) out.outside)) in
         lt-leb (size_through order cs size c) budget (omega (arith, beyond, out.beyond))
   ] refl
 

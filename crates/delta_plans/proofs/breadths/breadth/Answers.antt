@@ -1,6 +1,5 @@
 use Rattle.delta_plans.proofs.Common.{arith}
-use Rattle.delta_plans.proofs.LayerSteps.{layers-more, layers-next, layers-none, level-of_layers}
-use Rattle.delta_plans.proofs.LevelSteps.{level-ends, level-few}
+use Rattle.delta_plans.proofs.LevelSteps.{layers-more, layers-next, layers-none, left-told, level-ends, level-few, level-of_layers}
 use Rattle.delta_plans.proofs.breadths.breadth.Goals as goal
 
 pub loop-near-init : goal.loop-near-init
@@ -11,7 +10,7 @@ returns-in_default g c =
     let is = c.requires.offer.is_offer in
     let has = c.loop-near.invariant.has in
     let layer = rw c.deref.ensures.value at c.in_ok-next.ensures.0 in
-    let told = rw (c.deref-in-loop-near.ensures.value, c.deref-in-loop-near-2.ensures.value, c.in_default.is) at c.left_of.ensures in
+    let told = left-told is _ c.deref-in-loop-near.ensures.value c.deref-in-loop-near-2.ensures.value c.in_default.is c.left_of.ensures in
     (record { is_level = level-ends is has.so_far layer told; shape = level-of_layers is has layer }, tt)
 
 pub overflow_add-whole : goal.overflow_add-whole
@@ -24,11 +23,12 @@ loop-near-smaller g c =
     let is = c.requires.offer.is_offer in
     let has = c.loop-near.invariant.has in
     let layer = rw c.deref.ensures.value at c.in_ok-next.ensures.0 in
-    let fits = rw (c.deref-in-loop-near.ensures.value, c.deref-in-loop-near-2.ensures.value, c.in-Some.is) at c.left_of.ensures in
+    let fits = left-told is _ c.deref-in-loop-near.ensures.value c.deref-in-loop-near-2.ensures.value c.in-Some.is c.left_of.ensures in
     omega (arith, layers-more is has layer fits c.requires.offer.beyond, level-few is has.so_far layer)
 
 pub loop-near-preserved : goal.loop-near-preserved
 loop-near-preserved g c =
+    let is = c.requires.offer.is_offer in
     let layer = rw c.deref.ensures.value at c.in_ok-next.ensures.0 in
-    let fits = rw (c.deref-in-loop-near.ensures.value, c.deref-in-loop-near-2.ensures.value, c.in-Some.is) at c.left_of.ensures in
-    record { has = layers-next c.requires.offer.is_offer c.loop-near.invariant.has layer fits }
+    let fits = left-told is _ c.deref-in-loop-near.ensures.value c.deref-in-loop-near-2.ensures.value c.in-Some.is c.left_of.ensures in
+    record { has = layers-next is c.loop-near.invariant.has layer fits }

@@ -1,5 +1,5 @@
 use Rattle.delta_plans.proofs.Common.{◌*◌, ◌-◌, MOST_KEYS, MOST_NODES}
-use Rattle.delta_plans.proofs.LayerSteps.{HasLayers}
+use Rattle.delta_plans.proofs.LevelSteps.{HasLayers}
 use Rattle.delta_plans.proofs.breadths.breadth.Given as goal
 
 abbrev pub invariant-loop-near : goal.invariant-loop-near

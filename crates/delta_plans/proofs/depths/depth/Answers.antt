@@ -1,6 +1,5 @@
 use Rattle.delta_plans.proofs.Common.{arith}
-use Rattle.delta_plans.proofs.LevelSteps.{level-ends, level-few}
-use Rattle.delta_plans.proofs.RunSteps.{level-of_runs, runs-from, runs-next, runs-none}
+use Rattle.delta_plans.proofs.LevelSteps.{left-told, level-ends, level-few, level-of_runs, runs-from, runs-next, runs-none}
 use Rattle.delta_plans.proofs.depths.depth.Goals as goal
 
 pub loop-near-init : goal.loop-near-init
@@ -19,7 +18,7 @@ returns-in_default g c =
     let none = rw c.deref.ensures.value at c.next_size_below-size.ensures in
     let from = runs-from is c.requires.offer.beyond has c.in_ok-counts.ensures.counts none in
     let runs = rw c.deref-in-loop-near-2.ensures.value at c.in_ok-next.ensures.0 in
-    let told = rw (c.deref-in-loop-near-3.ensures.value, c.deref-in-loop-near-4.ensures.value, c.in_default.is) at c.left_of.ensures in
+    let told = left-told is _ c.deref-in-loop-near-3.ensures.value c.deref-in-loop-near-4.ensures.value c.in_default.is c.left_of.ensures in
     (record { is_level = level-ends is has.so_far runs told; shape = level-of_runs is from runs }, tt)
 
 pub overflow_add-whole : goal.overflow_add-whole
@@ -34,5 +33,5 @@ loop-near-preserved g c =
     let none = rw c.deref.ensures.value at c.next_size_below-size.ensures in
     let from = runs-from is c.requires.offer.beyond has c.in_ok-counts.ensures.counts none in
     let runs = rw c.deref-in-loop-near-2.ensures.value at c.in_ok-next.ensures.0 in
-    let fits = rw (c.deref-in-loop-near-3.ensures.value, c.deref-in-loop-near-4.ensures.value, c.in-Some.is) at c.left_of.ensures in
+    let fits = left-told is _ c.deref-in-loop-near-3.ensures.value c.deref-in-loop-near-4.ensures.value c.in-Some.is c.left_of.ensures in
     record { has = runs-next is from runs has.so_far fits }

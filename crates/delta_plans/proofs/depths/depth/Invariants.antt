@@ -1,4 +1,4 @@
-use Rattle.delta_plans.proofs.RunSteps.{HasRuns}
+use Rattle.delta_plans.proofs.LevelSteps.{HasRuns}
 use Rattle.delta_plans.proofs.depths.depth.Given as goal
 
 abbrev pub invariant-loop-near : goal.invariant-loop-near

@@ -1,6 +1,5 @@
-use Rattle.delta_plans.proofs.Common.{◌<◌, ◌*◌, ◌&&◌, length, cond, leb, sym, ap, ◌∙◌, arith, rules, length-map, with_items_is, made-as, number-at, cells_in, high_in, low_in, marks}
-use Rattle.delta_plans.proofs.LevelSteps.{step-is}
-use Rattle.delta_plans.proofs.RunSteps.{run-told}
+use Rattle.delta_plans.proofs.Common.{◌<◌, ◌*◌, ◌&&◌, length, cond, leb, sym, ap, ◌∙◌, arith, length-map, with_items_is, made-as, number-at, cells_in, high_in, low_in, marks}
+use Rattle.delta_plans.proofs.LevelSteps.{run-told, step-is}
 use Rattle.delta_plans.proofs.depths.next_runs.Goals as goal
 
 pub returns : goal.returns
@@ -14,15 +13,16 @@ returns g c =
     let long = ap length start ∙ c.requires.each_near in
     let whole = with_items_is c.in_ok-far.far c.change.new.numbers (c.change.auto.numbers ∙ c.deref_mut.ensures.len) in
     let risen = c.how_many-risen.ensures.count (λ r n. leb size n && leb n size) (λ r n passes lt answer.
-    search (rules, c.narrow-longest.ensures)) in (
+    search (arith, c.narrow-longest.ensures)) in (
       step-is c.args.near.now _ (λ r. leb size (marks number counts r) && leb (marks number counts r) size) (length counts) size _
-          (sym (length-map counts number) ∙ c.requires.counts_are.size) (ap (λ n. n * size) risen) (rw whole (c.change.auto.numbers ∙ long)) (λ r lt.
+          (sym (length-map counts number) ∙ c.requires.counts_are.size) (ap (λ n. n * size) risen) (ap length whole ∙ c.change.auto.numbers ∙ long) (λ r lt.
           let in_counts : r < length counts = omega (arith, lt, c.requires.counts_are.size, length-map counts number) in
           let in_high : r < length high = omega (arith, lt, c.requires.is_offer.high) in
           run-told (cells_in number offer) offer.grid.size.keys r (low_in number offer r) (high_in number offer r) (c.requires.is_offer.covered r lt)
           size _ _ _ (c.requires.counts_are.each r lt) c.requires.some (c.requires.longer r lt)
-          (rw whole (made-as number _ r _ _ (λ x. cond (leb size (marks number counts r)) (marks number high r) x)
-          (rw start at (c.change.ensures.each r (omega (arith, lt, long, length-map c.deref_mut.result.now number))))
-          (λ n m call. search (rules, c.narrow-longest.ensures, number-at number counts r, number-at number high r))))),
+          (ap (λ xs. marks number xs r) whole ∙ made-as number _ r _ _ (λ x. cond (leb size (marks number counts r)) (marks number high r) x)
+          (c.change.ensures.each r (omega (arith, lt, long, length-map c.deref_mut.result.now number)))
+          (λ n m call. search (arith, c.narrow-longest.ensures, number-at))
+          ∙ ap (λ xs. cond (leb size (marks number counts r)) (marks number high r) (marks number xs r)) start)),
       tt,
     )

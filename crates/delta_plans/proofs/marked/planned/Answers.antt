@@ -5,9 +5,8 @@ use Rattle.delta_plans.proofs.marked.planned.Goals as goal
 pub returns-then-fits-clause-marked : goal.returns-then-fits-clause-marked
 returns-then-fits-clause-marked g c =
     let offer = c.args.offer.now in
-    let fits = c.fits.ensures.0 c.if-fits.true in
     let same = c.in_ok-mark.ensures.items ∙ c.by_first.ensures ∙ ap (λ first. by_first first offer.high.now offer.low.now) c.of-first.ensures in
-    whole-marked g.N.Number.number g.N.Number.most offer c.requires.offer c.args.rotation fits c.args.mode c.in_ok-mark.mark.items same
+    whole-marked g.N.Number.number g.N.Number.most offer c.requires.offer c.args.rotation (c.fits.ensures.0 c.if-fits.true) c.args.mode _ same
 
 pub overflow_sub-counts : goal.overflow_sub-counts
 overflow_sub-counts g c =
@@ -19,3 +18,7 @@ pub returns-clause-marked : goal.returns-clause-marked
 returns-clause-marked g c =
     share-marked g.N.Number.number g.N.Number.most c.args.offer.now c.requires.offer c.args.rotation c.args.mode c.in_ok-level.ensures.0
     c.in_ok-share.share.marks.items (rw (c.of-first.ensures, c.deref.ensures.value, c.deref-2.ensures.value) at c.in_ok-share.ensures.0.shared)
+
+pub level_of-requires : goal.level_of-requires
+level_of-requires g c =
+    record { too_large = record { is_offer = c.requires.offer; beyond = grind (arith, c.fits.ensures, c.if-fits.false) }; are_ends_of = c.requires.ends }

@@ -1,5 +1,4 @@
-use Rattle.delta_plans.proofs.Common.{◌≡◌, get_or_default, length, ◌+◌, ◌-◌, false, true, get_or, ap, ◌∙◌, rules, arith, owner_weight}
-use Rattle.std.proofs.lemmas.List.{length-take-le}
+use Rattle.delta_plans.proofs.Common.{◌≡◌, get_or_default, length, length-take-le, ◌+◌, ◌-◌, false, true, get_or, ap, ◌∙◌, rules, arith, owner_weight}
 use Rattle.delta_plans.specs.Between.{owner_count}
 use Rattle.delta_plans.proofs.WeightLaws.{sum_below-longer}
 use Rattle.delta_plans.proofs.between.Between.bytes_left_of.Goals as goal

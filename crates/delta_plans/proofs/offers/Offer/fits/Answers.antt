@@ -4,7 +4,5 @@ use Rattle.delta_plans.proofs.offers.Offer.fits.Goals as goal
 
 pub returns-then-surely_fit : goal.returns-then-surely_fit
 returns-then-surely_fit g c =
-    let number = g.N.Number.number in
-    let offer = c.args.self.now in
-    let most = offer-most number offer (low_in number offer) (high_in number offer) in
+    let most = offer-most g.N.Number.number c.args.self.now (low_in g.N.Number.number c.args.self.now) (high_in g.N.Number.number c.args.self.now) in
     ((λ _. omega (arith, c.surely_fit.ensures c.if-surely_fit.true, c.requires.found, most)), (λ _. c.if-surely_fit.true))

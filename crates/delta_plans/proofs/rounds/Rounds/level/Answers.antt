@@ -1,5 +1,5 @@
-use Rattle.delta_plans.proofs.Common.{◌+◌, ◌<◌, refl, arith}
-use Rattle.delta_plans.proofs.RoundMarks.{begun, fitted, further, nearer, rounds-level}
+use Rattle.delta_plans.proofs.Common.{◌+◌, ◌<◌, Some, refl, sym, ap, ◌∙◌, subst, arith, marks, weight_on, IsFound}
+use Rattle.delta_plans.proofs.RoundMarks.{begun, fitted, further, nearer, raised, rounds-level}
 use Rattle.delta_plans.proofs.rounds.Rounds.level.Goals as goal
 
 pub loop-few-init : goal.loop-few-init
@@ -22,9 +22,17 @@ loop-few-preserved g c =
 
 pub left_of_fit-left-requires-clause-fit : goal.left_of_fit-left-requires-clause-fit
 left_of_fit-left-requires-clause-fit g c =
-    rw c.deref-2.ensures.value (fitted c.args.self.now c.requires _ _ c.in_ok-near.ensures.0 c.loop-few.invariant.found)
+    let fits = fitted c.args.self.now c.requires _ _ c.in_ok-near.ensures.0 c.loop-few.invariant.found in
+    subst (λ xs. IsFound g.N.Number.number c.args.self.now (marks g.N.Number.number xs) (Some c.loop-few.fit)) (sym c.deref-2.ensures.value) fits
 
 pub returns : goal.returns
 returns g c =
-    let left = rw c.deref-2.ensures.value at c.left_of_fit-left.ensures in
+    let all = ap (λ xs. weight_on c.args.self.now.first g.N.Number.number c.args.self.now.offer.now (marks g.N.Number.number xs)) c.deref-2.ensures.value in
+    let left = ap (λ n. n + c.left_of_fit-left.result) (sym all) ∙ c.left_of_fit-left.ensures in
     (rounds-level c.args.self.now c.requires c.loop-few.invariant.found c.loop-few-test.false refl c.in_ok-near.ensures.0 c.in_ok-far.ensures.0 left, tt)
+
+pub left_of_fit-left-requires-clause-mark : goal.left_of_fit-left-requires-clause-mark
+left_of_fit-left-requires-clause-mark g c = rw c.deref-2.ensures.value (raised c.args.self.now c.requires _ _ c.in_ok-near.ensures.0)
+
+pub look-requires : goal.look-requires
+look-requires g c = rw c.deref.ensures.value (raised c.args.self.now c.requires _ _ c.in_ok-mark.ensures.0)

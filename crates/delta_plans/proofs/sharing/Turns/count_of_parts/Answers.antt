@@ -16,7 +16,3 @@ loop-i-preserved g c =
     let next = ap (parts_count g.N.Number.number c.args.self.now c.args.owner) {x = c.loop-i.i + 1} {y = suc c.loop-i.i} (omega arith) in
     let count = c.widen-count.ensures ∙ c.number_at.ensures ∙ c.requires.counts.each c.loop-i.i c.loop-i-test.true in
     omega (arith, c.loop-i.invariant, next, count)
-
-pub returns : goal.returns
-returns g c =
-    c.loop-i.invariant ∙ ap (parts_count g.N.Number.number c.args.self.now c.args.owner) (omega (arith, c.loop-i-test.false, c.loop-i.auto.i-end))

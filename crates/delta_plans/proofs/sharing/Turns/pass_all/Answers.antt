@@ -1,6 +1,6 @@
-use Rattle.delta_plans.proofs.Common.{◌≡◌, ◌+◌, ◌<◌, suc, length, ap, refl, arith, parts_count, part_weight}
+use Rattle.delta_plans.proofs.Common.{◌≡◌, ◌+◌, suc, length, ap, refl, arith, scaled_Fits, parts_count, part_weight}
 use Rattle.delta_plans.proofs.WeightLaws.{sum_below-longer}
-use Rattle.delta_plans.proofs.TurnSteps.{part-entries, turn-next, turns-few, turns-next, turns-same}
+use Rattle.delta_plans.proofs.TurnSteps.{part-entries, turn-next, turns-few, turns-next, turns-same, within}
 use Rattle.delta_plans.proofs.sharing.Turns.pass_all.Goals as goal
 
 pub loop-i-preserved : goal.loop-i-preserved
@@ -10,12 +10,11 @@ loop-i-preserved g c =
     let owner = c.args.owner in
     let i = c.loop-i.i in
     let lt = c.loop-i-test.true in
-    let within : owner + i < turns.offer.now.grid.size.nodes = omega (arith, have.in_nodes, lt) in
     let more = ap (parts_count g.N.Number.number turns owner) {x = i + 1} {y = suc i} (omega arith) in
     let upto = sum_below-longer (λ j. part_weight g.N.Number.number (λ _. 1) turns (owner + j)) (i + 1) (length c.args.counts.now) (omega (arith, lt)) in
-    let passed = turns-next have.are c.loop-i.invariant within (turn-next have i lt) c.number_at.result
+    let passed = turns-next have.are c.loop-i.invariant (within have i lt).0 (turn-next have i lt) c.number_at.result
     (omega (arith, upto, c.if-reached-count.false, c.count_of_parts-count.ensures, more))
-    (part-entries have.are within refl c.in-Entries.field-0 c.in-Entries.is) refl c.number_at.ensures in
+    (part-entries have.are (within have i lt).0 refl c.in-Entries.field-0 c.in-Entries.is) refl c.number_at.ensures in
     turns-same passed (omega arith) (omega (arith, more)) (omega (arith, more))
 
 pub overflow_add-reached-2 : goal.overflow_add-reached-2
@@ -23,3 +22,6 @@ overflow_add-reached-2 g c =
     let whole : c.loop-i.i ≡ length c.args.counts.now = omega (arith, c.loop-i-test.false, c.loop-i.auto.i-end) in
     let all = ap (parts_count g.N.Number.number c.args.self.now c.args.owner) whole in
     omega (arith, all, c.count_of_parts-count.ensures, turns-few c.requires.turns.are c.loop-i.invariant)
+
+pub offset_bounds-mark-owner : goal.offset_bounds-mark-owner
+offset_bounds-mark-owner g c = search (scaled_Fits, (within c.requires.turns c.loop-i.i c.loop-i-test.true).1)

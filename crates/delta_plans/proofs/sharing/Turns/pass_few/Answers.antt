@@ -1,14 +1,14 @@
-use Rattle.delta_plans.proofs.Common.{◌+◌, ◌<◌, ◌≤◌, ◌∙◌, arith, MOST_KEYS, part_weight}
-use Rattle.delta_plans.proofs.TurnSteps.{from-few, part-is, turn-next, turns-few, turns-next, turns-shared}
+use Rattle.delta_plans.proofs.Common.{◌+◌, ◌≤◌, ◌∙◌, arith, scaled_Fits, MOST_KEYS, part_weight}
+use Rattle.delta_plans.proofs.TurnSteps.{from-few, part-is, turn-next, turns-few, turns-next, turns-shared, within}
 use Rattle.delta_plans.proofs.sharing.Turns.pass_few.Goals as goal
 
 pub loop-i-preserved : goal.loop-i-preserved
 loop-i-preserved g c =
     let have = c.requires.turns in
     let lt = c.loop-i-test.true in
-    let within : c.args.owner + c.loop-i.i < c.args.self.now.offer.now.grid.size.nodes = omega (arith, have.in_nodes, lt) in
+    let in_nodes = (within have c.loop-i.i lt).0 in
     record {
-      so_far = turns-next have.are c.loop-i.invariant.so_far within (turn-next have c.loop-i.i lt ∙ omega (arith, c.loop-i.invariant.turn))
+      so_far = turns-next have.are c.loop-i.invariant.so_far in_nodes (turn-next have c.loop-i.i lt ∙ omega (arith, c.loop-i.invariant.turn))
           c.number_at-in-loop-i.result c.if-passed-weight.false c.weight_of_part-weight.ensures
           (part-is have c.loop-i.i lt c.number_at.ensures c.widen-count.ensures) c.number_at-in-loop-i.ensures;
       turn = omega (arith, c.loop-i.invariant.turn);
@@ -29,6 +29,15 @@ overflow_add-result g c =
 pub returns-then-passed-weight-clause-shared : goal.returns-then-passed-weight-clause-shared
 returns-then-passed-weight-clause-shared g c =
     let have = c.requires.turns in
-    let within : c.args.owner + c.loop-i.i < c.args.self.now.offer.now.grid.size.nodes = omega (arith, have.in_nodes, c.loop-i-test.true) in
-    turns-shared have.are c.loop-i.invariant.so_far within (turn-next have c.loop-i.i c.loop-i-test.true ∙ omega (arith, c.loop-i.invariant.turn))
+    let in_nodes = (within have c.loop-i.i c.loop-i-test.true).0 in
+    turns-shared have.are c.loop-i.invariant.so_far in_nodes (turn-next have c.loop-i.i c.loop-i-test.true ∙ omega (arith, c.loop-i.invariant.turn))
     c.stop_of-stop.result c.stop_of-stop.ensures (rw c.number_at-near.ensures at c.count_from.ensures)
+
+pub offset_bounds-mark-here : goal.offset_bounds-mark-here
+offset_bounds-mark-here g c = search (scaled_Fits, (within c.requires.turns c.loop-i.i c.loop-i-test.true).1)
+
+pub offset_bounds-mark-here-in-loop-i : goal.offset_bounds-mark-here-in-loop-i
+offset_bounds-mark-here-in-loop-i g c = search (scaled_Fits, (within c.requires.turns c.loop-i.i c.loop-i-test.true).1)
+
+pub count_from-requires : goal.count_from-requires
+count_from-requires g c = record { is_offer = c.requires.turns.are.offer; in_nodes = (within c.requires.turns c.loop-i.i c.loop-i-test.true).0 }

@@ -1,5 +1,5 @@
-use Rattle.delta_plans.proofs.Common.{◌≡◌, arith, marks}
-use Rattle.delta_plans.proofs.StopSteps.{stop-first, stop-halved}
+use Rattle.delta_plans.proofs.Common.{◌≡◌, ◌∙◌, arith, marks, weight_to, weights_in}
+use Rattle.delta_plans.proofs.TurnSteps.{stop-first, stop-halved}
 use Rattle.delta_plans.proofs.sharing.Turns.stop_of.Goals as goal
 
 pub loop-middle-init : goal.loop-middle-init
@@ -14,7 +14,9 @@ loop-middle-init g c =
 
 pub loop-middle-preserved-then-weight-left : goal.loop-middle-preserved-then-weight-left
 loop-middle-preserved-then-weight-left g c =
-    let takes = rw (c.narrow.ensures, c.narrow-in-loop-middle.ensures) at c.weight_from-weight.ensures in
+    let self = c.args.self.now in
+    let takes = c.weight_from-weight.ensures ∙ (λ i. weight_to g.N.Number.number (weights_in self.offer.now c.args.owner) self c.args.owner
+    (c.narrow.ensures i) (c.narrow-in-loop-middle.ensures i)) in
     let halved = stop-halved c.args.self.now.first c.loop-middle.invariant.so_far _ (omega (arith, c.min.ensures))
     (omega (arith, c.min.ensures, c.abs_diff-in-loop-middle.ensures)) takes in
     record { so_far = halved.0 c.if-weight-left.true; fits = omega (arith, c.min.ensures); beyond = omega (arith, c.min.ensures) }

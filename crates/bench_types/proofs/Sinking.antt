@@ -23,14 +23,15 @@ up_to_more old now new text rest n so_far more = record {
 }
 
 -- it stops here
-pub cut_here : {W : Type 0} (sink : Sink W) (old now new : W) (text rest : List ℕ) → TakesUpTo (sink.taken old) (sink.taken now) text rest
-    → Keeps (sink.taken now) (sink.taken new) → sink.failed new ≡ true → (sink.failed old ≡ true → new ≡ old) → IsBrokenOff sink old new text
-cut_here sink old now new text rest so_far kept failed stays =
+pub cut_here : {W A : Type 0} (sink : Sink W) (old now new : W) (text rest : List ℕ) → TakesUpTo (sink.taken old) (sink.taken now) text rest
+    → (sink.failed old ≡ true → now ≡ old) → Keeps (sink.taken now) (sink.taken new) → sink.failed new ≡ true
+    → (sink.failed now ≡ true → A × (new ≡ now)) → IsBrokenOff sink old new text
+cut_here sink old now new text rest so_far was kept failed stays =
     let seam : take (length so_far.front) text ≡ so_far.front =
     ap (take (length so_far.front)) so_far.whole ∙ take-append_seam so_far.front rest in
     record {
       count = length so_far.front;
       taken = subst (Appends (sink.taken old) (sink.taken new)) (sym seam) (Appends-kept (sink.taken old) (sink.taken now) (sink.taken new) so_far.front so_far.taken kept);
       failed = failed;
-      stays = stays;
+      stays = λ broken. (stays (ap sink.failed (was broken) ∙ broken)).1 ∙ was broken;
     }

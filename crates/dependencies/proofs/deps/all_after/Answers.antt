@@ -36,3 +36,15 @@ loop-i-init c =
           ∙ ap (λ n. find (takes_part es node) (range_with_len (length es) n)) {x = 0} {y = length es - length es} (omega arith);
       done = λ k d from within. absurd (omega (arith, from, within));
     }
+
+pub index_mut-requires-in-loop-i-2 : goal.index_mut-requires-in-loop-i-2
+index_mut-requires-in-loop-i-2 c = grind arith
+
+pub index_mut-requires-in-loop-i : goal.index_mut-requires-in-loop-i
+index_mut-requires-in-loop-i c = grind arith
+
+pub index-requires : goal.index-requires
+index-requires c = grind arith
+
+pub index-first-requires : goal.index-first-requires
+index-first-requires c = grind arith

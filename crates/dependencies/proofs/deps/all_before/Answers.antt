@@ -29,3 +29,15 @@ pub returns-clause-value : goal.returns-clause-value
 returns-clause-value c =
     let es = c.args.exchanges.now in
     c.loop-i.invariant.done ∙ ap (λ n. map (predecessors_of es) (range_with_len 0 n)) {y = length es} (omega arith)
+
+pub index_mut-requires-in-loop-i : goal.index_mut-requires-in-loop-i
+index_mut-requires-in-loop-i c = grind arith
+
+pub index_mut-requires : goal.index_mut-requires
+index_mut-requires c = omega (arith, c.loop-i.invariant.size, (c.requires.planned c.loop-i.i no_exchange c.loop-i-test.true).initiator)
+
+pub index-requires : goal.index-requires
+index-requires c = omega (arith, c.loop-i.invariant.size, (c.requires.planned c.loop-i.i no_exchange c.loop-i-test.true).responder)
+
+pub index-first-requires : goal.index-first-requires
+index-first-requires c = omega (arith, c.loop-i.invariant.size, (c.requires.planned c.loop-i.i no_exchange c.loop-i-test.true).initiator)

@@ -1,3 +1,4 @@
+use Rattle.std.proofs.lemmas.Grind.{common_steps}
 use Rattle.runs.proofs.Common.{arith, ◌≡◌, ◌≤◌, ◌<◌, ◌+◌, length, subst, length-take, OutOfMemory, MOST_BYTES}
 use Rattle.runs.specs.Inputs.{Gave}
 use Rattle.runs.proofs.InputFacts.{at_fault, ended, gave_more, gave_up_to, had_more, never_failed, pushed, was_sound}
@@ -60,3 +61,9 @@ returns-then-count-eq0-clause-whole g c =
       sound = c.in-Ok.ensures.fails;
       was_sound = was_sound g.R.Source _ _ c.loop-count.invariant.stays (λ failed. (c.in-Ok.ensures.stays failed).0);
     }
+
+pub slice_bounds-extend_from_slice-end : goal.slice_bounds-extend_from_slice-end
+slice_bounds-extend_from_slice-end g c = grind (arith, common_steps)
+
+pub slice_bounds-chunk-end-in-loop-count : goal.slice_bounds-chunk-end-in-loop-count
+slice_bounds-chunk-end-in-loop-count g c = grind (arith, common_steps)

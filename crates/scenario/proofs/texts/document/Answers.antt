@@ -1,4 +1,4 @@
-use Rattle.scenario.proofs.Common.{◌≡◌, ℕ, Bool, true, false, List, Option, None, cond, IsUtf8, refl, ◌∙◌, is_utf8, IsUtf8-from_is_utf8, is_utf8-from_IsUtf8, parse_document}
+use Rattle.scenario.proofs.Common.{◌≡◌, ℕ, Bool, true, false, List, Option, None, cond, IsUtf8, refl, arith, ◌∙◌, is_utf8, IsUtf8-from_is_utf8, is_utf8-from_IsUtf8, parse_document}
 use Rattle.scenario.specs.Order.{document_of}
 use Rattle.scenario.proofs.texts.document.Goals as goal
 
@@ -20,3 +20,12 @@ pub returns-in-Ok-table_from_str-clause-ok : goal.returns-in-Ok-table_from_str-c
 returns-in-Ok-table_from_str-clause-ok c =
     let text = c.in-Ok.ensures.cases in
     document_of-text c.args.bytes.now text.1 ∙ rw text.0 at c.in-Ok-table_from_str.ensures.ok
+
+pub returns-in-Err-2-clause-refused : goal.returns-in-Err-2-clause-refused
+returns-in-Err-2-clause-refused c = grind arith
+
+pub returns-in-Err-table_from_str-clause-no_text : goal.returns-in-Err-table_from_str-clause-no_text
+returns-in-Err-table_from_str-clause-no_text c = grind arith
+
+pub returns-in-Err-table_from_str-clause-refused : goal.returns-in-Err-table_from_str-clause-refused
+returns-in-Err-table_from_str-clause-refused c = grind arith

@@ -31,7 +31,8 @@ cut_here sink old now new text rest so_far was kept failed stays =
     ap (take (length so_far.front)) so_far.whole ∙ take-append_seam so_far.front rest in
     record {
       count = length so_far.front;
-      taken = subst (Appends (sink.taken old) (sink.taken new)) (sym seam) (Appends-kept (sink.taken old) (sink.taken now) (sink.taken new) so_far.front so_far.taken kept);
+      taken = subst (Appends (sink.taken old) (sink.taken new)) (sym seam)
+          (Appends-kept (sink.taken old) (sink.taken now) (sink.taken new) so_far.front so_far.taken kept);
       failed = failed;
       stays = λ broken. (stays (ap sink.failed (was broken) ∙ broken)).1 ∙ was broken;
     }

@@ -133,7 +133,8 @@ module _ {N : Type 0} {number : N → ℕ} {most : ℕ} {offer : Offer N} (is : 
     near_is = rw start (λ r lt. let none = weight_of-none (λ _. 1) cells keys r (low r) (low r) (omega arith) in omega (arith, none));
   }
 
-  module _ {near : List N} {whole left : ℕ} {next : Step N} (has : HasLayers number offer near whole left) (step : IsNextLayer number offer (marks number near) next) where
+  module _ {near : List N} {whole left : ℕ} {next : Step N} (has : HasLayers number offer near whole left)
+      (step : IsNextLayer number offer (marks number near) next) where
     abbrev last : ℕ → ℕ
     last = marks number next.marks.items
 
@@ -141,7 +142,8 @@ module _ {N : Type 0} {number : N → ℕ} {most : ℕ} {offer : Offer N} (is : 
     far_is r lt = layer-more cells keys r (low r) has.layers (marks number near r) (has.near_is r lt) (last r) (is.differ r lt) (step.next r lt)
 
     -- the level at which they end
-    pub level-of_layers : AreLevelMarks Oldest Oldest (λ owner number. rank_above cells keys owner (low owner) number) cells nodes keys low (marks number near) last
+    pub level-of_layers : AreLevelMarks Oldest Oldest (λ owner number. rank_above cells keys owner (low owner) number) cells nodes keys low
+        (marks number near) last
     level-of_layers = record {
       next = has.layers;
       near_is = λ r key lt in_keys over. layer-lets cells keys r (low r) has.layers (marks number near r) (has.near_is r lt) key in_keys over;

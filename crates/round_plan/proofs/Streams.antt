@@ -9,7 +9,8 @@ use Rattle.round_plan.specs.calls.Words.{AreWordsOf}
 use Rattle.round_plan.specs.inner.Streams.{stream_of, AreNextWords, HasDrawn, HaveDrawn, StandBefore, ArePartsOf}
 
 -- the words that come next in a node's stream at the begin of a round are those of the round
-pub words_next : (seed node round : ℕ) (stream : ChaCha) (words : List ℕ) → stream ≡ stream_of seed node round 0 → AreNextWords stream words → AreWordsOf seed node round words
+pub words_next : (seed node round : ℕ) (stream : ChaCha) (words : List ℕ) → stream ≡ stream_of seed node round 0 → AreNextWords stream words → AreWordsOf seed
+    node round words
 unfolding word_by
 words_next seed node round stream words is next = record {
   count = next.count;
@@ -44,7 +45,8 @@ pub record HaveDrawnUpto (old new : List NodeWords) (i : ℕ) : Type 0 where
   pub rest : (k : ℕ) (d : NodeWords) → i ≤ k → get_or new k d ≡ get_or old k d
 
 -- where they have the words of a round next, they then stand in it
-pub parts_next : (seed round : ℕ) (old new : List NodeWords) → 1 ≤ round → round ≤ MOST_ROUNDS → StandBefore seed round old → HaveDrawn old new → ArePartsOf seed round new
+pub parts_next : (seed round : ℕ) (old new : List NodeWords) → 1 ≤ round → round ≤ MOST_ROUNDS → StandBefore seed round old → HaveDrawn old new → ArePartsOf
+    seed round new
 parts_next seed round old new first last before drawn = record {
   last = last;
   each = λ node d lt.

@@ -7,5 +7,6 @@ pub split_seat-requires-whole : goal.split_seat-requires-whole
 split_seat-requires-whole g c κs w = with_step w (
   c.requires.seat.id,
   word_zero c.args.self.now,
-  split_allowed g.T.MemoryTable.table (plan_of g.T.MemoryTable.table c.args.self.now) _ c.args.seat.now.raw.me.0 (seat_view c.args.seat.now) c.requires.parts (resting_seat g.T.MemoryTable.table c.args.self.now c.args.seat.now c.requires.seat),
+  split_allowed g.T.MemoryTable.table (plan_of g.T.MemoryTable.table c.args.self.now) _ c.args.seat.now.raw.me.0 (seat_view c.args.seat.now) c.requires.parts
+      (resting_seat g.T.MemoryTable.table c.args.self.now c.args.seat.now c.requires.seat),
 )

@@ -12,7 +12,8 @@ invariant_of-self c =
     let kept = back fields.parts.len fields.parts.items new drawn.count fields.parts.ok.0 in
     let last = subst (λ r. r < MOST_ROUNDS) (sym (ap (λ (v : RunWordsView). v.round) c.self.view_is)) c.requires in
     subst (ArePartsOf fields.seed (fields.round + 1)) (sym kept)
-    (parts_next fields.seed (fields.round + 1) fields.parts.items new (omega arith) (omega (arith, last)) (λ node d lt. (c.self.invariant.each node d lt).stream) drawn)
+    (parts_next fields.seed (fields.round + 1) fields.parts.items new (omega arith) (omega (arith, last))
+        (λ node d lt. (c.self.invariant.each node d lt).stream) drawn)
 
 pub returns : goal.returns
 returns c =

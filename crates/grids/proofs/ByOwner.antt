@@ -1,6 +1,10 @@
 -- Tables whose owners are gone over one by one.
 -- Serves `drop_owner`, `merge_owners`, `raise_owner`, `take_owner`, `take_owners` and `version_tables`.
-use Rattle.grids.proofs.Common.{◌≡◌, ◌≢◌, ℕ, ◌+◌, ◌*◌, ◌<◌, ◌≤◌, ◌==◌, cond, List, length, get_or, set, map, nat_lt, inl, inr, refl, sym, ap, ◌∙◌, subst, arith, below_more, nat_tests, mul-le-mul_right, lt-ltb, le-ltb, get_or-set_same, get_or-set_other, length-set, map-set, sum_below, sum_below-same, Cells, cell, count_above, number_raised, HasNoneAbove, IsRaised, ArePlanesChanged, ArePlanesChangedUpto, HasRaisedOwner, owner_counted, owner_passed}
+use Rattle.grids.proofs.Common.{Fits, w64, IsGrid, plane-within, scaled_fits≤, ◌≡◌, ◌≢◌, ℕ, ◌+◌, ◌*◌, ◌^◌, ◌<◌, ◌≤◌, ◌==◌, cond, List, length, get_or, set, map, nat_lt, inl, inr, refl, sym, ap, ◌∙◌, subst, arith, below_more, nat_tests, mul-le-mul_right, lt-ltb, le-ltb, get_or-set_same, get_or-set_other, length-set, map-set, sum_below, sum_below-same, Cells, cell, count_above, number_raised, HasNoneAbove, IsRaised, ArePlanesChanged, ArePlanesChangedUpto, HasRaisedOwner, owner_counted, owner_passed}
+
+-- an owner's place in bytes, among numbers that are owned memory
+pub place-fits : (nodes keys size key r k : ℕ) → IsGrid nodes keys size → key < keys → r < nodes → size * k < 2 ^ 63 → Fits w64 ((key * nodes + r) * k)
+place-fits nodes keys size key r k grid lt in_nodes room = scaled_fits≤ _ size _ (omega (arith, plane-within nodes keys size key grid lt)) room
 
 -- numbers of one owner are changed
 abbrev pub owner_changed : (ℕ → ℕ → ℕ → ℕ) → ℕ → ℕ → ℕ → ℕ → ℕ → Type 0

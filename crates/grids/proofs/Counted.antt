@@ -2,17 +2,8 @@
 -- Serves the functions of `counts`, `grids`, `lags` and `merges`.
 use Rattle.grids.proofs.Common.{◌≡◌, ℕ, AreChangedUpto, AnswersBy, Made, AreCounted, IsCounted, refl, count_same, subst, ◌+◌, ◌*◌, ◌<◌, ◌≤◌, Bool, cond, nat_tests, List, length, get_or, map, take, drop, nat_lt, max, sym, ◌∙◌, ap, arith, length-map, put_mid, sum_below, cell, number_ahead, total_above, total_of, IsGrid, ArePlanesChangedUpto, ArePlanesChanged, AreCountedUpto, AreRaisedUpto, number_raised, count_passing, HasNoOtherMark, HasEachPlace, HasNoneUptoMark, number_kept, changed_all, sum_next, plane-cells, plane_count, planes-all, planes-written, block-cells, plane-within, total-places, total-same, total_whole}
 
--- numbers that calls change and count: none, and a part behind another one
+-- numbers that calls change and count: a part behind another one
 module _ {N : Type 0} (number : N → ℕ) (makes : ℕ → N → Made N → Type 0) where
-  pub counted_none : (xs : List N) (from : ℕ) → AreCounted number makes xs xs from 0 (0, 0)
-  counted_none xs from = record {
-    upto = (omega arith, omega arith);
-    numbers = λ made is whole before. subst (AreChangedUpto _ whole _) (omega arith) before;
-    rest = λ r le. refl;
-    first = λ test is whole waits before was. count_same _ from _ before _ was (omega arith) (omega arith);
-    second = λ test is whole waits before was. count_same _ from _ before _ was (omega arith) (omega arith);
-  }
-
   -- one question's count
   answered_joined : (answer : Made N → Bool) (xs ys : List N) (start from mid size one two : ℕ) → IsCounted number answer makes xs start from one
       → IsCounted number answer makes ys mid size two → start + from ≡ mid → length ys ≡ length xs

@@ -1,9 +1,6 @@
 use Rattle.grids.proofs.Common.{◌≡◌, ◌+◌, ◌-◌, arith, length}
-use Rattle.grids.proofs.Counted.{counted_none, counted_joined}
+use Rattle.grids.proofs.Counted.{counted_joined}
 use Rattle.grids.proofs.counts.change_counting.Goals as goal
-
-pub loop-numbers-init : goal.loop-numbers-init
-loop-numbers-init g c = record { within = omega arith; counted = counted_none g.N.Number.number _ c.args.numbers.now 0 }
 
 pub loop-numbers-preserved : goal.loop-numbers-preserved
 loop-numbers-preserved g c = record {

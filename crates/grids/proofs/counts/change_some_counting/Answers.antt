@@ -1,9 +1,5 @@
-use Rattle.grids.proofs.Common.{◌≡◌, ℕ, ◌+◌, ◌<◌, ap, ◌∙◌, arith, length, length-map, if◌then◌else◌, map, map-set, get_or-set_other, subst, AreChangedUpto, number-at, number-waits, written_next, count_next, one_le}
-use Rattle.grids.proofs.Counted.{counted_none}
+use Rattle.grids.proofs.Common.{scaled_fits≤, ◌≡◌, ℕ, ◌+◌, ◌<◌, ◌≤◌, ap, ◌∙◌, arith, length, length-map, if◌then◌else◌, map, map-set, get_or-set_other, subst, AreChangedUpto, number-at, number-waits, written_next, count_next, one_le}
 use Rattle.grids.proofs.counts.change_some_counting.Goals as goal
-
-pub loop-i-init : goal.loop-i-init
-loop-i-init g c = rw (c.zero-first.ensures, c.zero-second.ensures) (counted_none g.N.Number.number _ c.args.numbers.now c.args.from)
 
 pub loop-i-preserved : goal.loop-i-preserved
 loop-i-preserved g c =
@@ -36,3 +32,6 @@ pub returns : goal.returns
 returns g c =
     let all : c.loop-i.i ≡ c.args.size = omega arith in
     rw (← all, c.widen.ensures, c.widen-2.ensures) c.loop-i.invariant
+
+pub offset_bounds-numbers-r-in-loop-i : goal.offset_bounds-numbers-r-in-loop-i
+offset_bounds-numbers-r-in-loop-i g c = let at : c.args.from + c.loop-i.i ≤ length c.args.numbers.now = omega arith in search scaled_fits≤

@@ -1,4 +1,4 @@
-use Rattle.grids.proofs.Common.{◌<◌, sym, arith, length, get_or-map, map, ◌∙◌, length-map, cell}
+use Rattle.grids.proofs.Common.{scaled_fits≤, ◌≤◌, ◌<◌, sym, ap, arith, length, get_or-map, map, ◌∙◌, length-map, cell}
 use Rattle.grids.proofs.Counted.{masked-once}
 use Rattle.grids.proofs.grids.ahead.Goals as goal
 
@@ -15,3 +15,12 @@ returns-then-has_none_upto-clause-ahead g c =
     (length-map low number ∙ c.requires.marks.count) (c.has_no_other_mark.ensures.0 c.if-has_no_other_mark.true) mark
     (rw c.deref.ensures.value at (c.has_none_upto.ensures.0 c.if-has_none_upto.true)) above.numbers above.count in
     record { numbers = all.0; count = all.1; held = above.held }
+
+pub offset_bounds-peer-own : goal.offset_bounds-peer-own
+offset_bounds-peer-own g c = let within : c.args.peer.own ≤ length c.args.peer.low.now = omega arith in search scaled_fits≤
+
+pub has_none_upto-requires : goal.has_none_upto-requires
+has_none_upto-requires g c =
+    let above = c.in_ok-above.ensures.above.numbers.size in
+    let size = ap length c.deref.ensures.value ∙ sym (length-map c.in_ok-above.above.numbers.items g.N.Number.number) ∙ above in
+    record { grid = record { whole = size; few_nodes = c.requires.marks.shape.few_nodes; few_keys = c.requires.marks.shape.few_keys }; among = c.requires.among }

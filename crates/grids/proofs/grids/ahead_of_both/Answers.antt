@@ -1,4 +1,4 @@
-use Rattle.grids.proofs.Common.{ℕ, ◌+◌, ◌*◌, ◌-◌, ◌≤◌, drop, length-drop, length-take-le, ap, ◌∙◌, arith, length, map, max, nat_lt, slice_index, length-map, with_items_is, cell, count_passing, number_ahead, plane_count, rules, plane-fits, plane-within, sum_next, sym, total-places, total_whole}
+use Rattle.grids.proofs.Common.{scaled_fits≤, ℕ, ◌+◌, ◌*◌, ◌-◌, ◌≤◌, drop, length-drop, length-take-le, ap, ◌∙◌, arith, length, map, max, nat_lt, slice_index, length-map, with_items_is, cell, count_passing, number_ahead, plane_count, rules, plane-fits, plane-within, sum_next, sym, total-places, total_whole}
 use Rattle.grids.proofs.Counted.{answered-all, counted-as, planes_counted-next, planes_counted-all, total-kept}
 use Rattle.grids.proofs.grids.ahead_of_both.Goals as goal
 
@@ -65,3 +65,9 @@ slice_bounds-block-end g c =
     let room : c.loop-key.key * c.args.grid.size.nodes + c.args.grid.size.nodes ≤ length c.loop-key.all =
     omega (arith, c.in_ok-numbers.ensures.zeros.size, length-map c.deref_mut-all.result.now g.N.Number.number) in
     search rules
+
+pub offset_bounds-all-start : goal.offset_bounds-all-start
+offset_bounds-all-start g c =
+    let all = ap (λ xs. length (map g.N.Number.number xs)) c.deref_mut-all.ensures.value in
+    let within = plane-within _ _ _ c.loop-key.key c.requires.peer.marks.shape c.loop-key-test.true in
+    scaled_fits≤ _ _ _ (omega (arith, c.in_ok-numbers.ensures.zeros.size, length-map c.deref_mut-all.result.now g.N.Number.number)) c.deref_mut-all.type_inv.1

@@ -1,9 +1,9 @@
-use Rattle.grids.proofs.Common.{◌+◌, ◌*◌, arith, rules, sym, ◌∙◌, ap, length-map, get_or-map, plane-within, number_kept}
-use Rattle.grids.proofs.ByOwner.{owner-next}
+use Rattle.grids.proofs.Common.{◌+◌, ◌*◌, arith, sym, ◌∙◌, ap, length-map, get_or-map, plane-within, number_kept}
+use Rattle.grids.proofs.ByOwner.{place-fits, owner-next}
 use Rattle.grids.proofs.grids.drop_owner.Goals as goal
 
 pub offset_bounds-cells-key : goal.offset_bounds-cells-key
-offset_bounds-cells-key g c = search (rules, plane-within _ _ _ c.loop-key.key c.requires.grid c.loop-key-test.true)
+offset_bounds-cells-key g c = search place-fits
 
 pub loop-key-preserved : goal.loop-key-preserved
 loop-key-preserved g c =

@@ -15,3 +15,10 @@ loop-key-preserved g c =
 
 pub returns : goal.returns
 returns g c = (λ yes key lt. c.loop-key.invariant key (omega (arith, lt, c.loop-key-test.false)), λ none. refl)
+
+pub returns-then-is_between : goal.returns-then-is_between
+returns-then-is_between g c =
+    let within = plane-within _ _ _ c.loop-key.key c.requires.grid c.loop-key-test.true in
+    let at = number-at g.N.Number.number c.args.cells.now _ c.index-cells-key.result (omega arith) c.index-cells-key.is in
+    let is = c.is_between.ensures ∙ (λ i. nat_lt (c.zero.ensures i) (at i) && nat_le (at i) (g.N.Number.number c.args.mark)) in
+    (λ yes key lt. cc, λ none. sym (none c.loop-key.key c.loop-key-test.true) ∙ sym is ∙ c.if-is_between.true)

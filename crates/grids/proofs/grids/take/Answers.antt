@@ -1,5 +1,13 @@
-use Rattle.grids.proofs.Common.{◌+◌, ◌*◌, ◌-◌, max, ◌≡◌, ◌∙◌, arith, taken_by, grid-within, plane-fits, plane-within, rules, block-cells, planes-written, planes-all, each-next, raised-next}
+use Rattle.grids.proofs.Common.{inl, refl, length-map, scaled_fits≤, ◌≤◌, length, ◌+◌, ◌*◌, ◌-◌, max, ◌≡◌, ◌∙◌, arith, taken_by, grid-within, plane-fits, plane-within, block-cells, planes-written, planes-all, each-next, raised-next}
 use Rattle.grids.proofs.grids.take.Goals as goal
+
+pub loop-key-init : goal.loop-key-init
+loop-key-init g c =
+    let size = length-map c.args.greatest.now g.N.Number.number ∙ c.requires.may.greatest_count in
+    record {
+      cells = record { size = refl; below = λ r k lt no. absurd (omega arith); from = λ i le. refl };
+      greatest = record { size = size; each = λ r lt. record { rises = omega arith; upto = λ k no. absurd (omega arith); from = inl refl } };
+    }
 
 pub loop-key-preserved : goal.loop-key-preserved
 loop-key-preserved g c =
@@ -26,5 +34,7 @@ returns g c =
 pub overflow_mul-start : goal.overflow_mul-start
 overflow_mul-start g c = plane-fits _ _ _ c.loop-key.key c.requires.may.beside.shape c.loop-key-test.true
 
-pub slice_bounds-block-end : goal.slice_bounds-block-end
-slice_bounds-block-end g c = search (rules, plane-within _ _ _ c.loop-key.key c.requires.may.beside.shape c.loop-key-test.true)
+pub offset_bounds-cells-start : goal.offset_bounds-cells-start
+offset_bounds-cells-start g c =
+    let within = plane-within _ _ _ c.loop-key.key c.requires.may.beside.shape c.loop-key-test.true in
+    let room : c.loop-key.key * c.args.sent.grid.size.nodes ≤ length c.args.cells.now = omega arith in search scaled_fits≤

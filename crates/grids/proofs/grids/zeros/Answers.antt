@@ -2,13 +2,6 @@ use Rattle.grids.proofs.Common.{◌≡◌, ℕ, ◌-◌, replicate, sym, ap, ◌
 use Rattle.std.proofs.lemmas.List.Elements.{All-append}
 use Rattle.grids.proofs.grids.zeros.Goals as goal
 
-pub loop-filled-init : goal.loop-filled-init
-loop-filled-init g c = record {
-  size = sym c.in_ok-numbers.numbers.ok.0 ∙ c.in_ok-numbers.ensures.len;
-  within = omega arith;
-  each = rw c.in_ok-numbers.ensures.items (λ r d lt. absurd (omega arith));
-}
-
 pub loop-filled-preserved : goal.loop-filled-preserved
 loop-filled-preserved g c =
     let number = g.N.Number.number in

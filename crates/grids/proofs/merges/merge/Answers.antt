@@ -1,4 +1,4 @@
-use Rattle.grids.proofs.Common.{◌+◌, ◌*◌, ◌≤◌, length, arith, map, length-map, grid-within, plane-fits, plane-within, rules}
+use Rattle.grids.proofs.Common.{scaled_fits≤, ◌+◌, ◌*◌, ◌≤◌, length, arith, map, length-map, grid-within, plane-fits, plane-within, rules}
 use Rattle.grids.proofs.Counted.{merged-next, planes_counted-all}
 use Rattle.grids.proofs.merges.merge.Goals as goal
 
@@ -32,3 +32,13 @@ slice_bounds-one-end g c = search (rules, plane-within _ _ _ c.loop-key.key c.re
 
 pub slice_bounds-other-end : goal.slice_bounds-other-end
 slice_bounds-other-end g c = search (rules, plane-within _ _ _ c.loop-key.key c.requires.marked.grid c.loop-key-test.true)
+
+pub offset_bounds-first-start : goal.offset_bounds-first-start
+offset_bounds-first-start g c =
+    let within = plane-within _ _ _ c.loop-key.key c.requires.marked.grid c.loop-key-test.true in
+    let room : c.loop-key.key * c.args.marks.size.nodes ≤ length c.args.first.now = omega arith in search scaled_fits≤
+
+pub offset_bounds-second-start : goal.offset_bounds-second-start
+offset_bounds-second-start g c =
+    let within = plane-within _ _ _ c.loop-key.key c.requires.marked.grid c.loop-key-test.true in
+    let room : c.loop-key.key * c.args.marks.size.nodes ≤ length c.args.second.now = omega arith in search scaled_fits≤

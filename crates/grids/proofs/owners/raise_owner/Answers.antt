@@ -1,9 +1,12 @@
 use Rattle.grids.proofs.Common.{◌≡◌, ℕ, ◌+◌, ◌*◌, nat_lt, max, sym, ◌∙◌, arith, rules, if◌then◌else◌, length-map, get_or-map, number-at, one_le, sum_next, plane-within, planes-all}
-use Rattle.grids.proofs.ByOwner.{owner-next}
+use Rattle.grids.proofs.ByOwner.{place-fits, owner-next}
 use Rattle.grids.proofs.owners.raise_owner.Goals as goal
 
 pub offset_bounds-cells-key : goal.offset_bounds-cells-key
-offset_bounds-cells-key g c = search (rules, plane-within _ _ _ c.loop-key.key c.requires.0.shape c.loop-key-test.true)
+offset_bounds-cells-key g c = search place-fits
+
+pub bounds-cells-key : goal.bounds-cells-key
+bounds-cells-key g c = omega (arith, plane-within _ _ _ c.loop-key.key c.requires.0.shape c.loop-key-test.true)
 
 pub loop-key-preserved : goal.loop-key-preserved
 loop-key-preserved g c =

@@ -1,10 +1,10 @@
-use Rattle.grids.proofs.Common.{number_taken, ◌≡◌, ℕ, ◌+◌, ◌*◌, ◌&&◌, nat_lt, nat_le, slice_index, max, cond, sym, ap, ◌∙◌, arith, rules, map, length-map, get_or-map, cell, number-at, plane-within, planes-all, raised-next}
-use Rattle.grids.proofs.ByOwner.{owner-next, owner-stays}
+use Rattle.grids.proofs.Common.{number_taken, ◌≡◌, ℕ, ◌+◌, ◌*◌, ◌&&◌, nat_lt, nat_le, slice_index, max, cond, sym, ap, ◌∙◌, arith, map, length-map, get_or-map, cell, number-at, plane-within, planes-all, raised-next}
+use Rattle.grids.proofs.ByOwner.{place-fits, owner-next, owner-stays}
 use Rattle.grids.proofs.owners.take_owner.Goals as goal
 use Rattle.grids.proofs.owners.take_owner.Goals.{then-is_between, else-is_between}
 
 pub offset_bounds-cells-key : goal.offset_bounds-cells-key
-offset_bounds-cells-key g c = search (rules, plane-within _ _ _ c.loop-key.key c.requires.beside.shape c.loop-key-test.true)
+offset_bounds-cells-key g c = search place-fits
 
 pub loop-key-preserved : goal.loop-key-preserved
 loop-key-preserved g c =
@@ -45,3 +45,9 @@ returns g c =
       cells = planes-all _ _ _ _ c.args.sent.grid.size.keys c.loop-key.key c.loop-key.invariant.cells c.loop-key-test.false;
       greatest = rw (← all) c.loop-key.invariant.greatest;
     }
+
+pub bounds-cells-key : goal.bounds-cells-key
+bounds-cells-key g c = omega (arith, plane-within _ _ _ c.loop-key.key c.requires.beside.shape c.loop-key-test.true)
+
+pub bounds-numbers-key : goal.bounds-numbers-key
+bounds-numbers-key g c = omega (arith, plane-within _ _ _ c.loop-key.key c.requires.beside.shape c.loop-key-test.true)

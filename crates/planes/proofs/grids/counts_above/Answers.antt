@@ -1,6 +1,6 @@
 use Rattle.planes.proofs.Common.{◌≡◌, ◌<◌, nat_lt, slice_index, ◌∙◌, arith, map, if◌then◌else◌, with_items_is, length-map, cell}
 use Rattle.planes.proofs.Counts.{count_le, number_next}
-use Rattle.planes.proofs.Places.{each-next, plane-within}
+use Rattle.planes.proofs.Places.{each-next}
 use Rattle.planes.proofs.grids.counts_above.Goals as goal
 
 pub change-requires : goal.change-requires
@@ -25,9 +25,3 @@ pub returns-clause-counts : goal.returns-clause-counts
 returns-clause-counts g c =
     let all : c.loop-key.key ≡ c.args.grid.size.keys = omega arith in
     rw (with_items_is c.in_ok-counts.counts c.loop-key.all (c.loop-key.auto.all ∙ c.deref_mut-all.ensures.len), ← all) c.loop-key.invariant
-
-pub loop-key-init : goal.loop-key-init
-loop-key-init g c = rw c.deref_mut-all.ensures.value c.in_ok-counts.ensures.zeros
-
-pub plane_of-plane-requires : goal.plane_of-plane-requires
-plane_of-plane-requires g c = record { within = plane-within _ _ _ c.loop-key.key c.requires.marked.shape c.loop-key-test.true }

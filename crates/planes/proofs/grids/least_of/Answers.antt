@@ -1,5 +1,5 @@
 use Rattle.planes.proofs.Common.{◌≡◌, ℕ, ◌+◌, ◌*◌, ◌<◌, ◌∙◌, ap, arith, rules, inl, length, length-map, with_items_is, MOST_KEYS, MOST_NODES}
-use Rattle.planes.proofs.Places.{plane-within, plane-fits, grid-few, each-next}
+use Rattle.planes.proofs.Places.{plane-within, grid-few, each-next}
 use Rattle.planes.proofs.Behind.{each-turned, least-more}
 use Rattle.std.proofs.iter.Serving.{serving}
 use Rattle.planes.proofs.grids.least_of.Goals as goal
@@ -18,9 +18,6 @@ pub returns-clause-least : goal.returns-clause-least
 returns-clause-least g c values is =
     let all : c.loop-key.key ≡ c.args.size.keys = omega arith in
     rw (with_items_is c.in_ok-least.least c.loop-key.all (c.loop-key.auto.all ∙ c.deref_mut-all.ensures.len), ← all) (c.loop-key.invariant values is)
-
-pub overflow_mul-start : goal.overflow_mul-start
-overflow_mul-start g c = plane-fits _ _ _ c.loop-key.key c.requires.grid c.loop-key-test.true
 
 pub loop-key-init : goal.loop-key-init
 loop-key-init g c values is = rw c.deref_mut-all.ensures.value (each-turned _ _ _ _ c.in_ok-least.ensures.numbers (λ r n now. record {

@@ -1,6 +1,6 @@
 use Rattle.planes.proofs.Common.{◌≡◌, sym, ◌∙◌, ap, arith, length, map, length-map, cell}
 use Rattle.planes.proofs.Counts.{sum_next}
-use Rattle.planes.proofs.Places.{plane_count, plane-within, total_whole}
+use Rattle.planes.proofs.Places.{plane_count, total_whole}
 use Rattle.planes.proofs.grids.total.Goals as goal
 
 pub loop-key-preserved : goal.loop-key-preserved
@@ -21,13 +21,6 @@ returns g c test is =
     let cells = cell (map g.N.Number.number c.args.grid.cells.now) c.args.grid.size.nodes in
     total_whole c.args.grid.size.nodes c.args.grid.size.keys c.loop-key.key (λ r k. test r (cells r k)) c.loop-key.total (c.loop-key.invariant.total test is)
     c.loop-key-test.false c.loop-key.auto.key-end
-
-pub plane_of-plane-requires : goal.plane_of-plane-requires
-plane_of-plane-requires g c = record { within = plane-within _ _ _ c.loop-key.key c.requires.grid c.loop-key-test.true }
-
-pub how_many-total-requires-clause-room : goal.how_many-total-requires-clause-room
-how_many-total-requires-clause-room g c =
-    omega (arith, length-map c.plane_of-plane.result.now g.N.Number.number, c.plane_of-plane.ensures.size, c.requires.grid.few_nodes)
 
 pub how_many-total-requires-clause-passes : goal.how_many-total-requires-clause-passes
 how_many-total-requires-clause-passes g c r n lt =

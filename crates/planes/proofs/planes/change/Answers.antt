@@ -11,14 +11,3 @@ loop-r-preserved g c =
 
 pub returns : goal.returns
 returns g c = changed_all _ _ _ _ c.loop-r.invariant (omega (arith, c.loop-r-test.false, length-map c.args.numbers.now g.N.Number.number))
-
-pub bounds-numbers-r : goal.bounds-numbers-r
-bounds-numbers-r g c = omega (arith, c.loop-r-test.true, c.loop-r.auto.numbers)
-
-pub bounds-numbers-r-in-loop-r : goal.bounds-numbers-r-in-loop-r
-bounds-numbers-r-in-loop-r g c = omega (arith, c.loop-r-test.true, c.loop-r.auto.numbers)
-
-pub to-requires : goal.to-requires
-to-requires g c = c.requires.to c.loop-r.r c.index-numbers-r.result c.loop-r-test.true
-    (number-waits _ _ g.N.Number.number c.loop-r.numbers c.loop-r.r c.index-numbers-r.result c.loop-r.invariant
-    (omega (arith, c.loop-r-test.true, c.loop-r.auto.numbers)) c.index-numbers-r.is)

@@ -2,11 +2,6 @@ use Rattle.planes.proofs.Common.{◌<◌, min, arith, rules, length, length-map,
 use Rattle.planes.proofs.Elementwise.{number-at, made-as}
 use Rattle.planes.proofs.planes.lower.Goals as goal
 
-pub change-requires : goal.change-requires
-change-requires g c = record {
-  to = λ r n lt is. let below : r < length c.args.plane.now = omega (arith, lt, c.requires.plane) in search rules;
-}
-
 pub returns : goal.returns
 returns g c =
     let low = slice_index (map g.N.Number.number c.args.plane.now) in

@@ -70,7 +70,7 @@ pub rests_again : {T : Type 0} (table : T → Table) (board : Board T) (old new 
     → ((i : ℕ) → times i v.held ≤ times i (seat_view old).held) → IsSeatOf table new board
 rests_again table board old new v was same is parts held =
     seat_kept table board old new v was same (rests_of table new.raw.me (resting old.raw.me.0.plan v) is ∙ ap (λ (p : BoardPlan). (resting p v, [])) was.plan)
-        parts held
+    parts held
 
 -- a claim that was won
 pub out_of : {T : Type 0} (table : T → Table) (plan : BoardPlan) (m n : Me (Option T) View) (i : ℕ) → m.0.plan ≡ plan → 0 < m.0.seat.parts → TookOut
@@ -83,8 +83,11 @@ out_of table plan m n i planned parts took =
     record {
       initiator = out.0;
       responder = out.1;
-      seat = out.2 ∙ (λ k. (view (planned k) (sym seat k) (i ∷ []) [], (responder_of (planned k) i, Some out.1) ∷ (initiator_of (planned k) i, Some out.0) ∷
-          []));
+      seat = out.2 ∙ (λ k. (
+        view (planned k) (sym seat k) (i ∷ []) [],
+        (responder_of (planned k) i, Some out.1) ∷ (initiator_of (planned k) i, Some out.0) ∷
+            [],
+      ));
       first = out.3 ∙ ap (λ p. table_at p (initiator_of p i) i) planned;
       second = out.4 ∙ ap (λ p. table_at p (responder_of p i) i) planned;
       parts = omega (arith, parts, ap (λ (v : SeatView). v.parts) seat);
@@ -110,7 +113,7 @@ module _ {T : Type 0} (table : T → Table) (board : Board T) (old : Seat T) (i 
   claim_held is hold new within holds same me =
       let seat = claim_won_seat is in
       let me' : new.raw.me ≡ (resting board_plan (with_held (seat_view old) i), []) = me ∙ ap (λ (v : SeatView). (resting board_plan (with_held v i), []))
-          seat in (
+      seat in (
         seat_again table board old new (with_held (seat_view old) i) was same me' was.rests.parts (λ j there. elim (cases_eq i j) [
           | inl here ↦ omega (arith, within, here)
           | inr other ↦ was.within j (omega (arith, there, total-append (only j) (seat_view old).held (i ∷ []), only-other j i other))
@@ -123,10 +126,12 @@ module _ {T : Type 0} (table : T → Table) (board : Board T) (old : Seat T) (i 
   claim_taken is new same me =
       let now = rests_of table n (resting old.raw.me.0.plan (with_told (seat_view old) i)) ((told i refl).2 is) in
       let me' : new.raw.me ≡ (resting board_plan (with_told (seat_view old) i), []) = me ∙ now ∙ ap
-          (λ (p : BoardPlan). (resting p (with_told (seat_view old) i), [])) was.plan in (
+      (λ (p : BoardPlan). (resting p (with_told (seat_view old) i), [])) was.plan in (
         seat_kept table board old new (with_told (seat_view old) i) was same me' refl (λ j. omega arith),
-        (seat_of_me new.raw.me board_plan (with_told (seat_view old) i) me',
-            (λ whole. omega (arith, facts.whole_taken whole is, total-append (only i) (seat_view old).made (seat_view old).held))),
+        (
+          seat_of_me new.raw.me board_plan (with_told (seat_view old) i) me',
+          (λ whole. omega (arith, facts.whole_taken whole is, total-append (only i) (seat_view old).made (seat_view old).held)),
+        ),
       )
 
   pub claim_refused : r ≢ 0 → r ≢ TAKEN → (new : Seat T) → new.raw.table_id ≡ old.raw.table_id → new.raw.me ≡ n → IsSeatOf table new board × Claims table
@@ -136,25 +141,28 @@ module _ {T : Type 0} (table : T → Table) (board : Board T) (old : Seat T) (i 
       let me' = me ∙ rests_of table n (resting board_plan (seat_view old)) still in
       let waits = facts.waits not_ready not_taken in (
         seat_kept table board old new (seat_view old) was same me' refl (λ j. omega arith),
-        (seat_of_me new.raw.me board_plan (seat_view old) me', record
-            { unknown = facts.unknown not_taken; pending = waits.0; freed = waits.1; waits = waits.2 }),
+        (
+          seat_of_me new.raw.me board_plan (seat_view old) me',
+          record
+              { unknown = facts.unknown not_taken; pending = waits.0; freed = waits.1; waits = waits.2 },
+        ),
       )
 
 -- the two slots of an exchange, one after the other
 module _ {S : Type 0} (w : View) (p q sp sq : ℕ) (a b d : S) (m0 m1 m2 : Me S View) (e0 : m0 ≡ (w, (q, b) ∷ (p, a) ∷ [])) (same_p : sp ≡ p) (same_q : sq ≡ q)
-    where
-  pub first_out : (old : S) × (m0.1 ≡ (sq, old) ∷ rest m0.1)
-  first_out = (b, (λ k. (e0 k).1) ∙ (λ k. (sym same_q k, b) ∷ rest (sym e0 k).1))
+  where
+    pub first_out : (old : S) × (m0.1 ≡ (sq, old) ∷ rest m0.1)
+    first_out = (b, (λ k. (e0 k).1) ∙ (λ k. (sym same_q k, b) ∷ rest (sym e0 k).1))
 
-  module _ (e1 : m1 ≡ (m0.0, (sq, d) ∷ rest m0.1)) (e2 : m2 ≡ (m1.0, turned m1.1)) where
-    pub second_in : m2 ≡ (w, (p, a) ∷ (q, d) ∷ [])
-    second_in = e2 ∙ ap (λ (x : Me S View). (x.0, turned x.1)) (e1 ∙ (λ k. ((e0 k).0, (same_q k, d) ∷ rest (e0 k).1)))
+    module _ (e1 : m1 ≡ (m0.0, (sq, d) ∷ rest m0.1)) (e2 : m2 ≡ (m1.0, turned m1.1)) where
+      pub second_in : m2 ≡ (w, (p, a) ∷ (q, d) ∷ [])
+      second_in = e2 ∙ ap (λ (x : Me S View). (x.0, turned x.1)) (e1 ∙ (λ k. ((e0 k).0, (same_q k, d) ∷ rest (e0 k).1)))
 
-    pub second_out : (old : S) × (m2.1 ≡ (sp, old) ∷ rest m2.1)
-    second_out = (a, (λ k. (second_in k).1) ∙ (λ k. (sym same_p k, a) ∷ rest (sym second_in k).1))
+      pub second_out : (old : S) × (m2.1 ≡ (sp, old) ∷ rest m2.1)
+      second_out = (a, (λ k. (second_in k).1) ∙ (λ k. (sym same_p k, a) ∷ rest (sym second_in k).1))
 
-    pub both_out : (c : S) (m3 : Me S View) → m3 ≡ (m2.0, (sp, c) ∷ rest m2.1) → m3 ≡ (w, (p, c) ∷ (q, d) ∷ [])
-    both_out c m3 e3 = e3 ∙ (λ k. ((second_in k).0, (same_p k, c) ∷ rest (second_in k).1))
+      pub both_out : (c : S) (m3 : Me S View) → m3 ≡ (m2.0, (sp, c) ∷ rest m2.1) → m3 ≡ (w, (p, c) ∷ (q, d) ∷ [])
+      both_out c m3 e3 = e3 ∙ (λ k. ((second_in k).0, (same_p k, c) ∷ rest (second_in k).1))
 
 -- a retake: both slots are empty
 pub retaken_of : {T : Type 0} (table : T → Table) (plan : BoardPlan) (v : SeatView) (i r : ℕ) (m n : Me (Option T) View) (st : Step (Option T)) → m ≡
@@ -192,7 +200,7 @@ module _ {T : Type 0} (table : T → Table) (plan : BoardPlan) (m n : Me (Option
 
   t : (n ≡ (view m.0.plan (if r == 1 then with_freed m.0.seat j else m.0.seat) [] (drop 1 m.0.owes), []))
       × (IsWhole m.0.seat → times j (map (λ release. release.1) (drop 1 m.0.owes)) ≡ 0 → (r ≡ 1) ↔ All (λ k. 0 < times k m.0.seat.made)
-          (predecessors plan.list.exchanges j))
+      (predecessors plan.list.exchanges j))
   t = let was = told owes.by j owes.more word (ap (λ (x : Me (Option T) View). x.0.owes) owes.seat) in (
     rests_of table n (view m.0.plan (if r == 1 then with_freed m.0.seat j else m.0.seat) [] owes.more) was.0
         ∙ (λ k. (view m.0.plan (if r == 1 then with_freed m.0.seat j else m.0.seat) [] (sym rest_of k), [])),
@@ -262,8 +270,8 @@ made_one {S = S} plan m n w by (Some j) named more e nothing told = record {
       subst (λ l. (named ≡ Some l) ↔ AreMade plan w l) same
       (subst (λ (x : Me S View). (named ≡ Some j) ↔ All (Has x.0.seat.made) (predecessors plan.list.exchanges j)) e
       (told.whole (ap (λ (x : Me S View). x.0.seat.parts) e ∙ whole)
-          (ap (λ (x : Me S View). times j (map (λ release. release.1) (drop 1 x.0.owes))) e ∙ ap (λ l. times l (map (λ release. release.1) more)) same
-          ∙ none_more)));
+      (ap (λ (x : Me S View). times j (map (λ release. release.1) (drop 1 x.0.owes))) e ∙ ap (λ l. times l (map (λ release. release.1) more)) same
+      ∙ none_more)));
 }
 
 -- both releases of an exchange that was put back
@@ -305,7 +313,7 @@ module _ {S : Type 0} (plan : BoardPlan) (v : SeatView) (i : ℕ) (m : Me S View
 
     pub after_second : (z : Me S View) (named2 : Option ℕ) → (second ≡ None → (named2 ≡ None) × (z ≡ n)) → IfSome second (λ j. IsReleased plan n j named2 z)
         → (z ≡ (resting plan (freed_by (freed_by w named) named2), [])) × IsPutBack plan v i (record { first = named; second = named2 })
-            (freed_by (freed_by w named) named2)
+        (freed_by (freed_by w named) named2)
     after_second z named2 nothing2 told2 =
         let last = made_one plan n z (freed_by w named) i second named2 [] second_owed nothing2 told2 in (
           last.seat,
@@ -327,15 +335,17 @@ module _ {S : Type 0} (plan : BoardPlan) (v : SeatView) (i : ℕ) (m : Me S View
 pub put_back_seat : {T : Type 0} (table : T → Table) (board : Board T) (old new : Seat T) (i seen : ℕ) (is_stopped : Bool) (first second : Option ℕ)
     → IsSeatOf table old board → Has (seat_view old).held i → new.raw.table_id ≡ old.raw.table_id
     → new.raw.me ≡ (resting (plan_of table board) (freed_by (freed_by (with_made (without_held (seat_view old) i) i seen is_stopped) first) second), [])
-        → IsSeatOf table new board
+    → IsSeatOf table new board
 put_back_seat table board old new i seen is_stopped first second was holds same is =
     seat_kept table board old new (freed_by (freed_by (with_made (without_held (seat_view old) i) i seen is_stopped) first) second) was same is refl
-        (λ j. omega (arith, times-without i j (seat_view old).held holds))
+    (λ j. omega (arith, times-without i j (seat_view old).held holds))
 
 pub joined_me : {S : Type 0} (plan : BoardPlan) (m k : Me S View) → m.0.plan ≡ plan → Rests m → ◌≡◌ {A = Me S View}
     (Rattle.board.specs.inner.Plays.both m.0 k.0, m.1) (resting plan (joined m.0.seat k.0.seat), [])
-joined_me plan m k planned rests = λ t. (record { plan = planned t; seat = joined m.0.seat k.0.seat; moving = rests.moving t; owes = rests.owes t },
-    rests.slots t)
+joined_me plan m k planned rests = λ t. (
+  record { plan = planned t; seat = joined m.0.seat k.0.seat; moving = rests.moving t; owes = rests.owes t },
+  rests.slots t,
+)
 
 -- What a call on the table asks of the lifetimes, which are those of the tables in memory, before what it asks else. An answer to the whole of it
 -- spares the check the forms that it makes of a part, and they are dear here.

@@ -51,7 +51,7 @@ module _ {N : Type 0} {number : N → ℕ} {most : ℕ} (rounds : Rounds N) (is 
     all-made =
         let n = cells owner key in
         let there = λ (over : low owner < n). numbered-some (all_writes offer.lists.now owner) n (omega (arith, over))
-            (offered.written owner key in_nodes in_keys) in
+        (offered.written owner key in_nodes in_keys) in
         let made = λ (over : low owner < n). (is.are_ends_of.made owner).last n (there over).0 (there over).1 in
         let its = λ (over : low owner < n). ap round_of (there over).1 in
         grind (arith, nat_tests, written-by last (omega arith), made, its)

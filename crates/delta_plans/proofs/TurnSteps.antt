@@ -29,7 +29,7 @@ stop-first Newest {weight} {cells} {keys} {owner} {near} on more = let none = we
 -- a mark halfway: either all up to it fits, or it is beyond what does
 pub stop-halved : (first : First) {weight : ℕ → ℕ} {cells : Cells} {keys owner near far room mark beyond left : ℕ}
     → IsStopBetween first weight cells keys owner near far room mark beyond left → (middle : ℕ) {taken : ℕ} → min mark beyond ≤ middle → middle ≤ max mark
-        beyond
+    beyond
     → taken ≡ weight_from first weight cells keys owner mark middle
     → (taken ≤ left → IsStopBetween first weight cells keys owner near far room middle beyond (left - taken))
     × (left < taken → IsStopBetween first weight cells keys owner near far room mark middle left)

@@ -13,9 +13,9 @@ loop-i-preserved c =
     let one_less : c.loop-i.i ≡ i + 1 = omega arith in
     let planned = c.requires.planned i no_exchange within in
     let one = get_or_read next (exchange_at es i).initiator c.index-first.result.now (omega (arith, c.loop-i.invariant.size, planned.initiator))
-        c.index-first.ensures None in
+    c.index-first.ensures None in
     let two = get_or_read next (exchange_at es i).responder c.index.result.now (omega (arith, c.loop-i.invariant.size, planned.responder)) c.index.ensures
-        None in
+    None in
     backward_more es c.args.nodes i next c.loop-i.after.items c.index-first.result.now c.unless_same-second.result within
     (subst (λ n. IsBackward es c.args.nodes n next c.loop-i.after.items) one_less c.loop-i.invariant) planned one
     (c.unless_same-second.ensures ∙ ap (unless_same c.index-first.result.now) two)
@@ -25,7 +25,7 @@ returns-clause-value c =
     let start : c.loop-i.i ≡ 0 = omega arith in
     let es = c.args.exchanges.now in
     backward_all es c.args.nodes c.loop-i.next.items c.loop-i.after.items
-        (subst (λ n. IsBackward es c.args.nodes n c.loop-i.next.items c.loop-i.after.items) start c.loop-i.invariant)
+    (subst (λ n. IsBackward es c.args.nodes n c.loop-i.next.items c.loop-i.after.items) start c.loop-i.invariant)
 
 pub loop-i-init : goal.loop-i-init
 loop-i-init c =

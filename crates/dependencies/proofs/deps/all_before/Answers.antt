@@ -11,9 +11,9 @@ loop-i-preserved c =
     let last = c.loop-i.last.items in
     let planned = c.requires.planned i no_exchange c.loop-i-test.true in
     let one = get_or_read last (exchange_at es i).initiator c.index-first.result.now (omega (arith, c.loop-i.invariant.size, planned.initiator))
-        c.index-first.ensures None in
+    c.index-first.ensures None in
     let two = get_or_read last (exchange_at es i).responder c.index.result.now (omega (arith, c.loop-i.invariant.size, planned.responder)) c.index.ensures
-        None in
+    None in
     rw c.in_ok-push.ensures.items
     (forward_more es c.args.nodes i last c.loop-i.before.items c.index-first.result.now c.unless_same-second.result c.loop-i.invariant planned one
     (c.unless_same-second.ensures ∙ ap (unless_same c.index-first.result.now) two))

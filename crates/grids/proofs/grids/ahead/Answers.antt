@@ -21,6 +21,6 @@ offset_bounds-peer-own g c = let within : c.args.peer.own ≤ length c.args.peer
 
 pub has_none_upto-requires : goal.has_none_upto-requires
 has_none_upto-requires g c =
-    let above = c.in_ok-above.ensures.above.numbers.size in
+    let above = c.in_ok-above.ensures.above.numbers.size in let shape = c.requires.marks.shape in
     let size = ap length c.deref.ensures.value ∙ sym (length-map c.in_ok-above.above.numbers.items g.N.Number.number) ∙ above in
-    record { grid = record { whole = size; few_nodes = c.requires.marks.shape.few_nodes; few_keys = c.requires.marks.shape.few_keys }; among = c.requires.among }
+    record { grid = record { whole = size; few_nodes = shape.few_nodes; few_keys = shape.few_keys }; among = c.requires.among }

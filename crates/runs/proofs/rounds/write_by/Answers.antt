@@ -12,7 +12,7 @@ returns-in_err-written-in-Ok g c =
 pub returns-in-Ok : goal.returns-in-Ok
 returns-in-Ok g c =
     answers_all g.O.RoundWriter.wrote g.O.RoundWriter.stops _ _ _ _ _ _ _ c.in-Ok.ensures.opens.0 c.in_ok-written-in-Ok.ensures.written
-        c.into_scenario-scenario.ensures
+    c.into_scenario-scenario.ensures
 
 pub returns : goal.returns
 returns g c =

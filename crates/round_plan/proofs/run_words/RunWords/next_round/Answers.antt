@@ -13,7 +13,7 @@ invariant_of-self c =
     let last = subst (λ r. r < MOST_ROUNDS) (sym (ap (λ (v : RunWordsView). v.round) c.self.view_is)) c.requires in
     subst (ArePartsOf fields.seed (fields.round + 1)) (sym kept)
     (parts_next fields.seed (fields.round + 1) fields.parts.items new (omega arith) (omega (arith, last))
-        (λ node d lt. (c.self.invariant.each node d lt).stream) drawn)
+    (λ node d lt. (c.self.invariant.each node d lt).stream) drawn)
 
 pub returns : goal.returns
 returns c =

@@ -26,7 +26,7 @@ pub(crate) fn make_line(alloc: Global, cells: &[Cell]) -> Result<Vec<u8>, Fault>
 {
     let mut lines = WriterBuilder::new().from_writer(Vec::new(alloc));
     put_line(alloc, &mut lines, cells)?;
-    lines.into_inner().ok().ok_or(Fault::OutOfMemory)
+    lines.into_inner().map_err(|_| Fault::OutOfMemory)
 }
 
 /// Adds a line of these cells to the lines so far.

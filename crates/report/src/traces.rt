@@ -76,7 +76,7 @@ fn make_rows(
         let cells = cells_of(round, index, exchange, &records[index]);
         put_line(alloc, &mut lines, &cells)?;
     }
-    lines.into_inner().ok().ok_or(Fault::OutOfMemory)
+    lines.into_inner().map_err(|_| Fault::OutOfMemory)
 }
 
 // The cells of a row.

@@ -1,5 +1,5 @@
 -- The streams of all nodes, as they go on from round to round.
--- Serves `RunWords::next_round`, `RunWords::of_round`, `draw_next` and `words_of`.
+-- Serves `RunWords::next_round`, `RunWords::of_round`, `draw_next`, `parts_before` and `words_of`.
 use Rattle.round_plan.proofs.Common.{◌≡◌, ℕ, ◌+◌, ◌<◌, ◌≤◌, ◌++◌, ◌∷◌, [], List, cases_lt, inl, inr, length, length-append, sym, take, drop, get_or, append-nil, ap, ◌∙◌, arith, drop_all, take_all, MOST_ROUNDS, ChaCha, word_at, key_of}
 use Rattle.std.proofs.lemmas.List.{get_or_append_left, get_or_push}
 use Rattle.round_plan.specs.declared.run_words.NodeWords.{NodeWords}

@@ -1,5 +1,5 @@
 -- The empty tables of a stretch of nodes.
--- Serves `+rest`, `empty_tables`, `Cluster::new` and `Cluster::new_by`.
+-- Serves `+rest`, `Cluster::new`, `Cluster::new_by` and `empty_tables`.
 use Rattle.simulation.proofs.Common.{◌≡◌, ℕ, suc, zero, ◌+◌, ◌-◌, ◌≤◌, List, [], ◌∷◌, ◌++◌, length, map, ap, ◌∙◌, sym, arith, range_with_len, map-append, map-range_with_len_more, Table, empty_table, HistoriesView, Settings}
 use Rattle.simulation.specs.Rounds.{opening_tables}
 use Rattle.simulation.specs.inner.InMemory.{empty_tables_in}

@@ -1,5 +1,5 @@
 -- What a table holds whose numbers lie in planes.
--- Serves most of the crate.
+-- Serves `merge`, `take_unless`, `DigestSizes`, `Fitting` and `OwnCalls`.
 use Rattle.version_tables.proofs.Common.{◌≡◌, ℕ, zero, suc, ◌<◌, ◌≤◌, cond, nat_tests, eqb, ltb, List, [], length, map, Vec, Option, Some, None, ◌⊎◌, inl, inr, refl, sym, ap, ◌∙◌, subst, transport, arith, range_with_len, with_items, cases_lt, lt-ltb, le-ltb, get_or_past, with_items_is, get_or-map-range_with_len, length-map-range_with_len, Entry, Table, entry_at, IsProper, KeepsFrame, same_table, entry_in, get-held_by_lists, HasCells, write_numbered, cell, HasEach, HasEachPlace, with_entry, entries_below, VersionTableView, table_in, IsNumberOf, IsGreatest, IsKept}
 
 module _ (writes : List Entry) (numbers : ℕ → ℕ) (keys : ℕ)

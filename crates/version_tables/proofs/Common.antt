@@ -2,12 +2,14 @@
 -- Declares nothing.
 -- Serves most of the crate.
 pub use Rattle.version_lags.proofs.Common.{Bool, Bor, HasCounted, IsLastNumber, IsNumberAt, List, None, Option, Some, [], ap, arith, base_of, both_ways, cases_eq, cases_lt, cond, eq-eqb, eqb, eqb-true, false, get_or, if◌then◌else◌, inl, inr, le-ltb, length, length-append, lt-ltb, ltb, map, max, mul-le-mul_right, nat_le, nat_lt, ne_eqb, none-passes, number-at, refl, rules, slice_index, subst, suc, sum_below-same, sym, table_of_node, write_numbered, zero, ℕ, ◌&&◌, ◌*◌, ◌+◌, ◌-◌, ◌<◌, ◌∙◌, ◌≡◌, ◌≤◌, ◌⊎◌}
-pub use Rattle.delta_plans.proofs.Common.{AreChanged, AreMarked, Bytes, DeltaView, Entries, HasSet, IsOffer, KeepsLow, Newest, NumbersDiffer, Offer, Oldest, Vec, by_first, candidates, count_all_between, delta_between, first_sent, known_mark, largest_share, lets_through, nat_tests, number_here, number_shares, share_or_none, sum_by-ones, transport, weight_between, with_items}
+pub use Rattle.delta_plans.proofs.Common.{AreChanged, AreMarked, Bytes, DeltaView, Entries, HasSet, IsOffer, KeepsLow, NumbersDiffer, Vec, by_first, candidates, count_all_between, delta_between, first_sent, known_mark, largest_share, lets_through, nat_tests, number_here, number_shares, share_or_none, sum_by-ones, transport, weight_between, with_items}
 pub use Rattle.std.proofs.lemmas.List.{append-nil, append_assoc, get_or-append-add, get_or-map, get_or-set_other, get_or-set_same, get_or_append_left, get_or_default, get_or_past, get_or_push, length-map, length-set, map-append, map-id, map-set, set-get_or, take_all, with_items_is}
 pub use Rattle.std.proofs.lemmas.List.FromFn.{get_or-map-range_with_len, length-map-range_with_len, sum_by-map-range_with_len_more}
 pub use Rattle.std.proofs.lemmas.Nat.{same_from_place}
 pub use Rattle.std.proofs.lemmas.Option.{none-some, same_Some}
 pub use Rattle.std.proofs.lemmas.Result.{IfOk-weaker, err_from_is_err_and, on_ok_weaker}
+pub use Rattle.delta_plans.specs.declared.marked.First.TheVariants.{Newest, Oldest}
+pub use Rattle.delta_plans.specs.declared.offers.Offer.{Offer}
 pub use Rattle.delta_plans.proofs.Candidates.{IsOffered, candidate-number, candidate-place, items_sum}
 pub use Rattle.delta_plans.proofs.DeltaMarks.{are-sent, count-cut, count-sent, lets, shared-sent, whole-sent}
 pub use Rattle.delta_plans.proofs.MarkedLaws.{whole-marked, whole-size}

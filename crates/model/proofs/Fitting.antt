@@ -1,5 +1,5 @@
 -- The longest beginning of a list that fits into a budget, and what it leaves of it.
--- Serves `Picked`, `delta_plans`, `reconcile` and `version_tables`.
+-- Serves `Picked`, `delta_plans` and `reconcile`.
 use Rattle.model.proofs.Common.{◌≡◌, ℕ, zero, suc, ◌-◌, ◌<◌, ◌≤◌, true, false, cond, leb, List, [], ◌∷◌, ◌++◌, length, take, refl, sym, ap, ◌∙◌, arith, leb-true, leb-false, le-leb, lt-leb, sum_by-cons}
 use Rattle.std.specs.List.{sum_by}
 use Rattle.model.specs.inner.Fitting.{fitting, left_after}

@@ -1,4 +1,4 @@
-use Rattle.delta_plans.proofs.Common.{◌≡◌, ◌<◌, get_or, length-map, sym, ap, ◌∙◌, arith, map, nat_tests, entries_of, list_of_owner, start_of}
+use Rattle.delta_plans.proofs.Common.{◌≡◌, ◌<◌, get_or, sym, ap, ◌∙◌, arith, map, nat_tests, entries_of, list_of_owner, start_of}
 use Rattle.delta_plans.proofs.Starts.{start_own}
 use Rattle.delta_plans.proofs.told_marks.put_starts.Goals as goal
 

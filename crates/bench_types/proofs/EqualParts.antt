@@ -3,7 +3,7 @@
 use Rattle.std.proofs.Common.{◌≡◌, ℕ, zero, suc, ◌+◌, ◌*◌, ◌/◌, ◌<◌, ◌≤◌, List, [], ◌∷◌, get_or, subst, arith}
 use Rattle.std.specs.List.{AllZip, range_with_len}
 use Rattle.std.proofs.Math.Nat.{lt-div-mul-add}
-use Rattle.bench_types.proofs.Sums.{one_more}
+use Rattle.limits.proofs.Sums.{one_more}
 
 -- what a list has for each number of a range stands at its place
 pub at_place : {X : Type 0} (R : ℕ → X → Type 0) (from n : ℕ) (parts : List X) → AllZip R (range_with_len from n) parts → (k : ℕ) (d : X) → k < n → R (from + k) (get_or parts k d)

@@ -2,5 +2,4 @@
 pub mod Comparing
 pub mod Marks
 pub mod Sinking
-pub mod Sums
 pub mod EqualParts

@@ -5,7 +5,7 @@ use Rattle.std.specs.Prelude.{ℕ, ◌+◌, ◌%◌}
 use Rattle.bench_types.specs.declared.entries.Entry.{Entry}
 use Rattle.bench_types.specs.declared.exchanges.Budget.{Budget}
 use Rattle.bench_types.specs.declared.exchanges.Budget.TheVariants.{Entries, Bytes}
-use Rattle.bench_types.specs.declared.limits.TheConstants.{LEAST_ENTRY_SIZE, ENTRY_SIZES, MOST_ENTRY_SIZE}
+use Rattle.limits.specs.declared.TheConstants.{LEAST_ENTRY_SIZE, ENTRY_SIZES, MOST_ENTRY_SIZE}
 
 -- how many bytes an entry takes
 abbrev pub entry_size : Entry → ℕ

@@ -4,6 +4,5 @@ pub mod Field
 pub mod Mark
 pub mod Mode
 pub mod Output
-pub mod Sums
 pub mod calls
 pub mod inner

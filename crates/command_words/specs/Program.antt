@@ -1,6 +1,6 @@
 -- The program as `clap` reads words for it: its commands and their options. Source: this project.
 use Rattle.std.specs.Prelude.{pos, true, false, Some, [], ◌∷◌, codes}
-use Rattle.bench_types.specs.declared.limits.TheConstants.{MOST_WORKERS}
+use Rattle.limits.specs.declared.TheConstants.{MOST_WORKERS}
 use Rattle.clap.specs.Simple.{new_shape}
 use Rattle.clap.specs.Words.{App, Rule, Shape, new_rule}
 use Rattle.clap.specs.declared.builder.value_parser.ValueParser.TheVariants as is_value

@@ -1,6 +1,6 @@
 -- How many workers a job may have. Source: this project.
 use Rattle.std.specs.Prelude.{ℕ, ◌≤◌}
-use Rattle.bench_types.specs.declared.limits.TheConstants.{MOST_WORKERS}
+use Rattle.limits.specs.declared.TheConstants.{MOST_WORKERS}
 use Rattle.command_words.specs.declared.jobs.Job.{Job}
 use Rattle.command_words.specs.declared.jobs.Job.TheVariants.{Check, Run, Compare}
 

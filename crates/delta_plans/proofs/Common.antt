@@ -5,7 +5,7 @@ pub use Rattle.std.proofs.Math.Path.{transport}
 pub use Rattle.std.proofs.lemmas.List.Sums.{get_or-le-sum_by}
 pub use Rattle.std.specs.Vec.{with_items}
 pub use borrow.Author.Rules.{scaled_Fits}
-pub use Rattle.bench_types.proofs.Sums.{sum_below-plus}
+pub use Rattle.limits.proofs.Sums.{sum_below-plus}
 pub use Rattle.model.proofs.Common.{AllPairs-filter, Budget, Contains-get_or, Entry, IsTotalOrder, Item, MOST_KEYS, MOST_NODES, Mode, PreciseNewest, PreciseOldest, ScuttleBreadth, ScuttleDepth, amount_of, both_ways, cases_eq, cases_lt, count_by, filter, get_or-append_right, get_or-set_other, get_or-set_same, get_or_default, is_eq, is_lt, le-leb, le-ltb, length-append, length-filter, length-map, length-set, length_permutation, less, lt-leb, lt-ltb, mul-le-mul_right, nat_cmp, ordering_reverse, ordering_then, same_Some, sum_below, sum_below-le, sum_by-cons, tied_itself, ◌&&◌}
 pub use Rattle.planes.proofs.Common.{below_more, count_passing, fold_below-join, map-set, nat_tests, sum_below-most, sum_below-same, sums, with_items_is}
 pub use Rattle.model.proofs.Apart.{rotated-injective, rotated-is}

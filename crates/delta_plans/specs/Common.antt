@@ -3,7 +3,7 @@
 pub use Rattle.bench_types.specs.Budget.{amount_of, largest_share, share_of}
 pub use Rattle.bench_types.specs.Mark.{is_before, mark_of}
 pub use Rattle.bench_types.specs.Mode.{digest_kind}
-pub use Rattle.bench_types.specs.Sums.{sum_below}
+pub use Rattle.limits.specs.Sums.{sum_below}
 pub use Rattle.bench_types.specs.declared.entries.Entry.{Entry}
 pub use Rattle.bench_types.specs.declared.entries.Item.{Item}
 pub use Rattle.bench_types.specs.declared.exchanges.Budget.{Budget}
@@ -14,7 +14,7 @@ pub use Rattle.bench_types.specs.declared.exchanges.Mode.{Mode}
 pub use Rattle.bench_types.specs.declared.exchanges.Mode.TheVariants.{PreciseNewest, PreciseOldest, ScuttleBreadth, ScuttleDepth}
 pub use Rattle.bench_types.specs.declared.faults.Fault.{Fault}
 pub use Rattle.bench_types.specs.declared.faults.Fault.TheVariants.{OutOfMemory}
-pub use Rattle.bench_types.specs.declared.limits.TheConstants.{MOST_ENTRY_SIZE, MOST_KEYS, MOST_NODES}
+pub use Rattle.limits.specs.declared.TheConstants.{MOST_ENTRY_SIZE, MOST_KEYS, MOST_NODES}
 pub use Rattle.delta_plans.specs.declared.marked.First.{First}
 pub use Rattle.delta_plans.specs.declared.marked.First.TheVariants.{Newest, Oldest}
 pub use Rattle.delta_plans.specs.declared.offers.Level.{Level}

@@ -1,7 +1,7 @@
 //! What lies between two marks of each owner, where most owners have nothing there, whatever their marks are.
 
 ghost use Rattle.std.specs.Prelude.{◌≡◌, ℕ, ◌+◌, ◌<◌, ◌≤◌, false, length};
-ghost use Rattle.bench_types.specs.Sums.{sum_below};
+ghost use Rattle.limits.specs.Sums.{sum_below};
 ghost use Rattle.delta_plans.specs.Between.{owner_count, owner_weight, AreFound};
 ghost use Rattle.delta_plans.specs.OfferInMemory.{marks, weight_in, HasMarks, IsLeftOf};
 

@@ -1,7 +1,6 @@
 -- The names of other definitions that these definitions, contracts and proofs cite, passed on from one place. Declares
 -- nothing.
-pub use Rattle.bench_types.specs.declared.faults.Fault.TheVariants.{OutOfMemory}
-pub use Rattle.bench_types.specs.declared.limits.TheConstants.{MOST_KEYS, MOST_NODES}
+pub use Rattle.limits.specs.declared.TheConstants.{MOST_KEYS, MOST_NODES}
 pub use Rattle.grids.specs.declared.grids.Masked.{Masked}
 pub use Rattle.grids.specs.declared.grids.Peer.{Peer}
 pub use Rattle.grids.specs.declared.grids.Sent.{Sent}

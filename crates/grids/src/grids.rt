@@ -1,8 +1,7 @@
-//! Loops over all planes of a table: `cells[key * nodes + owner]`. Where one answers an error, it is lack of memory
-//! (`OutOfMemory`).
+//! Loops over all planes of a table: `cells[key * nodes + owner]`.
 
-ghost use Rattle.std.specs.Prelude.{◌≡◌, ◌<◌, ◌≤◌, ◌↔◌, IsTrue, length, map, max, nat_lt, slice_index, IfOk, IsOkUnless};
-ghost use Rattle.grids.specs.Common.{OutOfMemory, IsGridOf, cell, number_ahead, HasEach, MOST_NODES};
+ghost use Rattle.std.specs.Prelude.{◌≡◌, ◌<◌, ◌≤◌, ◌↔◌, IsTrue, length, map, max, nat_lt, slice_index, IfOk};
+ghost use Rattle.grids.specs.Common.{IsGridOf, cell, number_ahead, HasEach, MOST_NODES};
 ghost use Rattle.grids.specs.Grids.{number_kept, AreSentTaken, HasColumn, HasPeer, IsAhead, IsOwnerKept, MayTake};
 ghost use Rattle.grids.specs.inner.Loops.{IsPlaneTaken, MayTakePlane};
 ghost use Rattle.grids.specs.inner.Masks.{AreAbovePeer, HasNoneUptoMark, HasNoOtherMark};
@@ -10,9 +9,8 @@ ghost use Rattle.grids.specs.inner.Masks.{AreAbovePeer, HasNoneUptoMark, HasNoOt
 use crate::counts::change_counting;
 use crate::owners;
 use crate::owners::FEW_TO_CHANGE;
-use bench_types::Fault;
 use planes::{Grid, Number, Size, are_few, plane_of};
-use std::alloc::Global;
+use std::alloc::{AllocError, Global};
 
 /// A table's numbers of which some are kept, with 0 in place of the others; how many are kept, and how many it holds.
 #[derive(Drop)]
@@ -65,9 +63,8 @@ pub fn drop_owner<N: Number>(cells: &mut [N], size: Size, owner: usize, mark: u3
 /// So many numbers are filled at a time, which takes fewer instructions than the C library's way to fill many more.
 const FILLED: usize = 512;
 
-fn zeros<N: Number>(alloc: Global, count: usize) -> Result<Vec<N>, Fault>
-    ensures zeros { IfOk result (λ v. HasEach count (λ r n. n ≡ 0) (map N.number v.items)) }
-    ensures only { IsOkUnless result OutOfMemory }
+fn zeros<N: Number>(alloc: Global, count: usize) -> Result<Vec<N>, AllocError>
+    ensures { IfOk result (λ v. HasEach count (λ r n. n ≡ 0) (map N.number v.items)) }
 {
     let mut numbers = Vec::with_capacity(alloc, count)?;
     let mut filled = 0;
@@ -90,11 +87,10 @@ fn kept_above<N: Number>(number: N, mark: N) -> (N, bool, bool)
 }
 
 // The numbers above the peer's: all planes are gone over as one, without marks.
-fn above_peer<N: Number>(alloc: Global, grid: Grid<N>, peer: &[N]) -> Result<Masked<N>, Fault>
+fn above_peer<N: Number>(alloc: Global, grid: Grid<N>, peer: &[N]) -> Result<Masked<N>, AllocError>
     requires grid { IsGridOf grid }
     requires peer { length peer.now ≡ length grid.cells.now }
-    ensures above { IfOk result (AreAbovePeer N.number grid.entry peer.now) }
-    ensures only { IsOkUnless result OutOfMemory }
+    ensures { IfOk result (AreAbovePeer N.number grid.entry peer.now) }
 {
     let cells = grid.cells;
     let mut numbers = zeros(alloc, cells.len())?;
@@ -121,10 +117,9 @@ fn has_none_upto<N: Number>(cells: &[N], size: Size, owner: usize, mark: N) -> b
 }
 
 // The numbers ahead of both the peer's and any marks, plane by plane.
-fn ahead_of_both<N: Number>(alloc: Global, grid: Grid<N>, peer: Peer<N>) -> Result<Masked<N>, Fault>
+fn ahead_of_both<N: Number>(alloc: Global, grid: Grid<N>, peer: Peer<N>) -> Result<Masked<N>, AllocError>
     requires peer { HasPeer grid peer }
-    ensures ahead { IfOk result (IsAhead N.number grid.entry peer.entry) }
-    ensures only { IsOkUnless result OutOfMemory }
+    ensures { IfOk result (IsAhead N.number grid.entry peer.entry) }
 {
     let Grid { cells, size } = grid;
     let low = peer.low;
@@ -160,11 +155,10 @@ fn ahead_of_both<N: Number>(alloc: Global, grid: Grid<N>, peer: Peer<N>) -> Resu
 
 /// The numbers that are above both the peer's and their owner's mark, and 0 in place of the others. One pass masks them
 /// and counts those that it keeps and those that the table holds. It serves where no owner has a mark but the peer
-/// itself, and nothing of that one is ahead up to its mark, as most often. An error is lack of memory (`OutOfMemory`).
-pub fn ahead<N: Number>(alloc: Global, grid: Grid<N>, peer: Peer<N>) -> Result<Masked<N>, Fault>
+/// itself, and nothing of that one is ahead up to its mark, as most often.
+pub fn ahead<N: Number>(alloc: Global, grid: Grid<N>, peer: Peer<N>) -> Result<Masked<N>, AllocError>
     requires { HasPeer grid peer }
-    ensures ahead { IfOk result (IsAhead N.number grid.entry peer.entry) }
-    ensures only { IsOkUnless result OutOfMemory }
+    ensures { IfOk result (IsAhead N.number grid.entry peer.entry) }
 {
     let own = peer.own;
     if has_no_other_mark(peer.low, own) {

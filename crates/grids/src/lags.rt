@@ -1,14 +1,13 @@
 //! Loops over all planes of a table that compare its numbers with the last ones.
 
-ghost use Rattle.std.specs.Prelude.{map, IfOk, IsOkUnless};
-ghost use Rattle.grids.specs.Common.{OutOfMemory, cells_in, cell, HasEach};
+ghost use Rattle.std.specs.Prelude.{map, IfOk};
+ghost use Rattle.grids.specs.Common.{cells_in, cell, HasEach};
 ghost use Rattle.grids.specs.Grids.{IsBeside};
 ghost use Rattle.grids.specs.Lags.{AreLoweredCounting, HasLast, IsLeastBehind};
 
 use crate::counts::change_counting;
-use bench_types::Fault;
 use planes::{Grid, Number, least_of};
-use std::alloc::Global;
+use std::alloc::{AllocError, Global};
 
 /// How many numbers are below the last ones. It lowers the least to each number: one pass over all planes as one.
 pub fn count_behind<N: Number>(least: &mut [N], grid: Grid<N>, last: &[N]) -> u32
@@ -23,14 +22,12 @@ pub fn count_behind<N: Number>(least: &mut [N], grid: Grid<N>, last: &[N]) -> u3
     behind
 }
 
-/// For each owner the least of its numbers that are below the last ones, or `N::greatest()` where none is. An error is
-/// lack of memory (`OutOfMemory`).
-pub fn least_behind<N: Number>(alloc: Global, grid: Grid<N>, last: &[N]) -> Result<Vec<N>, Fault>
+/// For each owner the least of its numbers that are below the last ones, or `N::greatest()` where none is.
+pub fn least_behind<N: Number>(alloc: Global, grid: Grid<N>, last: &[N]) -> Result<Vec<N>, AllocError>
     requires beside { IsBeside grid last.now }
-    ensures least { IfOk result (λ v. HasEach grid.entry.size.nodes
+    ensures { IfOk result (λ v. HasEach grid.entry.size.nodes
         (λ r n. IsLeastBehind N.most (cells_in N.number grid.entry)
         (cell (map N.number last.now) grid.entry.size.nodes) grid.entry.size.keys r n) (map N.number v.items)) }
-    ensures only { IsOkUnless result OutOfMemory }
 {
     let Grid { cells, size } = grid;
     least_of(

@@ -22,12 +22,12 @@ pub use Rattle.std.specs.declared.cmp.Ordering.TheVariants.{Equal, Greater, Less
 pub use lib.Dec.{T}
 pub use Rattle.bench_types.proofs.Comparing.{both_equal, equal, first, less, nat_cmp-equal, nat_cmp-greater, nat_cmp-less, second}
 pub use Rattle.bench_types.proofs.Marks.{absent-first, before-no, before-true, before-up_to, before-yes, cases_before, cases_later, first-later, later-first, later-second, later-up_to, mark_held-newer, not_both, second-later, up_to-before, up_to-both, up_to-itself, up_to-then}
-pub use Rattle.bench_types.proofs.Sums.{IsFoldBelow, fold_below-same, fold_below-swap, greatest, sum_below-le}
+pub use Rattle.limits.proofs.Sums.{IsFoldBelow, fold_below-same, fold_below-swap, greatest, sum_below-le}
 pub use Rattle.bench_types.specs.Budget.{amount_of}
 pub use Rattle.bench_types.specs.Entry.{newer, next_version}
 pub use Rattle.bench_types.specs.Mark.{IsBefore, IsUpTo, absent, is_before, later, mark_held, mark_of}
 pub use Rattle.bench_types.specs.Mode.{digest_kind}
-pub use Rattle.bench_types.specs.Sums.{most_below, sum_below}
+pub use Rattle.limits.specs.Sums.{most_below, sum_below}
 pub use Rattle.bench_types.specs.calls.Entry.{AreNextAfter, IsNextAfter}
 pub use Rattle.bench_types.specs.calls.Exchange.{IsPlanned}
 pub use Rattle.bench_types.specs.declared.entries.Entry.{Entry}
@@ -42,4 +42,4 @@ pub use Rattle.bench_types.specs.declared.exchanges.Mode.{Mode}
 pub use Rattle.bench_types.specs.declared.exchanges.Mode.TheVariants.{PreciseNewest, PreciseOldest, ScuttleBreadth, ScuttleDepth}
 pub use Rattle.bench_types.specs.declared.exchanges.Record.{Record}
 pub use Rattle.bench_types.specs.declared.exchanges.Rules.{Rules}
-pub use Rattle.bench_types.specs.declared.limits.TheConstants.{LEAST_KEYS, MOST_KEYS, MOST_NODES}
+pub use Rattle.limits.specs.declared.TheConstants.{LEAST_KEYS, MOST_KEYS, MOST_NODES}

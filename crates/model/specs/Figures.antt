@@ -11,7 +11,7 @@ use Rattle.bench_types.specs.declared.rows.Figures.{Figures}
 use Rattle.model.specs.Table.{Table, entry_at, mark_at}
 use Rattle.model.specs.Tables.{table_of_node}
 use Rattle.model.specs.declared.writes.Write.{Write}
-use Rattle.bench_types.specs.Sums.{sum_below, most_below}
+use Rattle.limits.specs.Sums.{sum_below, most_below}
 use Rattle.model.specs.Writes.{first_above}
 
 -- the writes of an owner

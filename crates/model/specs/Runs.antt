@@ -2,7 +2,7 @@
 use Rattle.std.specs.Prelude.{◌≡◌, ℕ, ◌<◌, ◌≤◌, ◌⊎◌}
 use Rattle.bench_types.specs.declared.faults.Fault.{Fault}
 use Rattle.bench_types.specs.declared.faults.Fault.TheVariants.{OutOfMemory, NoThread}
-use Rattle.bench_types.specs.declared.limits.TheConstants.{MOST_WORKERS}
+use Rattle.limits.specs.declared.TheConstants.{MOST_WORKERS}
 
 -- so many workers may be asked for
 abbrev pub AreWorkers : ℕ → Type 0

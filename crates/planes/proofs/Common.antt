@@ -12,9 +12,9 @@ pub use Rattle.std.specs.List.{drop-map}
 pub use Rattle.std.specs.Prelude.{IsTrue, ◌↔◌}
 pub use borrow.Author.Count.{below_more}
 pub use borrow.Rule.Slice.PartMut.{put_mid}
-pub use Rattle.bench_types.proofs.Sums.{fold_below-join, one_more, sum_below-most, sum_below-same, sum_below-turned, sums}
-pub use Rattle.bench_types.specs.Sums.{sum_below}
-pub use Rattle.bench_types.specs.declared.limits.TheConstants.{MOST_KEYS, MOST_NODES}
+pub use Rattle.limits.proofs.Sums.{fold_below-join, one_more, sum_below-most, sum_below-same, sum_below-turned, sums}
+pub use Rattle.limits.specs.Sums.{sum_below}
+pub use Rattle.limits.specs.declared.TheConstants.{MOST_KEYS, MOST_NODES}
 pub use Rattle.planes.specs.Elementwise.{AreChanged, AreChangedUpto}
 pub use Rattle.planes.specs.Planes.{ArePlanesChanged, ArePlanesChangedUpto, Cells, HasEach, HasNoneAbove, IsGrid, IsLeastAbove, IsNextAbove, IsRaised, cell, count_above, count_between, total_of}
 pub use Rattle.planes.specs.Loops.{AnswersAs, AreCountedUpto, HasRoomToCount, IsLeastOf, IsMade, count_passing, one_between}

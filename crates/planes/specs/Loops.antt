@@ -1,6 +1,6 @@
 -- What loops over planes make of what a closure answers. Source: this project.
 use Rattle.std.specs.Prelude.{◌≡◌, ◌⊎◌, ℕ, ◌+◌, ◌<◌, ◌≤◌, nat_le, nat_lt, Bool, List, length, map, slice_index, if◌then◌else◌}
-use Rattle.bench_types.specs.Sums.{sum_below}
+use Rattle.limits.specs.Sums.{sum_below}
 use Rattle.planes.specs.Elementwise.{AreChangedUpto}
 
 -- a number is what a call made of another one

@@ -1,7 +1,7 @@
 -- What loops over planes do to one number. Source: this project.
 use Rattle.std.specs.Prelude.{◌≡◌, ◌⊎◌, ℕ, ◌+◌, ◌-◌, ◌*◌, ◌<◌, ◌≤◌, ◌&&◌, Bool, false, List, length, max, min, nat_lt, nat_le, slice_index, if◌then◌else◌}
-use Rattle.bench_types.specs.declared.limits.TheConstants.{MOST_NODES, MOST_KEYS}
-use Rattle.bench_types.specs.Sums.{sum_below}
+use Rattle.limits.specs.declared.TheConstants.{MOST_NODES, MOST_KEYS}
+use Rattle.limits.specs.Sums.{sum_below}
 
 -- numbers by owner and key
 abbrev pub Cells : Type 0

@@ -1,7 +1,7 @@
 //! Rows of numbers, one for each round.
 
 ghost use Rattle.std.specs.Prelude.{◌≡◌, ◌+◌, ◌*◌, ◌≤◌, length, map};
-ghost use Rattle.bench_types.specs.declared.limits.TheConstants.{MOST_NODES};
+ghost use Rattle.limits.specs.declared.TheConstants.{MOST_NODES};
 ghost use Rattle.planes.specs.Planes.{cell, HasEach};
 
 use crate::grids::plane_of;

@@ -1,10 +1,8 @@
-//! What all planes of a table, `cells[key * nodes + owner]`, tell of each owner. Where a loop answers an error, it is
-//! lack of memory (`OutOfMemory`).
+//! What all planes of a table, `cells[key * nodes + owner]`, tell of each owner.
 
-ghost use Rattle.std.specs.Prelude.{◌≡◌, ℕ, ◌+◌, ◌*◌, ◌<◌, ◌≤◌, ◌&&◌, ◌↔◌, Bool, length, map, nat_le, nat_lt, slice_index, IfOk, IsOkUnless, IsTrue, if◌then◌else◌};
-ghost use Rattle.bench_types.specs.declared.faults.Fault.TheVariants.{OutOfMemory};
+ghost use Rattle.std.specs.Prelude.{◌≡◌, ℕ, ◌+◌, ◌*◌, ◌<◌, ◌≤◌, ◌&&◌, ◌↔◌, Bool, length, map, nat_le, nat_lt, slice_index, IfOk, IsTrue, if◌then◌else◌};
 ghost use Rattle.planes.specs.Grids.{cells_in, HasMarkOfEach, HasTwoMarksOfEach, IsGridOf, IsMarked};
-ghost use Rattle.bench_types.specs.declared.limits.TheConstants.{MOST_KEYS, MOST_NODES};
+ghost use Rattle.limits.specs.declared.TheConstants.{MOST_KEYS, MOST_NODES};
 ghost use Rattle.planes.specs.Planes.{cell, count_above, count_between, total_above, total_of, HasEach, HasNoneUpto, IsGrid, IsNextAbove};
 ghost use Rattle.planes.specs.Loops.{count_passing, one_between, AnswersAs, HasRoomToCount, IsLeastOf, MayCountPlane};
 ghost use Rattle.planes.specs.Elementwise.{AreChanged};
@@ -13,8 +11,7 @@ use crate::numbers::Number;
 use crate::owners::{FEW_TO_COUNT, are_few, total_owners_above};
 use crate::planes;
 use crate::sizes::{Grid, Size};
-use bench_types::Fault;
-use std::alloc::Global;
+use std::alloc::{AllocError, Global};
 
 /// The plane of a key.
 pub fn plane_of<N: Number>(cells: &[N], nodes: usize, key: usize) -> &[N]
@@ -25,31 +22,28 @@ pub fn plane_of<N: Number>(cells: &[N], nodes: usize, key: usize) -> &[N]
     &cells[start..start + nodes]
 }
 
-/// So many times the same number. An error is lack of memory (`OutOfMemory`).
-pub fn all_of<N: Number>(alloc: Global, count: usize, number: N) -> Result<Vec<N>, Fault>
-    ensures numbers { IfOk result (λ v. HasEach count (λ r n. n ≡ N.number number) (map N.number v.items)) }
-    ensures only { IsOkUnless result OutOfMemory }
+/// So many times the same number.
+pub fn all_of<N: Number>(alloc: Global, count: usize, number: N) -> Result<Vec<N>, AllocError>
+    ensures { IfOk result (λ v. HasEach count (λ r n. n ≡ N.number number) (map N.number v.items)) }
 {
     let mut numbers = Vec::with_capacity(alloc, count)?;
     numbers.resize(count, number)?;
     Ok(numbers)
 }
 
-/// So many times 0. An error is lack of memory (`OutOfMemory`).
-pub fn zeros<N: Number>(alloc: Global, count: usize) -> Result<Vec<N>, Fault>
-    ensures zeros { IfOk result (λ v. HasEach count (λ r n. n ≡ 0) (map N.number v.items)) }
-    ensures only { IsOkUnless result OutOfMemory }
+/// So many times 0.
+pub fn zeros<N: Number>(alloc: Global, count: usize) -> Result<Vec<N>, AllocError>
+    ensures { IfOk result (λ v. HasEach count (λ r n. n ≡ 0) (map N.number v.items)) }
 {
     all_of(alloc, count, N::zero())
 }
 
-/// For each owner how many of its numbers are above a mark. An error is lack of memory (`OutOfMemory`).
-pub fn counts_above<N: Number>(alloc: Global, grid: Grid<N>, low: &[N]) -> Result<Vec<N>, Fault>
+/// For each owner how many of its numbers are above a mark.
+pub fn counts_above<N: Number>(alloc: Global, grid: Grid<N>, low: &[N]) -> Result<Vec<N>, AllocError>
     requires marked { HasMarkOfEach grid low.now }
-    ensures counts { IfOk result (λ v. HasEach grid.entry.size.nodes
+    ensures { IfOk result (λ v. HasEach grid.entry.size.nodes
         (λ r n. n ≡ count_above (cells_in N.number grid.entry) grid.entry.size.keys r
         (slice_index (map N.number low.now) r)) (map N.number v.items)) }
-    ensures only { IsOkUnless result OutOfMemory }
 {
     let Grid { cells, size } = grid;
     let mut counts = zeros(alloc, size.nodes)?;
@@ -151,19 +145,18 @@ fn count_two<N: Number>(counts: &mut [N], plane: &[N], other: &[N], low: &[N], h
 }
 
 /// For each owner the least of the numbers that a closure makes of its places, or `N::greatest()` where there are none.
-/// An error is lack of memory (`OutOfMemory`).
+///
 pub fn least_of<N: Number, F: Fn(usize, usize) -> N>(
     alloc: Global,
     size: Size,
     value: F,
-) -> Result<Vec<N>, Fault>
+) -> Result<Vec<N>, AllocError>
     requires grid { IsGrid size.nodes size.keys (size.keys * size.nodes) }
     requires value { (at r : ℕ) → at < size.keys * size.nodes → r < size.nodes → F.pre value at r }
-    ensures least { (values : ℕ → ℕ → ℕ)
+    ensures { (values : ℕ → ℕ → ℕ)
         → ((at r : ℕ) (n : N) → at < size.keys * size.nodes → r < size.nodes → F.post value at r n
         → N.number n ≡ values at r) → IfOk result (λ v. HasEach size.nodes
         (λ r n. IsLeastOf N.most (λ k. values (k * size.nodes + r) r) size.keys n) (map N.number v.items)) }
-    ensures only { IsOkUnless result OutOfMemory }
 {
     let mut least = all_of(alloc, size.nodes, N::greatest())?;
     let all: &mut [N] = &mut least;
@@ -174,14 +167,12 @@ pub fn least_of<N: Number, F: Fn(usize, usize) -> N>(
     Ok(least)
 }
 
-/// For each owner the least of its numbers above a mark, or `N::greatest()` where there is none. An error is lack of
-/// memory (`OutOfMemory`).
-pub fn least_above<N: Number>(alloc: Global, grid: Grid<N>, low: &[N]) -> Result<Vec<N>, Fault>
+/// For each owner the least of its numbers above a mark, or `N::greatest()` where there is none.
+pub fn least_above<N: Number>(alloc: Global, grid: Grid<N>, low: &[N]) -> Result<Vec<N>, AllocError>
     requires marked { HasMarkOfEach grid low.now }
-    ensures least { IfOk result (λ v. HasEach grid.entry.size.nodes
+    ensures { IfOk result (λ v. HasEach grid.entry.size.nodes
         (λ r n. IsNextAbove N.most (cells_in N.number grid.entry) grid.entry.size.keys r
         (slice_index (map N.number low.now) r) n) (map N.number v.items)) }
-    ensures only { IsOkUnless result OutOfMemory }
 {
     let Grid { cells, size } = grid;
     least_of(

@@ -1,12 +1,12 @@
 //! Numbers of writes, in as many bits as a scenario needs.
 
-use bench_types::limits::MOST_NODES;
+use limits::MOST_NODES;
 use std::marker::Model;
 
 /// The number of a write: its place, from 1, among all writes of its owner; 0 for none.
 pub trait Number: Copy {
     ghost use Rattle.std.specs.Prelude.{◌≡◌, ℕ, ◌+◌, ◌-◌, ◌<◌, ◌≤◌, nat_lt, nat_le, max, min, if◌then◌else◌};
-    ghost use Rattle.bench_types.specs.declared.limits.TheConstants.{MOST_KEYS};
+    ghost use Rattle.limits.specs.declared.TheConstants.{MOST_KEYS};
 
     // The number that it is.
     ghost number: { Self → ℕ };

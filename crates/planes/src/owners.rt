@@ -2,7 +2,7 @@
 //! over.
 
 ghost use Rattle.std.specs.Prelude.{◌≡◌, ◌≤◌, length, map};
-ghost use Rattle.bench_types.specs.declared.limits.TheConstants.{MOST_NODES};
+ghost use Rattle.limits.specs.declared.TheConstants.{MOST_NODES};
 ghost use Rattle.planes.specs.Grids.{cells_in, IsMarked, IsOwnerOf};
 ghost use Rattle.planes.specs.Planes.{count_above, total_above};
 

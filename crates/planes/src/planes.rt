@@ -1,7 +1,7 @@
 //! Loops over planes: for each owner one number.
 
 ghost use Rattle.std.specs.Prelude.{◌≡◌, ℕ, ◌+◌, ◌*◌, ◌<◌, ◌≤◌, ◌&&◌, Bool, length, map, max, min, nat_le, nat_lt, slice_index, if◌then◌else◌};
-ghost use Rattle.bench_types.specs.declared.limits.TheConstants.{MOST_KEYS, MOST_NODES};
+ghost use Rattle.limits.specs.declared.TheConstants.{MOST_KEYS, MOST_NODES};
 ghost use Rattle.planes.specs.Elementwise.{AreChanged};
 ghost use Rattle.planes.specs.Loops.{AnswersAs, IsMade, IsPart, count_passing};
 

@@ -24,7 +24,7 @@ pub trait RoundHistories<T: MemoryTable>: Exchanging<T> + Drop {
     ghost use denote.Param.Send.{IsSync};
     ghost use Rattle.bench_types.specs.declared.entries.Entry.{Entry};
     ghost use Rattle.bench_types.specs.declared.faults.Fault.TheVariants.{OutOfMemory};
-    ghost use Rattle.bench_types.specs.declared.limits.TheConstants.{LEAST_KEYS, MOST_NODES, MOST_KEYS, MOST_ROUNDS};
+    ghost use Rattle.limits.specs.declared.TheConstants.{LEAST_KEYS, MOST_NODES, MOST_KEYS, MOST_ROUNDS};
     ghost use Rattle.model.specs.Table.{Table, empty_table, with_own_write, without_others, without_all};
     ghost use Rattle.model.specs.calls.OwnerListView.{list_of_owner, lists_in};
     ghost use Rattle.model.specs.Figures.{figures_of};

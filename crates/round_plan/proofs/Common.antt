@@ -22,7 +22,7 @@ pub use Rattle.std.specs.List.Sorted.{IsBinarySearchResult, IsStrictlyIncreasing
 pub use Rattle.std.specs.Ordering.{nat_cmp}
 pub use Rattle.std.specs.Prelude.{Err, Ok, nat_lt}
 pub use mathlib.Core.Bool.{beq}
-pub use Rattle.bench_types.specs.declared.limits.TheConstants.{MOST_ROUNDS, MOST_WRITES}
+pub use Rattle.limits.specs.declared.TheConstants.{MOST_ROUNDS, MOST_WRITES}
 pub use Rattle.model.proofs.Common.{AreNextAfter, Entry, Exchange, IsNextAfter, IsPlanned, Mark, is_before, mark_of, next_version}
 pub use Rattle.model.specs.RoundLists.{round_list_view}
 pub use Rattle.rand_chacha.specs.ChaCha.{ChaCha, key_of, next_word, word_at}

@@ -3,7 +3,7 @@
 use Rattle.std.specs.Prelude.{ℕ, ◌%◌, Bool, not, ◌&&◌, nat_lt, map, count_by}
 use Rattle.std.specs.List.{range_with_len, filter}
 use Rattle.bench_types.specs.declared.exchanges.Exchange.{Exchange}
-use Rattle.bench_types.specs.declared.limits.TheConstants.{MOST_LOSS}
+use Rattle.limits.specs.declared.TheConstants.{MOST_LOSS}
 use Rattle.scenario.specs.declared.choices.Rotation.{Rotation}
 use Rattle.scenario.specs.declared.choices.Rotation.TheVariants.{Random, Off}
 use Rattle.scenario.specs.Settings.{Settings}

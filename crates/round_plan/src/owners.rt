@@ -38,7 +38,7 @@ pub struct Writes {
 
 impl Model for Writes {
     ghost use Rattle.std.specs.Prelude.{◌≡◌, ◌≤◌, List, length, take};
-    ghost use Rattle.bench_types.specs.declared.limits.TheConstants.{MOST_WRITES};
+    ghost use Rattle.limits.specs.declared.TheConstants.{MOST_WRITES};
     ghost use Rattle.round_plan.specs.declared.owners.OwnWrite.{OwnWrite};
 
     ghost Value = { List OwnWrite };

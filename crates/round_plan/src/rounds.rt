@@ -6,7 +6,7 @@ ghost use Rattle.round_plan.specs.Plan.{exchange_of, is_lost, reaches, round_lis
 ghost use Rattle.round_plan.specs.calls.Words.{run_words_of, AreWordsOf};
 ghost use Rattle.round_plan.specs.inner.Rounds.{chosen_of, AreChosen, IsNodeInRound};
 ghost use Rattle.bench_types.specs.declared.faults.Fault.TheVariants.{OutOfMemory};
-ghost use Rattle.bench_types.specs.declared.limits.TheConstants.{MOST_ROUNDS};
+ghost use Rattle.limits.specs.declared.TheConstants.{MOST_ROUNDS};
 
 use crate::outages::{is_up, separated};
 use crate::peers::peer_by;

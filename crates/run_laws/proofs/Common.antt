@@ -15,7 +15,7 @@ pub use Rattle.std.specs.Prelude.{Contains, IsSomeAnd, nat_lt, slice_get}
 pub use Rattle.std.specs.declared.cmp.Ordering.TheVariants.{Less}
 pub use Rattle.bench_types.specs.Budget.{largest_share, share_of}
 pub use Rattle.bench_types.specs.declared.exchanges.Budget.TheVariants.{Bytes, Entries}
-pub use Rattle.bench_types.specs.declared.limits.TheConstants.{ENTRY_SIZES}
+pub use Rattle.limits.specs.declared.TheConstants.{ENTRY_SIZES}
 pub use Rattle.bench_types.specs.declared.rows.Figures.{Figures}
 pub use Rattle.model.proofs.Common.{Budget, DigestKind, Entry, Exchange, Fate, IsBefore, IsPlanned, IsUpTo, Item, Mark, Mode, Precise, Record, Rules, Scuttle, absent, absent-first, amount_of, before-no, before-true, before-up_to, before-yes, cases_before, digest_kind, is_before, mark_held, mark_of, most_below, next_version, not_both, sum_below, sum_below-le, up_to-before, up_to-both, up_to-itself, up_to-then}
 pub use Rattle.model.proofs.BeginLaws.{copy-up_to, written_rises}

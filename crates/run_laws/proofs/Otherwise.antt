@@ -5,7 +5,7 @@ use Rattle.bench_types.specs.declared.exchanges.Mode.TheVariants.{ScuttleBreadth
 use Rattle.model.specs.Figures.{figures_of}
 use Rattle.round_plan.specs.Outages.{forgets_now, is_up, restarts_now}
 use Rattle.round_plan.specs.Writes.{writes_in}
-use Rattle.bench_types.specs.declared.limits.TheConstants.{MOST_LOSS}
+use Rattle.limits.specs.declared.TheConstants.{MOST_LOSS}
 use Rattle.run_laws.specs.Healing.{Moment, IsHealed}
 use Rattle.simulation.specs.Lists.{list_after, lists_after}
 use Rattle.simulation.specs.Outcomes.{figures_in}

@@ -3,7 +3,7 @@
 use Rattle.run_laws.proofs.Common.{◌≡◌, ◌≢◌, ℕ, zero, suc, ◌+◌, ◌%◌, ◌<◌, ◌≤◌, Bool, true, false, if◌then◌else◌, List, [], ◌∷◌, length, fold, get_or, All, Some, None, inl, inr, refl, sym, ap, ◌∙◌, subst, arith, slice_get, Contains, range_with_len, filter, le-ltb, All-head, All-tail, All-nil, All-cons, All-map, Contains-append_cases, slice_get_within, Exchange, Fate, Mark, Mode, Record, Rules, absent, digest_kind, IsUpTo, Settings, IsLawfulScenario, with_mode, Table, entry_at, greatest_mark, greatest_version, entry_at-empty_table, greatest_mark-none, table_of_node, delta_between, digest_size, exchanged, sent_until, Folded, exchange_in, LosesNothing, HasOwnPart, IsFresh, generation_upto, peer_of, begins, exchange_of, round_list_of, word_of, count_upto, ◌-◌, rules, IsSomeAnd, before_keeps_own, planned_list}
 use Rattle.bench_types.specs.declared.exchanges.Fate.TheVariants as fate
 use Rattle.bench_types.specs.declared.exchanges.Mode.TheVariants.{ScuttleBreadth}
-use Rattle.bench_types.specs.declared.limits.TheConstants.{MOST_LOSS}
+use Rattle.limits.specs.declared.TheConstants.{MOST_LOSS}
 use Rattle.round_plan.specs.Outages.{forgets_now, is_up, restarts_now, separated, separates}
 use Rattle.round_plan.specs.Plan.{is_lost}
 use Rattle.round_plan.specs.Writes.{writes_in}

@@ -11,12 +11,12 @@ pub use Rattle.std.proofs.lemmas.Result.{IfErr-weaker, on_ok_weaker}
 pub use Rattle.std.specs.Io.KnownBytes.{Consumes, IsAtEnd}
 pub use Rattle.std.specs.List.{range_with_len}
 pub use Rattle.std.specs.Prelude.{Contains, IsErrAnd, IsSomeAnd, OnOk, flat_map}
-pub use Rattle.bench_types.proofs.Sums.{sum_below-most}
+pub use Rattle.limits.proofs.Sums.{sum_below-most}
 pub use Rattle.bench_types.specs.Mode.{modes}
 pub use Rattle.bench_types.specs.Output.{IsWriteFault, IsWritten}
 pub use Rattle.bench_types.specs.declared.faults.Fault.{Fault}
 pub use Rattle.bench_types.specs.declared.faults.Fault.TheVariants.{OutOfMemory, WriteFailed}
-pub use Rattle.bench_types.specs.declared.limits.TheConstants.{MOST_BYTES, MOST_WRITES}
+pub use Rattle.limits.specs.declared.TheConstants.{MOST_BYTES, MOST_WRITES}
 pub use Rattle.model.proofs.Common.{Entry, Mode}
 pub use Rattle.model.specs.Runs.{IsFaultOfWorkers}
 pub use Rattle.model.specs.Table.{Table}

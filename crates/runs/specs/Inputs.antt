@@ -5,7 +5,7 @@ use Rattle.std.specs.Prelude.{ℕ, ◌≡◌, ◌≢◌, ◌⊎◌, ◌+◌, ◌
 use Rattle.std.specs.Io.KnownBytes.{Consumes, IsAtEnd}
 use Rattle.bench_types.specs.declared.faults.Fault.{Fault}
 use Rattle.bench_types.specs.declared.faults.Fault.TheVariants.{OutOfMemory, TooLong, ReadFailed}
-use Rattle.bench_types.specs.declared.limits.TheConstants.{MOST_BYTES}
+use Rattle.limits.specs.declared.TheConstants.{MOST_BYTES}
 use Rattle.bench_types.specs.declared.sources.Source.{Ghosts as Source}
 use Rattle.scenario.specs.Order.{document_of, first_fault, Says}
 use Rattle.scenario.specs.CheckFault.{IsFaultOfCheck}

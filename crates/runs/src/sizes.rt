@@ -1,7 +1,7 @@
 //! How a scenario is carried out by how large it is: by how many workers, and in numbers of how many bits.
 
 ghost use Rattle.std.specs.Prelude.{◌≡◌, ◌+◌, ◌*◌, ◌≤◌};
-ghost use Rattle.bench_types.specs.declared.limits.TheConstants.{MOST_ROUNDS, MOST_WRITES};
+ghost use Rattle.limits.specs.declared.TheConstants.{MOST_ROUNDS, MOST_WRITES};
 ghost use Rattle.model.specs.Runs.{AreWorkers};
 ghost use Rattle.runs.specs.inner.Rounds.{AnswersRounds, workers_worth};
 ghost use Rattle.runs.specs.inner.Writes.{AreWrittenIn, HasWritesBelow};

@@ -26,7 +26,7 @@ pub use Rattle.bench_types.specs.declared.faults.Fault.{Fault}
 pub use Rattle.bench_types.specs.declared.faults.Fault.TheVariants.{BudgetTooSmall, OutOfMemory, OutOfRange, TooLarge}
 pub use Rattle.bench_types.specs.declared.fields.Field.{Field}
 pub use Rattle.bench_types.specs.declared.fields.TableName.{TableName}
-pub use Rattle.bench_types.specs.declared.limits.TheConstants.{LEAST_KEYS, LEAST_NODES, MOST_BUDGET, MOST_BUDGET_BYTES, MOST_ELEMENTS, MOST_ENTRIES, MOST_ENTRY_SIZE, MOST_KEYS, MOST_LOSS, MOST_NODES, MOST_ROUNDS, MOST_SEED, MOST_WRITES}
+pub use Rattle.limits.specs.declared.TheConstants.{LEAST_KEYS, LEAST_NODES, MOST_BUDGET, MOST_BUDGET_BYTES, MOST_ELEMENTS, MOST_ENTRIES, MOST_ENTRY_SIZE, MOST_KEYS, MOST_LOSS, MOST_NODES, MOST_ROUNDS, MOST_SEED, MOST_WRITES}
 pub use Rattle.toml.proofs.Views.{Entry, table_get, view-Array}
 pub use Rattle.toml.specs.Data.{Data, Items, Members, array, boolean, get_member, integer, member, no_members, string}
 pub use Rattle.toml.specs.Parse.{parse_document}

@@ -8,7 +8,7 @@ use Rattle.bench_types.specs.declared.faults.Fault.{Fault}
 use Rattle.bench_types.specs.declared.faults.Fault.TheVariants.{BudgetTooSmall}
 use Rattle.bench_types.specs.declared.fields.Field.{Field}
 use Rattle.bench_types.specs.declared.fields.Field.TheVariants as field
-use Rattle.bench_types.specs.declared.limits.TheConstants.{MOST_BUDGET, MOST_ENTRY_SIZE, MOST_BUDGET_BYTES}
+use Rattle.limits.specs.declared.TheConstants.{MOST_BUDGET, MOST_ENTRY_SIZE, MOST_BUDGET_BYTES}
 use Rattle.scenario.specs.Fields.{◌>>=◌, value_at, number_of, number_at}
 
 -- a format in which budgets are in entries

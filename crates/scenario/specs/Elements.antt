@@ -9,7 +9,7 @@ use Rattle.bench_types.specs.declared.faults.Fault.TheVariants.{WrongType, OutOf
 use Rattle.bench_types.specs.declared.fields.Field.{Field}
 use Rattle.bench_types.specs.declared.fields.Field.TheVariants as field
 use Rattle.bench_types.specs.declared.fields.TableName.{TableName}
-use Rattle.bench_types.specs.declared.limits.TheConstants.{MOST_ELEMENTS}
+use Rattle.limits.specs.declared.TheConstants.{MOST_ELEMENTS}
 use Rattle.bench_types.specs.Field.{field_name}
 use Rattle.scenario.specs.Fields.{◌>>=◌, flag_at, has_only, no_other_field}
 

@@ -13,7 +13,7 @@ use Rattle.bench_types.specs.declared.faults.Fault.TheVariants.{NotToml, TooLarg
 use Rattle.bench_types.specs.declared.fields.Field.{Field}
 use Rattle.bench_types.specs.declared.fields.Field.TheVariants as field
 use Rattle.bench_types.specs.declared.fields.TableName.TheVariants as name
-use Rattle.bench_types.specs.declared.limits.TheConstants.{MOST_ROUNDS, MOST_WRITES, MOST_ENTRIES}
+use Rattle.limits.specs.declared.TheConstants.{MOST_ROUNDS, MOST_WRITES, MOST_ENTRIES}
 use Rattle.scenario.specs.declared.elements.Partition.{Partition}
 use Rattle.scenario.specs.declared.elements.Restart.{Restart}
 use Rattle.scenario.specs.declared.elements.Load.{Load}

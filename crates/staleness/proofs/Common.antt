@@ -13,7 +13,7 @@ pub use Rattle.std.specs.Cmp.Lexicographic.{pointwise}
 pub use Rattle.std.specs.List.{AllZip, find, range_with_len}
 pub use Rattle.std.specs.Prelude.{IsTrue, is_some}
 pub use Rattle.bench_types.proofs.EqualParts.{at_place}
-pub use Rattle.bench_types.proofs.Sums.{fold_below-none, sum_below-most, sums}
+pub use Rattle.limits.proofs.Sums.{fold_below-none, sum_below-most, sums}
 pub use Rattle.bench_types.specs.declared.rows.Figures.{Figures}
 pub use Rattle.model.proofs.Common.{Entry, MOST_KEYS, MOST_NODES, absent, fold_below-same, greatest, is_before, mark_held}
 pub use Rattle.model.proofs.Owners.{length-lists_in, list_read}

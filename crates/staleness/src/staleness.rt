@@ -2,7 +2,7 @@
 
 ghost use Rattle.std.specs.Prelude.{◌≡◌, ◌↔◌, ◌*◌, ◌<◌, ◌≤◌, All, IfOk, IsOkUnless, IsTrue, length};
 ghost use Rattle.bench_types.specs.declared.faults.Fault.TheVariants.{OutOfMemory};
-ghost use Rattle.bench_types.specs.declared.limits.TheConstants.{MOST_NODES, MOST_KEYS, MOST_ROUNDS};
+ghost use Rattle.limits.specs.declared.TheConstants.{MOST_NODES, MOST_KEYS, MOST_ROUNDS};
 ghost use Rattle.bench_types.specs.Mark.{mark_held};
 ghost use Rattle.model.specs.Figures.{staleness_of, is_left_over, copy_figures, node_figures, figures_of};
 ghost use Rattle.model.specs.calls.OwnerListView.{lists_in, written};

@@ -1,6 +1,6 @@
 -- The names of other libraries that these proofs cite, passed on from one place. Declares nothing.
 -- Serves most of the crate and `version_tables`.
-pub use Rattle.bench_types.proofs.Sums.{most_below-same}
+pub use Rattle.limits.proofs.Sums.{most_below-same}
 pub use Rattle.grids.proofs.Common.{ArePlanesChanged, IsLeastBehind, cases_eq, cases_lt, count_le, count_passing, get_or-map, le-ltb, length-map, lt-ltb, ltb-false, ltb-true, mul-le-mul_right, nat_le, nat_lt, nat_tests, none-passes, number-at, plane-within, sum_below-most, sum_below-same, sum_next, with_items_is}
 unfoldable pub use Rattle.model.specs.Figures.{figures_of}
 pub use Rattle.model.proofs.Common.{absent, and_parts, before-yes, both_ways, eq-eqb, eqb-true, get_or-append_right, get_or_append_left, get_or_default, is_before, leb-true, mark_of, ne_eqb, same_Some}

@@ -1,11 +1,11 @@
 -- The names of other definitions that these definitions, contracts and proofs cite, passed on from one place. Declares
 -- nothing.
 pub use Rattle.bench_types.specs.Mark.{mark_held}
-pub use Rattle.bench_types.specs.Sums.{most_below, sum_below}
+pub use Rattle.limits.specs.Sums.{most_below, sum_below}
 pub use Rattle.bench_types.specs.declared.entries.Entry.{Entry}
 pub use Rattle.bench_types.specs.declared.faults.Fault.{Fault}
 pub use Rattle.bench_types.specs.declared.faults.Fault.TheVariants.{OutOfMemory}
-pub use Rattle.bench_types.specs.declared.limits.TheConstants.{MOST_KEYS, MOST_NODES, MOST_ROUNDS}
+pub use Rattle.limits.specs.declared.TheConstants.{MOST_KEYS, MOST_NODES, MOST_ROUNDS}
 pub use Rattle.bench_types.specs.declared.rows.Figures.{Figures}
 pub use Rattle.model.specs.Figures.{figures_of, generation_at, is_left_over, leftover_at, rounds_behind, stale_count, staleness_at, staleness_of}
 pub use Rattle.model.specs.Table.{IsProper, Table, entry_at}

@@ -3,7 +3,7 @@
 use Rattle.std.specs.Prelude.{◌≡◌, ◌≢◌, ℕ, zero, suc, ◌<◌, ◌≤◌, List, [], ◌∷◌, ◌⊎◌, length, map, slice_index, Option, Some, None}
 use Rattle.std.specs.List.{range_with_len}
 use Rattle.bench_types.specs.declared.entries.Entry.{Entry}
-use Rattle.bench_types.specs.declared.limits.TheConstants.{LEAST_KEYS, MOST_KEYS, MOST_NODES}
+use Rattle.limits.specs.declared.TheConstants.{LEAST_KEYS, MOST_KEYS, MOST_NODES}
 use Rattle.model.specs.Table.{Table, own_write, with_own_write, IsProper}
 use Rattle.model.specs.calls.Held.{held_by_lists}
 use Rattle.model.specs.calls.Numbers.{write_numbered}

@@ -4,7 +4,7 @@ use Rattle.bench_types.specs.declared.faults.Fault.{Fault}
 use Rattle.bench_types.specs.declared.faults.Fault.TheVariants as fault
 use Rattle.bench_types.specs.declared.fillings.Filling.{Filling}
 use Rattle.bench_types.specs.declared.fillings.Filling.TheVariants as filling
-use Rattle.bench_types.specs.declared.limits.TheConstants.{MOST_BYTES, MOST_ENTRIES, MOST_ENTRY_SIZE}
+use Rattle.limits.specs.declared.TheConstants.{MOST_BYTES, MOST_ENTRIES, MOST_ENTRY_SIZE}
 use Rattle.bench_types.specs.calls.Field.{field_text, table_name}
 
 abbrev pub fault_line : Fault → List ℕ

@@ -1,7 +1,7 @@
 -- What the list of a round keeps. Source: this project.
 use Rattle.std.specs.Prelude.{◌≤◌, length, All}
 use Rattle.bench_types.specs.calls.Exchange.{IsPlanned}
-use Rattle.bench_types.specs.declared.limits.TheConstants.{LEAST_NODES, MOST_NODES}
+use Rattle.limits.specs.declared.TheConstants.{LEAST_NODES, MOST_NODES}
 use Rattle.model.specs.declared.lists.TheConstants.{MOST_EXCHANGES}
 use Rattle.model.specs.RoundLists.{RoundListView}
 

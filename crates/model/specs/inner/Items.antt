@@ -4,7 +4,7 @@ use lib.Dec.{T}
 use Rattle.std.specs.FinMap.{is_sorted}
 use Rattle.bench_types.specs.declared.entries.Entry.{Entry}
 use Rattle.bench_types.specs.declared.entries.Item.{Item}
-use Rattle.bench_types.specs.declared.limits.TheConstants.{LEAST_KEYS, MOST_NODES, MOST_KEYS}
+use Rattle.limits.specs.declared.TheConstants.{LEAST_KEYS, MOST_NODES, MOST_KEYS}
 use Rattle.model.specs.Table.{Place, place_cmp}
 use Rattle.model.specs.calls.Table.{IsItemInPlace}
 

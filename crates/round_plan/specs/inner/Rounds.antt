@@ -1,7 +1,7 @@
 -- What the parts of a round say. Source: this project.
 use Rattle.std.specs.Prelude.{◌≡◌, ℕ, ◌+◌, if◌then◌else◌, List, map, length, ◌<◌, ◌≤◌, slice_index}
 use Rattle.std.specs.List.{range_with_len}
-use Rattle.bench_types.specs.declared.limits.TheConstants.{MOST_ROUNDS, MOST_WRITES}
+use Rattle.limits.specs.declared.TheConstants.{MOST_ROUNDS, MOST_WRITES}
 use Rattle.bench_types.specs.Entry.{next_version}
 use Rattle.scenario.specs.Settings.{Settings}
 use Rattle.scenario.specs.declared.choices.Choice.{Choice}

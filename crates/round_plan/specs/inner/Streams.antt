@@ -1,6 +1,6 @@
 -- The streams of the nodes, and the words that come next in them. Source: this project.
 use Rattle.std.specs.Prelude.{◌≡◌, ℕ, ◌+◌, ◌<◌, ◌≤◌, List, length, slice_index, slice_index_or}
-use Rattle.bench_types.specs.declared.limits.TheConstants.{MOST_ROUNDS}
+use Rattle.limits.specs.declared.TheConstants.{MOST_ROUNDS}
 use Rattle.rand_chacha.specs.ChaCha.{ChaCha, word_at, key_of}
 use Rattle.round_plan.specs.declared.run_words.NodeWords.{NodeWords}
 use Rattle.round_plan.specs.declared.words.TheConstants.{ROUND_WORDS}

@@ -1,6 +1,6 @@
 -- What a table of versions takes for the owners' writes. Source: this project.
 use Rattle.std.specs.Prelude.{◌≡◌, ℕ, suc, ◌<◌, List}
-use Rattle.bench_types.specs.Sums.{sum_below}
+use Rattle.limits.specs.Sums.{sum_below}
 use Rattle.bench_types.specs.declared.entries.Entry.{Entry}
 use Rattle.round_plan.specs.Writes.{writes_in, written_upto}
 use Rattle.scenario.specs.Settings.{Settings, IsLawfulScenario}

@@ -1,6 +1,6 @@
 -- What the parts of a scenario keep. Source: this project.
 use Rattle.std.specs.Prelude.{ℕ, ◌*◌, ◌≤◌}
-use Rattle.bench_types.specs.declared.limits.TheConstants.{LEAST_NODES, MOST_NODES, LEAST_KEYS, MOST_KEYS, MOST_ENTRIES, MOST_ROUNDS, MOST_LOSS, MOST_WRITES, MOST_SEED}
+use Rattle.limits.specs.declared.TheConstants.{LEAST_NODES, MOST_NODES, LEAST_KEYS, MOST_KEYS, MOST_ENTRIES, MOST_ROUNDS, MOST_LOSS, MOST_WRITES, MOST_SEED}
 use Rattle.scenario.specs.declared.parts.Basics.{Basics}
 use Rattle.scenario.specs.declared.parts.Conduct.{Conduct}
 use Rattle.scenario.specs.Settings.{IsWithin, IsBudgetOf}

@@ -5,7 +5,7 @@ use Rattle.model.specs.Table.{Table, greatest_version, IsProper}
 use Rattle.model.specs.Tables.{table_of_node, IsTableOf}
 use Rattle.round_plan.specs.Generations.{generation_upto}
 use Rattle.round_plan.specs.Writes.{writes_upto, written_upto}
-use Rattle.bench_types.specs.declared.limits.TheConstants.{MOST_WRITES}
+use Rattle.limits.specs.declared.TheConstants.{MOST_WRITES}
 use Rattle.scenario.specs.Settings.{Settings}
 use Rattle.model.specs.calls.OwnerListView.{OwnerListView, entries_of, written, list_of_owner}
 use Rattle.model.specs.calls.OwnParts.{OwnPartIsLastWrites}

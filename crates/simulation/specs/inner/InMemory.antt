@@ -5,7 +5,7 @@ use Rattle.bench_types.specs.declared.faults.Fault.{Fault}
 use Rattle.bench_types.specs.declared.faults.Fault.TheVariants.{OutOfMemory}
 use Rattle.std.specs.declared.alloc.Global.{Global}
 use Rattle.std.specs.List.{range_with_len}
-use Rattle.bench_types.specs.declared.limits.TheConstants.{MOST_ROUNDS}
+use Rattle.limits.specs.declared.TheConstants.{MOST_ROUNDS}
 use Rattle.model.specs.Table.{Table, empty_table, with_own_writes}
 use Rattle.model.specs.calls.OwnerListView.{list_of_owner}
 use Rattle.round_plan.specs.Writes.{count_before, own_writes}

@@ -1,7 +1,7 @@
 -- What a run has drawn: the words of a round, its list, and what is written in it. Source: this project.
 use Rattle.std.specs.Prelude.{◌≡◌, ℕ, ◌+◌, ◌*◌, ◌<◌, ◌≤◌, List, [], length, slice_index_or, Option, IfSome, Vec}
 use Rattle.std.specs.declared.alloc.Global.{Global}
-use Rattle.bench_types.specs.declared.limits.TheConstants.{MOST_ROUNDS, MOST_WRITES}
+use Rattle.limits.specs.declared.TheConstants.{MOST_ROUNDS, MOST_WRITES}
 use Rattle.model.specs.calls.OwnerListView.{OwnerListView}
 use Rattle.round_plan.specs.Plan.{round_list_of}
 use Rattle.round_plan.specs.Writes.{writes_upto}

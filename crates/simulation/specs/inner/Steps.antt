@@ -1,7 +1,7 @@
 -- The parts of a step. Source: this project.
 use Rattle.std.specs.Prelude.{◌≡◌, ◌≢◌, ℕ, List, ◌+◌, ◌-◌, ◌^◌, ◌<◌, ◌≤◌, map, ◌++◌, length, slice_index_or, All}
 use Rattle.bench_types.specs.declared.entries.Entry.{Entry}
-use Rattle.bench_types.specs.declared.limits.TheConstants.{MOST_ROUNDS}
+use Rattle.limits.specs.declared.TheConstants.{MOST_ROUNDS}
 use Rattle.bench_types.specs.calls.Entry.{AreNextAfter}
 use Rattle.round_plan.specs.Plan.{round_list_of}
 use Rattle.scenario.specs.Settings.{Settings}

@@ -1,9 +1,9 @@
 -- How the figures of a round are counted: triple by triple, and together. Source: this project.
 use Rattle.std.specs.Prelude.{◌≡◌, ◌↔◌, ℕ, ◌+◌, ◌*◌, ◌^◌, ◌<◌, ◌≤◌, max, nat_lt, if◌then◌else◌, Bool, IsTrue, List, length, All, slice_index_or, Option, None, Some}
 use Rattle.std.specs.List.{AllZip, range_with_len}
-use Rattle.bench_types.specs.Sums.{sum_below, most_below}
+use Rattle.limits.specs.Sums.{sum_below, most_below}
 use Rattle.bench_types.specs.declared.entries.Entry.{Entry}
-use Rattle.bench_types.specs.declared.limits.TheConstants.{MOST_NODES, MOST_KEYS, MOST_ROUNDS}
+use Rattle.limits.specs.declared.TheConstants.{MOST_NODES, MOST_KEYS, MOST_ROUNDS}
 use Rattle.bench_types.specs.declared.rows.Figures.{Figures}
 use Rattle.model.specs.Figures.{staleness_of, staleness_at, leftover_at, stale_count, rounds_behind, node_figures, writes_of_owner}
 use Rattle.model.specs.Table.{Table, mark_at}

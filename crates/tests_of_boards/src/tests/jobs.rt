@@ -1,7 +1,7 @@
 //! Exchanges of a board, carried out.
 
 ghost use Rattle.std.specs.Prelude.{◌≡◌, ◌≤◌, IfOk};
-ghost use Rattle.bench_types.specs.declared.limits.TheConstants.{MOST_KEYS};
+ghost use Rattle.limits.specs.declared.TheConstants.{MOST_KEYS};
 ghost use Rattle.bench_types.specs.calls.Budget.{IsLawfulBudget};
 ghost use Rattle.board.specs.Weights.{Has};
 ghost use Rattle.board.specs.SeatView.{first_seat};

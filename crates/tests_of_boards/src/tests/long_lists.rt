@@ -1,7 +1,7 @@
 //! A long list, done in list order and by two, three and four threads.
 
 ghost use Rattle.std.specs.Prelude.{◌≡◌, ◌<◌, ◌≤◌};
-ghost use Rattle.bench_types.specs.declared.limits.TheConstants.{MOST_WORKERS};
+ghost use Rattle.limits.specs.declared.TheConstants.{MOST_WORKERS};
 ghost use Rattle.bench_types.specs.calls.Budget.{IsLawfulBudget};
 ghost use Rattle.tests_of_boards.specs.declared.tests.long_lists.TheConstants.{NODES};
 

@@ -1,7 +1,7 @@
 //! Lists that workers carry out.
 
 ghost use Rattle.std.specs.Prelude.{◌≤◌};
-ghost use Rattle.bench_types.specs.declared.limits.TheConstants.{MOST_WORKERS, MOST_KEYS};
+ghost use Rattle.limits.specs.declared.TheConstants.{MOST_WORKERS, MOST_KEYS};
 ghost use Rattle.bench_types.specs.calls.Budget.{IsLawfulBudget};
 
 use crate::tests::comparing::expect;

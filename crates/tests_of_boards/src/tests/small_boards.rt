@@ -1,7 +1,7 @@
 //! Boards of nodes that have written each of their keys once.
 
 ghost use Rattle.std.specs.Prelude.{◌≡◌, ◌≤◌, length, IfOk};
-ghost use Rattle.bench_types.specs.declared.limits.TheConstants.{MOST_KEYS};
+ghost use Rattle.limits.specs.declared.TheConstants.{MOST_KEYS};
 ghost use Rattle.node_table.specs.NodeTableView.{kept_table};
 ghost use Rattle.board.specs.Boards.{plan_of, IsSeatOf, seat_view};
 ghost use Rattle.board.specs.SeatView.{first_seat};

@@ -1,6 +1,6 @@
 -- A list that several workers share out. Source: this project.
 use Rattle.std.specs.Prelude.{ℕ, ◌≤◌, List, map}
-use Rattle.bench_types.specs.declared.limits.TheConstants.{MOST_WORKERS}
+use Rattle.limits.specs.declared.TheConstants.{MOST_WORKERS}
 use Rattle.list_order.specs.Carrying.{MayCarryOut}
 use Rattle.model.specs.Table.{Table}
 use Rattle.list_order.specs.declared.works.Batch.{Batch}

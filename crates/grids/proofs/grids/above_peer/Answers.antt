@@ -2,8 +2,8 @@ use Rattle.grids.proofs.Common.{◌≡◌, length, map, nat_lt, slice_index, ap,
 use Rattle.grids.proofs.Counted.{answered-all, counted-as, places-counted}
 use Rattle.grids.proofs.grids.above_peer.Goals as goal
 
-pub returns-clause-above : goal.returns-clause-above
-returns-clause-above g c =
+pub returns : goal.returns
+returns g c =
     let number = g.N.Number.number in
     let size = c.args.grid.size in
     let old = c.deref_mut.result.now in
@@ -13,7 +13,7 @@ returns-clause-above g c =
     let at_peer = number-at number c.args.peer.now in
     let masked = c.change_counting-count in
     let as_many : length old ≡ length c.args.grid.cells.now =
-    ap length c.deref_mut.ensures.value ∙ sym (length-map c.in_ok-numbers.numbers.items number) ∙ c.in_ok-numbers.ensures.zeros.size in
+    ap length c.deref_mut.ensures.value ∙ sym (length-map c.in_ok-numbers.numbers.items number) ∙ c.in_ok-numbers.ensures.size in
     let all = places-counted _ _ size.nodes size.keys _ _ _ masked.result.0 (subst (IsGrid size.nodes size.keys) (sym as_many) c.requires.grid)
     (counted-as number _ _ _ _ _ masked.ensures (λ r x. number_kept (peer r) (cells r)) (λ r _. nat_lt (peer r) (cells r))
     (λ r n all lt called. search (rules, at_cells r, at_peer r)) (λ r n all lt called. search (rules, at_cells r, at_peer r))) in

@@ -2,12 +2,12 @@ use Rattle.grids.proofs.Common.{scaled_fits≤, ◌≤◌, ◌<◌, sym, ap, ari
 use Rattle.grids.proofs.Counted.{masked-once}
 use Rattle.grids.proofs.grids.ahead.Goals as goal
 
-pub returns-then-has_none_upto-clause-ahead : goal.returns-then-has_none_upto-clause-ahead
-returns-then-has_none_upto-clause-ahead g c =
+pub returns-then-has_none_upto : goal.returns-then-has_none_upto
+returns-then-has_none_upto g c =
     let number = g.N.Number.number in
     let nodes = c.args.grid.size.nodes in
     let low = c.args.peer.low.now in
-    let above = c.in_ok-above.ensures.above in
+    let above = c.in_ok-above.ensures in
     let within : c.args.peer.own < length low = omega (arith, c.requires.among, c.requires.marks.count) in
     let mark = sym (get_or-map number low c.args.peer.own c.index-peer-own.result 0 within) in
     let all = masked-once nodes c.args.grid.size.keys c.args.peer.own _ (cell (map number c.args.grid.cells.now) nodes)
@@ -21,6 +21,6 @@ offset_bounds-peer-own g c = let within : c.args.peer.own ≤ length c.args.peer
 
 pub has_none_upto-requires : goal.has_none_upto-requires
 has_none_upto-requires g c =
-    let above = c.in_ok-above.ensures.above.numbers.size in let shape = c.requires.marks.shape in
+    let above = c.in_ok-above.ensures.numbers.size in let shape = c.requires.marks.shape in
     let size = ap length c.deref.ensures.value ∙ sym (length-map c.in_ok-above.above.numbers.items g.N.Number.number) ∙ above in
     record { grid = record { whole = size; few_nodes = shape.few_nodes; few_keys = shape.few_keys }; among = c.requires.among }

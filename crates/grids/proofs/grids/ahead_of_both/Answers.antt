@@ -13,7 +13,7 @@ loop-key-preserved g c =
     let counted = c.change_counting-plane_count in
     let within = plane-within nodes c.args.grid.size.keys (length c.args.grid.cells.now) key c.requires.peer.marks.shape c.loop-key-test.true in
     let room : key * nodes + nodes ≤ length (map number c.deref_mut-all.result.now) =
-    omega (arith, within, ap (λ xs. length (map number xs)) c.deref_mut-all.ensures.value, c.in_ok-numbers.ensures.zeros.size) in
+    omega (arith, within, ap (λ xs. length (map number xs)) c.deref_mut-all.ensures.value, c.in_ok-numbers.ensures.size) in
     let start : ℕ = key * nodes in
     let block = length-take-le (start + nodes - start) (drop start c.loop-key.all)
     (omega (arith, length-drop start c.loop-key.all, length-map c.deref_mut-all.result.now number)) in
@@ -31,8 +31,8 @@ loop-key-preserved g c =
           (λ r lt i. nat_lt 0 (at_plane r lt i)));
     }
 
-pub returns-clause-ahead : goal.returns-clause-ahead
-returns-clause-ahead g c =
+pub returns : goal.returns
+returns g c =
     let number = g.N.Number.number in
     let nodes = c.args.grid.size.nodes in
     let keys = c.args.grid.size.keys in
@@ -40,7 +40,7 @@ returns-clause-ahead g c =
     let cells = cell (map number c.args.grid.cells.now) nodes in
     let is_held = λ (i : ℕ). nat_lt 0 (slice_index (map number c.args.grid.cells.now) i) in
     let peer = cell (map number c.args.peer.cells.now) nodes in
-    let size = ap (λ xs. length (map number xs)) c.deref_mut-all.ensures.value ∙ c.in_ok-numbers.ensures.zeros.size in
+    let size = ap (λ xs. length (map number xs)) c.deref_mut-all.ensures.value ∙ c.in_ok-numbers.ensures.size in
     let items = with_items_is c.in_ok-numbers.numbers c.loop-key.all (c.loop-key.auto.all ∙ c.deref_mut-all.ensures.len) in
     record {
       numbers = rw items (record { size = all.0.size ∙ size ∙ c.requires.peer.marks.shape.whole; each = all.0.each });
@@ -63,11 +63,11 @@ slice_bounds-block-end g c =
     let within = plane-within _ _ _ c.loop-key.key c.requires.peer.marks.shape c.loop-key-test.true in
     let all = ap (λ xs. length (map g.N.Number.number xs)) c.deref_mut-all.ensures.value in
     let room : c.loop-key.key * c.args.grid.size.nodes + c.args.grid.size.nodes ≤ length c.loop-key.all =
-    omega (arith, c.in_ok-numbers.ensures.zeros.size, length-map c.deref_mut-all.result.now g.N.Number.number) in
+    omega (arith, c.in_ok-numbers.ensures.size, length-map c.deref_mut-all.result.now g.N.Number.number) in
     search rules
 
 pub offset_bounds-all-start : goal.offset_bounds-all-start
 offset_bounds-all-start g c =
     let all = ap (λ xs. length (map g.N.Number.number xs)) c.deref_mut-all.ensures.value in
     let within = plane-within _ _ _ c.loop-key.key c.requires.peer.marks.shape c.loop-key-test.true in
-    scaled_fits≤ _ _ _ (omega (arith, c.in_ok-numbers.ensures.zeros.size, length-map c.deref_mut-all.result.now g.N.Number.number)) c.deref_mut-all.type_inv.1
+    scaled_fits≤ _ _ _ (omega (arith, c.in_ok-numbers.ensures.size, length-map c.deref_mut-all.result.now g.N.Number.number)) c.deref_mut-all.type_inv.1

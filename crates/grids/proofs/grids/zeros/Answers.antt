@@ -18,8 +18,8 @@ loop-filled-preserved g c =
           get_or-map number more i z d (omega (arith, length-replicate n z)) ∙ ap number (get_or-replicate n i z z (omega arith)) ∙ c.zero.ensures));
     }
 
-pub returns-clause-zeros : goal.returns-clause-zeros
-returns-clause-zeros g c =
+pub returns : goal.returns
+returns g c =
     let all = c.loop-filled.invariant in
     let size = length-map c.loop-filled.numbers.items g.N.Number.number in
     record { size = omega arith; each = λ r lt. all.each r 0 (omega arith) }

@@ -1,8 +1,8 @@
 use Rattle.planes.proofs.Common.{◌≡◌, ◌-◌, ◌∙◌, ap, arith, replicate, get_or-map, get_or-replicate, length-map, length-replicate, take-nil}
 use Rattle.planes.proofs.grids.all_of.Goals as goal
 
-pub returns-clause-numbers : goal.returns-clause-numbers
-returns-clause-numbers g c =
+pub returns : goal.returns
+returns g c =
     let number = g.N.Number.number in
     let count = c.args.count in
     let x = c.args.number in

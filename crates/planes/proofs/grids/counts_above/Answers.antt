@@ -21,7 +21,7 @@ loop-key-preserved g c =
     number_next _ c.loop-key.key x y {y = if nat_lt (low r) (plane r) then 1 else 0} counted (omega (arith, made.made))
     (λ i. if nat_lt (low r) (c.plane_of-plane.ensures.each r lt i) then 1 else 0))
 
-pub returns-clause-counts : goal.returns-clause-counts
-returns-clause-counts g c =
+pub returns : goal.returns
+returns g c =
     let all : c.loop-key.key ≡ c.args.grid.size.keys = omega arith in
     rw (with_items_is c.in_ok-counts.counts c.loop-key.all (c.loop-key.auto.all ∙ c.deref_mut-all.ensures.len), ← all) c.loop-key.invariant

@@ -1,5 +1,5 @@
 use Rattle.simulation.proofs.Common.{◌+◌, ◌≤◌, refl, ap, sym, ◌∙◌, subst, IfSome}
-use Rattle.bench_types.specs.declared.limits.TheConstants.{MOST_ROUNDS}
+use Rattle.limits.specs.declared.TheConstants.{MOST_ROUNDS}
 use Rattle.simulation.specs.inner.Plans.{AreCountsAfter}
 use Rattle.simulation.specs.Rounds.{begun}
 use Rattle.simulation.proofs.Ahead.{counts_after}

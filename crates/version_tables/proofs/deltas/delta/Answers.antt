@@ -36,7 +36,7 @@ delta_above-requires-clause-offered g c =
 
 pub delta_above-requires-in-Precise-clause-offered : goal.delta_above-requires-in-Precise-clause-offered
 delta_above-requires-in-Precise-clause-offered g c =
-    let ahead = c.in_ok-ahead-in-Precise.ensures.ahead in
+    let ahead = c.in_ok-ahead-in-Precise.ensures in
     let grid = c.grid-grid.ensures in
     let number = g.N.Number.number in
     let low = c.deref-in-Precise.ensures.value in

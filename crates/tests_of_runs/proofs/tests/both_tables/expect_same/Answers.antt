@@ -1,5 +1,5 @@
 use Rattle.std.proofs.Common.{◌*◌, ◌<◌, arith, rules}
-use Rattle.bench_types.specs.declared.limits.TheConstants.{MOST_WRITES}
+use Rattle.limits.specs.declared.TheConstants.{MOST_WRITES}
 use Rattle.runs.proofs.Numbers.{below_limits}
 use Rattle.tests_of_runs.proofs.tests.both_tables.expect_same.Goals as goal
 

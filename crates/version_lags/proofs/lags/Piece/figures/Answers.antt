@@ -19,7 +19,7 @@ least_behind-requires g c =
 pub lag_of_owner-lag-requires : goal.lag_of_owner-lag-requires
 lag_of_owner-lag-requires g c =
     rw (get_or_default c.args.numbers.now.lists.now c.loop-owner.owner c.index-numbers-owner.result no_writes c.loop-owner-test.true)
-    (may-walk c.requires c.deref.result c.deref.ensures.value c.in_ok-firsts.firsts.items c.in_ok-firsts.ensures.least c.loop-owner.owner c.loop-owner-test.true
+    (may-walk c.requires c.deref.result c.deref.ensures.value c.in_ok-firsts.firsts.items c.in_ok-firsts.ensures c.loop-owner.owner c.loop-owner-test.true
     c.index-first.result.now c.index-first.ensures)
 
 pub loop-owner-preserved : goal.loop-owner-preserved
@@ -38,7 +38,7 @@ loop-owner-preserved-then-is_upto g c =
     let since = c.saturating_sub-since.result in
     let first = c.index-first.result.now in
     let walk =
-    may-walk c.requires c.deref.result c.deref.ensures.value c.in_ok-firsts.firsts.items c.in_ok-firsts.ensures.least r lt first c.index-first.ensures in
+    may-walk c.requires c.deref.result c.deref.ensures.value c.in_ok-firsts.firsts.items c.in_ok-firsts.ensures r lt first c.index-first.ensures in
     let row = c.row-row.result.now in
     let read = number-at number row r c.index-row-owner.result (omega (arith, length-map row number)) c.index-row-owner.is in
     let after = leb-true (number c.index-row-owner.result) (number first) (sym c.is_upto.ensures ∙ c.if-is_upto.true) in

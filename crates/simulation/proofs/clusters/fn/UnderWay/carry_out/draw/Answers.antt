@@ -1,5 +1,5 @@
 use Rattle.simulation.proofs.Common.{◌+◌, ◌≤◌, subst, IfSome}
-use Rattle.bench_types.specs.declared.limits.TheConstants.{MOST_ROUNDS}
+use Rattle.limits.specs.declared.TheConstants.{MOST_ROUNDS}
 use Rattle.simulation.proofs.clusters.fn.UnderWay.carry_out.draw.Goals as goal
 
 pub next_plan-requires-clause-last : goal.next_plan-requires-clause-last

@@ -1,4 +1,5 @@
-//! The limits of a scenario.
+//! The limits of a scenario. With them go sums below a bound, which stand in definitions alone.
+#![tactic(auto)]
 
 ghost use Rattle.std.specs.Prelude.{◌≡◌};
 

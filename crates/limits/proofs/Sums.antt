@@ -3,7 +3,7 @@
 use Rattle.std.proofs.Common.{◌≡◌, ℕ, zero, suc, ◌+◌, ◌-◌, ◌*◌, ◌<◌, ◌≤◌, min, max, inl, inr, refl, sym, ap, ◌∙◌, arith}
 use Rattle.std.proofs.Math.Nat.{add-mul}
 use Rattle.std.proofs.lemmas.Bool.{cases_lt}
-use Rattle.bench_types.specs.Sums.{sum_below, most_below}
+use Rattle.limits.specs.Sums.{sum_below, most_below}
 
 pub one_more : (a keys : ℕ) → (a + 1) * keys ≡ a * keys + keys
 one_more a keys = omega (arith, add-mul a 1 keys)

@@ -1,0 +1,2 @@
+-- Laws of the definitions, for the crates above.
+pub mod Sums

@@ -6,7 +6,8 @@ use Rattle.std.proofs.Math.Nat.{lt-div-mul-add}
 use Rattle.limits.proofs.Sums.{one_more}
 
 -- what a list has for each number of a range stands at its place
-pub at_place : {X : Type 0} (R : ℕ → X → Type 0) (from n : ℕ) (parts : List X) → AllZip R (range_with_len from n) parts → (k : ℕ) (d : X) → k < n → R (from + k) (get_or parts k d)
+pub at_place : {X : Type 0} (R : ℕ → X → Type 0) (from n : ℕ) (parts : List X) → AllZip R (range_with_len from n) parts → (k : ℕ) (d : X) → k < n
+    → R (from + k) (get_or parts k d)
 at_place R from zero parts each k d lt = absurd (omega arith)
 at_place R from (suc n) [] each k d lt = absurd each
 at_place R from (suc n) (f ∷ fs) each zero d lt = let same : from ≡ from + 0 = omega arith in subst (λ m. R m f) same each.0

@@ -22,11 +22,17 @@ pub struct Masked<N: Number> {
 
 /// The numbers that one table sends another of its size. Of each owner those above the low mark and up to the high one
 /// are taken.
-#[derive(Clone, Copy)]
+#[derive(Copy)]
 pub struct Sent<'a, N: Number> {
     pub grid: Grid<'a, N>,
     pub low: &'a [N],
     pub high: &'a [N],
+}
+
+impl<N: Number> Clone for Sent<'_, N> {
+    fn clone(&self) -> Result<Self, AllocError> {
+        Ok(*self)
+    }
 }
 
 /// What a peer has: its numbers, a mark for each owner that it told, and which owner it is itself.
@@ -117,7 +123,11 @@ fn has_none_upto<N: Number>(cells: &[N], size: Size, owner: usize, mark: N) -> b
 }
 
 // The numbers ahead of both the peer's and any marks, plane by plane.
-fn ahead_of_both<N: Number>(alloc: Global, grid: Grid<N>, peer: Peer<N>) -> Result<Masked<N>, AllocError>
+fn ahead_of_both<N: Number>(
+    alloc: Global,
+    grid: Grid<N>,
+    peer: Peer<N>,
+) -> Result<Masked<N>, AllocError>
     requires peer { HasPeer grid peer }
     ensures { IfOk result (IsAhead N.number grid.entry peer.entry) }
 {
@@ -156,7 +166,11 @@ fn ahead_of_both<N: Number>(alloc: Global, grid: Grid<N>, peer: Peer<N>) -> Resu
 /// The numbers that are above both the peer's and their owner's mark, and 0 in place of the others. One pass masks them
 /// and counts those that it keeps and those that the table holds. It serves where no owner has a mark but the peer
 /// itself, and nothing of that one is ahead up to its mark, as most often.
-pub fn ahead<N: Number>(alloc: Global, grid: Grid<N>, peer: Peer<N>) -> Result<Masked<N>, AllocError>
+pub fn ahead<N: Number>(
+    alloc: Global,
+    grid: Grid<N>,
+    peer: Peer<N>,
+) -> Result<Masked<N>, AllocError>
     requires { HasPeer grid peer }
     ensures { IfOk result (IsAhead N.number grid.entry peer.entry) }
 {

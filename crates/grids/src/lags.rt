@@ -23,7 +23,11 @@ pub fn count_behind<N: Number>(least: &mut [N], grid: Grid<N>, last: &[N]) -> u3
 }
 
 /// For each owner the least of its numbers that are below the last ones, or `N::greatest()` where none is.
-pub fn least_behind<N: Number>(alloc: Global, grid: Grid<N>, last: &[N]) -> Result<Vec<N>, AllocError>
+pub fn least_behind<N: Number>(
+    alloc: Global,
+    grid: Grid<N>,
+    last: &[N],
+) -> Result<Vec<N>, AllocError>
     requires beside { IsBeside grid last.now }
     ensures { IfOk result (λ v. HasEach grid.entry.size.nodes
         (λ r n. IsLeastBehind N.most (cells_in N.number grid.entry)

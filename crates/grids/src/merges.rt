@@ -8,6 +8,7 @@ ghost use Rattle.grids.specs.inner.Loops.{AreBothMarked, ArePartMerged, ArePlane
 use crate::owners;
 use crate::owners::FEW_TO_CHANGE;
 use planes::{Number, Size, are_few};
+use std::alloc::AllocError;
 
 /// A number for what comes to the first of two tables, and one for what comes to the second.
 #[derive(Clone, Copy)]
@@ -17,11 +18,17 @@ pub struct BothCounts {
 }
 
 /// Of two tables of one size the marks of each owner: each table takes what is above its own.
-#[derive(Clone, Copy)]
+#[derive(Copy)]
 pub struct BothMarks<'a, N: Number> {
     pub first: &'a [N],
     pub second: &'a [N],
     pub size: Size,
+}
+
+impl<N: Number> Clone for BothMarks<'_, N> {
+    fn clone(&self) -> Result<Self, AllocError> {
+        Ok(*self)
+    }
 }
 
 /// The leads of so many owners are summed up in 16 bits, as each is no more than the keys.

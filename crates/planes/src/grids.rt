@@ -39,7 +39,11 @@ pub fn zeros<N: Number>(alloc: Global, count: usize) -> Result<Vec<N>, AllocErro
 }
 
 /// For each owner how many of its numbers are above a mark.
-pub fn counts_above<N: Number>(alloc: Global, grid: Grid<N>, low: &[N]) -> Result<Vec<N>, AllocError>
+pub fn counts_above<N: Number>(
+    alloc: Global,
+    grid: Grid<N>,
+    low: &[N],
+) -> Result<Vec<N>, AllocError>
     requires marked { HasMarkOfEach grid low.now }
     ensures { IfOk result (λ v. HasEach grid.entry.size.nodes
         (λ r n. n ≡ count_above (cells_in N.number grid.entry) grid.entry.size.keys r

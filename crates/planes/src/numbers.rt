@@ -34,7 +34,10 @@ pub trait Number: Copy {
         ensures { result ≡ nat_lt (number other) (number self) };
 
     fn is_upto(self, other: Self) -> bool
-        ensures { result ≡ nat_le (number self) (number other) };
+        ensures { result ≡ nat_le (number self) (number other) }
+    {
+        !self.is_above(other)
+    }
 
     fn max_with(self, other: Self) -> Self
         ensures { number result ≡ max (number self) (number other) };
@@ -86,10 +89,6 @@ impl Number for u8 {
         self > other
     }
 
-    fn is_upto(self, other: u8) -> bool {
-        self <= other
-    }
-
     fn max_with(self, other: u8) -> u8 {
         self.max(other)
     }
@@ -114,9 +113,7 @@ impl Number for u8 {
 /// A number below 32768, in 16 bits with a sign: a processor compares many such numbers in one instruction, and those
 /// without a sign in two.
 #[derive(Clone, Copy)]
-pub struct Short {
-    number: i16,
-}
+pub struct Short(i16);
 
 impl Model for Short {
     ghost use Rattle.std.specs.Prelude.{◌≡◌, ℕ};
@@ -125,11 +122,11 @@ impl Model for Short {
 
     ghost Value = { ℕ };
 
-    ghost view = { λ s. unsigned_abs s.number };
+    ghost view = { λ s. unsigned_abs s.0 };
 
-    ghost invariant = { λ s. s.number ≡ pos (unsigned_abs s.number) };
+    ghost invariant = { λ s. s.0 ≡ pos (unsigned_abs s.0) };
 
-    ghost inverse = { λ n. record { number = pos n } };
+    ghost inverse = { λ n. record { 0 = pos n } };
 }
 
 impl Number for Short {
@@ -142,48 +139,36 @@ impl Number for Short {
     ghost counts_keys = { Prim.search rules };
 
     fn greatest() -> Short {
-        Short { number: i16::MAX }
+        Short(i16::MAX)
     }
 
     fn widen(self) -> u32 {
-        self.number as u32
+        self.0 as u32
     }
 
     fn narrow(wide: u32) -> Short {
-        Short {
-            number: wide as i16,
-        }
+        Short(wide as i16)
     }
 
     fn is_above(self, other: Short) -> bool {
-        self.number > other.number
-    }
-
-    fn is_upto(self, other: Short) -> bool {
-        self.number <= other.number
+        self.0 > other.0
     }
 
     fn max_with(self, other: Short) -> Short {
-        Short {
-            number: self.number.max(other.number),
-        }
+        Short(self.0.max(other.0))
     }
 
     fn min_with(self, other: Short) -> Short {
-        Short {
-            number: self.number.min(other.number),
-        }
+        Short(self.0.min(other.0))
     }
 
     fn plus(self, more: bool) -> Short {
-        Short {
-            number: self.number + i16::from(more),
-        }
+        Short(self.0 + i16::from(more))
     }
 
     fn lead(self, other: Short, at_most: u8) -> u16 {
-        (self.number as u16)
-            .saturating_sub(other.number as u16)
+        (self.0 as u16)
+            .saturating_sub(other.0 as u16)
             .min(u16::from(at_most))
     }
 
@@ -215,10 +200,6 @@ impl Number for u32 {
 
     fn is_above(self, other: u32) -> bool {
         self > other
-    }
-
-    fn is_upto(self, other: u32) -> bool {
-        self <= other
     }
 
     fn max_with(self, other: u32) -> u32 {

@@ -32,7 +32,8 @@ most_below-has (suc n) f i lt = elim (cases_lt i n) [
 ]
 
 -- one triple of three nodes is as much as all, or less
-has_triple : (fold : ℕ → (ℕ → ℕ) → ℕ) → ((n : ℕ) (f : ℕ → ℕ) (i : ℕ) → i < n → f i ≤ fold n f) → (nodes p r k : ℕ) (keys : ℕ → ℕ) (f : ℕ → ℕ → ℕ → ℕ) → p < nodes → r < nodes → k < keys p → f p r k ≤ fold nodes (λ p. fold nodes (λ r. fold (keys p) (f p r)))
+has_triple : (fold : ℕ → (ℕ → ℕ) → ℕ) → ((n : ℕ) (f : ℕ → ℕ) (i : ℕ) → i < n → f i ≤ fold n f) → (nodes p r k : ℕ) (keys : ℕ → ℕ) (f : ℕ → ℕ → ℕ → ℕ)
+    → p < nodes → r < nodes → k < keys p → f p r k ≤ fold nodes (λ p. fold nodes (λ r. fold (keys p) (f p r)))
 has_triple fold has nodes p r k keys f p_in r_in k_in =
     omega (
       arith,
@@ -72,11 +73,15 @@ module _ (forget : Bool) where
   unfolding figures_of
   lags_now =
       let size = bounds 1 1 (omega arith) in
-      let triple : rounds_behind (staleness_at 1 (tables_after ring 1) (lists_after ring 1) 1 2 0) ≡ 1 = (λ i. rounds_behind (staleness_of 1 (generation i) (list_after ring 1 2) 0 (lacks i))) ∙ since_now in
+      let triple : rounds_behind
+      (staleness_at 1 (tables_after ring 1) (lists_after ring 1) 1 2 0) ≡ 1 = (λ i. rounds_behind
+      (staleness_of 1 (generation i) (list_after ring 1 2) 0 (lacks i))) ∙ since_now in
       omega (
         arith,
         triple,
-        has_triple most_below most_below-has (length (tables_after ring 1)) 1 2 0 (λ p. (table 1 p).keys) (λ p r k. rounds_behind (staleness_at 1 (tables_after ring 1) (lists_after ring 1) p r k)) (omega (arith, size.0)) (omega (arith, size.0)) (omega (arith, size.1)),
+        has_triple most_below most_below-has (length (tables_after ring 1)) 1 2 0 (λ p. (table 1 p).keys)
+            (λ p r k. rounds_behind (staleness_at 1 (tables_after ring 1) (lists_after ring 1) p r k)) (omega (arith, size.0))
+            (omega (arith, size.0)) (omega (arith, size.1)),
       )
 
 -- in round 4 node 0 forgets what node 1 still has
@@ -140,11 +145,13 @@ pub left_over : 1 ≤ (figures_in forgotten 4).leftover
 unfolding figures_of
 left_over =
     let tables = ((sound forgotten its_lawful).after 4).copies.tables in
-    let triple : leftover_at (tables_after forgotten 4) 1 0 0 ≡ 1 = (λ i. if is_left_over (forgotten_twice i) (entry_at (its 4 1) 0 0) then 1 else 0) ∙ ap (λ b. if b then 1 else 0) (is_old (entry_at (its 4 1) 0 0) refl) in
+    let triple : leftover_at (tables_after forgotten 4) 1 0 0 ≡ 1 = (λ i. if is_left_over (forgotten_twice i) (entry_at (its 4 1) 0 0) then 1 else 0)
+    ∙ ap (λ b. if b then 1 else 0) (is_old (entry_at (its 4 1) 0 0) refl) in
     omega (
       arith,
       triple,
-      has_triple sum_below sum_below-has (length (tables_after forgotten 4)) 1 0 0 (λ p. (its 4 p).keys) (leftover_at (tables_after forgotten 4)) (omega (arith, tables.size)) (omega (arith, tables.size)) (omega (arith, (tables.tables 1 (omega arith)).keys)),
+      has_triple sum_below sum_below-has (length (tables_after forgotten 4)) 1 0 0 (λ p. (its 4 p).keys) (leftover_at (tables_after forgotten 4))
+          (omega (arith, tables.size)) (omega (arith, tables.size)) (omega (arith, (tables.tables 1 (omega arith)).keys)),
     )
 
 -- where all is lost nothing is handed on
@@ -176,7 +183,8 @@ lost_and_come : (m : Moment) (e : Exchange) → slice_get (round_list_of ring_th
 lost_and_come m e listed came =
     let exchanges = (round_list_of ring_that_loses m.round).exchanges in
     let is : get_or exchanges m.exchanges e ≡ e = get_or_from_slice_get exchanges m.exchanges e e listed in
-    let lost : e.lost1 ≡ true = subst (λ (x : Exchange). x.lost1 ≡ true) is (all_lost m.round m.exchanges e (slice_get_within exchanges m.exchanges e listed)) in
+    let lost : e.lost1 ≡ true = subst (λ (x : Exchange). x.lost1 ≡ true) is
+    (all_lost m.round m.exchanges e (slice_get_within exchanges m.exchanges e listed)) in
     let both : true ≡ false = sym lost ∙ came in
     cc
 

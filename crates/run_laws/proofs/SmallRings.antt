@@ -50,10 +50,20 @@ ring_lawful forget mode = record {
   writes = omega arith;
   partitions = record {
     few = omega arith;
-    each = All-cons (IsLawfulPartition 3) (apart_at_first 0) (apart_at_first 1 ∷ []) (partition_lawful 0 (omega arith)) (All-cons (IsLawfulPartition 3) (apart_at_first 1) [] (partition_lawful 1 (omega arith)) (All-nil (IsLawfulPartition 3)));
+    each = All-cons (IsLawfulPartition 3) (apart_at_first 0) (apart_at_first 1 ∷ []) (partition_lawful 0 (omega arith))
+        (All-cons (IsLawfulPartition 3) (apart_at_first 1) [] (partition_lawful 1 (omega arith)) (All-nil (IsLawfulPartition 3)));
   };
-  restarts = record { few = omega arith; each = All-cons (IsLawfulRestart 2 3) (restart_of_first forget 1) (restart_of_first forget 4 ∷ []) (restart_lawful 1 (omega arith) (omega arith)) (All-cons (IsLawfulRestart 2 3) (restart_of_first forget 4) [] (restart_lawful 4 (omega arith) (omega arith)) (All-nil (IsLawfulRestart 2 3))) };
-  loads = record { few = omega arith; each = All-cons IsLawfulLoad load [] (record { from = (omega arith, omega arith); to = (omega arith, omega arith); writes = omega arith }) (All-nil IsLawfulLoad) };
+  restarts = record {
+    few = omega arith;
+    each = All-cons (IsLawfulRestart 2 3) (restart_of_first forget 1) (restart_of_first forget 4 ∷ [])
+        (restart_lawful 1 (omega arith) (omega arith))
+        (All-cons (IsLawfulRestart 2 3) (restart_of_first forget 4) [] (restart_lawful 4 (omega arith) (omega arith)) (All-nil (IsLawfulRestart 2 3)));
+  };
+  loads = record {
+    few = omega arith;
+    each = All-cons IsLawfulLoad load [] (record { from = (omega arith, omega arith); to = (omega arith, omega arith); writes = omega arith })
+        (All-nil IsLawfulLoad);
+  };
 }
   where
     restart_lawful : (round : ℕ) → 1 ≤ round → round ≤ 100000 → IsLawfulRestart 2 3 (restart_of_first forget round)
@@ -82,7 +92,8 @@ module _ (s : Settings) (lawful : IsLawfulScenario s) (lossless : s.loss_ppm ≡
   loses_nothing round node = (comes (word_of s node round 1), comes (word_of s node round 2), comes (word_of s node round 3))
 
   all_come : (round : ℕ) → All LosesNothing (round_list_of s round).exchanges
-  all_come round = All-map LosesNothing (exchange_of s round) (filter (begins s round) (range_with_len 0 s.nodes)) (λ k d lt. loses_nothing round (get_or (filter (begins s round) (range_with_len 0 s.nodes)) k d))
+  all_come round = All-map LosesNothing (exchange_of s round) (filter (begins s round) (range_with_len 0 s.nodes))
+      (λ k d lt. loses_nothing round (get_or (filter (begins s round) (range_with_len 0 s.nodes)) k d))
 
   abbrev IsOk : Record → Type 0
   IsOk r = r.fate ≡ fate.Ok
@@ -91,17 +102,24 @@ module _ (s : Settings) (lawful : IsLawfulScenario s) (lossless : s.loss_ppm ≡
   among_one x r ok (zero, lt, is) = subst IsOk is ok
   among_one x r ok (suc k, lt, is) = absurd (omega (arith, lt))
 
-  fold_ok : (rules : Rules) (es : List Exchange) (f : Folded) → All LosesNothing es → ((r : Record) → Contains f.records r → IsOk r) → (r : Record) → Contains (fold (exchange_in rules) f es).records r → IsOk r
+  fold_ok : (rules : Rules) (es : List Exchange) (f : Folded) → All LosesNothing es → ((r : Record) → Contains f.records r → IsOk r) → (r : Record)
+      → Contains (fold (exchange_in rules) f es).records r → IsOk r
   fold_ok rules [] f come ok = ok
   fold_ok rules (e ∷ es) f come ok =
       let p = table_of_node f.tables e.initiator in
       let q = table_of_node f.tables e.responder in
       let sent : Record = (exchanged rules e p q).sent in
-      let sent_ok : IsOk sent = ap (λ (x : Fate). (sent_until x (digest_size (digest_kind rules.mode) p) (digest_size (digest_kind rules.mode) q) (delta_between rules.mode e.rotation rules.budget q p) (delta_between rules.mode e.rotation rules.budget p q)).fate) (fate-ended e (All-head LosesNothing e es come)) in
-      fold_ok rules es (exchange_in rules f e) (All-tail LosesNothing e es come) (λ r there. elim (Contains-append_cases f.records (sent ∷ []) r there) [ inl before ↦ ok r before | inr now ↦ among_one sent r sent_ok now ])
+      let sent_ok : IsOk sent = ap
+      (λ (x : Fate).
+      (sent_until x (digest_size (digest_kind rules.mode) p) (digest_size (digest_kind rules.mode) q)
+      (delta_between rules.mode e.rotation rules.budget q p) (delta_between rules.mode e.rotation rules.budget p q)).fate)
+      (fate-ended e (All-head LosesNothing e es come)) in
+      fold_ok rules es (exchange_in rules f e) (All-tail LosesNothing e es come)
+      (λ r there. elim (Contains-append_cases f.records (sent ∷ []) r there) [ inl before ↦ ok r before | inr now ↦ among_one sent r sent_ok now ])
 
   all_ok : (round : ℕ) (r : Record) → Contains (records_in s round) r → IsOk r
-  all_ok round = fold_ok (rules_of s) (round_list_of s round).exchanges (record { tables = begun s round (tables_after s (round - 1)); records = [] }) (all_come round) (λ r there. absurd (omega (arith, there.1)))
+  all_ok round = fold_ok (rules_of s) (round_list_of s round).exchanges
+      (record { tables = begun s round (tables_after s (round - 1)); records = [] }) (all_come round) (λ r there. absurd (omega (arith, there.1)))
 
   -- and the budget is ample
   module _ (ample : IsAmple s) where
@@ -144,7 +162,8 @@ keeps_own = inr (refl, refl)
 
 pub written_since : HaveWrittenSince (ring_of_three true) 3
 unfolding forgets_now is_up writes_in
-written_since = below_3 (λ n. 1 ≤ generation_upto (ring_of_three true) n 3 → 1 ≤ count_upto (ring_of_three true) n 3) (λ _. omega arith) (λ _. omega arith) (λ _. omega arith)
+written_since = below_3 (λ n. 1 ≤ generation_upto (ring_of_three true) n 3 → 1 ≤ count_upto (ring_of_three true) n 3) (λ _. omega arith)
+    (λ _. omega arith) (λ _. omega arith)
 
 pub has_forgotten : generation_upto (ring_of_three true) 0 3 ≡ 1
 unfolding forgets_now
@@ -222,12 +241,15 @@ module _ (forget : Bool) where
     -- until then each node has what it has written
     at_start : (holder : ℕ) → holder < 3 → IsPassedOn ring holder having_written m holder
     at_start holder in_nodes =
-        keeps having_written m holder starts (inl (omega arith)) (λ t above upto. inl (subst (λ r. restarts_now ring holder r ≡ false) {x = 2} {y = t} (omega (arith, above, upto)) (quiet-2.kept holder in_nodes)))
+        keeps having_written m holder starts (inl (omega arith))
+        (λ t above upto. inl
+        (subst (λ r. restarts_now ring holder r ≡ false) {x = 2} {y = t} (omega (arith, above, upto)) (quiet-2.kept holder in_nodes)))
 
     -- and who has it then still has it at the end
     to_end : (owner holder : ℕ) → IsPassedOn ring owner having_written (next_moment m) holder → IsPassedOn ring owner having_written end holder
     to_end owner holder path =
-        keeps (next_moment m) end holder path (inr (refl, omega (arith, slice_get_within (round_list_of ring 2).exchanges n e begins_one))) (λ t above upto. absurd (omega (arith, above, upto)))
+        keeps (next_moment m) end holder path (inr (refl, omega (arith, slice_get_within (round_list_of ring 2).exchanges n e begins_one)))
+        (λ t above upto. absurd (omega (arith, above, upto)))
 
     from_peer : (owner : ℕ) → owner < 3 → owner ≢ n → peer_of ring n 2 ≡ owner → IsPassedOn ring owner having_written end n
     from_peer owner owner_in apart is =
@@ -235,36 +257,44 @@ module _ (forget : Bool) where
 
     to_peer : (holder : ℕ) → n ≢ holder → peer_of ring n 2 ≡ holder → IsPassedOn ring n having_written end holder
     to_peer holder apart is =
-        to_end n holder (subst (IsPassedOn ring n having_written (next_moment m)) is (passed_forth m e (at_start n lt) begins_one ends (λ same. apart (same ∙ is))))
+        to_end n holder
+        (subst (IsPassedOn ring n having_written (next_moment m)) is (passed_forth m e (at_start n lt) begins_one ends (λ same. apart (same ∙ is))))
 
   pub all_passed_on : AllArePassedOn ring 1 2
-  all_passed_on owner holder owner_in holder_in = below_3 (λ o. (h : ℕ) → h < 3 → o ≢ h → IsPassedOn ring o having_written end h) of_0 of_1 of_2 owner owner_in holder holder_in
+  all_passed_on owner holder owner_in holder_in = below_3
+      (λ o. (h : ℕ) → h < 3 → o ≢ h → IsPassedOn ring o having_written end h) of_0 of_1 of_2 owner owner_in holder holder_in
     where
       of_0 : (h : ℕ) → h < 3 → 0 ≢ h → IsPassedOn ring 0 having_written end h
-      of_0 = below_3 (λ h. 0 ≢ h → IsPassedOn ring 0 having_written end h) (λ apart. absurd (apart refl)) (λ apart. from_peer 1 (omega arith) 0 (omega arith) apart refl) (λ apart. to_peer 0 (omega arith) 2 apart refl)
+      of_0 = below_3 (λ h. 0 ≢ h → IsPassedOn ring 0 having_written end h) (λ apart. absurd (apart refl))
+          (λ apart. from_peer 1 (omega arith) 0 (omega arith) apart refl) (λ apart. to_peer 0 (omega arith) 2 apart refl)
 
       of_1 : (h : ℕ) → h < 3 → 1 ≢ h → IsPassedOn ring 1 having_written end h
-      of_1 = below_3 (λ h. 1 ≢ h → IsPassedOn ring 1 having_written end h) (λ apart. to_peer 1 (omega arith) 0 apart refl) (λ apart. absurd (apart refl)) (λ apart. from_peer 2 (omega arith) 1 (omega arith) apart refl)
+      of_1 = below_3 (λ h. 1 ≢ h → IsPassedOn ring 1 having_written end h) (λ apart. to_peer 1 (omega arith) 0 apart refl)
+          (λ apart. absurd (apart refl)) (λ apart. from_peer 2 (omega arith) 1 (omega arith) apart refl)
 
       of_2 : (h : ℕ) → h < 3 → 2 ≢ h → IsPassedOn ring 2 having_written end h
-      of_2 = below_3 (λ h. 2 ≢ h → IsPassedOn ring 2 having_written end h) (λ apart. from_peer 0 (omega arith) 2 (omega arith) apart refl) (λ apart. to_peer 2 (omega arith) 1 apart refl) (λ apart. absurd (apart refl))
+      of_2 = below_3 (λ h. 2 ≢ h → IsPassedOn ring 2 having_written end h) (λ apart. from_peer 0 (omega arith) 2 (omega arith) apart refl)
+          (λ apart. to_peer 2 (omega arith) 1 apart refl) (λ apart. absurd (apart refl))
 
   -- from node 2 to node 0, and on to node 1
   pub passes_on : IsPassedOn ring 2 having_written having_met 1
   passes_on =
       passed_back (m 1 (omega arith)) (e 1 (omega arith))
-      (passed_back (m 0 (omega arith)) (e 0 (omega arith)) (at_start 0 (omega arith) 2 (omega arith)) (begins_one 0 (omega arith)) (ends 0 (omega arith)).0 (ends 0 (omega arith)).1 (λ same. absurd (omega (arith, same))))
+      (passed_back (m 0 (omega arith)) (e 0 (omega arith)) (at_start 0 (omega arith) 2 (omega arith)) (begins_one 0 (omega arith))
+      (ends 0 (omega arith)).0 (ends 0 (omega arith)).1 (λ same. absurd (omega (arith, same))))
       (begins_one 1 (omega arith)) (ends 1 (omega arith)).0 (ends 1 (omega arith)).1 (λ same. absurd (omega (arith, same)))
 
   pub reaches : IsReached ring 2 having_met 1
-  reaches = handed (m 1 (omega arith)) 0 1 (handed (m 0 (omega arith)) 2 0 (own (m 0 (omega arith)) (omega arith)) (hands 0 (omega arith) 2)) (hands 1 (omega arith) 2)
+  reaches = handed (m 1 (omega arith)) 0 1 (handed (m 0 (omega arith)) 2 0 (own (m 0 (omega arith)) (omega arith)) (hands 0 (omega arith) 2))
+      (hands 1 (omega arith) 2)
 
   pub leaves_copy : LeavesCopy ring 0 2 3
   unfolding is_up restarts_now writes_in
   leaves_copy = record { unwritten = refl; kept = refl }
 
   pub uncut_before : CutsNothingBefore ring having_met
-  uncut_before = uncut_rows ring lawful.nodes.0 lawful.nodes.1 lawful.keys.0 lawful.keys.1 2 having_met (modes_uncut forget ScuttleBreadth 2) (λ n upto. not_after (next_moment n) having_met upto)
+  uncut_before = uncut_rows ring lawful.nodes.0 lawful.nodes.1 lawful.keys.0 lawful.keys.1 2 having_met (modes_uncut forget ScuttleBreadth 2)
+      (λ n upto. not_after (next_moment n) having_met upto)
 
   -- in round 1 nobody meets
   pub none_meet : tables_within ring 1 0 ≡ tables_after ring 1
@@ -292,23 +322,28 @@ module _ (forget : Bool) where
   -- and the others hold nothing of node 2
   opened : (n : ℕ) → n < 2 → (key : ℕ) → entry_at (table_of_node (tables_after ring 0) n) 2 key ≡ None
   unfolding tables_after
-  opened = below_2 (λ n. (key : ℕ) → entry_at (table_of_node (tables_after ring 0) n) 2 key ≡ None) (entry_at-empty_table 0 3 1 2) (entry_at-empty_table 1 3 1 2)
+  opened = below_2 (λ n. (key : ℕ) → entry_at (table_of_node (tables_after ring 0) n) 2 key ≡ None) (entry_at-empty_table 0 3 1 2)
+      (entry_at-empty_table 1 3 1 2)
 
   pub none_held : (n : ℕ) → n < 2 → (key : ℕ) → entry_at (now n) 2 key ≡ None
   none_held n lt key =
-      begun-others ring lawful.nodes.0 lawful.nodes.1 lawful.keys.0 lawful.keys.1 1 n 2 (omega arith) (omega (arith, lt)) (λ same. absurd (omega (arith, same, lt))) key
-      ∙ elim (restarts_now ring n 1) as (λ b. (if b then None else entry_at (table_of_node (tables_after ring 0) n) 2 key) ≡ None) [ true ↦ refl | false ↦ opened n lt key ]
+      begun-others ring lawful.nodes.0 lawful.nodes.1 lawful.keys.0 lawful.keys.1 1 n 2 (omega arith) (omega (arith, lt))
+      (λ same. absurd (omega (arith, same, lt))) key
+      ∙ elim (restarts_now ring n 1) as (λ b. (if b then None else entry_at (table_of_node (tables_after ring 0) n) 2 key) ≡ None)
+      [ true ↦ refl | false ↦ opened n lt key ]
 
   pub lags : (n : ℕ) → n < 2 → IsUpTo (greatest_mark (now 2) 2) (greatest_mark (now n) 2) → ⊥
   lags n lt upto =
-      let none : IsUpTo (greatest_mark (now 2) 2) absent = subst (IsUpTo (greatest_mark (now 2) 2)) (greatest_mark-none (now n) 2 (λ key _. none_held n lt key)) upto in
+      let none : IsUpTo (greatest_mark (now 2) 2) absent = subst (IsUpTo (greatest_mark (now 2) 2))
+      (greatest_mark-none (now n) 2 (λ key _. none_held n lt key)) upto in
       omega (arith, none.generation, none.version (omega (arith, none.generation)), own_version)
 
   pub not_fresh : (n : ℕ) → n < 2 → IsFreshAt ring having_written n 2 → ⊥
   not_fresh n lt = without (now n) (now 2) (now_node 2 (omega arith)) own_version (none_held n lt)
 
   pub not_healed : IsHealed ring 1 → ⊥
-  not_healed healed = not_fresh 1 (omega arith) (subst (λ ts. IsFresh (table_of_node ts 1) (table_of_node ts 2)) (sym none_meet) (healed.fresh 1 2 (omega arith) (omega arith)))
+  not_healed healed = not_fresh 1 (omega arith)
+      (subst (λ ts. IsFresh (table_of_node ts 1) (table_of_node ts 2)) (sym none_meet) (healed.fresh 1 2 (omega arith) (omega arith)))
 
   pub sends_copy : (owner : ℕ) → SendsCopyAt ring meeting 0 owner 2 0
   sends_copy owner = sends 0 (omega arith) owner
@@ -328,8 +363,10 @@ module _ (forget : Bool) where
   later_version =
       let begins = ((sound ring lawful).within 4 0 (omega arith)).copies.tables in
       let exchanges = (round_list_of ring 4).exchanges in
-      let own = before_keeps_own (rules_of ring) 3 1 exchanges (begun ring 4 (tables_after ring 3)) (planned_list ring 4 (omega arith)) begins (length exchanges) 2 in
-      sym (subst (λ n. greatest_version (table_of_node (tables_within ring 4 (length exchanges)) 2) n ≡ greatest_version (later 2) n) (begins.tables 2 (omega arith)).node (ap (λ (k : Mark). k.version) own.greatest))
+      let own = before_keeps_own (rules_of ring) 3 1 exchanges (begun ring 4 (tables_after ring 3)) (planned_list ring 4 (omega arith)) begins
+      (length exchanges) 2 in
+      sym (subst (λ n. greatest_version (table_of_node (tables_within ring 4 (length exchanges)) 2) n ≡ greatest_version (later 2) n)
+      (begins.tables 2 (omega arith)).node (ap (λ (k : Mark). k.version) own.greatest))
       ∙ subst (λ ts. greatest_version (table_of_node ts 2) 2 ≡ 1) (sym ((sound ring lawful).ends 4 (omega arith)))
       ((counts_after ring lawful.nodes.0 lawful.nodes.1 lawful.keys.0 lawful.keys.1 4 2 (omega arith)).1 ∙ still_once)
 

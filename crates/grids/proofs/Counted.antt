@@ -56,8 +56,7 @@ module _ (changed : ℕ → ℕ → ℕ → ℕ → Type 0) (test : ℕ → ℕ 
       → ((r x y : ℕ) → r < nodes → in_block r x y → changed r key x y) → ((r : ℕ) → r < nodes → passes r ≡ test r key)
       → ArePlanesCounted changed test nodes old (map number (put_mid (key * nodes) n xs ys)) (key + 1) (count + more)
   planes_counted-next number xs ys key n count more in_block passes is before within now step same =
-      let block = take n (drop (key * nodes) xs) in
-      let size = length-map block number in
+      let block = take n (drop (key * nodes) xs) in let size = length-map block number in
       let cells = plane-cells number nodes key n xs is (omega (arith, length-map xs number)) in
       record {
         planes = planes-written changed nodes old number xs ys key n in_block is before.planes within (changed_all _ _ _ _ now.numbers (omega arith)) step;

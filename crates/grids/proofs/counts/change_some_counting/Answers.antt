@@ -3,12 +3,10 @@ use Rattle.grids.proofs.counts.change_some_counting.Goals as goal
 
 pub loop-i-preserved : goal.loop-i-preserved
 loop-i-preserved g c =
-    let number = g.N.Number.number in
-    let held = c.loop-i.invariant in
+    let number = g.N.Number.number in let held = c.loop-i.invariant in
     let at : ℕ = c.args.from + c.loop-i.i in
     let within : at < length c.args.numbers.now = omega arith in
-    let n = c.index-numbers-r.result in
-    let all = c.to-number.result in
+    let n = c.index-numbers-r.result in let all = c.to-number.result in
     let waits = number-at number c.loop-i.numbers at n (omega arith) c.index-numbers-r.is ∙ held.rest at (omega arith) in
     record {
       upto = (omega (arith, one_le all.1), omega (arith, one_le all.2));

@@ -4,14 +4,10 @@ use Rattle.grids.proofs.grids.above_peer.Goals as goal
 
 pub returns : goal.returns
 returns g c =
-    let number = g.N.Number.number in
-    let size = c.args.grid.size in
-    let old = c.deref_mut.result.now in
-    let cells = slice_index (map number c.args.grid.cells.now) in
-    let peer = slice_index (map number c.args.peer.now) in
-    let at_cells = number-at number c.args.grid.cells.now in
-    let at_peer = number-at number c.args.peer.now in
-    let masked = c.change_counting-count in
+    let number = g.N.Number.number in let size = c.args.grid.size in
+    let old = c.deref_mut.result.now in let cells = slice_index (map number c.args.grid.cells.now) in
+    let peer = slice_index (map number c.args.peer.now) in let at_cells = number-at number c.args.grid.cells.now in
+    let at_peer = number-at number c.args.peer.now in let masked = c.change_counting-count in
     let as_many : length old ≡ length c.args.grid.cells.now =
     ap length c.deref_mut.ensures.value ∙ sym (length-map c.in_ok-numbers.numbers.items number) ∙ c.in_ok-numbers.ensures.size in
     let all = places-counted _ _ size.nodes size.keys _ _ _ masked.result.0 (subst (IsGrid size.nodes size.keys) (sym as_many) c.requires.grid)

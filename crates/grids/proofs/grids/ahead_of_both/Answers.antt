@@ -4,21 +4,17 @@ use Rattle.grids.proofs.grids.ahead_of_both.Goals as goal
 
 pub loop-key-preserved : goal.loop-key-preserved
 loop-key-preserved g c =
-    let number = g.N.Number.number in
-    let nodes = c.args.grid.size.nodes in
-    let key = c.loop-key.key in
-    let plane = slice_index (map number c.plane_of-plane.result.now) in
+    let number = g.N.Number.number in let nodes = c.args.grid.size.nodes in
+    let key = c.loop-key.key in let plane = slice_index (map number c.plane_of-plane.result.now) in
     let of_peer = slice_index (map number c.plane_of-of_peer.result.now) in
-    let low = slice_index (map number c.args.peer.low.now) in
-    let counted = c.change_counting-plane_count in
+    let low = slice_index (map number c.args.peer.low.now) in let counted = c.change_counting-plane_count in
     let within = plane-within nodes c.args.grid.size.keys (length c.args.grid.cells.now) key c.requires.peer.marks.shape c.loop-key-test.true in
     let room : key * nodes + nodes ≤ length (map number c.deref_mut-all.result.now) =
     omega (arith, within, ap (λ xs. length (map number xs)) c.deref_mut-all.ensures.value, c.in_ok-numbers.ensures.size) in
     let start : ℕ = key * nodes in
     let block = length-take-le (start + nodes - start) (drop start c.loop-key.all)
     (omega (arith, length-drop start c.loop-key.all, length-map c.deref_mut-all.result.now number)) in
-    let at_plane = c.plane_of-plane.ensures.each in
-    let at_peer = c.plane_of-of_peer.ensures.each in
+    let at_plane = c.plane_of-plane.ensures.each in let at_peer = c.plane_of-of_peer.ensures.each in
     record {
       upto = (omega arith, omega arith);
       kept = planes_counted-next _ _ nodes _ number c.loop-key.all counted.new.numbers key _ _ _ _ _ (omega arith) c.loop-key.invariant.kept room
@@ -33,8 +29,7 @@ loop-key-preserved g c =
 
 pub returns : goal.returns
 returns g c =
-    let number = g.N.Number.number in
-    let nodes = c.args.grid.size.nodes in
+    let number = g.N.Number.number in let nodes = c.args.grid.size.nodes in
     let keys = c.args.grid.size.keys in
     let all = planes_counted-all _ _ _ _ _ _ _ _ c.loop-key.invariant.kept c.loop-key-test.false c.loop-key.auto.key-end in
     let cells = cell (map number c.args.grid.cells.now) nodes in

@@ -4,10 +4,8 @@ use Rattle.grids.proofs.grids.ahead_of_both.Given as goal
 
 abbrev pub invariant-loop-key : goal.invariant-loop-key
 invariant-loop-key g l =
-    let number = g.N.Number.number in
-    let nodes = l.size.nodes in
-    let cells = cell (map number l.cells) nodes in
-    let peer = cell (map number l.peer.cells.now) nodes in
+    let number = g.N.Number.number in let nodes = l.size.nodes in
+    let cells = cell (map number l.cells) nodes in let peer = cell (map number l.peer.cells.now) nodes in
     let low = slice_index (map number l.low) in
     record {
       upto : (l.count ≤ l.key * nodes) × (l.held ≤ l.key * nodes);

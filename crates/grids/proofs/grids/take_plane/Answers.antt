@@ -3,8 +3,7 @@ use Rattle.grids.proofs.grids.take_plane.Goals as goal
 
 pub loop-r-preserved : goal.loop-r-preserved
 loop-r-preserved g c =
-    let number = g.N.Number.number in
-    let r = c.loop-r.r in
+    let number = g.N.Number.number in let r = c.loop-r.r in
     let cell = number-waits _ _ number c.loop-r.plane r c.index-plane-r.result c.loop-r.invariant.plane (omega arith) c.index-plane-r.is in
     let most = number-waits _ _ number c.loop-r.greatest r c.index-greatest-r.result c.loop-r.invariant.greatest (omega arith) c.index-greatest-r.is in
     let numbers = c.plane_of-numbers.result.now in

@@ -4,12 +4,10 @@ use Rattle.grids.proofs.grids.zeros.Goals as goal
 
 pub loop-filled-preserved : goal.loop-filled-preserved
 loop-filled-preserved g c =
-    let number = g.N.Number.number in
-    let old = c.loop-filled.numbers in
+    let number = g.N.Number.number in let old = c.loop-filled.numbers in
     let z = c.zero.result in
     let n : ℕ = c.min-filled.result - vec_len old in
-    let more = replicate n z in
-    let size = length-map more number ∙ length-replicate n z in
+    let more = replicate n z in let size = length-map more number ∙ length-replicate n z in
     record {
       size = sym c.resize.new.self.ok.0 ∙ c.in_ok-resize.ensures.len;
       within = omega arith;
@@ -20,6 +18,5 @@ loop-filled-preserved g c =
 
 pub returns : goal.returns
 returns g c =
-    let all = c.loop-filled.invariant in
-    let size = length-map c.loop-filled.numbers.items g.N.Number.number in
+    let all = c.loop-filled.invariant in let size = length-map c.loop-filled.numbers.items g.N.Number.number in
     record { size = omega arith; each = λ r lt. all.each r 0 (omega arith) }

@@ -4,10 +4,8 @@ use Rattle.grids.proofs.merges.merge.Goals as goal
 
 pub loop-key-preserved : goal.loop-key-preserved
 loop-key-preserved g c =
-    let number = g.N.Number.number in
-    let nodes = c.args.marks.size.nodes in
-    let key = c.loop-key.key in
-    let held = c.loop-key.invariant in
+    let number = g.N.Number.number in let nodes = c.args.marks.size.nodes in
+    let key = c.loop-key.key in let held = c.loop-key.invariant in
     let both = c.merge_planes-both.ensures in
     let within = grid-within number nodes c.args.marks.size.keys key c.args.first.now c.requires.marked.grid c.loop-key-test.true in
     let behind : key * nodes + nodes ≤ length (map number c.args.second.now) =

@@ -4,8 +4,7 @@ use Rattle.grids.proofs.merges.merge.Given as goal
 
 abbrev pub invariant-loop-key : goal.invariant-loop-key
 invariant-loop-key g l =
-    let one = map g.N.Number.number l.initial.first in
-    let other = map g.N.Number.number l.initial.second in
+    let one = map g.N.Number.number l.initial.first in let other = map g.N.Number.number l.initial.second in
     record {
       upto : (l.to_first ≤ l.key * MOST_NODES) × (l.to_second ≤ l.key * MOST_NODES);
       first : AreMergedUpto l.marks.size.nodes other (map g.N.Number.number l.marks.first.now) one (map g.N.Number.number l.first) l.key l.to_first;

@@ -8,8 +8,7 @@ offset_bounds-cells-key g c = search place-fits
 
 pub loop-key-preserved : goal.loop-key-preserved
 loop-key-preserved g c =
-    let number = g.N.Number.number in
-    let key = c.loop-key.key in
+    let number = g.N.Number.number in let key = c.loop-key.key in
     let low = slice_index (map number c.args.sent.low.now) c.args.owner in
     let high = slice_index (map number c.args.sent.high.now) c.args.owner in
     let at_low = sym (get_or-map number c.args.sent.low.now c.args.owner c.index-sent-owner.result 0 (omega arith)) in

@@ -5,10 +5,8 @@ use Rattle.grids.proofs.owners.take_owners.Goals.{then-is_above, else-is_above}
 
 pub loop-owner-preserved : goal.loop-owner-preserved
 loop-owner-preserved g c =
-    let number = g.N.Number.number in
-    let owner = c.loop-owner.owner in
-    let lt = c.loop-owner-test.true in
-    let held = c.loop-owner.invariant in
+    let number = g.N.Number.number in let owner = c.loop-owner.owner in
+    let lt = c.loop-owner-test.true in let held = c.loop-owner.invariant in
     let cells = cell (map number c.args.cells.now) c.args.sent.grid.size.nodes owner in
     elim c.if-is_above.branch [
       | then-is_above w ↦
@@ -33,8 +31,7 @@ loop-owner-preserved g c =
 
 pub take_owner-requires-clause-covered : goal.take_owner-requires-clause-covered
 take_owner-requires-clause-covered g c k in_keys =
-    let lt = c.loop-owner-test.true in
-    let held = c.loop-owner.invariant in
+    let lt = c.loop-owner-test.true in let held = c.loop-owner.invariant in
     let r = c.loop-owner.owner in
     let had = number-waits _ _ g.N.Number.number c.loop-owner.greatest r c.index-greatest-owner.result held.greatest (omega arith) c.index-greatest-owner.is in
     omega (arith, owner-waits _ _ _ _ r _ held.cells k lt in_keys, c.requires.may.covered r lt k in_keys)

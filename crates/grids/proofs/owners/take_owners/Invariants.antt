@@ -4,8 +4,7 @@ use Rattle.grids.proofs.owners.take_owners.Given as goal
 
 abbrev pub invariant-loop-owner : goal.invariant-loop-owner
 invariant-loop-owner g l =
-    let number = g.N.Number.number in
-    let size = l.sent.grid.size in
+    let number = g.N.Number.number in let size = l.sent.grid.size in
     let old = map number l.initial.cells in
     record {
       cells : ArePlanesChanged (owners_changed (taken_by number l.sent) l.owner) size.nodes size.keys old (map number l.cells);

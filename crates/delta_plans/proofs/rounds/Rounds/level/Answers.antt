@@ -42,3 +42,6 @@ mark_after-requires-clause-rounds g c = c.requires
 
 pub mark_after-requires-3-clause-rounds : goal.mark_after-requires-3-clause-rounds
 mark_after-requires-3-clause-rounds g c = c.requires
+
+pub mark_after-requires-2-clause-rounds : goal.mark_after-requires-2-clause-rounds
+mark_after-requires-2-clause-rounds g c = c.requires

@@ -147,8 +147,7 @@ module _ {mode : Mode} {from to : Table} {lists : ℕ → List Entry} {cells : C
         ≡ sum_below from.keys (λ key. cond (ltb (low c.owner) (cells c.owner key)) (g key) 0)
     of_owner g =
         sum_below-one from.nodes c.owner _ (candidate-place c in_c).owner_below
-        (λ owner lt other. sum_below-none from.keys _ (λ key lt'. grind (arith, nat_tests)))
-        ∙ sum_below-same from.keys _ _ (λ key lt. grind (arith, nat_tests))
+        (λ owner lt other. sum_below-none from.keys _ (λ key lt'. grind (arith, nat_tests))) ∙ sum_below-same from.keys _ _ (λ key lt. grind (arith, nat_tests))
 
     -- how many candidates its owner has
     pub owner_count-is : owner_count cs c ≡ count_above cells from.keys c.owner (low c.owner)

@@ -21,7 +21,7 @@ pub use Rattle.model.proofs.TableLaws.{items_at-none, tied-stands_at}
 pub use Rattle.model.specs.Picks.{cut_count, fits, sent, size_through}
 pub use Rattle.model.specs.inner.Applied.{items_at, stands_at}
 pub use Rattle.owner_writes.proofs.Numbers.{number-of_version, numbered-placed, numbered-some, versions-rise}
-pub use Rattle.planes.proofs.Counts.{count_le}
+pub use Rattle.planes.proofs.Counts.{count_le, number_next, sum_next}
 pub use Rattle.planes.proofs.Elementwise.{made-as, number-at}
 pub use Rattle.delta_plans.specs.Common.{AreChanged, AreWrites, Bytes, Cells, DeltaView, Entries, Equal, First, Fit, Greater, HasEach, HasNoneAbove, IsHistory, IsInPlace, IsLeastAbove, IsNextAbove, IsProper, Less, Level, MOST_ENTRY_SIZE, Newest, Offer, Oldest, Ordering, OwnerListView, Reached, Rounds, Step, Table, Turns, all_writes, candidates, cell, count_above, count_between, delta_between, entries_of, entry_at, generation_held, item_share, items_of, known_mark, largest_share, list_of_owner, no_writes, owner_count, rank_among, rotated, sending_order, start_before, start_of, sum_by, total_of, write_numbered}
 pub use Rattle.delta_plans.specs.Between.{AreFound, owner_weight}

@@ -183,8 +183,7 @@ module _ {mode : Mode} {from to : Table} {lists : ℕ → List Entry} {cells : C
 
         pub are-sent : (sent : ℕ → ℕ → Bool)
             → ((owner key : ℕ) → owner < from.nodes → key < from.keys → sent owner key ≡
-            (nat_lt (low owner) (cells owner key) && lets_through first (mark owner) (cells owner key)))
-            → AreSent from delta.items sent
+            (nat_lt (low owner) (cells owner key) && lets_through first (mark owner) (cells owner key))) → AreSent from delta.items sent
         are-sent sent is = record {
           held = λ owner key lt lt' holds. let found = candidate-at given owner key lt lt' (parts owner key lt lt' holds).0 in (found.0, found.1);
           members = λ owner key e held.

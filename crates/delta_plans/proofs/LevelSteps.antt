@@ -7,8 +7,7 @@ use Rattle.delta_plans.proofs.WeightLaws.{offer-few, parts_of, sum_below-none, s
 -- far marks are a step where none is lower than its near one, and each that passes a test lets so many numbers more
 -- through
 pub step-is : {N : Type 0} {number : N → ℕ} {offer : Offer N} {is : ℕ → ℕ → Type 0} (near : List N) (far : Vec N Global)
-    (test : ℕ → Bool) (nodes size more : ℕ) → nodes ≡ offer.grid.size.nodes → more ≡ count_passing nodes test * size
-    → length far.items ≡ offer.grid.size.nodes
+    (test : ℕ → Bool) (nodes size more : ℕ) → nodes ≡ offer.grid.size.nodes → more ≡ count_passing nodes test * size → length far.items ≡ offer.grid.size.nodes
     → ((r : ℕ) → r < offer.grid.size.nodes → is r (marks number far.items r) × (marks number near r ≤ marks number far.items r)
     × (cond (test r) 1 0 * size
     ≡ count_between (cells_in number offer) offer.grid.size.keys r (marks number near r) (marks number far.items r)))
@@ -58,8 +57,7 @@ module _ {N : Type 0} {number : N → ℕ} {most : ℕ} {offer : Offer N} (is : 
     level-next fits = omega (arith, so_far, step, fits.0, fits.1, split one_each, split (weights_in offer))
 
     -- or it is the first that doesn't
-    pub level-ends : IsLeftOf left (weight_in number offer (marks number near) far) None
-        → IsLevel Oldest number offer near next.marks.items whole left
+    pub level-ends : IsLeftOf left (weight_in number offer (marks number near) far) None → IsLevel Oldest number offer near next.marks.items whole left
     level-ends no_fit = omega (arith, so_far, step, no_fit, split (weights_in offer))
 
 -- a mark that lets through an owner's first so many numbers above another, or all where there are no more
@@ -94,8 +92,7 @@ module _ (cells : Cells) (keys owner : ℕ) where
 
   module _ (low layers mark : ℕ) (is : IsLayerMark cells keys owner low layers mark) where
     -- a number is let through where it is of one of the layers
-    layer-lets : (key : ℕ) → key < keys → low < cells owner key
-        → leb (cells owner key) mark ≡ ltb (rank_above cells keys owner low (cells owner key)) layers
+    layer-lets : (key : ℕ) → key < keys → low < cells owner key → leb (cells owner key) mark ≡ ltb (rank_above cells keys owner low (cells owner key)) layers
     layer-lets key lt above =
         let n = cells owner key in
         let rank : rank_above cells keys owner low n ≡ count low (n - 1) = sum_below-same keys _ _ (λ k lt'. grind (arith, nat_tests)) in
@@ -176,8 +173,7 @@ module _ (cells : Cells) (keys owner low high : ℕ) (covered : HasNoneAbove cel
 
   -- one owner's part of the next runs
   pub run-told : (size near next found : ℕ) → found ≡ above → 0 < size → near ≡ cond (leb (size + 1) above) high low
-      → next ≡ cond (leb size found) high near
-      → (next ≡ cond (leb size above) high low) × (near ≤ next)
+      → next ≡ cond (leb size found) high near → (next ≡ cond (leb size above) high low) × (near ≤ next)
       × (cond (leb size found && leb found size) 1 0 * size ≡ count_between cells keys owner near next)
   run-told size near next found counted some longer is = elim (cases_eq above size) [
     | inl same ↦

@@ -93,8 +93,7 @@ module _ {N : Type 0} {number : N → ℕ} {most : ℕ} (rounds : Rounds N) (is 
 
     module _ {few enough : ℕ} {fit : Fit} (so_far : AreFewAndEnough number rounds few enough fit) where
       -- one more look finds more rounds that fit
-      pub further : {found : Fit} → IsFound number rounds (marks number items) (Some found) → count < enough
-          → AreFewAndEnough number rounds count enough found
+      pub further : {found : Fit} → IsFound number rounds (marks number items) (Some found) → count < enough → AreFewAndEnough number rounds count enough found
       further look lt =
           record { below = lt; bound = so_far.bound; fits = rw (← let_through one_each, ← let_through (weights_in offer)) look; beyond = so_far.beyond }
 

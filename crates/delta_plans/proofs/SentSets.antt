@@ -20,8 +20,7 @@ no_less before is_in n apart = grind (arith, nat_tests)
 -- and where one of them is greater by n
 sum_by-more : {X : Type 0} (f g : X → ℕ) (xs : List X) (n : ℕ) (y : X) → Contains xs y
     → ((x : X) → Contains xs x → f x ≤ g x) → f y + n ≤ g y → sum_by f xs + n ≤ sum_by g xs
-sum_by-more f g xs n y (k, lt, is) le more =
-    omega (arith, sum_by-gap f g xs le, get_or-le-sum_by (λ x. g x - f x) xs k y lt, ap (λ x. g x - f x) is, more)
+sum_by-more f g xs n y (k, lt, is) le more = omega (arith, sum_by-gap f g xs le, get_or-le-sum_by (λ x. g x - f x) xs k y lt, ap (λ x. g x - f x) is, more)
 
 module _ {X : Type 0} {order : X → X → Ordering} {cs : List X} {size : X → ℕ} {is_in : X → Bool} {budget : ℕ} (total : IsTotalOrder order)
     (strict : (c d : X) → Contains cs c → Contains cs d → order c d ≡ Equal → c ≡ d) (is : IsSentSet order cs size is_in budget) where
@@ -65,8 +64,7 @@ module _ {X : Type 0} {order : X → X → Ordering} {cs : List X} {size : X →
   sent-in_set c there =
       let at = Contains-first_places order total cs _ c there in
       let le = λ (e : is_in c ≡ false). sum_by-gap (λ d. one (fits order cs size budget d)) (λ d. one (is_lt (order d c))) cs
-      (λ d at_d. let behind = behind_in d c at_d at.0 in grind (arith, nat_tests, fits-is d at_d)) in
-      (at.0, grind (arith, nat_tests, le, at.1))
+      (λ d at_d. let behind = behind_in d c at_d at.0 in grind (arith, nat_tests, fits-is d at_d)) in (at.0, grind (arith, nat_tests, le, at.1))
 
   pub in_set-sent : (c : X) → Contains cs c → is_in c ≡ true → Contains (sent order cs size budget) c
   in_set-sent c at_c yes' =

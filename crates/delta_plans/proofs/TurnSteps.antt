@@ -21,16 +21,13 @@ stops-at Newest cells keys owner low near far mark beyond next over_low level on
 -- at first nothing is let through
 pub stop-first : (first : First) {weight : ℕ → ℕ} {cells : Cells} {keys owner near far room : ℕ} → IsOn first near far
     → room < weight_from first weight cells keys owner near far → IsStopBetween first weight cells keys owner near far room near far room
-stop-first Oldest {weight} {cells} {keys} {owner} {near} on more = let none = weight_of-none weight cells keys owner near near (omega arith) in search
-    (arith, none)
-stop-first Newest {weight} {cells} {keys} {owner} {near} on more = let none = weight_of-none weight cells keys owner near near (omega arith) in search
-    (arith, none)
+stop-first Oldest {weight} {cells} {keys} {owner} {near} on more = search (arith, weight_of-none weight cells keys owner near near (omega arith))
+stop-first Newest {weight} {cells} {keys} {owner} {near} on more = search (arith, weight_of-none weight cells keys owner near near (omega arith))
 
 -- a mark halfway: either all up to it fits, or it is beyond what does
 pub stop-halved : (first : First) {weight : ℕ → ℕ} {cells : Cells} {keys owner near far room mark beyond left : ℕ}
-    → IsStopBetween first weight cells keys owner near far room mark beyond left → (middle : ℕ) {taken : ℕ} → min mark beyond ≤ middle → middle ≤ max mark
-    beyond
-    → taken ≡ weight_from first weight cells keys owner mark middle
+    → IsStopBetween first weight cells keys owner near far room mark beyond left → (middle : ℕ) {taken : ℕ} → min mark beyond ≤ middle
+    → middle ≤ max mark beyond → taken ≡ weight_from first weight cells keys owner mark middle
     → (taken ≤ left → IsStopBetween first weight cells keys owner near far room middle beyond (left - taken))
     × (left < taken → IsStopBetween first weight cells keys owner near far room mark middle left)
 stop-halved Oldest {weight} {cells} {keys} {owner} {near} {far} {room} {mark} {beyond} so_far middle above below takes =

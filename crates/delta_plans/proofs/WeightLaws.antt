@@ -10,8 +10,7 @@ pub sum_below-none : (n : ℕ) (f : ℕ → ℕ) → ((i : ℕ) → i < n → f 
 sum_below-none n f none = omega (arith, sum_below-most f n 0 (λ i lt. omega (arith, none i lt)))
 
 -- a sum that changes at one index
-pub sum_below-changed : (n r d : ℕ) (f g : ℕ → ℕ) → r < n → ((i : ℕ) → i < n → i ≢ r → g i ≡ f i) → g r ≡ f r + d
-    → sum_below n g ≡ sum_below n f + d
+pub sum_below-changed : (n r d : ℕ) (f g : ℕ → ℕ) → r < n → ((i : ℕ) → i < n → i ≢ r → g i ≡ f i) → g r ≡ f r + d → sum_below n g ≡ sum_below n f + d
 sum_below-changed zero r d f g lt others here = absurd (omega (arith, lt))
 sum_below-changed (suc n) r d f g lt others here = elim (cases_lt r n) [
   | inl below ↦
@@ -23,8 +22,7 @@ sum_below-changed (suc n) r d f g lt others here = elim (cases_lt r n) [
 ]
 
 pub sum_below-one : (n r : ℕ) (f : ℕ → ℕ) → r < n → ((i : ℕ) → i < n → i ≢ r → f i ≡ 0) → sum_below n f ≡ f r
-sum_below-one n r f lt others =
-    omega (arith, sum_below-changed n r (f r) (λ _. 0) f lt others (omega arith), sum_below-none n (λ _. 0) (λ i lt'. omega arith))
+sum_below-one n r f lt others = omega (arith, sum_below-changed n r (f r) (λ _. 0) f lt others (omega arith), sum_below-none n (λ _. 0) (λ i lt'. omega arith))
 
 -- so many times a sum
 pub sum_below-scaled : (n size : ℕ) (f : ℕ → ℕ) → sum_below n (λ i. f i * size) ≡ sum_below n f * size
@@ -36,8 +34,7 @@ sum_below-times n most f g le = omega (arith, sum_below-le n f (λ i. g i * most
 
 -- a sum of fewer terms is no more
 pub sum_below-longer : (f : ℕ → ℕ) (n m : ℕ) → n ≤ m → sum_below n f ≤ sum_below m f
-sum_below-longer f n m le =
-    omega (arith, fold_below-join sums f n (m - n), ap (λ k. sum_below k f) {x = n + (m - n)} {y = m} (omega (arith, le)))
+sum_below-longer f n m le = omega (arith, fold_below-join sums f n (m - n), ap (λ k. sum_below k f) {x = n + (m - n)} {y = m} (omega (arith, le)))
 
 -- where a sum is 0, each term is
 pub sum_below-each_none : (n : ℕ) (f : ℕ → ℕ) → sum_below n f ≡ 0 → (i : ℕ) → i < n → f i ≡ 0
@@ -83,12 +80,10 @@ weight_between-parts weights cells nodes keys low mark high are =
 -- no more than so many times the largest
 weight_of-most : (weight : ℕ → ℕ) (most : ℕ) (cells : Cells) (keys owner low high : ℕ) → ((number : ℕ) → weight number ≤ most)
     → weight_of weight cells keys owner low high ≤ count_between cells keys owner low high * most
-weight_of-most weight most cells keys owner low high le =
-    sum_below-times keys most _ _ (λ key lt. let few = le (cells owner key) in grind (arith, nat_tests))
+weight_of-most weight most cells keys owner low high le = sum_below-times keys most _ _ (λ key lt. let few = le (cells owner key) in grind (arith, nat_tests))
 
 pub weight_between-most : (weights : ℕ → ℕ → ℕ) (most : ℕ) (cells : Cells) (nodes keys : ℕ) (low high : ℕ → ℕ)
-    → ((owner number : ℕ) → weights owner number ≤ most)
-    → weight_between weights cells nodes keys low high ≤ count_all_between cells nodes keys low high * most
+    → ((owner number : ℕ) → weights owner number ≤ most) → weight_between weights cells nodes keys low high ≤ count_all_between cells nodes keys low high * most
 weight_between-most weights most cells nodes keys low high le =
     sum_below-times nodes most _ _ (λ owner lt. weight_of-most (weights owner) most cells keys owner (low owner) (high owner) (le owner))
 

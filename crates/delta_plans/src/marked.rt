@@ -18,7 +18,7 @@ use planes::{Ends, Number};
 use std::alloc::Global;
 
 /// Which of an owner's candidates of one level goes first.
-#[derive(Clone, Copy, Debug, PartialEq, Eq)]
+#[derive(Clone, Copy)]
 pub enum First {
     Oldest,
     Newest,
@@ -64,10 +64,8 @@ pub fn planned<N: Number>(
     let first = First::of(mode);
     if offer.fits(mode.digest_kind()) {
         let mark = Vec::from_slice(alloc, by_first(first, offer.high, offer.low))?;
-        let counts = DeltaCounts {
-            sent: offer.found,
-            cut: 0,
-        };
+        let sent = offer.found;
+        let counts = DeltaCounts { sent, cut: 0 };
         return Ok(Marked { mark, counts });
     }
     let level = level_of(alloc, offer, mode, ends)?;
@@ -81,14 +79,11 @@ pub fn planned<N: Number>(
         rotation,
     };
     let share = turns.share(alloc)?;
-    let counts = DeltaCounts {
-        sent: share.more,
-        cut: offer.found - share.more,
-    };
-    Ok(Marked {
-        mark: share.marks,
-        counts,
-    })
+    let sent = share.more;
+    let cut = offer.found - sent;
+    let counts = DeltaCounts { sent, cut };
+    let mark = share.marks;
+    Ok(Marked { mark, counts })
 }
 
 fn level_of<N: Number>(

@@ -71,11 +71,9 @@ impl<'a, 'b, N: Number> Turns<'a, 'b, N> {
             Budget::Entries(_) => count,
             Budget::Bytes(_) if count == 0 => 0,
             Budget::Bytes(_) => {
-                self.weight_from(
-                    owner,
-                    number_at(self.near, owner),
-                    number_at(self.far, owner),
-                )
+                let near = number_at(self.near, owner);
+                let far = number_at(self.far, owner);
+                self.weight_from(owner, near, far)
             }
         }
     }
@@ -164,20 +162,17 @@ impl<'a, 'b, N: Number> Turns<'a, 'b, N> {
         true
     }
 
-    // Gives them the far mark as long as their parts fit, and the first whose part doesn't the mark where that stops.
-    // Answers how many numbers all marks let through then.
-    fn pass_few(
-        &self,
-        counts: &[N],
-        mark: &mut [N],
-        owner: usize,
-        reached: &mut Reached,
-    ) -> Option<u32>
+    // Gives them the far mark, all at once or else as long as their parts fit, and the first whose part doesn't the mark
+    // where that stops. Answers how many numbers all marks let through then.
+    fn pass(&self, counts: &[N], mark: &mut [N], owner: usize, reached: &mut Reached) -> Option<u32>
         requires turns { HaveTurns N.number N.most self.now mark.old reached.old owner counts.now }
         ensures reached { IfNone result (HasReached N.number self.now mark.new reached.new) }
         ensures turn { IfNone result (reached.new.turn ≡ reached.old.turn + length counts.now) }
         ensures shared { IfSome result (AreSharedBy N.number self.now mark.new) }
     {
+        if self.pass_all(counts, mark, owner, reached) {
+            return None;
+        }
         let mut passed = *reached;
         for i in 0..counts.len() {
             let here = owner + i;
@@ -231,10 +226,7 @@ impl<'a, 'b, N: Number> Turns<'a, 'b, N> {
             let size = MANY.min(nodes - owner.max(reached.turn));
             let parts = &mut counts[..size];
             self.count_parts(parts, owner);
-            if self.pass_all(parts, mark, owner, &mut reached) {
-                continue;
-            }
-            if let Some(sent) = self.pass_few(parts, mark, owner, &mut reached) {
+            if let Some(sent) = self.pass(parts, mark, owner, &mut reached) {
                 return sent;
             }
         }

@@ -2,19 +2,25 @@
 
 ghost use Rattle.std.specs.Prelude.{◌≡◌, ◌<◌, length, map, slice_index, IfOk, IsOkUnless};
 ghost use Rattle.delta_plans.specs.Common.{OutOfMemory, Precise, all_writes, HasEach, AreChanged, start_of};
-ghost use Rattle.delta_plans.specs.Offers.{told_by, told_number, AreKnownOf, IsKnownOf};
+ghost use Rattle.delta_plans.specs.Offers.{told_number, AreKnownOf, IsKnownOf};
 
 use crate::offers::number_at;
 use bench_types::{DigestKind, Fault};
 use owner_writes::OwnerWrites;
 use planes::Number;
-use std::alloc::Global;
+use std::alloc::{AllocError, Global};
 
 /// The owners' writes, and how many of each are of earlier generations.
-#[derive(Clone, Copy)]
+#[derive(Copy)]
 pub struct Owners<'a, N: Number> {
     pub lists: &'a [OwnerWrites],
     pub bases: &'a [N],
+}
+
+impl<N: Number> Clone for Owners<'_, N> {
+    fn clone(&self) -> Result<Self, AllocError> {
+        Ok(*self)
+    }
 }
 
 /// The marks up to which a receiver needs nothing: by a scuttle digest the greatest number that it has of each
@@ -36,20 +42,12 @@ pub fn told<N: Number>(
     ensures only { IsOkUnless result OutOfMemory }
 {
     let mut told = Vec::from_slice(alloc, greatest)?;
-    put_marks(&mut told, kind, owners);
-    told[node] = N::greatest();
-    Ok(told)
-}
-
-fn put_marks<N: Number>(numbers: &mut [N], kind: DigestKind, owners: Owners<N>)
-    requires { AreKnownOf N.number N.most owners numbers.old }
-    ensures { AreChanged (λ r x y. y ≡ told_by kind (all_writes owners.entry.lists.now r) x)
-        (map N.number numbers.old) (map N.number numbers.new) }
-{
     match kind {
         DigestKind::Scuttle => {}
-        DigestKind::Precise => put_starts(numbers, owners),
+        DigestKind::Precise => put_starts(&mut told, owners),
     }
+    told[node] = N::greatest();
+    Ok(told)
 }
 
 // Puts in place of each number where the generation of that write starts. Most often none is of an earlier generation,

@@ -15,8 +15,7 @@ returns-in_default g c =
 
 pub overflow_add-whole : goal.overflow_add-whole
 overflow_add-whole g c =
-    let layer = rw c.deref.ensures.value at c.in_ok-next.ensures.0 in
-    omega (arith, level-few c.requires.offer.is_offer c.loop-near.invariant.has.so_far layer)
+    omega (arith, level-few c.requires.offer.is_offer c.loop-near.invariant.has.so_far (rw c.deref.ensures.value at c.in_ok-next.ensures.0))
 
 pub loop-near-smaller : goal.loop-near-smaller
 loop-near-smaller g c =
@@ -29,6 +28,5 @@ loop-near-smaller g c =
 pub loop-near-preserved : goal.loop-near-preserved
 loop-near-preserved g c =
     let is = c.requires.offer.is_offer in
-    let layer = rw c.deref.ensures.value at c.in_ok-next.ensures.0 in
     let fits = left-told is _ c.deref-in-loop-near.ensures.value c.deref-in-loop-near-2.ensures.value c.in-Some.is c.left_of.ensures in
-    record { has = layers-next is c.loop-near.invariant.has layer fits }
+    record { has = layers-next is c.loop-near.invariant.has (rw c.deref.ensures.value at c.in_ok-next.ensures.0) fits }

@@ -15,23 +15,19 @@ pub returns-in_default : goal.returns-in_default
 returns-in_default g c =
     let is = c.requires.offer.is_offer in
     let has = c.loop-near.invariant.has in
-    let none = rw c.deref.ensures.value at c.next_size_below-size.ensures in
-    let from = runs-from is c.requires.offer.beyond has c.in_ok-counts.ensures none in
+    let from = runs-from is c.requires.offer.beyond has c.in_ok-counts.ensures (rw c.deref.ensures.value at c.next_size_below-size.ensures) in
     let runs = rw c.deref-in-loop-near-2.ensures.value at c.in_ok-next.ensures.0 in
     let told = left-told is _ c.deref-in-loop-near-3.ensures.value c.deref-in-loop-near-4.ensures.value c.in_default.is c.left_of.ensures in
     (record { is_level = level-ends is has.so_far runs told; shape = level-of_runs is from runs }, tt)
 
 pub overflow_add-whole : goal.overflow_add-whole
 overflow_add-whole g c =
-    let runs = rw c.deref-in-loop-near-2.ensures.value at c.in_ok-next.ensures.0 in
-    omega (arith, level-few c.requires.offer.is_offer c.loop-near.invariant.has.so_far runs)
+    omega (arith, level-few c.requires.offer.is_offer c.loop-near.invariant.has.so_far (rw c.deref-in-loop-near-2.ensures.value at c.in_ok-next.ensures.0))
 
 pub loop-near-preserved : goal.loop-near-preserved
 loop-near-preserved g c =
     let is = c.requires.offer.is_offer in
     let has = c.loop-near.invariant.has in
-    let none = rw c.deref.ensures.value at c.next_size_below-size.ensures in
-    let from = runs-from is c.requires.offer.beyond has c.in_ok-counts.ensures none in
-    let runs = rw c.deref-in-loop-near-2.ensures.value at c.in_ok-next.ensures.0 in
+    let from = runs-from is c.requires.offer.beyond has c.in_ok-counts.ensures (rw c.deref.ensures.value at c.next_size_below-size.ensures) in
     let fits = left-told is _ c.deref-in-loop-near-3.ensures.value c.deref-in-loop-near-4.ensures.value c.in-Some.is c.left_of.ensures in
-    record { has = runs-next is from runs has.so_far fits }
+    record { has = runs-next is from (rw c.deref-in-loop-near-2.ensures.value at c.in_ok-next.ensures.0) has.so_far fits }

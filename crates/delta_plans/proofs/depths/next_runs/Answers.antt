@@ -1,4 +1,4 @@
-use Rattle.delta_plans.proofs.Common.{◌<◌, ◌*◌, ◌&&◌, length, cond, leb, sym, ap, ◌∙◌, arith, length-map, with_items_is, made-as, number-at, cells_in, high_in, low_in, marks}
+use Rattle.delta_plans.proofs.Common.{◌<◌, ◌*◌, ◌&&◌, length, cond, leb, sym, ap, ◌∙◌, arith, length-map, with_items_is, made-as, number-at, cells_in, high_in, low_in, marks, mul-le-mul_right, MOST_NODES}
 use Rattle.delta_plans.proofs.LevelSteps.{run-told, step-is}
 use Rattle.delta_plans.proofs.depths.next_runs.Goals as goal
 
@@ -26,3 +26,14 @@ returns g c =
           ∙ ap (λ xs. cond (leb size (marks number counts r)) (marks number high r) (marks number xs r)) start)),
       tt,
     )
+
+pub overflow_mul-more : goal.overflow_mul-more
+overflow_mul-more g c =
+    let long = length-map c.args.counts.now g.N.Number.number in
+    let most = mul-le-mul_right {m = c.how_many-risen.result} {n = MOST_NODES} c.args.size
+    (omega (arith, c.how_many-risen.ensures.upto, long, c.requires.counts_are.size, c.requires.is_offer.grid.few_nodes)) in
+    omega (arith, most, c.requires.few)
+
+pub how_many-risen-requires-clause-room : goal.how_many-risen-requires-clause-room
+how_many-risen-requires-clause-room g c =
+    omega (arith, length-map c.args.counts.now g.N.Number.number, c.requires.counts_are.size, c.requires.is_offer.grid.few_nodes)

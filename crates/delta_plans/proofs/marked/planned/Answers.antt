@@ -8,8 +8,8 @@ returns-then-fits-clause-marked g c =
     let same = c.in_ok-mark.ensures.items ∙ c.by_first.ensures ∙ ap (λ first. by_first first offer.high.now offer.low.now) c.of-first.ensures in
     whole-marked g.N.Number.number g.N.Number.most offer c.requires.offer c.args.rotation (c.fits.ensures.0 c.if-fits.true) c.args.mode _ same
 
-pub overflow_sub-counts : goal.overflow_sub-counts
-overflow_sub-counts g c =
+pub overflow_sub-cut : goal.overflow_sub-cut
+overflow_sub-cut g c =
     let is = share-marked g.N.Number.number g.N.Number.most c.args.offer.now c.requires.offer c.args.rotation c.args.mode c.in_ok-level.ensures.0
     c.in_ok-share.share.marks.items (rw (c.of-first.ensures, c.deref.ensures.value, c.deref-2.ensures.value) at c.in_ok-share.ensures.0.shared) in
     omega (arith, is.left, c.requires.offer.found)

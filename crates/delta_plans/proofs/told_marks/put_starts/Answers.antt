@@ -1,4 +1,4 @@
-use Rattle.delta_plans.proofs.Common.{◌≡◌, ◌<◌, get_or, sym, ap, ◌∙◌, arith, map, nat_tests, entries_of, list_of_owner, start_of}
+use Rattle.delta_plans.proofs.Common.{◌≡◌, ◌<◌, get_or, sym, ap, ◌∙◌, arith, map, nat_tests, entries_of, list_of_owner, start_of, length-map}
 use Rattle.delta_plans.proofs.Starts.{start_own}
 use Rattle.delta_plans.proofs.told_marks.put_starts.Goals as goal
 
@@ -17,3 +17,9 @@ returns-then-none_upto g c =
           let own = c.none_upto.ensures.0 c.if-none_upto.true r lt in
           grind (arith, nat_tests, c.lower.ensures.least.each r lt, own, behind, none);
     }
+
+pub lower-requires : goal.lower-requires
+lower-requires g c = record { plane = sym (length-map _ _) ∙ c.requires.base_count ∙ sym c.requires.count ∙ length-map _ _ }
+
+pub none_upto-requires-clause-high : goal.none_upto-requires-clause-high
+none_upto-requires-clause-high g c = sym (length-map _ _) ∙ c.requires.base_count ∙ sym c.requires.count ∙ length-map _ _

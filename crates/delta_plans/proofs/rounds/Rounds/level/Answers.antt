@@ -36,3 +36,12 @@ left_of_fit-left-requires-clause-mark g c = rw c.deref-2.ensures.value (raised c
 
 pub look-requires : goal.look-requires
 look-requires g c = rw c.deref.ensures.value (raised c.args.self.now c.requires _ _ c.in_ok-mark.ensures.0)
+
+pub mark_after-requires-clause-rounds : goal.mark_after-requires-clause-rounds
+mark_after-requires-clause-rounds g c = c.requires
+
+pub mark_after-requires-3-clause-rounds : goal.mark_after-requires-3-clause-rounds
+mark_after-requires-3-clause-rounds g c = c.requires
+
+pub mark_after-requires-2-clause-rounds : goal.mark_after-requires-2-clause-rounds
+mark_after-requires-2-clause-rounds g c = c.requires

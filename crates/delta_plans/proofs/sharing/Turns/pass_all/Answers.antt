@@ -25,3 +25,11 @@ overflow_add-reached-2 g c =
 
 pub offset_bounds-mark-owner : goal.offset_bounds-mark-owner
 offset_bounds-mark-owner g c = search (scaled_Fits, (within c.requires.turns c.loop-i.i c.loop-i-test.true).1)
+
+pub returns-clause-reached : goal.returns-clause-reached
+returns-clause-reached g c =
+    let whole : c.loop-i.i ≡ length c.args.counts.now = omega (arith, c.loop-i-test.false, c.loop-i.auto.i-end) in
+    rw c.count_of_parts-count.ensures (rw whole at c.loop-i.invariant)
+
+pub loop-i-init : goal.loop-i-init
+loop-i-init g c = turns-same c.requires.turns.has_reached (omega arith) (omega arith) (omega arith)

@@ -20,3 +20,6 @@ loop-middle-preserved-then-weight-left g c =
     let halved = stop-halved c.args.self.now.first c.loop-middle.invariant.so_far _ (omega (arith, c.min.ensures))
     (omega (arith, c.min.ensures, c.abs_diff-in-loop-middle.ensures)) takes in
     record { so_far = halved.0 c.if-weight-left.true; fits = omega (arith, c.min.ensures); beyond = omega (arith, c.min.ensures) }
+
+pub weight_from-weight-requires : goal.weight_from-weight-requires
+weight_from-weight-requires g c = record { is_offer = c.requires.turns.offer; in_nodes = c.requires.owner }

@@ -1,6 +1,6 @@
 use Rattle.delta_plans.proofs.Common.{◌+◌, ◌≤◌, ◌∙◌, arith, scaled_Fits, MOST_KEYS, part_weight}
 use Rattle.delta_plans.proofs.TurnSteps.{from-few, part-is, turn-next, turns-few, turns-next, turns-shared, within}
-use Rattle.delta_plans.proofs.sharing.Turns.pass_few.Goals as goal
+use Rattle.delta_plans.proofs.sharing.Turns.pass.Goals as goal
 
 pub loop-i-preserved : goal.loop-i-preserved
 loop-i-preserved g c =
@@ -41,3 +41,15 @@ offset_bounds-mark-here-in-loop-i g c = search (scaled_Fits, (within c.requires.
 
 pub count_from-requires : goal.count_from-requires
 count_from-requires g c = record { is_offer = c.requires.turns.are.offer; in_nodes = (within c.requires.turns c.loop-i.i c.loop-i-test.true).0 }
+
+pub weight_of_part-weight-requires-clause-count : goal.weight_of_part-weight-requires-clause-count
+weight_of_part-weight-requires-clause-count g c = part-is c.requires.turns c.loop-i.i c.loop-i-test.true c.number_at.ensures c.widen-count.ensures
+
+pub loop-i-init : goal.loop-i-init
+loop-i-init g c = record { so_far = c.pass_all.ensures.reached; turn = rw c.if-pass_all.false at c.pass_all.ensures.turn }
+
+pub returns-clause-reached : goal.returns-clause-reached
+returns-clause-reached g c = c.loop-i.invariant.so_far
+
+pub returns-then-pass_all-clause-reached : goal.returns-then-pass_all-clause-reached
+returns-then-pass_all-clause-reached g c = c.pass_all.ensures.reached

@@ -375,15 +375,16 @@ module _ {rules : Rules} {written : ℕ → List Entry} {most : ℕ} {h : Histor
   as-many true p' is = ap (λ (v : VersionTableView). length v.cells) is
   as-many false p' took = took.kept.size
 
-  pub exchange_whole : (nothing : Bool) (p' : VersionTableView) → HasTakenUnless nothing h.lists p q.cells low high p' → (d1 d2 : ℕ)
+  pub exchange_whole : (nothing : Bool) (p' : VersionTableView) (came : List ℕ) → came ≡ q.cells → HasTakenUnless nothing h.lists p came low high p' → (d1 d2 : ℕ)
       → d1 ≡ digest_size (digest_kind rules.mode) (table_in written p) → d2 ≡ digest_size (digest_kind rules.mode) (table_in written q)
       → e.lost1 ≡ false → e.lost2 ≡ false → nothing ≡ eqb back_sent 0 → (skips : Bool) → skips ≡ (e.lost3 || eqb forth_sent 0)
-      → (q' : VersionTableView) → HasTakenUnless skips h.lists q p'.cells flow fhigh q' → (r : Record)
+      → (q' : VersionTableView) (went : List ℕ) → went ≡ p'.cells → HasTakenUnless skips h.lists q went flow fhigh q' → (r : Record)
       → ((b f : DeltaView) → back_sent ≡ length b.items → back_cut ≡ b.cut → forth_sent ≡ length f.items → forth_cut ≡ f.cut
       → r ≡ sent_until (last_fate e.lost3) d1 d2 b f) → MakesOf (table_in written) rules e p q p' q' r
-  exchange_whole nothing p' took d1 d2 d1_is d2_is first second none skips skipped q' takes r said =
+  exchange_whole nothing p' came came_is came_took d1 d2 d1_is d2_is first second none skips skipped q' went went_is takes r said =
+      let took = subst (λ sent. HasTakenUnless nothing h.lists p sent low high p') came_is came_took in
       let here = becomes-unless rules e.rotation (turned two) back _ (λ _ _ _ _. refl) p' nothing false none took in
-      let there = becomes-unless rules e.rotation two forth _ (same-taken nothing p' took) q' skips e.lost3 skipped takes in
+      let there = becomes-unless rules e.rotation two forth _ (rw went_is (same-taken nothing p' took)) q' skips e.lost3 skipped takes in
       let b = delta_of_views rules e.rotation written q p in
       let is = said b (delta_of_views rules e.rotation written p q) back.count back.left forth.count forth.left in
       rw (first, second) (cc (came-back e.lost3 (table_in written p) b))

@@ -1,6 +1,6 @@
 -- A table that took a delta by marks, and dropped what is of older generations, is the model's table that took its items.
 -- Serves `exchange_deltas` and `Merged`.
-use Rattle.version_tables.proofs.Common.{◌≡◌, ℕ, ◌-◌, ◌<◌, ◌≤◌, ◌↔◌, true, false, List, Some, inl, inr, refl, sym, ap, ◌∙◌, subst, get_or, arith, cases_lt, current-numbered, nat_tests, not_both, Entry, Mark, Rules, mark_of, mark_held, Table, entry_at, generation_held, write_numbered, all_writes, list_of_owner, cell, is_taken, number_kept, number_taken, numbers_taken, IsRaised, start_before, start_of, numbered-some, numbered-within, numbers-before, numbers-up_to, IsGreatest, VersionTableView, HistoriesView, table_in, is_taken_at, AreMarksOf, bases_in, IsWrittenSoFar, IsNumberedHistory, drop_start, HasTaken, frame-applied, delta_of_views, Option, None, ◌⊎◌, Contains, Item, Scuttle, Precise, IsUpTo, digest_kind, greatest_mark, IsProper, greatest_mark-from, entry_at-applied_from, applied, Lacks, candidates-lacked, sent-candidate, sent-held, received-proper, kept, sent-up_to, Bool, eqb, [], ◌∷◌, length, ◌||◌, both_ways, eqb-true, Exchange, Record, initiator_after, last_fate, responder_after, sent_until, MakesOf, DeltaView, digest_size, HasTakenUnless, map, length-map, first_sent, First, ◌*◌, IsDelta, IsArrivalOf, MayArrive}
+use Rattle.version_tables.proofs.Common.{◌≡◌, ℕ, ◌-◌, ◌<◌, ◌≤◌, ◌↔◌, true, false, List, Some, inl, inr, refl, sym, ap, ◌∙◌, subst, get_or, arith, cases_lt, current-numbered, nat_tests, not_both, Entry, Mark, Rules, mark_of, mark_held, Table, entry_at, generation_held, write_numbered, all_writes, list_of_owner, cell, is_taken, number_kept, number_taken, numbers_taken, IsRaised, start_before, start_of, numbered-some, numbered-within, numbers-before, numbers-up_to, IsGreatest, VersionTableView, HistoriesView, table_in, is_taken_at, AreMarksOf, bases_in, IsWrittenSoFar, IsNumberedHistory, drop_start, HasTaken, frame-applied, delta_of_views, Option, None, ◌⊎◌, Contains, Item, Scuttle, Precise, IsUpTo, digest_kind, greatest_mark, IsProper, greatest_mark-from, entry_at-applied_from, applied, Lacks, candidates-lacked, sent-candidate, sent-held, received-proper, kept, sent-up_to, Bool, eqb, [], ◌∷◌, length, ◌||◌, both_ways, eqb-true, Exchange, Record, initiator_after, last_fate, responder_after, sent_until, MakesOf, DeltaView, digest_size, HasTakenUnless, map, length-map, first_sent, First, ◌*◌, IsDelta, IsArrivalOf, MayArrive, OwnerListView}
 use Rattle.version_tables.specs.declared.deltas.DeltaMarks.{DeltaMarks}
 use Rattle.version_tables.specs.declared.taking.Arrival.{Arrival}
 pub use Rattle.version_tables.proofs.Fitting.{AreLaidBoth, HoldsNumber, LiesAs, cells-are, cells-held, greatest-mark, greatest-within, holds-same, kept-number, laid-both, lies-kept, lies-table, no-number, none-unless, turned}
@@ -337,6 +337,11 @@ may-arrive two marks sent is same size = rw is (record {
   stays = λ new taken. lies-kept (becomes _ _ two marks sent same new taken);
 })
 
+-- numbers are read as those of the table
+pub as-read : (skips : Bool) (lists : List OwnerListView) (to new : VersionTableView) (low high : List ℕ) {read sent : List ℕ} → read ≡ sent
+    → HasTakenUnless skips lists to read low high new → HasTakenUnless skips lists to sent low high new
+as-read skips lists to new low high is took = rw is at took
+
 -- what one takes of another's number it takes of the one that this came to be
 taken-alike : (x x' y y' z z' low high flow fhigh : ℕ) → x' ≡ x → y' ≡ y → z' ≡ z → is_taken x y flow fhigh ≡ true → z ≡ number_taken y x' low high
     → number_taken x z' flow fhigh ≡ number_taken x y' flow fhigh
@@ -375,16 +380,15 @@ module _ {rules : Rules} {written : ℕ → List Entry} {most : ℕ} {h : Histor
   as-many true p' is = ap (λ (v : VersionTableView). length v.cells) is
   as-many false p' took = took.kept.size
 
-  pub exchange_whole : (nothing : Bool) (p' : VersionTableView) (came : List ℕ) → came ≡ q.cells → HasTakenUnless nothing h.lists p came low high p' → (d1 d2 : ℕ)
+  pub exchange_whole : (nothing : Bool) (p' : VersionTableView) → HasTakenUnless nothing h.lists p q.cells low high p' → (d1 d2 : ℕ)
       → d1 ≡ digest_size (digest_kind rules.mode) (table_in written p) → d2 ≡ digest_size (digest_kind rules.mode) (table_in written q)
       → e.lost1 ≡ false → e.lost2 ≡ false → nothing ≡ eqb back_sent 0 → (skips : Bool) → skips ≡ (e.lost3 || eqb forth_sent 0)
-      → (q' : VersionTableView) (went : List ℕ) → went ≡ p'.cells → HasTakenUnless skips h.lists q went flow fhigh q' → (r : Record)
+      → (q' : VersionTableView) → HasTakenUnless skips h.lists q p'.cells flow fhigh q' → (r : Record)
       → ((b f : DeltaView) → back_sent ≡ length b.items → back_cut ≡ b.cut → forth_sent ≡ length f.items → forth_cut ≡ f.cut
       → r ≡ sent_until (last_fate e.lost3) d1 d2 b f) → MakesOf (table_in written) rules e p q p' q' r
-  exchange_whole nothing p' came came_is came_took d1 d2 d1_is d2_is first second none skips skipped q' went went_is takes r said =
-      let took = subst (λ sent. HasTakenUnless nothing h.lists p sent low high p') came_is came_took in
+  exchange_whole nothing p' took d1 d2 d1_is d2_is first second none skips skipped q' takes r said =
       let here = becomes-unless rules e.rotation (turned two) back _ (λ _ _ _ _. refl) p' nothing false none took in
-      let there = becomes-unless rules e.rotation two forth _ (rw went_is (same-taken nothing p' took)) q' skips e.lost3 skipped takes in
+      let there = becomes-unless rules e.rotation two forth _ (same-taken nothing p' took) q' skips e.lost3 skipped takes in
       let b = delta_of_views rules e.rotation written q p in
       let is = said b (delta_of_views rules e.rotation written p q) back.count back.left forth.count forth.left in
       rw (first, second) (cc (came-back e.lost3 (table_in written p) b))

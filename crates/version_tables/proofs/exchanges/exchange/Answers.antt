@@ -1,14 +1,11 @@
-use Rattle.version_tables.proofs.Common.{sym, ◌∙◌, [], DeltaView, sent_until, table_in}
-use Rattle.bench_types.specs.declared.exchanges.Fate.TheVariants.{Lost1}
-use Rattle.model.specs.Exchanged.{exchanged}
+use Rattle.version_tables.proofs.Common.{sym, ◌∙◌, [], exchanged, sent_until, table_in, DeltaView, Lost1}
 use Rattle.version_tables.proofs.Merged.{both-stay, laid-both, merged-whole}
 use Rattle.version_tables.proofs.exchanges.exchange.Goals as goal
 
 pub returns-then-plan-clause-ok : goal.returns-then-plan-clause-ok
 returns-then-plan-clause-ok g c =
     let none : DeltaView = record { items = []; cut = 0 } in
-    let p = table_in g.H.Written.lists c.args.initiator.now in
-    let q = table_in g.H.Written.lists c.args.responder.now in
+    let p = table_in g.H.Written.lists c.args.initiator.now in let q = table_in g.H.Written.lists c.args.responder.now in
     let sent = c.sent_before_an_answer.ensures 0 none none ∙ (λ i. sent_until Lost1 (c.digest_size-digest1.ensures.size i) 0 none none) in
     (λ i. exchanged c.args.course.now.rules.now (record c.args.course.now.plan.now { lost1 = c.if-plan.true i }) p q)
     ∙ (λ i. record { initiator = p; responder = q; sent = sym sent i })

@@ -1,4 +1,5 @@
-use Rattle.version_tables.proofs.Common.{◌+◌, ◌*◌, ◌-◌, arith, rules, map, grid-within, plane-within, planes-written}
+use Rattle.version_tables.proofs.Common.{◌+◌, ◌*◌, ◌-◌, ◌≤◌, arith, length, map, grid-within, plane-within, planes-written}
+use borrow.Author.Rules.{scaled_fits≤}
 use Rattle.version_tables.proofs.tables.keep_owner.Goals as goal
 
 pub loop-key-preserved : goal.loop-key-preserved
@@ -11,4 +12,6 @@ loop-key-preserved g c =
     (λ r x y lt is. is)
 
 pub offset_bounds-cells-start : goal.offset_bounds-cells-start
-offset_bounds-cells-start g c = search (rules, plane-within _ _ _ c.loop-key.key c.requires.grid c.loop-key-test.true)
+offset_bounds-cells-start g c =
+    let within = plane-within _ _ _ c.loop-key.key c.requires.grid c.loop-key-test.true in
+    let room : c.loop-key.key * c.args.size.nodes ≤ length c.args.cells.now = omega (arith, within) in search scaled_fits≤

@@ -41,13 +41,11 @@ module _ {written : ℕ → List Entry} {v : VersionTableView} (kept : IsKept wr
   -- owners of whom something is held
   owner_here : (r : ℕ) → r < v.nodes → nat_lt 0 (slice_index v.greatest r) ≡ nat_lt 0 (greatest_version t r)
   owner_here r in_nodes =
-      let most = kept.most.each r in_nodes in
-      elim (cases_lt 0 (slice_index v.greatest r)) [
+      let most = kept.most.each r in_nodes in elim (cases_lt 0 (slice_index v.greatest r)) [
         | inr not_some ↦
             let nothing = greatest_mark-none t r (λ key lt.
             has r key in_nodes lt ∙ ap (write_numbered (written r)) {x = number r key} {y = 0} (omega (arith, not_some, most.upto key lt))) in
-            let version = ap (λ (m : Mark). m.version) nothing in
-            grind (arith, nat_tests)
+            let version = ap (λ (m : Mark). m.version) nothing in grind (arith, nat_tests)
         | inl some ↦ elim most.held [
           | inl none ↦ absurd (omega (arith, none, some))
           | inr (key, lt, is) ↦
@@ -55,8 +53,7 @@ module _ {written : ℕ → List Entry} {v : VersionTableView} (kept : IsKept wr
               let held : entry_at t r key ≡ Some there.0 = has r key in_nodes lt ∙ there.1 in
               let upto = rw held at (mark_at-up_to_greatest t r key lt) in
               let version = upto.version (kept.proper.copies r key there.0 held) in
-              let some_version = (kept.proper.in_place r key there.0 held).written in
-              grind (arith, nat_tests)
+              let some_version = (kept.proper.in_place r key there.0 held).written in grind (arith, nat_tests)
         ]
       ]
 

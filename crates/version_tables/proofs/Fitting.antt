@@ -22,8 +22,7 @@ so-far-upto {written = written} {v = v} kept so_far owner begins holds key in_no
       let there = numbered-some (written owner) (cell v.cells v.nodes owner key) some number.written in
       let (place, lt, at) = holds key there.0 (has_cells written v kept.numbers owner key in_nodes in_keys ∙ there.1) in
       let same = sym (begins (suc place) (omega (arith, lt))) ∙ write_from-here so_far place there.0 lt ∙ ap Some at ∙ sym there.1 in
-      let never = λ (before : suc place < cell v.cells v.nodes owner key). number.first (suc place) before same in
-      grind (arith, never, lt)
+      let never = λ (before : suc place < cell v.cells v.nodes owner key). number.first (suc place) before same in grind (arith, never, lt)
 ]
 
 -- a table beside the histories
@@ -134,8 +133,7 @@ module _ {written : ℕ → List Entry} {most : ℕ} {h : HistoriesView} {v : Ve
         let same : f.generation ≡ d.generation = sym (ap (λ o. (mark_held o).generation) is_f) ∙ sym (ap (λ (m : Mark). m.generation) greatest-mark)
         ∙ sym (laid.proper.copies owner key d (cells-are key in_keys ∙ is_d)) in
         let older = so_far.numbered.older (held key) greatest d f is_d is_f in
-        let counted = so_far.numbered.counted greatest f is_f in
-        let below : greatest - f.version < held key = grind arith in
+        let counted = so_far.numbered.counted greatest f is_f in let below : greatest - f.version < held key = grind arith in
         (λ i. is_before (record { generation = same i; version = d.version }) (mark_of e))
         ∙ numbers-compare writes so_far.history (held key) number d e is_d is_e
         ∙ ap (λ n. nat_lt n number) (omega (arith, below))

@@ -173,8 +173,6 @@ module _ (rules : Rules) (e : Exchange) {written : ℕ → List Entry} {most : �
       let forth = marks-of rules e.rotation two in_nodes may.kind may.forth in
       let p_is = lies-table (merged-lies rules e.rotation (turned two) turns may.kind may.back have.first) in
       let q_is = lies-table (merged-lies rules e.rotation two in_nodes may.kind may.forth have.second) in
-      let b = delta_of_views rules e.rotation written q p in
-      let f = delta_of_views rules e.rotation written p q in
-      let is = sent b f (have.back ∙ back.count) back.left (have.forth ∙ forth.count) forth.left in
-      rw (first, second, third)
+      let b = delta_of_views rules e.rotation written q p in let f = delta_of_views rules e.rotation written p q in
+      let is = sent b f (have.back ∙ back.count) back.left (have.forth ∙ forth.count) forth.left in rw (first, second, third)
       (λ i. record { initiator = sym p_is i; responder = sym q_is i; sent = sym (is ∙ (λ j. sent_until (last_fate false) (d1_is j) (d2_is j) b f)) i })

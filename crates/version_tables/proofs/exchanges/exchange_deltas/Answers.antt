@@ -4,8 +4,7 @@ use Rattle.version_tables.proofs.exchanges.exchange_deltas.Goals as goal
 
 pub returns-then-plan-clause-ok : goal.returns-then-plan-clause-ok
 returns-then-plan-clause-ok g c =
-    let delta = c.in_ok-back.ensures.delta in
-    let plan = c.args.course.now.plan.now in
+    let delta = c.in_ok-back.ensures.delta in let plan = c.args.course.now.plan.now in
     let rules = c.args.course.now.rules.now in
     let p = table_in g.H.Written.lists c.args.initiator.now in let q = table_in g.H.Written.lists c.args.responder.now in
     let back = delta_of_views rules plan.rotation g.H.Written.lists c.args.responder.now c.args.initiator.now in

@@ -64,14 +64,12 @@ returns g c =
 
 pub merge-came-requires : goal.merge-came-requires
 merge-came-requires g c =
-    let other = c.responder.inside in
-    let kept = c.initiator.invariant in
+    let other = c.responder.inside in let kept = c.initiator.invariant in
     let nodes : c.initiator.inside.nodes ≡ other.nodes = ap (λ (v : VersionTableView). v.nodes) c.initiator.view_is ∙ c.requires.nodes
     ∙ ap (λ (v : VersionTableView). v.nodes) (sym c.responder.view_is) in
     let keys : c.initiator.inside.keys ≡ other.keys = ap (λ (v : VersionTableView). v.keys) c.initiator.view_is ∙ c.requires.keys
     ∙ ap (λ (v : VersionTableView). v.keys) (sym c.responder.view_is) in
-    let size = sym (length-map c.initiator.inside.cells.items g.N.Number.number) ∙ kept.numbers.size in
-    record {
+    let size = sym (length-map c.initiator.inside.cells.items g.N.Number.number) ∙ kept.numbers.size in record {
       marked = rw (c.deref.ensures.value, c.deref-2.ensures.value, c.deref_mut.ensures.value, c.deref_mut-2.ensures.value) (record {
         grid = record { whole = size; few_nodes = kept.proper.nodes_limit; few_keys = kept.proper.keys_limit };
         second = sym (length-map other.cells.items g.N.Number.number) ∙ c.responder.invariant.numbers.size ∙ (λ i. sym keys i * sym nodes i) ∙ sym size;

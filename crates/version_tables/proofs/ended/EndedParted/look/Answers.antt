@@ -4,8 +4,7 @@ use Rattle.version_tables.proofs.ended.EndedParted.look.Goals as goal
 
 pub returns : goal.returns
 returns g c numbers of_these =
-    let views = c.args.self.now.tables.items in
-    let own = c.numbers_of.result in
+    let views = c.args.self.now.tables.items in let own = c.numbers_of.result in
     let beside = c.numbers_of.ensures views c.requires.0 (rw (c.deref-2.ensures.value, ← c.deref.ensures.value) c.in_ok-cells.ensures.cells) in (
       IfOk-weaker c.piece_of.result (HasCounted g.N.Number.number own c.args.from c.args.to) (HasCounted g.N.Number.number numbers c.args.from c.args.to)
           (λ (piece : Piece _) counted. counts-alike g.N.Number.number g.N.Number.most (map (table_in g.H.Written.lists) views) own numbers

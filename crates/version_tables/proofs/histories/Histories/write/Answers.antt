@@ -8,8 +8,7 @@ module _ (g : _) (c : goal.After-self-3-1 g) where
 
   counted : g.N.Number.number c.plus-number.result ≡ length (all_writes c.self.inside.lists.items c.args.owner) + 1
   counted =
-      let counts = c.self.inside.counts.items in
-      c.plus-number.ensures
+      let counts = c.self.inside.counts.items in c.plus-number.ensures
       ∙ ap (λ n. n + 1) (count-read g.N.Number.number counts c.self.invariant c.args.owner c.index_mut-count.result.now may.owner_below c.index_mut-count.ensures.value)
 
   becomes : ListBecomes c.args.owner (with_write (list_of_owner c.self.inside.lists.items c.args.owner) c.args.key c.args.value (c.self.inside.rounds + 1))
@@ -19,8 +18,7 @@ module _ (g : _) (c : goal.After-self-3-1 g) where
 
 pub invariant_of-self-2 : goal.invariant_of-self-2
 invariant_of-self-2 g c =
-    let lists = c.self.inside.lists.items in
-    let owner = c.args.owner in
+    let lists = c.self.inside.lists.items in let owner = c.args.owner in
     let count : c.len-nodes.result ≡ length lists = search rules in
     nodes-are (histories-written c.self.invariant (set lists owner c.write.new.self) owner (may g c).owner_below c.args.key c.args.value (may g c) (becomes g c)
     (numbers-set g.N.Number.number _ owner c.plus-number.result _ (counted g c))
@@ -62,5 +60,4 @@ pub returns-clause-known : goal.returns-clause-known
 returns-clause-known g c = subst (AreKnown g.H.Written.lists g.N.Number.most) c.self.view_is c.self.invariant.known
 
 pub returns-in_err-write-clause-err : goal.returns-in_err-write-clause-err
-returns-in_err-write-clause-err g c =
-    rw ((err_from_is_err_and c.from_residual.result c.from_residual.ensures.1).1, unchanged g c) c.self.view_is
+returns-in_err-write-clause-err g c = rw ((err_from_is_err_and c.from_residual.result c.from_residual.ensures.1).1, unchanged g c) c.self.view_is

@@ -43,8 +43,7 @@ module _ {all : List Entry} {most : ℕ} {v : OwnerListView} (key value rounds :
 
   numbered-last : write_numbered more (length w + 1) ≡ Some e
   numbered-last =
-      ap (write_numbered more) {x = length w + 1} {y = suc (length w)} (omega arith)
-      ∙ write_from-here more (length w) e (omega (arith, longer))
+      ap (write_numbered more) {x = length w + 1} {y = suc (length w)} (omega arith) ∙ write_from-here more (length w) e (omega (arith, longer))
       ∙ ap Some (ap (λ es. get_or es (length w) e) whole ∙ get_or_push w e e (length w) refl)
 
   either : (number : ℕ) (d : Entry) → write_numbered more number ≡ Some d

@@ -103,8 +103,7 @@ module _ (rules : Rules) (rotation : ℕ) {written : ℕ → List Entry} {most :
 
   pub marks-of : AreMarksOf rules rotation written from to to.greatest from.greatest (total_above from.nodes from.keys from.cells to.greatest) 0
   marks-of =
-      let whole = by_first (first_sent rules.mode) from.greatest to.greatest in
-      whole-marks (first_sent rules.mode) to.greatest from.greatest
+      let whole = by_first (first_sent rules.mode) from.greatest to.greatest in whole-marks (first_sent rules.mode) to.greatest from.greatest
       (λ xs ys. AreMarksOf rules rotation written from to xs ys (total_above from.nodes from.keys from.cells to.greatest) 0)
       (simp map-id at (delta-marks id two rules all of-all rotation in_nodes (map id whole) (total_above from.nodes from.keys from.cells to.greatest) 0
       (whole-marked id most all is-offer rotation (simp map-id within) rules.mode whole refl)

@@ -154,8 +154,7 @@ module _ (rules : Rules) (rotation : ℕ) {written : ℕ → List Entry} {most :
           (cell to.cells to.nodes owner key, sym (cells-are two.second owner in_nodes key lt) ∙ held, y-above key, raised.upto key lt)
       stood-number key e (inr came) =
           let held = came-held e came.0 in let below = (two.first.proper.in_place owner e.key e held).key_below in
-          let lt : e.key < to.keys = omega (arith, below, two.keys) in
-          let at = y-sent e.key lt ((delta.marks.members owner e.key e held).1 came.0) in
+          let lt : e.key < to.keys = omega (arith, below, two.keys) in let at = y-sent e.key lt ((delta.marks.members owner e.key e held).1 came.0) in
           subst (λ k. (n : ℕ) × (write_numbered writes n ≡ Some e) × (n ≤ y k) × (y k ≤ greatest)) came.1
           (cell from.cells from.nodes owner e.key, sym (cells-are two.first owner in_node e.key below) ∙ held, omega (arith, at), raised.upto e.key lt)
 
@@ -349,8 +348,7 @@ module _ {rules : Rules} {written : ℕ → List Entry} {most : ℕ} {h : Histor
       let now_at : cell p'.cells q.nodes owner key ≡ cell p'.cells p.nodes owner key = ap (λ n. cell p'.cells n owner key) (sym two.nodes) in
       let then_at : cell p.cells q.nodes owner key ≡ cell p.cells p.nodes owner key = ap (λ n. cell p.cells n owner key) (sym two.nodes) in
       let q_at : cell q.cells p.nodes owner key ≡ cell q.cells q.nodes owner key = ap (λ n. cell q.cells n owner key) two.nodes in
-      let in_node : owner < p.nodes = omega (arith, in_nodes, two.nodes) in
-      let in_key : key < p.keys = omega (arith, in_keys, two.keys) in
+      let in_node : owner < p.nodes = omega (arith, in_nodes, two.nodes) in let in_key : key < p.keys = omega (arith, in_keys, two.keys) in
       elim (is_taken_at p q flow fhigh owner key) as (λ b. is_taken_at p q flow fhigh owner key ≡ b
       → numbers_taken q.nodes q.cells p'.cells flow fhigh owner key ≡ numbers_taken q.nodes q.cells p.cells flow fhigh owner key) [
         | true ↦ λ yes'.

@@ -22,5 +22,4 @@ returns-then-may_merge-clause-ok g c =
     (laid-both c.requires.known c.requires.may.both c.digest_size-digest1-then-may_merge.ensures.kept c.digest_size-digest2.ensures.kept)
     c.requires.may.rotation (c.may_merge.ensures.0 c.if-may_merge.true)
     c.merge-came.ensures c.digest_size-digest1-then-may_merge.result c.digest_size-digest2.result c.digest_size-digest1-then-may_merge.ensures.size
-    c.digest_size-digest2.ensures.size c.if-plan.false c.if-not-plan.true c.if-not-plan-2.true
-    c.sent_both.result c.sent_both.ensures
+    c.digest_size-digest2.ensures.size c.if-plan.false c.if-not-plan.true c.if-not-plan-2.true c.sent_both.result c.sent_both.ensures

@@ -27,8 +27,7 @@ take_unless-requires-2-clause-may g c =
     let q_top = ap (map g.N.Number.number) (c.deref.ensures.value ∙ c.in_ok-responder_before.ensures.items) ∙ c.greatest-2.ensures.value in
     let back = marks-come c.in_ok-back.ensures.delta c.of-first.ensures q_top c.what_comes-came.ensures in
     let forth = marks-come c.in_ok-forth.ensures.delta c.of-first.ensures p_top c.what_comes-went.ensures in
-    let took = as-read _ _ _ _ _ _ c.cells-came_back.ensures.value c.take_unless.ensures in
-    let e = c.args.course.now.plan.now in
+    let took = as-read _ _ _ _ _ _ c.cells-came_back.ensures.value c.take_unless.ensures in let e = c.args.course.now.plan.now in
     may-arrive both forth _ c.cells-came_forth.ensures.value (same-taken e both back forth _ _ took) (as-many e both back forth _ _ took)
 
 pub returns-clause-ok : goal.returns-clause-ok

@@ -9,7 +9,6 @@ returns g c numbers of_these =
       IfOk-weaker c.piece_of.result (HasCounted g.N.Number.number own c.args.from c.args.to) (HasCounted g.N.Number.number numbers c.args.from c.args.to)
           (λ (piece : Piece _) counted. counts-alike g.N.Number.number g.N.Number.most (map (table_in g.H.Written.lists) views) own numbers
           beside.are of_these.are (beside.histories ∙ sym of_these.histories) (beside.cells.are ∙ sym of_these.cells.are)
-          c.args.from c.args.to piece.stale piece.leftover (map g.N.Number.number piece.least.items) counted)
-          c.piece_of.ensures.0,
+          c.args.from c.args.to piece.stale piece.leftover (map g.N.Number.number piece.least.items) counted) c.piece_of.ensures.0,
       c.piece_of.ensures.1,
     )

@@ -1,4 +1,4 @@
-use Rattle.version_tables.proofs.Common.{◌≡◌, ◌+◌, ◌∙◌, ap, ◌∷◌, [], length-append, get_or_append_left, get_or_push, get_or_past, arith, no_writes, subst, AreNoWrites}
+use Rattle.version_tables.proofs.Common.{◌+◌, ◌∙◌, ap, ◌∷◌, [], length-append, get_or_append_left, get_or_push, get_or_past, arith, no_writes, subst, AreNoWrites}
 use Rattle.version_tables.proofs.histories.no_lists.Goals as goal
 
 pub loop-preserved : goal.loop-preserved
@@ -10,5 +10,4 @@ loop-preserved c =
 
 pub returns-clause-lists : goal.returns-clause-lists
 returns-clause-lists c =
-    let all : c.loop.counter ≡ c.args.nodes = omega (arith, c.loop-test.false, c.loop.auto.counter-end) in
-    subst (λ n. AreNoWrites n c.loop.lists.items) all c.loop.invariant
+    subst (λ n. AreNoWrites n c.loop.lists.items) {x = c.loop.counter} (omega (arith, c.loop-test.false, c.loop.auto.counter-end)) c.loop.invariant

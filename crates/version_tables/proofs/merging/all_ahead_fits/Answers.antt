@@ -3,14 +3,14 @@ use Rattle.version_tables.proofs.merging.all_ahead_fits.Goals as goal
 
 pub total_above-requires : goal.total_above-requires
 total_above-requires g c =
-    let grid = c.grid-grid.ensures in record {
+    let grid = c.grid-grid.ensures in let high = c.greatest-else-surely_fit.ensures in record {
       marked = record {
         marks = record {
           shape = grid.shape;
           low_count = c.greatest.ensures.count ∙ sym c.requires.nodes ∙ sym grid.nodes;
-          high_count = c.greatest-else-surely_fit.ensures.count ∙ sym grid.nodes;
+          high_count = high.count ∙ sym grid.nodes;
         };
-        covered = rw (grid.nodes, grid.keys, grid.cells, c.greatest-else-surely_fit.ensures.value) (λ owner lt key lt_k. (grid.kept.most.each owner lt).upto key lt_k);
+        covered = rw (grid.nodes, grid.keys, grid.cells, high.value) (λ owner lt key lt_k. (grid.kept.most.each owner lt).upto key lt_k);
       };
     }
 

@@ -8,8 +8,8 @@ module _ (g : _) (c : goal.After-self-3-1 g) where
 
   counted : g.N.Number.number c.plus-number.result ≡ length (all_writes c.self.inside.lists.items c.args.owner) + 1
   counted =
-      let counts = c.self.inside.counts.items in c.plus-number.ensures
-      ∙ ap (λ n. n + 1) (count-read g.N.Number.number counts c.self.invariant c.args.owner c.index_mut-count.result.now may.owner_below c.index_mut-count.ensures.value)
+      let counts = c.self.inside.counts.items in let is = c.index_mut-count.ensures.value in c.plus-number.ensures
+      ∙ ap (λ n. n + 1) (count-read g.N.Number.number counts c.self.invariant c.args.owner c.index_mut-count.result.now may.owner_below is)
 
   becomes : ListBecomes c.args.owner (with_write (list_of_owner c.self.inside.lists.items c.args.owner) c.args.key c.args.value (c.self.inside.rounds + 1))
       c.self.inside.lists.items (set c.self.inside.lists.items c.args.owner c.write.new.self)

@@ -3,6 +3,7 @@
 -- Serves most of the crate.
 pub use Rattle.version_lags.proofs.Common.{Bool, Bor, HasCounted, IsLastNumber, IsNumberAt, List, None, Option, Some, [], ap, arith, base_of, both_ways, cases_eq, cases_lt, cond, eq-eqb, eqb, eqb-true, false, get_or, if◌then◌else◌, inl, inr, le-ltb, length, length-append, lt-ltb, ltb, map, max, mul-le-mul_right, nat_le, nat_lt, ne_eqb, none-passes, number-at, refl, rules, slice_index, subst, suc, sum_below-same, sym, table_of_node, write_numbered, zero, ℕ, ◌&&◌, ◌*◌, ◌+◌, ◌-◌, ◌<◌, ◌∙◌, ◌≡◌, ◌≤◌, ◌⊎◌}
 pub use Rattle.delta_plans.proofs.Common.{AreChanged, AreMarked, Bytes, DeltaView, Entries, HasSet, IsOffer, KeepsLow, NumbersDiffer, Vec, by_first, candidates, count_all_between, delta_between, first_sent, known_mark, largest_share, lets_through, nat_tests, number_here, number_shares, share_or_none, sum_by-ones, transport, weight_between, with_items}
+pub use Rattle.bench_types.specs.declared.exchanges.Fate.TheVariants.{Lost1, Lost2}
 pub use Rattle.std.proofs.lemmas.List.{append-nil, append_assoc, get_or-append-add, get_or-map, get_or-set_other, get_or-set_same, get_or_append_left, get_or_default, get_or_past, get_or_push, length-map, length-set, map-append, map-id, map-set, set-get_or, take_all, with_items_is}
 pub use Rattle.std.proofs.lemmas.List.FromFn.{get_or-map-range_with_len, length-map-range_with_len, sum_by-map-range_with_len_more}
 pub use Rattle.std.proofs.lemmas.Nat.{same_from_place}
@@ -18,6 +19,7 @@ pub use Rattle.delta_plans.proofs.Starts.{all_writes-here}
 pub use Rattle.delta_plans.proofs.WeightLaws.{count_between-most, part, part-cases, sum_below-none, weight_between-most, weight_of-none, weight_of-split}
 pub use Rattle.model.proofs.Common.{Budget, DigestKind, Entry, Exchange, IsUpTo, Item, Mark, Precise, Record, Rules, Scuttle, absent-first, amount_of, digest_kind, is_before, mark_held, mark_of, not_both, range_with_len, set, sum_below, sum_below-le, true, ◌++◌, ◌==◌, ◌↔◌, ◌∷◌, ◌≢◌}
 pub use Rattle.model.proofs.DeltaLaws.{sent-candidate}
+pub use Rattle.model.specs.Exchanged.{exchanged}
 pub use Rattle.model.proofs.Greatest.{greatest_mark-from, greatest_mark-none, greatest_mark-unique, mark_at-up_to_greatest}
 pub use Rattle.model.proofs.InLists.{get-held_by_lists}
 pub use Rattle.model.proofs.Lacking.{candidates-lacked}

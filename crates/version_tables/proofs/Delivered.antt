@@ -81,10 +81,8 @@ module _ {N : Type 0} (number : N → ℕ) {written : ℕ → List Entry} {most 
   lacked-is : (owner key : ℕ) (e : Entry) → entry_at (table_in written from) owner key ≡ Some e
       → is_lacked rules.mode (table_in written to) (record { owner = owner; entry = e }) ≡ nat_lt (low owner) (cells owner key)
   lacked-is owner key e held =
-      let place = two.first.proper.in_place owner key e held in
-      let le = upto owner key place.owner_below place.key_below in
-      let offered = is.offered.each owner key place.owner_below place.key_below in
-      elim (cases_eq owner to.node) [
+      let place = two.first.proper.in_place owner key e held in let le = upto owner key place.owner_below place.key_below in
+      let offered = is.offered.each owner key place.owner_below place.key_below in elim (cases_eq owner to.node) [
         | inl own ↦ let none = subst (λ o. sender o key ≤ low o) (sym own) (is.low.sent key place.key_below) in grind (arith, nat_tests)
         | inr other ↦
             let in_to : owner < to.nodes = omega (arith, place.owner_below, two.nodes) in
@@ -125,8 +123,7 @@ module _ {N : Type 0} (number : N → ℕ) {written : ℕ → List Entry} {most 
     written = λ owner key lt lt'. omega (arith, upto owner key lt lt', cells-upto two.first owner lt key lt');
     below = λ owner key lt lt'. omega (arith, upto owner key lt lt', cells-upto two.first owner lt key lt', (two.first.known.so_far owner).few);
     differ = λ owner in_nodes k l in_k in_l some same.
-        let one = at owner k in_nodes in_k some in
-        let other = at owner l in_nodes in_l (omega (arith, some, same)) in
+        let one = at owner k in_nodes in_k some in let other = at owner l in_nodes in_l (omega (arith, some, same)) in
         let e = cells-held two.first owner in_nodes k in_k (omega (arith, some, one)) in
         let here = cells-are two.first owner in_nodes l in_l ∙ ap (write_numbered (all_writes h.lists owner)) (sym other ∙ sym same ∙ one) ∙ e.1 in
         sym (two.first.proper.in_place owner k e.0 e.2).keyed ∙ (two.first.proper.in_place owner l e.0 here).keyed;
@@ -163,8 +160,7 @@ module _ {N : Type 0} (number : N → ℕ) {written : ℕ → List Entry} {most 
         ≡ (nat_lt (low owner) (cells owner key) && lets_through first (m owner) (cells owner key))
     taken-is owner key lt in_keys =
         let in_to : owner < to.nodes = omega (arith, lt, two.nodes) in
-        let in_key : key < to.keys = omega (arith, in_keys, two.keys) in
-        taken-by kind first sender receiver lows mark highs owner key
+        let in_key : key < to.keys = omega (arith, in_keys, two.keys) in taken-by kind first sender receiver lows mark highs owner key
         (λ is_scuttle. elim (cases_eq owner to.node) [
           | inl own ↦ subst (λ o. receiver o key ≤ low o) (sym own) (is.low.held key in_key)
           | inr other ↦
@@ -176,8 +172,7 @@ module _ {N : Type 0} (number : N → ℕ) {written : ℕ → List Entry} {most 
 
     pub delta-marks : length mark ≡ from.nodes → AreMarksOf rules rotation written from to (by_first first lows mark) (by_first first mark highs) sent cut
     delta-marks mark_size =
-        let sent_is = marked.count ∙ sym (count-sent given_is in_nodes covered m marked.above rules.budget has) in
-        record {
+        let sent_is = marked.count ∙ sym (count-sent given_is in_nodes covered m marked.above rules.budget has) in record {
           low_count = by_first-size first lows mark from.nodes (is.low.count ∙ sym two.nodes) mark_size;
           high_count = by_first-size first mark highs from.nodes mark_size (ap length is.high ∙ two.first.tops.size);
           marks = are-sent given_is in_nodes covered m marked.above rules.budget has

@@ -7,8 +7,7 @@ pub use Rattle.version_tables.proofs.Laid.{HoldsNumber, LiesAs, has_cells, holds
 pub earlier-at : (v : OwnerListView) → AreWrites v → (number : ℕ) (e : Entry) → write_numbered (entries_of v) number ≡ Some e
     → number ≤ length v.earlier → e.generation < v.generation
 earlier-at v are number e is upto =
-    let at = numbered-placed (entries_of v) number e is in
-    let before : at.place < length v.earlier = omega (arith, at.is, upto) in
+    let at = numbered-placed (entries_of v) number e is in let before : at.place < length v.earlier = omega (arith, at.is, upto) in
     grind (arith, get_or_append_left v.earlier v.current e at.place before, at.there e, are.earlier at.place e before)
 
 -- numbers of writes so far, where a table holds no others of an owner, are up to their count
@@ -22,8 +21,7 @@ so-far-upto {written = written} {v = v} kept so_far owner begins holds key in_no
       let there = numbered-some (written owner) (cell v.cells v.nodes owner key) some number.written in
       let (place, lt, at) = holds key there.0 (has_cells written v kept.numbers owner key in_nodes in_keys ∙ there.1) in
       let same = sym (begins (suc place) (omega (arith, lt))) ∙ write_from-here so_far place there.0 lt ∙ ap Some at ∙ sym there.1 in
-      let never = λ (before : suc place < cell v.cells v.nodes owner key). number.first (suc place) before same in
-      grind (arith, never, lt)
+      let never = λ (before : suc place < cell v.cells v.nodes owner key). number.first (suc place) before same in grind (arith, never, lt)
 ]
 
 -- a table beside the histories
@@ -122,10 +120,8 @@ module _ {written : ℕ → List Entry} {most : ℕ} {h : HistoriesView} {v : Ve
     precise-of None None none nothing =
         let zero_here = numbered-none writes (held key) (cells-upto key in_keys) none in grind (arith, nat_tests, some.0, some.1)
     precise-of None (Some f) none is_f =
-        let zero_here = numbered-none writes (held key) (cells-upto key in_keys) none in
-        let counted = so_far.numbered.counted greatest f is_f in
-        let older = so_far.numbered.older number greatest e f is_e is_f in
-        let alike = so_far.numbered.alike number greatest e f is_e is_f in
+        let zero_here = numbered-none writes (held key) (cells-upto key in_keys) none in let counted = so_far.numbered.counted greatest f is_f in
+        let older = so_far.numbered.older number greatest e f is_e is_f in let alike = so_far.numbered.alike number greatest e f is_e is_f in
         let behind = λ (lt : greatest < number). (numbers-before writes so_far.history greatest number f e is_f is_e lt).generation in
         grind (arith, nat_tests, some.0, some.1)
     precise-of (Some d) None is_d nothing =
@@ -134,11 +130,9 @@ module _ {written : ℕ → List Entry} {most : ℕ} {h : HistoriesView} {v : Ve
         let same : f.generation ≡ d.generation = sym (ap (λ o. (mark_held o).generation) is_f) ∙ sym (ap (λ (m : Mark). m.generation) greatest-mark)
         ∙ sym (laid.proper.copies owner key d (cells-are key in_keys ∙ is_d)) in
         let older = so_far.numbered.older (held key) greatest d f is_d is_f in
-        let counted = so_far.numbered.counted greatest f is_f in
-        let below : greatest - f.version < held key = grind arith in
+        let counted = so_far.numbered.counted greatest f is_f in let below : greatest - f.version < held key = grind arith in
         (λ i. is_before (record { generation = same i; version = d.version }) (mark_of e))
-        ∙ numbers-compare writes so_far.history (held key) number d e is_d is_e
-        ∙ ap (λ n. nat_lt n number) (omega (arith, below))
+        ∙ numbers-compare writes so_far.history (held key) number d e is_d is_e ∙ ap (λ n. nat_lt n number) (omega (arith, below))
 
     pub lacks : (kind : DigestKind) (low : ℕ → ℕ) → low owner ≡ told_by kind writes greatest
         → is_before (known_mark kind (table_in written v) (record { owner = owner; entry = e })) (mark_of e)

@@ -43,8 +43,7 @@ module _ {all : List Entry} {most : ℕ} {v : OwnerListView} (key value rounds :
 
   numbered-last : write_numbered more (length w + 1) ≡ Some e
   numbered-last =
-      ap (write_numbered more) {x = length w + 1} {y = suc (length w)} (omega arith)
-      ∙ write_from-here more (length w) e (omega (arith, longer))
+      ap (write_numbered more) {x = length w + 1} {y = suc (length w)} (omega arith) ∙ write_from-here more (length w) e (omega (arith, longer))
       ∙ ap Some (ap (λ es. get_or es (length w) e) whole ∙ get_or_push w e e (length w) refl)
 
   either : (number : ℕ) (d : Entry) → write_numbered more number ≡ Some d
@@ -152,10 +151,8 @@ module _ {written : ℕ → List Entry} {most : ℕ} {h : HistoriesView} {nodes 
         → counts' ≡ set counts owner (n + 1) → lasts' ≡ set lasts (key * nodes + owner) (n + 1)
         → AreHistories written most (record h { lists = new }) nodes counts' bases lasts' ends
     histories-written key value may changes is last_is =
-        let are = kept.known.writes owner in
-        let so_far = kept.known.so_far owner in
-        let made = kept.known.made owner in
-        let more = longer key value h.rounds are so_far made in
+        let are = kept.known.writes owner in let so_far = kept.known.so_far owner in
+        let made = kept.known.made owner in let more = longer key value h.rounds are so_far made in
         transport (λ i. AreHistories written most (record h { lists = new }) nodes (sym is i) bases (sym last_is i) ends)
         (histories-changed changes (writes_more list are key value (h.rounds + 1)) (so_far-more key value h.rounds are so_far made may.under.is may.under.below)
         (grind (arith, either key value h.rounds are so_far made, made))
@@ -249,8 +246,7 @@ module _ {written : ℕ → List Entry} {most : ℕ} {h : HistoriesView} {nodes 
       none = λ owner lt. row-before owner lt 0 (omega arith) ∙ kept.ended.none owner lt;
       rise = λ owner round lt before.
           let last = λ (is : h.rounds ≡ round). ap (λ m. cell (ends ++ counts) nodes owner (m + 1)) is in
-          let was = kept.ended.rise owner round lt in
-          let within = kept.reached owner round lt in
+          let was = kept.ended.rise owner round lt in let within = kept.reached owner round lt in
           grind (arith, row-before owner lt round, row-before owner lt (round + 1), row-last owner lt, last);
       parts = λ owner round lt. each-round owner lt (λ round mark. IsRoundMark (all_writes h.lists owner) 0 round mark)
           (λ round. kept.ended.parts owner round lt) (record {

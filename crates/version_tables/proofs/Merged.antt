@@ -103,8 +103,7 @@ module _ (rules : Rules) (rotation : ℕ) {written : ℕ → List Entry} {most :
 
   pub marks-of : AreMarksOf rules rotation written from to to.greatest from.greatest (total_above from.nodes from.keys from.cells to.greatest) 0
   marks-of =
-      let whole = by_first (first_sent rules.mode) from.greatest to.greatest in
-      whole-marks (first_sent rules.mode) to.greatest from.greatest
+      let whole = by_first (first_sent rules.mode) from.greatest to.greatest in whole-marks (first_sent rules.mode) to.greatest from.greatest
       (λ xs ys. AreMarksOf rules rotation written from to xs ys (total_above from.nodes from.keys from.cells to.greatest) 0)
       (simp map-id at (delta-marks id two rules all of-all rotation in_nodes (map id whole) (total_above from.nodes from.keys from.cells to.greatest) 0
       (whole-marked id most all is-offer rotation (simp map-id within) rules.mode whole refl)
@@ -173,8 +172,6 @@ module _ (rules : Rules) (e : Exchange) {written : ℕ → List Entry} {most : �
       let forth = marks-of rules e.rotation two in_nodes may.kind may.forth in
       let p_is = lies-table (merged-lies rules e.rotation (turned two) turns may.kind may.back have.first) in
       let q_is = lies-table (merged-lies rules e.rotation two in_nodes may.kind may.forth have.second) in
-      let b = delta_of_views rules e.rotation written q p in
-      let f = delta_of_views rules e.rotation written p q in
-      let is = sent b f (have.back ∙ back.count) back.left (have.forth ∙ forth.count) forth.left in
-      rw (first, second, third)
+      let b = delta_of_views rules e.rotation written q p in let f = delta_of_views rules e.rotation written p q in
+      let is = sent b f (have.back ∙ back.count) back.left (have.forth ∙ forth.count) forth.left in rw (first, second, third)
       (λ i. record { initiator = sym p_is i; responder = sym q_is i; sent = sym (is ∙ (λ j. sent_until (last_fate false) (d1_is j) (d2_is j) b f)) i })

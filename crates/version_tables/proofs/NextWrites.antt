@@ -24,8 +24,7 @@ module _ (written : ℕ → List Entry) (v : VersionTableView) (kept : IsKept wr
       let from : write_numbered (written v.node) own ≡ Some there.0 = sym (begins own within) ∙ there.1 in
       let same = under.apart own (cell v.cells v.nodes v.node k) there.0 e from is (λ i. record { generation = one i; version = two i }) in
       let placed = numbered-placed (entries_of list) own there.0 there.1 in
-      let here = placed.there e in
-      (placed.place, placed.within, cc)
+      let here = placed.there e in (placed.place, placed.within, cc)
 
   -- no earlier write is this one
   first : IsFirst (written v.node) (length (entries_of list) + 1)

@@ -53,8 +53,7 @@ module _ (written : ℕ → List Entry) (views : List VersionTableView) (h : His
     numbers-of number cells of_views based lasts = record {
       count = ap (λ (xs : List (List ℕ)). length xs) of_views.are ∙ length-map views (λ (v : VersionTableView). v.cells) ∙ sym end.one_list_each;
       cells_are = λ p lt.
-          let in_views : p < length views = omega (arith, lt, end.one_list_each) in
-          subst (AreNumbersAt tables h p)
+          let in_views : p < length views = omega (arith, lt, end.one_list_each) in subst (AreNumbersAt tables h p)
           (sym (ap (λ xs. numbers_at xs p) of_views.are ∙ get_or-map (λ (v : VersionTableView). v.cells) views p no_view [] in_views))
           (numbers-here p in_views (of_views.kept p no_view in_views));
       based = based;

@@ -1,6 +1,6 @@
 -- A table that took a delta by marks, and dropped what is of older generations, is the model's table that took its items.
 -- Serves `exchange_deltas` and `Merged`.
-use Rattle.version_tables.proofs.Common.{◌≡◌, ℕ, ◌-◌, ◌<◌, ◌≤◌, ◌↔◌, true, false, List, Some, inl, inr, refl, sym, ap, ◌∙◌, subst, get_or, arith, cases_lt, current-numbered, nat_tests, not_both, Entry, Mark, Rules, mark_of, mark_held, Table, entry_at, generation_held, write_numbered, all_writes, list_of_owner, cell, is_taken, number_kept, number_taken, numbers_taken, IsRaised, start_before, start_of, numbered-some, numbered-within, numbers-before, numbers-up_to, IsGreatest, VersionTableView, HistoriesView, table_in, is_taken_at, AreMarksOf, bases_in, IsWrittenSoFar, IsNumberedHistory, drop_start, HasTaken, frame-applied, delta_of_views, Option, None, ◌⊎◌, Contains, Item, Scuttle, Precise, IsUpTo, digest_kind, greatest_mark, IsProper, greatest_mark-from, entry_at-applied_from, applied, Lacks, candidates-lacked, sent-candidate, sent-held, received-proper, kept, sent-up_to, Bool, eqb, [], ◌∷◌, length, ◌||◌, both_ways, eqb-true, Exchange, Record, initiator_after, last_fate, responder_after, sent_until, MakesOf, DeltaView, digest_size, HasTakenUnless, map, length-map, first_sent, First, ◌*◌, IsDelta, IsArrivalOf, MayArrive}
+use Rattle.version_tables.proofs.Common.{◌≡◌, ℕ, ◌-◌, ◌<◌, ◌≤◌, ◌↔◌, true, false, List, Some, inl, inr, refl, sym, ap, ◌∙◌, subst, get_or, arith, cases_lt, current-numbered, nat_tests, not_both, Entry, Mark, Rules, mark_of, mark_held, Table, entry_at, generation_held, write_numbered, all_writes, list_of_owner, cell, is_taken, number_kept, number_taken, numbers_taken, IsRaised, start_before, start_of, numbered-some, numbered-within, numbers-before, numbers-up_to, IsGreatest, VersionTableView, HistoriesView, table_in, is_taken_at, AreMarksOf, bases_in, IsWrittenSoFar, IsNumberedHistory, drop_start, HasTaken, frame-applied, delta_of_views, Option, None, ◌⊎◌, Contains, Item, Scuttle, Precise, IsUpTo, digest_kind, greatest_mark, IsProper, greatest_mark-from, entry_at-applied_from, applied, Lacks, candidates-lacked, sent-candidate, sent-held, received-proper, kept, sent-up_to, Bool, eqb, [], ◌∷◌, length, ◌||◌, both_ways, eqb-true, Exchange, Record, initiator_after, last_fate, responder_after, sent_until, MakesOf, DeltaView, digest_size, HasTakenUnless, map, length-map, first_sent, First, ◌*◌, IsDelta, IsArrivalOf, MayArrive, OwnerListView}
 use Rattle.version_tables.specs.declared.deltas.DeltaMarks.{DeltaMarks}
 use Rattle.version_tables.specs.declared.taking.Arrival.{Arrival}
 pub use Rattle.version_tables.proofs.Fitting.{AreLaidBoth, HoldsNumber, LiesAs, cells-are, cells-held, greatest-mark, greatest-within, holds-same, kept-number, laid-both, lies-kept, lies-table, no-number, none-unless, turned}
@@ -89,8 +89,7 @@ module _ (rules : Rules) (rotation : ℕ) {written : ℕ → List Entry} {most :
     generation-is : (key : ℕ) (e : Entry) → Stood key e → ((k : ℕ) (d : Entry) → Stood k d → d.generation ≤ e.generation)
         → generation_held after owner ≡ e.generation
     generation-is key e stood no_newer =
-        let there = after-upto key e stood upto in
-        omega (arith, upto, there.2.generation, after-proper.copies owner key there.0 there.1)
+        let there = after-upto key e stood upto in omega (arith, upto, there.2.generation, after-proper.copies owner key there.0 there.1)
       where
         upto : generation_held after owner ≤ e.generation
         upto = elim (greatest_mark-from after owner) [
@@ -154,10 +153,8 @@ module _ (rules : Rules) (rotation : ℕ) {written : ℕ → List Entry} {most :
           let lt = (two.second.proper.in_place owner key e held).key_below in
           (cell to.cells to.nodes owner key, sym (cells-are two.second owner in_nodes key lt) ∙ held, y-above key, raised.upto key lt)
       stood-number key e (inr came) =
-          let held = came-held e came.0 in
-          let below = (two.first.proper.in_place owner e.key e held).key_below in
-          let lt : e.key < to.keys = omega (arith, below, two.keys) in
-          let at = y-sent e.key lt ((delta.marks.members owner e.key e held).1 came.0) in
+          let held = came-held e came.0 in let below = (two.first.proper.in_place owner e.key e held).key_below in
+          let lt : e.key < to.keys = omega (arith, below, two.keys) in let at = y-sent e.key lt ((delta.marks.members owner e.key e held).1 came.0) in
           subst (λ k. (n : ℕ) × (write_numbered writes n ≡ Some e) × (n ≤ y k) × (y k ≤ greatest)) came.1
           (cell from.cells from.nodes owner e.key, sym (cells-are two.first owner in_node e.key below) ∙ held, omega (arith, at), raised.upto e.key lt)
 
@@ -168,8 +165,7 @@ module _ (rules : Rules) (rotation : ℕ) {written : ℕ → List Entry} {most :
       number-stood : (key : ℕ) → key < to.keys → 0 < y key → IsTaken key
       number-stood key lt some = elim (is_taken_at from to low high owner key) as (λ b. is_taken_at from to low high owner key ≡ b → IsTaken key) [
         | true ↦ λ yes'.
-            let at = y-sent key lt yes' in
-            let in_key : key < from.keys = omega (arith, lt, two.keys) in
+            let at = y-sent key lt yes' in let in_key : key < from.keys = omega (arith, lt, two.keys) in
             let e = cells-held two.first owner in_node key in_key (omega (arith, at, some)) in
             let comes = (delta.marks.members owner key e.0 e.2).0 yes' in
             let holds = holds-same (sym e.2) at (kept-number two.first.kept owner key in_node in_key) in
@@ -199,8 +195,7 @@ module _ (rules : Rules) (rotation : ℕ) {written : ℕ → List Entry} {most :
 
       newest : 0 < greatest → Newest
       newest some =
-          let at = greatest-at some in
-          let e = number-stood at.0 at.1 (omega (arith, at.2, some)) in
+          let at = greatest-at some in let e = number-stood at.0 at.1 (omega (arith, at.2, some)) in
           let is : write_numbered writes greatest ≡ Some e.0 = ap (write_numbered writes) (sym at.2) ∙ e.1 in (
             e.0,
             is,
@@ -240,21 +235,17 @@ module _ (rules : Rules) (rotation : ℕ) {written : ℕ → List Entry} {most :
       -- each number is then that of what the model's table holds, or 0
       number-now : (key : ℕ) → key < to.keys → HoldsNumber (written owner) key (entry_at after owner key) (cell new.cells to.nodes owner key)
       number-now key in_keys =
-          let is = taken.kept.each owner key in_nodes in_keys in
-          elim (cases_lt start (y key)) [
+          let is = taken.kept.each owner key in_nodes in_keys in elim (cases_lt start (y key)) [
             | inr gone ↦ holds-same (none-unless (entry_at after owner key) (λ d found.
                 let n = stood-number key d (after-stood key d found) in
                 let some : 0 < y key = omega (arith, n.2, (numbered-within writes n.0 d n.1).0) in
-                let e = here key in_keys some in
-                let newest = after-proper.copies owner key d found in
+                let e = here key in_keys some in let newest = after-proper.copies owner key d found in
                 let upto = (numbers-up_to writes so_far.history n.0 (y key) d e.0 n.1 e.1 n.2).generation in
                 omega (arith, gone, stays key in_keys some (omega (arith, newest, upto))))) (is ∙ grind (arith, nat_tests)) (no-number (written owner) key)
             | inl above ↦
-                let some : 0 < y key = omega (arith, above) in
-                let e = here key in_keys some in
+                let some : 0 < y key = omega (arith, above) in let e = here key in_keys some in
                 let newest : generation_held after owner ≤ e.0.generation = grind (arith, drops key in_keys some) in
-                let d = after-upto key e.0 e.2 newest in
-                let n = stood-number key d.0 (after-stood key d.0 d.1) in
+                let d = after-upto key e.0 e.2 newest in let n = stood-number key d.0 (after-stood key d.0 d.1) in
                 let never = λ (before : n.0 < y key).
                 not_both (mark_of d.0) (mark_of e.0) (numbers-before writes so_far.history n.0 (y key) d.0 e.0 n.1 e.1 before) d.2 in
                 let last : n.0 ≡ y key = grind (arith, never, n.2) in
@@ -268,10 +259,8 @@ module _ (rules : Rules) (rotation : ℕ) {written : ℕ → List Entry} {most :
         held = elim (cases_lt 0 greatest) [
           | inr none ↦ inl (omega (arith, none))
           | inl some ↦
-              let (key, lt, at) = greatest-at some in
-              let top = newest some in
-              let counted = so_far.numbered.counted greatest top.0 top.1 in
-              let begins = ap (start_before greatest) top.1 in
+              let (key, lt, at) = greatest-at some in let top = newest some in
+              let counted = so_far.numbered.counted greatest top.0 top.1 in let begins = ap (start_before greatest) top.1 in
               inr (key, lt, taken.kept.each owner key in_nodes lt ∙ grind (arith, nat_tests))
         ];
       }
@@ -279,16 +268,13 @@ module _ (rules : Rules) (rotation : ℕ) {written : ℕ → List Entry} {most :
       -- all stays that was taken, unless the sender's copy is of a newer generation
       stays-unless : (key : ℕ) → key < to.keys → generation_held F owner ≤ generation_held T owner → cell new.cells to.nodes owner key ≡ y key
       stays-unless key in_keys no_newer =
-          let is = taken.kept.each owner key in_nodes in_keys in
-          elim (cases_lt 0 (y key)) [
+          let is = taken.kept.each owner key in_nodes in_keys in elim (cases_lt 0 (y key)) [
             | inr none ↦ is ∙ grind (arith, nat_tests)
             | inl some ↦
-                let e = here key in_keys some in
-                let last = top key in_keys some in
+                let e = here key in_keys some in let last = top key in_keys some in
                 let was = λ (older : e.0.generation < last.0.generation). older-stood key last.2.0 e.0 last.0 e.2 last.2.1 older in
                 let never : e.0.generation < last.0.generation → ⊥ = λ older. omega (arith, older, (was older).1, (was older).2, no_newer) in
-                let above = stays key in_keys some (grind (arith, last.3, never)) in
-                is ∙ grind (arith, nat_tests)
+                let above = stays key in_keys some (grind (arith, last.3, never)) in is ∙ grind (arith, nat_tests)
           ]
 
   module _ {low high : List ℕ} {count cut : ℕ} (delta : AreMarksOf rules rotation written from to low high count cut)
@@ -296,8 +282,7 @@ module _ (rules : Rules) (rotation : ℕ) {written : ℕ → List Entry} {most :
     -- the table is the model's
     pub becomes : HasTaken h.lists to now low high new → LiesAs written new after
     becomes taken =
-        let frame = frame-applied T sent in
-        subst (λ v. LiesAs written v after) (sym taken.rest) (record {
+        let frame = frame-applied T sent in subst (λ v. LiesAs written v after) (sym taken.rest) (record {
           frame = record { node = frame.node; nodes = frame.nodes; keys = frame.keys; generation = frame.generation };
           proper = after-proper;
           numbers = record { size = taken.kept.size ∙ two.second.numbers.size; each = λ owner key lt. number-now owner delta same taken lt key };
@@ -337,6 +322,11 @@ may-arrive two marks sent is same size = rw is (record {
   stays = λ new taken. lies-kept (becomes _ _ two marks sent same new taken);
 })
 
+-- numbers are read as those of the table
+pub as-read : (skips : Bool) (lists : List OwnerListView) (to new : VersionTableView) (low high : List ℕ) {read sent : List ℕ} → read ≡ sent
+    → HasTakenUnless skips lists to read low high new → HasTakenUnless skips lists to sent low high new
+as-read skips lists to new low high is took = rw is at took
+
 -- what one takes of another's number it takes of the one that this came to be
 taken-alike : (x x' y y' z z' low high flow fhigh : ℕ) → x' ≡ x → y' ≡ y → z' ≡ z → is_taken x y flow fhigh ≡ true → z ≡ number_taken y x' low high
     → number_taken x z' flow fhigh ≡ number_taken x y' flow fhigh
@@ -358,8 +348,7 @@ module _ {rules : Rules} {written : ℕ → List Entry} {most : ℕ} {h : Histor
       let now_at : cell p'.cells q.nodes owner key ≡ cell p'.cells p.nodes owner key = ap (λ n. cell p'.cells n owner key) (sym two.nodes) in
       let then_at : cell p.cells q.nodes owner key ≡ cell p.cells p.nodes owner key = ap (λ n. cell p.cells n owner key) (sym two.nodes) in
       let q_at : cell q.cells p.nodes owner key ≡ cell q.cells q.nodes owner key = ap (λ n. cell q.cells n owner key) two.nodes in
-      let in_node : owner < p.nodes = omega (arith, in_nodes, two.nodes) in
-      let in_key : key < p.keys = omega (arith, in_keys, two.keys) in
+      let in_node : owner < p.nodes = omega (arith, in_nodes, two.nodes) in let in_key : key < p.keys = omega (arith, in_keys, two.keys) in
       elim (is_taken_at p q flow fhigh owner key) as (λ b. is_taken_at p q flow fhigh owner key ≡ b
       → numbers_taken q.nodes q.cells p'.cells flow fhigh owner key ≡ numbers_taken q.nodes q.cells p.cells flow fhigh owner key) [
         | true ↦ λ yes'.

@@ -76,10 +76,12 @@ impl<N: Number, H: Written> Histories<N, H> {
     {
         let owner = owner as usize;
         let born = self.rounds + 1;
-        self.lists[owner].write(key, value, born)?;
-        let number = self.counts[owner].plus(true);
-        self.counts[owner] = number;
-        let nodes = self.lists.len();
+        let lists = &mut self.lists;
+        let nodes = lists.len();
+        lists[owner].write(key, value, born)?;
+        let count = &mut self.counts[owner];
+        let number = count.plus(true);
+        *count = number;
         self.lasts[key as usize * nodes + owner] = number;
         Ok(number)
     }
@@ -91,13 +93,14 @@ impl<N: Number, H: Written> Histories<N, H> {
         ensures { HistoryBecomes owner (begun_generation (list_of_owner self.old.lists owner)) self.old self.new }
     {
         let owner = owner as usize;
-        self.lists[owner].begin_generation();
-        let count = self.counts[owner];
-        self.bases[owner] = count;
+        let lists = &mut self.lists;
+        lists[owner].begin_generation();
         let size = Size {
-            nodes: self.lists.len(),
+            nodes: lists.len(),
             keys: self.keys as usize,
         };
+        let count = self.counts[owner];
+        self.bases[owner] = count;
         grids::drop_owner(&mut self.lasts, size, owner, count.widen());
     }
 

@@ -27,7 +27,6 @@ fn surely_fit(budget: Budget, count: u32) -> bool
 
 // Whether all that one table has above another's greatest numbers surely fits. It is counted only where it doesn't fit
 // by how far these are apart.
-#[tactic(auto, unfolding(crate::specs::inner::Merged::SurelyFits))]
 fn all_ahead_fits<N: Number, H: Written>(
     from: &VersionTable<N, H>,
     to: &VersionTable<N, H>,

@@ -22,8 +22,7 @@ told-requires-clause-known g c =
 
 pub delta_above-requires-clause-offered : goal.delta_above-requires-clause-offered
 delta_above-requires-clause-offered g c =
-    let grid = c.grid-grid.ensures in
-    record {
+    let grid = c.grid-grid.ensures in record {
       told = transport (λ i. AreTold (c.digest_kind-kind.ensures i) g.N.Number.most (record c.args.course.now.histories.now { lists = c.lists.ensures.value i })
           (record c.args.receiver.now { node = c.node-own.ensures.value i; greatest = c.greatest.ensures.value i }) (map g.N.Number.number
           c.in_ok-low.low.items)) c.in_ok-low.ensures.told;
@@ -36,12 +35,9 @@ delta_above-requires-clause-offered g c =
 
 pub delta_above-requires-in-Precise-clause-offered : goal.delta_above-requires-in-Precise-clause-offered
 delta_above-requires-in-Precise-clause-offered g c =
-    let ahead = c.in_ok-ahead-in-Precise.ensures in
-    let grid = c.grid-grid.ensures in
-    let number = g.N.Number.number in
-    let low = c.deref-in-Precise.ensures.value in
-    let kind = sym c.in-Precise.is ∙ c.digest_kind-kind.ensures in
-    record {
+    let ahead = c.in_ok-ahead-in-Precise.ensures in let grid = c.grid-grid.ensures in
+    let number = g.N.Number.number in let low = c.deref-in-Precise.ensures.value in
+    let kind = sym c.in-Precise.is ∙ c.digest_kind-kind.ensures in record {
       told = transport (λ i. AreTold (c.digest_kind-kind.ensures i) g.N.Number.most (record c.args.course.now.histories.now { lists = c.lists.ensures.value i })
           (record c.args.receiver.now { node = c.node-own.ensures.value i; greatest = c.greatest.ensures.value i }) (map g.N.Number.number
           c.in_ok-low.low.items)) c.in_ok-low.ensures.told;
@@ -55,8 +51,7 @@ delta_above-requires-in-Precise-clause-offered g c =
 
 pub total_above-requires : goal.total_above-requires
 total_above-requires g c =
-    let grid = c.grid-grid.ensures in
-    record {
+    let grid = c.grid-grid.ensures in record {
       marked = record {
         marks = record {
           shape = grid.shape;
@@ -71,8 +66,7 @@ total_above-requires g c =
 
 pub ahead-requires : goal.ahead-requires
 ahead-requires g c =
-    let grid = c.grid-grid.ensures in
-    record {
+    let grid = c.grid-grid.ensures in record {
       marks = record {
         shape = grid.shape;
         count = ap length c.deref-in-Precise.ensures.value ∙ sym (length-map c.in_ok-low.low.items g.N.Number.number) ∙ c.in_ok-low.ensures.told.size

@@ -28,8 +28,7 @@ planned-requires-clause-offer g c = offer-is g.N.Number.number (two g c) c.args.
 pub returns-clause-delta : goal.returns-clause-delta
 returns-clause-delta g c =
     let marked = c.in_ok-marked.marked in
-    let ends = c.before.before.before in
-    record {
+    let ends = c.before.before.before in record {
       marks = rw (c.greatest.ensures.value, c.deref.ensures.value)
           at (delta-marks g.N.Number.number (two g ends) c.args.course.now.rules.now _ (of-both g ends) c.args.course.now.plan.now.rotation
           c.requires.may.rotation (map g.N.Number.number marked.mark.items) marked.counts.sent marked.counts.cut c.in_ok-marked.ensures.marked

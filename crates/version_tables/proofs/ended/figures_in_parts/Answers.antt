@@ -12,8 +12,7 @@ figures_of_pieces-requires-clause-pieces g c =
     let answered = c.in_ok-whole.ensures in
     let beside = rw answered.whole at (c.numbers_of.ensures c.args.ended.tables.items (rw answered.whole c.requires.ended)
     (rw (c.deref-2.ensures.value, ← answered.whole, ← c.deref.ensures.value) c.in_ok-cells.ensures.cells)) in
-    let same = ap (λ (h : HistoriesView). length h.lists) beside.histories ∙ c.requires.ended.one_list_each in
-    rw c.deref-3.ensures.value (record {
+    let same = ap (λ (h : HistoriesView). length h.lists) beside.histories ∙ c.requires.ended.one_list_each in rw c.deref-3.ensures.value (record {
       bounds = c.args.bounds.items;
       are = subst (λ n. AreBounds n c.args.bounds.items) (sym same) c.requires.bounds;
       one_each = answered.one_each;
@@ -22,8 +21,7 @@ figures_of_pieces-requires-clause-pieces g c =
 
 pub returns-clause-counted : goal.returns-clause-counted
 returns-clause-counted g c =
-    let whole = c.in_ok-whole.ensures.whole in
-    let tables = map (table_in g.H.Written.lists) c.args.ended.tables.items in
+    let whole = c.in_ok-whole.ensures.whole in let tables = map (table_in g.H.Written.lists) c.args.ended.tables.items in
     let beside = rw whole at (c.numbers_of.ensures c.args.ended.tables.items (rw whole c.requires.ended)
     (rw (c.deref-2.ensures.value, ← whole, ← c.deref.ensures.value) c.in_ok-cells.ensures.cells)) in
     record {

@@ -6,5 +6,4 @@ returns-clause-figures g c =
     let tables = map (table_in g.H.Written.lists) c.args.tables.now in
     let beside = c.numbers_of.ensures c.args.tables.now c.requires (rw c.deref.ensures.value c.in_ok-cells.ensures.cells) in
     IfOk-weaker c.figures.result _ _
-    (λ f all. all tables beside.are ∙ ap (λ (k : HistoriesView). figures_of k.rounds tables (lists_in k.lists)) beside.histories)
-    c.figures.ensures.0
+    (λ f all. all tables beside.are ∙ ap (λ (k : HistoriesView). figures_of k.rounds tables (lists_in k.lists)) beside.histories) c.figures.ensures.0

@@ -12,6 +12,5 @@ returns-then-count_held-eq0 g c =
     let none : (owner : ℕ) → owner < c.args.initiator.now.nodes → bases_in c.args.histories.now.lists owner ≡ 0 =
     λ owner lt.
     let is = c.bases-bases.ensures.each.each owner (omega (arith, lt, c.requires.first.nodes)) in
-    let no_base = none_held owner (omega (arith, lt, c.requires.first.nodes, c.bases-bases.ensures.count)) in
-    grind (arith, nat_tests) in
+    let no_base = none_held owner (omega (arith, lt, c.requires.first.nodes, c.bases-bases.ensures.count)) in grind (arith, nat_tests) in
     (λ _. (λ owner lt. none-current _ _ (none owner lt), λ owner lt. none-current _ _ (none owner (omega (arith, lt, c.requires.nodes)))), λ _. refl)

@@ -1,4 +1,4 @@
-use Rattle.version_tables.proofs.Common.{◌≡◌, ℕ, ◌*◌, length, length-map, map, ap, refl, sym, ◌∙◌, with_items, with_items_is, VersionTableView, BothStayMerged, HasMerged, ArePlanesChanged, AreChanged, number_raised, cell, get_or, max, transport}
+use Rattle.version_tables.proofs.Common.{◌≡◌, ℕ, ◌*◌, length, length-map, map, ap, refl, sym, ◌∙◌, with_items, with_items_is, VersionTableView, BothStayMerged, HasMerged, HaveMerged, ArePlanesChanged, AreChanged, BothCounts, number_raised, cell, get_or, max, total_above, transport}
 use Rattle.version_tables.proofs.Laid.{seen}
 use Rattle.version_tables.proofs.merging.merge.Goals as goal
 
@@ -41,6 +41,10 @@ module _ (g : _) (c : goal.After-responder-2-1 g) where
         rest = refl;
       }
 
+-- what was merged is what was seen
+as-seen : {p q p' q' to from : VersionTableView} {came : BothCounts} → p ≡ to → q ≡ from → HaveMerged p q p' q' came → HaveMerged to from p' q' came
+as-seen to_is from_is have = rw (to_is, from_is) at have
+
 pub invariant_of-initiator : goal.invariant_of-initiator
 invariant_of-initiator g c = (stay g c).first _ (came g c)
 
@@ -49,23 +53,23 @@ invariant_of-responder g c = (stay g c).second _ (went g c)
 
 pub returns : goal.returns
 returns g c =
-    rw (← c.initiator.view_is, ← c.responder.view_is) (record {
+    as-seen c.initiator.view_is c.responder.view_is (record {
       first = came g c;
       second = went g c;
-      back = rw (c.deref_mut-2.ensures.value, c.deref.ensures.value, (stay g c).nodes, (stay g c).keys) at c.merge-came.ensures.first_count;
-      forth = rw (c.deref_mut.ensures.value, c.deref-2.ensures.value) at c.merge-came.ensures.second_count;
+      back = c.merge-came.ensures.first_count ∙ (λ i. total_above ((stay g c).nodes i) ((stay g c).keys i)
+          (map g.N.Number.number (c.deref_mut-2.ensures.value i)) (map g.N.Number.number (c.deref.ensures.value i)));
+      forth = c.merge-came.ensures.second_count ∙ (λ i. total_above c.initiator.inside.nodes c.initiator.inside.keys
+          (map g.N.Number.number (c.deref_mut.ensures.value i)) (map g.N.Number.number (c.deref-2.ensures.value i)));
     })
 
 pub merge-came-requires : goal.merge-came-requires
 merge-came-requires g c =
-    let other = c.responder.inside in
-    let kept = c.initiator.invariant in
+    let other = c.responder.inside in let kept = c.initiator.invariant in
     let nodes : c.initiator.inside.nodes ≡ other.nodes = ap (λ (v : VersionTableView). v.nodes) c.initiator.view_is ∙ c.requires.nodes
     ∙ ap (λ (v : VersionTableView). v.nodes) (sym c.responder.view_is) in
     let keys : c.initiator.inside.keys ≡ other.keys = ap (λ (v : VersionTableView). v.keys) c.initiator.view_is ∙ c.requires.keys
     ∙ ap (λ (v : VersionTableView). v.keys) (sym c.responder.view_is) in
-    let size = sym (length-map c.initiator.inside.cells.items g.N.Number.number) ∙ kept.numbers.size in
-    record {
+    let size = sym (length-map c.initiator.inside.cells.items g.N.Number.number) ∙ kept.numbers.size in record {
       marked = rw (c.deref.ensures.value, c.deref-2.ensures.value, c.deref_mut.ensures.value, c.deref_mut-2.ensures.value) (record {
         grid = record { whole = size; few_nodes = kept.proper.nodes_limit; few_keys = kept.proper.keys_limit };
         second = sym (length-map other.cells.items g.N.Number.number) ∙ c.responder.invariant.numbers.size ∙ (λ i. sym keys i * sym nodes i) ∙ sym size;

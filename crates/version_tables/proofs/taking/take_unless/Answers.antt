@@ -12,12 +12,10 @@ module _ (g : _) (c : goal.After-table-3-1 g) where
       let inside = c.table.inside in
       let greatest = with_items_is inside.greatest c.take.new.greatest (c.take.auto.greatest ∙ c.deref_mut-2.ensures.len) in
       let kept = with_items_is (with_items inside.cells c.take.new.cells) c.drop_older.new.cells (c.drop_older.auto.cells ∙ c.deref_mut-3.ensures.len) in
-      let sent = map g.N.Number.number c.args.cells.now in
-      let low = map g.N.Number.number c.args.arrival.low.now in
+      let sent = map g.N.Number.number c.args.cells.now in let low = map g.N.Number.number c.args.arrival.low.now in
       let high = map g.N.Number.number c.args.arrival.high.now in
       let read = c.deref_mut-3.ensures.value ∙ with_items_is inside.cells c.take.new.cells (c.take.auto.cells ∙ c.deref_mut.ensures.len) in
-      let before = c.requires.before ∙ sym (ap (λ (v : VersionTableView). v.greatest) c.table.view_is) in
-      record {
+      let before = c.requires.before ∙ sym (ap (λ (v : VersionTableView). v.greatest) c.table.view_is) in record {
         raised = transport (λ i. AreRaised c.table.inside.nodes c.table.inside.keys (map g.N.Number.number (c.deref_mut.ensures.value i)) sent low high
             (map g.N.Number.number (c.deref_mut-2.ensures.value i)) (map g.N.Number.number (sym greatest i))) c.take.ensures.greatest;
         kept = record {
@@ -40,8 +38,7 @@ module _ (g : _) (c : goal.After-table-3-1 g) where
 
 pub invariant_of-table : goal.invariant_of-table
 invariant_of-table g c =
-    let stays = rw (← c.table.view_is) at c.requires.may.stays in
-    stays _ (taken g c)
+    let stays = rw (← c.table.view_is) at c.requires.may.stays in stays _ (taken g c)
 
 pub returns : goal.returns
 returns g c = rw (c.if-arrival.false, ← c.table.view_is) (taken g c)
@@ -58,10 +55,8 @@ drop_older-requires-clause-known g c =
 
 pub take-requires : goal.take-requires
 take-requires g c =
-    let kept = c.table.invariant in
-    let nodes = ap (λ (v : VersionTableView). v.nodes) c.table.view_is in
-    let size = length-map c.table.inside.cells.items g.N.Number.number in
-    rw (c.deref_mut.ensures.value, c.deref_mut-2.ensures.value) (record {
+    let kept = c.table.invariant in let nodes = ap (λ (v : VersionTableView). v.nodes) c.table.view_is in
+    let size = length-map c.table.inside.cells.items g.N.Number.number in rw (c.deref_mut.ensures.value, c.deref_mut-2.ensures.value) (record {
       may = record {
         beside = record {
           shape = record { whole = omega (arith, size, kept.numbers.size); few_nodes = kept.proper.nodes_limit; few_keys = kept.proper.keys_limit };

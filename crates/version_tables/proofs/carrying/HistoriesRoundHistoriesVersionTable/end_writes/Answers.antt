@@ -4,8 +4,7 @@ use Rattle.version_tables.proofs.carrying.HistoriesRoundHistoriesVersionTable.en
 pub returns-clause-fits : goal.returns-clause-fits
 returns-clause-fits g c =
     on_ok_weaker c.end_round.result (λ ended t standing.
-    let written = subst (λ (k : HistoriesView). AreWrittenBy k.rounds k.lists) (sym ended) c.requires.written in
-    record {
+    let written = subst (λ (k : HistoriesView). AreWrittenBy k.rounds k.lists) (sym ended) c.requires.written in record {
       known = c.end_round.ensures.known;
       among = record {
         proper = standing.proper;

@@ -2,7 +2,7 @@ use Rattle.version_tables.proofs.Common.{refl, ◌<◌, length, length-map, set,
 use Rattle.version_tables.proofs.HistoryCalls.{count-read, histories-begun, list-becomes, nodes-are, numbers-set, owner-within}
 use Rattle.version_tables.proofs.histories.Histories.begin_generation.Goals as goal
 
-module _ (g : _) (c : goal.After-self-3-1 g) where
+module _ (g : _) (c : goal.After-self-2-1 g) where
   in_range : c.args.owner < length c.self.inside.lists.items
   in_range = subst (λ (h : HistoriesView). c.args.owner < length h.lists) (sym c.self.view_is) c.requires.owner
 

@@ -8,9 +8,8 @@ module _ (g : _) (c : goal.After-self-3-1 g) where
 
   counted : g.N.Number.number c.plus-number.result ≡ length (all_writes c.self.inside.lists.items c.args.owner) + 1
   counted =
-      let counts = c.self.inside.counts.items in
-      c.plus-number.ensures
-      ∙ ap (λ n. n + 1) (count-read g.N.Number.number counts c.self.invariant c.args.owner c.index.result.now may.owner_below c.index.ensures)
+      let counts = c.self.inside.counts.items in let is = c.index_mut-count.ensures.value in c.plus-number.ensures
+      ∙ ap (λ n. n + 1) (count-read g.N.Number.number counts c.self.invariant c.args.owner c.index_mut-count.result.now may.owner_below is)
 
   becomes : ListBecomes c.args.owner (with_write (list_of_owner c.self.inside.lists.items c.args.owner) c.args.key c.args.value (c.self.inside.rounds + 1))
       c.self.inside.lists.items (set c.self.inside.lists.items c.args.owner c.write.new.self)
@@ -19,8 +18,7 @@ module _ (g : _) (c : goal.After-self-3-1 g) where
 
 pub invariant_of-self-2 : goal.invariant_of-self-2
 invariant_of-self-2 g c =
-    let lists = c.self.inside.lists.items in
-    let owner = c.args.owner in
+    let lists = c.self.inside.lists.items in let owner = c.args.owner in
     let count : c.len-nodes.result ≡ length lists = search rules in
     nodes-are (histories-written c.self.invariant (set lists owner c.write.new.self) owner (may g c).owner_below c.args.key c.args.value (may g c) (becomes g c)
     (numbers-set g.N.Number.number _ owner c.plus-number.result _ (counted g c))
@@ -33,8 +31,8 @@ returns-clause-number g c = rw (← c.self.view_is) (counted g c)
 pub returns-clause-ok : goal.returns-clause-ok
 returns-clause-ok g c = rw (← c.self.view_is) (record { lists = becomes g c; beside = record { keys = refl; rounds = refl } })
 
-pub index_mut-requires-3 : goal.index_mut-requires-3
-index_mut-requires-3 g c =
+pub index_mut-requires-2 : goal.index_mut-requires-2
+index_mut-requires-2 g c =
     let within = place-within (length c.self.inside.lists.items) c.self.inside.keys c.args.owner c.args.key
     (omega (arith, ap (λ (h : HistoriesView). length h.lists) c.self.view_is)) (omega (arith, ap (λ (h : HistoriesView). h.keys) c.self.view_is)) in
     subst (λ n. c.args.key * n + c.args.owner < c.self.inside.lasts.len) (sym (c.len-nodes.ensures ∙ c.self.inside.lists.ok.0))
@@ -49,21 +47,17 @@ unchanged g c =
 pub invariant_of-self : goal.invariant_of-self
 invariant_of-self g c = rw (unchanged g c) c.self.invariant
 
-pub index-requires : goal.index-requires
-index-requires g c = owner-within g.N.Number.number c.self.inside.counts c.self.invariant.counted.size c.self.view_is c.requires.owner_below
-
 pub plus-number-requires : goal.plus-number-requires
 plus-number-requires g c =
-    subst (λ n. n < g.N.Number.most) (sym (count-read g.N.Number.number c.self.inside.counts.items c.self.invariant c.args.owner c.index.result.now
-    (subst (λ (h : HistoriesView). c.args.owner < length h.lists) (sym c.self.view_is) c.requires.owner_below) c.index.ensures))
+    subst (λ n. n < g.N.Number.most) (sym (count-read g.N.Number.number c.self.inside.counts.items c.self.invariant c.args.owner c.index_mut-count.result.now
+    (subst (λ (h : HistoriesView). c.args.owner < length h.lists) (sym c.self.view_is) c.requires.owner_below) c.index_mut-count.ensures.value))
     (c.self.invariant.known.so_far c.args.owner).few
 
-pub index_mut-requires-2 : goal.index_mut-requires-2
-index_mut-requires-2 g c = owner-within g.N.Number.number c.self.inside.counts c.self.invariant.counted.size c.self.view_is c.requires.owner_below
+pub index_mut-count-requires : goal.index_mut-count-requires
+index_mut-count-requires g c = owner-within g.N.Number.number c.self.inside.counts c.self.invariant.counted.size c.self.view_is c.requires.owner_below
 
 pub returns-clause-known : goal.returns-clause-known
 returns-clause-known g c = subst (AreKnown g.H.Written.lists g.N.Number.most) c.self.view_is c.self.invariant.known
 
 pub returns-in_err-write-clause-err : goal.returns-in_err-write-clause-err
-returns-in_err-write-clause-err g c =
-    rw ((err_from_is_err_and c.from_residual.result c.from_residual.ensures.1).1, unchanged g c) c.self.view_is
+returns-in_err-write-clause-err g c = rw ((err_from_is_err_and c.from_residual.result c.from_residual.ensures.1).1, unchanged g c) c.self.view_is

@@ -9,8 +9,7 @@ module _ (g : _) (c : goal.After-self-3-1 g) where
     greatest = map g.N.Number.number (with_items c.self.inside.greatest c.clear-2.new.numbers).items;
   }) (without_all (table_in g.H.Written.lists (seen c.self.view_is)))
   after =
-      let zeros = AreChanged (λ r x y. y ≡ 0) in
-      forgets c.self.invariant
+      let zeros = AreChanged (λ r x y. y ≡ 0) in forgets c.self.invariant
       (put-back zeros g.N.Number.number c.self.inside.cells _ _ (c.clear.auto.numbers ∙ c.deref_mut.ensures.len) c.deref_mut.ensures.value c.clear.ensures)
       (put-back zeros g.N.Number.number c.self.inside.greatest _ _
       (c.clear-2.auto.numbers ∙ c.deref_mut-2.ensures.len) c.deref_mut-2.ensures.value c.clear-2.ensures)

@@ -1,5 +1,5 @@
-use Rattle.version_tables.proofs.Common.{◌+◌, ◌*◌, ◌<◌, arith, length-map, sym, subst, transport, map-set, VersionTableView, IsNextWrite, HasOwnWrite}
-use Rattle.version_tables.proofs.OwnCalls.{lies-kept, seen, writes, writes-table}
+use Rattle.version_tables.proofs.Common.{◌+◌, ◌*◌, ◌<◌, ap, arith, length-map, sym, subst, transport, map-set, VersionTableView, IsNextWrite, HasOwnWrite}
+use Rattle.version_tables.proofs.OwnCalls.{lies-kept, place-within, seen, writes, writes-table}
 use Rattle.version_tables.proofs.tables.VersionTable.write_own.Goals as goal
 
 module _ (g : _) (c : goal.After-self-2-1 g) where
@@ -23,3 +23,9 @@ pub index_mut-requires-2 : goal.index_mut-requires-2
 index_mut-requires-2 g c =
     let greatest = c.self.inside.greatest in
     omega (arith, c.self.invariant.proper.node_below, c.self.invariant.most.size, length-map greatest.items g.N.Number.number, greatest.ok.0)
+
+pub index_mut-requires : goal.index_mut-requires
+index_mut-requires g c =
+    let within = place-within c.self.inside.nodes c.self.inside.keys c.self.inside.node c.args.key c.self.invariant.proper.node_below
+    (omega (arith, c.requires.key, ap (λ (v : VersionTableView). v.keys) c.self.view_is)) in
+    omega (arith, within, c.self.invariant.numbers.size, length-map c.self.inside.cells.items g.N.Number.number, c.self.inside.cells.ok.0)

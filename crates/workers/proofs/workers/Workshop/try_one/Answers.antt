@@ -117,3 +117,7 @@ returns-clause-stays g c =
 pub returns-in_default : goal.returns-in_default
 returns-in_default g c = not_held g.T.MemoryTable.table c.args.self.now.board c.args.worker.now c.claim.new.seat c.args.i c.claim.result c.in_default.not-Held
     c.claim.ensures.seat c.claim.ensures.claim c.requires.worker.records
+
+pub returns-in_err-push-clause-stays : goal.returns-in_err-push-clause-stays
+returns-in_err-push-clause-stays g c =
+    stays_done c.args.i c.carry_out.ensures.seat c.in-Held.ensures.claim.1 c.in_ok-stamped.ensures.done.put_back

@@ -42,7 +42,8 @@ module _ {T : Type 0} (table : T → Table) (board : Board T) where
   pub taken_none : (g : Gathered T) → HasGathered table board g → HasTakenIn table board 0 g g
   taken_none g is = record { gathered = is; parts = omega arith; halted = refl; ends = λ some. absurd (omega (arith, some)) }
 
-  pub taken_more : (k : ℕ) (start old new : Gathered T) → HasTakenIn table board k start old → HasTakenIn table board 1 old new → HasTakenIn table board (k + 1) start new
+  pub taken_more : (k : ℕ) (start old new : Gathered T)
+      → HasTakenIn table board k start old → HasTakenIn table board 1 old new → HasTakenIn table board (k + 1) start new
   taken_more k start old new so_far one = record {
     gathered = one.gathered;
     parts = omega (arith, one.parts, so_far.parts);

@@ -6,4 +6,5 @@ loop-i-init g c = taken_none g.T.MemoryTable.table c.args.shift.now.shop.board c
 
 pub loop-i-preserved : goal.loop-i-preserved
 loop-i-preserved g c =
-    taken_more g.T.MemoryTable.table c.args.shift.now.shop.board c.loop-i.i c.args.gathered.now c.loop-i.gathered c.take_one.new.gathered c.loop-i.invariant c.in_ok-take_one.ensures
+    taken_more g.T.MemoryTable.table c.args.shift.now.shop.board c.loop-i.i c.args.gathered.now c.loop-i.gathered c.take_one.new.gathered
+    c.loop-i.invariant c.in_ok-take_one.ensures

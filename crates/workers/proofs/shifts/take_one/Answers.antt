@@ -15,7 +15,8 @@ write_all-requires g c =
     let more = returned_records table board c.args.returned c.in_ok-outcome.field-0 c.requires.returned c.in_ok-outcome.was in
     record {
       within = subst (All (λ s. s.index < length records)) (sym c.deref.ensures.value)
-          (all_within (plan_of table board) records c.in_ok-outcome.field-0.items (ap length c.deref_mut.ensures.value ∙ c.requires.gathered.records.size) more.each);
+          (all_within (plan_of table board) records c.in_ok-outcome.field-0.items
+          (ap length c.deref_mut.ensures.value ∙ c.requires.gathered.records.size) more.each);
     }
 
 pub returns : goal.returns
@@ -26,4 +27,5 @@ returns g c =
     with_items_is old.records c.write_all.new.records (c.write_all.auto.records ∙ c.deref_mut.ensures.len)
     ∙ c.write_all.ensures
     ∙ (λ i. with_records (c.deref_mut.ensures.value i) (c.deref.ensures.value i)) in
-    taken_one g.T.MemoryTable.table c.args.board.now old new c.args.returned c.in_ok-outcome.field-0 c.requires.gathered c.requires.returned c.in_ok-outcome.was c.join.ensures.seat c.join.ensures.joined written
+    taken_one g.T.MemoryTable.table c.args.board.now old new c.args.returned c.in_ok-outcome.field-0
+    c.requires.gathered c.requires.returned c.in_ok-outcome.was c.join.ensures.seat c.join.ensures.joined written

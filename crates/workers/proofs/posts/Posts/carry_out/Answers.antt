@@ -1,5 +1,19 @@
-use Rattle.workers.proofs.Common.{arith}
+use Rattle.workers.proofs.Common.{◌≡◌, Result, Ok, IfOk, MatchResult, arith, subst, ◌∙◌}
+use Rattle.std.specs.Prelude.{Err, IsOkUnless}
+use Rattle.bench_types.specs.declared.faults.Fault.{Fault}
+use Rattle.bench_types.specs.declared.faults.Fault.TheVariants.{OutOfMemory}
+use Rattle.workers.specs.inner.Joined.{IsEndOf}
+use Rattle.workers.specs.inner.Outcomes.{ComesTo}
 use Rattle.workers.proofs.posts.Posts.carry_out.Goals as goal
+
+-- what comes of a call, in two clauses
+where_done : {A : Type 0} {P Q : A → Type 0} (result : Result A Fault) → ((a : A) → P a → Q a) → ComesTo result P → IfOk result Q
+where_done (Ok a) turns comes = turns a comes
+where_done (Err _) turns comes = tt
+
+only_memory : {A : Type 0} (P : A → Type 0) (result : Result A Fault) → ComesTo result P → IsOkUnless result OutOfMemory
+only_memory P (Ok _) comes = tt
+only_memory P (Err _) comes = comes
 
 pub share_out-requires-clause-start : goal.share_out-requires-clause-start
 share_out-requires-clause-start g c _ _ =
@@ -10,3 +24,21 @@ share_out-requires-clause-start g c _ _ =
       several = opened.begun.several;
       trays = omega (arith, opened.trays, opened.begun.tasks.one_each);
     }
+
+pub returns-clause-done : goal.returns-clause-done
+returns-clause-done g c =
+    let opened = c.in_ok-opened.ensures in
+    where_done c.share_out.result (λ done out. record {
+      exchanged = subst (λ plan. IsEndOf g.T.MemoryTable.table plan done.tables.items done.records.items) opened.begun.seated.made out.closed.ended;
+      shared = out.closed.shared ∙ opened.shared;
+      made = out.made;
+    }) c.share_out.ensures
+
+pub returns-clause-only : goal.returns-clause-only
+returns-clause-only g c = only_memory _ c.share_out.result c.share_out.ensures
+
+pub returns-then-self-eq1-clause-done : goal.returns-then-self-eq1-clause-done
+returns-then-self-eq1-clause-done g c = where_done c.carry_out_alone.result (λ _ done. done) c.carry_out_alone.ensures
+
+pub returns-then-self-eq1-clause-only : goal.returns-then-self-eq1-clause-only
+returns-then-self-eq1-clause-only g c = only_memory _ c.carry_out_alone.result c.carry_out_alone.ensures

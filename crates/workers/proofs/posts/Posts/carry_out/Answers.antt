@@ -1,19 +1,7 @@
-use Rattle.workers.proofs.Common.{◌≡◌, Result, Ok, IfOk, MatchResult, arith, subst, ◌∙◌}
-use Rattle.std.specs.Prelude.{Err, IsOkUnless}
-use Rattle.bench_types.specs.declared.faults.Fault.{Fault}
-use Rattle.bench_types.specs.declared.faults.Fault.TheVariants.{OutOfMemory}
+use Rattle.workers.proofs.Common.{arith, subst, ◌∙◌}
+use Rattle.workers.proofs.Outcomes.{only_memory, where_done}
 use Rattle.workers.specs.inner.Joined.{IsEndOf}
-use Rattle.workers.specs.inner.Outcomes.{ComesTo}
 use Rattle.workers.proofs.posts.Posts.carry_out.Goals as goal
-
--- what comes of a call, in two clauses
-where_done : {A : Type 0} {P Q : A → Type 0} (result : Result A Fault) → ((a : A) → P a → Q a) → ComesTo result P → IfOk result Q
-where_done (Ok a) turns comes = turns a comes
-where_done (Err _) turns comes = tt
-
-only_memory : {A : Type 0} (P : A → Type 0) (result : Result A Fault) → ComesTo result P → IsOkUnless result OutOfMemory
-only_memory P (Ok _) comes = tt
-only_memory P (Err _) comes = comes
 
 pub share_out-requires-clause-start : goal.share_out-requires-clause-start
 share_out-requires-clause-start g c _ _ =

@@ -76,7 +76,6 @@ pub struct Progress {
 }
 
 /// The tables of all nodes, which threads take out two at a time and put back.
-#[derive(Drop)]
 pub struct Board<T: MemoryTable> {
     table: Table<Option<T>, View, BoardKey<T>, Order<T>, Global>,
     deps: Deps,
@@ -86,6 +85,17 @@ pub struct Board<T: MemoryTable> {
     ghost words: { table.shared.table_id.words ≡ length deps.exchanges + 1 },
     ghost slots: { table.shared.table_id.slots ≡ deps.nodes },
     ghost roomy: { (room.items ≡ []) × (deps.nodes ≤ vec_capacity room) },
+}
+
+// Written out: a derived drop is proved once more in each crate that lets a board go.
+impl<T: MemoryTable> Drop for Board<T> {
+    fn drop(self) {
+        let Board {
+            table: _,
+            deps: _,
+            room: _,
+        } = self;
+    }
 }
 
 impl<T: MemoryTable> Board<T> {

@@ -83,10 +83,19 @@ pub struct Shared<S: Parted> {
 }
 
 /// The job of one thread: to look at a part, and to leave what it finds in a tray.
-#[derive(Drop)]
 pub struct LookJob<S: Parted> {
     shared: Arc<Shared<S>>,
     place: usize,
+}
+
+// Written out: a derived drop is proved once more in each crate that lets a job go.
+impl<S: Parted> Drop for LookJob<S> {
+    fn drop(self) {
+        let LookJob {
+            shared: _,
+            place: _,
+        } = self;
+    }
 }
 
 impl<S: Parted> Model for LookJob<S> {
@@ -129,11 +138,11 @@ pub fn look_in_parts<S: Parted, C: Crew<LookJob<S>>, R: Wait>(
     let jobs = looks_of(alloc, &shared, count)?;
     crew.carry_out_jobs(rt, jobs);
     let answers = take_all(rt, &shared, answers, count);
-    let Shared { divided, trays: _ } = alone(rt, shared);
-    Ok(Answered {
-        whole: divided.whole,
-        answers,
-    })
+    let Shared {
+        divided: Divided { whole, bounds: _ },
+        trays: _,
+    } = alone(rt, shared);
+    Ok(Answered { whole, answers })
 }
 
 // What the threads of a divided value share.

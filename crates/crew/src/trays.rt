@@ -44,10 +44,16 @@ impl<S, V> Play<S, V> for Shut {
 }
 
 /// So many trays. A thread leaves a value in one, and another takes it out.
-#[derive(Drop)]
 pub struct Trays<X, P: Label<X>> {
     table: Table<Option<X>, Snapshot<P>, Snapshot<P>, Keeping<P>, Global>,
     ghost even: { table.shared.table_id.words ≡ table.shared.table_id.slots },
+}
+
+// Written out: a derived drop is proved once more in each crate that lets trays go.
+impl<X: Drop, P: Label<X>> Drop for Trays<X, P> {
+    fn drop(self) {
+        let Trays { table: _ } = self;
+    }
 }
 
 impl<X: Drop, P: Label<X>> Trays<X, P> {

@@ -44,7 +44,6 @@ struct Way {
 }
 
 /// Where a worker finds exchanges to try: its own deque, and those of the others.
-#[derive(Drop)]
 pub struct Tasks {
     own: Worker<u32, Global, PushLog, Logged>,
     // What it has just made ready, if anything, which lies in its deque too: the tables are still in its core's caches.
@@ -52,6 +51,17 @@ pub struct Tasks {
     // In the order in which it steals from them.
     others: Vec<Way>,
     ghost in_order: { worker_flavor own ≡ 0 },
+}
+
+// Written out: a derived drop is proved once more in each crate that lets one go.
+impl Drop for Tasks {
+    fn drop(self) {
+        let Tasks {
+            own: _,
+            at_hand: _,
+            others: _,
+        } = self;
+    }
 }
 
 impl Way {

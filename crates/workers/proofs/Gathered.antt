@@ -1,5 +1,5 @@
 -- Records that are written to the places of their exchanges.
--- Serves `with_more`, `write_all` and `Joining`.
+-- Serves `take_one`, `write_all` and `Joining`.
 use Rattle.workers.proofs.Common.{◌≡◌, ◌≢◌, ℕ, zero, suc, ◌+◌, ◌<◌, ◌⊎◌, List, [], ◌∷◌, length, map, drop, get_or, set, All, All-head, All-tail, All-weaker, inl, inr, refl, ap, sym, ◌∙◌, arith, add-one, Some, slice_get, cases_eq, length-set, Record, BoardPlan, exchanged_at, Has, only-other}
 use Rattle.workers.specs.declared.gathering.Stamped.{Stamped}
 use Rattle.workers.specs.inner.Stamps.{with_records}

@@ -1,11 +1,11 @@
 -- Seats and records of workers, taken in one after another.
--- Serves `with_more`.
-use Rattle.workers.proofs.Common.{◌≡◌, ℕ, ◌+◌, ◌≤◌, ◌⊎◌, Bool, true, false, ◌||◌, if◌then◌else◌, List, ◌++◌, length, inl, inr, refl, sym, ap, ◌∙◌, subst, arith, Result, Ok, IfOk, MatchResult, OutOfMemory, Vec, nat_le, Global, nat_tests, cases_lt, or_right, Fault, Table, SeatView, joined, BoardPlan, plan_of, seat_view, IsSeatOf, Board, Record, Has, times, only, total-append}
+-- Serves `take_all` and `take_one`.
+use Rattle.workers.proofs.Common.{◌≡◌, ℕ, ◌+◌, ◌≤◌, ◌⊎◌, Bool, true, false, ◌||◌, if◌then◌else◌, List, ◌++◌, length, inl, inr, refl, sym, ap, ◌∙◌, subst, arith, Ok, IfOk, Vec, nat_le, Global, nat_tests, cases_lt, or_right, Table, SeatView, joined, BoardPlan, plan_of, seat_view, IsSeatOf, Board, Record, Has, times, only, total-append}
 use Rattle.workers.specs.declared.gathering.Stamped.{Stamped}
 use Rattle.workers.specs.inner.Stamps.{with_records}
 use Rattle.workers.specs.inner.Gathering.{HoldsRecords, HasGathered}
 use Rattle.workers.specs.inner.Returns.{AreRecordsOf, HasNoMoreToDo, IsReturned}
-use Rattle.workers.specs.inner.Joined.{HasTakenIn, HasTakenOneIn}
+use Rattle.workers.specs.inner.Joined.{HasTakenIn}
 use Rattle.workers.specs.declared.gathering.Gathered.{Gathered}
 use Rattle.workers.specs.declared.workers.Returned.{Returned}
 use Rattle.workers.proofs.Gathered.{stands_written, length-with_records}
@@ -35,30 +35,21 @@ module _ (plan : BoardPlan) (old part : SeatView) where
   }
 
 module _ {T : Type 0} (table : T → Table) (board : Board T) where
-  pub gathered_in : (before : Result (Gathered T) Fault) (old : Gathered T) → before ≡ Ok old → MatchResult before (HasGathered table board) (λ f. f ≡ OutOfMemory) → HasGathered table board old
-  gathered_in before old was all = subst (λ r. MatchResult r (HasGathered table board) (λ f. f ≡ OutOfMemory)) was all
-
   pub returned_records : (returned : Returned T) (stamps : Vec Stamped Global) → IsReturned table board 1 returned → returned.outcome ≡ Ok stamps → AreRecordsOf (plan_of table board) (seat_view returned.seat) stamps.items
   returned_records returned stamps back was =
       (subst (λ r. IfOk r (λ (v : Vec Stamped Global). AreRecordsOf (plan_of table board) (seat_view returned.seat) v.items × HasNoMoreToDo (plan_of table board) (seat_view returned.seat))) was back.records).0
 
-  pub taken_none : (n : ℕ) (g : Gathered T) → n ≡ 0 → HasGathered table board g → HasTakenIn table board n g g
-  taken_none n g none is = record {
-    gathered = is;
-    parts = omega arith;
-    halted = refl;
-    ends = λ some. absurd (omega (arith, some, none));
-  }
+  pub taken_none : (g : Gathered T) → HasGathered table board g → HasTakenIn table board 0 g g
+  taken_none g is = record { gathered = is; parts = omega arith; halted = refl; ends = λ some. absurd (omega (arith, some)) }
 
-  pub taken_more : (k n : ℕ) (start : Gathered T) (before : Result (Gathered T) Fault) (new : Gathered T) → n ≡ k + 1 → IfOk before (HasTakenIn table board k start) → HasTakenOneIn table board before new → HasTakenIn table board n start new
-  taken_more k n start before new next so_far one =
-      let old = subst (λ r. IfOk r (HasTakenIn table board k start)) one.was so_far in
-      record {
-        gathered = one.joined.gathered;
-        parts = omega (arith, next, one.joined.parts, old.parts);
-        halted = one.joined.halted ∙ old.halted;
-        ends = λ some. one.joined.ends (omega arith);
-      }
+  pub taken_more : (k : ℕ) (start old new : Gathered T)
+      → HasTakenIn table board k start old → HasTakenIn table board 1 old new → HasTakenIn table board (k + 1) start new
+  taken_more k start old new so_far one = record {
+    gathered = one.gathered;
+    parts = omega (arith, one.parts, so_far.parts);
+    halted = one.halted ∙ so_far.halted;
+    ends = λ some. one.ends (omega arith);
+  }
 
   pub taken_one : (old new : Gathered T) (returned : Returned T) (stamps : Vec Stamped Global) → HasGathered table board old → IsReturned table board 1 returned → returned.outcome ≡ Ok stamps
       → IsSeatOf table new.seat board → seat_view new.seat ≡ joined (seat_view old.seat) (seat_view returned.seat) → new.records.items ≡ with_records old.records.items stamps.items → HasTakenIn table board 1 old new

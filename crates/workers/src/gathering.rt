@@ -38,7 +38,9 @@ const NO_RECORD: Record = Record {
 pub(crate) fn places(alloc: Global, n: u32) -> Result<Vec<Record>, Fault>
     ensures { ComesTo result (λ records. length records.items ≡ n) }
 {
-    Ok(vec![in alloc; NO_RECORD; n as usize]?)
+    vec![in alloc; NO_RECORD; n as usize]
+        .ok()
+        .ok_or(Fault::OutOfMemory)
 }
 
 /// Writes each record to the place of its exchange.

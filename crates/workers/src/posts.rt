@@ -151,12 +151,7 @@ impl<T: MemoryTable, X: Exchanging<T> + Drop, G: Gate + Drop, J: Job> Posts<T, X
     {
         let Opened { shift, start } = opened;
         let (gathered, tasks) = hand_out(self.alloc, &shift, start)?;
-        let own = self.give_all(rt, tasks);
-        let made = meanwhile();
-        for task in own {
-            task.carry_out(rt);
-        }
-        self.yard.wait(rt);
+        let made = self.work_on(rt, tasks, meanwhile);
         let (tables, records, shared) = close(rt, shift, gathered, self.workers as usize)?;
         Ok(Done {
             tables,
@@ -194,14 +189,27 @@ impl<T: MemoryTable, X: Exchanging<T> + Drop, G: Gate + Drop, J: Job> Posts<T, X
         })
     }
 
-    // What is left is the caller's.
-    fn give_all<R: Wait>(&self, rt: &R, mut tasks: Vec<Task<T, X, G>>) -> Vec<Task<T, X, G>> {
+    // The tasks by all workers. What is left for the caller comes after `meanwhile`.
+    fn work_on<R: Wait, F: FnOnce() -> M + Drop, M: Drop>(
+        &self,
+        rt: &R,
+        mut tasks: Vec<Task<T, X, G>>,
+        meanwhile: F,
+    ) -> M
+        requires { F.pre meanwhile }
+        ensures { F.post meanwhile result }
+    {
         for i in 0..self.threads as usize {
             if let Some(task) = tasks.pop() {
                 self.yard.give(rt, i, Duty::List(task));
             }
         }
-        tasks
+        let made = meanwhile();
+        for task in tasks {
+            task.carry_out(rt);
+        }
+        self.yard.wait(rt);
+        made
     }
 }
 
@@ -285,15 +293,14 @@ impl<
     {
         let yard = &self.yard;
         for i in 0..self.threads as usize {
-            let started = scope.spawn(
+            let Ok(_thread) = scope.spawn(
                 move ||
                     requires { i < post_count yard.now }
                 { serve(rt, yard, i) },
-            );
-            if started.is_err() {
+            ) else {
                 yard.send_home(rt, i);
                 return Err(Fault::NoThread);
-            }
+            };
         }
         Ok(())
     }

@@ -13,7 +13,7 @@ ghost use Rattle.workers.specs.inner.Returns.{IsReturned};
 ghost use Rattle.workers.specs.inner.Shifts.{HasGivenPart, IsShift, MayGivePart};
 ghost use Rattle.workers.specs.inner.Starts.{AreTraysOf, HasBegun, HasDealt, HasOpened, IsSeated, IsShared};
 ghost use Rattle.workers.specs.inner.Works.{AreSeveral, MayShareOut};
-ghost use Rattle.workers.specs.inner.Joined.{HasClosed, HasTakenIn, HasTakenOneIn, HasSeenAll, IsEndOf};
+ghost use Rattle.workers.specs.inner.Joined.{HasClosed, HasTakenIn, HasSeenAll, IsEndOf};
 
 use crate::gathering::{Gathered, places, write_all};
 use crate::tasks::{Back, Shift, Task};
@@ -100,7 +100,9 @@ fn trays_of<T: MemoryTable>(
     ensures { ComesTo result (AreTraysOf board.now workers) }
 {
     let back = Back(Snapshot::of(board));
-    Ok(Trays::new(alloc, workers as usize, &back)?)
+    Trays::new(alloc, workers as usize, &back)
+        .ok()
+        .ok_or(Fault::OutOfMemory)
 }
 
 // A board of the list and the tables, and what its workers begin with.
@@ -187,17 +189,19 @@ fn task_of<T: MemoryTable, X: Exchanging<T> + Drop, G: Gate + Drop>(
 pub(crate) fn close<T: MemoryTable, X: Exchanging<T> + Drop, G: Gate + Drop, R: Wait>(
     rt: &R,
     shift: Arc<Shift<T, X, G>>,
-    gathered: Gathered<T>,
+    mut gathered: Gathered<T>,
     workers: usize,
 ) -> Result<(Vec<T>, Vec<Record>, X), Fault>
     requires { HasHandedOut T.table X.fits (arc_value shift) workers gathered }
     ensures { ComesTo result (λ p. HasClosed T.table (arc_value shift) p.0.items p.1.items p.2) }
 {
-    let mut gathered = take_all(rt, &shift, gathered, workers)?;
+    take_all(rt, &shift, &mut gathered, workers)?;
     // A whole seat, so it learns that all exchanges are put back.
     shift.shop.board.look(&mut gathered.seat);
-    let Shift { shop, trays: _ } = alone(rt, shift);
-    let Workshop { board, shared, .. } = shop;
+    let Shift {
+        shop: Workshop { board, shared, .. },
+        trays: _,
+    } = alone(rt, shift);
     let (tables, records) = end(board, gathered);
     Ok((tables, records, shared))
 }
@@ -206,37 +210,35 @@ pub(crate) fn close<T: MemoryTable, X: Exchanging<T> + Drop, G: Gate + Drop, R: 
 fn take_all<T: MemoryTable, X: Exchanging<T>, G, R: Wait>(
     rt: &R,
     shift: &Shift<T, X, G>,
-    gathered: Gathered<T>,
+    gathered: &mut Gathered<T>,
     workers: usize,
-) -> Result<Gathered<T>, Fault>
+) -> Result<(), Fault>
     requires shift { IsShift T.table X.fits shift.now }
-    requires gathered { HasGathered T.table shift.now.shop.board gathered }
+    requires gathered { HasGathered T.table shift.now.shop.board gathered.old }
     requires within { workers ≤ tray_count shift.now.trays }
-    ensures { ComesTo result (HasTakenIn T.table shift.now.shop.board workers gathered) }
+    ensures { ComesTo result (λ _. HasTakenIn T.table shift.now.shop.board workers gathered.old gathered.new) }
 {
-    let mut all = Ok(gathered);
     for i in 0..workers {
         let returned = shift.trays.wait_for(rt, i);
-        all = with_more(&shift.shop.board, all, returned);
+        take_one(&shift.shop.board, gathered, returned)?;
     }
-    all
+    Ok(())
 }
 
 // Joins the seat of a worker, and writes its records to their places.
-fn with_more<T: MemoryTable>(
+fn take_one<T: MemoryTable>(
     board: &Board<T>,
-    all: Result<Gathered<T>, Fault>,
+    gathered: &mut Gathered<T>,
     returned: Returned<T>,
-) -> Result<Gathered<T>, Fault>
-    requires all { ComesTo all (HasGathered T.table board.now) }
+) -> Result<(), Fault>
+    requires gathered { HasGathered T.table board.now gathered.old }
     requires returned { IsReturned T.table board.now 1 returned }
-    ensures { ComesTo result (HasTakenOneIn T.table board.now all) }
+    ensures { ComesTo result (λ _. HasTakenIn T.table board.now 1 gathered.old gathered.new) }
 {
-    let mut gathered = all?;
     let Returned { seat, outcome } = returned;
     write_all(&mut gathered.records, &outcome?);
     board.join(&mut gathered.seat, seat);
-    Ok(gathered)
+    Ok(())
 }
 
 // The tables and the records of a board whose exchanges a whole seat has seen to be put back.

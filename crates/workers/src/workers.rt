@@ -134,10 +134,13 @@ impl<T: MemoryTable, X: Exchanging<T>, G: Gate> Workshop<T, X, G> {
         let index = hold.index;
         let plan = self.board.exchange(index);
         self.gate.enter(index);
-        let (initiator, responder) = (&mut hold.initiator, &mut hold.responder);
-        let outcome = self
-            .shared
-            .exchange(self.alloc, initiator, responder, &plan, &self.rules)?;
+        let outcome = self.shared.exchange(
+            self.alloc,
+            &mut hold.initiator,
+            &mut hold.responder,
+            &plan,
+            &self.rules,
+        )?;
         let freed = self.board.put_back(seat, hold);
         self.gate.leave(index);
         Ok((Stamped { index, outcome }, freed))

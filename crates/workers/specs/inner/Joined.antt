@@ -1,6 +1,5 @@
 -- What comes back of workers. Source: this project.
-use Rattle.std.specs.Prelude.{◌≡◌, ℕ, ◌+◌, ◌<◌, ◌≤◌, ◌⊎◌, true, List, length, map, Result, Ok}
-use Rattle.bench_types.specs.declared.faults.Fault.{Fault}
+use Rattle.std.specs.Prelude.{◌≡◌, ℕ, ◌+◌, ◌<◌, ◌≤◌, ◌⊎◌, true, List, length, map}
 use Rattle.bench_types.specs.declared.exchanges.Record.{Record}
 use Rattle.model.specs.Table.{Table}
 use Rattle.model.specs.Folds.{fold_of}
@@ -19,12 +18,6 @@ pub record HasTakenIn {T : Type 0} (table : T → Table) (board : Board T) (work
   pub parts : (seat_view new.seat).parts ≡ (seat_view old.seat).parts + workers
   pub halted : (seat_view new.seat).is_halted ≡ (seat_view old.seat).is_halted
   pub ends : 0 < workers → (length (exchanges_of board) ≤ (seat_view new.seat).seen) ⊎ ((seat_view new.seat).is_stopped ≡ true)
-
--- and that of one more was
-pub record HasTakenOneIn {T : Type 0} (table : T → Table) (board : Board T) (before : Result (Gathered T) Fault) (new : Gathered T) : Type 0 where
-  pub old : Gathered T
-  pub was : before ≡ Ok old
-  pub joined : HasTakenIn table board 1 old new
 
 -- a whole seat has seen that all exchanges are finished, and has their records
 pub record HasSeenAll {T : Type 0} (table : T → Table) (board : Board T) (gathered : Gathered T) : Type 0 where

@@ -6,7 +6,7 @@ pub returns : goal.returns
 returns g c =
     let looked : c.deref.result.now.divided ≡ c.args.divided = ap (λ s. s.divided) c.deref.ensures ∙ c.in_ok-shared.ensures.divided in
     record {
-      whole = ap (λ s. s.divided.whole) c.alone-divided.ensures ∙ ap (λ d. d.whole) c.in_ok-shared.ensures.divided;
+      whole = ap (λ s. s.divided.whole) c.alone-whole.ensures ∙ ap (λ d. d.whole) c.in_ok-shared.ensures.divided;
       one_each = omega (arith, c.take_all-answers.ensures.count, c.len-count.ensures, c.requires.some, c.args.divided.bounds.ok.0);
       each = subst (λ d. HoldsAnswers g.S.Parted.tells d.whole d.bounds.items c.take_all-answers.result.items) looked c.take_all-answers.ensures.each;
     }

@@ -40,3 +40,22 @@ returns-clause-handed g c =
       some = omega (arith, start.several.0);
       trays = start.trays;
     }
+
+pub loop-own-init : goal.loop-own-init
+loop-own-init g c =
+    let seat = c.requires.start.seat in
+    let handed = c.in_ok-handed.ensures in
+    let all = c.into_iter-own-iterator.ensures.into_iter_gives.1 in
+    record {
+      seat = record { of_board = seat.has.of_board; made = ap (λ (v : SeatView). v.made) seat.first; unhalted = ap (λ (v : SeatView). v.is_halted) seat.first };
+      parts = omega (arith, ap (λ (v : SeatView). v.parts) seat.first, handed.len);
+      count = omega (arith, handed.len);
+      room = omega (arith, handed.capacity, c.len.ensures, all);
+    }
+
+pub push_reserved-requires : goal.push_reserved-requires
+push_reserved-requires g c = omega (arith, c.loop-own.invariant.room, c.loop-own.invariant.count, c.in-Some.ensures.steps.1)
+
+pub returns-clause-one_each : goal.returns-clause-one_each
+returns-clause-one_each g c =
+    omega (arith, c.loop-own.invariant.count, c.in-None.ensures.steps.0, c.into_iter-own-iterator.ensures.into_iter_gives.1)

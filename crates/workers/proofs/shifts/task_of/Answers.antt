@@ -22,3 +22,7 @@ returns g c =
     let unhalted = ap (λ (v : SeatView). v.is_halted) split.left ∙ c.requires.fresh.unhalted in
     let parts = ap (λ (v : SeatView). v.parts) split.left in
     record { fresh = record { of_board = of_board; made = made; unhalted = unhalted }; parts = omega (arith, parts, c.requires.parts) }
+
+pub split-part-requires-clause-seat : goal.split-part-requires-clause-seat
+split-part-requires-clause-seat g c =
+    subst (λ s. IsSeatOf g.T.MemoryTable.table c.args.seat.now s.shop.board) (sym c.deref.ensures) c.requires.fresh.of_board

@@ -8,4 +8,4 @@ close-requires-after_bounds g c _ _ =
     (c.requires.one_each ∙ sym c.self.view_is) c.in_ok-gathered.ensures.handed
 
 pub returns : goal.returns
-returns g c = record { closed = c.in_ok-tables.ensures; made = c.meanwhile-made.ensures }
+returns g c = record { closed = c.in_ok-tables.ensures; made = c.work_on-made.ensures }

@@ -1,4 +1,4 @@
-use Rattle.workers.proofs.Common.{◌≡◌, ℕ, ◌⊎◌, Bool, true, false, [], length, ◌++◌, append_assoc, append-nil, inl, inr, refl, rules, sym, ap, subst, ◌∙◌, Table, SeatView, BoardPlan, plan_of, seat_view, Board, IsSeatOf}
+use Rattle.workers.proofs.Common.{◌≡◌, ℕ, ◌⊎◌, Bool, true, false, arith, [], length, ◌++◌, append_assoc, append-nil, inl, inr, refl, rules, sym, ap, subst, ◌∙◌, Table, SeatView, BoardPlan, plan_of, seat_view, Board, IsSeatOf}
 use Rattle.board.specs.SeatView.{having_seen}
 use Rattle.board.specs.declared.boards.Seat.{Seat}
 use Rattle.deques.specs.Pushes.{pushed}
@@ -144,3 +144,19 @@ returns-clause-stays g c =
           subst (StaysAtWork table board old) (sym w.worker-is)
           (still_stays table board old c.loop.worker look.new.seat c.loop.worker.tasks _ _ look.ensures.seat look.ensures.progress.0 stays)
     ]
+
+pub try_one-requires-clause-within : goal.try_one-requires-clause-within
+try_one-requires-clause-within g c _ _ = omega (arith, c.in-Some-next.ensures.within, c.len-count.ensures)
+
+pub try_one-requires-clause-shop : goal.try_one-requires-clause-shop
+try_one-requires-clause-shop g c _ _ = c.requires.shop
+
+pub returns-in_err-try_one-clause-stays : goal.returns-in_err-try_one-clause-stays
+returns-in_err-try_one-clause-stays g c =
+    let looked = c.look-progress.ensures in
+    let table = g.T.MemoryTable.table in
+    let board = c.args.self.now.board in
+    let old = c.args.worker.now in
+    stays_on table board old _ c.try_one.new.worker
+    (still_stays table board old c.loop.worker c.look-progress.new.seat c.next-in-loop.new.self _ _ looked.seat looked.progress.0 c.loop.invariant.stays)
+    c.try_one.ensures.stays

@@ -1,11 +1,14 @@
-use Rattle.workers.proofs.Common.{◌≡◌, ℕ, List, [], ◌∷◌, ◌++◌, map, All, sym, ap, ◌∙◌, subst, append_assoc, map-append, All-push, SeatView, BoardPlan, Freed, as_list, plan_of, seat_view, Table, Board, IsHoldOf, IsSeatOf, now_held}
-use Rattle.board.specs.Boards.{IsPutBack}
+use Rattle.workers.proofs.Common.{◌≡◌, ℕ, List, [], ◌∷◌, ◌++◌, map, All, refl, sym, ap, ◌∙◌, subst, append_assoc, append-nil, map-append, All-push, SeatView, BoardPlan, Freed, Hold, as_list, plan_of, seat_view, Table, Board, IsHoldOf, IsSeatOf, now_held}
+use Rattle.board.specs.declared.boards.Claim.{Claim}
+use Rattle.board.specs.declared.boards.Claim.TheVariants.{Held, NotReady, Taken}
+use Rattle.board.specs.declared.boards.Seat.{Seat}
+use Rattle.board.specs.Boards.{Claims, IsPutBack}
 use Rattle.board.specs.SeatView.{with_held}
 use Rattle.workers.specs.declared.gathering.Stamped.{Stamped}
 use Rattle.deques.specs.Pushes.{pushed}
 use Rattle.workers.specs.declared.workers.Worker.{Worker}
-use Rattle.workers.specs.inner.AtWork.{StaysAtWork}
-use Rattle.workers.specs.inner.Returns.{HasDone, IsRecordOf, AreRecordsOf}
+use Rattle.workers.specs.inner.AtWork.{HasWorked, StaysAtWork}
+use Rattle.workers.specs.inner.Returns.{HasDone, HasRecords, IsRecordOf, AreRecordsOf}
 use Rattle.workers.proofs.workers.Workshop.try_one.Goals as goal
 
 -- what was put behind twice was put behind together
@@ -42,6 +45,30 @@ stays_done j of_board held put_back = record {
   parts = ap (λ (v : SeatView). v.parts) put_back.seat ∙ ap (λ (v : SeatView). v.parts) held;
   is_halted = ap (λ (v : SeatView). v.is_halted) put_back.seat ∙ ap (λ (v : SeatView). v.is_halted) held;
 }
+
+-- a claim that is refused leaves a worker as it was, but for what its seat was told
+module _ {T : Type 0} (table : T → Table) (board : Board T) (old : Worker T) (seat : Seat T) where
+  abbrev new : Worker T
+  new = record old { seat = seat }
+
+  abbrev Idles : Type 0
+  Idles = record { stays : StaysAtWork table board old new; worked : HasWorked table board old new }
+
+  idle : IsSeatOf table seat board → (told : List ℕ) → seat_view seat ≡ record (seat_view old.seat) { told = told }
+      → HasRecords table board old.seat old.stamps.items → Idles
+  idle of_board told same records = record {
+    stays = record { of_board = of_board; parts = ap (λ (v : SeatView). v.parts) same; is_halted = ap (λ (v : SeatView). v.is_halted) same };
+    worked = record {
+      records = record { made = records.made ∙ sym (ap (λ (v : SeatView). v.made) same); each = records.each };
+      pushes = record { ready = []; freed = ap (λ (v : SeatView). v.freed) same ∙ sym (append-nil _); pushed = sym (append-nil _) };
+    };
+  }
+
+  not_held : (i : ℕ) (claim : Claim T) → ((hold : Hold T) → claim ≡ Held hold → ⊥) → IsSeatOf table seat board
+      → Claims table (plan_of table board) (seat_view old.seat) i claim (seat_view seat) → HasRecords table board old.seat old.stamps.items → Idles
+  not_held i (Held hold) not_so of_board came records = absurd (not_so hold refl)
+  not_held i Taken not_so of_board came records = idle of_board _ came.0 records
+  not_held i NotReady not_so of_board came records = idle of_board _ came.0 records
 
 pub carry_out-requires-clause-hold : goal.carry_out-requires-clause-hold
 carry_out-requires-clause-hold g c =
@@ -85,4 +112,12 @@ returns-in_err-push_freed-clause-stays g c =
 
 pub returns-clause-stays : goal.returns-clause-stays
 returns-clause-stays g c =
+    stays_done c.args.i c.carry_out.ensures.seat c.in-Held.ensures.claim.1 c.in_ok-stamped.ensures.done.put_back
+
+pub returns-in_default : goal.returns-in_default
+returns-in_default g c = not_held g.T.MemoryTable.table c.args.self.now.board c.args.worker.now c.claim.new.seat c.args.i c.claim.result c.in_default.not-Held
+    c.claim.ensures.seat c.claim.ensures.claim c.requires.worker.records
+
+pub returns-in_err-push-clause-stays : goal.returns-in_err-push-clause-stays
+returns-in_err-push-clause-stays g c =
     stays_done c.args.i c.carry_out.ensures.seat c.in-Held.ensures.claim.1 c.in_ok-stamped.ensures.done.put_back

@@ -111,8 +111,14 @@ impl<
         let rt = resources.rt;
         let alloc = resources.alloc;
         let processors = resources.hands.processors;
-        let posts: Posts<T, K, G, K::Job> = Posts::apart(alloc, resources.hands.workers)?;
-        let by = &posts;
+        let posts = match Posts::apart(alloc, resources.hands.workers) {
+            Ok(posts) => posts,
+            Err(fault) => {
+                drop(self.cluster);
+                return Err(fault);
+            }
+        };
+        let by: &Posts<T, K, G, K::Job> = &posts;
         let answer = posts.with_threads(
             rt,
             self,

@@ -19,8 +19,8 @@ failed P workers (Err d) u is done several = subst (λ x. IfErr x (IsFaultOfWork
 pub returns-clause-fault : goal.returns-clause-fault
 returns-clause-fault g c =
     let threads = c.with_threads-answer.ensures in
-    subst (λ n. IfErr c.unwrap_or.result (IsFaultOfWorkers n)) c.in_ok-posts.ensures.workers
-    (failed _ c.in_ok-posts.posts c.with_threads-answer.result c.unwrap_or.result c.unwrap_or.ensures threads.done threads.several)
+    subst (λ n. IfErr c.unwrap_or.result (IsFaultOfWorkers n)) c.in-Ok.ensures.workers
+    (failed _ c.in-Ok.posts c.with_threads-answer.result c.unwrap_or.result c.unwrap_or.ensures threads.done threads.several)
 
 pub returns-clause-played : goal.returns-clause-played
 returns-clause-played g c = played _ _ c.with_threads-answer.result c.unwrap_or.result c.unwrap_or.ensures c.with_threads-answer.ensures.done

@@ -238,8 +238,8 @@ fn end_round<T: MemoryTable, K: RoundHistories<T>, H: Threads + Wait + Sync, C: 
     requires standing { StandAtRoundEnd T.table done.tables.items (K.kept done.shared) }
     requires recorded { length done.records.items ≡ length list.exchanges }
     requires made { IsOkUnless done.made OutOfMemory }
-    ensures ended { IfOk result (λ p. HasEnded T.table K.kept round list done.tables.items done.records.items done.shared
-        done.made p.0 p.1) }
+    ensures ended { IfOk result (λ p. HasEnded T.table K.kept round list done.tables.items done.records.items
+        done.shared done.made p.0 p.1) }
     ensures only { IsOkUnless result OutOfMemory }
 {
     let Done {

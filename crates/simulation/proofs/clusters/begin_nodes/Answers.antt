@@ -1,4 +1,5 @@
-use Rattle.simulation.proofs.Common.{Err, Ok, OnOk, Result, get_or, map, refl, sym, subst, arith, AreWrittenBy, HistoriesView}
+use borrow.Author.Rules.{scaled_fits≤}
+use Rattle.simulation.proofs.Common.{length, length-map, ◌≤◌, Err, Ok, OnOk, Result, get_or, map, refl, sym, subst, arith, AreWrittenBy, HistoriesView}
 use Rattle.simulation.proofs.Begun.{begun_none, before_next, begun_next, begun_all}
 use Rattle.simulation.proofs.Standing.{next_round, still_ended, written_by}
 use Rattle.simulation.specs.calls.Standing.{StandAfterRound}
@@ -7,6 +8,27 @@ use Rattle.simulation.proofs.clusters.begin_nodes.Goals as goal
 
 pub loop-node-init : goal.loop-node-init
 loop-node-init g c = (begun_none c.requires.standing, c.requires.ended)
+
+pub bounds-tables-at : goal.bounds-tables-at
+bounds-tables-at g c =
+    omega (
+      arith,
+      c.loop-node-test.true,
+      c.nodes-node-end.ensures.value,
+      c.loop-node.invariant.0.table_count,
+      length-map c.loop-node.tables g.T.MemoryTable.table,
+    )
+
+pub offset_bounds-tables-at : goal.offset_bounds-tables-at
+offset_bounds-tables-at g c =
+    let room : c.loop-node.node ≤ length c.args.tables.now =
+    omega (
+      arith,
+      c.loop-node-test.true,
+      c.nodes-node-end.ensures.value,
+      c.requires.standing.table_count,
+      length-map c.args.tables.now g.T.MemoryTable.table,
+    ) in search scaled_fits≤
 
 pub begin_node-requires-clause-before : goal.begin_node-requires-clause-before
 begin_node-requires-clause-before g c _ _ = record {

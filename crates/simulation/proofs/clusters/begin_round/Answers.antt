@@ -1,8 +1,13 @@
 use Rattle.std.proofs.lemmas.List.{with_items_is}
-use Rattle.simulation.proofs.Common.{ap, map, refl, subst, sym, ◌∙◌}
+use Rattle.simulation.proofs.Common.{◌-◌, ap, map, refl, subst, sym, ◌∙◌}
 use Rattle.simulation.specs.Rounds.{begun}
 use Rattle.simulation.specs.calls.Standing.{StandAfterRound}
 use Rattle.simulation.proofs.clusters.begin_round.Goals as goal
+
+pub begin-requires-clause-standing : goal.begin-requires-clause-standing
+begin-requires-clause-standing g c _ _ =
+    subst (λ ts. StandAfterRound c.args.scenario.now (c.args.round - 1) (map g.T.MemoryTable.table ts)
+    (g.K.RoundHistories.kept c.args.cluster.histories).lists) (sym c.deref_mut.ensures.value) c.requires.before.standing
 
 pub returns-clause-under_way : goal.returns-clause-under_way
 returns-clause-under_way g c =

@@ -4,4 +4,6 @@ use Rattle.simulation.proofs.clusters.Cluster.new_by.Goals as goal
 
 pub opened-requires-clause-tables : goal.opened-requires-clause-tables
 opened-requires-clause-tables g c _ _ =
-    IfOk-weaker c.empty_tables_by-tables.result _ _ (λ v. opening_of _ c.args.scenario.now _ _ c.in_ok-histories.ensures.begun c.shares_of.ensures.first c.shares_of.ensures.last) c.empty_tables_by-tables.ensures.0
+    IfOk-weaker c.empty_tables_by-tables.result _ _ (λ v.
+    opening_of _ c.args.scenario.now _ _ c.in_ok-histories.ensures.begun c.shares_of.ensures.first c.shares_of.ensures.last)
+    c.empty_tables_by-tables.ensures.0

@@ -1,5 +1,5 @@
 -- How far the nodes have begun their round, by node.
--- Serves `begin`, `Soundness` and `run_laws`.
+-- Serves `begin_nodes`, `Soundness` and `run_laws`.
 use Rattle.simulation.proofs.Common.{◌≡◌, ◌≢◌, ℕ, ◌+◌, ◌-◌, ◌<◌, ◌≤◌, List, length, map, get_or, set, inl, inr, refl, sym, ap, ◌∙◌, subst, arith, cases_eq, get_or-map, length-map, length-set, map-set, length-map-range_with_len, Table, empty_table, with_own_writes, count_before, own_writes, Settings, OwnerListView, list_of_owner, table_of_node, table_of_node-set_same, table_of_node-set_other, table_of_node-made, same_tables}
 use Rattle.simulation.specs.Rounds.{restarted_table, restarted, written_table, begun}
 use Rattle.simulation.specs.inner.Steps.{begun_table, IsNodeBefore, OthersStay}

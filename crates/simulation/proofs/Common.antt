@@ -10,7 +10,7 @@ pub use Rattle.std.proofs.lemmas.List.FromFn.{get_or-map-range_with_len, length-
 pub use Rattle.std.proofs.lemmas.List.Sums.{fold-append}
 pub use Rattle.std.proofs.lemmas.Result.{IfOk-at_ok, IfOk-weaker, on_ok_weaker}
 pub use Rattle.std.specs.List.{range_with_len}
-pub use Rattle.std.specs.Prelude.{Contains, IfSome, Vec, is_none}
+pub use Rattle.std.specs.Prelude.{Contains, IfSome, IsOkAnd, OnOk, Vec, is_none}
 pub use Rattle.std.specs.Result.{IsErrAnd}
 pub use Rattle.std.specs.declared.alloc.Global.{Global}
 pub use Rattle.bench_types.specs.calls.Budget.{IsLawfulBudget}

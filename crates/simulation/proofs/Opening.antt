@@ -1,6 +1,6 @@
 -- The empty tables of a stretch of nodes.
 -- Serves `+rest`, `Cluster::new`, `Cluster::new_by` and `empty_tables`.
-use Rattle.simulation.proofs.Common.{◌≡◌, ℕ, suc, zero, ◌+◌, ◌-◌, ◌≤◌, List, [], ◌∷◌, ◌++◌, length, map, ap, ◌∙◌, sym, arith, range_with_len, map-append, map-range_with_len_more, Table, empty_table, HistoriesView, Settings}
+use Rattle.simulation.proofs.Common.{Err, Fault, Global, IfOk, IsOkAnd, Ok, Result, Vec, ◌≡◌, ℕ, suc, zero, ◌+◌, ◌-◌, ◌≤◌, List, [], ◌∷◌, ◌++◌, length, map, ap, ◌∙◌, sym, arith, range_with_len, map-append, map-range_with_len_more, Table, empty_table, HistoriesView, Settings}
 use Rattle.simulation.specs.Rounds.{opening_tables}
 use Rattle.simulation.specs.inner.InMemory.{empty_tables_in}
 use Rattle.round_histories.specs.Histories.{AreNewHistories}
@@ -40,6 +40,16 @@ module _ (h : HistoriesView) where
       → map table low ≡ empty_tables_in h from mid → map table high ≡ empty_tables_in h mid to → map table all ≡ empty_tables_in h from to
   made_by_both table from mid to low high all le le2 all_is low_is high_is =
       ap (map table) all_is ∙ map-append table low high ∙ (λ i. low_is i ++ high_is i) ∙ joined from mid to le le2
+
+  pub made_in_shares : {T : Type 0} (table : T → Table) (from mid to : ℕ) (low high all : Result (Vec T Global) Fault) → from ≤ mid → mid ≤ to
+      → IfOk all (λ v. IsOkAnd low (λ l. IsOkAnd high (λ k. v.items ≡ l.items ++ k.items)))
+      → IfOk low (λ v. map table v.items ≡ empty_tables_in h from mid) → IfOk high (λ v. map table v.items ≡ empty_tables_in h mid to)
+      → IfOk all (λ v. map table v.items ≡ empty_tables_in h from to)
+  made_in_shares table from mid to low high (Err e) le le2 all_is low_is high_is = tt
+  made_in_shares table from mid to (Err e) high (Ok v) le le2 all_is low_is high_is = absurd all_is
+  made_in_shares table from mid to (Ok l) (Err e) (Ok v) le le2 all_is low_is high_is = absurd all_is
+  made_in_shares table from mid to (Ok l) (Ok k) (Ok v) le le2 all_is low_is high_is =
+      made_by_both table from mid to l.items k.items v.items le le2 all_is low_is high_is
 
   -- those of all nodes
   pub opening_of : {ts : List Table} (s : Settings) (from to : ℕ) → AreNewHistories s.nodes s.keys h → from ≡ 0 → to ≡ s.nodes

@@ -1,23 +1,25 @@
 //! All nodes' tables and the histories of their owners, and how a round changes them.
 
-ghost use Rattle.std.specs.Prelude.{◌≡◌, ◌+◌, ◌-◌, ◌≤◌, ◌&&◌, nat_lt, true, length, map, IfOk, IfErr, OnOk, IsOkUnless};
+ghost use Rattle.std.specs.Prelude.{◌≡◌, ◌+◌, ◌-◌, ◌≤◌, ◌&&◌, nat_lt, true, length, map, IfOk, IfErr, IfSome, OnOk, IsOkUnless};
 ghost use Rattle.bench_types.specs.declared.faults.Fault.TheVariants.{OutOfMemory};
 ghost use Rattle.limits.specs.declared.TheConstants.{MOST_ROUNDS};
 ghost use Rattle.model.specs.calls.OwnerListView.{written};
 ghost use Rattle.model.specs.Runs.{IsFaultOfWorkers};
 ghost use Rattle.model.specs.Tables.{AreProper};
 ghost use Rattle.simulation.specs.Rounds.{opening_tables, after_restart, rules_of};
-ghost use Rattle.round_histories.specs.Histories.{AreNewHistories};
+ghost use Rattle.round_histories.specs.Histories.{AreNewHistories, StandAtRoundEnd};
+ghost use Rattle.round_plan.specs.Plan.{round_list_of};
 ghost use Rattle.simulation.specs.inner.InMemory.{HasBegun, IsBeforeRound, IsBegun, IsOwnerIn, IsRestartedIn, IsWritten, MayWriteNow, TablesStand, WritesIn};
 ghost use Rattle.simulation.specs.inner.Insides.{IsAfterRound};
-ghost use Rattle.simulation.specs.inner.Playing.{IsBefore, IsPlayed, IsUnderWay, MayPlay, Plays};
-ghost use Rattle.simulation.specs.inner.Plans.{IsDrawnAfter, IsPlanOf, MayDraw, counted_in};
+ghost use Rattle.simulation.specs.inner.Playing.{HasEnded, IsBefore, IsPlayed, IsUnderWay, MayPlay, Plays};
+ghost use Rattle.simulation.specs.inner.Plans.{AreCountsAfter, IsDrawnAfter, IsPlanOf, MayDraw, counted_in};
 ghost use Rattle.simulation.specs.inner.Steps.{HaveEnded, IsRoundOf, LeavesOthers, MayWriteOwn};
 
 use crate::openings::{empty_tables, empty_tables_by, histories_of, shares_of};
 use crate::plans::{Drawn, Plan, next_plan};
 use crate::rounds::Round;
 use bench_types::{Fault, Rules};
+use crew::Crew;
 use model::{MemoryTable, RoundList};
 use round_histories::{Counted, Hands, Resources, RoundHistories};
 use round_plan::{OwnWrite, RunWords, Writes, forgets_now, restarts_now, writes_by};
@@ -41,7 +43,7 @@ impl<T: MemoryTable + Send + Sync, K: RoundHistories<T>> Cluster<T, K> {
         ensures only { IsOkUnless result OutOfMemory }
     {
         let histories = histories_of(alloc, scenario)?;
-        let tables = empty_tables(alloc, &histories, 0..scenario.nodes())?;
+        let tables = empty_tables(alloc, &histories, 0..scenario.nodes());
         Cluster::opened(alloc, scenario, tables, histories)
     }
 
@@ -57,27 +59,28 @@ impl<T: MemoryTable + Send + Sync, K: RoundHistories<T>> Cluster<T, K> {
         ensures only { IsOkUnless result OutOfMemory }
     {
         let histories = histories_of(alloc, scenario)?;
-        let tables = empty_tables_by(rt, alloc, &histories, shares_of(scenario, workers))?;
+        let tables = empty_tables_by(rt, alloc, &histories, shares_of(scenario, workers));
         Cluster::opened(alloc, scenario, tables, histories)
     }
 
     fn opened(
         alloc: Global,
         scenario: &Scenario,
-        tables: Vec<T>,
+        tables: Result<Vec<T>, Fault>,
         histories: K,
     ) -> Result<Cluster<T, K>, Fault>
         requires begun { AreNewHistories scenario.now.nodes scenario.now.keys (K.kept histories) }
-        requires tables { map T.table tables.items ≡ opening_tables scenario.now }
+        requires tables { IfOk tables (λ tables. map T.table tables.items ≡ opening_tables scenario.now) }
+        requires only_tables { IsOkUnless tables OutOfMemory }
         requires proper { AreProper (opening_tables scenario.now) }
         ensures opens { IfOk result (IsAfterRound T.table K.kept scenario.now 0) }
         ensures only { IsOkUnless result OutOfMemory }
     {
-        let drawn = Drawn::Words(RunWords::new(alloc, scenario)?);
+        let words = RunWords::new(alloc, scenario)?;
         Ok(Cluster {
-            tables,
+            tables: tables?,
             histories,
-            drawn,
+            drawn: Drawn::Words(words),
         })
     }
 }
@@ -108,8 +111,14 @@ impl<
         let rt = resources.rt;
         let alloc = resources.alloc;
         let processors = resources.hands.processors;
-        let posts: Posts<T, K, G, K::Job> = Posts::apart(alloc, resources.hands.workers)?;
-        let by = &posts;
+        let posts = match Posts::apart(alloc, resources.hands.workers) {
+            Ok(posts) => posts,
+            Err(fault) => {
+                drop(self.cluster);
+                return Err(fault);
+            }
+        };
+        let by: &Posts<T, K, G, K::Job> = &posts;
         let answer = posts.with_threads(
             rt,
             self,
@@ -213,28 +222,54 @@ impl<T: MemoryTable + Send + Sync, K: RoundHistories<T>> UnderWay<'_, T, K> {
             let next = next.with_writes(alloc, scenario, round + 1, &counts)?;
             Ok(Drawn::Next(next))
         };
-        let Done {
-            tables,
-            records,
-            shared: histories,
-            made,
-        } = posts.carry_out(rt, batch, tables, draw)?;
-        let drawn = made?;
-        let Counted {
-            figures,
+        let done = posts.carry_out(rt, batch, tables, draw)?;
+        end_round(resources, posts, round, list, done)
+    }
+}
+
+// A round whose exchanges are carried out ends: its figures are counted.
+fn end_round<T: MemoryTable, K: RoundHistories<T>, H: Threads + Wait + Sync, C: Crew<K::Job>>(
+    resources: &Resources<H>,
+    crew: &C,
+    round: u32,
+    list: RoundList,
+    done: Done<T, K, Result<Drawn, Fault>>,
+) -> Result<(Cluster<T, K>, Round), Fault>
+    requires standing { StandAtRoundEnd T.table done.tables.items (K.kept done.shared) }
+    requires recorded { length done.records.items ≡ length list.exchanges }
+    requires made { IsOkUnless done.made OutOfMemory }
+    ensures ended { IfOk result (λ p. HasEnded T.table K.kept round list done.tables.items done.records.items
+        done.shared done.made p.0 p.1) }
+    ensures only { IsOkUnless result OutOfMemory }
+{
+    let Done {
+        tables,
+        records,
+        shared: histories,
+        made,
+    } = done;
+    let drawn = made?;
+    let counted = match histories.figures_by(resources, crew, tables) {
+        Ok(counted) => counted,
+        Err(fault) => {
+            drop(drawn);
+            return Err(fault);
+        }
+    };
+    let Counted {
+        figures,
+        tables,
+        histories,
+    } = counted;
+    let played = Round::of(round, list, records, figures);
+    Ok((
+        Cluster {
             tables,
             histories,
-        } = histories.figures_by(resources, posts, tables)?;
-        let played = Round::of(round, list, records, figures);
-        Ok((
-            Cluster {
-                tables,
-                histories,
-                drawn,
-            },
-            played,
-        ))
-    }
+            drawn,
+        },
+        played,
+    ))
 }
 
 // A round begins: its restarts and its writes are made.
@@ -249,28 +284,82 @@ fn begin_round<'a, T: MemoryTable, K: RoundHistories<T>>(
     ensures only { IsOkUnless result OutOfMemory }
 {
     let Cluster {
-        tables,
-        histories,
+        mut tables,
+        mut histories,
         drawn,
     } = cluster;
+    let begun = begin(
+        resources,
+        scenario,
+        round,
+        drawn,
+        &mut tables,
+        &mut histories,
+    )?;
+    let Begun {
+        list,
+        words,
+        counts,
+    } = begun;
+    Ok(UnderWay {
+        scenario,
+        round,
+        tables,
+        histories,
+        list,
+        words,
+        counts,
+    })
+}
+
+// What there is of a round that has begun, beside the tables and the histories.
+#[derive(Drop)]
+struct Begun {
+    list: RoundList,
+    words: RunWords,
+    counts: Option<Vec<u32>>,
+}
+
+// The same, beside tables and histories that are lent.
+fn begin<T: MemoryTable, K: RoundHistories<T>>(
+    resources: &Resources<impl Threads + Sync>,
+    scenario: &Scenario,
+    round: u32,
+    drawn: Drawn,
+    tables: &mut [T],
+    histories: &mut K,
+) -> Result<Begun, Fault>
+    requires round { IsRoundOf K.may_write scenario.now round }
+    requires drawn { IsDrawnAfter scenario.now (round - 1) drawn }
+    requires ended { HaveEnded scenario.now (round - 1) (K.kept histories.old) }
+    requires standing { TablesStand T.table K.kept scenario.now (round - 1) tables.old histories.old }
+    ensures begun { OnOk result
+        (HasBegun T.table K.kept K.fits scenario.now round tables.old tables.new histories.new) }
+    ensures list { IfOk result (λ begun. begun.list ≡ round_list_of scenario.now round) }
+    ensures may_draw { IfOk result (λ begun. MayDraw scenario.now round begun.words begun.counts) }
+    ensures only { IsOkUnless result OutOfMemory }
+{
     let plan = drawn.plan(resources, scenario, round)?;
     let start = Start {
         scenario,
         round,
         plan: &plan,
     };
-    let (tables, histories) = begin(&start, tables, histories)?;
-    let counts = if draws_ahead(resources.hands, scenario, round) {
-        Some(counts_of(resources.alloc, &histories, scenario.nodes())?)
-    } else {
-        None
+    let counts = match begin_counting(resources, &start, tables, histories) {
+        Ok(counts) => counts,
+        Err(fault) => {
+            drop(plan);
+            return Err(fault);
+        }
     };
-    let Plan { words, list, .. } = plan;
-    Ok(UnderWay {
-        scenario,
-        round,
-        tables,
-        histories,
+    let Plan {
+        words,
+        list,
+        writes,
+        ..
+    } = plan;
+    drop(writes);
+    Ok(Begun {
         list,
         words,
         counts,
@@ -295,26 +384,54 @@ struct Start<'a> {
     plan: &'a Plan,
 }
 
-// What a round begins with: its restarts and its writes, by node.
-fn begin<T: MemoryTable, K: RoundHistories<T>>(
+// What a round begins with, and then how many writes of its generation each node has made, where the next round is to
+// be drawn meanwhile.
+fn begin_counting<T: MemoryTable, K: RoundHistories<T>>(
+    resources: &Resources<impl Threads + Sync>,
     start: &Start,
-    mut tables: Vec<T>,
-    mut histories: K,
-) -> Result<(Vec<T>, K), Fault>
+    tables: &mut [T],
+    histories: &mut K,
+) -> Result<Option<Vec<u32>>, Fault>
     requires round { IsRoundOf K.may_write start.now.scenario.now start.now.round }
     requires plan { IsPlanOf start.now.scenario.now start.now.round start.now.plan.now }
-    requires ended { HaveEnded start.now.scenario.now (start.now.round - 1) (K.kept histories) }
-    requires standing { TablesStand T.table K.kept start.now.scenario.now (start.now.round - 1) tables.items histories }
-    ensures begun { IfOk result (λ p. HasBegun T.table K.kept K.fits start.now.scenario.now start.now.round
-        tables.items p.0.items p.1) }
+    requires ended { HaveEnded start.now.scenario.now (start.now.round - 1) (K.kept histories.old) }
+    requires standing { TablesStand T.table K.kept start.now.scenario.now (start.now.round - 1) tables.old
+        histories.old }
+    ensures begun { OnOk result (HasBegun T.table K.kept K.fits start.now.scenario.now start.now.round
+        tables.old tables.new histories.new) }
+    ensures counted { IfOk result
+        (λ counts. IfSome counts (λ v. AreCountsAfter start.now.scenario.now start.now.round v.items)) }
+    ensures another { IfOk result (λ counts. IfSome counts (λ _. start.now.round + 1 ≤ MOST_ROUNDS)) }
+    ensures only { IsOkUnless result OutOfMemory }
+{
+    begin_nodes(start, tables, histories)?;
+    if !draws_ahead(resources.hands, start.scenario, start.round) {
+        return Ok(None);
+    }
+    let counts = counts_of(resources.alloc, histories, start.scenario.nodes())?;
+    Ok(Some(counts))
+}
+
+// What a round begins with: its restarts and its writes, by node.
+fn begin_nodes<T: MemoryTable, K: RoundHistories<T>>(
+    start: &Start,
+    tables: &mut [T],
+    histories: &mut K,
+) -> Result<(), Fault>
+    requires round { IsRoundOf K.may_write start.now.scenario.now start.now.round }
+    requires plan { IsPlanOf start.now.scenario.now start.now.round start.now.plan.now }
+    requires ended { HaveEnded start.now.scenario.now (start.now.round - 1) (K.kept histories.old) }
+    requires standing { TablesStand T.table K.kept start.now.scenario.now (start.now.round - 1) tables.old
+        histories.old }
+    ensures begun { OnOk result (HasBegun T.table K.kept K.fits start.now.scenario.now start.now.round
+        tables.old tables.new histories.new) }
     ensures only { IsOkUnless result OutOfMemory }
 {
     for node in 0..start.scenario.nodes() {
         let at = node as usize;
-        begin_node(start, node, &mut tables[at], &mut histories)?;
+        begin_node(start, node, &mut tables[at], histories)?;
     }
-    histories.end_writes()?;
-    Ok((tables, histories))
+    histories.end_writes()
 }
 
 // What a node begins a round with: its restarts, and then its writes. No other node's table or list matters

@@ -5,7 +5,7 @@ ghost use Rattle.bench_types.specs.declared.faults.Fault.TheVariants.{OutOfMemor
 ghost use Rattle.model.specs.Tables.{AreProper};
 ghost use Rattle.simulation.specs.Rounds.{opening_tables};
 ghost use Rattle.round_histories.specs.Histories.{AreNewHistories};
-ghost use Rattle.simulation.specs.inner.InMemory.{AreMadeEmpty, IsStretchOfNodes};
+ghost use Rattle.simulation.specs.inner.InMemory.{AreJoined, AreMadeEmpty, IsStretchOfNodes};
 
 use bench_types::Fault;
 use model::MemoryTable;
@@ -89,9 +89,21 @@ pub(crate) fn empty_tables_by<T: MemoryTable + Send, K: RoundHistories<T>>(
         )
     };
     let (first, others) = join(rt, first, others);
-    let mut tables = first?;
-    tables.append(&mut others?)?;
-    Ok(tables)
+    joined(first, others)
+}
+
+// All of the first, and then all others.
+fn joined<T: Drop>(
+    first: Result<Vec<T>, Fault>,
+    others: Result<Vec<T>, Fault>,
+) -> Result<Vec<T>, Fault>
+    requires first { IsOkUnless first OutOfMemory }
+    requires others { IsOkUnless others OutOfMemory }
+    ensures { AreJoined first others result }
+{
+    let mut all = first?;
+    all.append(&mut others?)?;
+    Ok(all)
 }
 
 // So many numbers are worth a thread that makes them: most of the time goes to the system, which clears their memory.

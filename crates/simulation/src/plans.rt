@@ -3,7 +3,7 @@
 ghost use Rattle.std.specs.Prelude.{◌≡◌, ◌-◌, ◌≤◌, IfOk, IsOkUnless, is_some, true};
 ghost use Rattle.bench_types.specs.declared.faults.Fault.TheVariants.{OutOfMemory};
 ghost use Rattle.round_plan.specs.calls.Words.{run_words_of};
-ghost use Rattle.simulation.specs.inner.Plans.{AreCountsAfter, IsPlanOf, IsDrawnAfter};
+ghost use Rattle.simulation.specs.inner.Plans.{AreCountsAfter, AreWritesOfAll, IsPlanOf, IsDrawnAfter};
 
 use bench_types::Fault;
 use bench_types::limits::MOST_ROUNDS;
@@ -27,7 +27,7 @@ pub(crate) struct Plan {
 impl Plan {
     /// With what is written in the round, by how many writes of its generation each node has made before it.
     pub(crate) fn with_writes(
-        mut self,
+        self,
         alloc: Global,
         scenario: &Scenario,
         round: u32,
@@ -41,18 +41,44 @@ impl Plan {
         ensures written { IfOk result (λ plan. is_some plan.writes ≡ true) }
         ensures only { IsOkUnless result OutOfMemory }
     {
-        let mut writes = Vec::with_capacity(alloc, counts.len())?;
-        for node in 0..scenario.nodes() {
-            let count = if forgets_now(scenario, node, round) {
-                0
-            } else {
-                counts[node as usize]
-            };
-            writes.push(writes_by(scenario, node, round, count, self.words.of_node(node)))?;
+        match writes_of(alloc, scenario, round, &self.words, counts) {
+            Ok(writes) => Ok(Plan {
+                writes: Some(writes),
+                ..self
+            }),
+            Err(fault) => {
+                drop(self);
+                Err(fault)
+            }
         }
-        self.writes = Some(writes);
-        Ok(self)
     }
+}
+
+// What each node writes in a round.
+fn writes_of(
+    alloc: Global,
+    scenario: &Scenario,
+    round: u32,
+    words: &RunWords,
+    counts: &[u32],
+) -> Result<Vec<Writes>, Fault>
+    requires first { 1 ≤ round }
+    requires last { round ≤ MOST_ROUNDS }
+    requires words { words.now ≡ run_words_of scenario.now round }
+    requires counts { AreCountsAfter scenario.now (round - 1) counts.now }
+    ensures writes { IfOk result (λ writes. AreWritesOfAll scenario.now round writes.items) }
+    ensures only { IsOkUnless result OutOfMemory }
+{
+    let mut writes = Vec::with_capacity(alloc, counts.len())?;
+    for node in 0..scenario.nodes() {
+        let count = if forgets_now(scenario, node, round) {
+            0
+        } else {
+            counts[node as usize]
+        };
+        writes.push(writes_by(scenario, node, round, count, words.of_node(node)))?;
+    }
+    Ok(writes)
 }
 
 /// What is drawn once a round is done.

@@ -231,10 +231,11 @@ impl<T: MemoryTable + Send + Sync, K: RoundHistories<T>> Sim<T, K> {
         let Sim {
             alloc: _,
             scenario,
-            cluster: _,
+            cluster,
             rounds_done: _,
             processors: _,
         } = self;
+        drop(cluster);
         scenario
     }
 

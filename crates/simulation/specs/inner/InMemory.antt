@@ -1,6 +1,6 @@
 -- The parts of a step, of tables and histories in memory: `table` gives the table of a value, and `kept` what contracts
 -- see of histories. Source: this project.
-use Rattle.std.specs.Prelude.{◌≡◌, ℕ, ◌+◌, ◌-◌, ◌<◌, ◌≤◌, List, length, map, Result, IfOk, IsOkUnless, Vec}
+use Rattle.std.specs.Prelude.{◌≡◌, ℕ, ◌+◌, ◌-◌, ◌++◌, ◌<◌, ◌≤◌, List, length, map, Result, IfOk, IsOkAnd, IsOkUnless, Vec}
 use Rattle.bench_types.specs.declared.faults.Fault.{Fault}
 use Rattle.bench_types.specs.declared.faults.Fault.TheVariants.{OutOfMemory}
 use Rattle.std.specs.declared.alloc.Global.{Global}
@@ -28,6 +28,11 @@ empty_tables_in h from to = map (λ n. empty_table n (length h.lists) h.keys) (r
 abbrev pub AreMadeEmpty : {T : Type 0} → (T → Table) → HistoriesView → ℕ → ℕ → Result (Vec T Global) Fault → Type 0
 AreMadeEmpty table h from to answer =
     IfOk answer (λ v. map table v.items ≡ empty_tables_in h from to) × IsOkUnless answer OutOfMemory
+
+-- what has come of both
+abbrev pub AreJoined : {T : Type 0} → Result (Vec T Global) Fault → Result (Vec T Global) Fault → Result (Vec T Global) Fault → Type 0
+AreJoined first others answer =
+    IfOk answer (λ v. IsOkAnd first (λ f. IsOkAnd others (λ o. v.items ≡ f.items ++ o.items))) × IsOkUnless answer OutOfMemory
 
 -- what a round begins with: of one table, and of what its writes leave, and of all
 abbrev pub IsBegun : {T : Type 0} → (T → Table) → Settings → ℕ → ℕ → T → T → Type 0

@@ -1,14 +1,19 @@
 -- A round that a cluster plays. Source: this project.
-use Rattle.std.specs.Prelude.{◌≡◌, ℕ, ◌+◌, ◌-◌, map, true}
+use Rattle.std.specs.Prelude.{◌≡◌, ℕ, ◌+◌, ◌-◌, List, map, true, Ok, Result}
 use Rattle.bench_types.specs.declared.entries.Entry.{Entry}
+use Rattle.bench_types.specs.declared.faults.Fault.{Fault}
+use Rattle.bench_types.specs.declared.exchanges.Record.{Record}
+use Rattle.model.specs.RoundLists.{RoundListView}
 use Rattle.scenario.specs.Settings.{IsLawfulScenario, Settings}
 use Rattle.model.specs.Table.{Table}
-use Rattle.round_histories.specs.Histories.{HistoriesView, StandsAmong}
+use Rattle.round_histories.specs.Histories.{AreFiguresCounted, HistoriesView, StandsAmong}
 use Rattle.round_plan.specs.Plan.{round_list_of}
 use Rattle.simulation.specs.declared.clusters.Cluster.{Cluster}
 use Rattle.simulation.specs.declared.clusters.NextRound.{NextRound}
 use Rattle.simulation.specs.declared.clusters.UnderWay.{UnderWay}
+use Rattle.simulation.specs.declared.plans.Drawn.{Drawn}
 use Rattle.simulation.specs.Rounds.{begun, tables_after}
+use Rattle.simulation.specs.calls.Outcomes.{played_with}
 use Rattle.simulation.specs.calls.RoundView.{RoundView}
 use Rattle.simulation.specs.calls.Simulation.{MayStep, SimView}
 use Rattle.simulation.specs.inner.InMemory.{TablesStand}
@@ -39,6 +44,16 @@ pub record IsUnderWay {T K : Type 0} (table : T → Table) (kept : K → Histori
   pub fits : (t : Table) → StandsAmong (kept u.histories) t → Fits u.histories t
   pub list : u.list ≡ round_list_of s round
   pub may_draw : MayDraw s round u.words u.counts
+
+-- its exchanges are done, with these tables and records, and it has ended: its figures were counted, and what was drawn
+-- is kept
+pub record HasEnded {T K : Type 0} (table : T → Table) (kept : K → HistoriesView) (round : ℕ) (list : RoundListView)
+    (tables : List T) (records : List Record) (histories : K) (made : Result Drawn Fault) (new : Cluster T K)
+    (result : RoundView) : Type 0 where
+  pub counted : AreFiguresCounted table kept histories tables
+      (record { figures = result.figures; tables = new.tables; histories = new.histories })
+  pub told : result ≡ played_with round list records result.figures
+  pub drawn : made ≡ Ok new.drawn
 
 -- it is done: this is what it came to
 pub record IsPlayed {T K : Type 0} (table : T → Table) (kept : K → HistoriesView) (s : Settings) (round : ℕ)

@@ -1,38 +1,30 @@
-use Rattle.simulation.proofs.Common.{◌+◌, ◌≤◌, refl, ap, sym, ◌∙◌, subst, IfSome}
-use Rattle.limits.specs.declared.TheConstants.{MOST_ROUNDS}
-use Rattle.simulation.specs.inner.Plans.{AreCountsAfter}
+use Rattle.std.proofs.lemmas.List.{with_items_is}
+use Rattle.simulation.proofs.Common.{◌-◌, ap, map, refl, subst, sym, ◌∙◌}
 use Rattle.simulation.specs.Rounds.{begun}
-use Rattle.simulation.proofs.Ahead.{counts_after}
+use Rattle.simulation.specs.calls.Standing.{StandAfterRound}
 use Rattle.simulation.proofs.clusters.begin_round.Goals as goal
-use Rattle.simulation.proofs.clusters.begin_round.Goals.{then-draws_ahead+in_ok-counts_of, else-draws_ahead}
+
+pub begin-requires-clause-standing : goal.begin-requires-clause-standing
+begin-requires-clause-standing g c _ _ =
+    subst (λ ts. StandAfterRound c.args.scenario.now (c.args.round - 1) (map g.T.MemoryTable.table ts)
+    (g.K.RoundHistories.kept c.args.cluster.histories).lists) (sym c.deref_mut.ensures.value) c.requires.before.standing
 
 pub returns-clause-under_way : goal.returns-clause-under_way
 returns-clause-under_way g c =
+    let table = g.T.MemoryTable.table in
     let s = c.args.scenario.now in
     let round = c.args.round in
-    let is = c.in_ok-tables.ensures.begun in
+    let is = c.in_ok-begun.ensures.begun in
+    let whole = with_items_is c.args.cluster.tables c.begin.new.tables (c.begin.auto.tables ∙ c.deref_mut.ensures.len) in
     record {
       lawful = c.requires.lawful;
       scenario_is = refl;
       round_is = refl;
-      standing = is.standing;
-      tables = is.tables ∙ ap (begun s round) c.requires.before.tables;
+      standing = subst (λ ts. StandAfterRound s round (map table ts) (g.K.RoundHistories.kept c.begin.new.histories).lists) (sym whole) is.standing;
+      tables = ap (map table) whole ∙ is.tables ∙ ap (λ ts. begun s round (map table ts)) c.deref_mut.ensures.value
+          ∙ ap (begun s round) c.requires.before.tables;
       ended = is.ended;
       fits = is.fits;
-      list = c.in_ok-plan.ensures.plan.list;
-      may_draw = record {
-        first = c.requires.of_run.first;
-        drawn = c.in_ok-plan.ensures.plan.words;
-        counted = elim c.if-draws_ahead.branch [
-          | then-draws_ahead+in_ok-counts_of w ↦
-              subst (λ o. IfSome o (λ v. AreCountsAfter s round v.items)) (sym w.counts-is)
-              (counts_after s round _ _ w.in_ok-counts_of.field-0.items w.in_ok-counts_of.ensures.counts is.standing)
-          | else-draws_ahead w ↦ subst (λ o. IfSome o (λ v. AreCountsAfter s round v.items)) (sym w.counts-is) tt
-        ];
-        another = elim c.if-draws_ahead.branch [
-          | then-draws_ahead+in_ok-counts_of w ↦
-              subst (λ o. IfSome o (λ _. round + 1 ≤ MOST_ROUNDS)) (sym w.counts-is) (c.draws_ahead.ensures.last w.if-draws_ahead.true)
-          | else-draws_ahead w ↦ subst (λ o. IfSome o (λ _. round + 1 ≤ MOST_ROUNDS)) (sym w.counts-is) tt
-        ];
-      };
+      list = c.in_ok-begun.ensures.list;
+      may_draw = c.in_ok-begun.ensures.may_draw;
     }

@@ -8,4 +8,4 @@ returns g c =
 
 pub share_into-more-requires-clause-counts : goal.share_into-more-requires-clause-counts
 share_into-more-requires-clause-counts g c =
-    ap length c.deref_mut.ensures.value ∙ sym (length-map c.in_ok-counts.counts.items g.N.Number.number) ∙ c.in_ok-counts.ensures.zeros.size
+    ap length c.deref_mut.ensures.value ∙ sym (length-map c.in_ok-counts.counts.items g.N.Number.number) ∙ c.in_ok-counts.ensures.size

@@ -1,4 +1,4 @@
-use Rattle.simulation.proofs.Common.{map, subst, sym, ap, IfOk, IsLawfulBudget, Rules, IsCluster, RoundListView, IsRoundPlan}
+use Rattle.simulation.proofs.Common.{map, subst, sym, ap, IfOk, IfOk-weaker, IsLawfulBudget, Rules, IsCluster, RoundListView, IsRoundPlan}
 use Rattle.simulation.specs.inner.Plans.{IsDrawnAfter}
 use Rattle.round_histories.specs.Histories.{AreFiguresCounted, StandAtRoundEnd}
 use Rattle.simulation.proofs.Playing.{lawful_budget, each_begun, nodes_cluster, one_record_each, may_count, played, after}
@@ -18,31 +18,33 @@ carry_out-requires-clause-tables g c _ _ =
       budget = subst (λ (r : Rules). IsLawfulBudget r.budget) (sym c.rules_of-rules.ensures) (lawful_budget s.format s.budget is.lawful.budget);
     }
 
-pub figures_by-requires-clause-ended : goal.figures_by-requires-clause-ended
-figures_by-requires-clause-ended g c =
-    subst (λ k. StandAtRoundEnd g.T.MemoryTable.table c.in_ok-tables.field-0.tables.items (g.K.RoundHistories.kept k)) (sym c.in_ok-tables.ensures.done.shared)
+pub end_round-requires-clause-standing : goal.end_round-requires-clause-standing
+end_round-requires-clause-standing g c _ _ =
+    subst (λ k. StandAtRoundEnd g.T.MemoryTable.table c.in_ok-done.done.tables.items (g.K.RoundHistories.kept k)) (sym c.in_ok-done.ensures.done.shared)
     (may_count g.T.MemoryTable.table g.K.RoundHistories.kept g.K.Exchanging.fits c.args.self.scenario.now c.args.self.round c.args.self c.requires
-    (subst IsRoundPlan c.list.view_is c.list.invariant) _ c.rules_of-rules.ensures c.in_ok-tables.field-0.tables.items c.in_ok-tables.field-0.records.items
-    c.in_ok-tables.ensures.done.exchanged)
+    (subst IsRoundPlan c.list.view_is c.list.invariant) _ c.rules_of-rules.ensures c.in_ok-done.done.tables.items c.in_ok-done.done.records.items
+    c.in_ok-done.ensures.done.exchanged)
 
-pub of-played-requires : goal.of-played-requires
-of-played-requires g c =
+pub end_round-requires-clause-recorded : goal.end_round-requires-clause-recorded
+end_round-requires-clause-recorded g c _ _ =
     one_record_each c.args.self.scenario.now c.args.self.round c.args.self.list (subst IsRoundPlan c.list.view_is c.list.invariant)
-    c.requires.list _ _ _ c.in_ok-tables.field-0.records.items c.in_ok-tables.ensures.done.exchanged
+    c.requires.list _ _ _ c.in_ok-done.done.records.items c.in_ok-done.ensures.done.exchanged
 
 pub returns-clause-played : goal.returns-clause-played
 returns-clause-played g c =
     let plan = subst IsRoundPlan c.list.view_is c.list.invariant in
-    let done = c.in_ok-tables.ensures.done in
-    let counted = subst (λ k. AreFiguresCounted g.T.MemoryTable.table g.K.RoundHistories.kept k c.in_ok-tables.field-0.tables.items c.in_ok-figures.field-0)
-    done.shared c.in_ok-figures.ensures.counted in
+    let done = c.in_ok-done.ensures.done in
+    let ts = c.in_ok-done.done.tables.items in
+    let records = c.in_ok-done.done.records.items in
+    IfOk-weaker c.end_round.result _ _ (λ p is.
+    let counted = subst (λ k. AreFiguresCounted g.T.MemoryTable.table g.K.RoundHistories.kept k ts
+    (record { figures = p.1.figures; tables = p.0.tables; histories = p.0.histories })) done.shared is.counted in
     record {
       after =
           after g.T.MemoryTable.table g.K.RoundHistories.kept g.K.Exchanging.fits c.args.self.scenario.now c.args.self.round c.args.self c.requires plan _
-          c.rules_of-rules.ensures c.in_ok-tables.field-0.tables.items c.in_ok-tables.field-0.records.items done.exchanged c.in_ok-figures.field-0 counted
-          c.in_ok-drawn.drawn (subst (λ r. IfOk r (IsDrawnAfter c.args.self.scenario.now c.args.self.round)) c.in_ok-drawn.was done.made.0);
+          c.rules_of-rules.ensures ts records done.exchanged _ counted p.0.drawn
+          (subst (λ r. IfOk r (IsDrawnAfter c.args.self.scenario.now c.args.self.round)) is.drawn done.made.0);
       played =
-          played g.T.MemoryTable.table g.K.RoundHistories.kept g.K.Exchanging.fits c.args.self.scenario.now c.args.self.round c.args.self c.requires plan _
-          c.rules_of-rules.ensures c.in_ok-tables.field-0.tables.items c.in_ok-tables.field-0.records.items done.exchanged c.in_ok-figures.field-0
-          c.of-played.result counted c.of-played.ensures;
-    }
+          played g.T.MemoryTable.table g.K.RoundHistories.kept g.K.Exchanging.fits c.args.self.scenario.now c.args.self.round c.args.self c.requires
+          plan _ c.rules_of-rules.ensures ts records done.exchanged _ p.1 counted is.told;
+    }) c.end_round.ensures.ended

@@ -1,5 +1,5 @@
 use Rattle.simulation.proofs.Ahead.{AreWritesUpto}
-use Rattle.simulation.proofs.plans.Plan.with_writes.Given as goal
+use Rattle.simulation.proofs.plans.writes_of.Given as goal
 
 abbrev pub invariant-loop-node : goal.invariant-loop-node
 invariant-loop-node l = AreWritesUpto l.scenario l.round l.node l.writes.items

@@ -1,7 +1,7 @@
 use Rattle.simulation.proofs.Common.{◌≡◌, ◌+◌, ◌<◌, if◌then◌else◌, length, get_or, ap, subst, sym, ◌∙◌, arith, writes_before, AreWritesOf}
 use Rattle.simulation.proofs.Ahead.{AreWritesUpto, writes_more, counted_before, all_writes_of}
-use Rattle.simulation.proofs.plans.Plan.with_writes.Goals as goal
-use Rattle.simulation.proofs.plans.Plan.with_writes.Goals.{then-forgets_now, else-forgets_now}
+use Rattle.simulation.proofs.plans.writes_of.Goals as goal
+use Rattle.simulation.proofs.plans.writes_of.Goals.{then-forgets_now, else-forgets_now}
 
 -- how many there were before
 counted : (c : goal.In_ok-push) → c.if-forgets_now.count ≡ length (writes_before c.args.scenario.now c.loop-node.node c.args.round)
@@ -27,10 +27,6 @@ loop-node-preserved c =
     (writes_more c.loop-node.invariant
     (subst (λ k. AreWritesOf c.args.scenario.now c.loop-node.node c.args.round k c.writes_by.result) (counted c) c.writes_by.ensures))
 
-pub returns-clause-plan : goal.returns-clause-plan
-returns-clause-plan c = record {
-  words = c.requires.plan.words;
-  restarts = c.requires.plan.restarts;
-  list = c.requires.plan.list;
-  writes = all_writes_of c.loop-node.invariant (omega (arith, c.loop-node-test.false, c.loop-node.auto.node-end, c.nodes-node-end.ensures.value));
-}
+pub returns-clause-writes : goal.returns-clause-writes
+returns-clause-writes c =
+    all_writes_of c.loop-node.invariant (omega (arith, c.loop-node-test.false, c.loop-node.auto.node-end, c.nodes-node-end.ensures.value))

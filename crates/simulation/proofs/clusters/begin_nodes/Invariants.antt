@@ -1,10 +1,10 @@
 use Rattle.simulation.proofs.Common.{◌-◌, map}
 use Rattle.simulation.specs.inner.Steps.{HaveEnded}
 use Rattle.simulation.proofs.Begun.{HaveBegun}
-use Rattle.simulation.proofs.clusters.begin.Given as goal
+use Rattle.simulation.proofs.clusters.begin_nodes.Given as goal
 
 abbrev pub invariant-loop-node : goal.invariant-loop-node
 invariant-loop-node g l =
-    HaveBegun l.start.scenario.now l.start.round (map g.T.MemoryTable.table l.initial.tables.items) (map g.T.MemoryTable.table l.tables.items)
+    HaveBegun l.start.scenario.now l.start.round (map g.T.MemoryTable.table l.initial.tables) (map g.T.MemoryTable.table l.tables)
     (g.K.RoundHistories.kept l.histories).lists l.node
     × HaveEnded l.start.scenario.now (l.start.round - 1) (g.K.RoundHistories.kept l.histories)

@@ -313,9 +313,9 @@ fn first_words(alloc: Global, deps: &Deps) -> Result<Vec<u64>, Fault>
     ensures only { IsOkUnless result OutOfMemory }
 {
     let mut words = Vec::with_capacity(alloc, deps.len() as usize + 1)?;
-    words.push(0)?;
+    words.push_reserved(0);
     for i in 0..deps.len() {
-        words.push(u64::from(deps.pending(i)))?;
+        words.push_reserved(u64::from(deps.pending(i)));
     }
     Ok(words)
 }
@@ -327,7 +327,7 @@ fn into_slots<T: Drop>(alloc: Global, mut tables: Vec<T>) -> Result<(Vec<Option<
     let mut slots = Vec::with_capacity(alloc, tables.len())?;
     for _ in 0..tables.len() {
         if let Some(table) = tables.pop() {
-            slots.push(Some(table))?;
+            slots.push_reserved(Some(table));
         }
     }
     slots.reverse();

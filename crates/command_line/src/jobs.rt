@@ -9,10 +9,10 @@ use bench_types::{Discard, Fault, Push, Sink, Source, write_text};
 use command_words::Job;
 use runs::{check_input, compare, run};
 use std::alloc::Global;
+use std::fs;
 use std::rt::Files;
 use std::sync::Wait;
 use std::thread::Threads;
-use std::{fs, io};
 
 /// The runtime and the memory of a process.
 #[derive(Drop)]
@@ -43,8 +43,8 @@ pub fn perform<H: Threads + Wait + Sync + Files, R: Source, W: Sink>(
         Job::Run { trace, workers } => match trace {
             None => run(rt, alloc, reader, out, &mut Discard, workers),
             Some(path) => match trace_file(rt, path) {
-                Ok(file) => run(rt, alloc, reader, out, &mut Push::new(file), workers),
-                Err(_) => Err(Fault::WriteFailed),
+                Some(file) => run(rt, alloc, reader, out, &mut Push::new(file), workers),
+                None => Err(Fault::WriteFailed),
             },
         },
         Job::Compare { workers } => compare(rt, alloc, reader, out, workers),
@@ -52,11 +52,11 @@ pub fn perform<H: Threads + Wait + Sync + Files, R: Source, W: Sink>(
 }
 
 // Makes the file of a trace anew. One that is the process's own input or output is refused, and stays as it is.
-fn trace_file<H: Files>(rt: &H, path: &str) -> io::Result<H::File> {
+fn trace_file<H: Files>(rt: &H, path: &str) -> Option<H::File> {
     if is_input_or_output(rt, path) {
-        return Err(io::Error::from(io::ErrorKind::InvalidInput));
+        return None;
     }
-    fs::create(rt, path)
+    fs::create(rt, path).ok()
 }
 
 fn check<R: Source, W: Sink>(alloc: Global, reader: &mut R, out: &mut W) -> Result<(), Fault>

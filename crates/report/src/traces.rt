@@ -18,25 +18,27 @@ use std::alloc::Global;
 // How many columns the trace has.
 const COLUMNS: usize = 11;
 
+// Their names, in order.
+const HEADER: [Cell<'static>; COLUMNS] = [
+    Cell::Text("round"),
+    Cell::Text("index"),
+    Cell::Text("initiator"),
+    Cell::Text("responder"),
+    Cell::Text("fate"),
+    Cell::Text("digest1"),
+    Cell::Text("digest2"),
+    Cell::Text("back"),
+    Cell::Text("forth"),
+    Cell::Text("back_cut"),
+    Cell::Text("forth_cut"),
+];
+
 /// Writes the header of the trace, the names of its columns, and flushes. An error is
 /// lack of memory (`OutOfMemory`), before anything is written, or that the sink failed (`WriteFailed`).
 pub fn trace_header<W: Sink>(alloc: Global, writer: &mut W) -> Result<(), Fault>
     ensures { WritesText W.Sink writer.old writer.new trace_header_line result }
 {
-    let columns = [
-        Cell::Text("round"),
-        Cell::Text("index"),
-        Cell::Text("initiator"),
-        Cell::Text("responder"),
-        Cell::Text("fate"),
-        Cell::Text("digest1"),
-        Cell::Text("digest2"),
-        Cell::Text("back"),
-        Cell::Text("forth"),
-        Cell::Text("back_cut"),
-        Cell::Text("forth_cut"),
-    ];
-    write_line(alloc, writer, &columns)
+    write_line(alloc, writer, &HEADER)
 }
 
 /// Writes the rows of one round, one for each exchange of its list, in order, and flushes. All rows

@@ -3,6 +3,7 @@ pub mod Growth
 pub mod Listed
 pub mod Others
 pub mod Planned
+mod Restarts
 pub mod Streams
 pub mod Written
 pub mod Common

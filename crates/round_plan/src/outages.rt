@@ -15,10 +15,12 @@ pub fn is_up(scenario: &Scenario, node: u32, round: u32) -> bool
     requires last { round ≤ MOST_ROUNDS }
     ensures { result ≡ is_up scenario.now node round }
 {
-    !scenario
-        .restarts()
-        .iter()
-        .any(|restart| takes_down(restart, node, round))
+    for restart in scenario.restarts() {
+        if takes_down(restart, node, round) {
+            return false;
+        }
+    }
+    true
 }
 
 /// Whether two nodes are kept apart in a round: some partition that covers it lists exactly one of
@@ -46,10 +48,12 @@ pub fn restarts_now(scenario: &Scenario, node: u32, round: u32) -> bool
     requires last { round ≤ MOST_ROUNDS }
     ensures { result ≡ restarts_now scenario.now node round }
 {
-    scenario
-        .restarts()
-        .iter()
-        .any(|restart| restarts_in(restart, node, round))
+    for restart in scenario.restarts() {
+        if restarts_in(restart, node, round) {
+            return true;
+        }
+    }
+    false
 }
 
 /// Whether any node restarts at the beginning of a round. Costs a step for each restart.
@@ -58,10 +62,12 @@ pub fn any_restart_now(scenario: &Scenario, round: u32) -> bool
     requires last { round ≤ MOST_ROUNDS }
     ensures { result ≡ any_restart_now scenario.now round }
 {
-    scenario
-        .restarts()
-        .iter()
-        .any(|restart| restart.round == round)
+    for restart in scenario.restarts() {
+        if restart.round == round {
+            return true;
+        }
+    }
+    false
 }
 
 /// Whether a node forgets all that it holds at the beginning of a round, and so begins its next
@@ -72,7 +78,12 @@ pub fn forgets_now(scenario: &Scenario, node: u32, round: u32) -> bool
     requires last { round ≤ MOST_ROUNDS }
     ensures { result ≡ forgets_now scenario.now node round }
 {
-    scenario.restarts().iter().any(|restart| restarts_in(restart, node, round) && restart.forget)
+    for restart in scenario.restarts() {
+        if restarts_in(restart, node, round) && restart.forget {
+            return true;
+        }
+    }
+    false
 }
 
 fn takes_down(restart: &Restart, node: u32, round: u32) -> bool

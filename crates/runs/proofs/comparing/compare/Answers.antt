@@ -1,3 +1,5 @@
+use Rattle.std.proofs.Common.{arith}
+use Rattle.std.proofs.lemmas.Grind.{common_steps}
 use Rattle.runs.proofs.Common.{on_ok_weaker, IfErr-weaker}
 use Rattle.runs.proofs.Comparison.{own_mode}
 use Rattle.runs.proofs.Endings.{comparison_tells}
@@ -19,3 +21,9 @@ returns-clause-failing_end g c =
     IfErr-weaker c.write_comparison.result _ _
     (λ fault stop. comparison_tells g.W.Sink _ _ c.in_ok-scenario.scenario _ fault stop)
     c.write_comparison.ensures.fault
+
+pub returns-clause-fault : goal.returns-clause-fault
+returns-clause-fault g c = grind (arith, common_steps)
+
+pub returns-clause-checked_first : goal.returns-clause-checked_first
+returns-clause-checked_first g c = grind (arith, common_steps)

@@ -1,5 +1,5 @@
-use Rattle.runs.proofs.Common.{inl, inr, refl, rules, subst, arith}
-use Rattle.runs.specs.inner.Rounds.{IsFaultInTurn}
+use Rattle.runs.proofs.Common.{◌∙◌, inl, inr, refl, ap, sym, subst, arith}
+use Rattle.runs.specs.inner.Rounds.{AnswersRounds, IsFaultInTurn}
 use Rattle.runs.proofs.Turns.{answers_fault, stops_at_first}
 use Rattle.runs.proofs.rounds.write_over.Goals as goal
 use Rattle.bench_types.specs.declared.faults.Fault.TheVariants.{NoThread}
@@ -14,6 +14,13 @@ pub returns-in-Err : goal.returns-in-Err
 returns-in-Err g c =
     answers_fault g.O.RoundWriter.wrote g.O.RoundWriter.stops _ _ _ _ _ NoThread refl
     (subst (λ now. IsFaultInTurn g.O.RoundWriter.wrote g.O.RoundWriter.stops c.args.scenario c.args.output.now now c.args.resources.now.workers NoThread)
-    (search rules)
+    (ap (λ lent. lent.output.now) (sym c.in-Err.ensures.back) ∙ sym c.take_back-in-Err.ensures ∙ grind arith)
     (stops_at_first g.O.RoundWriter.wrote g.O.RoundWriter.stops _ c.args.output.now _ NoThread (omega (arith, c.rounds-rounds.ensures.limits))
     (inr (refl, omega (arith, c.in-Err.ensures.several, c.in_ok-posts.ensures.workers)))))
+
+pub returns-in-Ok : goal.returns-in-Ok
+returns-in-Ok g c =
+    subst (λ now. AnswersRounds g.O.RoundWriter.wrote g.O.RoundWriter.stops c.args.scenario c.args.output.now now c.args.resources.now.workers c.in-Ok.answer)
+    (sym c.take_back.ensures ∙ grind arith)
+    (subst (λ workers. AnswersRounds g.O.RoundWriter.wrote g.O.RoundWriter.stops c.args.scenario c.args.output.now c.in-Ok.output.now workers c.in-Ok.answer)
+    c.in_ok-posts.ensures.workers c.in-Ok.ensures.done.1)

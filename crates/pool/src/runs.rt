@@ -104,6 +104,6 @@ fn carry_out_once<
             by.carry_out(rt, batch, tables, meanwhile)
         },
     );
-    posts.close();
+    drop(posts);
     answer.unwrap_or(Err(Fault::NoThread))
 }

@@ -70,7 +70,7 @@ pub(crate) fn write_over<
             (output, answer)
         },
     );
-    posts.close();
+    drop(posts);
     match done {
         Ok((output, answer)) => {
             take_back(output);

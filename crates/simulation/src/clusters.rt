@@ -135,7 +135,7 @@ impl<
                 next.play(&resources, by)
             },
         );
-        posts.close();
+        drop(posts);
         answer.unwrap_or(Err(Fault::NoThread))
     }
 }

@@ -45,12 +45,23 @@ impl<T: MemoryTable, X: Exchanging<T> + Drop, G: Gate + Drop, J: Job> Duty<T, X,
 
 /// Where workers are given lists to carry out, or jobs of another kind. Each has a thread of its own, but that the
 /// caller's thread may be one.
-#[derive(Drop)]
 pub struct Posts<T: MemoryTable, X: Exchanging<T>, G, J> {
     alloc: Global,
     yard: Yard<Duty<T, X, G, J>>,
     workers: u32,
     threads: u32,
+}
+
+// Written out: a derived drop is proved once more in each crate that lets posts go.
+impl<T: MemoryTable, X: Exchanging<T> + Drop, G: Drop, J: Drop> Drop for Posts<T, X, G, J> {
+    fn drop(self) {
+        let Posts {
+            alloc: _,
+            yard: _,
+            workers: _,
+            threads: _,
+        } = self;
+    }
 }
 
 // Callers see how many workers there are.
@@ -106,10 +117,6 @@ impl<T: MemoryTable, X: Exchanging<T> + Drop, G: Gate + Drop, J: Job> Posts<T, X
     {
         self.workers
     }
-
-    /// Gives the posts up, once their threads have gone home. Where callers let them go by this call, how they are given
-    /// up isn't proved once more in each crate of a caller.
-    pub fn close(self) {}
 
     /// Carries out the exchanges of a list by threads that were started before. It calls `meanwhile` once they have
     /// what they need, works on the list too if the caller's thread is one of the workers, and waits for the others

@@ -7,7 +7,7 @@ pub use Rattle.std.proofs.lemmas.Bool.{and_parts, cases_eq, cases_lt, cond_both,
 pub use Rattle.std.proofs.lemmas.Bool.Decides.{nat_tests}
 pub use Rattle.std.proofs.lemmas.Iterator.{YieldsList-from_slice}
 pub use Rattle.std.proofs.lemmas.Iterator.Adapters.{YieldsList-from_rev_slice}
-pub use Rattle.std.proofs.lemmas.Iterator.Search.{find_from_yields_List}
+pub use Rattle.std.proofs.lemmas.Iterator.Search.{any_from_yields_List, find_from_yields_List}
 pub use Rattle.std.proofs.lemmas.List.{drop_all, get_or-append_right, get_or-drop, get_or-map, get_or-reverse, get_or-take, get_or_default, length-map, length-reverse, length-take-le, map-append, take_all, take_more_set}
 pub use Rattle.std.proofs.lemmas.List.Edits.{fill_by_more}
 pub use Rattle.std.proofs.lemmas.List.Elements.{All-append, All-cons, All-filter, All-map, All-nil, All-push, All-tail, All-weaker, Contains-append_left, Contains-append_right, filter-append, filter_more}
@@ -35,4 +35,3 @@ pub use Rattle.scenario.specs.declared.choices.Peers.TheVariants.{Random, Ring}
 pub use Rattle.scenario.specs.declared.choices.Rotation.{Rotation}
 pub use Rattle.scenario.specs.declared.elements.Load.{Load}
 pub use Rattle.scenario.specs.declared.elements.Partition.{Partition}
-pub use Rattle.scenario.specs.declared.elements.Restart.{Restart}

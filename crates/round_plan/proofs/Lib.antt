@@ -3,7 +3,6 @@ pub mod Growth
 pub mod Listed
 pub mod Others
 pub mod Planned
-mod Restarts
 pub mod Streams
 pub mod Written
 pub mod Common

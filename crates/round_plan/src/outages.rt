@@ -15,12 +15,10 @@ pub fn is_up(scenario: &Scenario, node: u32, round: u32) -> bool
     requires last { round ≤ MOST_ROUNDS }
     ensures { result ≡ is_up scenario.now node round }
 {
-    for restart in scenario.restarts() {
-        if takes_down(restart, node, round) {
-            return false;
-        }
-    }
-    true
+    !scenario
+        .restarts()
+        .iter()
+        .any(|restart| takes_down(restart, node, round))
 }
 
 /// Whether two nodes are kept apart in a round: some partition that covers it lists exactly one of
@@ -48,12 +46,10 @@ pub fn restarts_now(scenario: &Scenario, node: u32, round: u32) -> bool
     requires last { round ≤ MOST_ROUNDS }
     ensures { result ≡ restarts_now scenario.now node round }
 {
-    for restart in scenario.restarts() {
-        if restarts_in(restart, node, round) {
-            return true;
-        }
-    }
-    false
+    scenario
+        .restarts()
+        .iter()
+        .any(|restart| restarts_in(restart, node, round))
 }
 
 /// Whether any node restarts at the beginning of a round. Costs a step for each restart.
@@ -62,12 +58,10 @@ pub fn any_restart_now(scenario: &Scenario, round: u32) -> bool
     requires last { round ≤ MOST_ROUNDS }
     ensures { result ≡ any_restart_now scenario.now round }
 {
-    for restart in scenario.restarts() {
-        if restart.round == round {
-            return true;
-        }
-    }
-    false
+    scenario
+        .restarts()
+        .iter()
+        .any(|restart| restart.round == round)
 }
 
 /// Whether a node forgets all that it holds at the beginning of a round, and so begins its next
@@ -78,12 +72,7 @@ pub fn forgets_now(scenario: &Scenario, node: u32, round: u32) -> bool
     requires last { round ≤ MOST_ROUNDS }
     ensures { result ≡ forgets_now scenario.now node round }
 {
-    for restart in scenario.restarts() {
-        if restarts_in(restart, node, round) && restart.forget {
-            return true;
-        }
-    }
-    false
+    scenario.restarts().iter().any(|restart| restarts_in(restart, node, round) && restart.forget)
 }
 
 fn takes_down(restart: &Restart, node: u32, round: u32) -> bool

@@ -1,19 +1,10 @@
-use Rattle.round_plan.proofs.Common.{ap, ◌∙◌, arith, length, list_any, rules, tests, ◌≡◌}
-use Rattle.round_plan.specs.Outages.{forgets_in, forgets_now}
-use Rattle.round_plan.proofs.Restarts.{no_restart, none_passes, one_passes}
+use Rattle.round_plan.proofs.Common.{ap, ◌∙◌, rules, tests, list_any, YieldsList-from_slice, any_from_yields_List}
+use Rattle.round_plan.specs.Outages.{forgets_now, forgets_in}
 use Rattle.round_plan.proofs.outages.forgets_now.Goals as goal
-
-pub returns-then-restart : goal.returns-then-restart
-unfolding forgets_now
-returns-then-restart c =
-    let items = c.restarts-restart-items.result.now in
-    let test = forgets_in c.args.node c.args.round in
-    one_passes test items c.loop-restart.restart-index c.loop-restart-test.true (search (rules, tests))
-    ∙ ap (list_any test) c.restarts-restart-items.ensures.value
 
 pub returns : goal.returns
 unfolding forgets_now
 returns c =
-    let items = c.args.scenario.now.restarts in
-    let whole : c.loop-restart.restart-index ≡ length items = omega (arith, ap length c.restarts-restart-items.ensures.value) in
-    none_passes (forgets_in c.args.node c.args.round) items (λ k lt. c.loop-restart.invariant k no_restart (omega arith))
+    let forgets = forgets_in c.args.node c.args.round in
+    any_from_yields_List forgets _ _ _ c.any.ensures.ran (YieldsList-from_slice c.restarts.result.now cc) (λ x b q k. search (rules, tests))
+    ∙ ap (list_any forgets) c.restarts.ensures.value

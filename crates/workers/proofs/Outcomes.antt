@@ -1,7 +1,7 @@
 -- What a call comes to that may lack memory, from what another came to.
--- Serves `carry_out`, `share` and `with_threads`.
-use Rattle.workers.proofs.Common.{◌≡◌, Result, Ok, IfOk, MatchResult, refl, sym, ap, subst, ◌∙◌, Fault, OutOfMemory}
-use Rattle.std.specs.Prelude.{Err, IfErr, IsOkUnless}
+-- Serves `carry_out` and `share`.
+use Rattle.workers.proofs.Common.{◌≡◌, Result, Ok, IfOk, refl, sym, ap, subst, ◌∙◌, Fault, OutOfMemory}
+use Rattle.std.specs.Prelude.{Err, IsOkUnless}
 use Rattle.std.specs.declared.option.Option.{Option}
 use Rattle.std.specs.Option.{ok_or}
 use Rattle.std.specs.Result.{result_ok}
@@ -22,12 +22,3 @@ module _ {A : Type 0} where
   or_memory Q (Ok a) kept result once twice turns is =
       subst (λ r. ComesTo r Q) (sym (twice ∙ ap (λ k. ok_or k OutOfMemory) once)) (turns a is)
   or_memory Q (Err _) kept result once twice turns is = subst (λ r. ComesTo r Q) (sym (twice ∙ ap (λ k. ok_or k OutOfMemory) once)) refl
-
-module _ {A B : Type 0} (P : A → Type 0) (Q : B → Type 0) where
-  pub where_ok : (result : Result A B) → MatchResult result P Q → IfOk result P
-  where_ok (Ok _) comes = comes
-  where_ok (Err _) comes = tt
-
-  pub where_err : (result : Result A B) → MatchResult result P Q → IfErr result Q
-  where_err (Ok _) comes = tt
-  where_err (Err _) comes = comes

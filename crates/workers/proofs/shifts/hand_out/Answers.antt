@@ -53,9 +53,6 @@ loop-own-init g c =
       room = omega (arith, handed.capacity, c.len.ensures, all);
     }
 
-pub push_reserved-requires : goal.push_reserved-requires
-push_reserved-requires g c = omega (arith, c.loop-own.invariant.room, c.loop-own.invariant.count, c.in-Some.ensures.steps.1)
-
 pub returns-clause-one_each : goal.returns-clause-one_each
 returns-clause-one_each g c =
     omega (arith, c.loop-own.invariant.count, c.in-None.ensures.steps.0, c.into_iter-own-iterator.ensures.into_iter_gives.1)

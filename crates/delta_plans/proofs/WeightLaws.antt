@@ -63,7 +63,8 @@ weight_of-one weight cells keys owner low high key in_keys above upto one =
 pub weight_of-parts : (weight : ℕ → ℕ) (cells : Cells) (keys owner low mark high : ℕ) → low ≤ mark → (mark ≤ high) ⊎ HasNoneAbove cells keys owner high
     → weight_of weight cells keys owner low high ≡ weight_of weight cells keys owner low mark + weight_of weight cells keys owner mark high
 weight_of-parts weight cells keys owner low mark high below above =
-    sum_below-same keys _ (λ key. part weight low mark (cells owner key) + part weight mark high (cells owner key)) (λ key lt. elim above [ inl le ↦ grind (arith, nat_tests) | inr covered ↦ grind (arith, nat_tests, covered key lt) ])
+    sum_below-same keys _ (λ key. part weight low mark (cells owner key) + part weight mark high (cells owner key))
+    (λ key lt. elim above [ inl le ↦ grind (arith, nat_tests) | inr covered ↦ grind (arith, nat_tests, covered key lt) ])
     ∙ sum_below-plus keys _ _
 
 pub weight_of-split : (weight : ℕ → ℕ) (cells : Cells) (keys owner low mark high : ℕ) → low ≤ mark → mark ≤ high

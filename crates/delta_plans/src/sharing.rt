@@ -162,8 +162,8 @@ impl<'a, 'b, N: Number> Turns<'a, 'b, N> {
         true
     }
 
-    // Gives them the far mark, all at once or else as long as their parts fit, and the first whose part doesn't the mark
-    // where that stops. Answers how many numbers all marks let through then.
+    // Gives them the far mark, all at once or else as long as their parts fit, and the first whose part doesn't the
+    // mark where that stops. Answers how many numbers all marks let through then.
     fn pass(&self, counts: &[N], mark: &mut [N], owner: usize, reached: &mut Reached) -> Option<u32>
         requires turns { HaveTurns N.number N.most self.now mark.old reached.old owner counts.now }
         ensures reached { IfNone result (HasReached N.number self.now mark.new reached.new) }

@@ -1,6 +1,5 @@
 -- The names of other libraries that these proofs cite, passed on from one place. Declares nothing.
--- Serves the functions of `gathering`, `posts`, `shifts` and `workers`, `Gathered`, `Holds`, `Joining` and
--- `Ordered`.
+-- Serves most of the crate.
 pub use Rattle.std.proofs.Common.{All, Bool, IfOk, List, Ok, Result, Some, Vec, [], add-one, ap, arith, drop, false, get_or, if◌then◌else◌, inl, inr, length, map, refl, rules, set, subst, suc, sym, true, vec_capacity, vec_len, zero, append-nil, ℕ, ◌++◌, ◌+◌, ◌<◌, ◌||◌, ◌∙◌, ◌∷◌, ◌≡◌, ◌≢◌, ◌≤◌, ◌⊎◌}
 pub use Rattle.std.proofs.lemmas.Bool.{cases_eq, cases_lt, or_right}
 pub use Rattle.std.proofs.lemmas.Bool.Decides.{nat_tests}

@@ -46,7 +46,8 @@ module _ (plan : BoardPlan) where
   stands_written records [] i size each (inr none) = absurd (omega arith)
   stands_written records (s ∷ stamps) i size each either =
       let of_list = All-head (IsRecordOf plan) s stamps each in
-      let more = stands_written (set records s.index s.outcome) stamps i (length-set records s.index s.outcome ∙ size) (All-tail (IsRecordOf plan) s stamps each) in
+      let more = stands_written (set records s.index s.outcome) stamps i (length-set records s.index s.outcome ∙ size)
+      (All-tail (IsRecordOf plan) s stamps each) in
       elim (cases_eq i s.index) [
         | inl same ↦ more (inl (
             ap (slice_get (set records s.index s.outcome)) same
@@ -58,5 +59,6 @@ module _ (plan : BoardPlan) where
         ]
       ]
 
-  pub all_within : (records : List Record) (stamps : List Stamped) → length records ≡ length plan.list.exchanges → All (IsRecordOf plan) stamps → All (λ s. s.index < length records) stamps
+  pub all_within : (records : List Record) (stamps : List Stamped) → length records ≡ length plan.list.exchanges → All (IsRecordOf plan) stamps
+      → All (λ s. s.index < length records) stamps
   all_within records stamps size each = All-weaker (IsRecordOf plan) (λ s. s.index < length records) (λ s is. omega (arith, is.within, size)) stamps each

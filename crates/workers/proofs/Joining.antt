@@ -25,7 +25,8 @@ module _ (plan : BoardPlan) (old part : SeatView) where
   ]
 
   -- the records of both
-  holds_joined : (records : List Record) (stamps : List Stamped) → HoldsRecords plan old.made records → AreRecordsOf plan part stamps → HoldsRecords plan (old.made ++ part.made) (with_records records stamps)
+  holds_joined : (records : List Record) (stamps : List Stamped) → HoldsRecords plan old.made records → AreRecordsOf plan part stamps
+      → HoldsRecords plan (old.made ++ part.made) (with_records records stamps)
   holds_joined records stamps holds more = record {
     size = length-with_records records stamps ∙ holds.size;
     each = λ i has. stands_written plan records stamps i holds.size more.each (elim (cases_lt 0 (times i old.made)) [
@@ -35,9 +36,12 @@ module _ (plan : BoardPlan) (old part : SeatView) where
   }
 
 module _ {T : Type 0} (table : T → Table) (board : Board T) where
-  pub returned_records : (returned : Returned T) (stamps : Vec Stamped Global) → IsReturned table board 1 returned → returned.outcome ≡ Ok stamps → AreRecordsOf (plan_of table board) (seat_view returned.seat) stamps.items
+  pub returned_records : (returned : Returned T) (stamps : Vec Stamped Global) → IsReturned table board 1 returned → returned.outcome ≡ Ok stamps
+      → AreRecordsOf (plan_of table board) (seat_view returned.seat) stamps.items
   returned_records returned stamps back was =
-      (subst (λ r. IfOk r (λ (v : Vec Stamped Global). AreRecordsOf (plan_of table board) (seat_view returned.seat) v.items × HasNoMoreToDo (plan_of table board) (seat_view returned.seat))) was back.records).0
+      (subst (λ r. IfOk r
+      (λ (v : Vec Stamped Global). AreRecordsOf (plan_of table board) (seat_view returned.seat) v.items × HasNoMoreToDo (plan_of table board)
+      (seat_view returned.seat))) was back.records).0
 
   pub taken_none : (g : Gathered T) → HasGathered table board g → HasTakenIn table board 0 g g
   taken_none g is = record { gathered = is; parts = omega arith; halted = refl; ends = λ some. absurd (omega (arith, some)) }
@@ -51,8 +55,10 @@ module _ {T : Type 0} (table : T → Table) (board : Board T) where
     ends = λ some. one.ends (omega arith);
   }
 
-  pub taken_one : (old new : Gathered T) (returned : Returned T) (stamps : Vec Stamped Global) → HasGathered table board old → IsReturned table board 1 returned → returned.outcome ≡ Ok stamps
-      → IsSeatOf table new.seat board → seat_view new.seat ≡ joined (seat_view old.seat) (seat_view returned.seat) → new.records.items ≡ with_records old.records.items stamps.items → HasTakenIn table board 1 old new
+  pub taken_one : (old new : Gathered T) (returned : Returned T) (stamps : Vec Stamped Global) → HasGathered table board old
+      → IsReturned table board 1 returned → returned.outcome ≡ Ok stamps
+      → IsSeatOf table new.seat board → seat_view new.seat ≡ joined (seat_view old.seat) (seat_view returned.seat)
+      → new.records.items ≡ with_records old.records.items stamps.items → HasTakenIn table board 1 old new
   taken_one old new returned stamps is back was of_board same written =
       let plan = plan_of table board in
       let part = seat_view returned.seat in
@@ -61,9 +67,12 @@ module _ {T : Type 0} (table : T → Table) (board : Board T) where
         gathered = record {
           of_board = of_board;
           records = subst (λ (v : SeatView). HoldsRecords plan v.made new.records.items) (sym same)
-              (subst (HoldsRecords plan (joined (seat_view old.seat) part).made) (sym written) (holds_joined plan (seat_view old.seat) part old.records.items stamps.items is.records came.0));
+              (subst (HoldsRecords plan (joined (seat_view old.seat) part).made) (sym written)
+              (holds_joined plan (seat_view old.seat) part old.records.items stamps.items is.records came.0));
         };
         parts = ap (λ (v : SeatView). v.parts) same ∙ ap (λ n. (seat_view old.seat).parts + n) back.same_parts;
-        halted = ap (λ (v : SeatView). v.is_halted) same ∙ ap (λ b. (seat_view old.seat).is_halted || b) came.1.unhalted ∙ or_false (seat_view old.seat).is_halted;
-        ends = λ some. subst (λ (v : SeatView). (length plan.list.exchanges ≤ v.seen) ⊎ (v.is_stopped ≡ true)) (sym same) (ends_joined plan (seat_view old.seat) part came.1);
+        halted = ap (λ (v : SeatView). v.is_halted) same ∙ ap (λ b. (seat_view old.seat).is_halted || b) came.1.unhalted
+            ∙ or_false (seat_view old.seat).is_halted;
+        ends = λ some. subst (λ (v : SeatView). (length plan.list.exchanges ≤ v.seen) ⊎ (v.is_stopped ≡ true)) (sym same)
+            (ends_joined plan (seat_view old.seat) part came.1);
       }

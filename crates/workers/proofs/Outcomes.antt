@@ -1,5 +1,5 @@
 -- What a call comes to that may lack memory, from what another came to.
--- Serves `carry_out` and `share`.
+-- Serves `Posts::carry_out` and `share`.
 use Rattle.workers.proofs.Common.{◌≡◌, Result, Ok, IfOk, refl, sym, ap, subst, ◌∙◌, Fault, OutOfMemory}
 use Rattle.std.specs.Prelude.{Err, IsOkUnless}
 use Rattle.std.specs.declared.option.Option.{Option}

@@ -85,12 +85,9 @@ module _ (v : OwnerListView) (are : AreWrites v) where
   last-from : (m : ℕ) (e : Entry) → write_numbered all m ≡ Some e → base_of v < m
       → (w : Write) × ((last_write (written v) e.key ≡ Some w) × (m ≤ base_of v + w.version))
   last-from m e is current =
-      let at = current-numbered v are m e is current in
-      let ws = written v in
-      let d = write_of_entry e in
-      let test = is_write_of e.key in
-      let back = reverse ws in
-      let first = position_or_len test back in
+      let at = current-numbered v are m e is current in let ws = written v in
+      let d = write_of_entry e in let test = is_write_of e.key in
+      let back = reverse ws in let first = position_or_len test back in
       let turned = length ws - 1 - at.place in
       let same : length ws - 1 - turned ≡ at.place = omega arith in
       let there = get_or-reverse ws turned d (omega arith) ∙ ap (λ k. get_or ws k d) same ∙ at.there d in

@@ -6,8 +6,7 @@ use Rattle.version_lags.proofs.Common.{◌≡◌, ℕ, zero, suc, ◌+◌, ◌-�
 pub numbers-born : (writes : List Entry) (rise : BirthsRise writes) (m n : ℕ) (d e : Entry)
     → write_numbered writes m ≡ Some d → write_numbered writes n ≡ Some e → m ≤ n → d.born ≤ e.born
 numbers-born writes rise m n d e is_d is_e le =
-    let first = numbered-placed writes m d is_d in
-    let second = numbered-placed writes n e is_e in
+    let first = numbered-placed writes m d is_d in let second = numbered-placed writes n e is_e in
     let born = λ (x : Entry). x.born in
     omega (arith, rise first.place second.place d (omega arith) second.within, ap born (first.there d), ap born (second.there d))
 
@@ -29,8 +28,7 @@ module _ (v : OwnerListView) (are : AreWrites v) where
 
   pub current-numbered : (number : ℕ) (e : Entry) → write_numbered all number ≡ Some e → base < number → IsCurrent number e
   current-numbered number e is lt =
-      let at = numbered-placed all number e is in
-      let place = at.place - base in
+      let at = numbered-placed all number e is in let place = at.place - base in
       let within : place < length v.current = omega (arith, length-append v.earlier v.current) in
       let there : get_or v.current place e ≡ e = sym (get_or-append_right v.earlier v.current base at.place e refl (omega arith)) ∙ at.there e in
       let next = are.current place e within in
@@ -90,8 +88,7 @@ module _ (v : OwnerListView) (are : AreWrites v) where
           let size : length all ≡ base + length (written v) = omega (arith, length-map v.current write_of_entry, length-append v.earlier v.current) in
           elim (slice_get_cases (written v) first).1 [
             | inl found ↦
-                let w = found.0 in
-                let number = suc (base + first) in
+                let w = found.0 in let number = suc (base + first) in
                 let (e, is) = numbered-some all number (omega arith) (omega arith) in
                 let at = current-numbered number e is (omega arith) in
                 let there : w ≡ write_of_entry e = sym found.3 ∙ ap (λ i. get_or (written v) i w) {y = at.place} (omega arith) ∙ at.there w in

@@ -85,8 +85,7 @@ module _ {N : Type 0} {number : N → ℕ} {most : ℕ} {numbers : RoundNumbers 
       → rounds_behind (number_staleness round (list_of_owner lists r) k (least_held r k)) ≡ most_below nodes (behind r k)
   unfolding behind
   longest r k in_r in_k =
-      let list = list_of_owner lists r in
-      let held_least = least_is r k in_r in_k in
+      let list = list_of_owner lists r in let held_least = least_is r k in_r in_k in
       let is : least_held r k ≡ least_below nodes (λ p. held p r k) (last r k) = omega (arith, held_least.upto, held_least.is) in
       let least = lag-least_below list (all.are.may.together.writes r) (all.are.may.written.in_order r) round k (λ p. held p r k) (last r k) nodes
       (all.are.are.lasts.each r k in_r in_k) (λ p in_p. ((all.are.are.cells_are p in_p).each r k in_r in_k).written) in

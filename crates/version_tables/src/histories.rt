@@ -13,7 +13,6 @@ use std::alloc::Global;
 use std::marker::{Model, PhantomData};
 
 /// All writes of all owners so far, and what exchanges read of them.
-#[derive(Drop)]
 pub struct Histories<N: Number, H: Written> {
     lists: Vec<OwnerWrites>,
     // How many writes each owner has made, and how many of them are of earlier generations.
@@ -26,6 +25,21 @@ pub struct Histories<N: Number, H: Written> {
     keys: u32,
     rounds: u32,
     written: PhantomData<H>,
+}
+
+impl<N: Number, H: Written> Drop for Histories<N, H> {
+    fn drop(self) {
+        let Histories {
+            lists: _,
+            counts: _,
+            bases: _,
+            lasts: _,
+            ends: _,
+            keys: _,
+            rounds: _,
+            written: _,
+        } = self;
+    }
 }
 
 impl<N: Number, H: Written> Model for Histories<N, H> {

@@ -7,8 +7,7 @@ loop-counted-init g c are = rw are.are.begins (c.in_ok-whole.ensures.0 0)
 
 pub take_in-requires : goal.take_in-requires
 take_in-requires g c =
-    let are = c.requires.pieces in
-    let i = c.loop-counted.counted-index in
+    let are = c.requires.pieces in let i = c.loop-counted.counted-index in
     let read = slice_get_read c.args.pieces.now _ i c.counted-item.result refl c.loop-counted-test.true c.counted-item.is in
     record {
       v = numbers_seen g.N.Number.number c.args.numbers.now;

@@ -23,8 +23,7 @@ returns-then-widen-place g c =
 
 pub loop-place-preserved : goal.loop-place-preserved
 loop-place-preserved g c =
-    let place = c.loop-place.place in
-    let current = c.loop-place.invariant.current in
+    let place = c.loop-place.place in let current = c.loop-place.invariant.current in
     record {
       current = omega arith;
       none = walk-next c.requires.walks place current c.loop-place.invariant.none (λ e is. elim c.match-numbered.branch [

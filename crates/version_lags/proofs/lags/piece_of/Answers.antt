@@ -34,12 +34,10 @@ total_upto-requires g c =
 
 pub loop-at-preserved : goal.loop-at-preserved
 loop-at-preserved g c =
-    let number = g.N.Number.number in
-    let numbers = c.args.numbers.now in
+    let number = g.N.Number.number in let numbers = c.args.numbers.now in
     let v = numbers_seen number numbers in
     let read = table-read g.N.Number.number numbers c.requires.0 c.loop-at.at c.index-numbers-at.result (omega arith) in
-    let grids = c.requires.0 in
-    let piece = c.loop-at.piece in
+    let grids = c.requires.0 in let piece = c.loop-at.piece in
     let here = map number (get_or numbers.cells.now c.loop-at.at c.index-numbers-at.result).now in
     let items = with_items_is piece.least c.count_behind-behind.new.least (c.count_behind-behind.auto.least ∙ c.deref_mut.ensures.len) in
     let stale = ap (λ n. piece.stale + n) (c.from.ensures ∙ c.count_behind-behind.ensures.count) in
@@ -49,8 +47,7 @@ loop-at-preserved g c =
     elim c.if-forgot.branch [
       | then-forgot w ↦ rw (w.piece-is, items) (step _ (ap (λ n. piece.leftover + n) (w.from-then-forgot.ensures ∙ w.total_upto.ensures)))
       | else-forgot w ↦
-          let whole = length-map numbers.bases.now number in
-          let zero = eq-eqb c.count_held-forgot.result 0 (omega arith) in
+          let whole = length-map numbers.bases.now number in let zero = eq-eqb c.count_held-forgot.result 0 (omega arith) in
           let none = (none-passes (λ r. nat_lt 0 (slice_index v.bases r)) _ _ _ c.count_held-forgot.ensures whole).0 zero in
           let left = none_left v grids here (λ r lt. omega (arith, ltb-false 0 (slice_index v.bases r) (none r (omega arith)))) in
           rw (w.piece-is, items) (step piece.leftover (omega arith))

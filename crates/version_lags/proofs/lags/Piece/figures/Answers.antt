@@ -6,8 +6,7 @@ use Rattle.version_lags.proofs.lags.Piece.figures.Goals as goal
 
 pub least_behind-requires : goal.least_behind-requires
 least_behind-requires g c =
-    let numbers = c.args.numbers.now in
-    let last = length-map numbers.last.now g.N.Number.number in
+    let numbers = c.args.numbers.now in let last = length-map numbers.last.now g.N.Number.number in
     let least = length-map c.args.self.now.least.items g.N.Number.number in
     record {
       beside = record {
@@ -31,12 +30,9 @@ loop-owner-preserved g c =
 
 pub loop-owner-preserved-then-is_upto : goal.loop-owner-preserved-then-is_upto
 loop-owner-preserved-then-is_upto g c =
-    let number = g.N.Number.number in
-    let numbers = c.args.numbers.now in
-    let r = c.loop-owner.owner in
-    let lt = c.loop-owner-test.true in
-    let since = c.saturating_sub-since.result in
-    let first = c.index-first.result.now in
+    let number = g.N.Number.number in let numbers = c.args.numbers.now in
+    let r = c.loop-owner.owner in let lt = c.loop-owner-test.true in
+    let since = c.saturating_sub-since.result in let first = c.index-first.result.now in
     let walk =
     may-walk c.requires c.deref.result c.deref.ensures.value c.in_ok-firsts.firsts.items c.in_ok-firsts.ensures r lt first c.index-first.ensures in
     let row = c.row-row.result.now in

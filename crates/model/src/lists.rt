@@ -13,22 +13,11 @@ use std::marker::Model;
 pub const MOST_EXCHANGES: u32 = MOST_NODES;
 
 /// The exchanges of one round, in their order: each of two nodes, among 2 to 4096 in all.
-#[derive(Debug)]
+#[derive(Debug, Drop)]
 pub struct RoundList {
     nodes: u32,
     unreached: u32,
     exchanges: Vec<Exchange>,
-}
-
-// Written out: a derived drop is proved once more in each crate that lets a list go.
-impl Drop for RoundList {
-    fn drop(self) {
-        let RoundList {
-            nodes: _,
-            unreached: _,
-            exchanges: _,
-        } = self;
-    }
 }
 
 impl Model for RoundList {

@@ -34,10 +34,7 @@ pub trait Number: Copy {
         ensures { result ≡ nat_lt (number other) (number self) };
 
     fn is_upto(self, other: Self) -> bool
-        ensures { result ≡ nat_le (number self) (number other) }
-    {
-        !self.is_above(other)
-    }
+        ensures { result ≡ nat_le (number self) (number other) };
 
     fn max_with(self, other: Self) -> Self
         ensures { number result ≡ max (number self) (number other) };
@@ -87,6 +84,10 @@ impl Number for u8 {
 
     fn is_above(self, other: u8) -> bool {
         self > other
+    }
+
+    fn is_upto(self, other: u8) -> bool {
+        self <= other
     }
 
     fn max_with(self, other: u8) -> u8 {
@@ -154,6 +155,10 @@ impl Number for Short {
         self.0 > other.0
     }
 
+    fn is_upto(self, other: Short) -> bool {
+        self.0 <= other.0
+    }
+
     fn max_with(self, other: Short) -> Short {
         Short(self.0.max(other.0))
     }
@@ -200,6 +205,10 @@ impl Number for u32 {
 
     fn is_above(self, other: u32) -> bool {
         self > other
+    }
+
+    fn is_upto(self, other: u32) -> bool {
+        self <= other
     }
 
     fn max_with(self, other: u32) -> u32 {

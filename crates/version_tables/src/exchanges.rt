@@ -109,11 +109,11 @@ fn exchange_deltas<N: Number, H: Written>(
         let digest1 = initiator.digest_size(mode);
         return Ok(sent_back(digest1, back.digest, back.marked.counts));
     }
-    let initiator_before = Vec::from_slice(course.alloc, initiator.greatest())?;
-    let responder_before = Vec::from_slice(course.alloc, responder.greatest())?;
     let forth = delta(initiator, responder, course)?;
     let histories = course.histories;
     let first = First::of(mode);
+    let initiator_before = Vec::from_slice(course.alloc, initiator.greatest())?;
+    let responder_before = Vec::from_slice(course.alloc, responder.greatest())?;
     let came = what_comes(&back, &responder_before, first, false);
     let went = what_comes(&forth, &initiator_before, first, plan.lost3);
     let came_back = responder.cells();

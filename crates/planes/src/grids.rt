@@ -149,7 +149,6 @@ fn count_two<N: Number>(counts: &mut [N], plane: &[N], other: &[N], low: &[N], h
 }
 
 /// For each owner the least of the numbers that a closure makes of its places, or `N::greatest()` where there are none.
-///
 pub fn least_of<N: Number, F: Fn(usize, usize) -> N>(
     alloc: Global,
     size: Size,

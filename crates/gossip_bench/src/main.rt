@@ -15,11 +15,9 @@ const STREAMS: i32 = 3;
 
 fn main(rt: HostRuntime) -> ExitCode {
     // (held to the end, so that no file of the program gets the number of a stream that its caller closed)
-    let _held = [
-        in_place_of_a_stream(&rt),
-        in_place_of_a_stream(&rt),
-        in_place_of_a_stream(&rt),
-    ];
+    let _first = in_place_of_a_stream(&rt);
+    let _second = in_place_of_a_stream(&rt);
+    let _third = in_place_of_a_stream(&rt);
     ExitCode::from(run_process(&rt, &mut Push::new(rt.stderr())))
 }
 

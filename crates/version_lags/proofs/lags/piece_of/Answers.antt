@@ -1,4 +1,4 @@
-use Rattle.version_lags.proofs.Common.{◌≡◌, ◌+◌, ℕ, nat_lt, get_or, map, length, slice_index, sym, ap, ◌∙◌, subst, arith, eq-eqb, ltb-false, none-passes, length-map, with_items_is, IsGrid, total_of, numbers_seen, is_left}
+use Rattle.version_lags.proofs.Common.{◌≡◌, ◌+◌, ℕ, nat_lt, get_or, map, length, slice_index, sym, ap, ◌∙◌, subst, arith, Bor, eq-eqb, ltb-false, none-passes, length-map, with_items_is, IsGrid, total_of, numbers_seen, is_left}
 use Rattle.version_lags.proofs.Parts.{counts-more, none_left, table-read}
 use Rattle.version_lags.proofs.lags.piece_of.Goals as goal
 use Rattle.version_lags.proofs.lags.piece_of.Goals.{then-forgot, else-forgot}
@@ -52,3 +52,9 @@ loop-at-preserved g c =
           let left = none_left v grids here (λ r lt. omega (arith, ltb-false 0 (slice_index v.bases r) (none r (omega arith)))) in
           rw (w.piece-is, items) (step piece.leftover (omega arith))
     ]
+
+pub bounds-numbers-at : goal.bounds-numbers-at
+bounds-numbers-at g c = let cells = c.args.numbers.now.cells.now in omega (arith, length-map cells (λ (x : Bor _). map g.N.Number.number x.now))
+
+pub returns : goal.returns
+returns g c = let whole : c.loop-at.at ≡ c.args.to = omega arith in (rw whole at c.loop-at.invariant, tt)

@@ -52,3 +52,12 @@ returns g c =
           (rw whole at c.loop-owner.invariant),
       tt,
     )
+
+pub bounds-row-owner : goal.bounds-row-owner
+bounds-row-owner g c = omega (arith, length-map c.row-row.result.now g.N.Number.number)
+
+pub offset_bounds-row-owner : goal.offset_bounds-row-owner
+offset_bounds-row-owner g c = omega (arith, bounds-row-owner g c)
+
+pub index-first-requires : goal.index-first-requires
+index-first-requires g c = omega (arith, length-map c.in_ok-firsts.firsts.items g.N.Number.number, c.in_ok-firsts.ensures.size)

@@ -1,7 +1,7 @@
 use Rattle.version_lags.proofs.Common.{◌+◌, sym, ap, ◌∙◌, arith, same_Some, Entry, cells_in}
 use Rattle.version_lags.proofs.Walks.{walk-next, walk-none, walk-found, walk-read, walk-index, born-upto}
 use Rattle.version_lags.proofs.lags.lag_of_owner.Goals as goal
-use Rattle.version_lags.proofs.lags.lag_of_owner.Goals.{in-Some+else-widen-place, in-None}
+use Rattle.version_lags.proofs.lags.lag_of_owner.Goals.{in-Some+else-widen-place, in_default}
 
 pub returns-then-widen : goal.returns-then-widen
 returns-then-widen g c = walk-none c.requires.walks _ c.requires.walks.start (omega arith)
@@ -32,7 +32,7 @@ loop-place-preserved g c =
             let held = walk-read c.requires place current _ there w.index-cells-write.result w.index-cells-write.is in
             let least = λ (y : Entry). cells_in g.N.Number.number c.args.least c.args.owner y.key in
             omega (arith, ap least (same_Some _ e (sym there ∙ is)))
-        | in-None w ↦ absurd (cc (w.in-None.ensures, is))
+        | in_default w ↦ absurd (cc (w.in_default.ensures, is))
       ]);
     }
 

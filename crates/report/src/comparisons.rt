@@ -16,7 +16,12 @@ pub fn compare_header<W: Sink>(alloc: Global, writer: &mut W, format: u32) -> Re
     ensures { WritesText W.Sink writer.old writer.new (compare_header_line format) result }
 {
     let told = Told::Names;
-    write_columns(alloc, writer, &[Cell::Text("mode")], FormatLine { format, told })
+    write_columns(
+        alloc,
+        writer,
+        &[Cell::Text("mode")],
+        FormatLine { format, told },
+    )
 }
 
 /// Writes the row of one round under a mode in a format, and flushes. An error is
@@ -32,5 +37,10 @@ pub fn write_compare_row<W: Sink>(
     ensures { WritesText W.Sink writer.old writer.new (compare_line format mode row.now) result }
 {
     let told = Told::Numbers(row);
-    write_columns(alloc, writer, &[Cell::Text(mode.name())], FormatLine { format, told })
+    write_columns(
+        alloc,
+        writer,
+        &[Cell::Text(mode.name())],
+        FormatLine { format, told },
+    )
 }

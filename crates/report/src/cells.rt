@@ -26,7 +26,15 @@ pub(crate) fn make_line(alloc: Global, cells: &[Cell]) -> Result<Vec<u8>, Fault>
 {
     let mut lines = WriterBuilder::new().from_writer(Vec::new(alloc));
     put_line(alloc, &mut lines, cells)?;
-    lines.into_inner().map_err(|_| Fault::OutOfMemory)
+    bytes_of(lines)
+}
+
+/// The bytes of these lines.
+pub(crate) fn bytes_of(lines: Writer<Vec<u8>>) -> Result<Vec<u8>, Fault>
+    ensures bytes { IfOk result (λ bytes. bytes.items ≡ bytes_written lines) }
+    ensures only { IsOkUnless result Fault.OutOfMemory }
+{
+    lines.into_inner().ok().ok_or(Fault::OutOfMemory)
 }
 
 /// Adds a line of these cells to the lines so far.

@@ -1,12 +1,12 @@
 //! The columns of the report, in one list: its header, its rows and the comparison go by it.
 
-ghost use Rattle.std.specs.Prelude.{◌≡◌, ◌++◌, map, IsTrue, OnOk, IsOkUnless};
+ghost use Rattle.std.specs.Prelude.{◌≡◌, ◌++◌, map, true, IsTrue, OnOk, IsOkUnless};
 ghost use Rattle.std.specs.List.{list_all};
 ghost use Rattle.report.specs.inner.Cells.{cell_text, is_plain_cell, AddsCells};
 ghost use Rattle.report.specs.Columns.{rule_of};
 ghost use Rattle.report.specs.calls.Columns.{IsFormat};
 ghost use Rattle.report.specs.Line.{line_of};
-ghost use Rattle.report.specs.Report.{names, numbers};
+ghost use Rattle.report.specs.inner.Told.{text_told, texts_told};
 ghost use Rattle.report.specs.calls.Writing.{WritesText};
 
 use crate::cells::Cell;
@@ -91,70 +91,59 @@ impl Column {
     }
 }
 
-/// Writes a line of these cells and of the names of a format's columns, and flushes.
-pub(crate) fn write_names<W: Sink>(
-    alloc: Global,
-    writer: &mut W,
-    front: &[Cell<'static>],
-    format: u32,
-) -> Result<(), Fault>
-    requires format { IsFormat format }
-    requires plain { IsTrue (list_all is_plain_cell front.now) }
-    ensures { WritesText W.Sink writer.old writer.new (line_of (map cell_text front.now ++ names format)) result }
-{
-    let mut cells = Vec::from_slice(alloc, front)?;
-    push_names(&mut cells, format)?;
-    write_line(alloc, writer, &cells)
+/// What a line tells of each column.
+#[derive(Clone, Copy)]
+pub(crate) enum Told<'a> {
+    Names,
+    Numbers(&'a Row),
 }
 
-fn push_names(cells: &mut Vec<Cell<'static>>, format: u32) -> Result<(), Fault>
-    requires format { IsFormat format }
-    requires plain { IsTrue (list_all is_plain_cell cells.old.items) }
-    ensures added { OnOk result (AddsCells cells.old.items cells.new.items (names format)) }
-    ensures only { IsOkUnless result Fault.OutOfMemory }
-{
-    for column in Column::ALL {
-        if column.since() <= format {
-            cells.push(Cell::Text(column.name()))?;
+impl Told<'_> {
+    fn cell(self, column: Column) -> Cell<'static>
+        ensures text { cell_text result ≡ text_told self.entry column }
+        ensures plain { is_plain_cell result ≡ true }
+    {
+        match self {
+            Told::Names => Cell::Text(column.name()),
+            Told::Numbers(row) => Cell::Number(column.number(row)),
         }
     }
-    Ok(())
 }
 
-/// A row, and the format in which it is written.
+/// What a line tells, and the format whose columns it has.
 #[derive(Clone, Copy)]
-pub(crate) struct FormatRow<'a> {
+pub(crate) struct FormatLine<'a> {
     pub(crate) format: u32,
-    pub(crate) row: &'a Row,
+    pub(crate) told: Told<'a>,
     ghost known: { IsFormat format },
 }
 
-/// Writes a line of these cells and of what a row has in its format's columns, and flushes.
-pub(crate) fn write_numbers<W: Sink>(
+/// Writes a line of these cells and of what is told of a format's columns, and flushes.
+pub(crate) fn write_columns<W: Sink>(
     alloc: Global,
     writer: &mut W,
     front: &[Cell<'static>],
-    row: FormatRow,
+    line: FormatLine,
 ) -> Result<(), Fault>
     requires plain { IsTrue (list_all is_plain_cell front.now) }
     ensures { WritesText W.Sink writer.old writer.new
-        (line_of (map cell_text front.now ++ numbers row.entry.format row.entry.row.now)) result }
+        (line_of (map cell_text front.now ++ texts_told line.entry.told line.entry.format)) result }
 {
     let mut cells = Vec::from_slice(alloc, front)?;
-    push_numbers(&mut cells, row)?;
+    push_columns(&mut cells, line)?;
     write_line(alloc, writer, &cells)
 }
 
-fn push_numbers(cells: &mut Vec<Cell<'static>>, row: FormatRow) -> Result<(), Fault>
+fn push_columns(cells: &mut Vec<Cell<'static>>, line: FormatLine) -> Result<(), Fault>
     requires plain { IsTrue (list_all is_plain_cell cells.old.items) }
     ensures added { OnOk result
-        (AddsCells cells.old.items cells.new.items (numbers row.entry.format row.entry.row.now)) }
+        (AddsCells cells.old.items cells.new.items (texts_told line.entry.told line.entry.format)) }
     ensures only { IsOkUnless result Fault.OutOfMemory }
 {
-    let FormatRow { format, row } = row;
+    let FormatLine { format, told } = line;
     for column in Column::ALL {
         if column.since() <= format {
-            cells.push(Cell::Number(column.number(row)))?;
+            cells.push(told.cell(column))?;
         }
     }
     Ok(())

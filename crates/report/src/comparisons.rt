@@ -5,7 +5,7 @@ ghost use Rattle.report.specs.Compare.{compare_header_line, compare_line};
 ghost use Rattle.report.specs.calls.Writing.{WritesText};
 
 use crate::cells::Cell;
-use crate::columns::{FormatRow, write_names, write_numbers};
+use crate::columns::{FormatLine, Told, write_columns};
 use bench_types::{Fault, Mode, Row, Sink};
 use std::alloc::Global;
 
@@ -15,7 +15,13 @@ pub fn compare_header<W: Sink>(alloc: Global, writer: &mut W, format: u32) -> Re
     requires { IsFormat format }
     ensures { WritesText W.Sink writer.old writer.new (compare_header_line format) result }
 {
-    write_names(alloc, writer, &[Cell::Text("mode")], format)
+    let told = Told::Names;
+    write_columns(
+        alloc,
+        writer,
+        &[Cell::Text("mode")],
+        FormatLine { format, told },
+    )
 }
 
 /// Writes the row of one round under a mode in a format, and flushes. An error is
@@ -30,6 +36,11 @@ pub fn write_compare_row<W: Sink>(
     requires { IsFormat format }
     ensures { WritesText W.Sink writer.old writer.new (compare_line format mode row.now) result }
 {
-    let front = [Cell::Text(mode.name())];
-    write_numbers(alloc, writer, &front, FormatRow { format, row })
+    let told = Told::Numbers(row);
+    write_columns(
+        alloc,
+        writer,
+        &[Cell::Text(mode.name())],
+        FormatLine { format, told },
+    )
 }

@@ -4,7 +4,7 @@ ghost use Rattle.report.specs.calls.Columns.{IsFormat};
 ghost use Rattle.report.specs.calls.Writing.{WritesText};
 ghost use Rattle.report.specs.Report.{report_header_line, report_line};
 
-use crate::columns::{FormatRow, write_names, write_numbers};
+use crate::columns::{FormatLine, Told, write_columns};
 use bench_types::{Fault, Row, Sink};
 use std::alloc::Global;
 
@@ -14,7 +14,8 @@ pub fn report_header<W: Sink>(alloc: Global, writer: &mut W, format: u32) -> Res
     requires { IsFormat format }
     ensures { WritesText W.Sink writer.old writer.new (report_header_line format) result }
 {
-    write_names(alloc, writer, &[], format)
+    let told = Told::Names;
+    write_columns(alloc, writer, &[], FormatLine { format, told })
 }
 
 /// Writes the row of one round in a format, and flushes. An error is
@@ -28,5 +29,6 @@ pub fn write_report_row<W: Sink>(
     requires { IsFormat format }
     ensures { WritesText W.Sink writer.old writer.new (report_line format row.now) result }
 {
-    write_numbers(alloc, writer, &[], FormatRow { format, row })
+    let told = Told::Numbers(row);
+    write_columns(alloc, writer, &[], FormatLine { format, told })
 }

@@ -8,7 +8,7 @@ ghost use Rattle.report.specs.calls.Writing.{WritesText};
 ghost use Rattle.model.specs.declared.lists.TheConstants.{MOST_EXCHANGES};
 ghost use Rattle.report.specs.Trace.{trace_header_line, fate_name, trace_line, trace_lines};
 
-use crate::cells::{Cell, put_line};
+use crate::cells::{Cell, bytes_of, put_line};
 use crate::outputs::write_line;
 use bench_types::{Exchange, Fate, Fault, Record, Sink, write_text};
 use csv::WriterBuilder;
@@ -78,7 +78,7 @@ fn make_rows(
         let cells = cells_of(round, index, exchange, &records[index]);
         put_line(alloc, &mut lines, &cells)?;
     }
-    lines.into_inner().map_err(|_| Fault::OutOfMemory)
+    bytes_of(lines)
 }
 
 // The cells of a row.

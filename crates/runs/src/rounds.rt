@@ -50,35 +50,46 @@ pub(crate) fn write_over<
     let Resources { rt, alloc, workers } = *resources;
     let posts: Posts<T, K, FreeGate, K::Job> = Posts::new(alloc, workers)?;
     let by = &posts;
-    let lent = Lent { scenario, output };
+    let lent = Beside {
+        held: scenario,
+        output,
+    };
     let done = posts.with_threads(
         rt,
         lent,
         move |lent|
-            requires { MayWriteAll K.may_write lent.scenario }
-            ensures name { result.0.ghost_name ≡ lent.entry.output.ghost_name }
-            ensures answers { AnswersRounds O.wrote O.stops lent.entry.scenario lent.entry.output.now
-                result.0.now by.entry.now result.1 }
+            requires { MayWriteAll K.may_write lent.held }
+            ensures name { result.output.ghost_name ≡ lent.entry.output.ghost_name }
+            ensures answers { AnswersRounds O.wrote O.stops lent.entry.held lent.entry.output.now
+                result.output.now by.entry.now result.held }
         {
-            let Lent { scenario, output } = lent;
+            let Beside {
+                held: scenario,
+                output,
+            } = lent;
             let resources = Resources {
                 rt,
                 alloc,
                 workers: by.workers(),
             };
-            let answer = write_by(&resources, by, scenario, output);
-            (output, answer)
+            let held = write_by(&resources, by, scenario, output);
+            Beside { held, output }
         },
     );
     drop(posts);
     match done {
-        Ok((output, answer)) => {
+        Ok(
+            Beside {
+                held: answer,
+                output,
+            },
+        ) => {
             take_back(output);
             answer
         }
         Err(
-            Lent {
-                scenario: _scenario,
+            Beside {
+                held: _scenario,
                 output,
             },
         ) => {
@@ -88,10 +99,10 @@ pub(crate) fn write_over<
     }
 }
 
-// A scenario, and what its rounds are written to.
+// A scenario, or what came of it, and what its rounds are written to.
 #[derive(Drop)]
-struct Lent<'a, O> {
-    scenario: Scenario,
+struct Beside<'a, S, O> {
+    held: S,
     output: &'a mut O,
 }
 

@@ -53,8 +53,7 @@ module _ (v : OwnerListView) (are : AreWrites v) where
     -- so the lesser of two has been longest
     lag-least : (c d : ℕ) → c ≤ length all → d ≤ length all → max (lag c) (lag d) ≡ lag (min c d)
     lag-least c d in_c in_d =
-        let one = λ (le : c ≤ d). lag-falls c d le in_d in
-        let other = λ (le : d ≤ c). lag-falls d c le in_c in
+        let one = λ (le : c ≤ d). lag-falls c d le in_d in let other = λ (le : d ≤ c). lag-falls d c le in_c in
         grind arith
 
     pub lag-least_below : (f : ℕ → ℕ) (last n : ℕ) → IsLastNumber v key last → ((p : ℕ) → p < n → f p ≤ length all)
@@ -68,8 +67,7 @@ module _ (v : OwnerListView) (are : AreWrites v) where
   -- what is of an earlier generation
   earlier-numbered : (m : ℕ) (e : Entry) → write_numbered all m ≡ Some e → m ≤ base_of v → e.generation < v.generation
   earlier-numbered m e is le =
-      let at = numbered-placed all m e is in
-      let earlier : at.place < base_of v = omega arith in
+      let at = numbered-placed all m e is in let earlier : at.place < base_of v = omega arith in
       let there = sym (get_or_append_left v.earlier v.current e at.place earlier) ∙ at.there e in
       omega (arith, are.earlier at.place e earlier, ap (λ (x : Entry). x.generation) there)
 
@@ -85,16 +83,13 @@ module _ (v : OwnerListView) (are : AreWrites v) where
   last-from : (m : ℕ) (e : Entry) → write_numbered all m ≡ Some e → base_of v < m
       → (w : Write) × ((last_write (written v) e.key ≡ Some w) × (m ≤ base_of v + w.version))
   last-from m e is current =
-      let at = current-numbered v are m e is current in let ws = written v in
-      let d = write_of_entry e in let test = is_write_of e.key in
-      let back = reverse ws in let first = position_or_len test back in
-      let turned = length ws - 1 - at.place in
+      let at = current-numbered v are m e is current in let ws = written v in let d = write_of_entry e in let test = is_write_of e.key in
+      let back = reverse ws in let first = position_or_len test back in let turned = length ws - 1 - at.place in
       let same : length ws - 1 - turned ≡ at.place = omega arith in
       let there = get_or-reverse ws turned d (omega arith) ∙ ap (λ k. get_or ws k d) same ∙ at.there d in
       let passes = eq-eqb (get_or back turned d).key e.key (ap (λ (w : Write). w.key) there) in
       let upto : first ≤ turned = grind (arith, fails_before_first test back turned d) in
-      let place = length ws - 1 - first in
-      let within : place < length v.current = omega (arith, length-map v.current write_of_entry) in
+      let place = length ws - 1 - first in let within : place < length v.current = omega (arith, length-map v.current write_of_entry) in
       let here = get_or-reverse ws first d (omega arith) ∙ get_or-map write_of_entry v.current place e d within in
       let version = ap (λ (w : Write). w.version) here in (
         get_or back first d,

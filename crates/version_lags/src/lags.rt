@@ -114,13 +114,10 @@ fn lag_of_owner<N: Number>(
     }
     let from = list.earlier_count().max(first.widen() as usize);
     for place in from..list.count() {
-        match list.numbered(place as u32 + 1) {
-            Some(write) => {
-                if cells[write.key as usize * size.nodes + owner].widen() <= place as u32 {
-                    return round - write.born + 1;
-                }
+        if let Some(write) = list.numbered(place as u32 + 1) {
+            if cells[write.key as usize * size.nodes + owner].widen() <= place as u32 {
+                return round - write.born + 1;
             }
-            None => {}
         }
     }
     0

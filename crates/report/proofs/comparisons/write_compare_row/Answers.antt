@@ -3,4 +3,4 @@ use Rattle.report.proofs.comparisons.write_compare_row.Goals as goal
 
 pub returns : goal.returns
 unfolding compare_line
-returns g c = rw (c.name.ensures.name) at c.write_numbers.ensures
+returns g c = rw (c.name.ensures.name) at c.write_columns.ensures

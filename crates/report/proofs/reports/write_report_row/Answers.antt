@@ -3,4 +3,4 @@ use Rattle.report.proofs.reports.write_report_row.Goals as goal
 
 pub returns : goal.returns
 unfolding report_line
-returns g c = c.write_numbers.ensures
+returns g c = c.write_columns.ensures

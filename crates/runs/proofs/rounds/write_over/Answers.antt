@@ -20,7 +20,8 @@ returns-in-Err g c =
 
 pub returns-in-Ok : goal.returns-in-Ok
 returns-in-Ok g c =
-    subst (λ now. AnswersRounds g.O.RoundWriter.wrote g.O.RoundWriter.stops c.args.scenario c.args.output.now now c.args.resources.now.workers c.in-Ok.answer)
+    let came = c.in-Ok.field-0 in
+    subst (λ now. AnswersRounds g.O.RoundWriter.wrote g.O.RoundWriter.stops c.args.scenario c.args.output.now now c.args.resources.now.workers came.held)
     (sym c.take_back.ensures ∙ grind arith)
-    (subst (λ workers. AnswersRounds g.O.RoundWriter.wrote g.O.RoundWriter.stops c.args.scenario c.args.output.now c.in-Ok.output.now workers c.in-Ok.answer)
+    (subst (λ workers. AnswersRounds g.O.RoundWriter.wrote g.O.RoundWriter.stops c.args.scenario c.args.output.now came.output.now workers came.held)
     c.in_ok-posts.ensures.workers c.in-Ok.ensures.done.1)

@@ -1,7 +1,6 @@
 use Rattle.version_lags.proofs.Common.{◌+◌, sym, ap, ◌∙◌, arith, same_Some, Entry, cells_in}
 use Rattle.version_lags.proofs.Walks.{walk-next, walk-none, walk-found, walk-read, walk-index, born-upto}
 use Rattle.version_lags.proofs.lags.lag_of_owner.Goals as goal
-use Rattle.version_lags.proofs.lags.lag_of_owner.Goals.{in-Some+else-widen-place, in-None}
 
 pub returns-then-widen : goal.returns-then-widen
 returns-then-widen g c = walk-none c.requires.walks _ c.requires.walks.start (omega arith)
@@ -27,12 +26,11 @@ loop-place-preserved g c =
     record {
       current = omega arith;
       none = walk-next c.requires.walks place current c.loop-place.invariant.none (λ e is. elim c.match-numbered.branch [
-        | in-Some+else-widen-place w ↦
-            let there = w.in-Some.ensures in
-            let held = walk-read c.requires place current _ there w.index-cells-write.result w.index-cells-write.is in
+        | goal.in-Some+else-widen-place w ↦
+            let there = w.in-Some.ensures in let held = walk-read c.requires place current _ there w.index-cells-write.result w.index-cells-write.is in
             let least = λ (y : Entry). cells_in g.N.Number.number c.args.least c.args.owner y.key in
             omega (arith, ap least (same_Some _ e (sym there ∙ is)))
-        | in-None w ↦ absurd (cc (w.in-None.ensures, is))
+        | goal.in_default w ↦ absurd (cc (w.in_default.ensures, is))
       ]);
     }
 

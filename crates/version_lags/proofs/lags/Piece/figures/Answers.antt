@@ -23,15 +23,13 @@ lag_of_owner-lag-requires g c =
 
 pub loop-owner-preserved : goal.loop-owner-preserved
 loop-owner-preserved g c =
-    let r = c.loop-owner.owner in
-    let joined : c.max-greatest.result ≡ max c.loop-owner.greatest c.lag_of_owner-lag.result = search rules in
+    let r = c.loop-owner.owner in let joined : c.max-greatest.result ≡ max c.loop-owner.greatest c.lag_of_owner-lag.result = search rules in
     let list = get_or_default c.args.numbers.now.lists.now r c.index-numbers-owner.result no_writes c.loop-owner-test.true in
     most-next _ r _ _ _ c.loop-owner.invariant joined (rw list at c.lag_of_owner-lag.ensures)
 
 pub loop-owner-preserved-then-is_upto : goal.loop-owner-preserved-then-is_upto
 loop-owner-preserved-then-is_upto g c =
-    let number = g.N.Number.number in let numbers = c.args.numbers.now in
-    let r = c.loop-owner.owner in let lt = c.loop-owner-test.true in
+    let number = g.N.Number.number in let numbers = c.args.numbers.now in let r = c.loop-owner.owner in let lt = c.loop-owner-test.true in
     let since = c.saturating_sub-since.result in let first = c.index-first.result.now in
     let walk =
     may-walk c.requires c.deref.result c.deref.ensures.value c.in_ok-firsts.firsts.items c.in_ok-firsts.ensures r lt first c.index-first.ensures in
@@ -52,3 +50,12 @@ returns g c =
           (rw whole at c.loop-owner.invariant),
       tt,
     )
+
+pub bounds-row-owner : goal.bounds-row-owner
+bounds-row-owner g c = omega (arith, length-map c.row-row.result.now g.N.Number.number)
+
+pub offset_bounds-row-owner : goal.offset_bounds-row-owner
+offset_bounds-row-owner g c = omega (arith, bounds-row-owner g c)
+
+pub index-first-requires : goal.index-first-requires
+index-first-requires g c = omega (arith, length-map c.in_ok-firsts.firsts.items g.N.Number.number, c.in_ok-firsts.ensures.size)

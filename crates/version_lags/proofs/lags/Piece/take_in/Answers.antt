@@ -1,4 +1,4 @@
-use Rattle.version_lags.proofs.Common.{◌+◌, ◌*◌, arith, refl, ◌∙◌, with_items_is, plane-within}
+use Rattle.version_lags.proofs.Common.{◌+◌, ◌*◌, arith, refl, ◌∙◌, with_items_is, plane-within, length-map, Piece}
 use Rattle.version_lags.proofs.Parts.{counts-joined}
 use Rattle.version_lags.proofs.lags.Piece.take_in.Goals as goal
 
@@ -12,3 +12,8 @@ returns g c v from mid to grids one two =
       each = λ r k in_r in_k. lowered.each (k * v.nodes + r)
           (omega (arith, one.least_is.size, plane-within v.nodes v.keys _ k grids.grid in_k, grids.grid.whole));
     }))
+
+pub lower-requires : goal.lower-requires
+lower-requires g c =
+    let same = λ (piece : Piece _). length-map piece.least.items g.N.Number.number in
+    record { plane = omega (arith, same c.args.self.now, same c.args.others.now, c.requires.second.least_is.size, c.requires.first.least_is.size) }

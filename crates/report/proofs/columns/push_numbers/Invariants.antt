@@ -1,7 +1,0 @@
-use Rattle.std.proofs.Common.{decimal}
-use Rattle.report.specs.Columns.{rule_of}
-use Rattle.report.proofs.ColumnFacts.{ArePushed}
-use Rattle.report.proofs.columns.push_numbers.Given as goal
-
-abbrev pub invariant-loop-column : goal.invariant-loop-column
-invariant-loop-column l = ArePushed (λ c. decimal ((rule_of c).number l.row)) l.format l.column-index l.initial.cells.items l.cells.items

@@ -149,7 +149,7 @@ fn all_before(alloc: Global, nodes: u32, exchanges: &[Exchange]) -> Result<Vec<B
         let responder = exchange.responder as usize;
         let first = last[initiator];
         let second = unless_same(first, last[responder]);
-        before.push(Before { first, second })?;
+        before.push_reserved(Before { first, second });
         last[initiator] = Some(i as u32);
         last[responder] = Some(i as u32);
     }

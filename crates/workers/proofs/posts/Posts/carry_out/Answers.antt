@@ -8,17 +8,17 @@ share_out-requires-clause-start g c _ _ =
     let opened = c.in_ok-opened.ensures in
     record {
       of_shift = opened.of_shift;
-      seat = opened.begun.seated.seat;
-      several = opened.begun.several;
-      trays = omega (arith, opened.trays, opened.begun.tasks.one_each);
+      seat = opened.seated.seat;
+      several = opened.several;
+      trays = omega (arith, opened.trays, opened.tasks.one_each);
     }
 
 pub returns-clause-done : goal.returns-clause-done
 returns-clause-done g c =
     let opened = c.in_ok-opened.ensures in
     where_done c.share_out.result (λ done out. record {
-      exchanged = subst (λ plan. IsEndOf g.T.MemoryTable.table plan done.tables.items done.records.items) opened.begun.seated.made out.closed.ended;
-      shared = out.closed.shared ∙ opened.shared;
+      exchanged = subst (λ plan. IsEndOf g.T.MemoryTable.table plan done.tables.items done.records.items) opened.seated.made out.ended;
+      shared = out.shared ∙ opened.shared;
       made = out.made;
     }) c.share_out.ensures
 

@@ -1,5 +1,5 @@
 -- What a call comes to that may lack memory, from what another came to.
--- Serves `Posts::carry_out`, `share_out` and `share`.
+-- Serves `Posts::carry_out` and `share`.
 use Rattle.workers.proofs.Common.{◌≡◌, Result, Ok, IfOk, refl, sym, ap, subst, ◌∙◌, Fault, OutOfMemory}
 use Rattle.std.specs.Prelude.{Err, IsOkUnless}
 use Rattle.std.specs.declared.option.Option.{Option}
@@ -11,10 +11,6 @@ module _ {A : Type 0} where
   pub where_done : {P Q : A → Type 0} (result : Result A Fault) → ((a : A) → P a → Q a) → ComesTo result P → IfOk result Q
   where_done (Ok a) turns comes = turns a comes
   where_done (Err _) turns comes = tt
-
-  pub comes_too : {P Q : A → Type 0} (result : Result A Fault) → ((a : A) → P a → Q a) → ComesTo result P → ComesTo result Q
-  comes_too (Ok a) turns comes = turns a comes
-  comes_too (Err _) turns comes = comes
 
   pub only_memory : (P : A → Type 0) (result : Result A Fault) → ComesTo result P → IsOkUnless result OutOfMemory
   only_memory P (Ok _) comes = tt

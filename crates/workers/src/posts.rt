@@ -1,17 +1,14 @@
 //! Threads of workers that carry out one list after another.
 
 ghost use Rattle.std.specs.Prelude.{◌≡◌, ◌<◌, ◌≤◌, map, vec_len, IfOk, IfErr, IsOkUnless, MatchResult};
-ghost use Rattle.std.specs.Arc.{arc_value};
 ghost use Rattle.bench_types.specs.declared.faults.Fault.TheVariants.{OutOfMemory};
 ghost use Rattle.model.specs.Runs.{AreWorkers};
 ghost use Rattle.list_order.specs.Carrying.{MayCarryOut, IsBatchDone};
 ghost use Rattle.crew.specs.Named.{post_count};
-ghost use Rattle.workers.specs.inner.Handed.{MayHandOut};
-ghost use Rattle.workers.specs.inner.Joined.{HasSharedOut};
 ghost use Rattle.workers.specs.inner.Outcomes.{ComesTo};
 ghost use Rattle.workers.specs.inner.Works.{MayShareOut};
 
-use crate::shifts::{Opened, close, hand_out, open};
+use crate::shifts::{close, open};
 use crate::tasks::Task;
 use bench_types::Fault;
 use crew::{Crew, Job, Yard};
@@ -141,29 +138,14 @@ impl<T: MemoryTable, X: Exchanging<T> + Drop, G: Gate + Drop, J: Job> Posts<T, X
             return carry_out_alone(self.alloc, batch, tables, meanwhile);
         }
         let opened = open(self.alloc, self.workers, batch, tables)?;
-        self.share_out(rt, opened, meanwhile)
-    }
-
-    // The list by all workers, which are at their posts.
-    fn share_out<R: Wait, F: FnOnce() -> M + Drop, M: Drop>(
-        &self,
-        rt: &R,
-        opened: Opened<T, X, G>,
-        meanwhile: F,
-    ) -> Result<Done<T, X, M>, Fault>
-        requires start { MayHandOut T.table X.fits (arc_value opened.shift) opened.gathered (vec_len opened.tasks) }
-        requires one_each { vec_len opened.tasks ≡ self.now }
-        requires meanwhile { F.pre meanwhile }
-        ensures { ComesTo result (HasSharedOut T.table (arc_value opened.shift) (F.post meanwhile)) }
-    {
-        let Opened {
-            shift,
-            mut gathered,
-            tasks,
-        } = opened;
-        let tasks = hand_out(self.alloc, &shift, &mut gathered, tasks)?;
-        let made = self.work_on(rt, tasks, meanwhile);
-        close(rt, shift, gathered, self.workers as usize, made)
+        let made = self.work_on(rt, opened.tasks, meanwhile);
+        close(
+            rt,
+            opened.shift,
+            opened.gathered,
+            self.workers as usize,
+            made,
+        )
     }
 
     // The tasks by all workers. What is left for the caller comes after `meanwhile`.

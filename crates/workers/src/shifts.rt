@@ -7,11 +7,11 @@ ghost use Rattle.list_order.specs.Carrying.{MayCarryOut};
 ghost use Rattle.board.specs.Boards.{plan_of};
 ghost use Rattle.crew.specs.Named.{tray_count};
 ghost use Rattle.workers.specs.inner.Gathering.{HasGathered};
-ghost use Rattle.workers.specs.inner.Handed.{HasHandedOut, MayHandOut};
+ghost use Rattle.workers.specs.inner.Handed.{HasHandedOut, HasOpened, MayHandOut};
 ghost use Rattle.workers.specs.inner.Outcomes.{ComesTo};
 ghost use Rattle.workers.specs.inner.Returns.{IsReturned};
 ghost use Rattle.workers.specs.inner.Shifts.{IsShift};
-ghost use Rattle.workers.specs.inner.Starts.{HasDealt, HasOpened, IsSeated, IsShared};
+ghost use Rattle.workers.specs.inner.Starts.{HasDealt, IsSeated, IsShared};
 ghost use Rattle.workers.specs.inner.Works.{AreSeveral, MayShareOut};
 ghost use Rattle.workers.specs.inner.Joined.{HasClosed, HasTakenIn, HasSeenAll, IsEndOf};
 
@@ -29,15 +29,15 @@ use std::alloc::Global;
 use std::snapshot::Snapshot;
 use std::sync::{Arc, Wait};
 
-/// What the workers of a list share, the first seat of their board with places for all records, and a deque each.
+/// What the workers of a list share, a task for each of them, and a seat of their board with places for all records.
 #[derive(Drop)]
 pub(crate) struct Opened<T: MemoryTable, X: Exchanging<T>, G> {
     pub shift: Arc<Shift<T, X, G>>,
     pub gathered: Gathered<T>,
-    pub tasks: Vec<Tasks>,
+    pub tasks: Vec<Task<T, X, G>>,
 }
 
-/// A board of the batch, which several workers share.
+/// A board of the batch, which several workers share, and their tasks.
 pub(crate) fn open<T: MemoryTable, X: Exchanging<T> + Drop, G: Gate + Drop>(
     alloc: Global,
     workers: u32,
@@ -47,12 +47,12 @@ pub(crate) fn open<T: MemoryTable, X: Exchanging<T> + Drop, G: Gate + Drop>(
     requires several { AreSeveral workers }
     requires batch { MayShareOut T.table X.fits batch tables.items }
     ensures { ComesTo result (λ opened.
-        HasOpened T.table X.fits batch.entry workers tables.items (arc_value opened.shift) opened.gathered
-        opened.tasks) }
+        HasOpened T.table X.fits batch.entry workers tables.items (arc_value opened.shift) opened.gathered) }
 {
     let (deps, tasks) = deal(alloc, workers, batch.list)?;
-    let (board, gathered) = seated(alloc, deps, *batch.rules, tables)?;
+    let (board, mut gathered) = seated(alloc, deps, *batch.rules, tables)?;
     let shift = share(alloc, workers, batch, board)?;
+    let tasks = hand_out(alloc, &shift, &mut gathered, tasks)?;
     Ok(Opened {
         shift,
         gathered,
@@ -111,8 +111,8 @@ fn seated<T: MemoryTable>(
     Ok((board, Gathered { seat, records }))
 }
 
-/// A task for each worker, with a part of the seat. It takes all memory that they need before any is given.
-pub(crate) fn hand_out<T: MemoryTable, X: Exchanging<T> + Drop, G: Gate + Drop>(
+// A task for each worker, with a part of the seat. It takes all memory that they need before any is given.
+fn hand_out<T: MemoryTable, X: Exchanging<T> + Drop, G: Gate + Drop>(
     alloc: Global,
     shift: &Arc<Shift<T, X, G>>,
     gathered: &mut Gathered<T>,

@@ -34,9 +34,3 @@ pub record HasClosed {T X G M : Type 0} (table : T → Table) (shift : Shift T X
   pub ended : IsEndOf table (plan_of table shift.shop.board) done.tables.items done.records.items
   pub shared : done.shared ≡ shift.shop.shared
   pub made : done.made ≡ own
-
--- so it is, and the call meanwhile gave what it may give
-pub record HasSharedOut {T X G M : Type 0} (table : T → Table) (shift : Shift T X G) (gives : M → Type 0) (done : Done T X M) : Type 0 where
-  pub ended : IsEndOf table (plan_of table shift.shop.board) done.tables.items done.records.items
-  pub shared : done.shared ≡ shift.shop.shared
-  pub made : gives done.made

@@ -13,7 +13,6 @@ use Rattle.workers.specs.inner.Gathering.{HasGathered}
 use Rattle.deques.specs.Pushes.{AreDealt, pushed}
 use Rattle.deques.specs.declared.tasks.Tasks.{Tasks}
 use Rattle.workers.specs.inner.Shifts.{IsShift}
-use Rattle.workers.specs.inner.Works.{AreSeveral}
 use Rattle.workers.specs.declared.gathering.Gathered.{Gathered}
 use Rattle.workers.specs.declared.tasks.Shift.{Shift}
 use Rattle.list_order.specs.declared.works.Batch.{Batch}
@@ -46,14 +45,3 @@ pub record IsShared {T X G : Type 0} (table : T → Table) (fits : X → Table �
   pub board : shift.shop.board ≡ made
   pub shared : shift.shop.shared ≡ batch.shared
   pub trays : tray_count shift.trays ≡ workers
-
--- all share a board of the batch and these tables, whose first seat has a place for each record, with a tray and a deque
--- for each worker
-pub record HasOpened {T X G : Type 0} (table : T → Table) (fits : X → Table → Type 0) (batch : Batch X G)
-    (workers : ℕ) (tables : List T) (shift : Shift T X G) (gathered : Gathered T) (dealt : Vec Tasks Global) : Type 0 where
-  pub of_shift : IsShift table fits shift
-  pub shared : shift.shop.shared ≡ batch.shared
-  pub trays : tray_count shift.trays ≡ workers
-  pub seated : IsSeated table batch.rules.now batch.list.now tables shift.shop.board gathered
-  pub tasks : AreDealtFor batch.list.now workers dealt
-  pub several : AreSeveral (vec_len dealt)

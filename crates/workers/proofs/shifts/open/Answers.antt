@@ -1,7 +1,9 @@
-use Rattle.workers.proofs.Common.{map, sym, ap, subst, BoardPlan, IsCluster}
+use Rattle.workers.proofs.Common.{arith, map, sym, ap, subst, BoardPlan, IsCluster}
 use Rattle.list_order.specs.Carrying.{MayCarryOut}
-use Rattle.workers.specs.inner.Starts.{IsSeated}
+use Rattle.workers.specs.inner.Starts.{HasFirstSeat, IsSeated}
+use Rattle.board.specs.Boards.{IsMadeOf}
 use Rattle.workers.specs.inner.Works.{AreSeveral}
+use Rattle.workers.specs.inner.Handed.{HasHandedOut}
 use Rattle.workers.proofs.shifts.open.Goals as goal
 
 pub seated-requires : goal.seated-requires
@@ -19,18 +21,27 @@ share-requires-clause-tables g c _ _ =
     subst (λ (p : BoardPlan). MayCarryOut (g.X.Exchanging.fits c.args.batch.shared) c.args.batch.rules.now p.list.nodes p.tables)
     (sym made.made) c.requires.batch
 
+pub hand_out-requires-after_bounds : goal.hand_out-requires-after_bounds
+hand_out-requires-after_bounds g c _ _ =
+    let shared = c.in_ok-shift.ensures in
+    let dealt = c.in_ok-deps.ensures.dealt in
+    record {
+      of_shift = shared.of_shift;
+      seat = subst (λ board. HasFirstSeat g.T.MemoryTable.table board c.in_ok-board.gathered) (sym shared.board) c.in_ok-board.ensures.seat;
+      several = subst AreSeveral (sym dealt.one_each) c.requires.several;
+      trays = omega (arith, shared.trays, dealt.one_each);
+    }
+
 pub returns : goal.returns
 returns g c =
     let table = g.T.MemoryTable.table in
     let shared = c.in_ok-shift.ensures in
-    let seated = subst (λ l. IsSeated table c.args.batch.rules.now l c.args.tables.items c.in_ok-board.board c.in_ok-board.gathered)
-    c.in_ok-deps.ensures.same c.in_ok-board.ensures in
+    let dealt = c.in_ok-deps.ensures in
+    let of_list = subst (λ list. IsMadeOf table c.args.batch.rules.now list c.args.tables.items c.in_ok-board.board)
+    dealt.same c.in_ok-board.ensures.made in
     record {
-      of_shift = shared.of_shift;
+      handed = subst (λ n. HasHandedOut table g.X.Exchanging.fits c.in_ok-shift.shift.value n c.hand_out.new.gathered)
+          dealt.dealt.one_each c.in_ok-tasks.ensures;
       shared = shared.shared;
-      trays = shared.trays;
-      seated = subst (λ board. IsSeated table c.args.batch.rules.now c.args.batch.list.now c.args.tables.items board c.in_ok-board.gathered)
-          (sym shared.board) seated;
-      tasks = c.in_ok-deps.ensures.dealt;
-      several = subst AreSeveral (sym c.in_ok-deps.ensures.dealt.one_each) c.requires.several;
+      made = subst (IsMadeOf table c.args.batch.rules.now c.args.batch.list.now c.args.tables.items) (sym shared.board) of_list;
     }

@@ -284,7 +284,7 @@ fn finish<D: Drop, J: Job, R: Wait>(rt: &R, yard: &Yard<D>, left: Vec<J>) {
     yard.wait(rt);
 }
 
-// Starts so many threads. Where one can't be started, those that were go home.
+// Starts so many threads, and says whether it could. Where one can't be started, those that were go home.
 fn start<
     'e,
     T: MemoryTable + Send + Sync,

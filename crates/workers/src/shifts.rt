@@ -1,6 +1,6 @@
 //! What several workers begin a list with, and what they come to.
 
-ghost use Rattle.std.specs.Prelude.{◌≡◌, ◌≤◌, map, vec_len};
+ghost use Rattle.std.specs.Prelude.{◌≡◌, ◌≤◌, map, IfOk, vec_len};
 ghost use Rattle.std.specs.Arc.{arc_value};
 ghost use Rattle.model.specs.calls.Tables.{IsCluster};
 ghost use Rattle.list_order.specs.Carrying.{MayCarryOut};
@@ -46,8 +46,9 @@ pub(crate) fn open<T: MemoryTable, X: Exchanging<T> + Drop, G: Gate + Drop>(
 ) -> Result<Opened<T, X, G>, Fault>
     requires several { AreSeveral workers }
     requires batch { MayShareOut T.table X.fits batch tables.items }
-    ensures { ComesTo result (λ opened.
+    ensures opened { ComesTo result (λ opened.
         HasOpened T.table X.fits batch.entry workers tables.items (arc_value opened.shift) opened.gathered) }
+    ensures one_each { IfOk result (λ opened. vec_len opened.tasks ≡ workers) }
 {
     let (deps, tasks) = deal(alloc, workers, batch.list)?;
     let (board, mut gathered) = seated(alloc, deps, *batch.rules, tables)?;
@@ -119,8 +120,9 @@ fn hand_out<T: MemoryTable, X: Exchanging<T> + Drop, G: Gate + Drop>(
     tasks: Vec<Tasks>,
 ) -> Result<Vec<Task<T, X, G>>, Fault>
     requires { MayHandOut T.table X.fits (arc_value shift.now) gathered.old (vec_len tasks) }
-    ensures { ComesTo result
+    ensures handed { ComesTo result
         (λ _. HasHandedOut T.table X.fits (arc_value shift.now) (vec_len tasks) gathered.new) }
+    ensures one_each { IfOk result (λ handed. vec_len handed ≡ vec_len tasks) }
 {
     let mut handed = Vec::with_capacity(alloc, tasks.len())?;
     for own in tasks {

@@ -51,8 +51,8 @@ loop-own-preserved g c =
       room = omega (arith, kept.room, pushed.capacity);
     }
 
-pub returns : goal.returns
-returns g c =
+pub returns-clause-handed : goal.returns-clause-handed
+returns-clause-handed g c =
     let start = c.requires in
     let kept = c.loop-own.invariant in
     let plan = plan_of g.T.MemoryTable.table c.args.shift.now.value.shop.board in

@@ -32,8 +32,8 @@ hand_out-requires-after_bounds g c _ _ =
       trays = omega (arith, shared.trays, dealt.one_each);
     }
 
-pub returns : goal.returns
-returns g c =
+pub returns-clause-opened : goal.returns-clause-opened
+returns-clause-opened g c =
     let table = g.T.MemoryTable.table in
     let shared = c.in_ok-shift.ensures in
     let dealt = c.in_ok-deps.ensures in
@@ -41,7 +41,7 @@ returns g c =
     dealt.same c.in_ok-board.ensures.made in
     record {
       handed = subst (λ n. HasHandedOut table g.X.Exchanging.fits c.in_ok-shift.shift.value n c.hand_out.new.gathered)
-          dealt.dealt.one_each c.in_ok-tasks.ensures;
+          dealt.dealt.one_each c.in_ok-tasks.ensures.handed;
       shared = shared.shared;
       made = subst (IsMadeOf table c.args.batch.rules.now c.args.batch.list.now c.args.tables.items) (sym shared.board) of_list;
     }

@@ -4,11 +4,11 @@ use Rattle.workers.specs.inner.Joined.{IsEndOf}
 use Rattle.workers.proofs.posts.Posts.carry_out.Goals as goal
 
 pub close-requires-after_bounds : goal.close-requires-after_bounds
-close-requires-after_bounds g c _ _ = c.in_ok-opened.ensures.handed
+close-requires-after_bounds g c _ _ = c.in_ok-opened.ensures.opened.handed
 
 pub returns-clause-done : goal.returns-clause-done
 returns-clause-done g c =
-    let opened = c.in_ok-opened.ensures in
+    let opened = c.in_ok-opened.ensures.opened in
     where_done c.close.result (λ done closed. record {
       exchanged = subst (λ plan. IsEndOf g.T.MemoryTable.table plan done.tables.items done.records.items) opened.made closed.ended;
       shared = closed.shared ∙ opened.shared;

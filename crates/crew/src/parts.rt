@@ -113,8 +113,10 @@ impl<S: Parted> Model for LookJob<S> {
 impl<S: Parted> Job for LookJob<S> {
     fn carry_out<R: Wait>(self, rt: &R) {
         let LookJob { shared, place } = self;
-        let bounds = &shared.divided.bounds;
-        let answer = shared.divided.whole.look(bounds[place], bounds[place + 1]);
+        let divided = &shared.divided;
+        let answer = divided
+            .whole
+            .look(divided.bounds[place], divided.bounds[place + 1]);
         shared.trays.leave(rt, place, answer);
     }
 }
@@ -171,7 +173,7 @@ fn looks_of<S: Parted>(
     let mut jobs = Vec::with_capacity(alloc, count)?;
     for place in 0..count {
         let shared = Arc::try_clone(shared)?;
-        jobs.push(LookJob { shared, place })?;
+        jobs.push_reserved(LookJob { shared, place });
     }
     Ok(jobs)
 }

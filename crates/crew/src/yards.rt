@@ -101,7 +101,7 @@ impl<D: Drop> Yard<D> {
     {
         let mut posts = Vec::with_capacity(alloc, threads)?;
         for _ in 0..threads {
-            posts.push(Post::new())?;
+            posts.push_reserved(Post::new());
         }
         Ok(Yard {
             posts,
@@ -148,11 +148,10 @@ impl<D: Drop> Yard<D> {
         for _ in rt.forever() {
             let left = self.under_way.load(Ordering::SeqCst);
             if left == 0 {
-                return;
+                break;
             }
             self.under_way.park(rt, (left % (1 << 32)) as u32);
         }
-        unreachable!()
     }
 
     /// Sends the first so many threads home. One that has something to do should have finished it, as that would be

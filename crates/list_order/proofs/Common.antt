@@ -1,6 +1,6 @@
 -- The names of other libraries that these proofs cite, passed on from one place. Declares nothing.
 -- Serves `exchange_all`, `exchange_pair`, `Pairs` and `Turns`.
-pub use Rattle.std.proofs.Common.{All, List, [], ap, arith, false, get_or, length, length-append, map, refl, set, subst, suc, sym, take, zero, ℕ, ◌++◌, ◌+◌, ◌-◌, ◌<◌, ◌∙◌, ◌∷◌, ◌≡◌, ◌≢◌}
+pub use Rattle.std.proofs.Common.{◌≤◌, vec_capacity, vec_len, All, List, [], ap, arith, false, get_or, length, length-append, map, refl, set, subst, suc, sym, take, zero, ℕ, ◌++◌, ◌+◌, ◌-◌, ◌<◌, ◌∙◌, ◌∷◌, ◌≡◌, ◌≢◌}
 pub use Rattle.std.proofs.lemmas.List.{get_or-append-add, get_or_append_left, length-map, length-set, map-append, map-set, set-append_left, set-append_right, take_all}
 pub use Rattle.std.proofs.lemmas.List.Sums.{fold_more}
 pub use Rattle.std.proofs.lemmas.Result.{IfOk-weaker}

@@ -28,7 +28,7 @@ pub fn exchange_all<T: MemoryTable, X: Exchanging<T>, G: Gate>(
         work.gate.enter(i as u32);
         let sent = exchange_pair(alloc, &work, tables, plan)?;
         work.gate.leave(i as u32);
-        records.push(sent)?;
+        records.push_reserved(sent);
     }
     Ok(records)
 }

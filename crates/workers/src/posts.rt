@@ -1,17 +1,14 @@
 //! Threads of workers that carry out one list after another.
 
-ghost use Rattle.std.specs.Prelude.{◌≡◌, ◌<◌, map, vec_len, IfOk, IfErr, IsOkUnless, MatchResult};
-ghost use Rattle.std.specs.Arc.{arc_value};
-ghost use Rattle.bench_types.specs.declared.faults.Fault.TheVariants.{NoThread, OutOfMemory};
+ghost use Rattle.std.specs.Prelude.{◌≡◌, ◌<◌, ◌≤◌, map, vec_len, IfOk, IfErr, IsOkUnless, MatchResult};
+ghost use Rattle.bench_types.specs.declared.faults.Fault.TheVariants.{OutOfMemory};
 ghost use Rattle.model.specs.Runs.{AreWorkers};
 ghost use Rattle.list_order.specs.Carrying.{MayCarryOut, IsBatchDone};
 ghost use Rattle.crew.specs.Named.{post_count};
-ghost use Rattle.workers.specs.inner.Handed.{MayHandOut};
-ghost use Rattle.workers.specs.inner.Joined.{HasSharedOut};
 ghost use Rattle.workers.specs.inner.Outcomes.{ComesTo};
 ghost use Rattle.workers.specs.inner.Works.{MayShareOut};
 
-use crate::shifts::{Opened, close, hand_out, open};
+use crate::shifts::{close, open};
 use crate::tasks::Task;
 use bench_types::Fault;
 use crew::{Crew, Job, Yard};
@@ -138,62 +135,17 @@ impl<T: MemoryTable, X: Exchanging<T> + Drop, G: Gate + Drop, J: Job> Posts<T, X
         ensures only { IsOkUnless result OutOfMemory }
     {
         if self.workers == 1 {
-            return self.carry_out_alone(batch, tables, meanwhile);
+            return carry_out_alone(self.alloc, batch, tables, meanwhile);
         }
         let opened = open(self.alloc, self.workers, batch, tables)?;
-        self.share_out(rt, opened, meanwhile)
-    }
-
-    // The list by all workers, which are at their posts.
-    fn share_out<R: Wait, F: FnOnce() -> M + Drop, M: Drop>(
-        &self,
-        rt: &R,
-        opened: Opened<T, X, G>,
-        meanwhile: F,
-    ) -> Result<Done<T, X, M>, Fault>
-        requires start { MayHandOut T.table X.fits (arc_value opened.shift) opened.start }
-        requires one_each { vec_len opened.start.tasks ≡ self.now }
-        requires meanwhile { F.pre meanwhile }
-        ensures { ComesTo result (HasSharedOut T.table (arc_value opened.shift) (F.post meanwhile)) }
-    {
-        let Opened { shift, start } = opened;
-        let (gathered, tasks) = hand_out(self.alloc, &shift, start)?;
-        let made = self.work_on(rt, tasks, meanwhile);
-        let (tables, records, shared) = close(rt, shift, gathered, self.workers as usize)?;
-        Ok(Done {
-            tables,
-            records,
-            shared,
+        let made = self.work_on(rt, opened.tasks, meanwhile);
+        close(
+            rt,
+            opened.shift,
+            opened.gathered,
+            self.workers as usize,
             made,
-        })
-    }
-
-    // The list in its order, by the caller's thread.
-    fn carry_out_alone<F: FnOnce() -> M + Drop, M: Drop>(
-        &self,
-        batch: Batch<X, G>,
-        mut tables: Vec<T>,
-        meanwhile: F,
-    ) -> Result<Done<T, X, M>, Fault>
-        requires tables { MayShareOut T.table X.fits batch tables.items }
-        requires meanwhile { F.pre meanwhile }
-        ensures { ComesTo result (IsBatchDone T.table batch.entry tables.items (F.post meanwhile)) }
-    {
-        let made = meanwhile();
-        let work = Work {
-            shared: &batch.shared,
-            list: batch.list,
-            rules: batch.rules,
-            gate: &batch.gate,
-            workers: 1,
-        };
-        let records = exchange_all(self.alloc, work, &mut tables)?;
-        Ok(Done {
-            tables,
-            records,
-            shared: batch.shared,
-            made,
-        })
+        )
     }
 
     // The tasks by all workers. What is left for the caller comes after `meanwhile`.
@@ -234,10 +186,7 @@ impl<T: MemoryTable, X: Exchanging<T> + Drop, G: Gate + Drop, J: Job> Crew<J>
         if let Some(job) = own {
             job.carry_out(rt);
         }
-        for job in jobs {
-            job.carry_out(rt);
-        }
-        self.yard.wait(rt);
+        finish(rt, &self.yard, jobs);
     }
 }
 
@@ -264,53 +213,99 @@ impl<
         if self.workers == 1 {
             return Ok(body(lent));
         }
-        self.look_before_sleep(rt);
+        look_before_sleep(rt, &self.yard, self.workers);
+        let yard = &self.yard;
+        let threads = self.threads as usize;
         thread::scope(
             thread::scope_env(),
             rt,
             move |scope|
-                requires { F.pre body lent }
+                requires { (threads ≤ post_count yard.now) × F.pre body lent }
                 ensures { MatchResult result (F.post body lent) (λ left. left ≡ lent) }
             {
-                if self.start(scope, rt).is_err() {
+                if !start(scope, rt, yard, threads) {
                     return Err(lent);
                 }
                 let answer = body(lent);
-                self.yard.send_home(rt, self.threads as usize);
+                yard.send_home(rt, threads);
                 Ok(answer)
             },
         )
     }
+}
 
-    // Where there is a processor for each worker, a small list comes sooner than a thread that slept is awake.
-    fn look_before_sleep<R: Threads>(&self, rt: &R) {
-        let processors = available_parallelism(rt).unwrap_or(NonZeroUsize::MIN);
-        if self.workers as usize <= processors.get() {
-            self.yard.look_before_sleep(LOOKS);
-        }
-    }
+// The list in its order, by the caller's thread.
+fn carry_out_alone<
+    T: MemoryTable,
+    X: Exchanging<T> + Drop,
+    G: Gate + Drop,
+    F: FnOnce() -> M + Drop,
+    M: Drop,
+>(
+    alloc: Global,
+    batch: Batch<X, G>,
+    mut tables: Vec<T>,
+    meanwhile: F,
+) -> Result<Done<T, X, M>, Fault>
+    requires tables { MayShareOut T.table X.fits batch tables.items }
+    requires meanwhile { F.pre meanwhile }
+    ensures { ComesTo result (IsBatchDone T.table batch.entry tables.items (F.post meanwhile)) }
+{
+    let made = meanwhile();
+    let work = Work {
+        shared: &batch.shared,
+        list: batch.list,
+        rules: batch.rules,
+        gate: &batch.gate,
+        workers: 1,
+    };
+    let records = exchange_all(alloc, work, &mut tables)?;
+    Ok(Done {
+        tables,
+        records,
+        shared: batch.shared,
+        made,
+    })
+}
 
-    // Starts the threads. Where one can't be started, those that were go home.
-    fn start<'e, R: Threads + Wait + Sync>(
-        &'e self,
-        scope: &Scope<'_, &'e ()>,
-        rt: &'e R,
-    ) -> Result<(), Fault>
-        ensures { IsOkUnless result NoThread }
-    {
-        let yard = &self.yard;
-        for i in 0..self.threads as usize {
-            let Ok(_thread) = scope.spawn(
-                move ||
-                    requires { i < post_count yard.now }
-                { serve(rt, yard, i) },
-            ) else {
-                yard.send_home(rt, i);
-                return Err(Fault::NoThread);
-            };
-        }
-        Ok(())
+// Where there is a processor for each worker, a small list comes sooner than a thread that slept is awake.
+fn look_before_sleep<D: Drop, R: Threads>(rt: &R, yard: &Yard<D>, workers: u32) {
+    let processors = available_parallelism(rt).unwrap_or(NonZeroUsize::MIN);
+    if workers as usize <= processors.get() {
+        yard.look_before_sleep(LOOKS);
     }
+}
+
+// Does what is left for the caller's thread, and waits for the others.
+fn finish<D: Drop, J: Job, R: Wait>(rt: &R, yard: &Yard<D>, left: Vec<J>) {
+    for job in left {
+        job.carry_out(rt);
+    }
+    yard.wait(rt);
+}
+
+// Starts so many threads, and says whether it could. Where one can't be started, those that were go home.
+fn start<
+    'e,
+    T: MemoryTable + Send + Sync,
+    X: Exchanging<T> + Send + Drop,
+    G: Gate + Send + Sync + Drop,
+    J: Job + Send,
+    R: Threads + Wait + Sync,
+>(scope: &Scope<'_, &'e ()>, rt: &'e R, yard: &'e Yard<Duty<T, X, G, J>>, threads: usize) -> bool
+    requires { threads ≤ post_count yard.now }
+{
+    for i in 0..threads {
+        let Ok(_thread) = scope.spawn(
+            move ||
+                requires { i < post_count yard.now }
+            { serve(rt, yard, i) },
+        ) else {
+            yard.send_home(rt, i);
+            return false;
+        };
+    }
+    true
 }
 
 // What the thread of a worker does until it is sent home.
@@ -323,10 +318,9 @@ fn serve<T: MemoryTable, X: Exchanging<T> + Drop, G: Gate + Drop, J: Job, R: Wai
 {
     for _ in rt.forever() {
         let Some(duty) = yard.next(rt, i) else {
-            return;
+            break;
         };
         duty.carry_out(rt);
         yard.finish();
     }
-    unreachable!()
 }

@@ -7,11 +7,11 @@ ghost use Rattle.list_order.specs.Carrying.{MayCarryOut};
 ghost use Rattle.board.specs.Boards.{plan_of};
 ghost use Rattle.crew.specs.Named.{tray_count};
 ghost use Rattle.workers.specs.inner.Gathering.{HasGathered};
-ghost use Rattle.workers.specs.inner.Handed.{HasHandedOut, MayHandOut};
+ghost use Rattle.workers.specs.inner.Handed.{HasHandedOut, HasOpened, MayHandOut};
 ghost use Rattle.workers.specs.inner.Outcomes.{ComesTo};
 ghost use Rattle.workers.specs.inner.Returns.{IsReturned};
-ghost use Rattle.workers.specs.inner.Shifts.{HasGivenPart, IsShift, MayGivePart};
-ghost use Rattle.workers.specs.inner.Starts.{AreTraysOf, HasBegun, HasDealt, HasOpened, IsSeated, IsShared};
+ghost use Rattle.workers.specs.inner.Shifts.{IsShift};
+ghost use Rattle.workers.specs.inner.Starts.{HasDealt, IsSeated, IsShared};
 ghost use Rattle.workers.specs.inner.Works.{AreSeveral, MayShareOut};
 ghost use Rattle.workers.specs.inner.Joined.{HasClosed, HasTakenIn, HasSeenAll, IsEndOf};
 
@@ -23,27 +23,21 @@ use board::{Board, Seat};
 use crew::{Trays, alone};
 use dependencies::Deps;
 use deques::Tasks;
-use list_order::{Batch, Gate};
+use list_order::{Batch, Done, Gate};
 use model::{Exchanging, MemoryTable, RoundList};
 use std::alloc::Global;
 use std::snapshot::Snapshot;
 use std::sync::{Arc, Wait};
 
-// What several workers begin with: the first seat of a board, places for all records, and a deque each.
-#[derive(Drop)]
-pub(crate) struct Start<T> {
-    pub gathered: Gathered<T>,
-    pub tasks: Vec<Tasks>,
-}
-
-/// What the workers of a list share, and what they begin with.
+/// What the workers of a list share, a task for each of them, and a seat of their board with places for all records.
 #[derive(Drop)]
 pub(crate) struct Opened<T: MemoryTable, X: Exchanging<T>, G> {
     pub shift: Arc<Shift<T, X, G>>,
-    pub start: Start<T>,
+    pub gathered: Gathered<T>,
+    pub tasks: Vec<Task<T, X, G>>,
 }
 
-/// A board of the batch, which several workers share.
+/// A board of the batch, which several workers share, and their tasks.
 pub(crate) fn open<T: MemoryTable, X: Exchanging<T> + Drop, G: Gate + Drop>(
     alloc: Global,
     workers: u32,
@@ -52,12 +46,19 @@ pub(crate) fn open<T: MemoryTable, X: Exchanging<T> + Drop, G: Gate + Drop>(
 ) -> Result<Opened<T, X, G>, Fault>
     requires several { AreSeveral workers }
     requires batch { MayShareOut T.table X.fits batch tables.items }
-    ensures { ComesTo result (λ opened.
-        HasOpened T.table X.fits batch.entry workers tables.items (arc_value opened.shift) opened.start) }
+    ensures opened { ComesTo result (λ opened.
+        HasOpened T.table X.fits batch.entry workers tables.items (arc_value opened.shift) opened.gathered) }
+    ensures one_each { IfOk result (λ opened. vec_len opened.tasks ≡ workers) }
 {
-    let (board, start) = begin(alloc, workers, &batch, tables)?;
+    let (deps, tasks) = deal(alloc, workers, batch.list)?;
+    let (board, mut gathered) = seated(alloc, deps, *batch.rules, tables)?;
     let shift = share(alloc, workers, batch, board)?;
-    Ok(Opened { shift, start })
+    let tasks = hand_out(alloc, &shift, &mut gathered, tasks)?;
+    Ok(Opened {
+        shift,
+        gathered,
+        tasks,
+    })
 }
 
 // What the workers share, over a board of the batch's tables.
@@ -72,53 +73,18 @@ fn share<T: MemoryTable, X: Exchanging<T> + Drop, G: Gate + Drop>(
         (plan_of T.table board).tables }
     ensures { ComesTo result (λ shift. IsShared T.table X.fits batch.entry board workers (arc_value shift)) }
 {
-    let trays = trays_of(alloc, workers, &board)?;
-    let Batch {
-        shared,
-        list: _,
-        rules,
-        gate,
-    } = batch;
+    let back = Back(Snapshot::of(&board));
+    let trays = Trays::new(alloc, workers as usize, &back)?;
     let shop = Workshop {
         alloc,
         board,
-        shared,
-        rules: *rules,
-        gate,
+        shared: batch.shared,
+        rules: *batch.rules,
+        gate: batch.gate,
     };
     Arc::new(alloc, Shift { shop, trays })
         .ok()
         .ok_or(Fault::OutOfMemory)
-}
-
-// A tray for each worker of a board.
-fn trays_of<T: MemoryTable>(
-    alloc: Global,
-    workers: u32,
-    board: &Board<T>,
-) -> Result<Trays<Returned<T>, Back<T>>, Fault>
-    ensures { ComesTo result (AreTraysOf board.now workers) }
-{
-    let back = Back(Snapshot::of(board));
-    Trays::new(alloc, workers as usize, &back)
-        .ok()
-        .ok_or(Fault::OutOfMemory)
-}
-
-// A board of the list and the tables, and what its workers begin with.
-fn begin<T: MemoryTable, X, G>(
-    alloc: Global,
-    workers: u32,
-    batch: &Batch<X, G>,
-    tables: Vec<T>,
-) -> Result<(Board<T>, Start<T>), Fault>
-    requires several { AreSeveral workers }
-    requires cluster { IsCluster batch.now.list.now.nodes (map T.table tables.items) }
-    ensures { ComesTo result (λ begun. HasBegun T.table batch.now workers tables.items begun.0 begun.1) }
-{
-    let (deps, tasks) = deal(alloc, workers, batch.list)?;
-    let (board, gathered) = seated(alloc, deps, *batch.rules, tables)?;
-    Ok((board, Start { gathered, tasks }))
 }
 
 // What each exchange of a list waits for, and a deque for each worker, to which what is ready is dealt.
@@ -146,64 +112,50 @@ fn seated<T: MemoryTable>(
     Ok((board, Gathered { seat, records }))
 }
 
-/// A task for each worker, with a part of the seat. It takes all memory that they need before any is given.
-pub(crate) fn hand_out<T: MemoryTable, X: Exchanging<T> + Drop, G: Gate + Drop>(
+// A task for each worker, with a part of the seat. It takes all memory that they need before any is given.
+fn hand_out<T: MemoryTable, X: Exchanging<T> + Drop, G: Gate + Drop>(
     alloc: Global,
     shift: &Arc<Shift<T, X, G>>,
-    start: Start<T>,
-) -> Result<(Gathered<T>, Vec<Task<T, X, G>>), Fault>
-    requires start { MayHandOut T.table X.fits (arc_value shift.now) start }
+    gathered: &mut Gathered<T>,
+    tasks: Vec<Tasks>,
+) -> Result<Vec<Task<T, X, G>>, Fault>
+    requires { MayHandOut T.table X.fits (arc_value shift.now) gathered.old (vec_len tasks) }
     ensures handed { ComesTo result
-        (λ p. HasHandedOut T.table X.fits (arc_value shift.now) (vec_len start.tasks) p.0) }
-    ensures one_each { IfOk result (λ p. vec_len p.1 ≡ vec_len start.tasks) }
+        (λ _. HasHandedOut T.table X.fits (arc_value shift.now) (vec_len tasks) gathered.new) }
+    ensures one_each { IfOk result (λ handed. vec_len handed ≡ vec_len tasks) }
 {
-    let Start {
-        gathered: Gathered { mut seat, records },
-        tasks,
-    } = start;
     let mut handed = Vec::with_capacity(alloc, tasks.len())?;
     for own in tasks {
         let place = handed.len();
-        let task = task_of(shift, &mut seat, own, place)?;
-        handed.push_reserved(task);
+        let share = Arc::try_clone(shift)?;
+        let part = shift.shop.board.split(&mut gathered.seat);
+        handed.push_reserved(Task::new(share, part, own, place));
     }
-    Ok((Gathered { seat, records }, handed))
+    Ok(handed)
 }
 
-// A task with a part of the seat.
-fn task_of<T: MemoryTable, X: Exchanging<T> + Drop, G: Gate + Drop>(
-    shift: &Arc<Shift<T, X, G>>,
-    seat: &mut Seat<T>,
-    own: Tasks,
-    place: usize,
-) -> Result<Task<T, X, G>, Fault>
-    requires { MayGivePart T.table X.fits (arc_value shift.now) seat.old place }
-    ensures { ComesTo result (λ _. HasGivenPart T.table (arc_value shift.now).shop.board seat.old seat.new) }
-{
-    let share = Arc::try_clone(shift)?;
-    let part = shift.shop.board.split(seat);
-    Ok(Task::new(share, part, own, place))
-}
-
-/// What the list comes to once all workers have left it: the tables, the records and what they shared.
-pub(crate) fn close<T: MemoryTable, X: Exchanging<T> + Drop, G: Gate + Drop, R: Wait>(
+/// What the list comes to once all workers have left it, with what was made meanwhile.
+pub(crate) fn close<T: MemoryTable, X: Exchanging<T> + Drop, G: Gate + Drop, M: Drop, R: Wait>(
     rt: &R,
     shift: Arc<Shift<T, X, G>>,
     mut gathered: Gathered<T>,
     workers: usize,
-) -> Result<(Vec<T>, Vec<Record>, X), Fault>
+    made: M,
+) -> Result<Done<T, X, M>, Fault>
     requires { HasHandedOut T.table X.fits (arc_value shift) workers gathered }
-    ensures { ComesTo result (λ p. HasClosed T.table (arc_value shift) p.0.items p.1.items p.2) }
+    ensures { ComesTo result (λ done. HasClosed T.table (arc_value shift) made done) }
 {
     take_all(rt, &shift, &mut gathered, workers)?;
     // A whole seat, so it learns that all exchanges are put back.
     shift.shop.board.look(&mut gathered.seat);
-    let Shift {
-        shop: Workshop { board, shared, .. },
-        trays: _,
-    } = alone(rt, shift);
-    let (tables, records) = end(board, gathered);
-    Ok((tables, records, shared))
+    let shop = alone(rt, shift).shop;
+    let (tables, records) = end(shop.board, gathered);
+    Ok(Done {
+        tables,
+        records,
+        shared: shop.shared,
+        made,
+    })
 }
 
 // Takes what each worker has left, joins their seats to another, and writes their records to their places.
@@ -235,9 +187,8 @@ fn take_one<T: MemoryTable>(
     requires returned { IsReturned T.table board.now 1 returned }
     ensures { ComesTo result (λ _. HasTakenIn T.table board.now 1 gathered.old gathered.new) }
 {
-    let Returned { seat, outcome } = returned;
-    write_all(&mut gathered.records, &outcome?);
-    board.join(&mut gathered.seat, seat);
+    write_all(&mut gathered.records, &returned.outcome?);
+    board.join(&mut gathered.seat, returned.seat);
     Ok(())
 }
 

@@ -72,13 +72,8 @@ impl<T: MemoryTable, X: Exchanging<T> + Drop, G: Gate + Drop> Task<T, X, G> {
 
     /// Works on the list, and leaves what comes of it in the tray of that place. Its share is let go by then.
     pub(crate) fn carry_out<R: Wait>(self, rt: &R) {
-        let Task {
-            shift,
-            seat,
-            tasks,
-            place,
-        } = self;
-        let returned = shift.shop.work(rt, seat, tasks);
-        shift.trays.leave(rt, place, returned);
+        let shift = self.shift;
+        let returned = shift.shop.work(rt, self.seat, self.tasks);
+        shift.trays.leave(rt, self.place, returned);
     }
 }

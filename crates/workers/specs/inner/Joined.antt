@@ -29,12 +29,8 @@ pub record HasSeenAll {T : Type 0} (table : T → Table) (board : Board T) (gath
 abbrev pub IsEndOf : {T : Type 0} → (T → Table) → BoardPlan → List T → List Record → Type 0
 IsEndOf table plan new records = fold_of plan.rules plan.tables plan.list.exchanges ≡ record { tables = map table new; records = records }
 
--- and what the workers shared
-pub record HasClosed {T X G : Type 0} (table : T → Table) (shift : Shift T X G) (new : List T) (records : List Record) (left : X) : Type 0 where
-  pub ended : IsEndOf table (plan_of table shift.shop.board) new records
-  pub shared : left ≡ shift.shop.shared
-
--- and what the call meanwhile gave
-pub record HasSharedOut {T X G M : Type 0} (table : T → Table) (shift : Shift T X G) (gives : M → Type 0) (done : Done T X M) : Type 0 where
-  pub closed : HasClosed table shift done.tables.items done.records.items done.shared
-  pub made : gives done.made
+-- what the list comes to, with what the workers shared and what was made meanwhile
+pub record HasClosed {T X G M : Type 0} (table : T → Table) (shift : Shift T X G) (own : M) (done : Done T X M) : Type 0 where
+  pub ended : IsEndOf table (plan_of table shift.shop.board) done.tables.items done.records.items
+  pub shared : done.shared ≡ shift.shop.shared
+  pub made : done.made ≡ own

@@ -1,8 +1,7 @@
 -- What each worker of a list is given. Source: this project.
-use Rattle.std.specs.Prelude.{◌≡◌, ℕ, ◌+◌, ◌<◌, ◌≤◌}
+use Rattle.std.specs.Prelude.{◌≡◌, ℕ, ◌<◌}
 use Rattle.model.specs.Table.{Table}
 use Rattle.board.specs.Boards.{seat_view}
-use Rattle.board.specs.declared.boards.Board.{Board}
 use Rattle.board.specs.declared.boards.Seat.{Seat}
 use Rattle.crew.specs.Named.{label_of, tray_count}
 use Rattle.workers.specs.inner.Returns.{IsFreshSeat}
@@ -20,16 +19,3 @@ pub record IsTask {T X G : Type 0} (table : T → Table) (fits : X → Table →
   pub fresh : IsFreshSeat table shift.shop.board seat
   pub one : (seat_view seat).parts ≡ 1
   pub within : place < tray_count shift.trays
-
--- a seat may give a part away, for that tray
-pub record MayGivePart {T X G : Type 0} (table : T → Table) (fits : X → Table → Type 0) (shift : Shift T X G)
-    (seat : Seat T) (place : ℕ) : Type 0 where
-  pub of_shift : IsShift table fits shift
-  pub fresh : IsFreshSeat table shift.shop.board seat
-  pub parts : 2 ≤ (seat_view seat).parts
-  pub within : place < tray_count shift.trays
-
--- it has one part less
-pub record HasGivenPart {T : Type 0} (table : T → Table) (board : Board T) (old new : Seat T) : Type 0 where
-  pub fresh : IsFreshSeat table board new
-  pub parts : (seat_view new).parts + 1 ≡ (seat_view old).parts

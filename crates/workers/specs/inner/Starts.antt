@@ -8,18 +8,13 @@ use Rattle.dependencies.specs.Neighbours.{first_ready_of}
 use Rattle.board.specs.SeatView.{first_seat}
 use Rattle.board.specs.Boards.{seat_view, IsMadeOf}
 use Rattle.board.specs.declared.boards.Board.{Board}
-use Rattle.crew.specs.Named.{label_of, tray_count}
-use Rattle.crew.specs.declared.trays.Trays.{Trays}
+use Rattle.crew.specs.Named.{tray_count}
 use Rattle.workers.specs.inner.Gathering.{HasGathered}
 use Rattle.deques.specs.Pushes.{AreDealt, pushed}
 use Rattle.deques.specs.declared.tasks.Tasks.{Tasks}
 use Rattle.workers.specs.inner.Shifts.{IsShift}
-use Rattle.workers.specs.inner.Works.{AreSeveral}
 use Rattle.workers.specs.declared.gathering.Gathered.{Gathered}
-use Rattle.workers.specs.declared.shifts.Start.{Start}
-use Rattle.workers.specs.declared.tasks.Back.{Back}
 use Rattle.workers.specs.declared.tasks.Shift.{Shift}
-use Rattle.workers.specs.declared.workers.Returned.{Returned}
 use Rattle.list_order.specs.declared.works.Batch.{Batch}
 
 -- a deque for each worker, to which what is ready of a list was dealt
@@ -43,18 +38,6 @@ pub record IsSeated {T : Type 0} (table : T → Table) (rules : Rules) (list : R
   pub made : IsMadeOf table rules list tables board
   pub seat : HasFirstSeat table board gathered
 
--- a board was made of the batch and these tables, with its first seat and a deque for each worker
-pub record HasBegun {T X G : Type 0} (table : T → Table) (batch : Batch X G) (workers : ℕ) (tables : List T)
-    (board : Board T) (start : Start T) : Type 0 where
-  pub seated : IsSeated table batch.rules.now batch.list.now tables board start.gathered
-  pub tasks : AreDealtFor batch.list.now workers start.tasks
-  pub several : AreSeveral (vec_len start.tasks)
-
--- a tray for each worker, which may hold what comes back of seats of the board
-pub record AreTraysOf {T : Type 0} (board : Board T) (workers : ℕ) (trays : Trays (Returned T) (Back T)) : Type 0 where
-  pub count : tray_count trays ≡ workers
-  pub labelled : (label_of trays).0.value ≡ board
-
 -- a board is shared, with what the batch has for all and a tray for each worker
 pub record IsShared {T X G : Type 0} (table : T → Table) (fits : X → Table → Type 0) (batch : Batch X G)
     (made : Board T) (workers : ℕ) (shift : Shift T X G) : Type 0 where
@@ -62,11 +45,3 @@ pub record IsShared {T X G : Type 0} (table : T → Table) (fits : X → Table �
   pub board : shift.shop.board ≡ made
   pub shared : shift.shop.shared ≡ batch.shared
   pub trays : tray_count shift.trays ≡ workers
-
--- and all share it, with a tray for each worker
-pub record HasOpened {T X G : Type 0} (table : T → Table) (fits : X → Table → Type 0) (batch : Batch X G)
-    (workers : ℕ) (tables : List T) (shift : Shift T X G) (start : Start T) : Type 0 where
-  pub of_shift : IsShift table fits shift
-  pub shared : shift.shop.shared ≡ batch.shared
-  pub trays : tray_count shift.trays ≡ workers
-  pub begun : HasBegun table batch workers tables shift.shop.board start

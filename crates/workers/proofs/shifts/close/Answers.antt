@@ -1,4 +1,4 @@
-use Rattle.workers.proofs.Common.{◌≤◌, sym, ap, subst, ◌∙◌, plan_of, IsSeatOf}
+use Rattle.workers.proofs.Common.{◌≤◌, refl, sym, ap, subst, ◌∙◌, plan_of, IsSeatOf}
 use Rattle.crew.specs.Named.{tray_count}
 use Rattle.workers.specs.inner.Gathering.{HasGathered}
 use Rattle.workers.specs.inner.Joined.{IsEndOf}
@@ -24,6 +24,7 @@ take_all-requires-clause-within g c _ _ = subst (λ s. c.args.workers ≤ tray_c
 pub returns : goal.returns
 returns g c = record {
   ended = subst (λ s. IsEndOf g.T.MemoryTable.table (plan_of g.T.MemoryTable.table s.shop.board) c.end-tables.result.0.items c.end-tables.result.1.items)
-      c.alone-board.ensures c.end-tables.ensures;
-  shared = ap (λ s. s.shop.shared) c.alone-board.ensures;
+      c.alone-shop.ensures c.end-tables.ensures;
+  shared = ap (λ s. s.shop.shared) c.alone-shop.ensures;
+  made = refl;
 }

@@ -12,10 +12,10 @@ write_all-requires g c =
     let table = g.T.MemoryTable.table in
     let board = c.args.board.now in
     let records = c.deref_mut.result.now in
-    let more = returned_records table board c.args.returned c.in_ok-outcome.field-0 c.requires.returned c.in_ok-outcome.was in
+    let more = returned_records table board c.args.returned c.in_ok-returned.field-0 c.requires.returned c.in_ok-returned.was in
     record {
       within = subst (All (λ s. s.index < length records)) (sym c.deref.ensures.value)
-          (all_within (plan_of table board) records c.in_ok-outcome.field-0.items
+          (all_within (plan_of table board) records c.in_ok-returned.field-0.items
           (ap length c.deref_mut.ensures.value ∙ c.requires.gathered.records.size) more.each);
     }
 
@@ -27,5 +27,5 @@ returns g c =
     with_items_is old.records c.write_all.new.records (c.write_all.auto.records ∙ c.deref_mut.ensures.len)
     ∙ c.write_all.ensures
     ∙ (λ i. with_records (c.deref_mut.ensures.value i) (c.deref.ensures.value i)) in
-    taken_one g.T.MemoryTable.table c.args.board.now old new c.args.returned c.in_ok-outcome.field-0
-    c.requires.gathered c.requires.returned c.in_ok-outcome.was c.join.ensures.seat c.join.ensures.joined written
+    taken_one g.T.MemoryTable.table c.args.board.now old new c.args.returned c.in_ok-returned.field-0
+    c.requires.gathered c.requires.returned c.in_ok-returned.was c.join.ensures.seat c.join.ensures.joined written

@@ -18,21 +18,21 @@ look-answer-requires g c =
     let place = c.self.inside.place in
     let of = c.self.invariant.of_shared in
     subst (λ (t : Type 0). t)
-    (at_bounds g.S.Parted.may _ _ _ _ place _ _ (ap (λ s. s.divided.whole) c.deref-2.ensures) (ap (λ s. s.divided.bounds.items) c.deref.ensures)
+    (at_bounds g.S.Parted.may _ _ _ _ place _ _ (ap (λ s. s.divided.whole) c.deref.ensures) (ap (λ s. s.divided.bounds.items) c.deref.ensures)
     (omega (arith, of.one_each, c.self.invariant.within)) c.index.ensures c.index-2.ensures)
     (of.may_each place (omega (arith, of.one_each, c.self.invariant.within)))
 
 pub leave-requires-clause-within : goal.leave-requires-clause-within
-leave-requires-clause-within g c = subst (λ s. c.self.inside.place < tray_count s.trays) (sym c.deref-3.ensures) c.self.invariant.within
+leave-requires-clause-within g c = subst (λ s. c.self.inside.place < tray_count s.trays) (sym c.deref-2.ensures) c.self.invariant.within
 
 pub leave-requires-clause-kept : goal.leave-requires-clause-kept
 leave-requires-clause-kept g c =
     let place = c.self.inside.place in
     let of = c.self.invariant.of_shared in
     subst (λ d. TellsOfPart g.S.Parted.tells d.whole d.bounds.items place c.look-answer.result)
-    (sym (ap (λ s. s.trays.table.shared.key.value.0.value) c.deref-3.ensures ∙ of.labelled))
+    (sym (ap (λ s. s.trays.table.shared.key.value.0.value) c.deref-2.ensures ∙ of.labelled))
     (subst (λ (t : Type 0). t)
     (sym (at_bounds (λ s from to. g.S.Parted.tells s from to c.look-answer.result) _ _ _ _ place _ _
-    (ap (λ s. s.divided.whole) c.deref-2.ensures) (ap (λ s. s.divided.bounds.items) c.deref.ensures)
+    (ap (λ s. s.divided.whole) c.deref.ensures) (ap (λ s. s.divided.bounds.items) c.deref.ensures)
     (omega (arith, of.one_each, c.self.invariant.within)) c.index.ensures c.index-2.ensures))
     c.look-answer.ensures)

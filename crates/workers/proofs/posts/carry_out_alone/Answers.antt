@@ -2,7 +2,7 @@ use Rattle.workers.proofs.Common.{refl, sym, subst, ◌∙◌}
 use Rattle.std.proofs.lemmas.List.{with_items_is}
 use Rattle.list_order.specs.Carrying.{AreExchanged}
 use Rattle.workers.specs.inner.Works.{MayShareOut}
-use Rattle.workers.proofs.posts.Posts.carry_out_alone.Goals as goal
+use Rattle.workers.proofs.posts.carry_out_alone.Goals as goal
 
 pub exchange_all-requires-clause-tables : goal.exchange_all-requires-clause-tables
 exchange_all-requires-clause-tables g c _ _ =

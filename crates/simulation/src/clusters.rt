@@ -76,11 +76,10 @@ impl<T: MemoryTable + Send + Sync, K: RoundHistories<T>> Cluster<T, K> {
         ensures opens { IfOk result (IsAfterRound T.table K.kept scenario.now 0) }
         ensures only { IsOkUnless result OutOfMemory }
     {
-        let words = RunWords::new(alloc, scenario)?;
         Ok(Cluster {
             tables: tables?,
             histories,
-            drawn: Drawn::Words(words),
+            drawn: Drawn::Words(RunWords::new(alloc, scenario)?),
         })
     }
 }
@@ -156,14 +155,8 @@ impl<T: MemoryTable + Send + Sync, K: RoundHistories<T>, G: Gate + Sync + Drop> 
         ensures played { IfOk result (λ p. Plays T.table K.kept self.entry p.0 p.1) }
         ensures only { IsOkUnless result OutOfMemory }
     {
-        let NextRound {
-            cluster,
-            scenario,
-            round,
-            gate,
-        } = self;
-        let under_way = begin_round(resources, cluster, scenario, round)?;
-        under_way.carry_out(resources, posts, gate)
+        let under_way = begin_round(resources, self.cluster, self.scenario, self.round)?;
+        under_way.carry_out(resources, posts, self.gate)
     }
 }
 
@@ -174,10 +167,7 @@ struct UnderWay<'a, T, K> {
     round: u32,
     tables: Vec<T>,
     histories: K,
-    list: RoundList,
-    words: RunWords,
-    // How many writes of its generation each node has made, where the next round is to be drawn meanwhile.
-    counts: Option<Vec<u32>>,
+    begun: Begun,
 }
 
 impl<T: MemoryTable + Send + Sync, K: RoundHistories<T>> UnderWay<'_, T, K> {
@@ -194,18 +184,16 @@ impl<T: MemoryTable + Send + Sync, K: RoundHistories<T>> UnderWay<'_, T, K> {
     {
         let rt = resources.rt;
         let alloc = resources.alloc;
-        let UnderWay {
-            scenario,
-            round,
-            tables,
-            histories,
+        let scenario = self.scenario;
+        let round = self.round;
+        let Begun {
             list,
             words,
             counts,
-        } = self;
+        } = self.begun;
         let rules = rules_of(scenario);
         let batch = Batch {
-            shared: histories,
+            shared: self.histories,
             list: &list,
             rules: &rules,
             gate,
@@ -218,11 +206,10 @@ impl<T: MemoryTable + Send + Sync, K: RoundHistories<T>> UnderWay<'_, T, K> {
             let Some(counts) = counts else {
                 return Ok(Drawn::Words(words));
             };
-            let next = next_plan(words, rt, alloc, scenario, round + 1)?;
-            let next = next.with_writes(alloc, scenario, round + 1, &counts)?;
+            let next = next_plan(words, rt, alloc, scenario, round + 1, Some(&counts))?;
             Ok(Drawn::Next(next))
         };
-        let done = posts.carry_out(rt, batch, tables, draw)?;
+        let done = posts.carry_out(rt, batch, self.tables, draw)?;
         end_round(resources, posts, round, list, done)
     }
 }
@@ -275,7 +262,7 @@ fn end_round<T: MemoryTable, K: RoundHistories<T>, H: Threads + Wait + Sync, C: 
 // A round begins: its restarts and its writes are made.
 fn begin_round<'a, T: MemoryTable, K: RoundHistories<T>>(
     resources: &Resources<impl Threads + Sync>,
-    cluster: Cluster<T, K>,
+    mut cluster: Cluster<T, K>,
     scenario: &'a Scenario,
     round: u32,
 ) -> Result<UnderWay<'a, T, K>, Fault>
@@ -283,32 +270,20 @@ fn begin_round<'a, T: MemoryTable, K: RoundHistories<T>>(
     ensures under_way { IfOk result (IsUnderWay T.table K.kept K.fits scenario.now round) }
     ensures only { IsOkUnless result OutOfMemory }
 {
-    let Cluster {
-        mut tables,
-        mut histories,
-        drawn,
-    } = cluster;
     let begun = begin(
         resources,
         scenario,
         round,
-        drawn,
-        &mut tables,
-        &mut histories,
+        cluster.drawn,
+        &mut cluster.tables,
+        &mut cluster.histories,
     )?;
-    let Begun {
-        list,
-        words,
-        counts,
-    } = begun;
     Ok(UnderWay {
         scenario,
         round,
-        tables,
-        histories,
-        list,
-        words,
-        counts,
+        tables: cluster.tables,
+        histories: cluster.histories,
+        begun,
     })
 }
 
@@ -317,6 +292,7 @@ fn begin_round<'a, T: MemoryTable, K: RoundHistories<T>>(
 struct Begun {
     list: RoundList,
     words: RunWords,
+    // How many writes of its generation each node has made, where the next round is to be drawn meanwhile.
     counts: Option<Vec<u32>>,
 }
 
@@ -452,16 +428,12 @@ fn begin_node<T: MemoryTable, K: RoundHistories<T>>(
     ensures only { IsOkUnless result OutOfMemory }
 {
     restart(start, node, table, histories);
-    let Start {
-        scenario,
-        round,
-        plan,
-    } = *start;
-    match &plan.writes {
+    match &start.plan.writes {
         Some(writes) => write_round(start, node, table, histories, &writes[node as usize]),
         None => {
             let count = histories.count(node);
-            let writes = writes_by(scenario, node, round, count, plan.words.of_node(node));
+            let words = start.plan.words.of_node(node);
+            let writes = writes_by(start.scenario, node, start.round, count, words);
             write_round(start, node, table, histories, &writes)
         }
     }
@@ -507,7 +479,7 @@ fn counts_of<T: MemoryTable, K: RoundHistories<T>>(
 {
     let mut counts = Vec::with_capacity(alloc, nodes as usize)?;
     for owner in 0..nodes {
-        counts.push(histories.count(owner))?;
+        counts.push_reserved(histories.count(owner));
     }
     Ok(counts)
 }

@@ -1,6 +1,6 @@
 //! What a run draws round by round: the words of its nodes, and by them the list of a round and what the nodes write.
 
-ghost use Rattle.std.specs.Prelude.{◌≡◌, ◌-◌, ◌≤◌, IfOk, IsOkUnless, is_some, true};
+ghost use Rattle.std.specs.Prelude.{◌≡◌, ◌-◌, ◌≤◌, IfOk, IfSome, IsOkUnless};
 ghost use Rattle.bench_types.specs.declared.faults.Fault.TheVariants.{OutOfMemory};
 ghost use Rattle.round_plan.specs.calls.Words.{run_words_of};
 ghost use Rattle.simulation.specs.inner.Plans.{AreCountsAfter, AreWritesOfAll, IsPlanOf, IsDrawnAfter};
@@ -22,36 +22,6 @@ pub(crate) struct Plan {
     pub(crate) any_restart: bool,
     pub(crate) list: RoundList,
     pub(crate) writes: Option<Vec<Writes>>,
-}
-
-impl Plan {
-    /// With what is written in the round, by how many writes of its generation each node has made before it.
-    pub(crate) fn with_writes(
-        self,
-        alloc: Global,
-        scenario: &Scenario,
-        round: u32,
-        counts: &[u32],
-    ) -> Result<Plan, Fault>
-        requires first { 1 ≤ round }
-        requires last { round ≤ MOST_ROUNDS }
-        requires plan { IsPlanOf scenario.now round self }
-        requires counts { AreCountsAfter scenario.now (round - 1) counts.now }
-        ensures plan { IfOk result (IsPlanOf scenario.now round) }
-        ensures written { IfOk result (λ plan. is_some plan.writes ≡ true) }
-        ensures only { IsOkUnless result OutOfMemory }
-    {
-        match writes_of(alloc, scenario, round, &self.words, counts) {
-            Ok(writes) => Ok(Plan {
-                writes: Some(writes),
-                ..self
-            }),
-            Err(fault) => {
-                drop(self);
-                Err(fault)
-            }
-        }
-    }
 }
 
 // What each node writes in a round.
@@ -76,7 +46,7 @@ fn writes_of(
         } else {
             counts[node as usize]
         };
-        writes.push(writes_by(scenario, node, round, count, words.of_node(node)))?;
+        writes.push_reserved(writes_by(scenario, node, round, count, words.of_node(node)));
     }
     Ok(writes)
 }
@@ -107,32 +77,39 @@ impl Drawn {
         match self {
             Drawn::Next(plan) => Ok(plan),
             Drawn::Words(words) => {
-                next_plan(words, resources.rt, resources.alloc, scenario, round)
+                next_plan(words, resources.rt, resources.alloc, scenario, round, None)
             }
         }
     }
 }
 
-/// The plan of a round, by the words of the round before.
+/// The plan of a round, by the words of the round before; with what is written in it where it is told how many writes
+/// of its generation each node has made before.
 pub(crate) fn next_plan(
     mut words: RunWords,
     rt: &(impl Threads + Sync),
     alloc: Global,
     scenario: &Scenario,
     round: u32,
+    counts: Option<&[u32]>,
 ) -> Result<Plan, Fault>
     requires first { 1 ≤ round }
     requires last { round ≤ MOST_ROUNDS }
     requires words { words ≡ run_words_of scenario.now (round - 1) }
+    requires counts { IfSome counts (λ counts. AreCountsAfter scenario.now (round - 1) counts.now) }
     ensures plan { IfOk result (IsPlanOf scenario.now round) }
     ensures only { IsOkUnless result OutOfMemory }
 {
     words.next_round();
     let list = round_list_by(rt, alloc, scenario, round, &words)?;
+    let writes = match counts {
+        Some(counts) => Some(writes_of(alloc, scenario, round, &words, counts)?),
+        None => None,
+    };
     Ok(Plan {
         words,
         any_restart: any_restart_now(scenario, round),
         list,
-        writes: None,
+        writes,
     })
 }

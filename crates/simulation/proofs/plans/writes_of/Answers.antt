@@ -4,7 +4,7 @@ use Rattle.simulation.proofs.plans.writes_of.Goals as goal
 use Rattle.simulation.proofs.plans.writes_of.Goals.{then-forgets_now, else-forgets_now}
 
 -- how many there were before
-counted : (c : goal.In_ok-push) → c.if-forgets_now.count ≡ length (writes_before c.args.scenario.now c.loop-node.node c.args.round)
+counted : (c : goal.After-push_reserved) → c.if-forgets_now.count ≡ length (writes_before c.args.scenario.now c.loop-node.node c.args.round)
 counted c =
     let s = c.args.scenario.now in
     let n = c.loop-node.node in
@@ -22,11 +22,25 @@ writes_by-requires-clause-fits c =
     elim c.if-forgets_now.branch [ then-forgets_now w ↦ omega (arith, w.count-is) | else-forgets_now w ↦ omega (arith, w.count-is, few, c.requires.last) ]
 
 pub loop-node-preserved : goal.loop-node-preserved
-loop-node-preserved c =
-    subst (AreWritesUpto c.args.scenario.now c.args.round (c.loop-node.node + 1)) (sym c.in_ok-push.ensures.items)
-    (writes_more c.loop-node.invariant
-    (subst (λ k. AreWritesOf c.args.scenario.now c.loop-node.node c.args.round k c.writes_by.result) (counted c) c.writes_by.ensures))
+loop-node-preserved c = (
+  subst (AreWritesUpto c.args.scenario.now c.args.round (c.loop-node.node + 1)) (sym c.push_reserved.ensures.items)
+      (writes_more c.loop-node.invariant.0
+      (subst (λ k. AreWritesOf c.args.scenario.now c.loop-node.node c.args.round k c.writes_by.result) (counted c) c.writes_by.ensures)),
+  c.push_reserved.ensures.capacity ∙ c.loop-node.invariant.1,
+)
+
+pub push_reserved-requires : goal.push_reserved-requires
+push_reserved-requires c =
+    omega (
+      arith,
+      c.loop-node.writes.ok.0,
+      c.loop-node.invariant.0.count,
+      c.loop-node.invariant.1,
+      c.requires.counts.count,
+      c.loop-node-test.true,
+      c.nodes-node-end.ensures.value,
+    )
 
 pub returns-clause-writes : goal.returns-clause-writes
 returns-clause-writes c =
-    all_writes_of c.loop-node.invariant (omega (arith, c.loop-node-test.false, c.loop-node.auto.node-end, c.nodes-node-end.ensures.value))
+    all_writes_of c.loop-node.invariant.0 (omega (arith, c.loop-node-test.false, c.loop-node.auto.node-end, c.nodes-node-end.ensures.value))

@@ -321,13 +321,8 @@ fn begin<T: MemoryTable, K: RoundHistories<T>>(
         round,
         plan: &plan,
     };
-    let counts = match begin_counting(resources, &start, tables, histories) {
-        Ok(counts) => counts,
-        Err(fault) => {
-            drop(plan);
-            return Err(fault);
-        }
-    };
+    begin_nodes(&start, tables, histories)?;
+    let counts = counts_of(resources, scenario, round, histories)?;
     let Plan {
         words,
         list,
@@ -358,34 +353,6 @@ struct Start<'a> {
     scenario: &'a Scenario,
     round: u32,
     plan: &'a Plan,
-}
-
-// What a round begins with, and then how many writes of its generation each node has made, where the next round is to
-// be drawn meanwhile.
-fn begin_counting<T: MemoryTable, K: RoundHistories<T>>(
-    resources: &Resources<impl Threads + Sync>,
-    start: &Start,
-    tables: &mut [T],
-    histories: &mut K,
-) -> Result<Option<Vec<u32>>, Fault>
-    requires round { IsRoundOf K.may_write start.now.scenario.now start.now.round }
-    requires plan { IsPlanOf start.now.scenario.now start.now.round start.now.plan.now }
-    requires ended { HaveEnded start.now.scenario.now (start.now.round - 1) (K.kept histories.old) }
-    requires standing { TablesStand T.table K.kept start.now.scenario.now (start.now.round - 1) tables.old
-        histories.old }
-    ensures begun { OnOk result (HasBegun T.table K.kept K.fits start.now.scenario.now start.now.round
-        tables.old tables.new histories.new) }
-    ensures counted { IfOk result
-        (λ counts. IfSome counts (λ v. AreCountsAfter start.now.scenario.now start.now.round v.items)) }
-    ensures another { IfOk result (λ counts. IfSome counts (λ _. start.now.round + 1 ≤ MOST_ROUNDS)) }
-    ensures only { IsOkUnless result OutOfMemory }
-{
-    begin_nodes(start, tables, histories)?;
-    if !draws_ahead(resources.hands, start.scenario, start.round) {
-        return Ok(None);
-    }
-    let counts = counts_of(resources.alloc, histories, start.scenario.nodes())?;
-    Ok(Some(counts))
 }
 
 // What a round begins with: its restarts and its writes, by node.
@@ -467,21 +434,29 @@ fn draws_ahead(hands: Hands, scenario: &Scenario, round: u32) -> bool
     hands.workers > 1 && round < scenario.rounds()
 }
 
-// How many writes of its generation each owner has made.
+// How many writes of its generation each owner has made, where the next round is to be drawn while this one is under
+// way.
 fn counts_of<T: MemoryTable, K: RoundHistories<T>>(
-    alloc: Global,
+    resources: &Resources<impl Threads + Sync>,
+    scenario: &Scenario,
+    round: u32,
     histories: &K,
-    nodes: u32,
-) -> Result<Vec<u32>, Fault>
-    requires { length (K.kept histories.now).lists ≡ nodes }
-    ensures counts { IfOk result (λ counts. counts.items ≡ map counted_in (K.kept histories.now).lists) }
+) -> Result<Option<Vec<u32>>, Fault>
+    requires { length (K.kept histories.now).lists ≡ scenario.now.nodes }
+    ensures counts { IfOk result
+        (λ counts. IfSome counts (λ v. v.items ≡ map counted_in (K.kept histories.now).lists)) }
+    ensures another { IfOk result (λ counts. IfSome counts (λ _. round + 1 ≤ MOST_ROUNDS)) }
     ensures only { IsOkUnless result OutOfMemory }
 {
-    let mut counts = Vec::with_capacity(alloc, nodes as usize)?;
+    if !draws_ahead(resources.hands, scenario, round) {
+        return Ok(None);
+    }
+    let nodes = scenario.nodes();
+    let mut counts = Vec::with_capacity(resources.alloc, nodes as usize)?;
     for owner in 0..nodes {
         counts.push_reserved(histories.count(owner));
     }
-    Ok(counts)
+    Ok(Some(counts))
 }
 
 // The restarts of a node in a round: they empty its copies of all others, or where it forgets its whole table.

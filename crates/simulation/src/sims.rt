@@ -147,7 +147,12 @@ impl<T: MemoryTable + Send + Sync, K: RoundHistories<T>> Sim<T, K> {
         ensures taken { IfOk result (HasTakenOut T.table K.kept K.may_write self.old self.new) }
         ensures refused { IfErr result (λ fault. IsRefusedBy self.old fault × (self.new ≡ self.old)) }
     {
-        self.check_step()?;
+        if self.is_broken() {
+            return Err(Fault::Broken);
+        }
+        if self.rounds_done == self.scenario.rounds() {
+            return Err(Fault::Finished);
+        }
         self.cluster.take().ok_or(Fault::Broken)
     }
 
@@ -180,20 +185,6 @@ impl<T: MemoryTable + Send + Sync, K: RoundHistories<T>> Sim<T, K> {
         self.cluster = Some(cluster);
         self.rounds_done += 1;
         Ok(round)
-    }
-
-    fn check_step(&self) -> Result<(), Fault>
-        ensures ok { OnOk result (MayStep self.now) }
-        ensures lawful { OnOk result (IsLawfulScenario self.now.settings) }
-        ensures err { IfErr result (IsRefusedBy self.now) }
-    {
-        if self.is_broken() {
-            return Err(Fault::Broken);
-        }
-        if self.rounds_done == self.scenario.rounds() {
-            return Err(Fault::Finished);
-        }
-        Ok(())
     }
 
     /// The nodes' tables, in order; none where the simulation is broken.

@@ -1,9 +1,9 @@
 use Rattle.std.specs.Option.{ok_or}
 use Rattle.std.specs.Prelude.{None}
 use Rattle.bench_types.specs.declared.faults.Fault.TheVariants.{Broken}
-use Rattle.simulation.proofs.Common.{◌≡◌, Fault, IfErr, IfOk, Option, Result, Some, inl, refl, sym, ◌∙◌, subst, arith, ap, is_none, IsLawfulScenario}
+use Rattle.simulation.proofs.Common.{◌≡◌, ◌<◌, Fault, IfErr, IfOk, Option, Result, Some, inl, refl, sym, ◌∙◌, subst, arith, ap, inr, is_none}
 use Rattle.std.proofs.lemmas.Bool.{true≢false}
-use Rattle.simulation.specs.calls.Simulation.{SimView, MayStep}
+use Rattle.simulation.specs.calls.Simulation.{SimView}
 use Rattle.simulation.specs.inner.Insides.{simulation_of, tables_held}
 use Rattle.simulation.proofs.Stepping.{after_before}
 use Rattle.simulation.proofs.sims.Sim.take_out.Goals as goal
@@ -19,18 +19,19 @@ refused P None r is of = subst (λ x. IfErr x P) (sym is) (of refl)
 
 pub returns-clause-taken : goal.returns-clause-taken
 returns-clause-taken g c =
-    let may = subst MayStep (sym c.self.view_is) c.in_ok-check_step.ensures.ok in
-    let lawful = subst (λ (v : SimView g.row.T.Denot). IsLawfulScenario v.settings) (sym c.self.view_is) c.in_ok-check_step.ensures.lawful in
+    let left : c.self.inside.rounds_done < c.self.inside.scenario.rounds =
+    omega (arith, c.if-self-rounds.false, c.rounds.ensures.value, c.self.invariant.simulation.within) in
+    let lawful = c.rounds.ensures.lawful in
     taken _ c.take.result c.ok_or.result c.ok_or.ensures.value (λ old there.
     let is = sym c.take.ensures.value ∙ there in
     record {
-      may = c.in_ok-check_step.ensures.ok;
+      may = (sym c.if-is_broken.ensures, subst (λ (v : SimView g.row.T.Denot). v.rounds_done < v.settings.rounds) c.self.view_is left);
       before = record {
         lawful = lawful;
         of_run = record {
           first = omega arith;
-          last = omega (arith, may.1, lawful.rounds.1);
-          within = omega (arith, may.1);
+          last = omega (arith, left, lawful.rounds.1);
+          within = omega (arith, left);
           may_write = c.self.invariant.may_write;
         };
         before = after_before g.T.MemoryTable.table g.K.RoundHistories.kept g.K.RoundHistories.may_write c.self.inside.scenario c.self.inside.cluster _
@@ -58,3 +59,10 @@ invariant_of-self g c = rw c.take.ensures.after (record {
   drawn = tt;
   may_write = c.self.invariant.may_write;
 })
+
+pub returns-then-is_broken-clause-refused : goal.returns-then-is_broken-clause-refused
+returns-then-is_broken-clause-refused g c = (inl (refl, sym c.if-is_broken.ensures), refl)
+
+pub returns-then-self-rounds-clause-refused : goal.returns-then-self-rounds-clause-refused
+returns-then-self-rounds-clause-refused g c =
+    (inr (refl, sym c.if-is_broken.ensures, rw (← c.self.view_is) (c.if-self-rounds.true ∙ c.rounds.ensures.value)), refl)

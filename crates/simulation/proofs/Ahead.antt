@@ -1,5 +1,5 @@
 -- What the nodes write in a round, worked out by how much each had written before it.
--- Serves `begin` and `writes_of`.
+-- Serves `begin_nodes` and `writes_of`.
 use Rattle.simulation.proofs.Common.{◌≡◌, ℕ, ◌+◌, ◌-◌, ◌<◌, ◌≤◌, if◌then◌else◌, List, [], ◌∷◌, ◌++◌, length, map, get_or, inl, inr, sym, ap, ◌∙◌, subst, arith, length-append, length-map, cases_eq, get_or-append, get_or_push, get_or-map, OwnWrite, Table, Settings, OwnerListView, list_of_owner, no_writes, forgets_now, writes_before, writes_upto, writes_before-grown, length_unless, AreWritesOf}
 use Rattle.std.specs.Prelude.{None, Option, Some}
 use Rattle.simulation.proofs.Common.{Global, IfSome, Vec}

@@ -155,7 +155,22 @@ impl<T: MemoryTable + Send + Sync, K: RoundHistories<T>, G: Gate + Sync + Drop> 
         ensures played { IfOk result (λ p. Plays T.table K.kept self.entry p.0 p.1) }
         ensures only { IsOkUnless result OutOfMemory }
     {
-        let under_way = begin_round(resources, self.cluster, self.scenario, self.round)?;
+        let mut cluster = self.cluster;
+        let begun = begin(
+            resources,
+            self.scenario,
+            self.round,
+            cluster.drawn,
+            &mut cluster.tables,
+            &mut cluster.histories,
+        )?;
+        let under_way = UnderWay {
+            scenario: self.scenario,
+            round: self.round,
+            tables: cluster.tables,
+            histories: cluster.histories,
+            begun,
+        };
         under_way.carry_out(resources, posts, self.gate)
     }
 }
@@ -259,34 +274,6 @@ fn end_round<T: MemoryTable, K: RoundHistories<T>, H: Threads + Wait + Sync, C: 
     ))
 }
 
-// A round begins: its restarts and its writes are made.
-fn begin_round<'a, T: MemoryTable, K: RoundHistories<T>>(
-    resources: &Resources<impl Threads + Sync>,
-    mut cluster: Cluster<T, K>,
-    scenario: &'a Scenario,
-    round: u32,
-) -> Result<UnderWay<'a, T, K>, Fault>
-    requires { IsBefore T.table K.kept K.may_write scenario.now round cluster }
-    ensures under_way { IfOk result (IsUnderWay T.table K.kept K.fits scenario.now round) }
-    ensures only { IsOkUnless result OutOfMemory }
-{
-    let begun = begin(
-        resources,
-        scenario,
-        round,
-        cluster.drawn,
-        &mut cluster.tables,
-        &mut cluster.histories,
-    )?;
-    Ok(UnderWay {
-        scenario,
-        round,
-        tables: cluster.tables,
-        histories: cluster.histories,
-        begun,
-    })
-}
-
 // What there is of a round that has begun, beside the tables and the histories.
 #[derive(Drop)]
 struct Begun {
@@ -296,7 +283,7 @@ struct Begun {
     counts: Option<Vec<u32>>,
 }
 
-// The same, beside tables and histories that are lent.
+// A round begins: its restarts and its writes are made.
 fn begin<T: MemoryTable, K: RoundHistories<T>>(
     resources: &Resources<impl Threads + Sync>,
     scenario: &Scenario,
@@ -321,8 +308,13 @@ fn begin<T: MemoryTable, K: RoundHistories<T>>(
         round,
         plan: &plan,
     };
-    begin_nodes(&start, tables, histories)?;
-    let counts = counts_of(resources, scenario, round, histories)?;
+    let counts = match begin_nodes(resources, &start, tables, histories) {
+        Ok(counts) => counts,
+        Err(fault) => {
+            drop(plan);
+            return Err(fault);
+        }
+    };
     let Plan {
         words,
         list,
@@ -355,12 +347,14 @@ struct Start<'a> {
     plan: &'a Plan,
 }
 
-// What a round begins with: its restarts and its writes, by node.
+// What a round begins with: its restarts and its writes, by node; and then how many writes of its generation each node
+// has made, where the next round is to be drawn meanwhile.
 fn begin_nodes<T: MemoryTable, K: RoundHistories<T>>(
+    resources: &Resources<impl Threads + Sync>,
     start: &Start,
     tables: &mut [T],
     histories: &mut K,
-) -> Result<(), Fault>
+) -> Result<Option<Vec<u32>>, Fault>
     requires round { IsRoundOf K.may_write start.now.scenario.now start.now.round }
     requires plan { IsPlanOf start.now.scenario.now start.now.round start.now.plan.now }
     requires ended { HaveEnded start.now.scenario.now (start.now.round - 1) (K.kept histories.old) }
@@ -368,13 +362,17 @@ fn begin_nodes<T: MemoryTable, K: RoundHistories<T>>(
         histories.old }
     ensures begun { OnOk result (HasBegun T.table K.kept K.fits start.now.scenario.now start.now.round
         tables.old tables.new histories.new) }
+    ensures counted { IfOk result
+        (λ counts. IfSome counts (λ v. AreCountsAfter start.now.scenario.now start.now.round v.items)) }
+    ensures another { IfOk result (λ counts. IfSome counts (λ _. start.now.round + 1 ≤ MOST_ROUNDS)) }
     ensures only { IsOkUnless result OutOfMemory }
 {
     for node in 0..start.scenario.nodes() {
         let at = node as usize;
         begin_node(start, node, &mut tables[at], histories)?;
     }
-    histories.end_writes()
+    histories.end_writes()?;
+    counts_of(resources, start.scenario, start.round, histories)
 }
 
 // What a node begins a round with: its restarts, and then its writes. No other node's table or list matters

@@ -126,11 +126,14 @@ impl<
                 ensures played { IfOk result (λ p. Plays T.table K.kept next.entry p.0 p.1) }
                 ensures only { IsOkUnless result OutOfMemory }
             {
-                let hands = Hands {
-                    workers: by.workers(),
-                    processors,
+                let resources = Resources {
+                    rt,
+                    alloc,
+                    hands: Hands {
+                        workers: by.workers(),
+                        processors,
+                    },
                 };
-                let resources = Resources { rt, alloc, hands };
                 next.play(&resources, by)
             },
         );
@@ -424,29 +427,22 @@ fn write_round<T: MemoryTable, K: RoundHistories<T>>(
     write_own(table, histories, writes.as_slice())
 }
 
-// Whether the next round is drawn while this one is under way: several workers leave the caller's thread idle.
-fn draws_ahead(hands: Hands, scenario: &Scenario, round: u32) -> bool
-    ensures when { result ≡ (nat_lt 1 hands.workers && nat_lt round scenario.now.rounds) }
-    ensures last { result ≡ true → round + 1 ≤ MOST_ROUNDS }
-{
-    hands.workers > 1 && round < scenario.rounds()
-}
-
 // How many writes of its generation each owner has made, where the next round is to be drawn while this one is under
-// way.
+// way: several workers leave the caller's thread idle.
 fn counts_of<T: MemoryTable, K: RoundHistories<T>>(
     resources: &Resources<impl Threads + Sync>,
     scenario: &Scenario,
     round: u32,
     histories: &K,
 ) -> Result<Option<Vec<u32>>, Fault>
-    requires { length (K.kept histories.now).lists ≡ scenario.now.nodes }
+    requires round { round ≤ scenario.now.rounds }
+    requires one_each { length (K.kept histories.now).lists ≡ scenario.now.nodes }
     ensures counts { IfOk result
         (λ counts. IfSome counts (λ v. v.items ≡ map counted_in (K.kept histories.now).lists)) }
     ensures another { IfOk result (λ counts. IfSome counts (λ _. round + 1 ≤ MOST_ROUNDS)) }
     ensures only { IsOkUnless result OutOfMemory }
 {
-    if !draws_ahead(resources.hands, scenario, round) {
+    if resources.hands.workers == 1 || round == scenario.rounds() {
         return Ok(None);
     }
     let nodes = scenario.nodes();

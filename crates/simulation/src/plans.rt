@@ -24,31 +24,35 @@ pub(crate) struct Plan {
     pub(crate) writes: Option<Vec<Writes>>,
 }
 
-// What each node writes in a round.
+// What each node writes in a round, where it is told how many writes of its generation each has made before.
 fn writes_of(
     alloc: Global,
     scenario: &Scenario,
     round: u32,
     words: &RunWords,
-    counts: &[u32],
-) -> Result<Vec<Writes>, Fault>
+    counts: Option<&[u32]>,
+) -> Result<Option<Vec<Writes>>, Fault>
     requires first { 1 ≤ round }
     requires last { round ≤ MOST_ROUNDS }
     requires words { words.now ≡ run_words_of scenario.now round }
-    requires counts { AreCountsAfter scenario.now (round - 1) counts.now }
-    ensures writes { IfOk result (λ writes. AreWritesOfAll scenario.now round writes.items) }
+    requires counts { IfSome counts (λ counts. AreCountsAfter scenario.now (round - 1) counts.now) }
+    ensures writes { IfOk result
+        (λ writes. IfSome writes (λ v. AreWritesOfAll scenario.now round v.items)) }
     ensures only { IsOkUnless result OutOfMemory }
 {
-    let mut writes = Vec::with_capacity(alloc, counts.len())?;
+    let Some(before) = counts else {
+        return Ok(None);
+    };
+    let mut writes = Vec::with_capacity(alloc, before.len())?;
     for node in 0..scenario.nodes() {
         let count = if forgets_now(scenario, node, round) {
             0
         } else {
-            counts[node as usize]
+            before[node as usize]
         };
         writes.push_reserved(writes_by(scenario, node, round, count, words.of_node(node)));
     }
-    Ok(writes)
+    Ok(Some(writes))
 }
 
 /// What is drawn once a round is done.
@@ -102,10 +106,7 @@ pub(crate) fn next_plan(
 {
     words.next_round();
     let list = round_list_by(rt, alloc, scenario, round, &words)?;
-    let writes = match counts {
-        Some(counts) => Some(writes_of(alloc, scenario, round, &words, counts)?),
-        None => None,
-    };
+    let writes = writes_of(alloc, scenario, round, &words, counts)?;
     Ok(Plan {
         words,
         any_restart: any_restart_now(scenario, round),

@@ -85,8 +85,8 @@ always : {A E P : Type 0} (r : Result A E) → P → OnOk r P
 always (Ok x) p = p
 always (Err e) p = tt
 
-pub counts_of-requires-after_bounds : goal.counts_of-requires-after_bounds
-counts_of-requires-after_bounds g c _ _ = (has_begun g c).standing.list_count
+pub counts_of-requires-clause-one_each : goal.counts_of-requires-clause-one_each
+counts_of-requires-clause-one_each g c _ _ = (has_begun g c).standing.list_count
 
 pub returns-clause-begun : goal.returns-clause-begun
 returns-clause-begun g c = always c.counts_of.result (has_begun g c.before)

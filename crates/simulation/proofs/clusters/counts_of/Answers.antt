@@ -8,7 +8,7 @@ loop-owner-preserved g c =
     let owner = c.loop-owner.owner in (
       c.push_reserved.ensures.items ∙ ap (λ (ks : List ℕ). ks ++ c.count.result ∷ []) c.loop-owner.invariant.0
           ∙ ap (λ k. map counted_in (take owner lists) ++ k ∷ []) c.count.ensures
-          ∙ sym (map_more counted_in lists owner no_writes (omega (arith, c.loop-owner-test.true, c.requires, c.nodes-nodes.ensures.value))),
+          ∙ sym (map_more counted_in lists owner no_writes (omega (arith, c.loop-owner-test.true, c.requires.one_each, c.nodes-nodes.ensures.value))),
       c.push_reserved.ensures.capacity ∙ c.loop-owner.invariant.1,
     )
 
@@ -16,7 +16,7 @@ pub push_reserved-requires : goal.push_reserved-requires
 push_reserved-requires g c =
     let lists = (g.K.RoundHistories.kept c.args.histories.now).lists in
     let owner = c.loop-owner.owner in
-    let made = length-take-le owner lists (omega (arith, c.loop-owner-test.true, c.requires, c.nodes-nodes.ensures.value)) in
+    let made = length-take-le owner lists (omega (arith, c.loop-owner-test.true, c.requires.one_each, c.nodes-nodes.ensures.value)) in
     omega (
       arith,
       c.loop-owner.counts.ok.0,
@@ -30,5 +30,5 @@ push_reserved-requires g c =
 pub returns-clause-counts : goal.returns-clause-counts
 returns-clause-counts g c =
     let lists = (g.K.RoundHistories.kept c.args.histories.now).lists in
-    let all : c.loop-owner.owner ≡ length lists = omega (arith, c.loop-owner-test.false, c.loop-owner.auto.owner-end, c.requires, c.nodes-nodes.ensures.value) in
+    let all : c.loop-owner.owner ≡ length lists = omega (arith, c.loop-owner-test.false, c.loop-owner.auto.owner-end, c.requires.one_each, c.nodes-nodes.ensures.value) in
     c.loop-owner.invariant.0 ∙ ap (λ n. map counted_in (take n lists)) all ∙ ap (map counted_in) (take-length lists)

@@ -1,6 +1,6 @@
 //! All nodes' tables and the histories of their owners, and how a round changes them.
 
-ghost use Rattle.std.specs.Prelude.{◌≡◌, ◌+◌, ◌-◌, ◌≤◌, ◌&&◌, nat_lt, true, length, map, IfOk, IfErr, IfSome, OnOk, IsOkUnless};
+ghost use Rattle.std.specs.Prelude.{◌≡◌, ◌+◌, ◌-◌, ◌≤◌, length, map, IfOk, IfErr, IfSome, OnOk, IsOkUnless};
 ghost use Rattle.bench_types.specs.declared.faults.Fault.TheVariants.{OutOfMemory};
 ghost use Rattle.limits.specs.declared.TheConstants.{MOST_ROUNDS};
 ghost use Rattle.model.specs.calls.OwnerListView.{written};
@@ -11,7 +11,7 @@ ghost use Rattle.round_histories.specs.Histories.{AreNewHistories, StandAtRoundE
 ghost use Rattle.round_plan.specs.Plan.{round_list_of};
 ghost use Rattle.simulation.specs.inner.InMemory.{HasBegun, IsBeforeRound, IsBegun, IsOwnerIn, IsRestartedIn, IsWritten, MayWriteNow, TablesStand, WritesIn};
 ghost use Rattle.simulation.specs.inner.Insides.{IsAfterRound};
-ghost use Rattle.simulation.specs.inner.Playing.{HasEnded, IsBefore, IsPlayed, IsUnderWay, MayPlay, Plays};
+ghost use Rattle.simulation.specs.inner.Playing.{HasEnded, IsPlayed, IsUnderWay, MayPlay, Plays};
 ghost use Rattle.simulation.specs.inner.Plans.{AreCountsAfter, IsDrawnAfter, IsPlanOf, MayDraw, counted_in};
 ghost use Rattle.simulation.specs.inner.Steps.{HaveEnded, IsRoundOf, LeavesOthers, MayWriteOwn};
 

@@ -1,13 +1,12 @@
 //! A simulation, round by round.
 
-ghost use Rattle.std.specs.Prelude.{◌≡◌, ◌+◌, ◌<◌, ◌≤◌, true, false, [], map, Some, IfOk, IfErr, OnOk, IsOkUnless};
+ghost use Rattle.std.specs.Prelude.{◌≡◌, ◌+◌, ◌<◌, ◌≤◌, true, false, [], map, Some, IfOk, IfErr, IsOkUnless};
 ghost use Rattle.bench_types.specs.declared.faults.Fault.TheVariants.{OutOfMemory};
-ghost use Rattle.scenario.specs.Settings.{IsLawfulScenario};
 ghost use Rattle.model.specs.Runs.{AreWorkers};
 ghost use Rattle.simulation.specs.Rounds.{opening_tables};
 ghost use Rattle.simulation.specs.inner.Insides.{IsAfterRound};
 ghost use Rattle.simulation.specs.inner.Playing.{HasTakenOut, IsPutBack};
-ghost use Rattle.simulation.specs.calls.Simulation.{AreTablesAfter, MayWriteAll, PlaysNext, MayStep, IsRefusedBy, IsStepFault};
+ghost use Rattle.simulation.specs.calls.Simulation.{AreTablesAfter, MayWriteAll, PlaysNext, IsRefusedBy, IsStepFault};
 
 use crate::clusters::{Cluster, NextRound};
 use crate::processors::processors_of;
@@ -181,10 +180,14 @@ impl<T: MemoryTable + Send + Sync, K: RoundHistories<T>> Sim<T, K> {
             (λ p. IsAfterRound T.table K.kept self.old.settings (self.old.rounds_done + 1) p.0) }
         ensures { IsPutBack K.kept self.old self.new played result }
     {
-        let (cluster, round) = played?;
-        self.cluster = Some(cluster);
-        self.rounds_done += 1;
-        Ok(round)
+        match played {
+            Ok((cluster, round)) => {
+                self.cluster = Some(cluster);
+                self.rounds_done += 1;
+                Ok(round)
+            }
+            Err(fault) => Err(fault),
+        }
     }
 
     /// The nodes' tables, in order; none where the simulation is broken.

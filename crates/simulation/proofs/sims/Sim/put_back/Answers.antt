@@ -5,7 +5,7 @@ pub invariant_of-self : goal.invariant_of-self
 invariant_of-self g c =
     let left = rw (← c.self.view_is) at c.requires.left in
     let after = rw (← c.self.view_is) at c.requires.after in
-    let is = IfOk-at_ok _ c.in_ok-cluster.was after in
+    let is = IfOk-at_ok _ c.in-Ok.is after in
     record {
       simulation = record { within = omega (arith, left); standing = λ _. is.standing; tables = λ _. is.tables };
       ended = is.ended;

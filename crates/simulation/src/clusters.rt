@@ -1,6 +1,6 @@
 //! All nodes' tables and the histories of their owners, and how a round changes them.
 
-ghost use Rattle.std.specs.Prelude.{◌≡◌, ◌+◌, ◌-◌, ◌≤◌, length, map, IfOk, IfErr, IfSome, OnOk, IsOkUnless};
+ghost use Rattle.std.specs.Prelude.{◌≡◌, ◌+◌, ◌-◌, ◌≤◌, ◌&&◌, nat_lt, is_some, length, map, IfOk, IfErr, IfSome, OnOk, IsOkUnless};
 ghost use Rattle.bench_types.specs.declared.faults.Fault.TheVariants.{OutOfMemory};
 ghost use Rattle.limits.specs.declared.TheConstants.{MOST_ROUNDS};
 ghost use Rattle.model.specs.calls.OwnerListView.{written};
@@ -437,6 +437,8 @@ fn counts_of<T: MemoryTable, K: RoundHistories<T>>(
 ) -> Result<Option<Vec<u32>>, Fault>
     requires round { round ≤ scenario.now.rounds }
     requires one_each { length (K.kept histories.now).lists ≡ scenario.now.nodes }
+    ensures when { IfOk result
+        (λ counts. is_some counts ≡ (nat_lt 1 resources.now.hands.workers && nat_lt round scenario.now.rounds)) }
     ensures counts { IfOk result
         (λ counts. IfSome counts (λ v. v.items ≡ map counted_in (K.kept histories.now).lists)) }
     ensures another { IfOk result (λ counts. IfSome counts (λ _. round + 1 ≤ MOST_ROUNDS)) }

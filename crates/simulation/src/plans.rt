@@ -1,6 +1,6 @@
 //! What a run draws round by round: the words of its nodes, and by them the list of a round and what the nodes write.
 
-ghost use Rattle.std.specs.Prelude.{◌≡◌, ◌-◌, ◌≤◌, IfOk, IfSome, IsOkUnless};
+ghost use Rattle.std.specs.Prelude.{◌≡◌, ◌-◌, ◌≤◌, IfOk, IfSome, IsOkUnless, is_some};
 ghost use Rattle.bench_types.specs.declared.faults.Fault.TheVariants.{OutOfMemory};
 ghost use Rattle.round_plan.specs.calls.Words.{run_words_of};
 ghost use Rattle.simulation.specs.inner.Plans.{AreCountsAfter, AreWritesOfAll, IsPlanOf, IsDrawnAfter};
@@ -38,6 +38,7 @@ fn writes_of(
     requires counts { IfSome counts (λ counts. AreCountsAfter scenario.now (round - 1) counts.now) }
     ensures writes { IfOk result
         (λ writes. IfSome writes (λ v. AreWritesOfAll scenario.now round v.items)) }
+    ensures told { IfOk result (λ writes. is_some writes ≡ is_some counts.entry) }
     ensures only { IsOkUnless result OutOfMemory }
 {
     let Some(before) = counts else {
@@ -102,6 +103,7 @@ pub(crate) fn next_plan(
     requires words { words ≡ run_words_of scenario.now (round - 1) }
     requires counts { IfSome counts (λ counts. AreCountsAfter scenario.now (round - 1) counts.now) }
     ensures plan { IfOk result (IsPlanOf scenario.now round) }
+    ensures told { IfOk result (λ plan. is_some plan.writes ≡ is_some counts.entry) }
     ensures only { IsOkUnless result OutOfMemory }
 {
     words.next_round();

@@ -1,6 +1,8 @@
 -- What the nodes write in a round, worked out by how much each had written before it.
--- Serves `begin_counting` and `writes_of`.
+-- Serves `begin_nodes` and `writes_of`.
 use Rattle.simulation.proofs.Common.{◌≡◌, ℕ, ◌+◌, ◌-◌, ◌<◌, ◌≤◌, if◌then◌else◌, List, [], ◌∷◌, ◌++◌, length, map, get_or, inl, inr, sym, ap, ◌∙◌, subst, arith, length-append, length-map, cases_eq, get_or-append, get_or_push, get_or-map, OwnWrite, Table, Settings, OwnerListView, list_of_owner, no_writes, forgets_now, writes_before, writes_upto, writes_before-grown, length_unless, AreWritesOf}
+use Rattle.std.specs.Prelude.{None, Option, Some}
+use Rattle.simulation.proofs.Common.{Global, IfSome, Vec}
 use Rattle.simulation.specs.calls.Standing.{StandAfterRound}
 use Rattle.simulation.specs.inner.Plans.{AreCountsAfter, AreWritesOfAll, counted_in}
 
@@ -45,3 +47,8 @@ counts_after s round ts lists counts is standing = record {
   where
     at : (n : ℕ) → n < s.nodes → get_or counts n 0 ≡ length (list_of_owner lists n).current
     at n lt = ap (λ ks. get_or ks n 0) is ∙ get_or-map counted_in lists n no_writes 0 (omega (arith, lt, standing.list_count))
+
+pub counts_told : (s : Settings) (round : ℕ) (ts : List Table) (lists : List OwnerListView) (counts : Option (Vec ℕ Global))
+    → IfSome counts (λ v. v.items ≡ map counted_in lists) → StandAfterRound s round ts lists → IfSome counts (λ v. AreCountsAfter s round v.items)
+counts_told s round ts lists (Some v) are standing = counts_after s round ts lists v.items are standing
+counts_told s round ts lists None are standing = tt

@@ -1,6 +1,8 @@
 -- A step that carries out the next round.
 -- Serves `Sim::step`, `Sim::step_by`, `Sim::take_out` and `Playing`.
-use Rattle.simulation.proofs.Common.{Err, Fault, IfErr, IsErrAnd, IsFaultOfWorkers, Ok, Result, inl, ◌≡◌, ℕ, ◌<◌, ◌≤◌, List, [], length, map, get_or, sym, ◌∙◌, arith, suc, ◌+◌, ◌-◌, false, Option, Some, refl, ap, subst, ext_get_or, get_or-map-range_with_len, length-map-range_with_len, Table, Settings, IsLawfulScenario, HistoriesView, OwnerListView, no_writes, lists_in, write_of_entry, length-lists_in, list_read, figures_of, is_none, IfSome, Folded, Entry, Record, round_list_of}
+use Rattle.simulation.proofs.Common.{Err, Fault, IfErr, IfOk, IsFaultOfWorkers, Ok, Result, inl, ◌≡◌, ℕ, ◌<◌, ◌≤◌, List, [], length, map, get_or, sym, ◌∙◌, arith, suc, ◌+◌, ◌-◌, false, Option, Some, refl, ap, subst, ext_get_or, get_or-map-range_with_len, length-map-range_with_len, Table, Settings, IsLawfulScenario, HistoriesView, OwnerListView, no_writes, lists_in, write_of_entry, length-lists_in, list_read, figures_of, is_none, IfSome, Folded, Entry, Record, round_list_of}
+use Rattle.std.specs.Prelude.{IsOkUnless}
+use Rattle.bench_types.specs.declared.faults.Fault.TheVariants.{OutOfMemory}
 use Rattle.simulation.specs.Rounds.{tables_after, round_of, records_in}
 use Rattle.simulation.specs.Lists.{list_after, lists_after}
 use Rattle.simulation.specs.Outcomes.{figures_in}
@@ -9,7 +11,7 @@ use Rattle.simulation.specs.calls.Standing.{StandAfterRound}
 use Rattle.simulation.specs.declared.clusters.Cluster.{Cluster}
 use Rattle.simulation.specs.calls.RoundView.{RoundView}
 use Rattle.simulation.specs.Soundness.{AreSound, OnlyRestartsLowerMarks}
-use Rattle.simulation.specs.inner.Playing.{HasTakenOut, IsBefore, IsPlayed}
+use Rattle.simulation.specs.inner.Playing.{HasTakenOut, IsBefore, IsPlayed, IsPutBack}
 use Rattle.simulation.specs.inner.Insides.{IsInside, IsAfterRound, simulation_of, tables_held, lists_held}
 use Rattle.simulation.specs.inner.Plans.{IsDrawnAfter}
 use Rattle.simulation.specs.inner.Steps.{HaveEnded}
@@ -116,16 +118,22 @@ module _ {T K : Type 0} {table : T → Table} {kept : K → HistoriesView} {May 
       → IsPlayed table kept new.settings (new.rounds_done + 1) d round
   next_played {d} {round} = subst (λ (v : SimView T). IsPlayed table kept v.settings (v.rounds_done + 1) d round) is
 
-  pub step_done : {d : Cluster T K} {round : RoundView} {end : SimView T} → IsPlayed table kept inside.settings (inside.rounds_done + 1) d round
-      → end ≡ simulation_of kept new.settings (Some d) (new.rounds_done + 1) → PlaysNext table old end round
-  step_done {d} {round} {end} played =
-      step_played table kept May old new end c d round (subst (λ o. HasTakenOut table kept May old o c) (sym same) taken) (next_played played)
+  pub step_done : (end : SimView T) (played : Result (Cluster T K × RoundView) Fault) (result : Result RoundView Fault)
+      → IfOk played (λ p. IsPlayed table kept inside.settings (inside.rounds_done + 1) p.0 p.1) → IsPutBack kept new end played result
+      → IfOk result (PlaysNext table old end)
+  step_done end (Ok p) result is_played back = subst (λ r. IfOk r (PlaysNext table old end)) (sym back.0)
+      (step_played table kept May old new end c p.0 p.1 (subst (λ o. HasTakenOut table kept May old o c) (sym same) taken) (next_played is_played) back.1)
+  step_done end (Err e) result is_played back = subst (λ r. IfOk r (PlaysNext table old end)) (sym back.0) tt
 
--- or the round failed
-pub step_failed : {T K R : Type 0} {table : T → Table} {kept : K → HistoriesView} {May : ℕ → ℕ → Entry → Type 0} {old out new : SimView T}
-    {c : Cluster T K} (workers : ℕ) (r : Result R Fault) (fault : Fault) → IsErrAnd r (λ handed. handed ≡ fault) → IsFaultOfWorkers workers fault
-    → HasTakenOut table kept May old out c → new ≡ out → IfErr r (IsStepFault workers old new)
-step_failed workers (Ok x) fault is of_workers taken same = tt
-step_failed {old = old} {out = out} {new = new} workers (Err handed) fault is of_workers taken same =
-    subst (λ f. IsStepFault workers old new f) (sym is) (subst (λ v. IsStepFault workers old v fault) (sym same)
-    (inl (of_workers, taken.may, taken.broken, taken.settings, taken.rounds_done)))
+  -- or the round failed
+  pub step_failed : (end : SimView T) (workers : ℕ) (played : Result (Cluster T K × RoundView) Fault) (result : Result RoundView Fault)
+      → IfErr played (IsFaultOfWorkers workers) → IsPutBack kept new end played result → IfErr result (IsStepFault workers old end)
+  step_failed end workers (Ok p) result of_workers back = subst (λ r. IfErr r (IsStepFault workers old end)) (sym back.0) tt
+  step_failed end workers (Err e) result of_workers back =
+      subst (λ r. IfErr r (IsStepFault workers old end)) (sym back.0) (subst (λ v. IsStepFault workers old v e) (sym (back.1 ∙ same))
+      (inl (of_workers, taken.may, taken.broken, taken.settings, taken.rounds_done)))
+
+-- lack of memory is a fault of any workers
+pub fault_of_memory : {X : Type 0} (workers : ℕ) (r : Result X Fault) → IsOkUnless r OutOfMemory → IfErr r (IsFaultOfWorkers workers)
+fault_of_memory workers (Ok x) only = tt
+fault_of_memory workers (Err e) only = inl only

@@ -1,6 +1,6 @@
 //! All nodes' tables and the histories of their owners, and how a round changes them.
 
-ghost use Rattle.std.specs.Prelude.{◌≡◌, ◌+◌, ◌-◌, ◌≤◌, ◌&&◌, nat_lt, true, length, map, IfOk, IfErr, IfSome, OnOk, IsOkUnless};
+ghost use Rattle.std.specs.Prelude.{◌≡◌, ◌+◌, ◌-◌, ◌≤◌, ◌&&◌, nat_lt, is_some, length, map, IfOk, IfErr, IfSome, OnOk, IsOkUnless};
 ghost use Rattle.bench_types.specs.declared.faults.Fault.TheVariants.{OutOfMemory};
 ghost use Rattle.limits.specs.declared.TheConstants.{MOST_ROUNDS};
 ghost use Rattle.model.specs.calls.OwnerListView.{written};
@@ -11,7 +11,7 @@ ghost use Rattle.round_histories.specs.Histories.{AreNewHistories, StandAtRoundE
 ghost use Rattle.round_plan.specs.Plan.{round_list_of};
 ghost use Rattle.simulation.specs.inner.InMemory.{HasBegun, IsBeforeRound, IsBegun, IsOwnerIn, IsRestartedIn, IsWritten, MayWriteNow, TablesStand, WritesIn};
 ghost use Rattle.simulation.specs.inner.Insides.{IsAfterRound};
-ghost use Rattle.simulation.specs.inner.Playing.{HasEnded, IsBefore, IsPlayed, IsUnderWay, MayPlay, Plays};
+ghost use Rattle.simulation.specs.inner.Playing.{HasEnded, IsPlayed, IsUnderWay, MayPlay, Plays};
 ghost use Rattle.simulation.specs.inner.Plans.{AreCountsAfter, IsDrawnAfter, IsPlanOf, MayDraw, counted_in};
 ghost use Rattle.simulation.specs.inner.Steps.{HaveEnded, IsRoundOf, LeavesOthers, MayWriteOwn};
 
@@ -76,11 +76,10 @@ impl<T: MemoryTable + Send + Sync, K: RoundHistories<T>> Cluster<T, K> {
         ensures opens { IfOk result (IsAfterRound T.table K.kept scenario.now 0) }
         ensures only { IsOkUnless result OutOfMemory }
     {
-        let words = RunWords::new(alloc, scenario)?;
         Ok(Cluster {
             tables: tables?,
             histories,
-            drawn: Drawn::Words(words),
+            drawn: Drawn::Words(RunWords::new(alloc, scenario)?),
         })
     }
 }
@@ -127,11 +126,14 @@ impl<
                 ensures played { IfOk result (λ p. Plays T.table K.kept next.entry p.0 p.1) }
                 ensures only { IsOkUnless result OutOfMemory }
             {
-                let hands = Hands {
-                    workers: by.workers(),
-                    processors,
+                let resources = Resources {
+                    rt,
+                    alloc,
+                    hands: Hands {
+                        workers: by.workers(),
+                        processors,
+                    },
                 };
-                let resources = Resources { rt, alloc, hands };
                 next.play(&resources, by)
             },
         );
@@ -156,14 +158,23 @@ impl<T: MemoryTable + Send + Sync, K: RoundHistories<T>, G: Gate + Sync + Drop> 
         ensures played { IfOk result (λ p. Plays T.table K.kept self.entry p.0 p.1) }
         ensures only { IsOkUnless result OutOfMemory }
     {
-        let NextRound {
-            cluster,
-            scenario,
-            round,
-            gate,
-        } = self;
-        let under_way = begin_round(resources, cluster, scenario, round)?;
-        under_way.carry_out(resources, posts, gate)
+        let mut cluster = self.cluster;
+        let begun = begin(
+            resources,
+            self.scenario,
+            self.round,
+            cluster.drawn,
+            &mut cluster.tables,
+            &mut cluster.histories,
+        )?;
+        let under_way = UnderWay {
+            scenario: self.scenario,
+            round: self.round,
+            tables: cluster.tables,
+            histories: cluster.histories,
+            begun,
+        };
+        under_way.carry_out(resources, posts, self.gate)
     }
 }
 
@@ -174,10 +185,7 @@ struct UnderWay<'a, T, K> {
     round: u32,
     tables: Vec<T>,
     histories: K,
-    list: RoundList,
-    words: RunWords,
-    // How many writes of its generation each node has made, where the next round is to be drawn meanwhile.
-    counts: Option<Vec<u32>>,
+    begun: Begun,
 }
 
 impl<T: MemoryTable + Send + Sync, K: RoundHistories<T>> UnderWay<'_, T, K> {
@@ -194,18 +202,16 @@ impl<T: MemoryTable + Send + Sync, K: RoundHistories<T>> UnderWay<'_, T, K> {
     {
         let rt = resources.rt;
         let alloc = resources.alloc;
-        let UnderWay {
-            scenario,
-            round,
-            tables,
-            histories,
+        let scenario = self.scenario;
+        let round = self.round;
+        let Begun {
             list,
             words,
             counts,
-        } = self;
+        } = self.begun;
         let rules = rules_of(scenario);
         let batch = Batch {
-            shared: histories,
+            shared: self.histories,
             list: &list,
             rules: &rules,
             gate,
@@ -218,11 +224,10 @@ impl<T: MemoryTable + Send + Sync, K: RoundHistories<T>> UnderWay<'_, T, K> {
             let Some(counts) = counts else {
                 return Ok(Drawn::Words(words));
             };
-            let next = next_plan(words, rt, alloc, scenario, round + 1)?;
-            let next = next.with_writes(alloc, scenario, round + 1, &counts)?;
+            let next = next_plan(words, rt, alloc, scenario, round + 1, Some(&counts))?;
             Ok(Drawn::Next(next))
         };
-        let done = posts.carry_out(rt, batch, tables, draw)?;
+        let done = posts.carry_out(rt, batch, self.tables, draw)?;
         end_round(resources, posts, round, list, done)
     }
 }
@@ -272,55 +277,16 @@ fn end_round<T: MemoryTable, K: RoundHistories<T>, H: Threads + Wait + Sync, C: 
     ))
 }
 
-// A round begins: its restarts and its writes are made.
-fn begin_round<'a, T: MemoryTable, K: RoundHistories<T>>(
-    resources: &Resources<impl Threads + Sync>,
-    cluster: Cluster<T, K>,
-    scenario: &'a Scenario,
-    round: u32,
-) -> Result<UnderWay<'a, T, K>, Fault>
-    requires { IsBefore T.table K.kept K.may_write scenario.now round cluster }
-    ensures under_way { IfOk result (IsUnderWay T.table K.kept K.fits scenario.now round) }
-    ensures only { IsOkUnless result OutOfMemory }
-{
-    let Cluster {
-        mut tables,
-        mut histories,
-        drawn,
-    } = cluster;
-    let begun = begin(
-        resources,
-        scenario,
-        round,
-        drawn,
-        &mut tables,
-        &mut histories,
-    )?;
-    let Begun {
-        list,
-        words,
-        counts,
-    } = begun;
-    Ok(UnderWay {
-        scenario,
-        round,
-        tables,
-        histories,
-        list,
-        words,
-        counts,
-    })
-}
-
 // What there is of a round that has begun, beside the tables and the histories.
 #[derive(Drop)]
 struct Begun {
     list: RoundList,
     words: RunWords,
+    // How many writes of its generation each node has made, where the next round is to be drawn meanwhile.
     counts: Option<Vec<u32>>,
 }
 
-// The same, beside tables and histories that are lent.
+// A round begins: its restarts and its writes are made.
 fn begin<T: MemoryTable, K: RoundHistories<T>>(
     resources: &Resources<impl Threads + Sync>,
     scenario: &Scenario,
@@ -345,7 +311,7 @@ fn begin<T: MemoryTable, K: RoundHistories<T>>(
         round,
         plan: &plan,
     };
-    let counts = match begin_counting(resources, &start, tables, histories) {
+    let counts = match begin_nodes(resources, &start, tables, histories) {
         Ok(counts) => counts,
         Err(fault) => {
             drop(plan);
@@ -384,9 +350,9 @@ struct Start<'a> {
     plan: &'a Plan,
 }
 
-// What a round begins with, and then how many writes of its generation each node has made, where the next round is to
-// be drawn meanwhile.
-fn begin_counting<T: MemoryTable, K: RoundHistories<T>>(
+// What a round begins with: its restarts and its writes, by node; and then how many writes of its generation each node
+// has made, where the next round is to be drawn meanwhile.
+fn begin_nodes<T: MemoryTable, K: RoundHistories<T>>(
     resources: &Resources<impl Threads + Sync>,
     start: &Start,
     tables: &mut [T],
@@ -404,34 +370,12 @@ fn begin_counting<T: MemoryTable, K: RoundHistories<T>>(
     ensures another { IfOk result (λ counts. IfSome counts (λ _. start.now.round + 1 ≤ MOST_ROUNDS)) }
     ensures only { IsOkUnless result OutOfMemory }
 {
-    begin_nodes(start, tables, histories)?;
-    if !draws_ahead(resources.hands, start.scenario, start.round) {
-        return Ok(None);
-    }
-    let counts = counts_of(resources.alloc, histories, start.scenario.nodes())?;
-    Ok(Some(counts))
-}
-
-// What a round begins with: its restarts and its writes, by node.
-fn begin_nodes<T: MemoryTable, K: RoundHistories<T>>(
-    start: &Start,
-    tables: &mut [T],
-    histories: &mut K,
-) -> Result<(), Fault>
-    requires round { IsRoundOf K.may_write start.now.scenario.now start.now.round }
-    requires plan { IsPlanOf start.now.scenario.now start.now.round start.now.plan.now }
-    requires ended { HaveEnded start.now.scenario.now (start.now.round - 1) (K.kept histories.old) }
-    requires standing { TablesStand T.table K.kept start.now.scenario.now (start.now.round - 1) tables.old
-        histories.old }
-    ensures begun { OnOk result (HasBegun T.table K.kept K.fits start.now.scenario.now start.now.round
-        tables.old tables.new histories.new) }
-    ensures only { IsOkUnless result OutOfMemory }
-{
     for node in 0..start.scenario.nodes() {
         let at = node as usize;
         begin_node(start, node, &mut tables[at], histories)?;
     }
-    histories.end_writes()
+    histories.end_writes()?;
+    counts_of(resources, start.scenario, start.round, histories)
 }
 
 // What a node begins a round with: its restarts, and then its writes. No other node's table or list matters
@@ -452,16 +396,12 @@ fn begin_node<T: MemoryTable, K: RoundHistories<T>>(
     ensures only { IsOkUnless result OutOfMemory }
 {
     restart(start, node, table, histories);
-    let Start {
-        scenario,
-        round,
-        plan,
-    } = *start;
-    match &plan.writes {
+    match &start.plan.writes {
         Some(writes) => write_round(start, node, table, histories, &writes[node as usize]),
         None => {
             let count = histories.count(node);
-            let writes = writes_by(scenario, node, round, count, plan.words.of_node(node));
+            let words = start.plan.words.of_node(node);
+            let writes = writes_by(start.scenario, node, start.round, count, words);
             write_round(start, node, table, histories, &writes)
         }
     }
@@ -487,29 +427,32 @@ fn write_round<T: MemoryTable, K: RoundHistories<T>>(
     write_own(table, histories, writes.as_slice())
 }
 
-// Whether the next round is drawn while this one is under way: several workers leave the caller's thread idle.
-fn draws_ahead(hands: Hands, scenario: &Scenario, round: u32) -> bool
-    ensures when { result ≡ (nat_lt 1 hands.workers && nat_lt round scenario.now.rounds) }
-    ensures last { result ≡ true → round + 1 ≤ MOST_ROUNDS }
-{
-    hands.workers > 1 && round < scenario.rounds()
-}
-
-// How many writes of its generation each owner has made.
+// How many writes of its generation each owner has made, where the next round is to be drawn while this one is under
+// way: several workers leave the caller's thread idle.
 fn counts_of<T: MemoryTable, K: RoundHistories<T>>(
-    alloc: Global,
+    resources: &Resources<impl Threads + Sync>,
+    scenario: &Scenario,
+    round: u32,
     histories: &K,
-    nodes: u32,
-) -> Result<Vec<u32>, Fault>
-    requires { length (K.kept histories.now).lists ≡ nodes }
-    ensures counts { IfOk result (λ counts. counts.items ≡ map counted_in (K.kept histories.now).lists) }
+) -> Result<Option<Vec<u32>>, Fault>
+    requires round { round ≤ scenario.now.rounds }
+    requires one_each { length (K.kept histories.now).lists ≡ scenario.now.nodes }
+    ensures when { IfOk result
+        (λ counts. is_some counts ≡ (nat_lt 1 resources.now.hands.workers && nat_lt round scenario.now.rounds)) }
+    ensures counts { IfOk result
+        (λ counts. IfSome counts (λ v. v.items ≡ map counted_in (K.kept histories.now).lists)) }
+    ensures another { IfOk result (λ counts. IfSome counts (λ _. round + 1 ≤ MOST_ROUNDS)) }
     ensures only { IsOkUnless result OutOfMemory }
 {
-    let mut counts = Vec::with_capacity(alloc, nodes as usize)?;
-    for owner in 0..nodes {
-        counts.push(histories.count(owner))?;
+    if resources.hands.workers == 1 || round == scenario.rounds() {
+        return Ok(None);
     }
-    Ok(counts)
+    let nodes = scenario.nodes();
+    let mut counts = Vec::with_capacity(resources.alloc, nodes as usize)?;
+    for owner in 0..nodes {
+        counts.push_reserved(histories.count(owner));
+    }
+    Ok(Some(counts))
 }
 
 // The restarts of a node in a round: they empty its copies of all others, or where it forgets its whole table.

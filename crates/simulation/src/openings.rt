@@ -39,7 +39,7 @@ pub(crate) fn empty_tables<T: MemoryTable, K: RoundHistories<T>>(
     let Range { start, end } = nodes;
     let mut tables = Vec::with_capacity(alloc, (end - start) as usize)?;
     for node in start..end {
-        tables.push(histories.empty_table(alloc, node)?)?;
+        tables.push_reserved(histories.empty_table(alloc, node)?);
     }
     Ok(tables)
 }

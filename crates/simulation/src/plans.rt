@@ -1,6 +1,6 @@
 //! What a run draws round by round: the words of its nodes, and by them the list of a round and what the nodes write.
 
-ghost use Rattle.std.specs.Prelude.{◌≡◌, ◌-◌, ◌≤◌, IfOk, IsOkUnless, is_some, true};
+ghost use Rattle.std.specs.Prelude.{◌≡◌, ◌-◌, ◌≤◌, IfOk, IfSome, IsOkUnless, is_some};
 ghost use Rattle.bench_types.specs.declared.faults.Fault.TheVariants.{OutOfMemory};
 ghost use Rattle.round_plan.specs.calls.Words.{run_words_of};
 ghost use Rattle.simulation.specs.inner.Plans.{AreCountsAfter, AreWritesOfAll, IsPlanOf, IsDrawnAfter};
@@ -24,61 +24,36 @@ pub(crate) struct Plan {
     pub(crate) writes: Option<Vec<Writes>>,
 }
 
-impl Plan {
-    /// With what is written in the round, by how many writes of its generation each node has made before it.
-    pub(crate) fn with_writes(
-        self,
-        alloc: Global,
-        scenario: &Scenario,
-        round: u32,
-        counts: &[u32],
-    ) -> Result<Plan, Fault>
-        requires first { 1 ≤ round }
-        requires last { round ≤ MOST_ROUNDS }
-        requires plan { IsPlanOf scenario.now round self }
-        requires counts { AreCountsAfter scenario.now (round - 1) counts.now }
-        ensures plan { IfOk result (IsPlanOf scenario.now round) }
-        ensures written { IfOk result (λ plan. is_some plan.writes ≡ true) }
-        ensures only { IsOkUnless result OutOfMemory }
-    {
-        match writes_of(alloc, scenario, round, &self.words, counts) {
-            Ok(writes) => Ok(Plan {
-                writes: Some(writes),
-                ..self
-            }),
-            Err(fault) => {
-                drop(self);
-                Err(fault)
-            }
-        }
-    }
-}
-
-// What each node writes in a round.
+// What each node writes in a round, where it is told how many writes of its generation each has made before.
 fn writes_of(
     alloc: Global,
     scenario: &Scenario,
     round: u32,
     words: &RunWords,
-    counts: &[u32],
-) -> Result<Vec<Writes>, Fault>
+    counts: Option<&[u32]>,
+) -> Result<Option<Vec<Writes>>, Fault>
     requires first { 1 ≤ round }
     requires last { round ≤ MOST_ROUNDS }
     requires words { words.now ≡ run_words_of scenario.now round }
-    requires counts { AreCountsAfter scenario.now (round - 1) counts.now }
-    ensures writes { IfOk result (λ writes. AreWritesOfAll scenario.now round writes.items) }
+    requires counts { IfSome counts (λ counts. AreCountsAfter scenario.now (round - 1) counts.now) }
+    ensures writes { IfOk result
+        (λ writes. IfSome writes (λ v. AreWritesOfAll scenario.now round v.items)) }
+    ensures told { IfOk result (λ writes. is_some writes ≡ is_some counts.entry) }
     ensures only { IsOkUnless result OutOfMemory }
 {
-    let mut writes = Vec::with_capacity(alloc, counts.len())?;
+    let Some(before) = counts else {
+        return Ok(None);
+    };
+    let mut writes = Vec::with_capacity(alloc, before.len())?;
     for node in 0..scenario.nodes() {
         let count = if forgets_now(scenario, node, round) {
             0
         } else {
-            counts[node as usize]
+            before[node as usize]
         };
-        writes.push(writes_by(scenario, node, round, count, words.of_node(node)))?;
+        writes.push_reserved(writes_by(scenario, node, round, count, words.of_node(node)));
     }
-    Ok(writes)
+    Ok(Some(writes))
 }
 
 /// What is drawn once a round is done.
@@ -107,32 +82,37 @@ impl Drawn {
         match self {
             Drawn::Next(plan) => Ok(plan),
             Drawn::Words(words) => {
-                next_plan(words, resources.rt, resources.alloc, scenario, round)
+                next_plan(words, resources.rt, resources.alloc, scenario, round, None)
             }
         }
     }
 }
 
-/// The plan of a round, by the words of the round before.
+/// The plan of a round, by the words of the round before; with what is written in it where it is told how many writes
+/// of its generation each node has made before.
 pub(crate) fn next_plan(
     mut words: RunWords,
     rt: &(impl Threads + Sync),
     alloc: Global,
     scenario: &Scenario,
     round: u32,
+    counts: Option<&[u32]>,
 ) -> Result<Plan, Fault>
     requires first { 1 ≤ round }
     requires last { round ≤ MOST_ROUNDS }
     requires words { words ≡ run_words_of scenario.now (round - 1) }
+    requires counts { IfSome counts (λ counts. AreCountsAfter scenario.now (round - 1) counts.now) }
     ensures plan { IfOk result (IsPlanOf scenario.now round) }
+    ensures told { IfOk result (λ plan. is_some plan.writes ≡ is_some counts.entry) }
     ensures only { IsOkUnless result OutOfMemory }
 {
     words.next_round();
     let list = round_list_by(rt, alloc, scenario, round, &words)?;
+    let writes = writes_of(alloc, scenario, round, &words, counts)?;
     Ok(Plan {
         words,
         any_restart: any_restart_now(scenario, round),
         list,
-        writes: None,
+        writes,
     })
 }

@@ -1,6 +1,6 @@
 //! What a round came to.
 
-ghost use Rattle.std.specs.Prelude.{◌≡◌, ◌≤◌, length};
+ghost use Rattle.std.specs.Prelude.{◌≡◌, ◌+◌, ◌<◌, ◌≤◌, ◌^◌, length};
 ghost use Rattle.simulation.specs.calls.Outcomes.{played_with};
 ghost use Rattle.model.specs.declared.lists.TheConstants.{MOST_EXCHANGES};
 ghost use Rattle.simulation.specs.Rows.{row_of, has_lost};
@@ -77,23 +77,33 @@ fn row_of(round: u32, list: &RoundList, records: &[Record], figures: Figures) ->
     requires { length records.now ≤ MOST_EXCHANGES }
     ensures { result ≡ row_of round list.now records.now figures }
 {
+    let mut lost = 0;
+    let mut entries = 0;
+    let mut cut = 0;
+    for record in records {
+        lost += u32::from(has_lost(record.fate));
+        entries += both(record.back, record.forth);
+        cut += both(record.back_cut, record.forth_cut);
+    }
     Row {
         round,
         exchanges: list.len(),
         unreached: list.unreached(),
-        lost: records.iter().filter(|r| has_lost(r.fate)).count() as u32,
-        entries: records
-            .iter()
-            .map(|r| u64::from(r.back) + u64::from(r.forth))
-            .sum(),
-        cut: records
-            .iter()
-            .map(|r| u64::from(r.back_cut) + u64::from(r.forth_cut))
-            .sum(),
+        lost,
+        entries,
+        cut,
         stale: figures.stale,
         greatest: figures.greatest,
         leftover: figures.leftover,
     }
+}
+
+// What went both ways.
+fn both(back: u32, forth: u32) -> u64
+    ensures sum { result ≡ back + forth }
+    ensures few { result < 2 ^ 33 }
+{
+    u64::from(back) + u64::from(forth)
 }
 
 fn has_lost(fate: Fate) -> bool

@@ -1,13 +1,12 @@
 //! A simulation, round by round.
 
-ghost use Rattle.std.specs.Prelude.{◌≡◌, ◌+◌, ◌<◌, ◌≤◌, true, false, [], map, Some, IfOk, IfErr, OnOk, IsOkUnless};
+ghost use Rattle.std.specs.Prelude.{◌≡◌, ◌+◌, ◌<◌, ◌≤◌, true, false, [], map, Some, IfOk, IfErr, IsOkUnless};
 ghost use Rattle.bench_types.specs.declared.faults.Fault.TheVariants.{OutOfMemory};
-ghost use Rattle.scenario.specs.Settings.{IsLawfulScenario};
 ghost use Rattle.model.specs.Runs.{AreWorkers};
 ghost use Rattle.simulation.specs.Rounds.{opening_tables};
-ghost use Rattle.simulation.specs.inner.Insides.{IsAfterRound, simulation_of};
-ghost use Rattle.simulation.specs.inner.Playing.{HasTakenOut};
-ghost use Rattle.simulation.specs.calls.Simulation.{AreTablesAfter, MayWriteAll, PlaysNext, MayStep, IsRefusedBy, IsStepFault};
+ghost use Rattle.simulation.specs.inner.Insides.{IsAfterRound};
+ghost use Rattle.simulation.specs.inner.Playing.{HasTakenOut, IsPutBack};
+ghost use Rattle.simulation.specs.calls.Simulation.{AreTablesAfter, MayWriteAll, PlaysNext, IsRefusedBy, IsStepFault};
 
 use crate::clusters::{Cluster, NextRound};
 use crate::processors::processors_of;
@@ -138,9 +137,8 @@ impl<T: MemoryTable + Send + Sync, K: RoundHistories<T>> Sim<T, K> {
             round: self.rounds_done + 1,
             gate,
         };
-        let (cluster, round) = next.play(&resources, posts)?;
-        self.put_back(cluster);
-        Ok(round)
+        let played = next.play(&resources, posts);
+        self.put_back(played)
     }
 
     // The cluster, if a round is left. Until it is put back the simulation is broken.
@@ -148,11 +146,13 @@ impl<T: MemoryTable + Send + Sync, K: RoundHistories<T>> Sim<T, K> {
         ensures taken { IfOk result (HasTakenOut T.table K.kept K.may_write self.old self.new) }
         ensures refused { IfErr result (λ fault. IsRefusedBy self.old fault × (self.new ≡ self.old)) }
     {
-        self.check_step()?;
-        let Some(cluster) = self.cluster.take() else {
+        if self.is_broken() {
             return Err(Fault::Broken);
-        };
-        Ok(cluster)
+        }
+        if self.rounds_done == self.scenario.rounds() {
+            return Err(Fault::Finished);
+        }
+        self.cluster.take().ok_or(Fault::Broken)
     }
 
     // What a round is carried out with.
@@ -173,28 +173,21 @@ impl<T: MemoryTable + Send + Sync, K: RoundHistories<T>> Sim<T, K> {
         }
     }
 
-    // The cluster after one more round.
-    fn put_back(&mut self, cluster: Cluster<T, K>)
+    // The cluster after one more round, unless that failed.
+    fn put_back(&mut self, played: Result<(Cluster<T, K>, Round), Fault>) -> Result<Round, Fault>
         requires left { self.old.rounds_done < self.old.settings.rounds }
-        requires after { IsAfterRound T.table K.kept self.old.settings (self.old.rounds_done + 1) cluster }
-        ensures { self.new ≡ simulation_of K.kept self.old.settings (Some cluster) (self.old.rounds_done + 1) }
+        requires after { IfOk played
+            (λ p. IsAfterRound T.table K.kept self.old.settings (self.old.rounds_done + 1) p.0) }
+        ensures { IsPutBack K.kept self.old self.new played result }
     {
-        self.cluster = Some(cluster);
-        self.rounds_done += 1;
-    }
-
-    fn check_step(&self) -> Result<(), Fault>
-        ensures ok { OnOk result (MayStep self.now) }
-        ensures lawful { OnOk result (IsLawfulScenario self.now.settings) }
-        ensures err { IfErr result (IsRefusedBy self.now) }
-    {
-        if self.is_broken() {
-            return Err(Fault::Broken);
+        match played {
+            Ok((cluster, round)) => {
+                self.cluster = Some(cluster);
+                self.rounds_done += 1;
+                Ok(round)
+            }
+            Err(fault) => Err(fault),
         }
-        if self.rounds_done == self.scenario.rounds() {
-            return Err(Fault::Finished);
-        }
-        Ok(())
     }
 
     /// The nodes' tables, in order; none where the simulation is broken.
@@ -276,8 +269,7 @@ impl<T: MemoryTable + Send + Sync, K: RoundHistories<T> + Send> Sim<T, K> {
             round: self.rounds_done + 1,
             gate,
         };
-        let (cluster, round) = next.play_apart(&resources)?;
-        self.put_back(cluster);
-        Ok(round)
+        let played = next.play_apart(&resources);
+        self.put_back(played)
     }
 }

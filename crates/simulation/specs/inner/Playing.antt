@@ -1,5 +1,5 @@
 -- A round that a cluster plays. Source: this project.
-use Rattle.std.specs.Prelude.{◌≡◌, ℕ, ◌+◌, ◌-◌, List, map, true, Ok, Result}
+use Rattle.std.specs.Prelude.{◌≡◌, ℕ, ◌+◌, ◌-◌, List, map, true, Err, Ok, Result, Some}
 use Rattle.bench_types.specs.declared.entries.Entry.{Entry}
 use Rattle.bench_types.specs.declared.faults.Fault.{Fault}
 use Rattle.bench_types.specs.declared.exchanges.Record.{Record}
@@ -17,7 +17,7 @@ use Rattle.simulation.specs.calls.Outcomes.{played_with}
 use Rattle.simulation.specs.calls.RoundView.{RoundView}
 use Rattle.simulation.specs.calls.Simulation.{MayStep, SimView}
 use Rattle.simulation.specs.inner.InMemory.{TablesStand}
-use Rattle.simulation.specs.inner.Insides.{IsAfterRound, tables_of}
+use Rattle.simulation.specs.inner.Insides.{IsAfterRound, simulation_of, tables_of}
 use Rattle.simulation.specs.inner.Plans.{MayDraw}
 use Rattle.simulation.specs.inner.Steps.{HaveEnded, IsPlayedFrom, IsRoundOf}
 
@@ -42,8 +42,8 @@ pub record IsUnderWay {T K : Type 0} (table : T → Table) (kept : K → Histori
   pub tables : map table u.tables.items ≡ begun s round (tables_after s (round - 1))
   pub ended : HaveEnded s round (kept u.histories)
   pub fits : (t : Table) → StandsAmong (kept u.histories) t → Fits u.histories t
-  pub list : u.list ≡ round_list_of s round
-  pub may_draw : MayDraw s round u.words u.counts
+  pub list : u.begun.list ≡ round_list_of s round
+  pub may_draw : MayDraw s round u.begun.words u.begun.counts
 
 -- its exchanges are done, with these tables and records, and it has ended: its figures were counted, and what was drawn
 -- is kept
@@ -74,3 +74,10 @@ pub record HasTakenOut {T K : Type 0} (table : T → Table) (kept : K → Histor
   pub broken : new.broken ≡ true
   pub settings : new.settings ≡ old.settings
   pub rounds_done : new.rounds_done ≡ old.rounds_done
+
+-- the cluster of a round that was played is put back, or the fault of one that failed comes through
+abbrev pub IsPutBack : {T K : Type 0} → (K → HistoriesView) → SimView T → SimView T → Result (Cluster T K × RoundView) Fault
+    → Result RoundView Fault → Type 0
+IsPutBack kept old new (Ok p) result =
+    (result ≡ Ok p.1) × (new ≡ simulation_of kept old.settings (Some p.0) (old.rounds_done + 1))
+IsPutBack kept old new (Err e) result = (result ≡ Err e) × (new ≡ old)

@@ -6,8 +6,8 @@ use Rattle.simulation.proofs.clusters.begin_node.Goals as goal
 abbrev with_writes : Settings → ℕ → ℕ → Table → Table
 with_writes s round n t = with_own_writes t (own_writes s n round (count_before s n round))
 
-pub of_node-requires : goal.of_node-requires
-of_node-requires g c = rw c.requires.plan.words (record { node = c.requires.before.node.node; begun = c.requires.round.first })
+pub of_node-words-requires : goal.of_node-words-requires
+of_node-words-requires g c = rw c.requires.plan.words (record { node = c.requires.before.node.node; begun = c.requires.round.first })
 
 pub write_round-requires-clause-now : goal.write_round-requires-clause-now
 write_round-requires-clause-now g c _ _ =

@@ -1,5 +1,8 @@
 use borrow.Author.Rules.{scaled_fits≤}
-use Rattle.simulation.proofs.Common.{length, length-map, ◌≤◌, Err, Ok, OnOk, Result, get_or, map, refl, sym, subst, arith, AreWrittenBy, HistoriesView}
+use Rattle.simulation.proofs.Common.{IfOk-weaker, length, length-map, ◌≤◌, Err, Ok, OnOk, Result, get_or, map, refl, sym, subst, arith, AreWrittenBy, HistoriesView}
+use Rattle.simulation.specs.inner.InMemory.{HasBegun}
+use Rattle.simulation.proofs.Ahead.{counts_told}
+use Rattle.simulation.proofs.clusters.begin_nodes.Given as given
 use Rattle.simulation.proofs.Begun.{begun_none, before_next, begun_next, begun_all}
 use Rattle.simulation.proofs.Standing.{next_round, still_ended, written_by}
 use Rattle.simulation.specs.calls.Standing.{StandAfterRound}
@@ -60,20 +63,36 @@ end_writes-requires-clause-written g c =
     (written_by c.args.start.now.scenario.now c.args.start.now.round _ _ (begun_all _ _ _ _ _ c.loop-node.node c.loop-node.invariant.0
     (omega (arith, c.loop-node-test.false, c.loop-node.auto.node-end, c.nodes-node-end.ensures.value))).1)
 
-after_both : {A E : Type 0} {P Q R : Type 0} (r : Result A E) → (P → Q → R) → OnOk r P → OnOk r Q → OnOk r R
-after_both (Ok x) f p q = f p q
-after_both (Err e) f p q = tt
-
-pub returns-clause-begun : goal.returns-clause-begun
-returns-clause-begun g c =
+-- all nodes have begun
+has_begun : (g : given.Over) (c : goal.In_ok-end_writes g)
+    → HasBegun g.T.MemoryTable.table g.K.RoundHistories.kept g.K.Exchanging.fits c.args.start.now.scenario.now c.args.start.now.round
+    c.args.tables.now c.loop-node.tables c.end_writes.new.self
+has_begun g c =
     let s = c.args.start.now.scenario.now in
     let begun = begun_all _ _ _ _ _ c.loop-node.node c.loop-node.invariant.0
     (omega (arith, c.loop-node-test.false, c.loop-node.auto.node-end, c.nodes-node-end.ensures.value)) in
-    after_both c.end_writes.result (λ kept fits. record {
+    let kept = c.in_ok-end_writes.ensures.kept in
+    record {
       standing = subst (λ (h : HistoriesView). StandAfterRound s c.args.start.now.round (map g.T.MemoryTable.table c.loop-node.tables)
           h.lists) (sym kept) begun.1;
       tables = begun.0;
       ended = subst (HaveEnded s c.args.start.now.round) (sym kept)
           (record { keys = c.loop-node.invariant.1.keys; rounds = next_round c.requires.round.first c.loop-node.invariant.1 });
-      fits = fits;
-    }) c.end_writes.ensures.kept c.end_writes.ensures.fits
+      fits = c.in_ok-end_writes.ensures.fits;
+    }
+
+always : {A E P : Type 0} (r : Result A E) → P → OnOk r P
+always (Ok x) p = p
+always (Err e) p = tt
+
+pub counts_of-requires-clause-one_each : goal.counts_of-requires-clause-one_each
+counts_of-requires-clause-one_each g c _ _ = (has_begun g c).standing.list_count
+
+pub returns-clause-begun : goal.returns-clause-begun
+returns-clause-begun g c = always c.counts_of.result (has_begun g c.before)
+
+pub returns-clause-counted : goal.returns-clause-counted
+returns-clause-counted g c =
+    IfOk-weaker c.counts_of.result _ _
+    (λ counts are. counts_told c.args.start.now.scenario.now c.args.start.now.round _ _ counts are (has_begun g c.before).standing)
+    c.counts_of.ensures.counts

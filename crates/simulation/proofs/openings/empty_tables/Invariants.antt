@@ -1,4 +1,5 @@
-use Rattle.simulation.proofs.Common.{◌≡◌, ◌≤◌, map}
+use Rattle.std.specs.Prelude.{vec_capacity}
+use Rattle.simulation.proofs.Common.{◌≡◌, ◌-◌, ◌≤◌, map}
 use Rattle.simulation.specs.inner.InMemory.{empty_tables_in}
 use Rattle.simulation.proofs.openings.empty_tables.Given as goal
 
@@ -6,4 +7,5 @@ abbrev pub invariant-loop-node : goal.invariant-loop-node
 invariant-loop-node g l = record {
   from : l.start ≤ l.node;
   tables : map g.T.MemoryTable.table l.tables.items ≡ empty_tables_in (g.K.RoundHistories.kept l.histories) l.start l.node;
+  room : vec_capacity l.tables ≡ l.end - l.start;
 }

@@ -14,5 +14,5 @@ returns-clause-opens g c =
           (subst AreProper (sym made) c.requires.proper) made begun.count begun.empty;
       tables = made;
       ended = record { keys = begun.keys_are; rounds = begun.none_ended };
-      drawn = c.in_ok-words.ensures.before;
+      drawn = c.in_ok-new.ensures.before;
     }

@@ -27,7 +27,7 @@ end_round-requires-clause-standing g c _ _ =
 
 pub end_round-requires-clause-recorded : goal.end_round-requires-clause-recorded
 end_round-requires-clause-recorded g c _ _ =
-    one_record_each c.args.self.scenario.now c.args.self.round c.args.self.list (subst IsRoundPlan c.list.view_is c.list.invariant)
+    one_record_each c.args.self.scenario.now c.args.self.round c.args.self.begun.list (subst IsRoundPlan c.list.view_is c.list.invariant)
     c.requires.list _ _ _ c.in_ok-done.done.records.items c.in_ok-done.ensures.done.exchanged
 
 pub returns-clause-played : goal.returns-clause-played

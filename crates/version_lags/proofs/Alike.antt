@@ -13,8 +13,7 @@ places-alike : (nodes keys : ℕ) (xs ys : List ℕ) → length xs ≡ keys * no
     → ((r k : ℕ) → r < nodes → k < keys → cell xs nodes r k ≡ cell ys nodes r k) → xs ≡ ys
 places-alike zero keys xs ys one other each = ext_get_or 0 xs ys (one ∙ sym other) (λ i lt. absurd (omega arith))
 places-alike (suc n) keys xs ys one other each = ext_get_or 0 xs ys (one ∙ sym other) (λ i lt.
-    let some : 0 < suc n = omega arith in
-    let same : i / suc n * suc n + i % suc n ≡ i = omega arith in
+    let some : 0 < suc n = omega arith in let same : i / suc n * suc n + i % suc n ≡ i = omega arith in
     subst (λ j. slice_index xs j ≡ slice_index ys j) same (each (i % suc n) (i / suc n) (omega arith) ((div-lt_iff_lt-mul some).1 (omega arith))))
 
 module _ {N : Type 0} (number : N → ℕ) (most : ℕ) (tables : List Table) (a b : RoundNumbers N)
@@ -28,8 +27,7 @@ module _ {N : Type 0} (number : N → ℕ) (most : ℕ) (tables : List Table) (a
       let bases = ext_get_or 0 _ _ (one.based.size ∙ sym two.based.size)
       (λ r lt. one.based.each r (omega arith) ∙ sym (two.based.each r (omega arith))) in
       let last = places-alike _ _ _ _ one.lasts.size two.lasts.size (λ r k in_r in_k.
-      let first = one.lasts.each r k in_r in_k in
-      let second = two.lasts.each r k in_r in_k in
+      let first = one.lasts.each r k in_r in_k in let second = two.lasts.each r k in_r in_k in
       omega (arith, last-upto _ k _ _ first second, last-upto _ k _ _ second first)) in
       let seen : numbers_seen number a ≡ numbers_seen number b =
       λ i. record { nodes = length (same i).lists; keys = (same i).keys; tables = cells i; bases = bases i; last = last i } in

@@ -53,23 +53,20 @@ module _ (v : OwnerListView) (are : AreWrites v) where
     -- so the lesser of two has been longest
     lag-least : (c d : ℕ) → c ≤ length all → d ≤ length all → max (lag c) (lag d) ≡ lag (min c d)
     lag-least c d in_c in_d =
-        let one = λ (le : c ≤ d). lag-falls c d le in_d in
-        let other = λ (le : d ≤ c). lag-falls d c le in_c in
+        let one = λ (le : c ≤ d). lag-falls c d le in_d in let other = λ (le : d ≤ c). lag-falls d c le in_c in
         grind arith
 
     pub lag-least_below : (f : ℕ → ℕ) (last n : ℕ) → IsLastNumber v key last → ((p : ℕ) → p < n → f p ≤ length all)
         → (least_below n f last ≤ length all) × (most_below n (λ p. lag (f p)) ≡ lag (least_below n f last))
     lag-least_below f last zero is within = (is.written, sym (ap rounds_behind (last_fresh last last is (omega arith) is.written)))
     lag-least_below f last (suc n) is within =
-        let before = lag-least_below f last n is (λ p lt. within p (omega arith)) in
-        let here = within n (omega arith) in
+        let before = lag-least_below f last n is (λ p lt. within p (omega arith)) in let here = within n (omega arith) in
         (omega arith, ap (λ m. max m (lag (f n))) before.1 ∙ lag-least (least_below n f last) (f n) before.0 here)
 
   -- what is of an earlier generation
   earlier-numbered : (m : ℕ) (e : Entry) → write_numbered all m ≡ Some e → m ≤ base_of v → e.generation < v.generation
   earlier-numbered m e is le =
-      let at = numbered-placed all m e is in
-      let earlier : at.place < base_of v = omega arith in
+      let at = numbered-placed all m e is in let earlier : at.place < base_of v = omega arith in
       let there = sym (get_or_append_left v.earlier v.current e at.place earlier) ∙ at.there e in
       omega (arith, are.earlier at.place e earlier, ap (λ (x : Entry). x.generation) there)
 
@@ -77,23 +74,19 @@ module _ (v : OwnerListView) (are : AreWrites v) where
   left_over-by_number zero le = refl
   left_over-by_number (suc i) le =
       let (e, is) = numbered-some all (suc i) (omega arith) le in
-      let later = λ (above : base_of v < suc i). (current-numbered v are (suc i) e is above).generation in
-      let earlier = earlier-numbered (suc i) e is in
+      let later = λ (above : base_of v < suc i). (current-numbered v are (suc i) e is above).generation in let earlier = earlier-numbered (suc i) e is in
       rw is (grind (arith, nat_tests))
 
   -- the last write of a key has the number of each other one, or a greater one
   last-from : (m : ℕ) (e : Entry) → write_numbered all m ≡ Some e → base_of v < m
       → (w : Write) × ((last_write (written v) e.key ≡ Some w) × (m ≤ base_of v + w.version))
   last-from m e is current =
-      let at = current-numbered v are m e is current in let ws = written v in
-      let d = write_of_entry e in let test = is_write_of e.key in
-      let back = reverse ws in let first = position_or_len test back in
-      let turned = length ws - 1 - at.place in
+      let at = current-numbered v are m e is current in let ws = written v in let d = write_of_entry e in let test = is_write_of e.key in
+      let back = reverse ws in let first = position_or_len test back in let turned = length ws - 1 - at.place in
       let same : length ws - 1 - turned ≡ at.place = omega arith in
       let there = get_or-reverse ws turned d (omega arith) ∙ ap (λ k. get_or ws k d) same ∙ at.there d in
       let passes = eq-eqb (get_or back turned d).key e.key (ap (λ (w : Write). w.key) there) in
-      let upto : first ≤ turned = grind (arith, fails_before_first test back turned d) in
-      let place = length ws - 1 - first in
+      let upto : first ≤ turned = grind (arith, fails_before_first test back turned d) in let place = length ws - 1 - first in
       let within : place < length v.current = omega (arith, length-map v.current write_of_entry) in
       let here = get_or-reverse ws first d (omega arith) ∙ get_or-map write_of_entry v.current place e d within in
       let version = ap (λ (w : Write). w.version) here in (
@@ -111,8 +104,7 @@ module _ (v : OwnerListView) (are : AreWrites v) where
     key_held m d is current = elim (entry_at t t.node d.key) as (λ o. entry_at t t.node d.key ≡ o → d.key < t.keys) [
       | Some x ↦ λ held. (proper.in_place t.node d.key x held).key_below
       | None ↦ λ none.
-          let last = last-from m d is current in
-          let no : None ≡ Some last.0 = ap (option_map write_of_entry) (sym none) ∙ beside.own_part d.key ∙ last.1.0 in
+          let last = last-from m d is current in let no : None ≡ Some last.0 = ap (option_map write_of_entry) (sym none) ∙ beside.own_part d.key ∙ last.1.0 in
           cc
     ] refl
 

@@ -6,8 +6,7 @@ use Rattle.version_lags.proofs.Common.{◌≡◌, ℕ, zero, suc, ◌+◌, ◌-�
 pub numbers-born : (writes : List Entry) (rise : BirthsRise writes) (m n : ℕ) (d e : Entry)
     → write_numbered writes m ≡ Some d → write_numbered writes n ≡ Some e → m ≤ n → d.born ≤ e.born
 numbers-born writes rise m n d e is_d is_e le =
-    let first = numbered-placed writes m d is_d in let second = numbered-placed writes n e is_e in
-    let born = λ (x : Entry). x.born in
+    let first = numbered-placed writes m d is_d in let second = numbered-placed writes n e is_e in let born = λ (x : Entry). x.born in
     omega (arith, rise first.place second.place d (omega arith) second.within, ap born (first.there d), ap born (second.there d))
 
 module _ (v : OwnerListView) (are : AreWrites v) where
@@ -68,8 +67,7 @@ module _ (v : OwnerListView) (are : AreWrites v) where
       -- none stands before the first that passes
       none_before : (m : ℕ) (e : Entry) → IsMissed v key c m e → suc (base + first) ≤ m
       none_before m e missed =
-          let at = current-numbered m e missed.written missed.current in
-          let w = write_of_entry e in
+          let at = current-numbered m e missed.written missed.current in let w = write_of_entry e in
           let passes = ap test (at.there w) ∙ tested m e missed.written at ∙ (λ i. eq-eqb e.key key missed.keyed i && lt-ltb c m missed.over i) in
           grind (arith, at.is, fails_before_first test (written v) at.place w)
 
@@ -88,8 +86,7 @@ module _ (v : OwnerListView) (are : AreWrites v) where
           let size : length all ≡ base + length (written v) = omega (arith, length-map v.current write_of_entry, length-append v.earlier v.current) in
           elim (slice_get_cases (written v) first).1 [
             | inl found ↦
-                let w = found.0 in let number = suc (base + first) in
-                let (e, is) = numbered-some all number (omega arith) (omega arith) in
+                let w = found.0 in let number = suc (base + first) in let (e, is) = numbered-some all number (omega arith) (omega arith) in
                 let at = current-numbered number e is (omega arith) in
                 let there : w ≡ write_of_entry e = sym found.3 ∙ ap (λ i. get_or (written v) i w) {y = at.place} (omega arith) ∙ at.there w in
                 let passes = sym (tested number e is at) ∙ ap test (sym there ∙ sym found.3) ∙ passes_at_first test (written v) w found.1 in

@@ -35,8 +35,7 @@ module _ (tables : List Table) (h : HistoriesView) (are : MayBeCounted tables h)
   -- an owner's own number is its last one
   at_own : p ≡ r → IsLastNumber list k c
   at_own same =
-      let t = table_of_node tables r in
-      let own = subst (λ q. IsNumberAt h.lists (table_of_node tables q) r k c) same at in
+      let t = table_of_node tables r in let own = subst (λ q. IsNumberAt h.lists (table_of_node tables q) r k c) same at in
       own_is_last list (are.together.writes r) t (stands tables h are.together r in_r).proper (beside tables h are.together r in_r) k c
       (ap (λ o. entry_at t o k) (node tables h are.together r in_r) ∙ own.held) own.written
 

@@ -43,8 +43,7 @@ module _ {list : OwnerListView} {keys round most first : ℕ} {least : ℕ → �
     pub walk-next : NonePassUpto list least place → ((e : Entry) → write_numbered all (place + 1) ≡ Some e → place < least e.key)
         → NonePassUpto list least (place + 1)
     walk-next none here m e is later le =
-        let before = none m e is later in
-        let next = λ (same : place + 1 ≡ m). here e (ap (write_numbered all) same ∙ is) in
+        let before = none m e is later in let next = λ (same : place + 1 ≡ m). here e (ap (write_numbered all) same ∙ is) in
         grind arith
 
     pub walk-found : (e : Entry) → write_numbered all (place + 1) ≡ Some e → NonePassUpto list least place → least e.key ≤ place

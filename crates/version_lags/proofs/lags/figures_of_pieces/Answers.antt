@@ -29,6 +29,5 @@ loop-counted-preserved g c are =
 
 pub figures-requires : goal.figures-requires
 figures-requires g c =
-    let are = c.requires.pieces in
-    let last : c.loop-counted.counted-index ≡ length are.bounds - 1 = omega arith in
+    let are = c.requires.pieces in let last : c.loop-counted.counted-index ≡ length are.bounds - 1 = omega arith in
     record { tables = c.requires.are.0; are = c.requires.are.1; whole = rw (last, are.are.ends) at (c.loop-counted.invariant are) }

@@ -28,8 +28,7 @@ loop-place-preserved g c =
       current = omega arith;
       none = walk-next c.requires.walks place current c.loop-place.invariant.none (λ e is. elim c.match-numbered.branch [
         | in-Some+else-widen-place w ↦
-            let there = w.in-Some.ensures in
-            let held = walk-read c.requires place current _ there w.index-cells-write.result w.index-cells-write.is in
+            let there = w.in-Some.ensures in let held = walk-read c.requires place current _ there w.index-cells-write.result w.index-cells-write.is in
             let least = λ (y : Entry). cells_in g.N.Number.number c.args.least c.args.owner y.key in
             omega (arith, ap least (same_Some _ e (sym there ∙ is)))
         | in-None w ↦ absurd (cc (w.in-None.ensures, is))

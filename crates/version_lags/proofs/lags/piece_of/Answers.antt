@@ -6,12 +6,16 @@ use Rattle.version_lags.proofs.lags.piece_of.Goals.{then-forgot, else-forgot}
 pub loop-at-init : goal.loop-at-init
 loop-at-init g c = c.in_ok-piece.ensures.0 c.args.from
 
+pub overflow_add-piece : goal.overflow_add-piece
+overflow_add-piece g c = omega (arith, c.loop-at.invariant.stale_is.few, c.requires.0.grid, c.from.ensures)
+
+pub overflow_add-piece-then-forgot : goal.overflow_add-piece-then-forgot
+overflow_add-piece-then-forgot g c = omega (arith, c.loop-at.invariant.leftover_is.few, c.requires.0.grid, c.from-then-forgot.ensures)
+
 pub count_behind-behind-requires : goal.count_behind-behind-requires
 count_behind-behind-requires g c =
-    let numbers = c.args.numbers.now in
-    let read = table-read g.N.Number.number numbers c.requires.0 c.loop-at.at c.index-numbers-at.result (omega arith) in
-    let last = length-map numbers.last.now g.N.Number.number in
-    let least = length-map c.loop-at.piece.least.items g.N.Number.number in
+    let numbers = c.args.numbers.now in let read = table-read g.N.Number.number numbers c.requires.0 c.loop-at.at c.index-numbers-at.result (omega arith) in
+    let last = length-map numbers.last.now g.N.Number.number in let least = length-map c.loop-at.piece.least.items g.N.Number.number in
     let count : length numbers.last.now ≡ length c.deref_mut.result.now = omega (arith, ap length c.deref_mut.ensures.value) in
     record {
       beside = record {
@@ -22,8 +26,7 @@ count_behind-behind-requires g c =
 
 pub total_upto-requires : goal.total_upto-requires
 total_upto-requires g c =
-    let numbers = c.args.numbers.now in
-    let read = table-read g.N.Number.number numbers c.requires.0 c.loop-at.at c.index-numbers-at.result (omega arith) in
+    let numbers = c.args.numbers.now in let read = table-read g.N.Number.number numbers c.requires.0 c.loop-at.at c.index-numbers-at.result (omega arith) in
     let grids = c.requires.0 in
     record {
       marked = record {
@@ -34,11 +37,9 @@ total_upto-requires g c =
 
 pub loop-at-preserved : goal.loop-at-preserved
 loop-at-preserved g c =
-    let number = g.N.Number.number in let numbers = c.args.numbers.now in
-    let v = numbers_seen number numbers in
+    let number = g.N.Number.number in let numbers = c.args.numbers.now in let v = numbers_seen number numbers in
     let read = table-read g.N.Number.number numbers c.requires.0 c.loop-at.at c.index-numbers-at.result (omega arith) in
-    let grids = c.requires.0 in let piece = c.loop-at.piece in
-    let here = map number (get_or numbers.cells.now c.loop-at.at c.index-numbers-at.result).now in
+    let grids = c.requires.0 in let piece = c.loop-at.piece in let here = map number (get_or numbers.cells.now c.loop-at.at c.index-numbers-at.result).now in
     let items = with_items_is piece.least c.count_behind-behind.new.least (c.count_behind-behind.auto.least ∙ c.deref_mut.ensures.len) in
     let stale = ap (λ n. piece.stale + n) (c.from.ensures ∙ c.count_behind-behind.ensures.count) in
     let changed = rw c.deref_mut.ensures.value at c.count_behind-behind.ensures.least in

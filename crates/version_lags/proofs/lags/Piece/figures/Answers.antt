@@ -15,6 +15,9 @@ least_behind-requires g c =
       };
     }
 
+pub row-row-requires-clause-nodes : goal.row-row-requires-clause-nodes
+row-row-requires-clause-nodes g c = (grids-of _ _ c.args.numbers.now _ c.requires.are).grid.few_nodes
+
 pub lag_of_owner-lag-requires : goal.lag_of_owner-lag-requires
 lag_of_owner-lag-requires g c =
     rw (get_or_default c.args.numbers.now.lists.now c.loop-owner.owner c.index-numbers-owner.result no_writes c.loop-owner-test.true)
@@ -23,20 +26,17 @@ lag_of_owner-lag-requires g c =
 
 pub loop-owner-preserved : goal.loop-owner-preserved
 loop-owner-preserved g c =
-    let r = c.loop-owner.owner in
-    let joined : c.max-greatest.result ≡ max c.loop-owner.greatest c.lag_of_owner-lag.result = search rules in
+    let r = c.loop-owner.owner in let joined : c.max-greatest.result ≡ max c.loop-owner.greatest c.lag_of_owner-lag.result = search rules in
     let list = get_or_default c.args.numbers.now.lists.now r c.index-numbers-owner.result no_writes c.loop-owner-test.true in
     most-next _ r _ _ _ c.loop-owner.invariant joined (rw list at c.lag_of_owner-lag.ensures)
 
 pub loop-owner-preserved-then-is_upto : goal.loop-owner-preserved-then-is_upto
 loop-owner-preserved-then-is_upto g c =
-    let number = g.N.Number.number in let numbers = c.args.numbers.now in
-    let r = c.loop-owner.owner in let lt = c.loop-owner-test.true in
+    let number = g.N.Number.number in let numbers = c.args.numbers.now in let r = c.loop-owner.owner in let lt = c.loop-owner-test.true in
     let since = c.saturating_sub-since.result in let first = c.index-first.result.now in
     let walk =
     may-walk c.requires c.deref.result c.deref.ensures.value c.in_ok-firsts.firsts.items c.in_ok-firsts.ensures r lt first c.index-first.ensures in
-    let row = c.row-row.result.now in
-    let read = number-at number row r c.index-row-owner.result (omega (arith, length-map row number)) c.index-row-owner.is in
+    let row = c.row-row.result.now in let read = number-at number row r c.index-row-owner.result (omega (arith, length-map row number)) c.index-row-owner.is in
     let after = leb-true (number c.index-row-owner.result) (number first) (sym c.is_upto.ensures ∙ c.if-is_upto.true) in
     let lag = λ (o : ℕ). most_lag numbers.keys numbers.ends.rounds (list_of_owner numbers.lists.now o)
     (cell (map number c.deref.result.now) (length numbers.lists.now) o) in

@@ -2,6 +2,12 @@ use Rattle.version_lags.proofs.Common.{◌+◌, ◌*◌, arith, refl, ◌∙◌,
 use Rattle.version_lags.proofs.Parts.{counts-joined}
 use Rattle.version_lags.proofs.lags.Piece.take_in.Goals as goal
 
+pub overflow_add-self : goal.overflow_add-self
+overflow_add-self g c = omega (arith, c.requires.first.stale_is.few, c.requires.second.stale_is.few, c.requires.part, c.requires.grids.grid)
+
+pub overflow_add-self-2 : goal.overflow_add-self-2
+overflow_add-self-2 g c = omega (arith, c.requires.first.leftover_is.few, c.requires.second.leftover_is.few, c.requires.part, c.requires.grids.grid)
+
 pub returns : goal.returns
 returns g c v from mid to grids one two =
     let lowered = rw (c.deref_mut.ensures.value, c.deref.ensures.value) at c.lower.ensures.least in

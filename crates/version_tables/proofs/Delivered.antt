@@ -99,8 +99,7 @@ module _ {N : Type 0} (number : N → ℕ) {written : ℕ → List Entry} {most 
     histories = λ owner. (two.first.known.so_far owner).history;
     offers = record {
       above = λ owner key in_nodes in_keys lt.
-          let its = at owner key in_nodes in_keys (omega (arith, lt)) in
-          let e = cells-held two.first owner in_nodes key in_keys (omega (arith, lt, its)) in
+          let its = at owner key in_nodes in_keys (omega (arith, lt)) in let e = cells-held two.first owner in_nodes key in_keys (omega (arith, lt, its)) in
           (e.0, e.2, ap (write_numbered (all_writes h.lists owner)) its ∙ e.1, lacked-is owner key e.0 e.2 ∙ lt-ltb (low owner) (cells owner key) lt);
       below = λ owner key e held le. lacked-is owner key e held ∙ le-ltb (low owner) (cells owner key) le;
     };

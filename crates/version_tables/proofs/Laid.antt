@@ -10,8 +10,7 @@ module _ (writes : List Entry) (numbers : ℕ → ℕ) (keys : ℕ)
   row : (bound key : ℕ) → bound ≤ keys → entry_in (entries_below writes numbers bound) key ≡ cond (ltb key bound) (held key) None
   row zero key le = rw (le-ltb key 0 (omega arith))
   row (suc bound) key le =
-      let es = entries_below writes numbers bound in let before = row bound key (omega (arith, le)) in
-      let same = λ (is : bound ≡ key). ap held is in
+      let es = entries_below writes numbers bound in let before = row bound key (omega (arith, le)) in let same = λ (is : bound ≡ key). ap held is in
       elim (held bound) as (λ o. held bound ≡ o → entry_in (with_entry o es) key ≡ cond (ltb key (suc bound)) (held key) None) [
         | None ↦ λ none. before ∙ grind (arith, nat_tests, same, none)
         | Some e ↦ λ is. ap (λ k. cond (eqb k key) (Some e) (entry_in es key)) (keyed bound e (omega (arith, le)) is)

@@ -168,8 +168,7 @@ module _ (rules : Rules) (e : Exchange) {written : ℕ → List Entry} {most : �
       → ((b f : DeltaView) → came.first ≡ length b.items → 0 ≡ b.cut → came.second ≡ length f.items → 0 ≡ f.cut → r ≡ sent_until (last_fate false) d1 d2 b f)
       → MakesOf (table_in written) rules e p q p' q' r
   merged-whole have d1 d2 d1_is d2_is first second third r sent =
-      let back = marks-of rules e.rotation (turned two) turns may.kind may.back in
-      let forth = marks-of rules e.rotation two in_nodes may.kind may.forth in
+      let back = marks-of rules e.rotation (turned two) turns may.kind may.back in let forth = marks-of rules e.rotation two in_nodes may.kind may.forth in
       let p_is = lies-table (merged-lies rules e.rotation (turned two) turns may.kind may.back have.first) in
       let q_is = lies-table (merged-lies rules e.rotation two in_nodes may.kind may.forth have.second) in
       let b = delta_of_views rules e.rotation written q p in let f = delta_of_views rules e.rotation written p q in

@@ -13,8 +13,7 @@ module _ (written : ℕ → List Entry) (v : VersionTableView) (kept : IsKept wr
       let in_place = kept.proper.in_place v.node k e holds in
       let most = rw holds at (mark_at-up_to_greatest (table_in written v) v.node k in_place.key_below) in
       let low : e.version ≤ length list.current = omega (arith, most.version (kept.proper.copies v.node k e holds), greatest) in
-      let own = length list.earlier + e.version in
-      let within : own ≤ length (entries_of list) = omega (arith, low, length-append list.earlier list.current) in
+      let own = length list.earlier + e.version in let within : own ≤ length (entries_of list) = omega (arith, low, length-append list.earlier list.current) in
       let there = numbered-some (entries_of list) own (omega (arith, in_place.written)) within in
       let at = current-numbered list are own there.0 there.1 (omega (arith, in_place.written)) in
       let is : write_numbered (written v.node) (cell v.cells v.nodes v.node k) ≡ Some e =

@@ -166,8 +166,7 @@ module _ (rules : Rules) (rotation : ℕ) {written : ℕ → List Entry} {most :
       number-stood key lt some = elim (is_taken_at from to low high owner key) as (λ b. is_taken_at from to low high owner key ≡ b → IsTaken key) [
         | true ↦ λ yes'.
             let at = y-sent key lt yes' in let in_key : key < from.keys = omega (arith, lt, two.keys) in
-            let e = cells-held two.first owner in_node key in_key (omega (arith, at, some)) in
-            let comes = (delta.marks.members owner key e.0 e.2).0 yes' in
+            let e = cells-held two.first owner in_node key in_key (omega (arith, at, some)) in let comes = (delta.marks.members owner key e.0 e.2).0 yes' in
             let holds = holds-same (sym e.2) at (kept-number two.first.kept owner key in_node in_key) in
             (e.0, ap (write_numbered writes) at ∙ e.1, inr (comes, (two.first.proper.in_place owner key e.0 e.2).keyed), holds)
         | false ↦ λ no'.
@@ -237,8 +236,7 @@ module _ (rules : Rules) (rotation : ℕ) {written : ℕ → List Entry} {most :
       number-now key in_keys =
           let is = taken.kept.each owner key in_nodes in_keys in elim (cases_lt start (y key)) [
             | inr gone ↦ holds-same (none-unless (entry_at after owner key) (λ d found.
-                let n = stood-number key d (after-stood key d found) in
-                let some : 0 < y key = omega (arith, n.2, (numbered-within writes n.0 d n.1).0) in
+                let n = stood-number key d (after-stood key d found) in let some : 0 < y key = omega (arith, n.2, (numbered-within writes n.0 d n.1).0) in
                 let e = here key in_keys some in let newest = after-proper.copies owner key d found in
                 let upto = (numbers-up_to writes so_far.history n.0 (y key) d e.0 n.1 e.1 n.2).generation in
                 omega (arith, gone, stays key in_keys some (omega (arith, newest, upto))))) (is ∙ grind (arith, nat_tests)) (no-number (written owner) key)

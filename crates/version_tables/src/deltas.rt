@@ -1,6 +1,6 @@
 //! What one table sends another, as marks.
 
-ghost use Rattle.version_tables.specs.inner.Common.{IfOk, IsOkUnless, OutOfMemory, digest_kind, table_in, IsKept};
+ghost use Rattle.version_tables.specs.inner.Common.{IfOk, IsOkUnless, OutOfMemory, digest_kind, table_in};
 ghost use Rattle.version_tables.specs.inner.Deltas.{MaySend};
 ghost use Rattle.version_tables.specs.inner.Offered.{IsDelta, IsOffered};
 
@@ -48,7 +48,6 @@ pub(crate) fn delta<N: Number, H: Written>(
         (table_in H.lists sender.now) (table_in H.lists receiver.now) }
     ensures delta { IfOk result (IsDelta N.number H.lists course.now.rules.now course.now.plan.now.rotation
         sender.now receiver.now) }
-    ensures kept { IfOk result (λ d. IsKept H.lists sender.now × IsKept H.lists receiver.now) }
     ensures only { IsOkUnless result OutOfMemory }
 {
     let histories = course.histories;
@@ -97,7 +96,6 @@ fn delta_above<N: Number, H: Written>(
 ) -> Result<DeltaMarks<N>, Fault>
     requires may { MaySend course.now.rules.now course.now.plan.now.rotation course.now.histories.now
         (table_in H.lists sender.now) (table_in H.lists receiver.now) }
-    requires kept { IsKept H.lists receiver.now }
     requires offered { IsOffered N.number N.most H.lists (digest_kind course.now.rules.now.mode)
         course.now.histories.now sender.now receiver.now low.items offered }
     ensures delta { IfOk result (IsDelta N.number H.lists course.now.rules.now course.now.plan.now.rotation

@@ -1,6 +1,6 @@
 -- What is offered from one table to another, in memory. Source: this project.
 use Rattle.std.specs.Prelude.{◌≡◌, ◌≢◌, ◌<◌, ◌≤◌}
-use Rattle.version_tables.specs.inner.Common.{ℕ, List, length, map, slice_index, Entry, DigestKind, Rules, by_first, first_sent, digest_kind, digest_size, all_writes, cell, total_above, HasEach, HasEachPlace, HistoriesView, VersionTableView, offered_by, told_by, told_number, table_in}
+use Rattle.version_tables.specs.inner.Common.{ℕ, List, length, map, slice_index, Entry, DigestKind, Rules, by_first, first_sent, digest_kind, digest_size, all_writes, cell, total_above, HasEach, HasEachPlace, HistoriesView, VersionTableView, offered_by, told_by, told_number, table_in, IsKept}
 use Rattle.version_tables.specs.declared.deltas.DeltaMarks.{DeltaMarks}
 use Rattle.version_tables.specs.declared.deltas.Offered.{Offered}
 use Rattle.version_tables.specs.inner.Deltas.{AreMarksOf}
@@ -25,9 +25,10 @@ AreOffered kind from to low cells =
     HasEachPlace from.nodes from.keys (λ r k n. n
     ≡ offered_by kind (cell from.cells from.nodes) (cell to.cells to.nodes) (slice_index low) r k) cells
 
--- the numbers offered over low marks that are told, how many these are, and the size of the sender's digest
+-- the numbers offered over low marks that a kept table tells, how many these are, and the size of the sender's digest
 pub record IsOffered {N : Type 0} (number : N → ℕ) (most : ℕ) (written : ℕ → List Entry) (kind : DigestKind)
     (h : HistoriesView) (from to : VersionTableView) (low : List N) (offered : Offered N) : Type 0 where
+  pub kept : IsKept written to
   pub told : AreTold kind most h to (map number low)
   pub cells : AreOffered kind from to (map number low) (map number offered.cells.now)
   pub found : offered.found ≡ total_above from.nodes from.keys (map number offered.cells.now) (map number low)

@@ -1,4 +1,4 @@
-use Rattle.version_tables.proofs.Common.{◌≡◌, ◌*◌, refl, map, cell, get_or, transport, digest_size, table_in, total_above, offered_by, HasEachPlace, AreOffered, AreTold, sym, ap, ◌∙◌, arith, length, length-map, IfOk-weaker}
+use Rattle.version_tables.proofs.Common.{◌≡◌, ◌*◌, refl, map, cell, get_or, transport, digest_size, table_in, total_above, offered_by, HasEachPlace, AreOffered, AreTold, sym, ap, ◌∙◌, arith, length, length-map}
 use Rattle.version_tables.proofs.DigestSizes.{cells-size}
 use Rattle.version_tables.proofs.Fitting.{IsLaid, greatest-within}
 use Rattle.version_tables.proofs.deltas.delta.Goals as goal
@@ -23,6 +23,7 @@ told-requires-clause-known g c =
 pub delta_above-requires-clause-offered : goal.delta_above-requires-clause-offered
 delta_above-requires-clause-offered g c =
     let grid = c.grid-grid.ensures in record {
+      kept = c.greatest.ensures.kept;
       told = transport (λ i. AreTold (c.digest_kind-kind.ensures i) g.N.Number.most (record c.args.course.now.histories.now { lists = c.lists.ensures.value i })
           (record c.args.receiver.now { node = c.node-own.ensures.value i; greatest = c.greatest.ensures.value i }) (map g.N.Number.number
           c.in_ok-low.low.items)) c.in_ok-low.ensures.told;
@@ -38,6 +39,7 @@ delta_above-requires-in-Precise-clause-offered g c =
     let ahead = c.in_ok-ahead-in-Precise.ensures in let grid = c.grid-grid.ensures in
     let number = g.N.Number.number in let low = c.deref-in-Precise.ensures.value in
     let kind = sym c.in-Precise.is ∙ c.digest_kind-kind.ensures in record {
+      kept = c.greatest.ensures.kept;
       told = transport (λ i. AreTold (c.digest_kind-kind.ensures i) g.N.Number.most (record c.args.course.now.histories.now { lists = c.lists.ensures.value i })
           (record c.args.receiver.now { node = c.node-own.ensures.value i; greatest = c.greatest.ensures.value i }) (map g.N.Number.number
           c.in_ok-low.low.items)) c.in_ok-low.ensures.told;
@@ -77,16 +79,8 @@ ahead-requires g c =
       among = omega (arith, c.node-own.ensures.value, c.cells.ensures.kept.proper.node_below, c.requires.both.nodes, grid.nodes);
     }
 
-pub delta_above-requires-in-Precise-clause-kept : goal.delta_above-requires-in-Precise-clause-kept
-delta_above-requires-in-Precise-clause-kept g c = c.greatest.ensures.kept
+pub delta_above-requires-clause-may : goal.delta_above-requires-clause-may
+delta_above-requires-clause-may g c = c.requires
 
-pub delta_above-requires-clause-kept : goal.delta_above-requires-clause-kept
-delta_above-requires-clause-kept g c = c.greatest.ensures.kept
-
-pub returns-in_ok-ahead-in-Precise-clause-kept : goal.returns-in_ok-ahead-in-Precise-clause-kept
-returns-in_ok-ahead-in-Precise-clause-kept g c =
-    IfOk-weaker c.delta_above-in-Precise.result _ _ (λ _ _. (c.grid-grid.ensures.kept, c.greatest.ensures.kept)) c.delta_above-in-Precise.ensures.delta
-
-pub returns-in-Scuttle-clause-kept : goal.returns-in-Scuttle-clause-kept
-returns-in-Scuttle-clause-kept g c =
-    IfOk-weaker c.delta_above.result _ _ (λ _ _. (c.grid-grid.ensures.kept, c.greatest.ensures.kept)) c.delta_above.ensures.delta
+pub delta_above-requires-in-Precise-clause-may : goal.delta_above-requires-in-Precise-clause-may
+delta_above-requires-in-Precise-clause-may g c = c.requires

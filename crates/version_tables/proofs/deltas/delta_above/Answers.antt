@@ -4,7 +4,7 @@ use Rattle.version_tables.proofs.deltas.delta_above.Goals as goal
 
 module _ (g : _) (c : goal.After-ends g) where
   two : AreLaidBoth g.H.Written.lists g.N.Number.most c.args.course.now.histories.now c.args.sender.now c.args.receiver.now
-  two = laid-both c.lists.ensures.known c.requires.may.both c.grid.ensures.kept c.requires.kept
+  two = laid-both c.lists.ensures.known c.requires.may.both c.grid.ensures.kept c.requires.offered.kept
 
   of-both : IsOfferOf g.N.Number.number c.args.course.now.rules.now c.args.course.now.histories.now c.args.sender.now c.args.receiver.now (record {
     grid = record { cells = c.args.offered.cells; size = c.grid.result.size };

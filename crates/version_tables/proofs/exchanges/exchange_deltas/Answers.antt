@@ -14,14 +14,14 @@ returns-then-plan-clause-ok g c =
 
 pub take_unless-requires-clause-may : goal.take_unless-requires-clause-may
 take_unless-requires-clause-may g c =
-    let both = laid-both c.requires.known c.requires.may.both c.in_ok-back.ensures.kept.1 c.in_ok-back.ensures.kept.0 in
+    let both = laid-both c.requires.known c.requires.may.both c.greatest.ensures.kept c.greatest-2.ensures.kept in
     let top = ap (map g.N.Number.number) (c.deref.ensures.value ∙ c.in_ok-responder_before.ensures.items) ∙ c.greatest-2.ensures.value in
     let back = marks-come c.in_ok-back.ensures.delta c.of-first.ensures top c.what_comes-came.ensures in
     may-arrive (turned both) back _ c.cells-came_back.ensures.value (λ _ _ _ _. refl) refl
 
 pub take_unless-requires-2-clause-may : goal.take_unless-requires-2-clause-may
 take_unless-requires-2-clause-may g c =
-    let both = laid-both c.requires.known c.requires.may.both c.in_ok-back.ensures.kept.1 c.in_ok-back.ensures.kept.0 in
+    let both = laid-both c.requires.known c.requires.may.both c.greatest.ensures.kept c.greatest-2.ensures.kept in
     let p_top = ap (map g.N.Number.number) (c.deref-2.ensures.value ∙ c.in_ok-initiator_before.ensures.items) ∙ c.greatest.ensures.value in
     let q_top = ap (map g.N.Number.number) (c.deref.ensures.value ∙ c.in_ok-responder_before.ensures.items) ∙ c.greatest-2.ensures.value in
     let back = marks-come c.in_ok-back.ensures.delta c.of-first.ensures q_top c.what_comes-came.ensures in
@@ -31,7 +31,7 @@ take_unless-requires-2-clause-may g c =
 
 pub returns-clause-ok : goal.returns-clause-ok
 returns-clause-ok g c =
-    let both = laid-both c.requires.known c.requires.may.both c.in_ok-back.ensures.kept.1 c.in_ok-back.ensures.kept.0 in
+    let both = laid-both c.requires.known c.requires.may.both c.greatest.ensures.kept c.greatest-2.ensures.kept in
     let p_top = ap (map g.N.Number.number) (c.deref-2.ensures.value ∙ c.in_ok-initiator_before.ensures.items) ∙ c.greatest.ensures.value in
     let q_top = ap (map g.N.Number.number) (c.deref.ensures.value ∙ c.in_ok-responder_before.ensures.items) ∙ c.greatest-2.ensures.value in
     let back = marks-come c.in_ok-back.ensures.delta c.of-first.ensures q_top c.what_comes-came.ensures in

@@ -4,8 +4,7 @@ use Rattle.version_tables.proofs.lags.numbers_of.Goals as goal
 -- what is handed on are the numbers of the tables, beside the histories as they were read
 pub returns : goal.returns
 returns g c views end cells =
-    let h = c.args.histories.now in let known = c.lists.ensures.known in
-    let lists = c.lists.ensures.value in let keys = c.keys.ensures.value in
+    let h = c.args.histories.now in let known = c.lists.ensures.known in let lists = c.lists.ensures.value in let keys = c.keys.ensures.value in
     let ends = c.ends.ensures in record {
       histories = rw (lists, keys, ends.rounds);
       cells = cells;

@@ -4,8 +4,7 @@ use Rattle.version_tables.proofs.tables.keep_owner.Goals as goal
 
 pub loop-key-preserved : goal.loop-key-preserved
 loop-key-preserved g c =
-    let number = g.N.Number.number in let nodes = c.args.size.nodes in
-    let key = c.loop-key.key in
+    let number = g.N.Number.number in let nodes = c.args.size.nodes in let key = c.loop-key.key in
     planes-written _ nodes (map number c.args.cells.now) number c.loop-key.cells c.keep_one.new.numbers key (key * nodes + nodes - key * nodes) _ (omega arith)
     c.loop-key.invariant (grid-within number nodes c.args.size.keys key c.args.cells.now c.requires.grid c.loop-key-test.true) c.keep_one.ensures
     (λ r x y lt is. is)

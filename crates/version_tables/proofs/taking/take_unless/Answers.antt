@@ -9,8 +9,7 @@ module _ (g : _) (c : goal.After-table-3-1 g) where
         greatest = map g.N.Number.number (with_items c.table.inside.greatest c.take.new.greatest).items;
       })
   taken =
-      let inside = c.table.inside in
-      let greatest = with_items_is inside.greatest c.take.new.greatest (c.take.auto.greatest ∙ c.deref_mut-2.ensures.len) in
+      let inside = c.table.inside in let greatest = with_items_is inside.greatest c.take.new.greatest (c.take.auto.greatest ∙ c.deref_mut-2.ensures.len) in
       let kept = with_items_is (with_items inside.cells c.take.new.cells) c.drop_older.new.cells (c.drop_older.auto.cells ∙ c.deref_mut-3.ensures.len) in
       let sent = map g.N.Number.number c.args.cells.now in let low = map g.N.Number.number c.args.arrival.low.now in
       let high = map g.N.Number.number c.args.arrival.high.now in

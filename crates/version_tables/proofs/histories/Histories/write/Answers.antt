@@ -18,8 +18,7 @@ module _ (g : _) (c : goal.After-self-3-1 g) where
 
 pub invariant_of-self-2 : goal.invariant_of-self-2
 invariant_of-self-2 g c =
-    let lists = c.self.inside.lists.items in let owner = c.args.owner in
-    let count : c.len-nodes.result ≡ length lists = search rules in
+    let lists = c.self.inside.lists.items in let owner = c.args.owner in let count : c.len-nodes.result ≡ length lists = search rules in
     nodes-are (histories-written c.self.invariant (set lists owner c.write.new.self) owner (may g c).owner_below c.args.key c.args.value (may g c) (becomes g c)
     (numbers-set g.N.Number.number _ owner c.plus-number.result _ (counted g c))
     (numbers-set g.N.Number.number _ (c.args.key * c.len-nodes.result + owner) c.plus-number.result _ (counted g c)

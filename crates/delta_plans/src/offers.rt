@@ -22,8 +22,7 @@ pub struct Offer<'a, N: Number> {
     pub found: u32,
 }
 
-/// Near marks let through whole levels, `whole` numbers in all, after which so much of the budget is left, and far
-/// marks one level more, which doesn't fit.
+/// Near marks let through whole levels, `whole` numbers, with so much left, and far marks one more, which doesn't fit.
 #[derive(Drop)]
 pub(crate) struct Level<N: Number> {
     pub(crate) near: Vec<N>,

@@ -9,8 +9,7 @@ loop-key-preserved g c =
     let size : length plane ≡ c.args.grid.size.nodes = sym (length-map plane g.N.Number.number) ∙ c.plane_of-plane.ensures.size in
     record {
       upto = omega (arith, c.loop-key.invariant.upto, c.how_many-total.ensures.upto, size);
-      total = λ test is.
-          sum_next _ c.loop-key.key c.loop-key.total c.how_many-total.result (c.loop-key.invariant.total test is)
+      total = λ test is. sum_next _ c.loop-key.key c.loop-key.total c.how_many-total.result (c.loop-key.invariant.total test is)
           (plane_count c.args.grid.size.nodes _ _ (length plane) c.how_many-total.result size
           (c.how_many-total.ensures.count test (λ r n passes lt. is r n passes (omega (arith, lt, size))))
           (λ r lt. ap (test r) (c.plane_of-plane.ensures.each r lt)));
@@ -28,6 +27,5 @@ how_many-total-requires-clause-passes g c r n lt =
 
 pub overflow_add-total : goal.overflow_add-total
 overflow_add-total g c =
-    let grid = c.requires.grid in
-    let size = sym (length-map c.plane_of-plane.result.now g.N.Number.number) ∙ c.plane_of-plane.ensures.size in
+    let grid = c.requires.grid in let size = sym (length-map c.plane_of-plane.result.now g.N.Number.number) ∙ c.plane_of-plane.ensures.size in
     omega (arith, c.loop-key.invariant.upto, c.how_many-total.ensures.upto, size, grid.few_nodes, grid.few_keys, c.loop-key-test.true)

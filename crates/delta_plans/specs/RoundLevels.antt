@@ -1,9 +1,9 @@
 -- Levels of rounds, as marks. Source: this project.
 use Rattle.std.specs.Prelude.{◌≡◌, ℕ, ◌+◌, ◌-◌, ◌*◌, ◌<◌, ◌≤◌, max, length, map, IfSome, List, Option, Some, None}
-use Rattle.delta_plans.specs.Common.{amount_of, all_writes, cell, HasEach, Ends, Offer, Fit, Rounds, AreMadeBy, AreEnds}
-use Rattle.delta_plans.specs.OfferInMemory.{low_in, marks, IsTooLarge}
-use Rattle.delta_plans.specs.Plans.{weight_on, count_on}
-use Rattle.delta_plans.specs.LevelMarks.{by_first}
+pub use Rattle.delta_plans.specs.Common.{amount_of, all_writes, cell, HasEach, Ends, Offer, Fit, Rounds, AreMadeBy, AreEnds}
+pub use Rattle.delta_plans.specs.OfferInMemory.{low_in, marks, IsTooLarge, IfGranted, IsLeftOf}
+pub use Rattle.delta_plans.specs.Plans.{weight_on, count_on, IsLevelBy}
+pub use Rattle.delta_plans.specs.LevelMarks.{by_first, round_in}
 
 -- where the rounds end in which all that is offered was written
 pub record AreEndsOf {N : Type 0} (number : N → ℕ) (offer : Offer N) (ends : Ends N) : Type 0 where

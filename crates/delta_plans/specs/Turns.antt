@@ -1,10 +1,10 @@
 -- A level shared out by the owners' turns, from the rotation on. Source: this project.
 use Rattle.std.specs.Prelude.{◌≡◌, ℕ, ◌+◌, ◌-◌, ◌<◌, ◌≤◌, nat_lt, List, length, map, if◌then◌else◌, ◌≢◌, true, false}
-use Rattle.delta_plans.specs.Common.{amount_of, sum_below, HasEach, Cells, rotated, Reached, Turns, First, Offer}
-use Rattle.delta_plans.specs.OfferInMemory.{cells_in, marks, weights_in, IsOffer, low_in}
+pub use Rattle.delta_plans.specs.Common.{amount_of, sum_below, HasEach, Cells, rotated, Reached, Turns, First, Offer}
+pub use Rattle.delta_plans.specs.OfferInMemory.{cells_in, marks, weights_in, IsOffer, low_in, HasOwner, IfGranted}
 use Rattle.delta_plans.specs.Plans.{weight_on, count_on, HaveLeft, IsLevel}
 use Rattle.delta_plans.specs.Weights.{weight_from}
-use Rattle.delta_plans.specs.LevelMarks.{comes_first, lets_through, IsOn}
+pub use Rattle.delta_plans.specs.LevelMarks.{comes_first, lets_through, IsOn, by_first}
 
 -- an owner's mark that lets through what comes before a number, which its far mark lets through and its near one not
 pub record StopsBefore (first : First) (cells : Cells) (keys owner low near far mark next : ℕ) : Type 0 where

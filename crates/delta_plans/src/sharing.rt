@@ -1,10 +1,7 @@
 //! A level that doesn't fit, shared out: the owners take turns from the rotation on, as long as their numbers fit.
 
 ghost use Rattle.std.specs.Prelude.{◌≡◌, ◌+◌, ◌<◌, ◌≤◌, length, IfNone, IfSome, if◌then◌else◌};
-ghost use Rattle.delta_plans.specs.Common.{rotated};
-ghost use Rattle.delta_plans.specs.LevelMarks.{by_first};
-ghost use Rattle.delta_plans.specs.OfferInMemory.{marks, weights_in, HasOwner, IfGranted};
-ghost use Rattle.delta_plans.specs.Turns.{part_weight, parts_count, weight_to, AreParts, AreSharedBy, AreTurns, HasReached, HaveTurns, IsStopOf};
+ghost use Rattle.delta_plans.specs.Turns.{by_first, marks, part_weight, parts_count, rotated, weight_to, weights_in, AreParts, AreSharedBy, AreTurns, HasOwner, HasReached, HaveTurns, IfGranted, IsStopOf};
 
 use crate::marked::First;
 use crate::offers::{Offer, Step, number_at};

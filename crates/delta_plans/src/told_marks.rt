@@ -1,8 +1,7 @@
 //! What is offered to a receiver, by marks for each owner.
 
 ghost use Rattle.std.specs.Prelude.{◌≡◌, ◌<◌, length, map, slice_index, IfOk, IsOkUnless};
-ghost use Rattle.delta_plans.specs.Common.{OutOfMemory, Precise, all_writes, HasEach, AreChanged, start_of};
-ghost use Rattle.delta_plans.specs.Offers.{told_number, AreKnownOf, IsKnownOf};
+ghost use Rattle.delta_plans.specs.Offers.{all_writes, start_of, told_number, AreChanged, AreKnownOf, HasEach, IsKnownOf, OutOfMemory, Precise};
 
 use crate::offers::number_at;
 use bench_types::{DigestKind, Fault};

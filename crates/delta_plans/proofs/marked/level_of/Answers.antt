@@ -9,5 +9,5 @@ returns-in-PreciseOldest g c =
 pub level-requires : goal.level-requires
 level-requires g c = c.requires
 
-pub depth-requires : goal.depth-requires
-depth-requires g c = record { offer = c.requires.too_large }
+pub breadth-requires : goal.breadth-requires
+breadth-requires g c = record { offer = c.requires.too_large }

@@ -18,13 +18,14 @@ overflow_sub-cut g c =
     c.in_ok-share.share.marks.items (rw (c.of-first.ensures, c.deref.ensures.value, c.deref-2.ensures.value) at c.in_ok-share.ensures.0.shared) in
     omega (arith, is.left, c.requires.offer.found)
 
-pub returns-clause-marked : goal.returns-clause-marked
-returns-clause-marked g c = share-marked g.N.Number.number g.N.Number.most c.args.offer.now c.requires.offer c.args.rotation c.args.mode c.in_ok-level.ensures.0
-    c.in_ok-share.share.marks.items (rw (c.of-first.ensures, c.deref.ensures.value, c.deref-2.ensures.value) at c.in_ok-share.ensures.0.shared)
+pub returns : goal.returns
+returns g c = record {
+  size = c.in_ok-share.ensures.0.size;
+  marked = share-marked g.N.Number.number g.N.Number.most c.args.offer.now c.requires.offer c.args.rotation c.args.mode c.in_ok-level.ensures.0
+      c.in_ok-share.share.marks.items (rw (c.of-first.ensures, c.deref.ensures.value, c.deref-2.ensures.value) at c.in_ok-share.ensures.0.shared);
+  only = tt;
+}
 
 pub level_of-requires : goal.level_of-requires
 level_of-requires g c =
     record { too_large = record { is_offer = c.requires.offer; beyond = grind (arith, c.fits.ensures, c.if-fits.false) }; are_ends_of = c.requires.ends }
-
-pub fits-requires : goal.fits-requires
-fits-requires g c = c.requires.offer

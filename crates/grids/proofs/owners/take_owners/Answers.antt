@@ -28,11 +28,17 @@ loop-owner-preserved g c =
           })
     ]
 
-pub take_owner-requires-clause-covered : goal.take_owner-requires-clause-covered
-take_owner-requires-clause-covered g c k in_keys =
+pub take_owner-requires : goal.take_owner-requires
+take_owner-requires g c =
     let lt = c.loop-owner-test.true in let held = c.loop-owner.invariant in let r = c.loop-owner.owner in
     let had = number-waits _ _ g.N.Number.number c.loop-owner.greatest r c.index-greatest-owner.result held.greatest (omega arith) c.index-greatest-owner.is in
-    omega (arith, owner-waits _ _ _ _ r _ held.cells k lt in_keys, c.requires.may.covered r lt k in_keys)
+    record {
+      beside = omega (arith, c.requires.may.beside, c.loop-owner.auto.cells);
+      within = lt;
+      low = c.requires.may.low_count;
+      high = c.requires.may.high_count;
+      covered = λ k in_keys. omega (arith, owner-waits _ _ _ _ r _ held.cells k lt in_keys, c.requires.may.covered r lt k in_keys);
+    }
 
 pub returns : goal.returns
 returns g c = record {

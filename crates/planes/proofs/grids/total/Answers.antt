@@ -21,9 +21,10 @@ returns g c test is =
     total_whole c.args.grid.size.nodes c.args.grid.size.keys c.loop-key.key (λ r k. test r (cells r k)) c.loop-key.total (c.loop-key.invariant.total test is)
     c.loop-key-test.false c.loop-key.auto.key-end
 
-pub how_many-total-requires-clause-passes : goal.how_many-total-requires-clause-passes
-how_many-total-requires-clause-passes g c r n lt =
-    c.requires.passes r n (omega (arith, lt, length-map c.plane_of-plane.result.now g.N.Number.number, c.plane_of-plane.ensures.size))
+pub how_many-total-requires : goal.how_many-total-requires
+how_many-total-requires g c =
+    let size = sym (length-map c.plane_of-plane.result.now g.N.Number.number) ∙ c.plane_of-plane.ensures.size in
+    record { room = omega (arith, size, c.requires.grid.few_nodes); passes = λ r n lt. c.requires.passes r n (omega (arith, lt, size)) }
 
 pub overflow_add-total : goal.overflow_add-total
 overflow_add-total g c =

@@ -15,3 +15,6 @@ returns-clause-count g c test is =
 
 pub how_many_of-requires-clause-passes : goal.how_many_of-requires-clause-passes
 how_many_of-requires-clause-passes g c = c.requires.passes
+
+pub how_many_of-count-requires-clause-passes : goal.how_many_of-count-requires-clause-passes
+how_many_of-count-requires-clause-passes g c = c.requires.passes

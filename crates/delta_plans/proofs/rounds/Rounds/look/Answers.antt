@@ -11,6 +11,3 @@ returns-then-surely_fit g c =
 
 pub weighed-requires : goal.weighed-requires
 weighed-requires g c = record { mark = c.requires; count = c.count-count.ensures }
-
-pub count-count-requires : goal.count-count-requires
-count-count-requires g c = c.requires

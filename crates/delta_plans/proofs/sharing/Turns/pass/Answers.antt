@@ -48,11 +48,11 @@ weight_of_part-weight-requires g c = record {
 pub loop-i-init : goal.loop-i-init
 loop-i-init g c = record { so_far = c.pass_all.ensures.reached; turn = rw c.if-pass_all.false at c.pass_all.ensures.turn }
 
-pub returns-clause-reached : goal.returns-clause-reached
-returns-clause-reached g c = c.loop-i.invariant.so_far
+pub returns : goal.returns
+returns g c = record { reached = c.loop-i.invariant.so_far; turn = omega (arith, c.loop-i.invariant.turn, c.loop-i-test.false, c.loop-i.auto.i-end); shared = tt }
 
-pub returns-then-pass_all-clause-reached : goal.returns-then-pass_all-clause-reached
-returns-then-pass_all-clause-reached g c = c.pass_all.ensures.reached
+pub returns-then-pass_all : goal.returns-then-pass_all
+returns-then-pass_all g c = record { reached = c.pass_all.ensures.reached; turn = rw c.if-pass_all.true at c.pass_all.ensures.turn; shared = tt }
 
 pub stop_of-stop-requires : goal.stop_of-stop-requires
 stop_of-stop-requires g c = record {

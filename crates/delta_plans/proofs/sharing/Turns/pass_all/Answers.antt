@@ -29,3 +29,6 @@ returns-clause-reached g c =
 
 pub loop-i-init : goal.loop-i-init
 loop-i-init g c = turns-same c.requires.turns.has_reached (omega arith) (omega arith) (omega arith)
+
+pub returns-then-reached-count-clause-reached : goal.returns-then-reached-count-clause-reached
+returns-then-reached-count-clause-reached g c = c.requires.turns.has_reached

@@ -90,8 +90,7 @@ module _ {mode : Mode} {from to : Table} {lists : ℕ → List Entry} {cells : C
     level-lets : (c : Item) → Contains cs c → (lets mode cells near c ≡ comes_first way (level_key mode cs c) shape.next)
         × (lets mode cells far c ≡ not (comes_first way shape.next (level_key mode cs c)))
     level-lets c in_c =
-        let place = candidate-place given c in_c in
-        let above = (candidate-number given c in_c).0 in
+        let place = candidate-place given c in_c in let above = (candidate-number given c in_c).0 in
         rw (← level-is mode c in_c) (
           shape.near_is c.owner c.entry.key place.owner_below place.key_below above,
           shape.far_is c.owner c.entry.key place.owner_below place.key_below above,
@@ -102,8 +101,7 @@ module _ {mode : Mode} {from to : Table} {lists : ℕ → List Entry} {cells : C
         let place = candidate-place given c in_c in
         let outside : lets mode cells near next ≡ false = ap (lets_through first (near stop.owner)) its_number ∙ stop.stops.outside in
         let inside : lets mode cells far next ≡ true = ap (lets_through first (far stop.owner)) its_number ∙ stop.stops.inside in
-        let before = sym (level-lets next in_next).0 ∙ outside in
-        let upto = sym (level-lets next in_next).1 ∙ inside in
+        let before = sym (level-lets next in_next).0 ∙ outside in let upto = sym (level-lets next in_next).1 ∙ inside in
         let ordered = order-levels mode from.nodes rotation cs c next in_nodes place.owner_below stop.owner_below in_c in_next
         ∙ order-by mode from.nodes rotation cs c next in
         elim (cases_eq c.owner stop.owner) [
@@ -116,8 +114,7 @@ module _ {mode : Mode} {from to : Table} {lists : ℕ → List Entry} {cells : C
           | inr other ↦ other-lets way first _ _ _ _ _ _ _ _ _ _
               (λ e. other (rotated-injective from.nodes rotation c.owner stop.owner in_nodes place.owner_below stop.owner_below e))
               (level-lets c in_c).0 (level-lets c in_c).1 before upto (stop.others c.owner place.owner_below other)
-        ]
-        ∙ sym (ap is_lt ordered)
+        ] ∙ sym (ap is_lt ordered)
 
   -- sums over what marks let through are weights
   module _ {high : ℕ → ℕ} (covered : (owner : ℕ) → owner < from.nodes → HasNoneAbove cells from.keys owner (high owner)) (mark : ℕ → ℕ)
@@ -157,8 +154,7 @@ module _ {mode : Mode} {from to : Table} {lists : ℕ → List Entry} {cells : C
           → (stop : StopAt first rotation from.nodes from.keys cells low near far mark)
           → through weights ≤ amount_of budget → amount_of budget < through weights + weights stop.owner (cells stop.owner stop.key)
           → HasSet cs (lets mode cells mark) delta
-      shared-sent shape stop within beyond =
-          set_sent mode rotation budget from to (lets mode cells mark) given.proper in_nodes
+      shared-sent shape stop within beyond = set_sent mode rotation budget from to (lets mode cells mark) given.proper in_nodes
           (stops_sent (sending_order-total mode from.nodes rotation cs) (next shape stop) (in_next shape stop) (marks-stop shape stop)
           (omega (arith, sizes-weigh, within))
           (omega (arith, sizes-weigh, share-is (next shape stop) (in_next shape stop), ap (weights stop.owner) (its_number shape stop), beyond)))
@@ -187,8 +183,7 @@ module _ {mode : Mode} {from to : Table} {lists : ℕ → List Entry} {cells : C
         are-sent sent is = record {
           held = λ owner key lt lt' holds. let found = candidate-at given owner key lt lt' (parts owner key lt lt' holds).0 in (found.0, found.1);
           members = λ owner key e held.
-              let item : Item = record { owner = owner; entry = e } in
-              let place = given.proper.in_place owner key e held in
+              let item : Item = record { owner = owner; entry = e } in let place = given.proper.in_place owner key e held in
               let told = is owner key place.owner_below place.key_below in
               let its : item_number cells item ≡ cells owner key = ap (cells owner) place.keyed in (
                 (λ holds.
@@ -197,8 +192,7 @@ module _ {mode : Mode} {from to : Table} {lists : ℕ → List Entry} {cells : C
                     let in_cs = rw (same_Some found.0 e (sym found.1 ∙ held)) at found.2 in
                     (has.members item).1 (in_cs, ap (lets_through first (mark owner)) its ∙ both.1)),
                 (λ in_items.
-                    let both = (has.members item).0 in_items in
-                    let above = (candidate-number given item both.0).0 in
+                    let both = (has.members item).0 in_items in let above = (candidate-number given item both.0).0 in
                     let through = sym (ap (lets_through first (mark owner)) its) ∙ both.1 in
                     grind (arith, nat_tests, told)),
               );

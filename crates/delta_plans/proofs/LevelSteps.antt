@@ -4,19 +4,16 @@
 use Rattle.delta_plans.proofs.Common.{◌≡◌, ℕ, ◌+◌, ◌*◌, ◌<◌, ◌≤◌, length, inl, Option, Some, None, transport, Vec, Global, ap, ◌∙◌, arith, sum_below-same, amount_of, MOST_NODES, MOST_KEYS, Offer, Step, Oldest, cells_in, marks, weights_in, weight_in, IsLeftOf, IsOffer, one_each, weight_between, HaveLeft, IsLevel, IsStep, Bool, List, cond, sym, count_between, count_passing, ◌-◌, leb, ltb, inr, nat_tests, Cells, IsNextAbove, IsLeastAbove, NumbersDiffer, low_in, count_in, IsNextLayer, IsNextMark, AreLevelMarks, rank_above, ◌&&◌, map, cases_eq, length-map, count_above, HasNoneAbove, HasEach, count_le, Newest, owner_count_in, HasNoneBetween, IsMarkFrom, AreMarksFrom, AreRunsFrom, weight_of}
 use Rattle.delta_plans.proofs.WeightLaws.{offer-few, parts_of, sum_below-none, sum_below-scaled, weight_between-parts, weight_of-none, offer-beyond, offer-parts, part, sum_below-each_none, weight_of-one, weight_of-split, owner-most}
 
--- far marks are a step where none is lower than its near one, and each that passes a test lets so many numbers more
--- through
+-- far marks are a step where none is lower than its near one, and each that passes a test lets so many numbers more through
 pub step-is : {N : Type 0} {number : N → ℕ} {offer : Offer N} {is : ℕ → ℕ → Type 0} (near : List N) (far : Vec N Global)
     (test : ℕ → Bool) (nodes size more : ℕ) → nodes ≡ offer.grid.size.nodes → more ≡ count_passing nodes test * size → length far.items ≡ offer.grid.size.nodes
-    → ((r : ℕ) → r < offer.grid.size.nodes → is r (marks number far.items r) × (marks number near r ≤ marks number far.items r)
-    × (cond (test r) 1 0 * size
+    → ((r : ℕ) → r < offer.grid.size.nodes → is r (marks number far.items r) × (marks number near r ≤ marks number far.items r) × (cond (test r) 1 0 * size
     ≡ count_between (cells_in number offer) offer.grid.size.keys r (marks number near r) (marks number far.items r)))
     → IsStep number offer (marks number near) is (record { marks = far; more = more })
 step-is {offer} near far test nodes size more all counted long tells = record {
   count = long;
   rises = λ r lt. (tells r lt).1;
-  more =
-      counted ∙ ap (λ n. count_passing n test * size) all ∙ sym (sum_below-scaled offer.grid.size.nodes size _)
+  more = counted ∙ ap (λ n. count_passing n test * size) all ∙ sym (sum_below-scaled offer.grid.size.nodes size _)
       ∙ sum_below-same offer.grid.size.nodes _ _ (λ r lt. (tells r lt).2);
   next = λ r lt. (tells r lt).0;
 }
@@ -85,8 +82,7 @@ module _ (cells : Cells) (keys owner : ℕ) where
         let same : y ≡ mark = grind (arith, nat_tests, none.1) in
         (inl (none.0, same), omega (arith, same), grind (arith, nat_tests, weight_of-none (λ _. 1) cells keys owner mark y))
     | inr some ↦
-        let same : y ≡ least = grind (arith, nat_tests, below some.key some.below, some.is) in
-        let next_is = rw (← same) at some in
+        let same : y ≡ least = grind (arith, nat_tests, below some.key some.below, some.is) in let next_is = rw (← same) at some in
         (inr next_is, omega (arith, next_is.above), grind (arith, nat_tests, one-next mark y differ next_is, next_is.above))
   ]
 
@@ -144,8 +140,7 @@ module _ {N : Type 0} {number : N → ℕ} {most : ℕ} {offer : Offer N} (is : 
     level-of_layers = record {
       next = has.layers;
       near_is = λ r key lt in_keys over. layer-lets cells keys r (low r) has.layers (marks number near r) (has.near_is r lt) key in_keys over;
-      far_is = λ r key lt in_keys over.
-          grind (arith, nat_tests, layer-lets cells keys r (low r) (has.layers + 1) (last r) (far_is r lt) key in_keys over);
+      far_is = λ r key lt in_keys over. grind (arith, nat_tests, layer-lets cells keys r (low r) (has.layers + 1) (last r) (far_is r lt) key in_keys over);
     }
 
     module _ {rest : ℕ} (fits : IsLeftOf left (weight_in number offer (marks number near) last) (Some rest)) where
@@ -177,14 +172,11 @@ module _ (cells : Cells) (keys owner low high : ℕ) (covered : HasNoneAbove cel
       × (cond (leb size found && leb found size) 1 0 * size ≡ count_between cells keys owner near next)
   run-told size near next found counted some longer is = elim (cases_eq above size) [
     | inl same ↦
-        let from : near ≡ low = grind (arith, nat_tests) in
-        let to : next ≡ high = grind (arith, nat_tests) in
-        let all = (λ i. count_between cells keys owner (from i) (to i)) ∙ count-covered in
-        let empty = weight_of-none (λ _. 1) cells keys owner low high in
+        let from : near ≡ low = grind (arith, nat_tests) in let to : next ≡ high = grind (arith, nat_tests) in
+        let all = (λ i. count_between cells keys owner (from i) (to i)) ∙ count-covered in let empty = weight_of-none (λ _. 1) cells keys owner low high in
         grind (arith, nat_tests, count-covered)
     | inr other ↦
-        let stays : next ≡ near = grind (arith, nat_tests) in
-        let none = weight_of-none (λ _. 1) cells keys owner near next (omega (arith, stays)) in
+        let stays : next ≡ near = grind (arith, nat_tests) in let none = weight_of-none (λ _. 1) cells keys owner near next (omega (arith, stays)) in
         grind (arith, nat_tests)
   ]
 
@@ -218,10 +210,8 @@ module _ {N : Type 0} {number : N → ℕ} {most : ℕ} {offer : Offer N} (is : 
       grind (arith, nat_tests, next.below, has.from r lt, known.each r lt) in
       let weighs = λ (mark : ℕ → ℕ) (r : ℕ). weight_of (weights_in offer r) cells keys r (low r) (mark r) in
       let all = λ (none : size ≡ 0). sum_below-same nodes (weighs (marks number near)) (weighs high) (λ r lt.
-      let here = longer r lt in
-      let nothing = weight_of-none (weights_in offer r) cells keys r (low r) (low r) (omega arith) in
-      let few = owner-most number offer keys r (low r) (high r) in
-      let counted = count-covered cells keys r (low r) (high r) (is.covered r lt) in
+      let here = longer r lt in let nothing = weight_of-none (weights_in offer r) cells keys r (low r) (low r) (omega arith) in
+      let few = owner-most number offer keys r (low r) (high r) in let counted = count-covered cells keys r (low r) (high r) (is.covered r lt) in
       grind (arith, nat_tests)) in record {
         is_offer = is;
         counts_are = known;

@@ -19,8 +19,7 @@ module _ {N : Type 0} (number : N → ℕ) (most : ℕ) (offer : Offer N) (is : 
 
   whole-tells : (first : First) → (length (whole_marks first) ≡ nodes) × KeepsLow first nodes low (marks number (whole_marks first))
       × ((weights : ℕ → ℕ → ℕ) → weight_through first weights cells nodes keys low high (marks number (whole_marks first))
-      ≡ weight_between weights cells nodes keys low high)
-      × ((owner key : ℕ) → owner < nodes → key < keys → low owner < cells owner key
+      ≡ weight_between weights cells nodes keys low high) × ((owner key : ℕ) → owner < nodes → key < keys → low owner < cells owner key
       → lets_through first (marks number (whole_marks first) owner) (cells owner key) ≡ true)
   whole-tells Oldest = search (arith, le-leb, is.high, is.covered)
   whole-tells Newest = search (arith, lt-ltb, is.low)

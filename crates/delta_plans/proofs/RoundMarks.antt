@@ -60,8 +60,7 @@ module _ {N : Type 0} {number : N → ℕ} {most : ℕ} (rounds : Rounds N) (is 
   no_rounds : (first : First) (weights : ℕ → ℕ → ℕ) → through first weights (mark first 0) ≡ 0
   no_rounds Oldest weights = sum_below-none nodes _ (λ owner in_nodes.
       weight_of-none (weights owner) cells keys owner (low owner) (end 0 owner) (omega (arith, is.are_ends_of.are_ends.none owner in_nodes)))
-  no_rounds Newest weights =
-      ap (λ round. weight_between weights cells nodes keys (end round) high) {x = last - 0} {y = last} (omega arith)
+  no_rounds Newest weights = ap (λ round. weight_between weights cells nodes keys (end round) high) {x = last - 0} {y = last} (omega arith)
       ∙ offer-beyond offered weights (end last) all-made
 
   -- all rounds let all through

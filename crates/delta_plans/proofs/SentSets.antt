@@ -48,8 +48,7 @@ module _ {X : Type 0} {order : X → X → Ordering} {cs : List X} {size : X →
         let upto = sum_by-gap (through c) term cs (λ d at_d. no_more (is_lt (order c d)) (is_in d) (size d) (λ behind. behind_in c d at_c at_d behind e)) in
         le-leb (size_through order cs size c) budget (omega (arith, upto, is.within))
     | false ↦ λ e.
-        let out = is.tight c at_c e in
-        let no_later = λ (before : is_lt (order c out.next) ≡ true). out.no_later (less (order c out.next) (rw before tt)) in
+        let out = is.tight c at_c e in let no_later = λ (before : is_lt (order c out.next) ≡ true). out.no_later (less (order c out.next) (rw before tt)) in
         let beyond = sum_by-more term (through c) cs (size out.next) out.next out.candidate
         (λ d at_d. no_less (is_lt (order c d)) (is_in d) (size d) (λ before yes'. both_ways (is_in c) e (before_in c d at_c at_d before yes')))
         (omega (arith, no_less (is_lt (order c out.next)) true (size out.next) (λ b _. no_later b), ap (λ b. cond b (size out.next) 0) out.outside)) in
@@ -102,10 +101,8 @@ module _ {X : Type 0} {order : X → X → Ordering} {cs : List X} {size : X →
 
 pub set_sent : DeltasHaveTheirSets
 set_sent mode rotation budget from to is_in proper in_nodes is =
-    let cs = candidates mode from to in
-    let total = sending_order-total mode from.nodes rotation cs in
-    let strict = sending_order-strict mode from to rotation proper in_nodes in
-    let apart = λ (i j : Item). stands_at i.owner i.entry.key j ≡ false in
+    let cs = candidates mode from to in let total = sending_order-total mode from.nodes rotation cs in
+    let strict = sending_order-strict mode from to rotation proper in_nodes in let apart = λ (i j : Item). stands_at i.owner i.entry.key j ≡ false in
     let same = same_members (delta_between mode rotation budget from to).items (filter is_in cs)
     (sent_apart _ total from proper cs (λ c there. (Contains-kept (is_lacked mode to) (items_of from) c there).0) _)
     (AllPairs-filter apart is_in cs (AllPairs-filter apart (is_lacked mode to) (items_of from) (table_apart from proper)))

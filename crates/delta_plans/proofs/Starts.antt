@@ -11,8 +11,7 @@ all_writes-here lists owner x lt is = ap entries_of (get_or_default lists owner 
 pub start_own : (v : OwnerListView) (number : ℕ) → AreWrites v → length v.earlier < number → number ≤ length (entries_of v)
     → start_of (entries_of v) number ≡ length v.earlier
 start_own v number are lt le =
-    let there = numbered-some (entries_of v) number (omega (arith, lt)) le in
-    let at = numbered-placed (entries_of v) number there.0 there.1 in
+    let there = numbered-some (entries_of v) number (omega (arith, lt)) le in let at = numbered-placed (entries_of v) number there.0 there.1 in
     let behind = get_or-append_right v.earlier v.current (length v.earlier) at.place there.0 refl (omega (arith, lt, at.is)) in
     let next = (are.current (at.place - length v.earlier) there.0 (omega (arith, lt, at.is, at.within, length-append v.earlier v.current))).1 in
     let version = ap (λ (e : Entry). e.version) (sym (at.there there.0) ∙ behind) ∙ next in

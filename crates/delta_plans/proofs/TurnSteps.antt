@@ -45,10 +45,8 @@ module _ {first : First} {weight : ℕ → ℕ} {cells : Cells} {keys owner near
   pub stop-tells : {low : ℕ} → NumbersDiffer cells keys owner → mark ≤ beyond + 1 → beyond ≤ mark + 1 → low ≤ near → AreFarther first low near far
       → (key : ℕ) × (key < keys) × StopsBefore first cells keys owner low near far mark (cells owner key) × (left < weight (cells owner key))
   stop-tells {low} differ below above over_low level =
-      let from = by_first first mark beyond in
-      let to = by_first first beyond mark in
-      let some = some-term keys (λ k. part weight from to (cells owner k)) (omega (arith, so_far.more)) in
-      let key = some.0 in
+      let from = by_first first mark beyond in let to = by_first first beyond mark in
+      let some = some-term keys (λ k. part weight from to (cells owner k)) (omega (arith, so_far.more)) in let key = some.0 in
       let has : (from < cells owner key) × (cells owner key ≤ to) = grind (arith, nat_tests, some.2) in
       let near_by : to ≤ from + 1 = elim first as (λ f. by_first f beyond mark ≤ by_first f mark beyond + 1) [ Oldest ↦ omega arith | Newest ↦ omega arith ] in
       let one = weight_of-one weight cells keys owner from to key some.1 has.0 has.1
@@ -120,8 +118,7 @@ module _ {N : Type 0} {number : N → ℕ} {most : ℕ} {turns : Turns N} (are :
       next = marks number (set mark owner to)
 
       here : next owner ≡ number to
-      here =
-          ap (λ ys. get_or ys owner 0) (map-set number mark owner to)
+      here = ap (λ ys. get_or ys owner 0) (map-set number mark owner to)
           ∙ get_or-set_same (map number mark) owner (number to) 0 (omega (arith, in_nodes, so_far.so_far.size, length-map mark number))
 
       others : (r : ℕ) → r ≢ owner → next r ≡ marks number mark r
@@ -156,8 +153,7 @@ module _ {N : Type 0} {number : N → ℕ} {most : ℕ} {turns : Turns N} (are :
       turns-next fits weighs counts to_far = record {
         so_far = goes-on (rw to_far (are.level.farther owner in_nodes)) fits (rw to_far weighs) (rw to_far counts);
         each = λ r lt.
-            let own = λ (e : r ≡ owner). ap next e ∙ here ∙ to_far ∙ ap far (sym e) in
-            let its_turn = λ (e : r ≡ owner). ap turn e ∙ its in
+            let own = λ (e : r ≡ owner). ap next e ∙ here ∙ to_far ∙ ap far (sym e) in let its_turn = λ (e : r ≡ owner). ap turn e ∙ its in
             let apart = rotated-injective nodes turns.rotation r owner are.rotation lt in_nodes in
             grind (arith, nat_tests, its, own, its_turn, others r, so_far.each r lt, apart);
       }

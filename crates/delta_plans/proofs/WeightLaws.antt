@@ -64,8 +64,7 @@ pub weight_of-parts : (weight : ℕ → ℕ) (cells : Cells) (keys owner low mar
     → weight_of weight cells keys owner low high ≡ weight_of weight cells keys owner low mark + weight_of weight cells keys owner mark high
 weight_of-parts weight cells keys owner low mark high below above =
     sum_below-same keys _ (λ key. part weight low mark (cells owner key) + part weight mark high (cells owner key))
-    (λ key lt. elim above [ inl le ↦ grind (arith, nat_tests) | inr covered ↦ grind (arith, nat_tests, covered key lt) ])
-    ∙ sum_below-plus keys _ _
+    (λ key lt. elim above [ inl le ↦ grind (arith, nat_tests) | inr covered ↦ grind (arith, nat_tests, covered key lt) ]) ∙ sum_below-plus keys _ _
 
 pub weight_of-split : (weight : ℕ → ℕ) (cells : Cells) (keys owner low mark high : ℕ) → low ≤ mark → mark ≤ high
     → weight_of weight cells keys owner low high ≡ weight_of weight cells keys owner low mark + weight_of weight cells keys owner mark high
@@ -148,8 +147,7 @@ module _ {N : Type 0} {number : N → ℕ} {most : ℕ} {offer : Offer N} (is : 
     pub owner-entries : (owner : ℕ) → owner < nodes → (low high : ℕ)
         → weight_of (weights_in offer owner) cells keys owner low high ≡ count_between cells keys owner low high
     owner-entries owner in_nodes low high = sum_below-same keys _ _ (λ key in_keys.
-        let writes = all_writes offer.lists.now owner in
-        let it = cells owner key in
+        let writes = all_writes offer.lists.now owner in let it = cells owner key in
         let one = λ (some : 0 < it). ap (λ budget. share_or_none budget (write_numbered writes it)) counted
         ∙ ap (share_or_none (Entries n)) (numbered-some writes it some (is.written owner key in_nodes in_keys)).1 in
         grind (arith, nat_tests, one))

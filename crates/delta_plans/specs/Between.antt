@@ -1,7 +1,7 @@
 -- What lies between two marks of each owner of an offer. Source: this project.
 use Rattle.std.specs.Prelude.{◌≡◌, ℕ, ◌+◌, Bool, true, false, List, slice_index_or}
-use Rattle.delta_plans.specs.Common.{count_between}
-use Rattle.delta_plans.specs.OfferInMemory.{cells_in, marks, weights_in}
+pub use Rattle.delta_plans.specs.Common.{count_between, sum_below}
+pub use Rattle.delta_plans.specs.OfferInMemory.{cells_in, marks, weights_in, weight_in, HasMarks, IsLeftOf}
 use Rattle.delta_plans.specs.Weights.{weight_of}
 use Rattle.delta_plans.specs.declared.between.Between.{Between}
 

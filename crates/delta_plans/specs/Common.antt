@@ -1,5 +1,4 @@
--- The names of other definitions that these definitions, contracts and proofs cite, passed on from one place. Declares
--- nothing.
+-- The names of other libraries' definitions that these ones, contracts and proofs cite, from one place. Declares nothing.
 pub use Rattle.bench_types.specs.Budget.{amount_of, largest_share, share_of}
 pub use Rattle.bench_types.specs.Mark.{is_before, mark_of}
 pub use Rattle.bench_types.specs.Mode.{digest_kind}

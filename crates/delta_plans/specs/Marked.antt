@@ -1,9 +1,9 @@
 -- What is sent where not all fits, or all, as one mark for each owner. Source: this project.
 use Rattle.std.specs.Prelude.{◌≡◌, ◌⊎◌, ℕ, ◌+◌, ◌<◌, ◌≤◌, true}
-use Rattle.delta_plans.specs.Common.{First, Oldest, Newest, Mode, amount_of, all_writes, Level, Offer}
-use Rattle.delta_plans.specs.OfferInMemory.{cells_in, low_in, high_in, count_in}
-use Rattle.delta_plans.specs.Plans.{weight_on, count_on, IsLevelBy}
-use Rattle.delta_plans.specs.LevelMarks.{first_level, first_sent, level_number, lets_through, AreLevelMarks}
+pub use Rattle.delta_plans.specs.Common.{First, Oldest, Newest, Mode, amount_of, all_writes, Level, Offer, OutOfMemory, MOST_KEYS, ScuttleDepth, ScuttleBreadth}
+pub use Rattle.delta_plans.specs.OfferInMemory.{cells_in, low_in, high_in, count_in, marks, HasMarks, IfGranted, IsOffer, IsTooLarge}
+pub use Rattle.delta_plans.specs.Plans.{weight_on, count_on, IsLevelBy, AreRunsFrom, HasNoneBetween, IsMarkFrom, IsNextLayer, IsStep}
+pub use Rattle.delta_plans.specs.LevelMarks.{first_level, first_sent, level_number, lets_through, AreLevelMarks}
 use Rattle.delta_plans.specs.Turns.{AreShared}
 
 -- the level of an owner's number that is offered

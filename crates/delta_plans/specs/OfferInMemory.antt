@@ -1,8 +1,8 @@
 -- What is offered in memory: cells with marks for each owner, and the owners' lists. Source: this project.
 use Rattle.std.specs.Prelude.{◌≡◌, ℕ, ◌-◌, ◌<◌, ◌≤◌, IfOk, IsOkUnless, List, Option, Result, SomeIff, length, map, slice_index}
-use Rattle.delta_plans.specs.Common.{Fault, OutOfMemory, amount_of, all_writes, IsGridOf, Cells, cell, count_above, HasNoneAbove, Offer}
+pub use Rattle.delta_plans.specs.Common.{Fault, OutOfMemory, amount_of, all_writes, IsGridOf, Cells, cell, count_above, HasNoneAbove, Offer, MOST_ENTRY_SIZE, count_between}
 use Rattle.delta_plans.specs.LevelMarks.{NumbersDiffer}
-use Rattle.delta_plans.specs.Weights.{number_shares, weight_between, count_all_between}
+pub use Rattle.delta_plans.specs.Weights.{number_shares, weight_between, count_all_between, weight_of}
 
 -- what holds of an answer unless memory is refused
 abbrev pub IfGranted : {T : Type 0} → Result T Fault → (T → Type 0) → Type 0

@@ -1,7 +1,7 @@
 -- What one table offers another, told by numbers of writes: each owner's writes are numbered from 1, through all its
 -- generations, so within one owner numbers compare as marks. Source: this project.
 use Rattle.std.specs.Prelude.{◌≡◌, ℕ, ◌<◌, ◌≤◌, ◌↔◌, not, ◌&&◌, ◌==◌, true, false, if◌then◌else◌, nat_lt, Bool, List, Contains, Some, Option, None, length, map, slice_index}
-use Rattle.delta_plans.specs.Common.{Entry, Item, Mode, mark_of, is_before, digest_kind, DigestKind, Scuttle, Precise, Table, entry_at, start_of, known_mark, sum_below, Cells, number_ahead, write_numbered, MOST_NODES, OwnerListView, entries_of, AreWrites, list_of_owner, Owners, IsNumberedHistory}
+pub use Rattle.delta_plans.specs.Common.{Entry, Item, Mode, mark_of, is_before, digest_kind, DigestKind, Scuttle, Precise, Table, entry_at, start_of, known_mark, sum_below, Cells, number_ahead, write_numbered, MOST_NODES, OwnerListView, entries_of, AreWrites, list_of_owner, Owners, IsNumberedHistory, OutOfMemory, all_writes, HasEach, AreChanged}
 
 -- a table holds the writes of these numbers
 abbrev pub HasCells : (ℕ → List Entry) → Cells → Table → Type 0

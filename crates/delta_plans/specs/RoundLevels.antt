@@ -1,9 +1,9 @@
 -- Levels of rounds, as marks. Source: this project.
 use Rattle.std.specs.Prelude.{◌≡◌, ℕ, ◌+◌, ◌-◌, ◌*◌, ◌<◌, ◌≤◌, max, length, map, IfSome, List, Option, Some, None}
-use Rattle.delta_plans.specs.Common.{amount_of, all_writes, cell, HasEach, Ends, Offer, Fit, Rounds, AreMadeBy, AreEnds}
-use Rattle.delta_plans.specs.OfferInMemory.{low_in, marks, IsTooLarge}
-use Rattle.delta_plans.specs.Plans.{weight_on, count_on}
-use Rattle.delta_plans.specs.LevelMarks.{by_first}
+pub use Rattle.delta_plans.specs.Common.{amount_of, all_writes, cell, HasEach, Ends, Offer, Fit, Rounds, AreMadeBy, AreEnds}
+pub use Rattle.delta_plans.specs.OfferInMemory.{low_in, marks, IsTooLarge, IfGranted, IsLeftOf}
+pub use Rattle.delta_plans.specs.Plans.{weight_on, count_on, IsLevelBy}
+pub use Rattle.delta_plans.specs.LevelMarks.{by_first, round_in}
 
 -- where the rounds end in which all that is offered was written
 pub record AreEndsOf {N : Type 0} (number : N → ℕ) (offer : Offer N) (ends : Ends N) : Type 0 where
@@ -24,8 +24,7 @@ pub record AreRaised {N : Type 0} (number : N → ℕ) (most : ℕ) (rounds : Ro
   pub above : (r : ℕ) → r < rounds.offer.now.grid.size.nodes
       → low_in number rounds.offer.now r ≤ marks number mark r
 
--- it is found of what marks let through how many numbers these are, that they fit, and what they leave if that is known,
--- or that they don't fit
+-- of what marks let through it is found how many these are, that they fit, and maybe what they leave, or that they don't
 abbrev pub IsFound : {N : Type 0} → (N → ℕ) → Rounds N → (ℕ → ℕ) → Option Fit → Type 0
 IsFound number rounds mark (Some fit) =
     (fit.count ≡ count_on rounds.first number rounds.offer.now mark)

@@ -1,9 +1,7 @@
 //! What lies between two marks of each owner, where most owners have nothing there, whatever their marks are.
 
 ghost use Rattle.std.specs.Prelude.{◌≡◌, ℕ, ◌+◌, ◌<◌, ◌≤◌, false, length};
-ghost use Rattle.limits.specs.Sums.{sum_below};
-ghost use Rattle.delta_plans.specs.Between.{owner_count, owner_weight, AreFound};
-ghost use Rattle.delta_plans.specs.OfferInMemory.{marks, weight_in, HasMarks, IsLeftOf};
+ghost use Rattle.delta_plans.specs.Between.{marks, owner_count, owner_weight, sum_below, weight_in, AreFound, HasMarks, IsLeftOf};
 
 use crate::offers::{Offer, number_at};
 use planes::{Number, is_between};

@@ -1,9 +1,6 @@
 //! Layers: one number more of each owner at a time, as long as they fit.
 
-ghost use Rattle.bench_types.specs.declared.exchanges.Mode.TheVariants.{ScuttleBreadth};
-ghost use Rattle.delta_plans.specs.Marked.{IsLevelOf};
-ghost use Rattle.delta_plans.specs.OfferInMemory.{marks, HasMarks, IfGranted, IsTooLarge};
-ghost use Rattle.delta_plans.specs.Plans.{IsNextLayer};
+ghost use Rattle.delta_plans.specs.Marked.{marks, HasMarks, IfGranted, IsLevelOf, IsNextLayer, IsTooLarge, ScuttleBreadth};
 
 use crate::offers::{Level, Offer, Step};
 use bench_types::DigestKind::Scuttle;

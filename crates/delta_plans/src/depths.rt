@@ -1,10 +1,7 @@
 //! Runs: all that an owner offers, the longest run first, as long as they fit.
 
 ghost use Rattle.std.specs.Prelude.{◌+◌, ◌<◌, ◌≤◌};
-ghost use Rattle.delta_plans.specs.Common.{MOST_KEYS, ScuttleDepth};
-ghost use Rattle.delta_plans.specs.Marked.{IsLevelOf};
-ghost use Rattle.delta_plans.specs.OfferInMemory.{marks, IfGranted, IsTooLarge};
-ghost use Rattle.delta_plans.specs.Plans.{AreRunsFrom, HasNoneBetween, IsMarkFrom, IsStep};
+ghost use Rattle.delta_plans.specs.Marked.{marks, AreRunsFrom, HasNoneBetween, IfGranted, IsLevelOf, IsMarkFrom, IsStep, IsTooLarge, MOST_KEYS, ScuttleDepth};
 
 use crate::offers::{Level, Offer, Step};
 use bench_types::DigestKind::Scuttle;

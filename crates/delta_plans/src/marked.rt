@@ -1,10 +1,7 @@
 //! What is sent of an offer, as one mark for each owner.
 
 ghost use Rattle.std.specs.Prelude.{◌≡◌, ◌<◌, length, IfOk, IsOkUnless};
-ghost use Rattle.bench_types.specs.declared.faults.Fault.TheVariants.{OutOfMemory};
-ghost use Rattle.delta_plans.specs.LevelMarks.{first_sent};
-ghost use Rattle.delta_plans.specs.Marked.{AreMarked, IsLevelOf};
-ghost use Rattle.delta_plans.specs.OfferInMemory.{marks, IfGranted, IsOffer};
+ghost use Rattle.delta_plans.specs.Marked.{first_sent, marks, AreMarked, IfGranted, IsLevelOf, IsOffer, OutOfMemory};
 ghost use Rattle.delta_plans.specs.RoundLevels.{AreEndsOf, IsAsked};
 
 use crate::breadths::breadth;

@@ -1,9 +1,7 @@
 //! What is offered, as numbers of writes, what these weigh, and levels of them.
 
 ghost use Rattle.std.specs.Prelude.{◌≡◌, ◌+◌, ◌*◌, ◌<◌, ◌≤◌, ◌↔◌, IsTrue, length};
-ghost use Rattle.delta_plans.specs.Common.{MOST_ENTRY_SIZE, amount_of, count_between};
-ghost use Rattle.delta_plans.specs.OfferInMemory.{cells_in, count_in, high_in, low_in, marks, weight_in, weights_in, HasMarks, HasOwner, IsLeftOf, IsOffer};
-ghost use Rattle.delta_plans.specs.Weights.{weight_of};
+ghost use Rattle.delta_plans.specs.OfferInMemory.{amount_of, cells_in, count_between, count_in, high_in, low_in, marks, weight_in, weight_of, weights_in, HasMarks, HasOwner, IsLeftOf, IsOffer, MOST_ENTRY_SIZE};
 
 use crate::between::Between;
 use bench_types::limits::MOST_ENTRY_SIZE;
@@ -22,8 +20,7 @@ pub struct Offer<'a, N: Number> {
     pub found: u32,
 }
 
-/// Near marks let through whole levels, `whole` numbers in all, after which so much of the budget is left, and far
-/// marks one level more, which doesn't fit.
+/// Near marks let through whole levels, `whole` numbers, with so much left, and far marks one more, which doesn't fit.
 #[derive(Drop)]
 pub(crate) struct Level<N: Number> {
     pub(crate) near: Vec<N>,

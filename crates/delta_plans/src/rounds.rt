@@ -1,12 +1,7 @@
 //! Rounds: all that was written in a round, the oldest or the newest first, as long as they fit.
 
 ghost use Rattle.std.specs.Prelude.{◌≡◌, ◌+◌, ◌<◌, ◌≤◌, length, map, max, slice_index, Some};
-ghost use Rattle.bench_types.specs.Budget.{amount_of};
-ghost use Rattle.delta_plans.specs.Common.{all_writes};
-ghost use Rattle.delta_plans.specs.LevelMarks.{round_in};
-ghost use Rattle.delta_plans.specs.OfferInMemory.{marks, IfGranted, IsLeftOf};
-ghost use Rattle.delta_plans.specs.Plans.{count_on, weight_on, IsLevelBy};
-ghost use Rattle.delta_plans.specs.RoundLevels.{AreRaised, AreRoundMarks, IsAsked, IsFound};
+ghost use Rattle.delta_plans.specs.RoundLevels.{all_writes, amount_of, count_on, marks, round_in, weight_on, AreRaised, AreRoundMarks, IfGranted, IsAsked, IsFound, IsLeftOf, IsLevelBy};
 
 use crate::marked::First;
 use crate::offers::{Level, Offer};

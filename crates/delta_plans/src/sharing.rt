@@ -1,11 +1,7 @@
-//! A level that doesn't fit, shared out: the owners take turns from the rotation on, up to the first number that
-//! doesn't fit.
+//! A level that doesn't fit, shared out: the owners take turns from the rotation on, as long as their numbers fit.
 
 ghost use Rattle.std.specs.Prelude.{◌≡◌, ◌+◌, ◌<◌, ◌≤◌, length, IfNone, IfSome, if◌then◌else◌};
-ghost use Rattle.delta_plans.specs.Common.{rotated};
-ghost use Rattle.delta_plans.specs.LevelMarks.{by_first};
-ghost use Rattle.delta_plans.specs.OfferInMemory.{marks, weights_in, HasOwner, IfGranted};
-ghost use Rattle.delta_plans.specs.Turns.{part_weight, parts_count, weight_to, AreParts, AreSharedBy, AreTurns, HasReached, HaveTurns, IsStopOf};
+ghost use Rattle.delta_plans.specs.Turns.{by_first, marks, part_weight, parts_count, rotated, weight_to, weights_in, AreParts, AreSharedBy, AreTurns, HasOwner, HasReached, HaveTurns, IfGranted, IsStopOf};
 
 use crate::marked::First;
 use crate::offers::{Offer, Step, number_at};
@@ -78,8 +74,7 @@ impl<'a, 'b, N: Number> Turns<'a, 'b, N> {
         }
     }
 
-    // What an owner's numbers from one mark on to another weigh, and how many these are. Where entries are counted, no
-    // write is looked up.
+    // What an owner's numbers from one mark to another weigh. Where entries are counted, no write is looked up.
     fn weight_from(&self, owner: usize, near: N, far: N) -> u32
         requires { HasOwner N.number N.most self.now.offer.now owner }
         ensures { result ≡ weight_to N.number (weights_in self.now.offer.now owner) self.now owner
@@ -102,8 +97,7 @@ impl<'a, 'b, N: Number> Turns<'a, 'b, N> {
         }
     }
 
-    // Of an owner's part that doesn't fit, the mark up to which it does. It halves what lies between a mark up to which
-    // all fits and one beyond that.
+    // Of an owner's part that doesn't fit, the mark up to which it does, found by halving.
     fn stop_of(&self, owner: usize, room: u32) -> N
         requires turns { AreTurns N.number N.most self.now }
         requires owner { owner < self.now.offer.now.grid.size.nodes }

@@ -1,8 +1,7 @@
 //! What is offered to a receiver, by marks for each owner.
 
 ghost use Rattle.std.specs.Prelude.{◌≡◌, ◌<◌, length, map, slice_index, IfOk, IsOkUnless};
-ghost use Rattle.delta_plans.specs.Common.{OutOfMemory, Precise, all_writes, HasEach, AreChanged, start_of};
-ghost use Rattle.delta_plans.specs.Offers.{told_number, AreKnownOf, IsKnownOf};
+ghost use Rattle.delta_plans.specs.Offers.{all_writes, start_of, told_number, AreChanged, AreKnownOf, HasEach, IsKnownOf, OutOfMemory, Precise};
 
 use crate::offers::number_at;
 use bench_types::{DigestKind, Fault};
@@ -50,8 +49,7 @@ pub fn told<N: Number>(
     Ok(told)
 }
 
-// Puts in place of each number where the generation of that write starts. Most often none is of an earlier generation,
-// which one fast loop tells.
+// Puts in place of each number where the generation of its write starts. A fast loop tells if all are of the last.
 fn put_starts<N: Number>(numbers: &mut [N], owners: Owners<N>)
     requires { AreKnownOf N.number N.most owners numbers.old }
     ensures { AreChanged (λ r x y. y ≡ start_of (all_writes owners.entry.lists.now r) x) (map N.number numbers.old)
@@ -65,7 +63,6 @@ fn put_starts<N: Number>(numbers: &mut [N], owners: Owners<N>)
 }
 
 // Where the generation of the write of an owner's number starts. That of the owner's own generation is given.
-#[tactic(auto, using(crate::proofs::Starts::start_own))]
 fn start_of<N: Number>(owners: Owners<N>, owner: usize, number: N) -> N
     requires { IsKnownOf N.number N.most owners owner (N.number number) }
     ensures { N.number result ≡ start_of (all_writes owners.entry.lists.now owner) (N.number number) }

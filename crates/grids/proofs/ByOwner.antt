@@ -53,9 +53,7 @@ module _ (to : ℕ → ℕ → ℕ → ℕ) (nodes keys : ℕ) (old : List ℕ) 
   owners_turned bound now mid new before after same = record {
     size = after.size ∙ before.size;
     each = λ r k in_node in_key.
-        let was = before.each r k in_node in_key in
-        let then = after.each r k in_node in_key in
-        let here = same k (cell old nodes r k) in_key in
+        let was = before.each r k in_node in_key in let then = after.each r k in_node in_key in let here = same k (cell old nodes r k) in_key in
         grind (arith, nat_tests);
   }
 

@@ -103,8 +103,7 @@ places-counted changed test nodes keys old new size passed grid is = (
   is.count ∙ ap (λ n. count_passing n test) grid.whole ∙ total-places nodes keys test,
 )
 
--- numbers that are kept are above the peer's and the marks too, where only one owner has a mark and none of its numbers
--- that are kept is up to that
+-- numbers that are kept are above the peer's and the marks too, where only one owner has a mark and none of its kept numbers is up to that
 pub masked-once : (nodes keys own mark : ℕ) (cells peer : ℕ → ℕ → ℕ) (low new : List ℕ) (count : ℕ)
     → length low ≡ nodes → HasNoOtherMark low own → mark ≡ get_or low own 0 → HasNoneUptoMark (cell new nodes) keys own mark
     → HasEachPlace nodes keys (λ r k n. n ≡ number_kept (peer r k) (cells r k)) new → count ≡ total_of nodes keys (λ r k. nat_lt (peer r k) (cells r k))
@@ -112,14 +111,11 @@ pub masked-once : (nodes keys own mark : ℕ) (cells peer : ℕ → ℕ → ℕ)
 masked-once nodes keys own mark cells peer low new count size none is_mark none_upto kept is = (
   record { size = kept.size; each = each },
   is ∙ total-same nodes keys _ _ (λ r k in_nodes in_keys.
-      let now = kept.each r k in_nodes in_keys in
-      let ahead = each r k in_nodes in_keys in
+      let now = kept.each r k in_nodes in_keys in let ahead = each r k in_nodes in_keys in
       grind (arith, nat_tests)),
 )
   where
     each : (r k : ℕ) → r < nodes → k < keys → cell new nodes r k ≡ number_ahead (cells r k) (peer r k) (get_or low r 0)
     each r k in_nodes in_keys =
-        let now = kept.each r k in_nodes in_keys in
-        let upto = none_upto k in_keys in
-        let other = none r (omega (arith, in_nodes, size)) in
+        let now = kept.each r k in_nodes in_keys in let upto = none_upto k in_keys in let other = none r (omega (arith, in_nodes, size)) in
         grind (arith, nat_tests)

@@ -49,8 +49,7 @@ module _ (cells : Cells) (keys : ℕ) (low : ℕ → ℕ) (owner total : ℕ) (i
   owner_counted count mark now same = sum_next _ owner total count is (now ∙ ap (count_above cells keys owner) same)
 
   -- or there are none
-  pub owner_passed : (high : ℕ) → HasNoneAbove cells keys owner high → high ≤ low owner
-      → total ≡ sum_below (owner + 1) (λ r. count_above cells keys r (low r))
+  pub owner_passed : (high : ℕ) → HasNoneAbove cells keys owner high → high ≤ low owner → total ≡ sum_below (owner + 1) (λ r. count_above cells keys r (low r))
   owner_passed high covered le =
       let none = sum_below-most (λ k. cond (nat_lt (low owner) (cells owner k)) 1 0) keys 0 (λ k lt.
       rw (le-ltb (low owner) (cells owner k) (omega (arith, covered k lt))) (omega arith)) in

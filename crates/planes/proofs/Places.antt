@@ -112,8 +112,7 @@ pub planes-written : (changed : ℕ → ℕ → ℕ → ℕ → Type 0) (nodes :
     → AreChanged in_block (map number (take n (drop (key * nodes) xs))) (map number ys) → ((r x y : ℕ) → r < nodes → in_block r x y → changed r key x y)
     → ArePlanesChangedUpto changed nodes old (map number (put_mid (key * nodes) n xs ys)) (key + 1)
 planes-written changed nodes old number xs ys key n in_block is before within now step =
-    let room : key * nodes + nodes ≤ length xs = omega (arith, length-map xs number) in
-    let block = plane-cells number nodes key n xs is room in
+    let room : key * nodes + nodes ≤ length xs = omega (arith, length-map xs number) in let block = plane-cells number nodes key n xs is room in
     let size : length ys ≡ nodes = omega (arith, length-map ys number) in
     let written = (λ (r : ℕ) (lt : r < nodes). step r _ (get_or (map number ys) r 0) lt (subst (λ x. in_block r x (get_or (map number ys) r 0))
     (block-cells changed nodes old number xs key n is before within r lt) (now.each r (omega arith)))) in

@@ -4,12 +4,8 @@ use Rattle.delta_plans.proofs.breadths.one_more.Goals as goal
 
 pub returns : goal.returns
 returns g c =
-    let number = g.N.Number.number in
-    let offer = c.args.offer.now in
-    let is = c.requires.is_offer in
-    let near = c.args.near.now in
-    let least = c.in_ok-far.ensures in
-    let long = ap length c.deref_mut.ensures.value ∙ sym (length-map c.in_ok-far.far.items number) ∙ least.size in
+    let number = g.N.Number.number in let offer = c.args.offer.now in let is = c.requires.is_offer in let near = c.args.near.now in
+    let least = c.in_ok-far.ensures in let long = ap length c.deref_mut.ensures.value ∙ sym (length-map c.in_ok-far.far.items number) ∙ least.size in
     let whole = with_items_is c.in_ok-far.far c.change.new.numbers (c.change.auto.numbers ∙ c.deref_mut.ensures.len) in
     let far = with_items c.in_ok-far.far c.change.new.numbers in
     let long_far : length far.items ≡ offer.grid.size.nodes = rw whole (c.change.auto.numbers ∙ long) in

@@ -4,16 +4,10 @@ use Rattle.delta_plans.proofs.depths.next_runs.Goals as goal
 
 pub returns : goal.returns
 returns g c =
-    let number = g.N.Number.number in
-    let offer = c.args.offer.now in
-    let counts = c.args.counts.now in
-    let high = offer.high.now in
-    let size = c.args.size in
-    let start = c.deref_mut.ensures.value ∙ c.in_ok-far.ensures.items in
-    let long = ap length start ∙ c.requires.each_near in
+    let number = g.N.Number.number in let offer = c.args.offer.now in let counts = c.args.counts.now in let high = offer.high.now in
+    let size = c.args.size in let start = c.deref_mut.ensures.value ∙ c.in_ok-far.ensures.items in let long = ap length start ∙ c.requires.each_near in
     let whole = with_items_is c.in_ok-far.far c.change.new.numbers (c.change.auto.numbers ∙ c.deref_mut.ensures.len) in
-    let risen = c.how_many-risen.ensures.count (λ r n. leb size n && leb n size) (λ r n passes lt answer.
-    search (arith, c.narrow-longest.ensures)) in (
+    let risen = c.how_many-risen.ensures.count (λ r n. leb size n && leb n size) (λ r n passes lt answer. search (arith, c.narrow-longest.ensures)) in (
       step-is c.args.near.now _ (λ r. leb size (marks number counts r) && leb (marks number counts r) size) (length counts) size _
           (sym (length-map counts number) ∙ c.requires.counts_are.size) (ap (λ n. n * size) risen) (ap length whole ∙ c.change.auto.numbers ∙ long) (λ r lt.
           let in_counts : r < length counts = omega (arith, lt, c.requires.counts_are.size, length-map counts number) in

@@ -3,12 +3,9 @@ use Rattle.delta_plans.proofs.depths.next_size_below.Goals as goal
 
 pub loop-r-preserved : goal.loop-r-preserved
 loop-r-preserved g c =
-    let number = g.N.Number.number in
-    let counts = c.args.counts.now in
+    let number = g.N.Number.number in let counts = c.args.counts.now in
     let here = number-at number counts c.loop-r.r c.index-counts-r.result (omega (arith, c.loop-r-test.true)) c.index-counts-r.is in
-    let raised = c.max_with-longest.ensures in
-    let longest = number c.max_with-longest.result in
-    let count = marks number counts c.loop-r.r in
+    let raised = c.max_with-longest.ensures in let longest = number c.max_with-longest.result in let count = marks number counts c.loop-r.r in
     let next : (longest < c.args.bound) × (count < c.args.bound → count ≤ longest) =
     grind (arith, nat_tests, here, c.is_upto.ensures, c.narrow-last.ensures, c.pick.ensures, c.zero.ensures, raised, c.loop-r.invariant.below) in
     record {

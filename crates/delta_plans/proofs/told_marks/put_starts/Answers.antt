@@ -4,13 +4,11 @@ use Rattle.delta_plans.proofs.told_marks.put_starts.Goals as goal
 
 pub returns-then-none_upto : goal.returns-then-none_upto
 returns-then-none_upto g c =
-    let numbers = map g.N.Number.number c.args.numbers.now in
-    let bases = map g.N.Number.number c.args.owners.bases.now in
+    let numbers = map g.N.Number.number c.args.numbers.now in let bases = map g.N.Number.number c.args.owners.bases.now in
     record {
       size = c.lower.ensures.least.size;
       each = λ r lt.
-          let writes = entries_of (list_of_owner c.args.owners.lists.now r) in
-          let known = c.requires.each r (omega (arith, lt, c.requires.count)) in
+          let writes = entries_of (list_of_owner c.args.owners.lists.now r) in let known = c.requires.each r (omega (arith, lt, c.requires.count)) in
           let behind : get_or bases r 0 < get_or numbers r 0 → start_of writes (get_or numbers r 0) ≡ get_or bases r 0 = λ over.
           start_own (list_of_owner c.args.owners.lists.now r) _ known.writes (omega (arith, over, known.based)) known.within ∙ sym known.based in
           let none : get_or numbers r 0 ≡ 0 → start_of writes (get_or numbers r 0) ≡ 0 = ap (start_of writes) in

@@ -4,8 +4,7 @@ use Rattle.grids.proofs.grids.ahead.Goals as goal
 
 pub returns-then-has_none_upto : goal.returns-then-has_none_upto
 returns-then-has_none_upto g c =
-    let number = g.N.Number.number in let nodes = c.args.grid.size.nodes in
-    let low = c.args.peer.low.now in let above = c.in_ok-above.ensures in
+    let number = g.N.Number.number in let nodes = c.args.grid.size.nodes in let low = c.args.peer.low.now in let above = c.in_ok-above.ensures in
     let within : c.args.peer.own < length low = omega (arith, c.requires.among, c.requires.marks.count) in
     let mark = sym (get_or-map number low c.args.peer.own c.index-peer-own.result 0 within) in
     let all = masked-once nodes c.args.grid.size.keys c.args.peer.own _ (cell (map number c.args.grid.cells.now) nodes)

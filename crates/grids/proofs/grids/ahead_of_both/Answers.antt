@@ -29,11 +29,9 @@ loop-key-preserved g c =
 
 pub returns : goal.returns
 returns g c =
-    let number = g.N.Number.number in let nodes = c.args.grid.size.nodes in
-    let keys = c.args.grid.size.keys in
+    let number = g.N.Number.number in let nodes = c.args.grid.size.nodes in let keys = c.args.grid.size.keys in
     let all = planes_counted-all _ _ _ _ _ _ _ _ c.loop-key.invariant.kept c.loop-key-test.false c.loop-key.auto.key-end in
-    let cells = cell (map number c.args.grid.cells.now) nodes in
-    let is_held = λ (i : ℕ). nat_lt 0 (slice_index (map number c.args.grid.cells.now) i) in
+    let cells = cell (map number c.args.grid.cells.now) nodes in let is_held = λ (i : ℕ). nat_lt 0 (slice_index (map number c.args.grid.cells.now) i) in
     let peer = cell (map number c.args.peer.cells.now) nodes in
     let size = ap (λ xs. length (map number xs)) c.deref_mut-all.ensures.value ∙ c.in_ok-numbers.ensures.size in
     let items = with_items_is c.in_ok-numbers.numbers c.loop-key.all (c.loop-key.auto.all ∙ c.deref_mut-all.ensures.len) in

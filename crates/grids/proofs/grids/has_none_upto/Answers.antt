@@ -3,8 +3,7 @@ use Rattle.grids.proofs.grids.has_none_upto.Goals as goal
 
 pub loop-key-preserved : goal.loop-key-preserved
 loop-key-preserved g c =
-    let number = g.N.Number.number in let nodes = c.args.size.nodes in
-    let key = c.loop-key.key in let mark = number c.args.mark in
+    let number = g.N.Number.number in let nodes = c.args.size.nodes in let key = c.loop-key.key in let mark = number c.args.mark in
     let within = plane-within _ _ _ key c.requires.grid c.loop-key-test.true in
     let at = number-at number c.args.cells.now (key * nodes + c.args.owner) c.index-cells-key.result (omega arith) c.index-cells-key.is in
     let cells = cell (map number c.args.cells.now) nodes c.args.owner in

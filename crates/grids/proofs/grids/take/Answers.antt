@@ -11,8 +11,7 @@ loop-key-init g c =
 
 pub loop-key-preserved : goal.loop-key-preserved
 loop-key-preserved g c =
-    let number = g.N.Number.number in let nodes = c.args.sent.grid.size.nodes in
-    let key = c.loop-key.key in
+    let number = g.N.Number.number in let nodes = c.args.sent.grid.size.nodes in let key = c.loop-key.key in
     let within = grid-within number nodes c.args.sent.grid.size.keys key c.args.cells.now c.requires.may.beside.shape c.loop-key-test.true in
     let block = block-cells _ nodes _ number c.loop-key.cells key (key * nodes + nodes - key * nodes) (omega arith) c.loop-key.invariant.cells within in
     record {

@@ -4,9 +4,7 @@ use Rattle.grids.proofs.grids.zeros.Goals as goal
 
 pub loop-filled-preserved : goal.loop-filled-preserved
 loop-filled-preserved g c =
-    let number = g.N.Number.number in let old = c.loop-filled.numbers in
-    let z = c.zero.result in
-    let n : ℕ = c.min-filled.result - vec_len old in
+    let number = g.N.Number.number in let old = c.loop-filled.numbers in let z = c.zero.result in let n : ℕ = c.min-filled.result - vec_len old in
     let more = replicate n z in let size = length-map more number ∙ length-replicate n z in
     record {
       size = sym c.resize.new.self.ok.0 ∙ c.in_ok-resize.ensures.len;

@@ -17,8 +17,7 @@ least_is-behind most cells last keys owner least is = record {
 
 pub returns : goal.returns
 returns g c =
-    let number = g.N.Number.number in let most = g.N.Number.most in
-    let cells = map number c.args.grid.cells.now in let last = map number c.args.last.now in
+    let number = g.N.Number.number in let most = g.N.Number.most in let cells = map number c.args.grid.cells.now in let last = map number c.args.last.now in
     let size = c.args.grid.size in
     IfOk-weaker c.least_of.result _ _ (λ v is. each-turned _ _ _ _ is (λ r. least_is-behind most (cell cells size.nodes) (cell last size.nodes) size.keys r))
     (c.least_of.ensures (λ at r. if nat_lt (slice_index cells at) (slice_index last at) then slice_index cells at else most)

@@ -4,8 +4,7 @@ use Rattle.grids.proofs.merges.merge.Goals as goal
 
 pub loop-key-preserved : goal.loop-key-preserved
 loop-key-preserved g c =
-    let number = g.N.Number.number in let nodes = c.args.marks.size.nodes in
-    let key = c.loop-key.key in let held = c.loop-key.invariant in
+    let number = g.N.Number.number in let nodes = c.args.marks.size.nodes in let key = c.loop-key.key in let held = c.loop-key.invariant in
     let both = c.merge_planes-both.ensures in
     let within = grid-within number nodes c.args.marks.size.keys key c.args.first.now c.requires.marked.grid c.loop-key-test.true in
     let behind : key * nodes + nodes ≤ length (map number c.args.second.now) =
@@ -40,3 +39,6 @@ pub offset_bounds-second-start : goal.offset_bounds-second-start
 offset_bounds-second-start g c =
     let within = plane-within _ _ _ c.loop-key.key c.requires.marked.grid c.loop-key-test.true in
     let room : c.loop-key.key * c.args.marks.size.nodes ≤ length c.args.second.now = omega arith in search scaled_fits≤
+
+pub returns-then-are_few-2 : goal.returns-then-are_few-2
+returns-then-are_few-2 g c = c.merge_owners.ensures

@@ -3,8 +3,7 @@ use Rattle.grids.proofs.merges.merge_planes.Given as goal
 
 abbrev pub invariant-loop-first : goal.invariant-loop-first
 invariant-loop-first g l =
-    let number = g.N.Number.number in let one = map number l.initial.first in
-    let other = map number l.initial.second in
+    let number = g.N.Number.number in let one = map number l.initial.first in let other = map number l.initial.second in
     record {
       within : l.from ≤ length l.initial.first;
       upto : (l.to_first ≤ l.from) × (l.to_second ≤ l.from);

@@ -1,10 +1,9 @@
-use Rattle.grids.proofs.Common.{ℕ, ◌+◌, nat_lt, max, ◌∙◌, arith, if◌then◌else◌, number-at, number-waits, counted_next, counted-same, one_le}
+use Rattle.grids.proofs.Common.{ℕ, ◌+◌, nat_lt, max, ◌∙◌, arith, if◌then◌else◌, number-at, number-waits, counted_next, counted-same, one_le, ◌≤◌, length, scaled_fits≤}
 use Rattle.grids.proofs.merges.merge_some.Goals as goal
 
 pub loop-i-preserved : goal.loop-i-preserved
 loop-i-preserved g c =
-    let number = g.N.Number.number in
-    let at : ℕ = c.args.from + c.loop-i.i in
+    let number = g.N.Number.number in let at : ℕ = c.args.from + c.loop-i.i in
     let first_low = number-at number c.args.marks.first.now at c.index-first_low-r.result (omega arith) c.index-first_low-r.is in
     let second_low = number-at number c.args.marks.second.now at c.index-second_low-r.result (omega arith) c.index-second_low-r.is in
     record {
@@ -31,3 +30,9 @@ returns g c = record {
         counted-same _ other _ _ _ _ _ _ parts.1 (omega arith) (omega arith),
       );
 }
+
+pub offset_bounds-second-r-in-loop-i : goal.offset_bounds-second-r-in-loop-i
+offset_bounds-second-r-in-loop-i g c = let at : c.args.from + c.loop-i.i ≤ length c.args.second.now = omega arith in search scaled_fits≤
+
+pub offset_bounds-first-r-in-loop-i : goal.offset_bounds-first-r-in-loop-i
+offset_bounds-first-r-in-loop-i g c = let at : c.args.from + c.loop-i.i ≤ length c.args.first.now = omega arith in search scaled_fits≤

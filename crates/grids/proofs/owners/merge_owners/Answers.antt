@@ -5,8 +5,7 @@ use Rattle.grids.proofs.owners.merge_owners.Goals.{then-is_above, else-is_above+
 
 pub loop-owner-preserved : goal.loop-owner-preserved
 loop-owner-preserved g c =
-    let number = g.N.Number.number in let owner = c.loop-owner.owner in
-    let lt = c.loop-owner-test.true in let first = c.loop-owner.invariant.first in
+    let number = g.N.Number.number in let owner = c.loop-owner.owner in let lt = c.loop-owner-test.true in let first = c.loop-owner.invariant.first in
     let second = c.loop-owner.invariant.second in
     let at_first = number-at number c.args.marks.first.now owner c.index-first_low-owner.result (omega arith) c.index-first_low-owner.is in
     let at_second = number-at number c.args.marks.second.now owner c.index-second_low-owner.result (omega arith) c.index-second_low-owner.is in

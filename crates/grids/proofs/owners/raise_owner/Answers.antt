@@ -10,8 +10,7 @@ bounds-cells-key g c = omega (arith, plane-within _ _ _ c.loop-key.key c.require
 
 pub loop-key-preserved : goal.loop-key-preserved
 loop-key-preserved g c =
-    let number = g.N.Number.number in let low = number c.args.low in
-    let place : ℕ = c.loop-key.key * c.args.others.size.nodes + c.args.owner in
+    let number = g.N.Number.number in let low = number c.args.low in let place : ℕ = c.loop-key.key * c.args.others.size.nodes + c.args.owner in
     let within = plane-within _ _ _ c.loop-key.key c.requires.0.shape c.loop-key-test.true in
     let other = number-at number c.args.others.cells.now place c.index-numbers-key.result (omega arith) c.index-numbers-key.is in
     let held = c.loop-key.invariant in

@@ -4,8 +4,7 @@ use Rattle.grids.proofs.owners.raise_owner.Given as goal
 
 abbrev pub invariant-loop-key : goal.invariant-loop-key
 invariant-loop-key g l =
-    let number = g.N.Number.number in let nodes = l.others.size.nodes in
-    let others = cell (map number l.others.cells.now) nodes in
+    let number = g.N.Number.number in let nodes = l.others.size.nodes in let others = cell (map number l.others.cells.now) nodes in
     record {
       cells : ArePlanesChangedUpto (owner_changed (λ r k x. number_raised x (others r k) (number l.low)) l.owner) nodes
           (map number l.initial.cells) (map number l.cells) l.key;

@@ -8,15 +8,13 @@ offset_bounds-cells-key g c = search place-fits
 
 pub loop-key-preserved : goal.loop-key-preserved
 loop-key-preserved g c =
-    let number = g.N.Number.number in let key = c.loop-key.key in
-    let low = slice_index (map number c.args.sent.low.now) c.args.owner in
+    let number = g.N.Number.number in let key = c.loop-key.key in let low = slice_index (map number c.args.sent.low.now) c.args.owner in
     let high = slice_index (map number c.args.sent.high.now) c.args.owner in
     let at_low = sym (get_or-map number c.args.sent.low.now c.args.owner c.index-sent-owner.result 0 (omega arith)) in
     let at_high = sym (get_or-map number c.args.sent.high.now c.args.owner c.index-sent-owner-2.result 0 (omega arith)) in
     let was = cell (map number c.args.cells.now) c.args.sent.grid.size.nodes c.args.owner key in
     let sent = cell (map number c.args.sent.grid.cells.now) c.args.sent.grid.size.nodes c.args.owner key in
-    let place : ℕ = key * c.args.sent.grid.size.nodes + c.args.owner in
-    let held = c.loop-key.invariant in
+    let place : ℕ = key * c.args.sent.grid.size.nodes + c.args.owner in let held = c.loop-key.invariant in
     let within = plane-within _ _ _ key c.requires.beside.shape c.loop-key-test.true in
     let at_sent = number-at number c.args.sent.grid.cells.now place c.index-numbers-key.result (omega arith) c.index-numbers-key.is in
     let between = sym (c.is_between.ensures ∙ (λ i. nat_lt (at_low i) (at_sent i) && nat_le (at_sent i) (at_high i))) in
@@ -50,3 +48,6 @@ bounds-cells-key g c = omega (arith, plane-within _ _ _ c.loop-key.key c.require
 
 pub bounds-numbers-key : goal.bounds-numbers-key
 bounds-numbers-key g c = omega (arith, plane-within _ _ _ c.loop-key.key c.requires.beside.shape c.loop-key-test.true)
+
+pub offset_bounds-numbers-key : goal.offset_bounds-numbers-key
+offset_bounds-numbers-key g c = omega (arith, plane-within _ _ _ c.loop-key.key c.requires.beside.shape c.loop-key-test.true)

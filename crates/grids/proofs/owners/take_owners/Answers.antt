@@ -1,12 +1,11 @@
-use Rattle.grids.proofs.Common.{◌≡◌, ℕ, inl, refl, sym, ◌∙◌, arith, map, ltb-false, nat_tests, length-map, cell, taken_by, number-at, number-waits, left_next, written_next}
+use Rattle.grids.proofs.Common.{◌≡◌, ℕ, inl, refl, sym, ◌∙◌, arith, map, ltb-false, nat_tests, length-map, cell, taken_by, number-at, number-waits, left_next, written_next, scaled_fits≤, ◌≤◌, length}
 use Rattle.grids.proofs.ByOwner.{owner-waits, owners-all, owners-next, owners-stay, raised-same}
 use Rattle.grids.proofs.owners.take_owners.Goals as goal
 use Rattle.grids.proofs.owners.take_owners.Goals.{then-is_above, else-is_above}
 
 pub loop-owner-preserved : goal.loop-owner-preserved
 loop-owner-preserved g c =
-    let number = g.N.Number.number in let owner = c.loop-owner.owner in
-    let lt = c.loop-owner-test.true in let held = c.loop-owner.invariant in
+    let number = g.N.Number.number in let owner = c.loop-owner.owner in let lt = c.loop-owner-test.true in let held = c.loop-owner.invariant in
     let cells = cell (map number c.args.cells.now) c.args.sent.grid.size.nodes owner in
     elim c.if-is_above.branch [
       | then-is_above w ↦
@@ -29,12 +28,17 @@ loop-owner-preserved g c =
           })
     ]
 
-pub take_owner-requires-clause-covered : goal.take_owner-requires-clause-covered
-take_owner-requires-clause-covered g c k in_keys =
-    let lt = c.loop-owner-test.true in let held = c.loop-owner.invariant in
-    let r = c.loop-owner.owner in
+pub take_owner-requires : goal.take_owner-requires
+take_owner-requires g c =
+    let lt = c.loop-owner-test.true in let held = c.loop-owner.invariant in let r = c.loop-owner.owner in
     let had = number-waits _ _ g.N.Number.number c.loop-owner.greatest r c.index-greatest-owner.result held.greatest (omega arith) c.index-greatest-owner.is in
-    omega (arith, owner-waits _ _ _ _ r _ held.cells k lt in_keys, c.requires.may.covered r lt k in_keys)
+    record {
+      beside = omega (arith, c.requires.may.beside, c.loop-owner.auto.cells);
+      within = lt;
+      low = c.requires.may.low_count;
+      high = c.requires.may.high_count;
+      covered = λ k in_keys. omega (arith, owner-waits _ _ _ _ r _ held.cells k lt in_keys, c.requires.may.covered r lt k in_keys);
+    }
 
 pub returns : goal.returns
 returns g c = record {
@@ -44,3 +48,9 @@ returns g c = record {
     each = λ r lt. c.loop-owner.invariant.greatest.below r (omega (arith, lt, c.loop-owner-test.false));
   };
 }
+
+pub offset_bounds-greatest-owner-then-is_above : goal.offset_bounds-greatest-owner-then-is_above
+offset_bounds-greatest-owner-then-is_above g c = let at : c.loop-owner.owner ≤ length c.args.greatest.now = omega arith in search scaled_fits≤
+
+pub offset_bounds-greatest-owner : goal.offset_bounds-greatest-owner
+offset_bounds-greatest-owner g c = let at : c.loop-owner.owner ≤ length c.args.greatest.now = omega arith in search scaled_fits≤

@@ -62,9 +62,7 @@ slice_bounds-count_two-end-in-loop-key g c =
 
 pub loop-key-preserved : goal.loop-key-preserved
 loop-key-preserved g c =
-    let nodes = c.args.grid.size.nodes in
-    let key = c.loop-key.key in
-    let start : ℕ = key * nodes + c.args.first in
+    let nodes = c.args.grid.size.nodes in let key = c.loop-key.key in let start : ℕ = key * nodes + c.args.first in
     let counted = next g.N.Number.number c.args.grid c.args.low.now c.args.high.now c.args.first (length c.args.counts.now) in
     record {
       upto = omega (arith, c.loop-key-test.true);
@@ -87,3 +85,13 @@ returns-else-key-size g c =
 
 pub overflow_mul-start : goal.overflow_mul-start
 overflow_mul-start g c = plane-fits _ _ _ c.loop-key.key c.requires.marked.shape (omega arith)
+
+pub offset_bounds-cells-next : goal.offset_bounds-cells-next
+offset_bounds-cells-next g c =
+    let nodes = c.args.grid.size.nodes in
+    let plane = plane-within nodes c.args.grid.size.keys (length c.args.grid.cells.now) (c.loop-key.key + 1) c.requires.marked.shape c.loop-key-test.true in
+    omega (arith, plane, one_more c.loop-key.key nodes, c.requires.part)
+
+pub offset_bounds-cells-start : goal.offset_bounds-cells-start
+offset_bounds-cells-start g c =
+    omega (arith, plane-within _ _ (length c.args.grid.cells.now) c.loop-key.key c.requires.marked.shape (omega (arith, c.loop-key-test.true)), c.requires.part)

@@ -5,9 +5,7 @@ use Rattle.planes.proofs.grids.least_above.Goals as goal
 
 pub returns : goal.returns
 returns g c =
-    let number = g.N.Number.number in
-    let most = g.N.Number.most in
-    let cells = map number c.args.grid.cells.now in
+    let number = g.N.Number.number in let most = g.N.Number.most in let cells = map number c.args.grid.cells.now in
     let low = slice_index (map number c.args.low.now) in
     IfOk-weaker c.least_of.result _ _
     (λ v is. each-turned _ _ _ _ is (λ r n. least_is-above most (cell cells c.args.grid.size.nodes) c.args.grid.size.keys r (low r) n))

@@ -32,12 +32,9 @@ change-requires g c = record {
   to = λ r n lt is.
       let start : ℕ = c.loop-key.key * c.args.size.nodes in
       let within = plane-within c.args.size.nodes c.args.size.keys (c.args.size.keys * c.args.size.nodes) c.loop-key.key c.requires.grid c.loop-key-test.true in
-      let numbers = c.in_ok-least.ensures in
-      let size = ap length c.deref_mut-all.ensures.value in
-      let below : r < c.args.size.nodes =
-      omega (arith, lt, c.loop-key.auto.all, size, numbers.size, length-map c.in_ok-least.least.items g.N.Number.number) in
-      let here : start + r < c.args.size.keys * c.args.size.nodes = omega (arith, within, below) in
-      let asks = c.requires.value (start + r) r here below in
+      let numbers = c.in_ok-least.ensures in let size = ap length c.deref_mut-all.ensures.value in
+      let below : r < c.args.size.nodes = omega (arith, lt, c.loop-key.auto.all, size, numbers.size, length-map c.in_ok-least.least.items g.N.Number.number) in
+      let here : start + r < c.args.size.keys * c.args.size.nodes = omega (arith, within, below) in let asks = c.requires.value (start + r) r here below in
       let few : start + r < MOST_KEYS * MOST_NODES = omega (arith, here, grid-few _ _ _ c.requires.grid) in
       grind serving;
 }

@@ -3,8 +3,7 @@ use Rattle.planes.proofs.grids.total.Given as goal
 
 abbrev pub invariant-loop-key : goal.invariant-loop-key
 invariant-loop-key g l =
-    let nodes = l.grid.size.nodes in
-    let cells = cell (map g.N.Number.number l.grid.cells.now) nodes in
+    let nodes = l.grid.size.nodes in let cells = cell (map g.N.Number.number l.grid.cells.now) nodes in
     record {
       upto : l.total ≤ l.key * MOST_NODES;
       total : (test : ℕ → ℕ → Bool) → AnswersAs g.N.Number.number (goal.F-post g l.passes) nodes test

@@ -6,8 +6,7 @@ use Rattle.planes.proofs.owners.owner_above.Goals as goal
 
 pub loop-key-preserved : goal.loop-key-preserved
 loop-key-preserved g c =
-    let number = g.N.Number.number in
-    let nodes = c.args.grid.size.nodes in
+    let number = g.N.Number.number in let nodes = c.args.grid.size.nodes in
     let within = plane-within nodes c.args.grid.size.keys (length c.args.grid.cells.now) c.loop-key.key c.requires.place.shape c.loop-key-test.true in
     let at_cell = number-at number c.args.grid.cells.now (c.loop-key.key * nodes + c.args.owner) c.index-cells-key.result
     (omega (arith, within, c.requires.place.within)) c.index-cells-key.is in

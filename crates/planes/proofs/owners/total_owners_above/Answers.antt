@@ -6,11 +6,8 @@ use Rattle.planes.proofs.owners.total_owners_above.Goals.{then-is_above, else-is
 
 pub loop-owner-preserved : goal.loop-owner-preserved
 loop-owner-preserved g c =
-    let number = g.N.Number.number in
-    let owner = c.loop-owner.owner in
-    let lt = c.loop-owner-test.true in
-    let cells = cell (map number c.args.grid.cells.now) c.args.grid.size.nodes in
-    let low = slice_index (map number c.args.low.now) in
+    let number = g.N.Number.number in let owner = c.loop-owner.owner in let lt = c.loop-owner-test.true in
+    let cells = cell (map number c.args.grid.cells.now) c.args.grid.size.nodes in let low = slice_index (map number c.args.low.now) in
     let marks = c.requires.marked.marks in
     let at_low = number-at number c.args.low.now owner c.index-low-owner.result (omega (arith, lt, marks.low_count)) c.index-low-owner.is in
     let at_high = number-at number c.args.high.now owner c.index-high-owner.result (omega (arith, lt, marks.high_count)) c.index-high-owner.is in

@@ -1,4 +1,5 @@
-use Rattle.planes.proofs.Common.{refl, arith, length-map}
+use borrow.Author.Rules.{scaled_fits≤}
+use Rattle.planes.proofs.Common.{refl, arith, length-map, ◌≤◌, length}
 use Rattle.planes.proofs.Elementwise.{number-waits, changed_all, written_next}
 use Rattle.planes.proofs.planes.change.Goals as goal
 
@@ -11,3 +12,6 @@ loop-r-preserved g c =
 
 pub returns : goal.returns
 returns g c = changed_all _ _ _ _ c.loop-r.invariant (omega (arith, c.loop-r-test.false, length-map c.args.numbers.now g.N.Number.number))
+
+pub offset_bounds-numbers-r-in-loop-r : goal.offset_bounds-numbers-r-in-loop-r
+offset_bounds-numbers-r-in-loop-r g c = let at : c.loop-r.r ≤ length c.args.numbers.now = omega arith in search scaled_fits≤

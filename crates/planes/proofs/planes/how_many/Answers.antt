@@ -12,3 +12,9 @@ loop-from-preserved g c = record {
 pub returns-clause-count : goal.returns-clause-count
 returns-clause-count g c test is =
     count_same _ _ _ _ _ (c.how_many_of.ensures.count test is _ (c.loop-from.invariant.count test is)) (omega (arith, c.loop-from.invariant.within)) refl
+
+pub how_many_of-requires-clause-passes : goal.how_many_of-requires-clause-passes
+how_many_of-requires-clause-passes g c = c.requires.passes
+
+pub how_many_of-count-requires-clause-passes : goal.how_many_of-count-requires-clause-passes
+how_many_of-count-requires-clause-passes g c = c.requires.passes

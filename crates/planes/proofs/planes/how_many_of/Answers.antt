@@ -5,8 +5,7 @@ use Rattle.planes.proofs.planes.how_many_of.Goals as goal
 
 pub loop-i-preserved : goal.loop-i-preserved
 loop-i-preserved g c =
-    let at : ℕ = c.args.from + c.loop-i.i in
-    let within : at < length c.args.plane.now = omega arith in
+    let at : ℕ = c.args.from + c.loop-i.i in let within : at < length c.args.plane.now = omega arith in
     let read = number-at g.N.Number.number c.args.plane.now at c.index-plane-r.result within c.index-plane-r.is in
     record {
       upto = omega (arith, one_le c.passes.result);

@@ -1,4 +1,4 @@
-use Rattle.delta_plans.proofs.Common.{◌≡◌, ℕ, false, true, ◌||◌, get_or, inl, inr, sym, ◌∙◌, arith, nat_tests, cases_eq, get_or_default, get_or-set_other, get_or-set_same, sum_next}
+use Rattle.delta_plans.proofs.Common.{◌≡◌, ℕ, false, true, ◌||◌, get_or, inl, inr, sym, ◌∙◌, arith, nat_tests, cases_eq, get_or_default, get_or-set_other, get_or-set_same, sum_next, ◌+◌, ◌<◌}
 use Rattle.delta_plans.proofs.between.Between.find.Goals as goal
 
 pub loop-i-preserved : goal.loop-i-preserved
@@ -17,3 +17,9 @@ loop-i-preserved g c =
       ];
       left = λ j le out. c.loop-i.invariant.left j (omega (arith, le)) (sym (other j (λ e. omega (arith, e, le))) ∙ out);
     }
+
+pub cell_of-cell-requires : goal.cell_of-cell-requires
+cell_of-cell-requires g c =
+    let within : c.args.first + c.loop-i.i < c.args.self.now.offer.now.grid.size.nodes =
+    omega (arith, c.requires.within, c.loop-i-test.true, c.loop-i.auto.found, c.loop-key.auto.found) in
+    record { owner = record { is_offer = c.requires.between.is_offer; in_nodes = within }; key = c.loop-key-test.true }

@@ -4,10 +4,7 @@ use Rattle.delta_plans.proofs.between.Between.left_of_some.Goals as goal
 
 pub loop-owner-preserved : goal.loop-owner-preserved
 loop-owner-preserved g c =
-    let number = g.N.Number.number in
-    let self = c.args.self.now in
-    let offer = self.offer.now in
-    let owner = c.loop-owner.owner in
+    let number = g.N.Number.number in let self = c.args.self.now in let offer = self.offer.now in let owner = c.loop-owner.owner in
     let next = ap (λ n. sum_below n (owner_weight number self)) {x = owner + 1} {y = suc owner} (omega arith) in
     elim c.if-has.branch [
       | goal.then-has+in_ok-left w ↦
@@ -25,3 +22,6 @@ returns-in_err-left g c =
     let weight = rw (c.number_at-from.ensures, c.number_at-to.ensures) at c.weight_of-weight.ensures in
     let more = sum_below-longer (owner_weight g.N.Number.number c.args.self.now) (suc c.loop-owner.owner) c.args.end (omega (arith, c.loop-owner-test.true)) in
     rw c.from_residual.ensures (λ fits. c.in_err-left.ensures (omega (arith, fits, more, weight, c.loop-owner.invariant.left)))
+
+pub weight_of-weight-requires : goal.weight_of-weight-requires
+weight_of-weight-requires g c = record { is_offer = c.requires.between.is_offer; in_nodes = omega (arith, c.loop-owner-test.true, c.requires.within) }

@@ -10,3 +10,6 @@ overflow_add-count g c =
 
 pub loop-key-preserved : goal.loop-key-preserved
 loop-key-preserved g c = sum_next _ _ _ _ c.loop-key.invariant (grind (arith, nat_tests, c.from-count.ensures, c.is_between.ensures, c.cell_of.ensures))
+
+pub cell_of-requires : goal.cell_of-requires
+cell_of-requires g c = record { owner = c.requires; key = c.loop-key-test.true }

@@ -9,8 +9,6 @@ returns-in-Entries g c =
 
 pub left_of_some-requires-clause-passed : goal.left_of_some-requires-clause-passed
 left_of_some-requires-clause-passed g c = λ owner from to first lt from_is to_is called.
-    let number = g.N.Number.number in
-    let low = c.args.low.now in
-    let high = c.args.high.now in
+    let number = g.N.Number.number in let low = c.args.low.now in let high = c.args.high.now in
     let told : false ≡ ltb (marks number low owner) (marks number high owner) = search (rules, from_is, to_is) in
     weight_of-none (λ _. 1) (cells_in number c.args.self.now) c.args.self.now.grid.size.keys owner (marks number low owner) (marks number high owner) (grind (arith, nat_tests))

@@ -20,19 +20,19 @@ loop-few-preserved g c =
           record { found = rw (w.few-is, w.enough-is, w.fit-is) found; step = omega (arith, w.step-is, c.loop-few.invariant.step) }
     ]
 
-pub left_of_fit-left-requires-clause-fit : goal.left_of_fit-left-requires-clause-fit
-left_of_fit-left-requires-clause-fit g c =
+pub left_of_fit-left-requires : goal.left_of_fit-left-requires
+left_of_fit-left-requires g c =
     let fits = fitted c.args.self.now c.requires _ _ c.in_ok-near.ensures.0 c.loop-few.invariant.found in
-    subst (λ xs. IsFound g.N.Number.number c.args.self.now (marks g.N.Number.number xs) (Some c.loop-few.fit)) (sym c.deref-2.ensures.value) fits
+    record {
+      mark = rw c.deref-2.ensures.value (raised c.args.self.now c.requires _ _ c.in_ok-near.ensures.0);
+      fit = subst (λ xs. IsFound g.N.Number.number c.args.self.now (marks g.N.Number.number xs) (Some c.loop-few.fit)) (sym c.deref-2.ensures.value) fits;
+    }
 
 pub returns : goal.returns
 returns g c =
     let all = ap (λ xs. weight_on c.args.self.now.first g.N.Number.number c.args.self.now.offer.now (marks g.N.Number.number xs)) c.deref-2.ensures.value in
     let left = ap (λ n. n + c.left_of_fit-left.result) (sym all) ∙ c.left_of_fit-left.ensures in
     (rounds-level c.args.self.now c.requires c.loop-few.invariant.found c.loop-few-test.false refl c.in_ok-near.ensures.0 c.in_ok-far.ensures.0 left, tt)
-
-pub left_of_fit-left-requires-clause-mark : goal.left_of_fit-left-requires-clause-mark
-left_of_fit-left-requires-clause-mark g c = rw c.deref-2.ensures.value (raised c.args.self.now c.requires _ _ c.in_ok-near.ensures.0)
 
 pub look-requires : goal.look-requires
 look-requires g c = rw c.deref.ensures.value (raised c.args.self.now c.requires _ _ c.in_ok-mark.ensures.0)

@@ -5,12 +5,8 @@ use Rattle.delta_plans.proofs.sharing.Turns.pass_all.Goals as goal
 
 pub loop-i-preserved : goal.loop-i-preserved
 loop-i-preserved g c =
-    let have = c.requires.turns in
-    let turns = c.args.self.now in
-    let owner = c.args.owner in
-    let i = c.loop-i.i in
-    let lt = c.loop-i-test.true in
-    let more = ap (parts_count g.N.Number.number turns owner) {x = i + 1} {y = suc i} (omega arith) in
+    let have = c.requires.turns in let turns = c.args.self.now in let owner = c.args.owner in let i = c.loop-i.i in
+    let lt = c.loop-i-test.true in let more = ap (parts_count g.N.Number.number turns owner) {x = i + 1} {y = suc i} (omega arith) in
     let upto = sum_below-longer (λ j. part_weight g.N.Number.number (λ _. 1) turns (owner + j)) (i + 1) (length c.args.counts.now) (omega (arith, lt)) in
     let passed = turns-next have.are c.loop-i.invariant (within have i lt).0 (turn-next have i lt) c.number_at.result
     (omega (arith, upto, c.if-reached-count.false, c.count_of_parts-count.ensures, more))
@@ -33,3 +29,6 @@ returns-clause-reached g c =
 
 pub loop-i-init : goal.loop-i-init
 loop-i-init g c = turns-same c.requires.turns.has_reached (omega arith) (omega arith) (omega arith)
+
+pub returns-then-reached-count-clause-reached : goal.returns-then-reached-count-clause-reached
+returns-then-reached-count-clause-reached g c = c.requires.turns.has_reached

@@ -26,8 +26,7 @@ module _ {N : Type 0} (number : N → ℕ) (most : ℕ) (tables : List Table) (a
       let two = of_b.are in let bases = ext_get_or 0 _ _ (one.based.size ∙ sym two.based.size)
       (λ r lt. one.based.each r (omega arith) ∙ sym (two.based.each r (omega arith))) in
       let last = places-alike _ _ _ _ one.lasts.size two.lasts.size (λ r k in_r in_k.
-      let first = one.lasts.each r k in_r in_k in
-      let second = two.lasts.each r k in_r in_k in
+      let first = one.lasts.each r k in_r in_k in let second = two.lasts.each r k in_r in_k in
       omega (arith, last-upto _ k _ _ first second, last-upto _ k _ _ second first)) in
       let seen : numbers_seen number a ≡ numbers_seen number b =
       λ i. record { nodes = length (same i).lists; keys = (same i).keys; tables = cells i; bases = bases i; last = last i } in

@@ -60,8 +60,7 @@ module _ (v : OwnerListView) (are : AreWrites v) where
         → (least_below n f last ≤ length all) × (most_below n (λ p. lag (f p)) ≡ lag (least_below n f last))
     lag-least_below f last zero is within = (is.written, sym (ap rounds_behind (last_fresh last last is (omega arith) is.written)))
     lag-least_below f last (suc n) is within =
-        let before = lag-least_below f last n is (λ p lt. within p (omega arith)) in
-        let here = within n (omega arith) in
+        let before = lag-least_below f last n is (λ p lt. within p (omega arith)) in let here = within n (omega arith) in
         (omega arith, ap (λ m. max m (lag (f n))) before.1 ∙ lag-least (least_below n f last) (f n) before.0 here)
 
   -- what is of an earlier generation
@@ -75,8 +74,7 @@ module _ (v : OwnerListView) (are : AreWrites v) where
   left_over-by_number zero le = refl
   left_over-by_number (suc i) le =
       let (e, is) = numbered-some all (suc i) (omega arith) le in
-      let later = λ (above : base_of v < suc i). (current-numbered v are (suc i) e is above).generation in
-      let earlier = earlier-numbered (suc i) e is in
+      let later = λ (above : base_of v < suc i). (current-numbered v are (suc i) e is above).generation in let earlier = earlier-numbered (suc i) e is in
       rw is (grind (arith, nat_tests))
 
   -- the last write of a key has the number of each other one, or a greater one
@@ -106,8 +104,7 @@ module _ (v : OwnerListView) (are : AreWrites v) where
     key_held m d is current = elim (entry_at t t.node d.key) as (λ o. entry_at t t.node d.key ≡ o → d.key < t.keys) [
       | Some x ↦ λ held. (proper.in_place t.node d.key x held).key_below
       | None ↦ λ none.
-          let last = last-from m d is current in
-          let no : None ≡ Some last.0 = ap (option_map write_of_entry) (sym none) ∙ beside.own_part d.key ∙ last.1.0 in
+          let last = last-from m d is current in let no : None ≡ Some last.0 = ap (option_map write_of_entry) (sym none) ∙ beside.own_part d.key ∙ last.1.0 in
           cc
     ] refl
 

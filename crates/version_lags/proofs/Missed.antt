@@ -6,8 +6,7 @@ use Rattle.version_lags.proofs.Common.{◌≡◌, ℕ, zero, suc, ◌+◌, ◌-�
 pub numbers-born : (writes : List Entry) (rise : BirthsRise writes) (m n : ℕ) (d e : Entry)
     → write_numbered writes m ≡ Some d → write_numbered writes n ≡ Some e → m ≤ n → d.born ≤ e.born
 numbers-born writes rise m n d e is_d is_e le =
-    let first = numbered-placed writes m d is_d in let second = numbered-placed writes n e is_e in
-    let born = λ (x : Entry). x.born in
+    let first = numbered-placed writes m d is_d in let second = numbered-placed writes n e is_e in let born = λ (x : Entry). x.born in
     omega (arith, rise first.place second.place d (omega arith) second.within, ap born (first.there d), ap born (second.there d))
 
 module _ (v : OwnerListView) (are : AreWrites v) where

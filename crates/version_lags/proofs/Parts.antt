@@ -69,8 +69,7 @@ module _ (v : NumbersView) (grids : AreGrids v) where
     least_is = record {
       size = changed.size ∙ one.least_is.size;
       each = λ r k in_r in_k.
-          let first = one.least_is.each r k in_r in_k in
-          let lowered = changed.each r k in_r in_k in
+          let first = one.least_is.each r k in_r in_k in let lowered = changed.each r k in_r in_k in
           record { upto = omega arith; is = omega (arith, least r k in_r in_k) };
     };
   }

@@ -37,4 +37,5 @@ left_of-requires g c =
 
 pub one_more-requires : goal.one_more-requires
 one_more-requires g c =
-    let is = c.requires.offer.is_offer in rw c.deref.ensures.value (record { is_offer = is; each_low = c.loop-near.invariant.has.so_far.size; each_high = is.high })
+    let is = c.requires.offer.is_offer in
+    rw c.deref.ensures.value (record { is_offer = is; each_low = c.loop-near.invariant.has.so_far.size; each_high = is.high })

@@ -12,8 +12,8 @@ loop-i-preserved c =
     let planned = c.requires.planned i no_exchange c.loop-i-test.true in
     let one = get_or_read last (exchange_at es i).initiator c.index-first.result.now (omega (arith, c.loop-i.invariant.so_far.size, planned.initiator))
     c.index-first.ensures None in
-    let two = get_or_read last (exchange_at es i).responder c.index.result.now (omega (arith, c.loop-i.invariant.so_far.size, planned.responder)) c.index.ensures
-    None in
+    let two = get_or_read last (exchange_at es i).responder c.index.result.now (omega (arith, c.loop-i.invariant.so_far.size, planned.responder))
+    c.index.ensures None in
     record {
       so_far = rw c.push_reserved.ensures.items
           (forward_more es c.args.nodes i last c.loop-i.before.items c.index-first.result.now c.unless_same-second.result c.loop-i.invariant.so_far planned one

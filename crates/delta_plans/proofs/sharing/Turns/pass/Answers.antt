@@ -49,7 +49,8 @@ pub loop-i-init : goal.loop-i-init
 loop-i-init g c = record { so_far = c.pass_all.ensures.reached; turn = rw c.if-pass_all.false at c.pass_all.ensures.turn }
 
 pub returns : goal.returns
-returns g c = record { reached = c.loop-i.invariant.so_far; turn = omega (arith, c.loop-i.invariant.turn, c.loop-i-test.false, c.loop-i.auto.i-end); shared = tt }
+returns g c =
+    record { reached = c.loop-i.invariant.so_far; turn = omega (arith, c.loop-i.invariant.turn, c.loop-i-test.false, c.loop-i.auto.i-end); shared = tt }
 
 pub returns-then-pass_all : goal.returns-then-pass_all
 returns-then-pass_all g c = record { reached = c.pass_all.ensures.reached; turn = rw c.if-pass_all.true at c.pass_all.ensures.turn; shared = tt }

@@ -10,7 +10,8 @@ loop-reached-preserved g c = record { so_far = c.in_default.ensures.reached }
 
 pub pass-requires : goal.pass-requires
 pass-requires g c =
-    let long = c.count_parts.auto.counts ∙ length-take-le c.min-size.result _ (omega (arith, c.min-size.ensures, c.requires.counts, c.loop-reached.auto.counts)) in
+    let long = c.count_parts.auto.counts
+    ∙ length-take-le c.min-size.result _ (omega (arith, c.min-size.ensures, c.requires.counts, c.loop-reached.auto.counts)) in
     record {
       turns = record {
         are = c.requires.turns;
@@ -24,7 +25,8 @@ pass-requires g c =
 
 pub loop-reached-smaller : goal.loop-reached-smaller
 loop-reached-smaller g c =
-    let long = c.count_parts.auto.counts ∙ length-take-le c.min-size.result _ (omega (arith, c.min-size.ensures, c.requires.counts, c.loop-reached.auto.counts)) in
+    let long = c.count_parts.auto.counts
+    ∙ length-take-le c.min-size.result _ (omega (arith, c.min-size.ensures, c.requires.counts, c.loop-reached.auto.counts)) in
     omega (arith, long, c.in_default.ensures.turn, c.min-size.ensures, c.max.ensures, c.owner_of_turn-owner.ensures.below, c.loop-reached-test.true)
 
 pub slice_bounds-parts-end-in-loop-reached : goal.slice_bounds-parts-end-in-loop-reached
